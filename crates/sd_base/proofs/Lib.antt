@@ -1,0 +1,5 @@
+pub mod FileLemmas
+mod MemoryLemmas
+pub mod NextLine
+pub mod Pieces
+mod ReadLemmas

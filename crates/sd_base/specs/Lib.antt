@@ -1,0 +1,11 @@
+pub mod Faults
+pub mod Files
+pub mod Lines
+pub mod Memory
+pub mod MemoryShown
+pub mod Numbers
+pub mod Reading
+pub mod Shelf
+pub mod Sink
+pub mod Views
+pub mod Words

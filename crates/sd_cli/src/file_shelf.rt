@@ -1,0 +1,128 @@
+// The real shelf. It tells nothing of content, and counts each fault.
+use crate::retry::{read_some, write_some};
+use sd_base::{Failed, Name, Shelf};
+use std::alloc::Global;
+use std::fs;
+use std::io::Write;
+use std::rt::Files;
+
+/// An opened file, with its name; one that is read, with how many bytes were read.
+#[derive(Drop)]
+pub enum InHand<F> {
+    Nothing,
+    Read(F, Name, u64),
+    Write(F, Name),
+}
+
+/// The files of the system, under their paths.
+#[derive(Drop)]
+pub struct FileShelf<'a, R: Files> {
+    rt: &'a R,
+    alloc: Global,
+    hand: InHand<R::File>,
+    read_faults: u64,
+    write_faults: u64,
+}
+
+impl<'a, R: Files> FileShelf<'a, R> {
+    ghost use Rattle.std.specs.Prelude.{◌≡◌};
+    ghost use Rattle.sd_base.specs.Shelf.{NoFile};
+    ghost use Rattle.sd_cli.specs.Outside.{hand_of};
+
+    pub fn new(rt: &'a R, alloc: Global) -> Self
+        ensures { hand_of result.hand ≡ NoFile }
+    {
+        FileShelf {
+            rt,
+            alloc,
+            hand: InHand::Nothing,
+            read_faults: 0,
+            write_faults: 0,
+        }
+    }
+}
+
+impl<'a, R: Files> Shelf for FileShelf<'a, R> {
+    ghost use Rattle.std.specs.Prelude.{None};
+    ghost use Rattle.sd_cli.specs.Outside.{hand_of};
+
+    ghost files = { λ _. None };
+
+    ghost hand = { λ shelf. hand_of shelf.hand };
+
+    ghost read_faults = { λ shelf. shelf.read_faults };
+
+    ghost write_faults = { λ shelf. shelf.write_faults };
+
+    fn start_read(&mut self, name: &str) -> Result<(), Failed> {
+        let Ok(held) = Name::copy_of(self.alloc, name) else {
+            self.read_faults = self.read_faults.saturating_add(1);
+            return Err(Failed);
+        };
+        match fs::open(self.rt, name) {
+            Ok(file) => {
+                self.hand = InHand::Read(file, held, 0);
+                Ok(())
+            }
+            Err(_) => {
+                self.read_faults = self.read_faults.saturating_add(1);
+                Err(Failed)
+            }
+        }
+    }
+
+    fn read(&mut self, into: &mut [u8]) -> Result<usize, Failed> {
+        if let InHand::Read(file, _, offset) = &mut self.hand {
+            if let Some(count) = read_some(file, into) {
+                if let Some(next) = offset.checked_add(count as u64) {
+                    *offset = next;
+                    return Ok(count);
+                }
+            }
+        }
+        self.hand = InHand::Nothing;
+        self.read_faults = self.read_faults.saturating_add(1);
+        Err(Failed)
+    }
+
+    fn start_write(&mut self, name: &str) -> Result<(), Failed> {
+        let Ok(held) = Name::copy_of(self.alloc, name) else {
+            self.write_faults = self.write_faults.saturating_add(1);
+            return Err(Failed);
+        };
+        match fs::create(self.rt, name) {
+            Ok(file) => {
+                self.hand = InHand::Write(file, held);
+                Ok(())
+            }
+            Err(_) => {
+                self.write_faults = self.write_faults.saturating_add(1);
+                Err(Failed)
+            }
+        }
+    }
+
+    fn append(&mut self, piece: &[u8]) -> Result<usize, Failed> {
+        if let InHand::Write(file, _) = &mut self.hand {
+            if let Some(count) = write_some(file, piece) {
+                return Ok(count);
+            }
+        }
+        self.hand = InHand::Nothing;
+        self.write_faults = self.write_faults.saturating_add(1);
+        Err(Failed)
+    }
+
+    fn finish(&mut self) -> Result<(), Failed> {
+        let flushed = match &mut self.hand {
+            InHand::Write(file, _) => file.flush().is_ok(),
+            InHand::Nothing | InHand::Read(_, _, _) => true,
+        };
+        self.hand = InHand::Nothing;
+        if flushed {
+            return Ok(());
+        }
+        self.write_faults = self.write_faults.saturating_add(1);
+        Err(Failed)
+    }
+}

@@ -1,0 +1,7 @@
+pub mod Rows
+pub mod PartsLaws
+pub mod ReaderLaws
+pub mod FitLaws
+pub mod GroupLaws
+pub mod PlainLaws
+pub mod RangeLaws

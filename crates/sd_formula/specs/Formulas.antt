@@ -1,0 +1,33 @@
+-- What a formula is seen as, and the propositional formula that it is.
+use Rattle.std.specs.Prelude.{ℕ, ◌≤◌, List, length, ℤ, unsigned_abs}
+use Rattle.std.specs.List.{AllByRecursion}
+use Rattle.sd_model.specs.Expression as expressions
+use Rattle.sd_model.specs.Expression.{Expression}
+use Rattle.sd_formula.specs.declared.formula.Kind.{Kind}
+use Rattle.sd_formula.specs.declared.formula.Kind.TheVariants.{Cnf, Dnf}
+use Rattle.sd_formula.specs.Dimacs.{Groups}
+
+-- a literal of a variable from 1 to v
+pub record IsLiteral (v : ℕ) (z : ℤ) : Type 0 where
+  pub low : 1 ≤ unsigned_abs z
+  pub high : unsigned_abs z ≤ v
+
+-- literals of such variables
+abbrev pub AreLiterals : ℕ → List ℤ → Type 0
+AreLiterals v zs = AllByRecursion (IsLiteral v) zs
+
+-- 1 to 1,024 variables, at most 1,000,000 groups, and literals of these variables
+pub record IsFormula (f : Groups) : Type 0 where
+  pub some : 1 ≤ f.variables
+  pub few : f.variables ≤ 1024
+  pub count : length f.groups ≤ 1000000
+  pub literals : AllByRecursion (AreLiterals f.variables) f.groups
+
+-- the conjunction of clauses, or the disjunction of terms
+abbrev pub of_kind : Kind → List (List ℤ) → Expression
+of_kind Cnf clauses = expressions.Cnf clauses
+of_kind Dnf terms = expressions.Dnf terms
+
+-- the propositional formula of the groups
+abbrev pub expression_of : Groups → Expression
+expression_of f = of_kind f.kind f.groups

@@ -1,0 +1,4 @@
+pub mod Dimacs
+pub mod Formulas
+pub mod Plain
+pub mod Steps

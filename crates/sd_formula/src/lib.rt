@@ -1,0 +1,18 @@
+//! Propositional formulas as groups of literals: the clauses of a CNF or the terms of a DNF,
+//! and their texts in the format of DIMACS.
+#![tactic(auto)]
+
+mod body;
+mod error;
+mod fault;
+mod formula;
+mod header;
+mod plain;
+mod reader;
+
+pub use error::FormulaError;
+pub use formula::{Formula, Kind};
+pub use plain::read_dimacs;
+
+#[cfg(test)]
+mod tests;

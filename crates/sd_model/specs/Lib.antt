@@ -1,0 +1,11 @@
+pub mod Assignment
+pub mod Expression
+pub mod Tree
+pub mod Moves
+pub mod Diagram
+pub mod Canonical
+pub mod Size
+pub mod StartTrees
+pub mod Listing
+pub mod Text
+pub mod Seen

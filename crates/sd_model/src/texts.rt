@@ -1,0 +1,132 @@
+// The SDD text of a plain diagram.
+
+ghost use Rattle.std.specs.Prelude.{◌≡◌, List, ◌∷◌, [], ◌++◌, map, OnOk, IfOk};
+ghost use Rattle.std.specs.List.{flat_map};
+ghost use Rattle.sd_model.specs.Listing.{add};
+ghost use Rattle.sd_model.specs.Size.{walk, walk_elements};
+ghost use Rattle.sd_model.specs.Text.{number_text, literal_text, line_text, place_of, spaced, element_words, node_words, sdd_text};
+ghost use Rattle.sd_model.specs.Seen.{diagram_of, elements_of, diagrams_of};
+
+use crate::diagrams::{Diagram, Element};
+use crate::nodes::{nodes_of, place};
+use itoa::Buffer;
+use std::alloc::{AllocError, Global};
+
+// Writes a number.
+fn push_digits(text: &mut Vec<u8>, n: u64) -> Result<(), AllocError>
+    ensures { OnOk result (text.new.items ≡ text.old.items ++ number_text n) }
+{
+    text.extend_from_slice(Buffer::new().format(n).as_bytes())?;
+    Ok(())
+}
+
+// Writes a space and a number.
+fn push_number(text: &mut Vec<u8>, n: u64) -> Result<(), AllocError>
+    ensures { OnOk result (text.new.items ≡ text.old.items ++ 32 ∷ number_text n) }
+{
+    text.push(b' ')?;
+    push_digits(text, n)
+}
+
+// Writes a space and a literal.
+fn push_literal(text: &mut Vec<u8>, variable: u32, positive: bool) -> Result<(), AllocError>
+    ensures { OnOk result (text.new.items ≡ text.old.items ++ 32 ∷ literal_text variable positive) }
+{
+    if positive {
+        push_number(text, u64::from(variable))
+    } else {
+        text.push(b' ')?;
+        text.push(b'-')?;
+        push_digits(text, u64::from(variable))
+    }
+}
+
+// Writes the numbers of the primes and subs.
+fn push_elements(
+    text: &mut Vec<u8>,
+    nodes: &[&Diagram],
+    elements: &[Element],
+) -> Result<(), AllocError>
+    ensures { OnOk result (text.new.items ≡ text.old.items ++ spaced (element_words (diagrams_of nodes.now) (elements_of elements.now))) }
+{
+    for element in elements {
+        push_number(text, place(nodes, &element.prime) as u64)?;
+        push_number(text, place(nodes, &element.sub) as u64)?;
+    }
+    Ok(())
+}
+
+// Writes the letter of a line and the number of its node.
+fn push_start(text: &mut Vec<u8>, letter: u8, number: u64) -> Result<(), AllocError>
+    ensures { OnOk result (text.new.items ≡ text.old.items ++ letter ∷ 32 ∷ number_text number) }
+{
+    text.push(letter)?;
+    push_number(text, number)
+}
+
+// Ends a line.
+fn push_feed(text: &mut Vec<u8>) -> Result<(), AllocError>
+    ensures { OnOk result (text.new.items ≡ text.old.items ++ 10 ∷ []) }
+{
+    text.push(b'\n')?;
+    Ok(())
+}
+
+// Writes the line of a node.
+fn push_node(text: &mut Vec<u8>, nodes: &[&Diagram], node: &Diagram) -> Result<(), AllocError>
+    ensures { OnOk result (text.new.items ≡ text.old.items ++ line_text (node_words (diagrams_of nodes.now) (diagram_of node.now))) }
+{
+    let number = place(nodes, node) as u64;
+    match node {
+        Diagram::Bottom => {
+            push_start(text, b'F', number)?;
+            push_feed(text)
+        }
+        Diagram::Top => {
+            push_start(text, b'T', number)?;
+            push_feed(text)
+        }
+        Diagram::Literal {
+            position,
+            variable,
+            positive,
+        } => {
+            push_start(text, b'L', number)?;
+            push_number(text, u64::from(*position))?;
+            push_literal(text, *variable, *positive)?;
+            push_feed(text)
+        }
+        Diagram::Decomposition { position, elements } => {
+            push_start(text, b'D', number)?;
+            push_number(text, u64::from(*position))?;
+            push_number(text, elements.len() as u64)?;
+            push_elements(text, nodes, elements)?;
+            push_feed(text)
+        }
+    }
+}
+
+// Writes the lines of the nodes.
+fn push_nodes(text: &mut Vec<u8>, nodes: &[&Diagram]) -> Result<(), AllocError>
+    ensures { OnOk result (text.new.items ≡ text.old.items ++ flat_map line_text (map (node_words (diagrams_of nodes.now)) (diagrams_of nodes.now))) }
+{
+    for node in nodes {
+        push_node(text, nodes, node)?;
+    }
+    Ok(())
+}
+
+/// The SDD text of a diagram.
+pub fn text_of(alloc: Global, d: &Diagram) -> Result<Vec<u8>, AllocError>
+    ensures { IfOk result (λ text. text.items ≡ sdd_text (diagram_of d.now)) }
+{
+    let nodes = nodes_of(alloc, d)?;
+    let mut text = Vec::from_slice(alloc, b"sdd")?;
+    push_number(&mut text, nodes.len() as u64)?;
+    push_feed(&mut text)?;
+    push_nodes(&mut text, &nodes)?;
+    Ok(text)
+}
+
+#[cfg(test)]
+mod tests;

@@ -1,0 +1,13 @@
+pub mod ByStatus
+pub mod EndLemmas
+pub mod Expanding
+pub mod Fronts
+pub mod OneCourse
+pub mod OneOutcome
+pub mod OnePoint
+pub mod OneRun
+pub mod Parts
+pub mod ReadingLemmas
+pub mod RightTree
+pub mod StepLemmas
+pub mod WrittenLemmas

@@ -1,0 +1,42 @@
+-- A command has one outcome: canonical diagrams are unique.
+use Rattle.std.proofs.Common.{◌≡◌, ℕ, List, [], ◌∷◌, sym, ap, subst, ◌∙◌}
+use Rattle.sd_model.specs.Tree.{IsVtree}
+use Rattle.sd_model.specs.Text.{sdd_text}
+use Rattle.sd_model.proofs.Determined.{diagram_determined, size_determined}
+use Rattle.sd_tool.specs.Effects.{Effect, Write, Print}
+use Rattle.sd_tool.specs.Commands.{State, Outcome, Done, Stops, Step, IsTextOf, size_line}
+use Rattle.sd_tool.specs.Refusals.{Refusal}
+use Rattle.sd_tool.specs.declared.commands.Command.{Command}
+use Rattle.sd_tool.specs.declared.commands.Command.TheVariants.{WriteTo, Size}
+
+-- the tree of the state is a vtree
+abbrev pub IsValid : State → Type 0
+IsValid state = IsVtree state.tree
+
+-- a state has one text
+one_text : (state : State) (a b : List ℕ) → IsValid state → IsTextOf state a → IsTextOf state b → a ≡ b
+one_text state a b valid p q =
+    p.is ∙ ap sdd_text (diagram_determined state.tree state.formula p.diagram q.diagram valid p.of_formula q.of_formula)
+    ∙ sym q.is
+
+pub one_outcome : (state : State) (command : Command) (a b : Outcome) → IsValid state
+    → Step state command a → Step state command b → a ≡ b
+one_outcome state (WriteTo file) a b valid p q =
+    p.2 ∙ ap (λ text. Done state (Write file text ∷ [])) (one_text state p.0 q.0 valid p.1 q.1) ∙ sym q.2
+one_outcome state Size a b valid p q =
+    p.2 ∙ ap (λ n. Done state (Print (size_line n) ∷ []))
+    (size_determined state.tree (state.formula ∷ []) p.0 q.0 valid p.1 q.1)
+    ∙ sym q.2
+
+-- no command is refused
+pub none_refused : (state : State) (command : Command) (refusal : Refusal) → Step state command (Stops refusal) → ⊥
+none_refused state (WriteTo file) refusal p = let e = p.2 in let bad : ⊥ = cc in bad
+none_refused state Size refusal p = let e = p.2 in let bad : ⊥ = cc in bad
+
+-- a command that is done leaves a valid state
+pub valid_after : (state next : State) (command : Command) (effects : List Effect) → IsValid state
+    → Step state command (Done next effects) → IsValid next
+valid_after state next (WriteTo file) effects valid p =
+    let e = p.2 in let same : state ≡ next = cc in subst IsValid same valid
+valid_after state next Size effects valid p =
+    let e = p.2 in let same : state ≡ next = cc in subst IsValid same valid

@@ -1,0 +1,86 @@
+-- Told files read in one way, so the readings of a run are over at one point.
+use Rattle.std.proofs.Common.{◌≡◌, ◌⊎◌, ℕ, List, length, Option, Some, None, Bool, true, false, cond, inl}
+use Rattle.std.proofs.Common.{inr}
+use Rattle.std.proofs.Common.{refl, sym, ap, subst, ◌∙◌, arith}
+use Rattle.std.specs.Prelude.{nat_lt}
+use Rattle.sd_base.specs.Files.{Files, Lacks}
+use Rattle.sd_formula.specs.declared.formula.Kind.TheVariants.{Cnf}
+use Rattle.sd_formula.specs.Dimacs.{Groups}
+use Rattle.sd_formula.specs.Plain.{plain_dimacs}
+use Rattle.sd_tool.specs.Job.{Job, job_of}
+use Rattle.sd_tool.specs.Readings.{Plan, Reading, Refuses, Begins, Reads, Text, Whole, TooLong, IsText, ReadsTo}
+use Rattle.sd_tool.specs.Readings.{reading_of, with_job, with_input, with_formula, plan_for}
+use Rattle.sd_tool.specs.Refusals.{NotYet}
+use Rattle.sd_tool.proofs.OneOutcome.{IsValid}
+use Rattle.sd_tool.proofs.RightTree.{right_tree_is_vtree}
+
+-- a told file reads in one way
+one_text : (files : Files) (file : List ℕ) (a b : Text) → IsText (Some files) file a → IsText (Some files) file b
+    → a ≡ b
+one_text files file (Whole x) (Whole y) p q = let e : Some x ≡ Some y = sym p.0 ∙ q.0 in ap Whole (cc)
+one_text files file (Whole x) TooLong p q =
+    let e : Some x ≡ Some q.0 = sym p.0 ∙ q.1 in
+    let same : x ≡ q.0 = cc in
+    absurd (omega (arith, p.1, q.2, ap length same))
+one_text files file TooLong (Whole y) p q =
+    let e : Some y ≡ Some p.0 = sym q.0 ∙ p.1 in
+    let same : y ≡ p.0 = cc in
+    absurd (omega (arith, q.1, p.2, ap length same))
+one_text files file TooLong TooLong p q = refl
+
+-- and is there
+there : (files : Files) (file : List ℕ) (text : Text) → IsText (Some files) file text → Lacks (Some files) file → ⊥
+there files file (Whole x) p lacks = let e : Some x ≡ None = sym p.0 ∙ lacks in let bad : ⊥ = cc in bad
+there files file TooLong p lacks = let e : Some p.0 ≡ None = sym p.1 ∙ lacks in let bad : ⊥ = cc in bad
+
+-- the readings are over here
+abbrev pub IsOver : Reading → Type 0
+IsOver (Refuses refusal) = Unit {0}
+IsOver (Begins plan) = Unit {0}
+IsOver (Reads file next) = ⊥
+
+-- a file that is asked for is there
+pub record AsksFor (files : Files) (point : Reading) : Type 0 where
+  pub file : List ℕ
+  pub next : Text → Reading
+  pub is : point ≡ Reads file next
+  pub there : Lacks (Some files) file → ⊥
+
+-- The readings are over at one point, and each file that they ask for before is there.
+pub one_point : (files : Files) (reading over point : Reading) → IsOver over → ReadsTo (Some files) reading over
+    → ReadsTo (Some files) reading point → (point ≡ over) ⊎ AsksFor files point
+one_point files (Refuses r) over point final p q = inl (q ∙ sym p)
+one_point files (Begins plan) over point final p q = inl (q ∙ sym p)
+one_point files (Reads file next) over point final (inl p) q = absurd (subst IsOver p final)
+one_point files (Reads file next) over point final (inr p) (inl q) =
+    inr record { file = file; next = next; is = q; there = there files file p.0 p.1 }
+one_point files (Reads file next) over point final (inr p) (inr q) =
+    let same = one_text files file q.0 p.0 q.1 p.1 in
+    one_point files (next p.0) over point final p.2 (subst (λ t. ReadsTo (Some files) (next t) point) same q.2)
+
+-- what a plan of the readings begins with is valid
+valid_formula : (told : Option Files) (job : Job) (formula : Option Groups) (plan : Plan)
+    → ReadsTo told (with_formula job formula) (Begins plan) → IsValid plan.start
+valid_formula told job None plan p = let bad : ⊥ = cc in absurd bad
+valid_formula told job (Some formula) plan p = go (nat_lt 16 formula.variables) p
+  where
+    go : (many : Bool) → ReadsTo told (cond many (Refuses NotYet) (Begins (plan_for job formula))) (Begins plan)
+        → IsValid plan.start
+    go true p = let bad : ⊥ = cc in absurd bad
+    go false p =
+        let same : plan ≡ plan_for job formula = cc in
+        subst (λ (b : Plan). IsValid b.start) (sym same) (right_tree_is_vtree formula.variables)
+
+-- the plan of a run begins with a valid state
+pub valid_start : (told : Option Files) (words : List (List ℕ)) (plan : Plan)
+    → ReadsTo told (reading_of words) (Begins plan) → IsValid plan.start
+valid_start told words plan p = go (job_of words) p
+  where
+    read : (job : Job) (text : Text) → ReadsTo told (with_input job text) (Begins plan) → IsValid plan.start
+    read job TooLong p = let bad : ⊥ = cc in absurd bad
+    read job (Whole bytes) p = valid_formula told job (plain_dimacs Cnf bytes) plan p
+
+    go : (job : Option Job) → ReadsTo told (with_job job) (Begins plan) → IsValid plan.start
+    go None p = let bad : ⊥ = cc in absurd bad
+    go (Some job) (inl p) = let bad : ⊥ = cc in absurd bad
+    go (Some job) (inr p) = read job p.0 p.2

@@ -1,0 +1,195 @@
+-- Over told files there is one course: where the words and the files lead to an end of their own, a run in which no
+-- device fails comes to that end, or memory ran out.
+use Rattle.std.proofs.Common.{◌≡◌, ◌⊎◌, ℕ, List, Some, inl, inr, refl, sym, ap, subst}
+use Rattle.std.proofs.Common.{◌∙◌}
+use Rattle.sd_base.specs.Files.{Files, Lacks}
+use Rattle.sd_tool.specs.Effects.{Effect, Write, Print, after}
+use Rattle.sd_tool.specs.Readings.{Plan, Reading, Refuses, Begins, Reads, Text, reading_of, ReadsTo}
+use Rattle.sd_tool.specs.Refusals.{Refusal, NotYet}
+use Rattle.sd_tool.specs.Ends.{End, Finished, Refused, Unreadable, Unwritable, OutOfMemory, status_of}
+use Rattle.sd_tool.specs.Devices.{Moment, Faults, NoneRose, HasCause}
+use Rattle.sd_tool.specs.Course.{EndsAmong, Comes, Leaves}
+use Rattle.sd_tool.specs.Headline.{Went, IsOwn, IsComplete}
+use Rattle.sd_tool.specs.Job.{Job}
+use Rattle.sd_tool.specs.Written.{IsInput}
+use Rattle.sd_formula.specs.Dimacs.{Groups}
+use Rattle.std.specs.Prelude.{nat_lt}
+use Rattle.std.proofs.Common.{◌≤◌, Bool, true, false, cond}
+use Rattle.std.proofs.lemmas.Bool.{le-ltb}
+use Rattle.sd_tool.specs.Readings.{Whole, with_job, with_formula, plan_for}
+use Rattle.sd_tool.proofs.OneCourse.{one_end_among}
+use Rattle.sd_tool.proofs.OneOutcome.{none_refused}
+use Rattle.sd_tool.proofs.OnePoint.{one_point, valid_start}
+
+-- the readings come to one plan
+same_plan : (files : Files) (reading : Reading) (a b : Plan) → ReadsTo (Some files) reading (Begins a)
+    → ReadsTo (Some files) reading (Begins b) → a ≡ b
+same_plan files reading a b p q = elim (one_point files reading (Begins a) (Begins b) tt p q) [
+  | inl is ↦ cc
+  | inr asks ↦ let e = asks.is in let bad : ⊥ = cc in absurd bad
+]
+
+-- a refusal and a plan exclude each other
+no_plan : (files : Files) (reading : Reading) (refusal : Refusal) (plan : Plan)
+    → ReadsTo (Some files) reading (Refuses refusal) → ReadsTo (Some files) reading (Begins plan) → ⊥
+no_plan files reading refusal plan p q = elim (one_point files reading (Refuses refusal) (Begins plan) tt p q) [
+  | inl is ↦ let bad : ⊥ = cc in bad
+  | inr asks ↦ let e = asks.is in let bad : ⊥ = cc in bad
+]
+
+-- or to one refusal
+same_refusal : (files : Files) (reading : Reading) (a b : Refusal) → ReadsTo (Some files) reading (Refuses a)
+    → ReadsTo (Some files) reading (Refuses b) → Refused b ≡ Refused a
+same_refusal files reading a b p q = elim (one_point files reading (Refuses a) (Refuses b) tt p q) [
+  | inl is ↦ let e : b ≡ a = cc in ap Refused e
+  | inr asks ↦ let e = asks.is in let bad : ⊥ = cc in absurd bad
+]
+
+-- own ends, of the readings or among the commands, are one
+one_own : (words : List (List ℕ)) (files : Files) (effects done : List Effect) (own end : End) → IsOwn own → IsOwn end
+    → Comes words (Some files) effects own → Comes words (Some files) done end → (end ≡ own) × (done ≡ effects)
+one_own words files effects done own end a b (inr p) (inr q) =
+    let same = same_plan files (reading_of words) p.0 q.0 p.1 q.1 in
+    one_end_among p.0.start p.0.commands effects done own end (valid_start (Some files) words p.0 p.1) a b p.2
+    (subst (λ (plan : Plan). EndsAmong plan.start plan.commands done end) (sym same) q.2)
+one_own words files effects done Finished end a b (inl p) q = absurd p.0
+one_own words files effects done own Finished a b p (inl q) = absurd q.0
+one_own words files effects done (Refused r) (Refused s) a b (inl p) (inl q) =
+    (same_refusal files (reading_of words) r s p.0 q.0, q.1 ∙ sym p.1)
+one_own words files effects done (Refused r) end a b (inl p) (inr q) =
+    absurd (no_plan files (reading_of words) r q.0 p.0 q.1)
+one_own words files effects done own (Refused s) a b (inr p) (inl q) =
+    absurd (no_plan files (reading_of words) s p.0 q.0 p.1)
+one_own words files effects done (Unreadable file) end a b p q = absurd a
+one_own words files effects done (Unwritable effect) end a b p q = absurd a
+one_own words files effects done OutOfMemory end a b p q = absurd a
+one_own words files effects done own (Unreadable file) a b p q = absurd b
+one_own words files effects done own (Unwritable effect) a b p q = absurd b
+one_own words files effects done own OutOfMemory a b p q = absurd b
+
+-- readings that come to a plan ask for no file that is not there
+asked_before : (plan : Plan) (files : Files) (reading : Reading) (file : List ℕ) (next : Text → Reading)
+    → ReadsTo (Some files) reading (Begins plan) → ReadsTo (Some files) reading (Reads file next)
+    → Lacks (Some files) file → ⊥
+asked_before plan files reading file next leads asked lacks =
+    elim (one_point files reading (Begins plan) (Reads file next) tt leads asked) [
+      | inl is ↦ let bad : ⊥ = cc in bad
+      | inr asks ↦
+        let e = asks.is in
+        let same : file ≡ asks.file = cc in
+        asks.there (subst (Lacks (Some files)) same lacks)
+    ]
+
+-- the readings of an own end ask for no file that is not there
+none_missing : (words : List (List ℕ)) (files : Files) (effects : List Effect) (own : End) (file : List ℕ)
+    (next : Text → Reading) → IsOwn own → Comes words (Some files) effects own
+    → ReadsTo (Some files) (reading_of words) (Reads file next) → Lacks (Some files) file → ⊥
+none_missing words files effects own file next a (inr p) q lacks =
+    asked_before p.0 files (reading_of words) file next p.1 q lacks
+none_missing words files effects Finished file next a (inl p) q lacks = absurd p.0
+none_missing words files effects (Refused r) file next a (inl p) q lacks =
+    elim (one_point files (reading_of words) (Refuses r) (Reads file next) tt p.0 q) [
+      | inl is ↦ let bad : ⊥ = cc in bad
+      | inr asks ↦
+          let e = asks.is in
+          let same : file ≡ asks.file = cc in
+          asks.there (subst (Lacks (Some files)) same lacks)
+    ]
+none_missing words files effects (Unreadable name) file next a (inl p) q lacks = absurd a
+none_missing words files effects (Unwritable effect) file next a (inl p) q lacks = absurd a
+none_missing words files effects OutOfMemory file next a (inl p) q lacks = absurd a
+
+-- the end of a run is determined, but for devices and memory
+no_other_end : (words : List (List ℕ)) (files : Files) (effects done : List Effect) (own end : End)
+    (before now : Faults) → IsOwn own → Comes words (Some files) effects own → Comes words (Some files) done end
+    → HasCause end (Some files) before now → NoneRose before now
+    → ((end ≡ own) × (done ≡ effects)) ⊎ (end ≡ OutOfMemory)
+no_other_end words files effects done own Finished before now a all comes cause calm =
+    inl (one_own words files effects done own Finished a tt all comes)
+no_other_end words files effects done own (Refused r) before now a all comes cause calm =
+    inl (one_own words files effects done own (Refused r) a tt all comes)
+no_other_end words files effects done own (Unreadable file) before now a all (inl asked) (inl lacks) calm =
+    absurd (none_missing words files effects own file asked.0.0 a all asked.0.1 lacks)
+no_other_end words files effects done own (Unreadable file) before now a all (inl asked) (inr rose) calm =
+    absurd (calm.read rose)
+no_other_end words files effects done own (Unreadable file) before now a all (inr comes) cause calm = absurd comes.2
+no_other_end words files effects done own (Unwritable (Write file bytes)) before now a all comes cause calm =
+    absurd (calm.write cause)
+no_other_end words files effects done own (Unwritable (Print line)) before now a all comes cause calm =
+    absurd (calm.print cause)
+no_other_end words files effects done own OutOfMemory before now a all comes cause calm = inr refl
+
+-- where the words and the files lead to an end of their own, the run came to it, or there was no memory
+comes_to_own : (words : List (List ℕ)) (status : ℕ) (old new : Moment) → Went words status old new
+    → (files : Files) (effects : List Effect) (own : End) → old.outside.files ≡ Some files
+    → NoneRose old.faults new.faults → IsOwn own → Comes words (Some files) effects own
+    → ((status ≡ status_of own) × (new.outside ≡ after effects old.outside)) ⊎ (status ≡ 7)
+comes_to_own words status old new went files effects own told calm is all =
+    let comes = subst (λ f. Comes words f went.effects went.end) told went.comes in
+    let cause = subst (λ f. HasCause went.end f old.faults new.faults) told went.cause in
+    elim (no_other_end words files effects went.effects own went.end old.faults new.faults is all comes cause calm) [
+      | inl whole ↦ inl (
+        went.status_is ∙ ap status_of whole.0,
+        all_done own is (subst (λ e. Leaves went.effects e old.outside new.outside) whole.0 went.leaves)
+            ∙ ap (λ l. after l old.outside) whole.1,
+      )
+      | inr memory ↦ inr (went.status_is ∙ ap status_of memory)
+    ]
+  where
+    all_done : (end : End) → IsOwn end → Leaves went.effects end old.outside new.outside
+        → new.outside ≡ after went.effects old.outside
+    all_done Finished is leaves = leaves
+    all_done (Refused r) is leaves = leaves
+    all_done (Unreadable file) is leaves = absurd is
+    all_done (Unwritable effect) is leaves = absurd is
+    all_done OutOfMemory is leaves = absurd is
+
+-- an input that is served leads to its plan
+leads_to_plan : (words : List (List ℕ)) (files : Files) (job : Job) (formula : Groups)
+    → IsInput words files job formula → formula.variables ≤ 16
+    → ReadsTo (Some files) (reading_of words) (Begins (plan_for job formula))
+leads_to_plan words files job formula input few =
+    let few_enough : nat_lt 16 formula.variables ≡ false = le-ltb 16 formula.variables few in
+    let plan : with_formula job (Some formula) ≡ Begins (plan_for job formula) =
+        ap (λ b. cond b (Refuses NotYet) (Begins (plan_for job formula))) few_enough in
+    let begins = subst (λ r. ReadsTo (Some files) r (Begins (plan_for job formula))) (sym plan) refl in
+    let read = subst (λ f. ReadsTo (Some files) (with_formula job f) (Begins (plan_for job formula)))
+        (sym input.reads) begins in
+    subst (λ j. ReadsTo (Some files) (with_job j) (Begins (plan_for job formula))) (sym input.named)
+    (inr (Whole input.bytes, (input.there, input.short), read))
+
+-- where the readings lead to a plan and no device fails, all is done, or there was no memory
+done_or_none : (words : List (List ℕ)) (files : Files) (plan : Plan) (effects : List Effect) (end : End)
+    (before now : Faults) → ReadsTo (Some files) (reading_of words) (Begins plan) → Comes words (Some files) effects end
+    → HasCause end (Some files) before now → NoneRose before now → (status_of end ≡ 0) ⊎ (status_of end ≡ 7)
+done_or_none words files plan effects Finished before now leads comes cause calm = inl refl
+done_or_none words files plan effects (Refused r) before now leads (inl p) cause calm =
+    absurd (no_plan files (reading_of words) r plan p.0 leads)
+done_or_none words files plan effects (Refused r) before now leads (inr p) cause calm =
+    absurd (none_refused p.2.0 p.2.1 r p.2.3)
+done_or_none words files plan effects (Unreadable file) before now leads (inl p) (inl lacks) calm =
+    absurd (asked_before plan files (reading_of words) file p.0.0 leads p.0.1 lacks)
+done_or_none words files plan effects (Unreadable file) before now leads comes (inr rose) calm =
+    absurd (calm.read rose)
+done_or_none words files plan effects (Unreadable file) before now leads (inr p) cause calm = absurd p.2
+done_or_none words files plan effects (Unwritable (Write file bytes)) before now leads comes cause calm =
+    absurd (calm.write cause)
+done_or_none words files plan effects (Unwritable (Print line)) before now leads comes cause calm =
+    absurd (calm.print cause)
+done_or_none words files plan effects OutOfMemory before now leads comes cause calm = inr refl
+
+-- a run that went somewhere is complete
+pub completes : (words : List (List ℕ)) (status : ℕ) (old new : Moment) → Went words status old new
+    → IsComplete words status old new
+completes words status old new went = record {
+  served = λ files job formula told calm input few.
+      let comes = subst (λ f. Comes words f went.effects went.end) told went.comes in
+      let cause = subst (λ f. HasCause went.end f old.faults new.faults) told went.cause in
+      let leads = leads_to_plan words files job formula input few in
+      elim (done_or_none words files (plan_for job formula) went.effects went.end old.faults new.faults
+        leads comes cause calm) [
+        | inl done ↦ inl (went.status_is ∙ done)
+        | inr memory ↦ inr (went.status_is ∙ memory)
+      ];
+  own = comes_to_own words status old new went;
+}

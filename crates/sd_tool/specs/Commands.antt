@@ -1,0 +1,45 @@
+-- The commands of a run. A later command is a case more of `Command` and of `Step`.
+use Rattle.std.specs.Prelude.{◌≡◌, ℕ, List, [], ◌∷◌, ◌++◌, codes}
+use Rattle.sd_model.specs.Expression.{Expression}
+use Rattle.sd_model.specs.Tree.{Tree}
+use Rattle.sd_model.specs.Diagram.{Diagram}
+use Rattle.sd_model.specs.Size.{IsDiagramOf, HasSize}
+use Rattle.sd_model.specs.Text.{number_text, sdd_text}
+use Rattle.sd_tool.specs.Effects.{Effect, Write, Print}
+use Rattle.sd_tool.specs.Refusals.{Refusal}
+use Rattle.sd_tool.specs.declared.commands.Command.{Command}
+use Rattle.sd_tool.specs.declared.commands.Command.TheVariants.{WriteTo, Size}
+
+-- what a run holds between two commands
+pub record State : Type 0 where
+  pub formula : Expression
+  pub tree : Tree
+
+-- a command is done, with a new state and at most one effect, or it is refused
+pub data Outcome : Type 0 where
+  Done : (state : State) (effects : List Effect) → Outcome
+  Stops : Refusal → Outcome
+
+-- the text of the formula's canonical diagram
+pub record IsTextOf (state : State) (text : List ℕ) : Type 0 where
+  pub diagram : Diagram
+  pub of_formula : IsDiagramOf state.tree state.formula diagram
+  pub is : text ≡ sdd_text diagram
+
+-- the line with the size of the formula's canonical diagram
+abbrev pub size_line : ℕ → List ℕ
+size_line n = codes "size " ++ number_text n ++ 10 ∷ []
+
+-- what a command comes to in a state
+abbrev pub Step : State → Command → Outcome → Type 0
+Step state (WriteTo file) outcome =
+    (text : List ℕ) × IsTextOf state text × (outcome ≡ Done state (Write file text ∷ []))
+Step state Size outcome =
+    (n : ℕ) × HasSize (state.formula ∷ []) state.tree n × (outcome ≡ Done state (Print (size_line n) ∷ []))
+
+-- these commands are all done, one after another, with these effects
+abbrev pub Steps : State → List Command → List Effect → State → Type 0
+Steps old [] effects new = (effects ≡ []) × (new ≡ old)
+Steps old (command ∷ commands) effects new =
+    (mid : State) × (first : List Effect) × (others : List Effect)
+    × Step old command (Done mid first) × Steps mid commands others new × (effects ≡ first ++ others)

@@ -1,0 +1,36 @@
+-- How a run ends: its status, and its line on `err`.
+use Rattle.std.specs.Prelude.{ℕ, List, [], ◌∷◌, ◌++◌, codes}
+use Rattle.sd_tool.specs.Effects.{Effect, Write, Print}
+use Rattle.sd_tool.specs.Refusals.{Refusal, refusal_status, refusal_text}
+
+pub data End : Type 0 where
+  -- all commands were done
+  Finished : End
+  -- the words, a text or a command were refused
+  Refused : Refusal → End
+  -- an input file was not read
+  Unreadable : (file : List ℕ) → End
+  -- the effect in hand failed
+  Unwritable : Effect → End
+  -- no memory was left
+  OutOfMemory : End
+
+abbrev pub status_of : End → ℕ
+status_of Finished = 0
+status_of (Refused refusal) = refusal_status refusal
+status_of (Unreadable file) = 5
+status_of (Unwritable effect) = 6
+status_of OutOfMemory = 7
+
+-- the text of the line, after the name of the program
+abbrev pub text_of : End → List ℕ
+text_of Finished = []
+text_of (Refused refusal) = refusal_text refusal
+text_of (Unreadable file) = file ++ codes ": read fault"
+text_of (Unwritable (Write file bytes)) = file ++ codes ": write fault"
+text_of (Unwritable (Print line)) = codes "output: write fault"
+text_of OutOfMemory = codes "out of memory"
+
+-- a line on `err`
+abbrev pub line_of : List ℕ → List ℕ
+line_of text = codes "sddc: " ++ text ++ 10 ∷ []

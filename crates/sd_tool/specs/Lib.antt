@@ -1,0 +1,13 @@
+pub mod Commands
+pub mod Course
+pub mod Devices
+pub mod Effects
+pub mod Ends
+pub mod Expansion
+pub mod Given
+pub mod Headline
+pub mod Job
+pub mod Readings
+pub mod Refusals
+pub mod Stops
+pub mod Written

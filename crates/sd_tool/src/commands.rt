@@ -1,0 +1,75 @@
+// The commands of a run, and what each does.
+ghost use Rattle.std.specs.Prelude.{◌≡◌, ◌⊎◌, ◌++◌, ◌∷◌, [], ◌<◌, ◌^◌, IfOk, IfErr};
+ghost use Rattle.sd_model.specs.Seen.{diagram_of};
+ghost use Rattle.sd_model.specs.Size.{size_of};
+ghost use Rattle.sd_model.specs.Text.{sdd_text};
+ghost use Rattle.sd_tool.specs.Commands.{Step, Done, size_line};
+ghost use Rattle.sd_tool.specs.Given.{state_seen, IsCompiled};
+ghost use Rattle.sd_tool.specs.Stops.{effects_of, RefusesAt};
+
+use crate::state::State;
+use crate::stop::Stop;
+use itoa::Buffer;
+use sd_base::{Bytes, Name};
+use sd_model::{size_of, text_of};
+use std::alloc::{AllocError, Global};
+
+/// A command of a run.
+#[derive(Drop)]
+pub enum Command {
+    /// Writes the text of the formula's diagram to the named file.
+    WriteTo(Name),
+    /// Prints the size of the formula's diagram.
+    Size,
+}
+
+/// What a command does outside.
+#[derive(Drop)]
+pub enum Act {
+    WriteFile(Name, Bytes),
+    PrintLine(Bytes),
+}
+
+/// Does one command, up to its effect, which is handed out.
+pub fn step(alloc: Global, state: &State, command: &Command) -> Result<Option<Act>, Stop>
+    requires { IsCompiled state.now }
+    ensures done { IfOk result (λ act.
+        Step (state_seen state.now) command.now (Done (state_seen state.now) (effects_of act))) }
+    ensures stops { IfErr result (λ stop.
+        (stop ≡ Stop.OutOfMemory) ⊎ RefusesAt (state_seen state.now) command.now stop) }
+{
+    match command {
+        Command::WriteTo(file) => match written(alloc, state, file.as_str()) {
+            Ok(act) => Ok(Some(act)),
+            Err(_) => Err(Stop::OutOfMemory),
+        },
+        Command::Size => match sized(alloc, state) {
+            Ok(act) => Ok(Some(act)),
+            Err(_) => Err(Stop::OutOfMemory),
+        },
+    }
+}
+
+fn written(alloc: Global, state: &State, file: &str) -> Result<Act, AllocError>
+    ensures { IfOk result (λ act. act ≡ Act.WriteFile file.now (sdd_text (diagram_of state.now.diagram))) }
+{
+    let name = Name::copy_of(alloc, file)?;
+    let text = text_of(alloc, &state.diagram)?;
+    Ok(Act::WriteFile(name, Bytes::new(text)))
+}
+
+fn sized(alloc: Global, state: &State) -> Result<Act, AllocError>
+    ensures { IfOk result (λ act. act ≡ Act.PrintLine (size_line (size_of (diagram_of state.now.diagram ∷ [])))) }
+{
+    let size = size_of(alloc, &state.diagram)?;
+    Ok(Act::PrintLine(size_text(alloc, size)?))
+}
+
+fn size_text(alloc: Global, size: u64) -> Result<Bytes, AllocError>
+    ensures { IfOk result (λ text. text ≡ size_line size) }
+{
+    let mut text = b"size ".to_vec(alloc)?;
+    text.extend_from_slice(Buffer::new().format(size).as_bytes())?;
+    text.push(b'\n')?;
+    Ok(Bytes::new(text))
+}
