@@ -4,8 +4,10 @@ pub mod Lines
 pub mod Memory
 pub mod MemoryShown
 pub mod Numbers
+pub mod Plan
 pub mod Reading
 pub mod Shelf
 pub mod Sink
 pub mod Views
 pub mod Words
+pub mod WholeFile

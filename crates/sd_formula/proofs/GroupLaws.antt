@@ -1,17 +1,19 @@
 -- The group at a place, and the groups from a place on.
-use Rattle.std.proofs.Common.{◌≡◌, ℕ, zero, suc, ◌+◌, ◌<◌, List, [], ◌∷◌, length, drop, slice_get, Some, ℤ, refl, sym, ap, ◌∙◌, subst, arith, add-one}
+use Rattle.std.proofs.Common.{◌≡◌, ℕ, zero, suc, ◌+◌, List, [], ◌∷◌, drop, slice_get, Some, ℤ, ap, subst, add-one}
 use Rattle.std.specs.List.{AllByRecursion}
 use Rattle.sd_formula.specs.Formulas.{AreLiterals, IsFormula}
 use Rattle.sd_formula.specs.Dimacs.{Groups}
 
 -- what holds of each element holds of the one at a place
-pub all_at : {X : Type 0} (P : X → Type 0) (xs : List X) (i : ℕ) (x : X) → AllByRecursion P xs → slice_get xs i ≡ Some x → P x
+pub all_at : {X : Type 0} (P : X → Type 0) (xs : List X) (i : ℕ) (x : X) → AllByRecursion P xs
+    → slice_get xs i ≡ Some x → P x
 all_at P [] i x all at = absurd cc
 all_at P (y ∷ ys) zero x all at = let is : y ≡ x = cc in subst P is all.0
 all_at P (y ∷ ys) (suc i) x all at = all_at P ys i x all.1 at
 
 -- each group of a formula has literals of its variables
-pub literals_at : (f : Groups) (i : ℕ) (group : List ℤ) → IsFormula f → slice_get f.groups i ≡ Some group → AreLiterals f.variables group
+pub literals_at : (f : Groups) (i : ℕ) (group : List ℤ) → IsFormula f → slice_get f.groups i ≡ Some group
+    → AreLiterals f.variables group
 literals_at f i group is at = all_at (AreLiterals f.variables) f.groups i group is.literals at
 
 -- an element before those after it

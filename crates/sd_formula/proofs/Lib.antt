@@ -2,6 +2,7 @@ pub mod Rows
 pub mod PartsLaws
 pub mod ReaderLaws
 pub mod FitLaws
+pub mod FlatLaws
 pub mod GroupLaws
 pub mod PlainLaws
 pub mod RangeLaws

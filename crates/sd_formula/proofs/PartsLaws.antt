@@ -1,5 +1,6 @@
 -- The parts that a reader keeps are the parts of the whole list of literals between zeros.
-use Rattle.std.proofs.Common.{◌≡◌, ℕ, ◌<◌, Bool, true, false, cond, List, [], ◌∷◌, ◌++◌, length, refl, sym, ap, ◌∙◌, ℤ, Result, Ok, Err, append_assoc, arith, inl, inr}
+use Rattle.std.proofs.Common.{◌≡◌, ℕ, ◌<◌, Bool, true, false, cond, List, [], ◌∷◌, ◌++◌, length, ℤ, Result, Ok, Err}
+use Rattle.std.proofs.Common.{refl, sym, ap, ◌∙◌, append_assoc, arith, inl, inr}
 use Rattle.std.specs.List.{slice_split, onto_first, fold}
 use Rattle.std.proofs.lemmas.List.{append-nil}
 use Rattle.std.proofs.lemmas.Bool.{cases_Bool}
@@ -17,48 +18,66 @@ onto_is_filled x (part ∷ parts) = omega arith
 -- there is always a part
 split_is_filled : {X : Type 0} (p : X → Bool) (xs : List X) → 0 < length (slice_split p xs)
 split_is_filled p [] = omega arith
-split_is_filled p (x ∷ xs) = elim (p x) as (λ b. 0 < length (cond b ([] ∷ slice_split p xs) (onto_first x (slice_split p xs)))) [ true ↦ omega arith | false ↦ onto_is_filled x (slice_split p xs) ]
+split_is_filled p (x ∷ xs) =
+    let parts = slice_split p xs in
+    elim (p x) as (λ b. 0 < length (cond b ([] ∷ parts) (onto_first x parts))) [
+      | true ↦ omega arith
+      | false ↦ onto_is_filled x parts
+    ]
 
+-- an element at the end of the last part
 onto_last : {X : Type 0} → X → List (List X) → List (List X)
 onto_last z [] = (z ∷ []) ∷ []
 onto_last z (part ∷ []) = (part ++ z ∷ []) ∷ []
 onto_last z (part ∷ next ∷ parts) = part ∷ onto_last z (next ∷ parts)
 
-onto_last-cons : {X : Type 0} (z : X) (part : List X) (parts : List (List X)) → 0 < length parts → onto_last z (part ∷ parts) ≡ part ∷ onto_last z parts
+onto_last-cons : {X : Type 0} (z : X) (part : List X) (parts : List (List X)) → 0 < length parts
+    → onto_last z (part ∷ parts) ≡ part ∷ onto_last z parts
 unfolding onto_last
 onto_last-cons z part [] h = absurd (omega arith)
 onto_last-cons z part (next ∷ parts) h = refl
 
-onto_both : {X : Type 0} (x z : X) (parts : List (List X)) → onto_first x (onto_last z parts) ≡ onto_last z (onto_first x parts)
+-- the order of an element in front and one at the end does not matter
+onto_both : {X : Type 0} (x z : X) (parts : List (List X))
+    → onto_first x (onto_last z parts) ≡ onto_last z (onto_first x parts)
 unfolding onto_last
 onto_both x z [] = refl
 onto_both x z (part ∷ []) = refl
 onto_both x z (part ∷ next ∷ parts) = refl
 
-split_push : {X : Type 0} (p : X → Bool) (xs : List X) (z : X) → p z ≡ false → slice_split p (xs ++ z ∷ []) ≡ onto_last z (slice_split p xs)
+-- an element that ends no part goes to the end of the last one
+split_push : {X : Type 0} (p : X → Bool) (xs : List X) (z : X) → p z ≡ false
+    → slice_split p (xs ++ z ∷ []) ≡ onto_last z (slice_split p xs)
 unfolding onto_last
 split_push p [] z other = rw other refl
 split_push p (x ∷ xs) z other =
+    let parts = slice_split p xs in
     let shorter = split_push p xs z other in
+    let behind = onto_last-cons z [] parts (split_is_filled p xs) in
     elim (cases_Bool (p x)) [
-      | inl ends ↦ rw ends (ap (λ parts. [] ∷ parts) shorter ∙ sym (onto_last-cons z [] (slice_split p xs) (split_is_filled p xs)))
-      | inr inside ↦ rw inside (ap (onto_first x) shorter ∙ onto_both x z (slice_split p xs))
+      | inl ends ↦ rw ends (ap (λ parts. [] ∷ parts) shorter ∙ sym behind)
+      | inr inside ↦ rw inside (ap (onto_first x) shorter ∙ onto_both x z parts)
     ]
 
-onto-append : {X : Type 0} (x : X) (parts : List (List X)) → 0 < length parts → onto_first x (parts ++ [] ∷ []) ≡ onto_first x parts ++ [] ∷ []
+onto-append : {X : Type 0} (x : X) (parts : List (List X)) → 0 < length parts
+    → onto_first x (parts ++ [] ∷ []) ≡ onto_first x parts ++ [] ∷ []
 onto-append x [] h = absurd (omega arith)
 onto-append x (part ∷ parts) h = refl
 
-split_push_end : {X : Type 0} (p : X → Bool) (xs : List X) (z : X) → p z ≡ true → slice_split p (xs ++ z ∷ []) ≡ slice_split p xs ++ [] ∷ []
+-- an element that ends a part leaves an empty one behind it
+split_push_end : {X : Type 0} (p : X → Bool) (xs : List X) (z : X) → p z ≡ true
+    → slice_split p (xs ++ z ∷ []) ≡ slice_split p xs ++ [] ∷ []
 split_push_end p [] z ends = rw ends refl
 split_push_end p (x ∷ xs) z ends =
+    let parts = slice_split p xs in
     let shorter = split_push_end p xs z ends in
     elim (cases_Bool (p x)) [
       | inl at ↦ rw at (ap (λ parts. [] ∷ parts) shorter)
-      | inr at ↦ rw at (ap (onto_first x) shorter ∙ onto-append x (slice_split p xs) (split_is_filled p xs))
+      | inr at ↦ rw at (ap (onto_first x) shorter ∙ onto-append x parts (split_is_filled p xs))
     ]
 
-onto_last-push : (z : ℤ) (closed : List (List ℤ)) (part : List ℤ) → onto_last z (closed ++ part ∷ []) ≡ closed ++ (part ++ z ∷ []) ∷ []
+onto_last-push : (z : ℤ) (closed : List (List ℤ)) (part : List ℤ)
+    → onto_last z (closed ++ part ∷ []) ≡ closed ++ (part ++ z ∷ []) ∷ []
 unfolding onto_last
 onto_last-push z [] part = refl
 onto_last-push z (x ∷ []) part = refl
@@ -66,15 +85,23 @@ onto_last-push z (x ∷ y ∷ ys) part = ap (λ ps. x ∷ ps) (onto_last-push z 
 
 -- ---- literals put one after another
 
-put_is : (xs : List ℤ) (p : Parts) (z : ℤ) → list_of p ≡ slice_split is_zero xs → list_of (put_literal p z) ≡ slice_split is_zero (xs ++ z ∷ [])
+-- one more literal or zero
+put_is : (xs : List ℤ) (p : Parts) (z : ℤ) → list_of p ≡ slice_split is_zero xs
+    → list_of (put_literal p z) ≡ slice_split is_zero (xs ++ z ∷ [])
 put_is xs p z so_far = elim (cases_Bool (is_zero z)) [
-  | inl zero' ↦ rw zero' (ap (λ ps. ps ++ [] ∷ []) so_far ∙ sym (split_push_end is_zero xs z zero'))
-  | inr other ↦ rw other (sym (onto_last-push z p.closed p.open_part) ∙ ap (onto_last z) so_far ∙ sym (split_push is_zero xs z other))
+  | inl ends ↦ rw ends (ap (λ ps. ps ++ [] ∷ []) so_far ∙ sym (split_push_end is_zero xs z ends))
+  | inr other ↦
+      let behind = sym (onto_last-push z p.closed p.open_part) in
+      rw other (behind ∙ ap (onto_last z) so_far ∙ sym (split_push is_zero xs z other))
 ]
 
-puts_are : (zs xs : List ℤ) (p : Parts) → list_of p ≡ slice_split is_zero xs → list_of (fold put_literal p zs) ≡ slice_split is_zero (xs ++ zs)
+-- and many more
+puts_are : (zs xs : List ℤ) (p : Parts) → list_of p ≡ slice_split is_zero xs
+    → list_of (fold put_literal p zs) ≡ slice_split is_zero (xs ++ zs)
 puts_are [] xs p so_far = so_far ∙ ap (slice_split is_zero) (sym (append-nil xs))
-puts_are (z ∷ zs) xs p so_far = puts_are zs (xs ++ z ∷ []) (put_literal p z) (put_is xs p z so_far) ∙ ap (slice_split is_zero) (append_assoc xs (z ∷ []) zs)
+puts_are (z ∷ zs) xs p so_far =
+    let later = puts_are zs (xs ++ z ∷ []) (put_literal p z) (put_is xs p z so_far) in
+    later ∙ ap (slice_split is_zero) (append_assoc xs (z ∷ []) zs)
 
 -- the parts of literals that are put from the start on
 pub puts_from_none : (zs : List ℤ) → list_of (fold put_literal no_parts zs) ≡ slice_split is_zero zs
@@ -82,24 +109,36 @@ puts_from_none zs = puts_are zs [] no_parts refl
 
 -- ---- words that are read one after another
 
-pub put_words-each : (v : ℕ) (p : Parts) (words : List Word) → put_words v p words ≡ (each (literal_of v) words >>= λ zs. Ok (fold put_literal p zs))
+-- all literals of some words are put
+abbrev put_all : Parts → Result (List ℤ) Fault → Result Parts Fault
+put_all p reading = reading >>= λ zs. Ok (fold put_literal p zs)
+
+-- reading and putting word by word is reading all words and putting their literals
+pub put_words-each : (v : ℕ) (p : Parts) (words : List Word)
+    → put_words v p words ≡ put_all p (each (literal_of v) words)
 put_words-each v p [] = refl
 put_words-each v p (word ∷ words) = after (literal_of v word) (λ z. put_words-each v (put_literal p z) words)
   where
-    regroup : (z : ℤ) (r : Result (List ℤ) Fault) → (r >>= λ zs. Ok (fold put_literal (put_literal p z) zs)) ≡ ((r >>= λ zs. Ok (z ∷ zs)) >>= λ zs. Ok (fold put_literal p zs))
+    regroup : (z : ℤ) (r : Result (List ℤ) Fault) → put_all (put_literal p z) r ≡ put_all p (r >>= λ zs. Ok (z ∷ zs))
     regroup z (Ok zs) = refl
     regroup z (Err e) = refl
 
-    after : (r : Result ℤ Fault) → ((z : ℤ) → put_words v (put_literal p z) words ≡ (each (literal_of v) words >>= λ zs. Ok (fold put_literal (put_literal p z) zs)))
-        → (r >>= λ z. put_words v (put_literal p z) words) ≡ ((r >>= λ z. each (literal_of v) words >>= λ zs. Ok (z ∷ zs)) >>= λ zs. Ok (fold put_literal p zs))
+    after : (r : Result ℤ Fault)
+        → ((z : ℤ) → put_words v (put_literal p z) words ≡ put_all (put_literal p z) (each (literal_of v) words))
+        → (r >>= λ z. put_words v (put_literal p z) words)
+        ≡ put_all p (r >>= λ z. each (literal_of v) words >>= λ zs. Ok (z ∷ zs))
     after (Ok z) shorter = shorter z ∙ regroup z (each (literal_of v) words)
     after (Err e) shorter = refl
 
 -- what comes after the words sees the parts of the whole list of literals
-pub by_parts : {Y : Type 0} (v : ℕ) (words : List Word) (then' : List (List ℤ) → Result Y Fault)
-    → (each (literal_of v) words >>= λ zs. then' (slice_split is_zero zs)) ≡ (put_words v no_parts words >>= λ p. then' (list_of p))
-by_parts v words then' = sym (ap (λ (r : Result Parts Fault). r >>= λ p. then' (list_of p)) (put_words-each v no_parts words) ∙ at (each (literal_of v) words))
+pub by_parts : {Y : Type 0} (v : ℕ) (words : List Word) (next : List (List ℤ) → Result Y Fault)
+    → (each (literal_of v) words >>= λ zs. next (slice_split is_zero zs))
+    ≡ (put_words v no_parts words >>= λ p. next (list_of p))
+by_parts v words next =
+    let finished = λ (r : Result Parts Fault). r >>= λ p. next (list_of p) in
+    sym (ap finished (put_words-each v no_parts words) ∙ at (each (literal_of v) words))
   where
-    at : (r : Result (List ℤ) Fault) → ((r >>= λ zs. Ok (fold put_literal no_parts zs)) >>= λ p. then' (list_of p)) ≡ (r >>= λ zs. then' (slice_split is_zero zs))
-    at (Ok zs) = ap then' (puts_from_none zs)
+    at : (r : Result (List ℤ) Fault)
+        → (put_all no_parts r >>= λ p. next (list_of p)) ≡ (r >>= λ zs. next (slice_split is_zero zs))
+    at (Ok zs) = ap next (puts_from_none zs)
     at (Err e) = refl

@@ -9,10 +9,10 @@ pub first_line : (bytes : List ℕ) (s : Span) (m : ℕ) → IsLineAt bytes 0 s 
     → lines_of bytes ≡ take s.to bytes ∷ lines_of (take (length bytes - m) (drop m bytes))
 first_line bytes s m at m-is =
     let whole : take (s.to - s.from) (drop s.from bytes) ≡ take s.to bytes =
-      rw at.starts (ap (λ k. take k bytes) (omega arith)) in
+    rw at.starts (ap (λ k. take k bytes) (omega arith)) in
     let swapped : m ≡ min (s.to + 1) (length bytes) = omega arith in
     let rest : take (length bytes - m) (drop m bytes) ≡ drop (s.to + 1) bytes =
-      take_rest bytes m ∙ ap (λ k. drop k bytes) swapped ∙ drop_min (s.to + 1) bytes in
+    take_rest bytes m ∙ ap (λ k. drop k bytes) swapped ∙ drop_min (s.to + 1) bytes in
     let lines : lines_of bytes ≡ take s.to bytes ∷ lines_of (drop (s.to + 1) bytes) =
-      at.first ∙ ap (λ x. x ∷ lines_of (drop (s.to + 1) bytes)) whole in
+    at.first ∙ ap (λ x. x ∷ lines_of (drop (s.to + 1) bytes)) whole in
     rw (lines, rest) refl

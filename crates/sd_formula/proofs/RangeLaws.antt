@@ -1,5 +1,6 @@
 -- A text that stands for a formula states at least one variable.
-use Rattle.std.proofs.Common.{◌≡◌, ℕ, ◌≤◌, Bool, true, false, cond, not, ◌&&◌, List, [], ◌∷◌, length, drop, Option, Some, None, Result, Ok, Err}
+use Rattle.std.proofs.Common.{◌≡◌, ℕ, ◌≤◌, Bool, true, false, cond, not, ◌&&◌, List, [], ◌∷◌, length, drop, Option}
+use Rattle.std.proofs.Common.{Some, None, Result, Ok, Err}
 use Rattle.std.proofs.Common.{refl, sym, ap, subst, ◌∙◌}
 use Rattle.std.proofs.lemmas.Bool.{leb-true}
 use Rattle.std.specs.Prelude.{nat_le, nat_lt, ◌==◌, ok_or, ℤ}

@@ -1,15 +1,16 @@
 -- The steps of the reader, against the definition.
-use Rattle.std.proofs.Common.{◌≡◌, ℕ, false, not, List, [], ◌∷◌, ◌++◌, refl, sym, ap, ◌∙◌, ℤ, Result, Ok, Err, subst}
+use Rattle.std.proofs.Common.{◌≡◌, ℕ, false, not, List, [], ◌∷◌, ◌++◌, ℤ, Result, Ok, Err, refl, sym, ap, ◌∙◌, subst}
 use Rattle.std.specs.List.{take_while, flat_map, slice_split}
-use Rattle.std.proofs.lemmas.List.{length-map}
 use Rattle.std.proofs.lemmas.List.Sums.{take_while-cons}
 use Rattle.sd_base.specs.Lines.{TextLine, begins_with}
 use Rattle.sd_base.specs.Reading.{◌>>=◌, each}
 use Rattle.sd_formula.specs.declared.formula.Kind.{Kind}
 use Rattle.sd_formula.specs.declared.fault.Fault.{Fault}
 use Rattle.sd_formula.specs.declared.fault.Fault.TheVariants.{OutOfMemory}
-use Rattle.sd_formula.specs.Dimacs.{Stated, Word, literal_of, is_zero, all_but_last, last_part, body_of, words_at, groups_of, header_of, formula_of, Fails}
+use Rattle.sd_formula.specs.Dimacs.{Groups, Stated, Word, literal_of, is_zero, all_but_last, last_part}
+use Rattle.sd_formula.specs.Dimacs.{body_of, words_at, groups_of, header_of, formula_of, Fails}
 use Rattle.sd_formula.specs.Steps.{Parts, no_parts, put_literal, put_words, list_of}
+use Rattle.sd_formula.proofs.FlatLaws.{length-cut}
 use Rattle.sd_formula.proofs.PartsLaws.{by_parts}
 
 pub all_but_last_push : (parts : List (List ℤ)) (part : List ℤ) → all_but_last (parts ++ part ∷ []) ≡ parts
@@ -23,15 +24,21 @@ last_part_push (x ∷ []) part = refl
 last_part_push (x ∷ y ∷ ys) part = last_part_push (y ∷ ys) part
 
 -- what the count of groups rests on
-pub ruleset counted = (all_but_last_push, last_part_push, length-map)
+pub ruleset counted = (all_but_last_push, last_part_push, length-cut)
+
+-- ---- the lines of the body
 
 -- words that are read one list after another
-put_words-append : (v : ℕ) (p : Parts) (xs ys : List Word) → put_words v p (xs ++ ys) ≡ (put_words v p xs >>= λ q. put_words v q ys)
+put_words-append : (v : ℕ) (p : Parts) (xs ys : List Word)
+    → put_words v p (xs ++ ys) ≡ (put_words v p xs >>= λ q. put_words v q ys)
 put_words-append v p [] ys = refl
 put_words-append v p (x ∷ xs) ys = after (literal_of v x) (λ z. put_words-append v (put_literal p z) xs ys)
   where
-    after : (r : Result ℤ Fault) → ((z : ℤ) → put_words v (put_literal p z) (xs ++ ys) ≡ (put_words v (put_literal p z) xs >>= λ q. put_words v q ys))
-        → (r >>= λ z. put_words v (put_literal p z) (xs ++ ys)) ≡ ((r >>= λ z. put_words v (put_literal p z) xs) >>= λ q. put_words v q ys)
+    after : (r : Result ℤ Fault)
+        → ((z : ℤ) → put_words v (put_literal p z) (xs ++ ys)
+        ≡ (put_words v (put_literal p z) xs >>= λ q. put_words v q ys))
+        → (r >>= λ z. put_words v (put_literal p z) (xs ++ ys))
+        ≡ ((r >>= λ z. put_words v (put_literal p z) xs) >>= λ q. put_words v q ys)
     after (Ok z) shorter = shorter z
     after (Err e) shorter = refl
 
@@ -39,36 +46,58 @@ put_words-append v p (x ∷ xs) ys = after (literal_of v x) (λ z. put_words-app
 pub body_line : (v : ℕ) (p : Parts) (line : TextLine) (lines : List TextLine) → begins_with 37 line.words ≡ false
     → put_words v p (body_of (line ∷ lines)) ≡ (put_words v p (words_at line) >>= λ q. put_words v q (body_of lines))
 body_line v p line lines other =
-    let first : take_while (λ l. not (begins_with 37 l.words)) (line ∷ lines) ≡ line ∷ take_while (λ l. not (begins_with 37 l.words)) lines = take_while-cons (λ l. not (begins_with 37 l.words)) line lines ∙ rw other refl in
+    let counts = λ (l : TextLine). not (begins_with 37 l.words) in
+    let first : take_while counts (line ∷ lines) ≡ line ∷ take_while counts lines =
+    take_while-cons counts line lines ∙ rw other refl in
     let kept : body_of (line ∷ lines) ≡ words_at line ++ body_of lines = ap (flat_map words_at) first in
     ap (put_words v p) kept ∙ put_words-append v p (words_at line) (body_of lines)
 
-pub fails_then : {A B : Type 0} (e : Fault) (r : Result A Fault) (f : A → Result B Fault) → Fails e r → Fails e (r >>= f)
+-- ---- the whole text
+
+-- a fault decides, whatever would come after it
+pub fails_then : {A B : Type 0} (e : Fault) (r : Result A Fault) (f : A → Result B Fault) → Fails e r
+    → Fails e (r >>= f)
 fails_then OutOfMemory r f h = tt
 fails_then e r f h = ap (λ x. x >>= f) h
 
-formula_by_parts : (kind : Kind) (header : TextLine) (lines : List TextLine) → formula_of kind (header ∷ lines) ≡
-    (header_of kind header >>= λ s. put_words s.variables no_parts (body_of lines) >>= λ p. groups_of kind s (list_of p))
+-- what the lines of a body give
+abbrev body_parts : List TextLine → Stated → Result Parts Fault
+body_parts lines s = put_words s.variables no_parts (body_of lines)
+
+-- the formula of a header and a body that was read into parts
+abbrev of_parts : Kind → Stated → Result Parts Fault → Result Groups Fault
+of_parts kind s reading = reading >>= λ p. groups_of kind s (list_of p)
+
+-- the formula by way of the parts
+formula_by_parts : (kind : Kind) (header : TextLine) (lines : List TextLine)
+    → formula_of kind (header ∷ lines) ≡ (header_of kind header >>= λ s. of_parts kind s (body_parts lines s))
 formula_by_parts kind header lines = at (header_of kind header)
   where
     at : (r : Result Stated Fault)
         → (r >>= λ s. each (literal_of s.variables) (body_of lines) >>= λ zs. groups_of kind s (slice_split is_zero zs))
-        ≡ (r >>= λ s. put_words s.variables no_parts (body_of lines) >>= λ p. groups_of kind s (list_of p))
+        ≡ (r >>= λ s. of_parts kind s (body_parts lines s))
     at (Ok s) = by_parts s.variables (body_of lines) (groups_of kind s)
     at (Err e) = refl
+
+-- the reading, where the header has no fault
+after_header : (kind : Kind) (content : List TextLine) (header : TextLine) (lines : List TextLine) (s : Stated)
+    → content ≡ header ∷ lines → header_of kind header ≡ Ok s
+    → formula_of kind content ≡ of_parts kind s (body_parts lines s)
+after_header kind content header lines s at header-is =
+    let go_on = λ (r : Result Stated Fault). r >>= λ t. of_parts kind t (body_parts lines t) in
+    ap (formula_of kind) at ∙ formula_by_parts kind header lines ∙ ap go_on header-is
 
 -- the reading, where header and body have no fault
 pub whole : (kind : Kind) (content : List TextLine) (header : TextLine) (lines : List TextLine) (s : Stated) (p : Parts)
     → content ≡ header ∷ lines → header_of kind header ≡ Ok s → put_words s.variables no_parts (body_of lines) ≡ Ok p
     → formula_of kind content ≡ groups_of kind s (list_of p)
 whole kind content header lines s p at header-is body-is =
-    ap (formula_of kind) at ∙ formula_by_parts kind header lines ∙ ap (λ (r : Result Stated Fault). r >>= λ t. put_words t.variables no_parts (body_of lines) >>= λ q. groups_of kind t (list_of q)) header-is
-    ∙ ap (λ (r : Result Parts Fault). r >>= λ q. groups_of kind s (list_of q)) body-is
+    after_header kind content header lines s at header-is ∙ ap (of_parts kind s) body-is
 
 -- the reading, where the body has a fault
-pub body_fails : (kind : Kind) (content : List TextLine) (header : TextLine) (lines : List TextLine) (s : Stated) (e : Fault)
-    → content ≡ header ∷ lines → header_of kind header ≡ Ok s → Fails e (put_words s.variables no_parts (body_of lines))
-    → Fails e (formula_of kind content)
+pub body_fails : (kind : Kind) (content : List TextLine) (header : TextLine) (lines : List TextLine) (s : Stated)
+    (e : Fault) → content ≡ header ∷ lines → header_of kind header ≡ Ok s
+    → Fails e (put_words s.variables no_parts (body_of lines)) → Fails e (formula_of kind content)
 body_fails kind content header lines s e at header-is fails =
-    let reading = ap (formula_of kind) at ∙ formula_by_parts kind header lines ∙ ap (λ (r : Result Stated Fault). r >>= λ t. put_words t.variables no_parts (body_of lines) >>= λ q. groups_of kind t (list_of q)) header-is in
-    subst (Fails e) (sym reading) (fails_then e (put_words s.variables no_parts (body_of lines)) (λ q. groups_of kind s (list_of q)) fails)
+    let decided = fails_then e (body_parts lines s) (λ q. groups_of kind s (list_of q)) fails in
+    subst (Fails e) (sym (after_header kind content header lines s at header-is)) decided

@@ -106,9 +106,9 @@ abbrev pub groups_of : Kind → Stated → List (List ℤ) → Result Groups Fau
 groups_of kind stated parts =
     let groups = all_but_last parts in
     let found = length groups in do
-  fault_if (not (length (last_part parts) == 0)) Unterminated
-  fault_if (not (stated.groups == found)) (CountDiffers stated.groups found)
-  Ok (record { kind = kind; variables = stated.variables; groups = groups })
+      fault_if (not (length (last_part parts) == 0)) Unterminated
+      fault_if (not (stated.groups == found)) (CountDiffers stated.groups found)
+      Ok (record { kind = kind; variables = stated.variables; groups = groups })
 
 -- ---- the text
 

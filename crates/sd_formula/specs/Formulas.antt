@@ -6,6 +6,7 @@ use Rattle.sd_model.specs.Expression.{Expression}
 use Rattle.sd_formula.specs.declared.formula.Kind.{Kind}
 use Rattle.sd_formula.specs.declared.formula.Kind.TheVariants.{Cnf, Dnf}
 use Rattle.sd_formula.specs.Dimacs.{Groups}
+use Rattle.sd_formula.specs.Flat.{cut}
 
 -- a literal of a variable from 1 to v
 pub record IsLiteral (v : ℕ) (z : ℤ) : Type 0 where
@@ -22,6 +23,11 @@ pub record IsFormula (f : Groups) : Type 0 where
   pub few : f.variables ≤ 1024
   pub count : length f.groups ≤ 1000000
   pub literals : AllByRecursion (AreLiterals f.variables) f.groups
+
+-- the groups that end at these places
+abbrev pub groups_between : Kind → ℕ → List ℕ → List ℤ → Groups
+groups_between kind variables ends literals =
+    record { kind = kind; variables = variables; groups = cut 0 ends literals }
 
 -- the conjunction of clauses, or the disjunction of terms
 abbrev pub of_kind : Kind → List (List ℤ) → Expression

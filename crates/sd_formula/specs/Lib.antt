@@ -1,4 +1,5 @@
 pub mod Dimacs
+pub mod Flat
 pub mod Formulas
 pub mod Plain
 pub mod Steps

@@ -1,5 +1,5 @@
 -- Plain texts: the texts of DIMACS that have no blank line, no comment and no line that begins with a percent sign.
-use Rattle.std.specs.Prelude.{ℕ, Bool, not, ◌||◌, ◌&&◌, if◌then◌else◌, List, Option, None}
+use Rattle.std.specs.Prelude.{ℕ, Bool, not, ◌&&◌, if◌then◌else◌, List, Option, None}
 use Rattle.std.specs.Result.{result_ok}
 use Rattle.std.specs.List.{list_all}
 use Rattle.sd_base.specs.Words.{lines_of, words_of}
@@ -24,7 +24,7 @@ is_plain bytes = list_all (λ line. is_plain_line (words_of line)) (lines_of byt
 unfoldable pub plain_dimacs : Kind → List ℕ → Option Groups
 plain_dimacs kind bytes = if is_plain bytes then result_ok (dimacs kind bytes) else None
 
--- the answer for a fault, until faults are told apart
+-- the answer to a fault, which does not tell the faults of a text apart
 abbrev pub without_reason : Fault → FormulaError
 without_reason OutOfMemory = errors.OutOfMemory
 without_reason fault = NotYet

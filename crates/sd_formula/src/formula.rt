@@ -5,14 +5,18 @@ ghost use Rattle.std.specs.List.{list_any, list_all};
 ghost use Rattle.sd_model.specs.Assignment.{literal_holds};
 ghost use Rattle.sd_model.specs.Expression.{expression_value};
 ghost use Rattle.sd_formula.specs.Dimacs.{kind_word};
-ghost use Rattle.sd_formula.specs.Formulas.{IsLiteral, AreLiterals, expression_of};
+ghost use Rattle.sd_formula.specs.Formulas.{AreLiterals, expression_of};
 
+use crate::flat::group_between;
+use crate::literals::{all_hold, some_holds};
 use std::marker::Model;
 
 /// Whether the groups are clauses or terms.
 #[derive(Clone, Copy, Debug, PartialEq, Eq)]
 pub enum Kind {
+    /// Clauses: each has a literal that holds.
     Cnf,
+    /// Terms: one has only literals that hold.
     Dnf,
 }
 
@@ -28,24 +32,30 @@ impl Kind {
     }
 }
 
-/// Clauses that hold together, or terms of which one holds.
+/// Clauses that hold together, or terms of which one holds. The literals are numbers of DIMACS.
 #[derive(Debug, Drop)]
 pub struct Formula {
     pub(crate) kind: Kind,
+    /// 1 to 1,024, whether or not a group names them.
     pub(crate) variables: u32,
-    pub(crate) groups: Vec<Vec<i32>>,
+    /// The literals of all groups, one group after another.
+    pub(crate) literals: Vec<i32>,
+    /// For each group how many literals stand up to its end.
+    pub(crate) ends: Vec<usize>,
 }
 
 impl Model for Formula {
-    ghost use Rattle.std.specs.Prelude.{map};
+    ghost use Rattle.std.specs.Prelude.{length};
     ghost use Rattle.sd_formula.specs.Dimacs.{Groups};
-    ghost use Rattle.sd_formula.specs.Formulas.{IsFormula};
+    ghost use Rattle.sd_formula.specs.Flat.{AreEnds};
+    ghost use Rattle.sd_formula.specs.Formulas.{IsFormula, groups_between};
 
     ghost Value = { Groups };
 
-    ghost view = { λ f. record { kind = f.kind; variables = f.variables; groups = map (λ group. group.items) f.groups.items } };
+    ghost view = { λ f. groups_between f.kind f.variables f.ends.items f.literals.items };
 
-    ghost invariant = { λ f. IsFormula (record { kind = f.kind; variables = f.variables; groups = map (λ group. group.items) f.groups.items }) };
+    ghost invariant = { λ f. AreEnds 0 f.ends.items (length f.literals.items)
+        × IsFormula (groups_between f.kind f.variables f.ends.items f.literals.items) };
 }
 
 impl Formula {
@@ -69,7 +79,7 @@ impl Formula {
         ensures value { result ≡ length self.now.groups }
         ensures few { result ≤ 1000000 }
     {
-        self.groups.len()
+        self.ends.len()
     }
 
     /// The literals of a clause or term, counted from 0, in the order of the text.
@@ -78,11 +88,11 @@ impl Formula {
         ensures value { slice_get self.now.groups index ≡ Some result.now }
         ensures literals { AreLiterals self.now.variables result.now }
     {
-        &self.groups[index]
+        group_between(&self.literals, &self.ends, index)
     }
 
-    /// The value under an assignment, which has a truth value for each variable: a CNF is true where
-    /// every clause has a true literal, a DNF where some term has only true literals.
+    /// The value under an assignment, which has a truth value for each variable: a CNF is true
+    /// where every clause has a true literal, a DNF where some term has only true literals.
     pub fn value(&self, assignment: &[bool]) -> bool
         requires { length assignment.now ≡ self.now.variables }
         ensures { result ≡ expression_value (expression_of self.now) assignment.now }
@@ -93,6 +103,7 @@ impl Formula {
         }
     }
 
+    /// Whether each group has a literal that holds.
     #[tactic(auto, using(crate::proofs::GroupLaws::drop_at))]
     fn every_clause_holds(&self, assignment: &[bool]) -> bool
         requires { length assignment.now ≡ self.now.variables }
@@ -106,6 +117,7 @@ impl Formula {
         true
     }
 
+    /// Whether some group has only literals that hold.
     #[tactic(auto, using(crate::proofs::GroupLaws::drop_at))]
     fn some_term_holds(&self, assignment: &[bool]) -> bool
         requires { length assignment.now ≡ self.now.variables }
@@ -118,39 +130,4 @@ impl Formula {
         }
         false
     }
-}
-
-/// Whether some literal of a clause holds.
-fn some_holds(clause: &[i32], assignment: &[bool]) -> bool
-    requires { AreLiterals (length assignment.now) clause.now }
-    ensures { result ≡ list_any (literal_holds assignment.now) clause.now }
-{
-    for literal in clause {
-        if holds(*literal, assignment) {
-            return true;
-        }
-    }
-    false
-}
-
-/// Whether each literal of a term holds.
-fn all_hold(term: &[i32], assignment: &[bool]) -> bool
-    requires { AreLiterals (length assignment.now) term.now }
-    ensures { result ≡ list_all (literal_holds assignment.now) term.now }
-{
-    for literal in term {
-        if !holds(*literal, assignment) {
-            return false;
-        }
-    }
-    true
-}
-
-/// Whether a literal agrees with the truth value of its variable.
-fn holds(literal: i32, assignment: &[bool]) -> bool
-    requires { IsLiteral (length assignment.now) literal }
-    ensures { result ≡ literal_holds assignment.now literal }
-{
-    let value = assignment[literal.unsigned_abs() as usize - 1];
-    value == (literal > 0)
 }

@@ -17,7 +17,9 @@ const MAX_GROUPS: u64 = 1_000_000;
 /// What a header states.
 #[derive(Clone, Copy, Debug)]
 pub(crate) struct Header {
+    /// 1 to 1,024.
     pub(crate) variables: u32,
+    /// At most 1,000,000.
     pub(crate) groups: u64,
 }
 
@@ -51,7 +53,8 @@ fn numbers_of(kind: Kind, mut words: Words<'_>) -> Option<(u64, u64)>
 
 /// The header of two numbers.
 fn in_range(variables: u64, groups: u64) -> Result<Header, Fault>
-    ensures value { Gives header_view result (texts.in_range (record { variables = variables; groups = groups })) }
+    ensures value { Gives header_view result
+        (texts.in_range (record { variables = variables; groups = groups })) }
     ensures range { IfOk result (λ header. InRange (header_view header)) }
 {
     if variables < 1 || variables > MAX_VARIABLES {

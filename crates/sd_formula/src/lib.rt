@@ -5,8 +5,11 @@
 mod body;
 mod error;
 mod fault;
+mod flat;
 mod formula;
 mod header;
+mod literals;
+mod parts;
 mod plain;
 mod reader;
 

@@ -11,11 +11,11 @@ use crate::reader::read_text;
 use sd_base::{Line, line_at};
 use std::alloc::Global;
 
-/// The formula that a plain text stands for, of at most 67,108,864 bytes.
+/// The formula of a kind that a plain text of at most 67,108,864 bytes stands for.
 ///
-/// A text is plain where none of its lines is blank, is a comment, which begins with `c`, or begins with `%`.
-/// Separators before these bytes do not count. A plain text that stands for no formula of the kind,
-/// and every other text, answers `NotYet`. Where memory is short, any text may answer `OutOfMemory`.
+/// A text is plain where none of its lines is blank, is a comment, which begins with `c`, or begins
+/// with `%`; separators before that byte do not count. Every other text answers `NotYet`, and a
+/// plain one does where it stands for no formula of the kind. Any text may answer `OutOfMemory`.
 #[tactic(auto, unfolding(crate::specs::Plain::plain_dimacs))]
 pub fn read_dimacs(alloc: Global, bytes: &[u8], kind: Kind) -> Result<Formula, FormulaError>
     requires { length bytes.now ≤ 67108864 }

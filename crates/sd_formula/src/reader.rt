@@ -5,10 +5,11 @@ ghost use Rattle.sd_formula.specs.Dimacs as texts;
 ghost use Rattle.sd_formula.specs.Dimacs.{Gives};
 ghost use Rattle.sd_formula.specs.Steps.{header_view, body_view, list_of, PartsFit, InRange};
 
-use crate::body::{Body, read_body};
+use crate::body::read_body;
 use crate::fault::Fault;
 use crate::formula::{Formula, Kind};
 use crate::header::{Header, header_of};
+use crate::parts::Body;
 use sd_base::ContentLines;
 use std::alloc::Global;
 
@@ -32,12 +33,13 @@ pub(crate) fn read_text(alloc: Global, bytes: &[u8], kind: Kind) -> Result<Formu
 fn finish(kind: Kind, header: Header, body: Body) -> Result<Formula, Fault>
     requires range { InRange (header_view header) }
     requires literals { PartsFit header.variables (body_view body) }
-    ensures { Gives (λ f. f) result (texts.groups_of kind (header_view header) (list_of (body_view body))) }
+    ensures { Gives (λ f. f) result
+        (texts.groups_of kind (header_view header) (list_of (body_view body))) }
 {
-    if !body.group.is_empty() {
+    if body.is_open() {
         return Err(Fault::Unterminated);
     }
-    let found = body.groups.len() as u64;
+    let found = body.ends.len() as u64;
     if header.groups != found {
         return Err(Fault::CountDiffers {
             stated: header.groups,
@@ -47,6 +49,7 @@ fn finish(kind: Kind, header: Header, body: Body) -> Result<Formula, Fault>
     Ok(Formula {
         kind,
         variables: header.variables,
-        groups: body.groups,
+        literals: body.literals,
+        ends: body.ends,
     })
 }

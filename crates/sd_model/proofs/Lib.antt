@@ -1,19 +1,31 @@
-pub mod Blend
-pub mod Partition
-pub mod Valued
-pub mod Order
-pub mod Unique
+-- facts that crates above cite
+pub mod Determined
 pub mod OverVtree
-pub mod Rows
 pub mod SeenLemmas
-pub mod Moving
-pub mod Listing
+pub mod Order
+pub mod Numbers
+pub mod Changed
+pub mod Difference
+pub mod Dependence
+pub mod Blend
+pub mod Valued
+-- uniqueness
+pub mod Partition
+pub mod Members
+pub mod Unique
+-- texts, sizes and moves
+pub mod Adding
+pub mod ClosedLists
+pub mod RootLast
 pub mod Words
 pub mod TextBack
-pub mod Numbers
-pub mod NodeSteps
-pub mod SizeSteps
-pub mod TextSteps
-pub mod Determined
-pub mod Dependence
-pub mod Changed
+mod NodeSteps
+mod TextSteps
+mod SizeSteps
+mod Moving
+-- worked examples
+mod CanonicalByCases
+mod WorkedDiagrams
+mod WorkedTrees
+mod WorkedFormulas
+mod WorkedCanonical

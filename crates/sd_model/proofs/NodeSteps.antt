@@ -1,8 +1,8 @@
 -- Steps of the functions that list the distinct diagrams under a diagram.
-use Rattle.std.proofs.Common.{◌≡◌, ◌≢◌, ℕ, suc, ◌+◌, ◌<◌, ◌≤◌, Bool, true, false, cond, ◌||◌, List, [], ◌∷◌, ◌++◌, length, get_or, drop, map, refl, sym, ◌∙◌, ap, subst, arith, add-one, append_assoc, append-nil}
+use Rattle.std.proofs.Common.{◌≡◌, ◌≢◌, ℕ, suc, ◌+◌, ◌<◌, ◌≤◌, Bool, true, false, cond, ◌||◌, List}
+use Rattle.std.proofs.Common.{[], ◌∷◌, ◌++◌, length, get_or, drop, refl, sym, ◌∙◌, ap, arith, add-one}
 use Rattle.std.proofs.Math.Seq.{drop-cons}
 use Rattle.std.proofs.lemmas.List.{map-append}
-use Rattle.std.specs.List.{flat_map}
 use Rattle.std.specs.Ordering.{is_eq}
 use Rattle.std.specs.declared.cmp.Ordering.{Ordering}
 use Rattle.std.specs.declared.cmp.Ordering.TheVariants.{Less, Equal, Greater}
@@ -11,35 +11,39 @@ use Rattle.std.specs.declared.alloc.Global.{Global}
 use denote.Bor.{Bor}
 use Rattle.sd_model.specs.declared.diagrams.Diagram.{Diagram as OwnedDiagram, Decomposition as OwnedDecomposition}
 use Rattle.sd_model.specs.declared.diagrams.Element.{Element as OwnedElement}
-use Rattle.sd_model.specs.Diagram.{Diagram, Decomposition, diagram_cmp}
+use Rattle.sd_model.specs.Diagram.{Diagram, diagram_cmp}
 use Rattle.sd_model.specs.Size.{is_same, walk, walk_elements, completed}
 use Rattle.sd_model.specs.Listing.{is_among, add}
-use Rattle.sd_model.specs.Text.{number_text, spaced, line_text, place_of, element_words, node_words, sdd_text}
+use Rattle.sd_model.specs.Text.{place_of}
 use Rattle.sd_model.specs.Seen.{diagram_of, elements_of, diagrams_of}
-use Rattle.sd_model.proofs.Listing.{add-append, completed-add}
-use Rattle.sd_model.proofs.SeenLemmas.{seen_decomposition, count-elements_of, elements_of-drop}
+use Rattle.sd_model.proofs.Adding.{add-append, add_pair, completed-add}
+use Rattle.sd_model.proofs.SeenLemmas.{seen_decomposition, elements_of-drop}
 
--- the place of a diagram, from a place on
-
+-- the nodes from a place on
 pub diagrams_of-drop : (nodes : List (Bor OwnedDiagram)) (i : ℕ) (r : Bor OwnedDiagram) → i < length nodes →
     diagrams_of (drop i nodes) ≡ diagram_of (get_or nodes i r).now ∷ diagrams_of (drop (i + 1) nodes)
 diagrams_of-drop nodes i r h = rw (add-one, drop-cons nodes i r h)
 
+-- a diagram that stands at a place is found there
 pub place_here : (d : Diagram) (nodes : List (Bor OwnedDiagram)) (i : ℕ) (r : Bor OwnedDiagram) → i < length nodes →
     diagram_cmp d (diagram_of (get_or nodes i r).now) ≡ Equal → place_of d (diagrams_of (drop i nodes)) ≡ 0
 place_here d nodes i r h e = rw (diagrams_of-drop nodes i r h, e)
 
+-- what is not `Equal` is no copy
 not_equal : (o : Ordering) → o ≢ Equal → is_eq o ≡ false
 not_equal Less ne = refl
 not_equal Equal ne = absurd (ne refl)
 not_equal Greater ne = refl
 
+-- one that does not stand there is found later
 pub place_later : (d : Diagram) (nodes : List (Bor OwnedDiagram)) (i : ℕ) (r : Bor OwnedDiagram) → i < length nodes →
-    diagram_cmp d (diagram_of (get_or nodes i r).now) ≢ Equal → place_of d (diagrams_of (drop i nodes)) ≡ place_of d (diagrams_of (drop (i + 1) nodes)) + 1
-place_later d nodes i r h ne = rw (diagrams_of-drop nodes i r h, not_equal (diagram_cmp d (diagram_of (get_or nodes i r).now)) ne) (sym (add-one _))
+    diagram_cmp d (diagram_of (get_or nodes i r).now) ≢ Equal → place_of d (diagrams_of (drop i nodes))
+    ≡ place_of d (diagrams_of (drop (i + 1) nodes)) + 1
+place_later d nodes i r h ne =
+    rw (diagrams_of-drop nodes i r h, not_equal (diagram_cmp d (diagram_of (get_or nodes i r).now)) ne)
+    (sym (add-one _))
 
--- a list lacks a diagram whose place is the list's length
-
+-- a place is at most the length
 place_of-le : (d : Diagram) (ds : List Diagram) → place_of d ds ≤ length ds
 place_of-le d [] = omega arith
 place_of-le d (e ∷ ds) = go (is_same d e) (place_of-le d ds)
@@ -48,53 +52,67 @@ place_of-le d (e ∷ ds) = go (is_same d e) (place_of-le d ds)
     go true h = omega arith
     go false h = omega arith
 
+-- a list lacks a diagram whose place is the list's length
 lacks : (d : Diagram) (ds : List Diagram) → place_of d ds ≡ length ds → is_among d ds ≡ false
 lacks d [] h = refl
 lacks d (e ∷ ds) h = go (is_same d e) (lacks d ds) h
   where
-    go : (b : Bool) → (place_of d ds ≡ length ds → is_among d ds ≡ false) → cond b 0 (suc (place_of d ds)) ≡ suc (length ds) → (b || is_among d ds) ≡ false
+    go : (b : Bool) → (place_of d ds ≡ length ds → is_among d ds ≡ false) →
+        cond b 0 (suc (place_of d ds)) ≡ suc (length ds) → (b || is_among d ds) ≡ false
     go true ih h = absurd (omega arith)
     go false ih h = ih (omega arith)
 
+-- it has one with another place
 has : (d : Diagram) (ds : List Diagram) → place_of d ds ≢ length ds → is_among d ds ≡ true
 has d [] h = absurd (h refl)
 has d (e ∷ ds) h = go (is_same d e) (has d ds) h
   where
-    go : (b : Bool) → (place_of d ds ≢ length ds → is_among d ds ≡ true) → cond b 0 (suc (place_of d ds)) ≢ suc (length ds) → (b || is_among d ds) ≡ true
+    go : (b : Bool) → (place_of d ds ≢ length ds → is_among d ds ≡ true) →
+        cond b 0 (suc (place_of d ds)) ≢ suc (length ds) → (b || is_among d ds) ≡ true
     go true ih h = refl
     go false ih h = ih (λ e. h (ap suc e))
 
+-- what is lacking is added at the end
 pub add_new : (ds : List Diagram) (d : Diagram) → place_of d ds ≡ length ds → add ds (d ∷ []) ≡ ds ++ d ∷ []
 add_new ds d h = rw (lacks d ds h)
 
+-- what is there is not added
 pub add_old : (ds : List Diagram) (d : Diagram) → place_of d ds ≢ length ds → add ds (d ∷ []) ≡ ds
 add_old ds d h = rw (has d ds h)
 
+-- the diagrams behind references are as many as the references
 pub length-diagrams_of : (nodes : List (Bor OwnedDiagram)) → length (diagrams_of nodes) ≡ length nodes
 length-diagrams_of [] = refl
 length-diagrams_of (r ∷ nodes) = ap suc (length-diagrams_of nodes)
 
--- the walk over elements
-
-pub add_decomposition : (ds : List Diagram) (d : OwnedDiagram) (p : ℕ) (v : Vec OwnedElement Global) → d ≡ OwnedDecomposition p v →
+-- the walk over a decomposition is that over its elements, and then itself
+pub add_decomposition : (ds : List Diagram) (d : OwnedDiagram) (p : ℕ) (v : Vec OwnedElement Global) →
+    d ≡ OwnedDecomposition p v →
     add ds (walk (diagram_of d)) ≡ add (add ds (walk_elements (elements_of v.items))) (diagram_of d ∷ [])
-add_decomposition ds d p v e = rw (seen_decomposition d p v e, add-append ds (walk_elements (elements_of v.items)) (Decomposition p (elements_of v.items) ∷ []))
+add_decomposition ds d p v e =
+    rw (seen_decomposition d p v e) (add-append ds (walk_elements (elements_of v.items)) _)
 
+-- the walk over the elements from a place on
 pub add_element : (ds : List Diagram) (es : List OwnedElement) (i : ℕ) (e : OwnedElement) → i < length es →
     add ds (walk_elements (elements_of (drop i es)))
-    ≡ add (add (add ds (walk (diagram_of (get_or es i e).prime))) (walk (diagram_of (get_or es i e).sub))) (walk_elements (elements_of (drop (i + 1) es)))
+    ≡ add (add (add ds (walk (diagram_of (get_or es i e).prime))) (walk (diagram_of (get_or es i e).sub)))
+    (walk_elements (elements_of (drop (i + 1) es)))
 add_element ds es i e h =
     ap (λ v. add ds (walk_elements v)) (elements_of-drop es i e h)
-    ∙ ap (λ v. add ds v) (append_assoc (walk (diagram_of (get_or es i e).prime)) (walk (diagram_of (get_or es i e).sub)) (walk_elements (elements_of (drop (i + 1) es))))
-    ∙ add-append ds (walk (diagram_of (get_or es i e).prime)) (walk (diagram_of (get_or es i e).sub) ++ walk_elements (elements_of (drop (i + 1) es)))
-    ∙ add-append (add ds (walk (diagram_of (get_or es i e).prime))) (walk (diagram_of (get_or es i e).sub)) (walk_elements (elements_of (drop (i + 1) es)))
+    ∙ add_pair ds (diagram_of (get_or es i e).prime) (diagram_of (get_or es i e).sub) (elements_of (drop (i + 1) es))
 
-pub node_added : (old new : List (Bor OwnedDiagram)) (d : Bor OwnedDiagram) → new ≡ old ++ d ∷ [] → place_of (diagram_of d.now) (diagrams_of old) ≡ length old →
+-- the list of references grows by a diagram that it lacks
+pub node_added : (old new : List (Bor OwnedDiagram)) (d : Bor OwnedDiagram) → new ≡ old ++ d ∷ [] →
+    place_of (diagram_of d.now) (diagrams_of old) ≡ length old →
     diagrams_of new ≡ add (diagrams_of old) (diagram_of d.now ∷ [])
 node_added old new d e h =
-    ap diagrams_of e ∙ map-append (λ (r : Bor OwnedDiagram). diagram_of r.now) old (d ∷ []) ∙ sym (add_new (diagrams_of old) (diagram_of d.now) (h ∙ sym (length-diagrams_of old)))
+    ap diagrams_of e
+    ∙ map-append (λ (r : Bor OwnedDiagram). diagram_of r.now) old (d ∷ [])
+    ∙ sym (add_new (diagrams_of old) (diagram_of d.now) (h ∙ sym (length-diagrams_of old)))
 
-pub node_there : (old : List (Bor OwnedDiagram)) (d : Bor OwnedDiagram) → place_of (diagram_of d.now) (diagrams_of old) ≢ length old →
+-- and stays as it is where the diagram is there
+pub node_there : (old : List (Bor OwnedDiagram)) (d : Bor OwnedDiagram) →
+    place_of (diagram_of d.now) (diagrams_of old) ≢ length old →
     diagrams_of old ≡ add (diagrams_of old) (diagram_of d.now ∷ [])
 node_there old d h = sym (add_old (diagrams_of old) (diagram_of d.now) (λ e. h (e ∙ length-diagrams_of old)))
 

@@ -6,7 +6,8 @@ use Rattle.std.specs.declared.cmp.Ordering.TheVariants.{Less, Equal, Greater}
 use Rattle.std.specs.Cmp.{IsTotalOrder, bool_cmp_total, then_flip}
 use Rattle.std.proofs.lemmas.Cmp.{nat_cmp_total}
 use Rattle.std.proofs.lemmas.Map.Lookups.{exact_unsigned}
-use Rattle.sd_model.specs.Diagram.{Diagram, Bottom, Top, Literal, Decomposition, Elements, End, Pair, count, diagram_cmp, elements_cmp}
+use Rattle.sd_model.specs.Diagram.{Diagram, Bottom, Top, Literal, Decomposition}
+use Rattle.sd_model.specs.Diagram.{Elements, End, Pair, count, diagram_cmp, elements_cmp}
 
 -- where two answers in a row are `Equal`, both are
 equal_both : (o q : Ordering) → ordering_then o q ≡ Equal → (o ≡ Equal) × (q ≡ Equal)
@@ -14,6 +15,7 @@ equal_both Less q h = absurd (cc)
 equal_both Equal q h = (refl, h)
 equal_both Greater q h = absurd (cc)
 
+-- equal truth values
 bool_exact : (s t : Bool) → bool_cmp s t ≡ Equal → s ≡ t
 bool_exact false false h = refl
 bool_exact false true h = cc
@@ -21,6 +23,7 @@ bool_exact true false h = cc
 bool_exact true true h = refl
 
 mutual
+  -- diagrams of which none is less are equal
   pub exact : (a b : Diagram) → diagram_cmp a b ≡ Equal → a ≡ b
   exact Bottom Bottom h = refl
   exact Top Top h = refl
@@ -39,6 +42,7 @@ mutual
       cc
   exact _ _ h = cc
 
+  -- lists of elements of which none is less are equal
   exact_elements : (ds es : Elements) → elements_cmp ds es ≡ Equal → ds ≡ es
   exact_elements End End h = refl
   exact_elements (Pair p s ds) (Pair q t es) h =
@@ -51,8 +55,10 @@ mutual
   exact_elements _ _ h = cc
 
 -- a strict order of two parts, the second where the first are equal
-trans_then : (o12 o23 o13 q12 q23 q13 : Ordering) → (o12 ≡ Equal → o13 ≡ o23) → (o23 ≡ Equal → o13 ≡ o12) → (o12 ≡ Less → o23 ≡ Less → o13 ≡ Less) →
-    (q12 ≡ Less → q23 ≡ Less → q13 ≡ Less) → ordering_then o12 q12 ≡ Less → ordering_then o23 q23 ≡ Less → ordering_then o13 q13 ≡ Less
+trans_then : (o12 o23 o13 q12 q23 q13 : Ordering) → (o12 ≡ Equal → o13 ≡ o23) → (o23 ≡ Equal → o13 ≡ o12) →
+    (o12 ≡ Less → o23 ≡ Less → o13 ≡ Less) →
+    (q12 ≡ Less → q23 ≡ Less → q13 ≡ Less) → ordering_then o12 q12 ≡ Less → ordering_then o23 q23 ≡ Less →
+    ordering_then o13 q13 ≡ Less
 trans_then Less Less o13 q12 q23 q13 l r t q h k = rw (t refl refl)
 trans_then Less Equal o13 q12 q23 q13 l r t q h k = rw (r refl)
 trans_then Equal Less o13 q12 q23 q13 l r t q h k = rw (l refl)
@@ -61,19 +67,31 @@ trans_then Greater o23 o13 q12 q23 q13 l r t q h k = absurd (cc)
 trans_then Less Greater o13 q12 q23 q13 l r t q h k = absurd (cc)
 trans_then Equal Greater o13 q12 q23 q13 l r t q h k = absurd (cc)
 
-trans_nat : (x y z : ℕ) (q12 q23 q13 : Ordering) → (q12 ≡ Less → q23 ≡ Less → q13 ≡ Less) →
-    ordering_then (nat_cmp x y) q12 ≡ Less → ordering_then (nat_cmp y z) q23 ≡ Less → ordering_then (nat_cmp x z) q13 ≡ Less
-trans_nat x y z q12 q23 q13 =
-    trans_then (nat_cmp x y) (nat_cmp y z) (nat_cmp x z) q12 q23 q13
-    (λ e. ap (λ v. nat_cmp v z) (exact_unsigned x y e)) (λ e. ap (λ v. nat_cmp x v) (sym (exact_unsigned y z e))) (nat_cmp_total.trans x y z)
+-- the same, where the first part is an order in which only equal things are `Equal`
+trans_by : {A : Type 0} (cmp : A → A → Ordering) (x y z : A) (q12 q23 q13 : Ordering) →
+    (cmp x y ≡ Equal → x ≡ y) → (cmp y z ≡ Equal → y ≡ z) →
+    (cmp x y ≡ Less → cmp y z ≡ Less → cmp x z ≡ Less) → (q12 ≡ Less → q23 ≡ Less → q13 ≡ Less) →
+    ordering_then (cmp x y) q12 ≡ Less → ordering_then (cmp y z) q23 ≡ Less → ordering_then (cmp x z) q13 ≡ Less
+trans_by cmp x y z q12 q23 q13 first second =
+    trans_then (cmp x y) (cmp y z) (cmp x z) q12 q23 q13
+    (λ e. ap (λ v. cmp v z) (first e)) (λ e. ap (λ v. cmp x v) (sym (second e)))
 
+-- the first parts are numbers
+trans_nat : (x y z : ℕ) (q12 q23 q13 : Ordering) → (q12 ≡ Less → q23 ≡ Less → q13 ≡ Less) →
+    ordering_then (nat_cmp x y) q12 ≡ Less → ordering_then (nat_cmp y z) q23 ≡ Less →
+    ordering_then (nat_cmp x z) q13 ≡ Less
+trans_nat x y z q12 q23 q13 =
+    trans_by nat_cmp x y z q12 q23 q13 (exact_unsigned x y) (exact_unsigned y z) (nat_cmp_total.trans x y z)
+
+-- the first parts are truth values
 trans_bool : (x y z : Bool) (q12 q23 q13 : Ordering) → (q12 ≡ Less → q23 ≡ Less → q13 ≡ Less) →
-    ordering_then (bool_cmp x y) q12 ≡ Less → ordering_then (bool_cmp y z) q23 ≡ Less → ordering_then (bool_cmp x z) q13 ≡ Less
+    ordering_then (bool_cmp x y) q12 ≡ Less → ordering_then (bool_cmp y z) q23 ≡ Less →
+    ordering_then (bool_cmp x z) q13 ≡ Less
 trans_bool x y z q12 q23 q13 =
-    trans_then (bool_cmp x y) (bool_cmp y z) (bool_cmp x z) q12 q23 q13
-    (λ e. ap (λ v. bool_cmp v z) (bool_exact x y e)) (λ e. ap (λ v. bool_cmp x v) (sym (bool_exact y z e))) (bool_cmp_total.trans x y z)
+    trans_by bool_cmp x y z q12 q23 q13 (bool_exact x y) (bool_exact y z) (bool_cmp_total.trans x y z)
 
 mutual
+  -- the order is transitive
   pub trans : (a b c : Diagram) → diagram_cmp a b ≡ Less → diagram_cmp b c ≡ Less → diagram_cmp a c ≡ Less
   trans Bottom _ Top h k = refl
   trans Bottom _ (Literal r z u) h k = refl
@@ -82,14 +100,9 @@ mutual
   trans Top _ (Decomposition r fs) h k = refl
   trans (Literal p x s) _ (Decomposition r fs) h k = refl
   trans (Literal p x s) (Literal q y t) (Literal r z u) h k =
-      trans_nat p q r (ordering_then (bool_cmp s t) (nat_cmp x y)) (ordering_then (bool_cmp t u) (nat_cmp y z)) (ordering_then (bool_cmp s u) (nat_cmp x z))
-      (trans_bool s t u (nat_cmp x y) (nat_cmp y z) (nat_cmp x z) (nat_cmp_total.trans x y z)) h k
+      trans_nat p q r _ _ _ (trans_bool s t u _ _ _ (nat_cmp_total.trans x y z)) h k
   trans (Decomposition p ds) (Decomposition q es) (Decomposition r fs) h k =
-      trans_nat p q r
-      (ordering_then (nat_cmp (count ds) (count es)) (elements_cmp ds es))
-      (ordering_then (nat_cmp (count es) (count fs)) (elements_cmp es fs))
-      (ordering_then (nat_cmp (count ds) (count fs)) (elements_cmp ds fs))
-      (trans_nat (count ds) (count es) (count fs) (elements_cmp ds es) (elements_cmp es fs) (elements_cmp ds fs) (trans_elements ds es fs)) h k
+      trans_nat p q r _ _ _ (trans_nat (count ds) (count es) (count fs) _ _ _ (trans_elements ds es fs)) h k
   trans _ Bottom Bottom h k = cc
   trans _ Top Bottom h k = cc
   trans _ (Literal q y t) Bottom h k = cc
@@ -100,19 +113,19 @@ mutual
   trans _ (Decomposition q es) (Literal r z u) h k = cc
   trans _ _ _ h k = cc
 
-  trans_elements : (ds es fs : Elements) → elements_cmp ds es ≡ Less → elements_cmp es fs ≡ Less → elements_cmp ds fs ≡ Less
+  -- and so is that of lists of elements
+  trans_elements : (ds es fs : Elements) → elements_cmp ds es ≡ Less → elements_cmp es fs ≡ Less →
+      elements_cmp ds fs ≡ Less
   trans_elements End _ (Pair p s fs) h k = refl
   trans_elements (Pair p s ds) (Pair q t es) (Pair r u fs) h k =
-      trans_then (diagram_cmp p q) (diagram_cmp q r) (diagram_cmp p r)
-      (ordering_then (diagram_cmp s t) (elements_cmp ds es)) (ordering_then (diagram_cmp t u) (elements_cmp es fs)) (ordering_then (diagram_cmp s u) (elements_cmp ds fs))
-      (λ e. ap (λ v. diagram_cmp v r) (exact p q e)) (λ e. ap (λ v. diagram_cmp p v) (sym (exact q r e))) (trans p q r)
-      (trans_then (diagram_cmp s t) (diagram_cmp t u) (diagram_cmp s u) (elements_cmp ds es) (elements_cmp es fs) (elements_cmp ds fs)
-      (λ e. ap (λ v. diagram_cmp v u) (exact s t e)) (λ e. ap (λ v. diagram_cmp s v) (sym (exact t u e))) (trans s t u) (trans_elements ds es fs)) h k
+      trans_by diagram_cmp p q r _ _ _ (exact p q) (exact q r) (trans p q r)
+      (trans_by diagram_cmp s t u _ _ _ (exact s t) (exact t u) (trans s t u) (trans_elements ds es fs)) h k
   trans_elements _ End End h k = cc
   trans_elements _ (Pair q t es) End h k = cc
   trans_elements _ _ _ h k = cc
 
 mutual
+  -- the order of two diagrams is the reverse of the order of the two exchanged
   pub antisymm : (a b : Diagram) → diagram_cmp a b ≡ ordering_reverse (diagram_cmp b a)
   antisymm Bottom Bottom = refl
   antisymm Bottom Top = refl
@@ -131,8 +144,15 @@ mutual
   antisymm (Decomposition p ds) Top = refl
   antisymm (Decomposition p ds) (Literal q y t) = refl
   antisymm (Decomposition p ds) (Decomposition q es) =
-      rw (nat_cmp_total.antisymm p q, nat_cmp_total.antisymm (count ds) (count es), antisymm_elements ds es, then_flip, then_flip)
+      rw (
+        nat_cmp_total.antisymm p q,
+        nat_cmp_total.antisymm (count ds) (count es),
+        antisymm_elements ds es,
+        then_flip,
+        then_flip,
+      )
 
+  -- the same for lists of elements
   antisymm_elements : (ds es : Elements) → elements_cmp ds es ≡ ordering_reverse (elements_cmp es ds)
   antisymm_elements End End = refl
   antisymm_elements End (Pair q t es) = refl
@@ -140,8 +160,10 @@ mutual
   antisymm_elements (Pair p s ds) (Pair q t es) =
       rw (antisymm p q, antisymm s t, antisymm_elements ds es, then_flip, then_flip)
 
+-- what std calls a total order
 pub diagram_cmp_total : IsTotalOrder diagram_cmp
-diagram_cmp_total = record { antisymm = antisymm; trans = trans; congr = λ a b c e. ap (λ v. diagram_cmp v c) (exact a b e) }
+diagram_cmp_total =
+    record { antisymm = antisymm; trans = trans; congr = λ a b c e. ap (λ v. diagram_cmp v c) (exact a b e) }
 
 -- only `Equal` is its own reverse
 equal_itself : (o : Ordering) → o ≡ ordering_reverse o → o ≡ Equal
@@ -149,11 +171,13 @@ equal_itself Less e = cc
 equal_itself Equal e = refl
 equal_itself Greater e = cc
 
+-- a reverse of itself is not `Less`
 not_less_itself : (o : Ordering) → o ≡ ordering_reverse o → o ≡ Less → ⊥
 not_less_itself Less e h = cc
 not_less_itself Equal e h = cc
 not_less_itself Greater e h = cc
 
+-- no diagram is less than itself
 pub irreflexive : (d : Diagram) → diagram_cmp d d ≡ Less → ⊥
 irreflexive d h = not_less_itself (diagram_cmp d d) (antisymm d d) h
 
@@ -161,7 +185,9 @@ irreflexive d h = not_less_itself (diagram_cmp d d) (antisymm d d) h
 pub reflexive : (a b : Diagram) → a ≡ b → diagram_cmp a b ≡ Equal
 reflexive a b e = rw e (equal_itself (diagram_cmp b b) (antisymm b b))
 
+-- the order says `Equal` exactly where the diagrams are equal
 pub equal_exactly : (a b : Diagram) → (diagram_cmp a b ≡ Equal) ↔ (a ≡ b)
 equal_exactly a b = (exact a b, reflexive a b)
 
+-- what the law of the order cites
 pub ruleset order_laws = (equal_exactly, antisymm, trans)

@@ -1,5 +1,5 @@
 -- Steps of the sum of the element counts.
-use Rattle.std.proofs.Common.{◌≡◌, ℕ, ◌+◌, ◌<◌, ◌≤◌, ◌^◌, List, ◌∷◌, get_or, drop, length, refl, sym, ap, ◌∙◌, arith}
+use Rattle.std.proofs.Common.{◌≡◌, ℕ, ◌+◌, ◌<◌, ◌^◌, List, get_or, drop, length, ap, ◌∙◌, arith}
 use Rattle.std.specs.List.{fold, sum_by}
 use Rattle.std.proofs.lemmas.List.Sums.{sum_by_from}
 use denote.Bor.{Bor}
@@ -28,5 +28,6 @@ past_end sum n i nodes r h e en whole over fits =
     let step = summed_step sum nodes i r h in
     let rest = diagrams_of (drop (i + 1) nodes) in
     let from = sum_by_from element_count (sum + element_count (diagram_of (get_or nodes i r).now)) rest in
-    let same : n ≡ element_count (diagram_of (get_or nodes i r).now) = en ∙ ap (λ x. element_count (diagram_of x.now)) e in
+    let same : n ≡ element_count (diagram_of (get_or nodes i r).now) =
+    en ∙ ap (λ x. element_count (diagram_of x.now)) e in
     over (omega arith)

@@ -2,10 +2,10 @@
 
 ghost use Rattle.std.specs.Prelude.{◌≡◌, ◌≢◌, ◌↔◌, Bool, true, List, length, IsSome};
 ghost use Rattle.std.specs.Option.{option_and_then};
-ghost use Rattle.sd_model.specs.Moves.{moved, inverse_move};
-ghost use Rattle.sd_model.specs.Tree.{IsVtree, leaves};
 ghost use Rattle.std.specs.Ordering.{ordering_reverse};
 ghost use Rattle.std.specs.declared.cmp.Ordering.TheVariants.{Less, Equal};
+ghost use Rattle.sd_model.specs.Moves.{moved, inverse_move};
+ghost use Rattle.sd_model.specs.Tree.{IsVtree, leaves};
 ghost use Rattle.sd_model.specs.Diagram.{meaning, diagram_cmp, Bottom};
 ghost use Rattle.sd_model.specs.Canonical.{IsCanonical};
 ghost use Rattle.sd_model.specs.Seen.{tree_of, diagram_of};
@@ -14,13 +14,14 @@ ghost use Rattle.sd_model.specs.Text.{sdd_text};
 use crate::diagrams::Diagram;
 use crate::trees::{Move, Side, Tree};
 
-/// Two canonical diagrams of one vtree with the same value under every assignment are equal.
+/// Two canonical diagrams of one vtree that have the same value under every assignment are equal (Darwiche 2011).
 #[tactic(auto, using(crate::proofs::OverVtree::unique_lem))]
 pub fn unique(tree: &Tree, a: &Diagram, b: &Diagram)
     requires vtree { IsVtree (tree_of tree.now) }
     requires first_canonical { IsCanonical (tree_of tree.now) 0 (diagram_of a.now) }
     requires second_canonical { IsCanonical (tree_of tree.now) 0 (diagram_of b.now) }
-    requires same_value { (values : List Bool) → length values ≡ leaves (tree_of tree.now) → meaning (diagram_of a.now) values ≡ meaning (diagram_of b.now) values }
+    requires same_value { (values : List Bool) → length values ≡ leaves (tree_of tree.now)
+        → meaning (diagram_of a.now) values ≡ meaning (diagram_of b.now) values }
     ensures { diagram_of a.now ≡ diagram_of b.now }
 {}
 
@@ -30,10 +31,11 @@ pub fn satisfiable(tree: &Tree, a: &Diagram)
     requires vtree { IsVtree (tree_of tree.now) }
     requires canonical { IsCanonical (tree_of tree.now) 0 (diagram_of a.now) }
     requires not_false { diagram_of a.now ≢ Bottom }
-    ensures { (values : List Bool) × (length values ≡ leaves (tree_of tree.now)) × (meaning (diagram_of a.now) values ≡ true) }
+    ensures { (values : List Bool) × (length values ≡ leaves (tree_of tree.now))
+        × (meaning (diagram_of a.now) values ≡ true) }
 {}
 
-/// Two diagrams with equal texts are equal. (They need not be canonical.)
+/// Two diagrams with equal texts are equal. They need not be canonical, so the tree plays no part.
 #[tactic(auto, using(crate::proofs::TextBack::sdd_text_back))]
 pub fn text_injective(tree: &Tree, a: &Diagram, b: &Diagram)
     requires { sdd_text (diagram_of a.now) ≡ sdd_text (diagram_of b.now) }
@@ -43,13 +45,15 @@ pub fn text_injective(tree: &Tree, a: &Diagram, b: &Diagram)
 /// A move that is defined, followed by its inverse at the same place, gives back the tree.
 pub fn inverse(tree: &Tree, place: &[Side], kind: Move)
     requires { IsSome (moved kind (tree_of tree.now) place.now) }
-    ensures { option_and_then (λ m. moved (inverse_move kind) m place.now) (moved kind (tree_of tree.now) place.now) ≡ Some (tree_of tree.now) }
+    ensures { option_and_then (λ m. moved (inverse_move kind) m place.now)
+        (moved kind (tree_of tree.now) place.now) ≡ Some (tree_of tree.now) }
 {}
 
-/// The structural order is a strict total order on all diagrams: of two diagrams one is less, or they are equal.
+/// The structural order is a strict total order on all diagrams: of two of them one is less, or they are equal.
 #[tactic(auto, using(crate::proofs::Order::order_laws))]
 pub fn total_order(a: &Diagram, b: &Diagram, c: &Diagram)
-    ensures equal { (diagram_cmp (diagram_of a.now) (diagram_of b.now) ≡ Equal) ↔ (diagram_of a.now ≡ diagram_of b.now) }
+    ensures equal { (diagram_cmp (diagram_of a.now) (diagram_of b.now) ≡ Equal)
+        ↔ (diagram_of a.now ≡ diagram_of b.now) }
     ensures antisymmetric { diagram_cmp (diagram_of b.now) (diagram_of a.now)
         ≡ ordering_reverse (diagram_cmp (diagram_of a.now) (diagram_of b.now)) }
     ensures transitive { diagram_cmp (diagram_of a.now) (diagram_of b.now) ≡ Less

@@ -1,4 +1,6 @@
-//! Plain vtrees and sentential decision diagrams, their order, their text and their laws.
+//! Plain vtrees and sentential decision diagrams (Darwiche 2011): their order, value, text, size and moves.
+//! A caller sees a tree as `tree_of` and a diagram as `diagram_of` of `specs/Seen.antt`, without boxes and vectors.
+//! `laws` has the facts of the definitions: canonical diagrams of one function are one diagram, and more.
 #![tactic(auto)]
 
 pub mod diagrams;
@@ -14,3 +16,6 @@ pub use moves::{MovedError, moved};
 pub use sizes::size_of;
 pub use texts::text_of;
 pub use trees::{Move, Operation, Side, Tree};
+
+#[cfg(test)]
+mod tests;

@@ -37,7 +37,8 @@ pub fn place(nodes: &[&Diagram], d: &Diagram) -> usize
 #[cycle(add)]
 #[tactic(auto, using(crate::proofs::NodeSteps::add_decomposition))]
 fn add_diagram<'a>(nodes: &mut Vec<&'a Diagram>, d: &'a Diagram) -> Result<(), AllocError>
-    ensures { OnOk result (diagrams_of nodes.new.items ≡ add (diagrams_of nodes.old.items) (walk (diagram_of d.now))) }
+    ensures { OnOk result (diagrams_of nodes.new.items
+        ≡ add (diagrams_of nodes.old.items) (walk (diagram_of d.now))) }
 {
     match d {
         Diagram::Decomposition { elements, .. } => {
@@ -65,7 +66,8 @@ fn add_elements<'a>(nodes: &mut Vec<&'a Diagram>, elements: &'a [Element]) -> Re
 // Adds a diagram where the list lacks it.
 #[tactic(auto, using(crate::proofs::NodeSteps::add_new, crate::proofs::NodeSteps::add_old))]
 fn add_node<'a>(nodes: &mut Vec<&'a Diagram>, d: &'a Diagram) -> Result<(), AllocError>
-    ensures { OnOk result (diagrams_of nodes.new.items ≡ add (diagrams_of nodes.old.items) (diagram_of d.now ∷ [])) }
+    ensures { OnOk result (diagrams_of nodes.new.items
+        ≡ add (diagrams_of nodes.old.items) (diagram_of d.now ∷ [])) }
 {
     if place(nodes, d) == nodes.len() {
         nodes.push(d)?;

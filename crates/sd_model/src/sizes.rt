@@ -11,7 +11,7 @@ use crate::nodes::nodes_of;
 use std::alloc::{AllocError, Global};
 
 /// The size of a diagram: the sum of the element counts of the distinct decompositions in it.
-/// A sum past 64 bits, which no memory can hold, is answered as want of memory.
+/// A sum past 64 bits, which no memory can hold, is answered as want of memory. The time is that of `text_of`.
 #[tactic(auto, unfolding(crate::specs::Size::size_of))]
 pub fn size_of(alloc: Global, d: &Diagram) -> Result<u64, AllocError>
     ensures { IfOk result (λ n. n ≡ size_of (diagram_of d.now ∷ [])) }
@@ -23,7 +23,9 @@ pub fn size_of(alloc: Global, d: &Diagram) -> Result<u64, AllocError>
 // The sum of the element counts, where it has 64 bits.
 #[tactic(auto, using(crate::proofs::SizeSteps::summed_step))]
 fn total(nodes: &[&Diagram]) -> Option<u64>
-    ensures { SomeIff result (sum_by element_count (diagrams_of nodes.now) < 2 ^ 64) (sum_by element_count (diagrams_of nodes.now)) }
+    ensures { SomeIff result
+        (sum_by element_count (diagrams_of nodes.now) < 2 ^ 64)
+        (sum_by element_count (diagrams_of nodes.now)) }
 {
     let mut sum: u64 = 0;
     for node in nodes {

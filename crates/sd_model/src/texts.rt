@@ -2,15 +2,28 @@
 
 ghost use Rattle.std.specs.Prelude.{◌≡◌, List, ◌∷◌, [], ◌++◌, map, OnOk, IfOk};
 ghost use Rattle.std.specs.List.{flat_map};
-ghost use Rattle.sd_model.specs.Listing.{add};
-ghost use Rattle.sd_model.specs.Size.{walk, walk_elements};
-ghost use Rattle.sd_model.specs.Text.{number_text, literal_text, line_text, place_of, spaced, element_words, node_words, sdd_text};
+ghost use Rattle.sd_model.specs.Text.{number_text, literal_text, line_text, place_of};
+ghost use Rattle.sd_model.specs.Text.{spaced, element_words, node_words, sdd_text};
 ghost use Rattle.sd_model.specs.Seen.{diagram_of, elements_of, diagrams_of};
 
 use crate::diagrams::{Diagram, Element};
 use crate::nodes::{nodes_of, place};
 use itoa::Buffer;
 use std::alloc::{AllocError, Global};
+
+/// The SDD text of a diagram, in the form of the SDD Package 2.0: the line `sdd N`, then a line for each of the N
+/// distinct diagrams in it, numbered from 0 in the order in which they are first complete. Its own line is the last.
+/// It takes time in the square of the number of nodes, and walks a shared diagram once for each use.
+pub fn text_of(alloc: Global, d: &Diagram) -> Result<Vec<u8>, AllocError>
+    ensures { IfOk result (λ text. text.items ≡ sdd_text (diagram_of d.now)) }
+{
+    let nodes = nodes_of(alloc, d)?;
+    let mut text = Vec::from_slice(alloc, b"sdd")?;
+    push_number(&mut text, nodes.len() as u64)?;
+    push_feed(&mut text)?;
+    push_nodes(&mut text, &nodes)?;
+    Ok(text)
+}
 
 // Writes a number.
 fn push_digits(text: &mut Vec<u8>, n: u64) -> Result<(), AllocError>
@@ -47,7 +60,8 @@ fn push_elements(
     nodes: &[&Diagram],
     elements: &[Element],
 ) -> Result<(), AllocError>
-    ensures { OnOk result (text.new.items ≡ text.old.items ++ spaced (element_words (diagrams_of nodes.now) (elements_of elements.now))) }
+    ensures { OnOk result (text.new.items
+        ≡ text.old.items ++ spaced (element_words (diagrams_of nodes.now) (elements_of elements.now))) }
 {
     for element in elements {
         push_number(text, place(nodes, &element.prime) as u64)?;
@@ -74,7 +88,8 @@ fn push_feed(text: &mut Vec<u8>) -> Result<(), AllocError>
 
 // Writes the line of a node.
 fn push_node(text: &mut Vec<u8>, nodes: &[&Diagram], node: &Diagram) -> Result<(), AllocError>
-    ensures { OnOk result (text.new.items ≡ text.old.items ++ line_text (node_words (diagrams_of nodes.now) (diagram_of node.now))) }
+    ensures { OnOk result (text.new.items
+        ≡ text.old.items ++ line_text (node_words (diagrams_of nodes.now) (diagram_of node.now))) }
 {
     let number = place(nodes, node) as u64;
     match node {
@@ -108,25 +123,11 @@ fn push_node(text: &mut Vec<u8>, nodes: &[&Diagram], node: &Diagram) -> Result<(
 
 // Writes the lines of the nodes.
 fn push_nodes(text: &mut Vec<u8>, nodes: &[&Diagram]) -> Result<(), AllocError>
-    ensures { OnOk result (text.new.items ≡ text.old.items ++ flat_map line_text (map (node_words (diagrams_of nodes.now)) (diagrams_of nodes.now))) }
+    ensures { OnOk result (text.new.items ≡ text.old.items
+        ++ flat_map line_text (map (node_words (diagrams_of nodes.now)) (diagrams_of nodes.now))) }
 {
     for node in nodes {
         push_node(text, nodes, node)?;
     }
     Ok(())
 }
-
-/// The SDD text of a diagram.
-pub fn text_of(alloc: Global, d: &Diagram) -> Result<Vec<u8>, AllocError>
-    ensures { IfOk result (λ text. text.items ≡ sdd_text (diagram_of d.now)) }
-{
-    let nodes = nodes_of(alloc, d)?;
-    let mut text = Vec::from_slice(alloc, b"sdd")?;
-    push_number(&mut text, nodes.len() as u64)?;
-    push_feed(&mut text)?;
-    push_nodes(&mut text, &nodes)?;
-    Ok(text)
-}
-
-#[cfg(test)]
-mod tests;

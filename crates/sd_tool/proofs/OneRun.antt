@@ -14,7 +14,7 @@ use Rattle.sd_tool.specs.Job.{Job}
 use Rattle.sd_tool.specs.Written.{IsInput}
 use Rattle.sd_formula.specs.Dimacs.{Groups}
 use Rattle.std.specs.Prelude.{nat_lt}
-use Rattle.std.proofs.Common.{◌≤◌, Bool, true, false, cond}
+use Rattle.std.proofs.Common.{◌≤◌, false, cond}
 use Rattle.std.proofs.lemmas.Bool.{le-ltb}
 use Rattle.sd_tool.specs.Readings.{Whole, with_job, with_formula, plan_for}
 use Rattle.sd_tool.proofs.OneCourse.{one_end_among}
@@ -75,9 +75,9 @@ asked_before plan files reading file next leads asked lacks =
     elim (one_point files reading (Begins plan) (Reads file next) tt leads asked) [
       | inl is ↦ let bad : ⊥ = cc in bad
       | inr asks ↦
-        let e = asks.is in
-        let same : file ≡ asks.file = cc in
-        asks.there (subst (Lacks (Some files)) same lacks)
+          let e = asks.is in
+          let same : file ≡ asks.file = cc in
+          asks.there (subst (Lacks (Some files)) same lacks)
     ]
 
 -- the readings of an own end ask for no file that is not there
@@ -151,10 +151,10 @@ leads_to_plan : (words : List (List ℕ)) (files : Files) (job : Job) (formula :
 leads_to_plan words files job formula input few =
     let few_enough : nat_lt 16 formula.variables ≡ false = le-ltb 16 formula.variables few in
     let plan : with_formula job (Some formula) ≡ Begins (plan_for job formula) =
-        ap (λ b. cond b (Refuses NotYet) (Begins (plan_for job formula))) few_enough in
+    ap (λ b. cond b (Refuses NotYet) (Begins (plan_for job formula))) few_enough in
     let begins = subst (λ r. ReadsTo (Some files) r (Begins (plan_for job formula))) (sym plan) refl in
     let read = subst (λ f. ReadsTo (Some files) (with_formula job f) (Begins (plan_for job formula)))
-        (sym input.reads) begins in
+    (sym input.reads) begins in
     subst (λ j. ReadsTo (Some files) (with_job j) (Begins (plan_for job formula))) (sym input.named)
     (inr (Whole input.bytes, (input.there, input.short), read))
 
@@ -187,7 +187,7 @@ completes words status old new went = record {
       let cause = subst (λ f. HasCause went.end f old.faults new.faults) told went.cause in
       let leads = leads_to_plan words files job formula input few in
       elim (done_or_none words files (plan_for job formula) went.effects went.end old.faults new.faults
-        leads comes cause calm) [
+      leads comes cause calm) [
         | inl done ↦ inl (went.status_is ∙ done)
         | inr memory ↦ inr (went.status_is ∙ memory)
       ];

@@ -2,12 +2,15 @@ use Rattle.std.proofs.Common.{sym, ◌∙◌}
 use Rattle.sd_model.proofs.NodeSteps.{node_added, node_there}
 use Rattle.sd_model.proofs.nodes.add_node.Goals as goal
 
+-- the place is the list's length: the diagram was added
 pub returns-in_ok-push : goal.returns-in_ok-push
 returns-in_ok-push c =
     node_added c.args.nodes.now.items c.push.new.self.items c.args.d c.in_ok-push.ensures.items
     (sym (rw c.deref.ensures.value at c.place.ensures) ∙ c.if-place-len.true ∙ c.len.ensures ∙ c.args.nodes.now.ok.0)
 
+-- it is another one: the diagram was there
 pub returns-else-place-len : goal.returns-else-place-len
 returns-else-place-len c =
     node_there c.args.nodes.now.items c.args.d
-    (λ e. c.if-place-len.false ((rw c.deref.ensures.value at c.place.ensures) ∙ e ∙ sym c.args.nodes.now.ok.0 ∙ sym c.len.ensures))
+    (λ e. c.if-place-len.false
+    ((rw c.deref.ensures.value at c.place.ensures) ∙ e ∙ sym c.args.nodes.now.ok.0 ∙ sym c.len.ensures))

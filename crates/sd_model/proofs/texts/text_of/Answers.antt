@@ -2,6 +2,7 @@ use Rattle.sd_model.specs.Seen.{diagram_of}
 use Rattle.sd_model.proofs.TextSteps.{whole_text}
 use Rattle.sd_model.proofs.texts.text_of.Goals as goal
 
+-- the header and the lines make the text
 pub returns : goal.returns
 returns c =
     rw (

@@ -1,0 +1,23 @@
+-- Faults that come by plan.
+use Rattle.std.specs.Prelude.{◌≡◌, ℕ, List, Contains}
+use Rattle.sd_base.specs.declared.memory.plan.Plan.{Plan}
+use Rattle.sd_base.specs.declared.memory.plan.PlannedFault.{PlannedFault}
+use Rattle.sd_base.specs.declared.memory.plan.ShelfCall.{ShelfCall}
+use Rattle.sd_base.specs.declared.memory.plan.ShelfCall.TheVariants.{StartRead, Read, StartWrite, Append, Finish}
+
+-- how many calls of this kind there were
+abbrev pub calls_of : Plan → ShelfCall → ℕ
+calls_of plan StartRead = plan.start_reads
+calls_of plan Read = plan.reads
+calls_of plan StartWrite = plan.start_writes
+calls_of plan Append = plan.appends
+calls_of plan Finish = plan.finishes
+
+-- the nth call of this kind is to fail
+abbrev pub IsPlanned : Plan → ShelfCall → ℕ → Type 0
+IsPlanned plan call nth = Contains plan.planned.items (record { call = call; nth = nth })
+
+-- these faults are planned, and no call was made yet
+pub record IsNewPlan (planned : List PlannedFault) (plan : Plan) : Type 0 where
+  pub faults : plan.planned.items ≡ planned
+  pub calls : (call : ShelfCall) → calls_of plan call ≡ 0

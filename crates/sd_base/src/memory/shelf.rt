@@ -1,0 +1,178 @@
+//! A shelf in memory, for tests. It tells its files.
+//! Where it finds no memory, it counts a fault.
+
+ghost use Rattle.std.specs.Prelude.{◌+◌, ◌<◌, ◌≤◌, ◌^◌, length};
+ghost use Rattle.sd_base.specs.Shelf.{AreNext};
+
+use super::named_bytes::{extend_file, find_bytes, make_empty};
+use super::plan::{Plan, count_fault};
+use crate::{Failed, Name, NamedBytes, PlannedFault, Shelf, ShelfCall};
+use std::alloc::Global;
+
+// What is in hand: no file, one being read from an offset on, or one being written.
+#[derive(Drop)]
+enum InHand {
+    Nothing,
+    Read(Name, usize),
+    Write(Name),
+}
+
+/// Files in memory, of which the first of a name counts.
+#[derive(Drop)]
+pub struct MemoryShelf {
+    alloc: Global,
+    files: Vec<NamedBytes>,
+    // what one `append` takes at most
+    piece: usize,
+    plan: Plan,
+    hand: InHand,
+    read_faults: u64,
+    write_faults: u64,
+    ghost takes_some: { 0 < piece },
+}
+
+impl MemoryShelf {
+    ghost use Rattle.std.specs.Prelude.{◌≡◌, ◌<◌};
+    ghost use Rattle.std.specs.Option.{option_map};
+    ghost use Rattle.sd_base.specs.Files.{bytes_at};
+    ghost use Rattle.sd_base.specs.Memory.{files_of};
+    ghost use Rattle.sd_base.specs.MemoryShown.{memory_files, memory_hand, memory_piece, memory_plan};
+    ghost use Rattle.sd_base.specs.Plan.{IsNewPlan};
+    ghost use Rattle.sd_base.specs.Shelf.{NoFile};
+
+    /// A shelf of these files, with none in hand. One `append` takes at most `piece` bytes.
+    pub fn new(
+        alloc: Global,
+        files: Vec<NamedBytes>,
+        piece: usize,
+        planned: Vec<PlannedFault>,
+    ) -> MemoryShelf
+        requires { 0 < piece }
+        ensures files { memory_files result ≡ files_of files.items }
+        ensures hand { memory_hand result ≡ NoFile }
+        ensures piece { memory_piece result ≡ piece }
+        ensures planned { IsNewPlan planned.items (memory_plan result) }
+    {
+        MemoryShelf {
+            alloc,
+            files,
+            piece,
+            plan: Plan::new(planned),
+            hand: InHand::Nothing,
+            read_faults: 0,
+            write_faults: 0,
+        }
+    }
+
+    /// The bytes of the file of this name, if there is one.
+    pub fn bytes_of(&self, name: &str) -> Option<&[u8]>
+        ensures { option_map (λ bytes. bytes.now) result
+            ≡ bytes_at (memory_files self.now) name.now }
+    {
+        find_bytes(&self.files, name)
+    }
+}
+
+// Copies the bytes from an offset on, as many as there is room for.
+fn copy_next(bytes: &[u8], offset: usize, into: &mut [u8]) -> usize
+    requires { 0 < length into.old }
+    ensures within { result ≤ length into.new }
+    ensures fits { offset + result < 2 ^ 64 }
+    ensures next { AreNext bytes.now offset result into.new }
+{
+    if offset >= bytes.len() {
+        return 0;
+    }
+    let rest = &bytes[offset..];
+    let count = rest.len().min(into.len());
+    into[..count].copy_from_slice(&rest[..count]);
+    count
+}
+
+impl Shelf for MemoryShelf {
+    ghost use Rattle.std.specs.Prelude.{Some};
+    ghost use Rattle.sd_base.specs.Memory.{files_of, hand_of};
+
+    ghost files = { λ shelf. Some (files_of shelf.files.items) };
+
+    ghost hand = { λ shelf. hand_of shelf.hand };
+
+    ghost read_faults = { λ shelf. shelf.read_faults };
+
+    ghost write_faults = { λ shelf. shelf.write_faults };
+
+    fn start_read(&mut self, name: &str) -> Result<(), Failed> {
+        let Some(_) = find_bytes(&self.files, name) else {
+            return Err(Failed);
+        };
+        if self.plan.fails(ShelfCall::StartRead) {
+            return Err(count_fault(&mut self.read_faults));
+        }
+        let Ok(held) = Name::copy_of(self.alloc, name) else {
+            return Err(count_fault(&mut self.read_faults));
+        };
+        self.hand = InHand::Read(held, 0);
+        Ok(())
+    }
+
+    fn read(&mut self, into: &mut [u8]) -> Result<usize, Failed> {
+        if self.plan.fails(ShelfCall::Read) {
+            self.hand = InHand::Nothing;
+            return Err(count_fault(&mut self.read_faults));
+        }
+        let InHand::Read(name, offset) = &mut self.hand else {
+            return Ok(0);
+        };
+        let Some(bytes) = find_bytes(&self.files, name.as_str()) else {
+            return Ok(0);
+        };
+        let count = copy_next(bytes, *offset, into);
+        *offset += count;
+        Ok(count)
+    }
+
+    fn start_write(&mut self, name: &str) -> Result<(), Failed> {
+        if self.plan.fails(ShelfCall::StartWrite) {
+            return Err(count_fault(&mut self.write_faults));
+        }
+        let Ok(held) = Name::copy_of(self.alloc, name) else {
+            return Err(count_fault(&mut self.write_faults));
+        };
+        if make_empty(self.alloc, &mut self.files, name).is_err() {
+            return Err(count_fault(&mut self.write_faults));
+        }
+        self.hand = InHand::Write(held);
+        Ok(())
+    }
+
+    fn append(&mut self, piece: &[u8]) -> Result<usize, Failed> {
+        if self.plan.fails(ShelfCall::Append) {
+            self.hand = InHand::Nothing;
+            return Err(count_fault(&mut self.write_faults));
+        }
+        let InHand::Write(name) = &self.hand else {
+            return Ok(piece.len());
+        };
+        let count = piece.len().min(self.piece);
+        if extend_file(&mut self.files, name.as_str(), &piece[..count]).is_err() {
+            self.hand = InHand::Nothing;
+            return Err(count_fault(&mut self.write_faults));
+        }
+        Ok(count)
+    }
+
+    fn finish(&mut self) -> Result<(), Failed> {
+        let reading = match &self.hand {
+            InHand::Read(_, _) => true,
+            InHand::Nothing | InHand::Write(_) => false,
+        };
+        self.hand = InHand::Nothing;
+        if !self.plan.fails(ShelfCall::Finish) {
+            return Ok(());
+        }
+        if reading {
+            return Err(count_fault(&mut self.read_faults));
+        }
+        Err(count_fault(&mut self.write_faults))
+    }
+}

@@ -1,0 +1,119 @@
+-- Groups that stand one after another: their number, the group of a number, and one more literal or end.
+use Rattle.std.proofs.Common.{◌≡◌, ℕ, zero, suc, ◌==◌, ◌+◌, ◌-◌, ◌<◌, ◌≤◌, List, [], ◌∷◌, ◌++◌, length}
+use Rattle.std.proofs.Common.{get_or, take, drop, slice_get, slice_range, Some, ℤ, refl, ap, ◌∙◌, arith, length-drop}
+use Rattle.std.proofs.lemmas.List.{take_rest, take-append-le, drop-append-le, drop_all}
+use Rattle.std.proofs.lemmas.Bool.Decides.{nat_tests}
+use Rattle.sd_formula.specs.Flat.{AreEnds, last_end, start_at, cut}
+use Rattle.sd_formula.specs.Steps.{parts_of, ended, extended}
+
+-- as many groups as ends
+pub length-cut : (from : ℕ) (ends : List ℕ) (zs : List ℤ) → length (cut from ends zs) ≡ length ends
+length-cut from [] zs = refl
+length-cut from (e ∷ es) zs = ap suc (length-cut e es zs)
+
+-- the last end is among the places
+pub last_within : (from : ℕ) (ends : List ℕ) (total : ℕ) → AreEnds from ends total
+    → (from ≤ last_end from ends) × (last_end from ends ≤ total)
+last_within from [] total rise = (omega arith, rise)
+last_within from (e ∷ es) total rise =
+    let later = last_within e es total rise.1 in
+    (omega (arith, rise.0, later.0), later.1)
+
+-- ---- one more literal
+
+-- a part is the same of a longer list
+slice_range-push : (zs : List ℤ) (z : ℤ) (from to : ℕ) → from ≤ to → to ≤ length zs
+    → slice_range (zs ++ z ∷ []) from to ≡ slice_range zs from to
+slice_range-push zs z from to order within =
+    let begins : from ≤ length zs = omega arith in
+    let short : to - from ≤ length (drop from zs) = omega (arith, length-drop from zs) in
+    let behind = take-append-le (to - from) (drop from zs) (z ∷ []) short in
+    ap (take (to - from)) (drop-append-le from zs (z ∷ []) begins) ∙ behind
+
+-- and so are the groups
+cut-push : (from : ℕ) (ends : List ℕ) (zs : List ℤ) (z : ℤ) → AreEnds from ends (length zs)
+    → cut from ends (zs ++ z ∷ []) ≡ cut from ends zs
+cut-push from [] zs z rise = refl
+cut-push from (e ∷ es) zs z rise =
+    let within = last_within e es (length zs) rise.1 in
+    let here = slice_range-push zs z from e rise.0 (omega (arith, within.0, within.1)) in
+    let later = cut-push e es zs z rise.1 in
+    rw (here, later) refl
+
+-- a literal goes behind the open part
+pub literal_is : (ends : List ℕ) (zs : List ℤ) (z : ℤ) → AreEnds 0 ends (length zs)
+    → parts_of ends (zs ++ z ∷ []) ≡ extended (parts_of ends zs) z
+literal_is ends zs z rise =
+    let within = last_within 0 ends (length zs) rise in
+    rw (cut-push 0 ends zs z rise, drop-append-le (last_end 0 ends) zs (z ∷ []) within.1) refl
+
+-- the ends stay below a longer list
+pub ends_more : (from : ℕ) (ends : List ℕ) (total : ℕ) → AreEnds from ends total → AreEnds from ends (total + 1)
+ends_more from [] total rise = omega arith
+ends_more from (e ∷ es) total rise = (rise.0, ends_more e es total rise.1)
+
+-- ---- one more end
+
+-- the open part is one more group
+cut-end : (from : ℕ) (ends : List ℕ) (zs : List ℤ)
+    → cut from (ends ++ length zs ∷ []) zs ≡ cut from ends zs ++ drop (last_end from ends) zs ∷ []
+cut-end from [] zs = ap (λ part. part ∷ []) (take_rest zs from)
+cut-end from (e ∷ es) zs = ap (λ groups. slice_range zs from e ∷ groups) (cut-end e es zs)
+
+-- and the next begins at the new end
+last_end-push : (from : ℕ) (ends : List ℕ) (e : ℕ) → last_end from (ends ++ e ∷ []) ≡ e
+last_end-push from [] e = refl
+last_end-push from (x ∷ xs) e = last_end-push x xs e
+
+-- an end closes the open part
+pub end_is : (ends : List ℕ) (zs : List ℤ) → parts_of (ends ++ length zs ∷ []) zs ≡ ended (parts_of ends zs)
+end_is ends zs = rw (cut-end 0 ends zs, last_end-push 0 ends (length zs), drop_all (length zs) zs (omega arith)) refl
+
+-- an end at the total rises
+pub ends_push : (from : ℕ) (ends : List ℕ) (total : ℕ) → AreEnds from ends total
+    → AreEnds from (ends ++ total ∷ []) total
+ends_push from [] total rise = (rise, omega arith)
+ends_push from (e ∷ es) total rise = (rise.0, ends_push e es total rise.1)
+
+-- ---- the group of a number
+
+-- a later group begins where the one before it ends
+pub start_is : (from : ℕ) (ends : List ℕ) (i : ℕ) → i < length ends → start_at from ends (suc i) ≡ get_or ends i 0
+start_is from [] i h = absurd (omega arith)
+start_is from (e ∷ es) zero h = refl
+start_is from (e ∷ es) (suc i) h = start_is e es i (omega arith)
+
+-- the group of a number is a part of the list
+pub record IsPart (from i : ℕ) (ends : List ℕ) (zs : List ℤ) : Type 0 where
+  pub order : start_at from ends i ≤ get_or ends i 0
+  pub within : get_or ends i 0 ≤ length zs
+  pub is : slice_get (cut from ends zs) i ≡ Some (slice_range zs (start_at from ends i) (get_or ends i 0))
+
+pub part_at : (from i : ℕ) (ends : List ℕ) (zs : List ℤ) → AreEnds from ends (length zs) → i < length ends
+    → IsPart from i ends zs
+part_at from i [] zs rise h = absurd (omega arith)
+part_at from zero (e ∷ es) zs rise h =
+    let later = last_within e es (length zs) rise.1 in
+    record { order = rise.0; within = omega (arith, later.0, later.1); is = refl }
+part_at from (suc i) (e ∷ es) zs rise h =
+    let later = part_at e i es zs rise.1 (omega arith) in
+    record { order = later.order; within = later.within; is = later.is }
+
+-- ---- the open part
+
+-- it begins where one more group would
+start_at-length : (from : ℕ) (ends : List ℕ) → start_at from ends (length ends) ≡ last_end from ends
+start_at-length from [] = refl
+start_at-length from (e ∷ es) = start_at-length e es
+
+-- it has literals where the list goes on there
+pub open_is : (ends : List ℕ) (zs : List ℤ) (start : ℕ) → AreEnds 0 ends (length zs)
+    → start ≡ start_at 0 ends (length ends)
+    → (length (drop (last_end 0 ends) zs) == 0) ≡ (start == length zs)
+open_is ends zs start rise start-is =
+    let within = last_within 0 ends (length zs) rise in
+    let last : start ≡ last_end 0 ends = start-is ∙ start_at-length 0 ends in
+    rw (length-drop, last) (tests (last_end 0 ends) (length zs) within.1)
+  where
+    tests : (a b : ℕ) → a ≤ b → (b - a == 0) ≡ (a == b)
+    tests a b h = grind (arith, nat_tests)

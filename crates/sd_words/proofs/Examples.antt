@@ -1,0 +1,68 @@
+-- Words that are written out, and the answer that the definition gives: it computes.
+use Rattle.std.proofs.Common.{◌≡◌, refl, [], ◌∷◌, Ok, Err, codes, None}
+use Rattle.std.specs.Prelude.{⊤}
+use Rattle.clap.proofs.OnLiterals.{clap_on_literals}
+use Rattle.sd_words.specs.Command.{rows_found, sddc, usage_faults}
+use Rattle.sd_words.specs.JobOf.{job_from, job_given, job_of}
+use Rattle.sd_words.specs.Numbers.{natural}
+use Rattle.sd_words.specs.Refusals.{empty_name, file_twice, no_input, number_range}
+use Rattle.sd_words.specs.Refusals.{start_unknown, two_inputs, two_vtrees, with_script}
+use Rattle.sd_words.specs.declared.faults.WordsFault.TheVariants as fault
+use Rattle.sd_words.specs.declared.jobs.InputWord.TheVariants as input
+use Rattle.sd_words.specs.declared.jobs.TreeWord.TheVariants as tree
+use Rattle.sd_words.specs.declared.options.OptionName.TheVariants as option
+
+-- all that has to unfold for the table of refusals to compute
+unfoldable table_on_literals : ⊤
+unfolding no_input two_inputs two_vtrees number_range with_script file_twice start_unknown empty_name
+table_on_literals = tt
+
+-- and for all words of an example
+unfoldable job_on_literals : ⊤
+unfolding clap_on_literals table_on_literals job_of usage_faults rows_found sddc natural job_from job_given
+job_on_literals = tt
+
+no_words : job_of [] ≡ Err fault.NoInput
+unfolding job_on_literals
+no_words = refl
+
+two : job_of (codes "--cnf" ∷ codes "a" ∷ codes "--dnf" ∷ codes "b" ∷ []) ≡ Err fault.TwoInputs
+unfolding job_on_literals
+two = refl
+
+limit_zero : job_of (codes "--cnf" ∷ codes "a" ∷ codes "--limit" ∷ codes "0" ∷ [])
+    ≡ Err (fault.NumberRange option.Limit)
+unfolding job_on_literals
+limit_zero = refl
+
+beside_script : job_of (codes "--cnf" ∷ codes "a" ∷ codes "--script" ∷ codes "s" ∷ codes "--minimise" ∷ codes "2" ∷ [])
+    ≡ Err (fault.WithScript option.Minimise)
+unfolding job_on_literals
+beside_script = refl
+
+unknown_option : job_of (codes "--cnf" ∷ codes "a" ∷ codes "--colour" ∷ codes "x" ∷ []) ≡ Err fault.Usage
+unfolding job_on_literals
+unknown_option = refl
+
+option_twice : job_of (codes "--cnf" ∷ codes "a" ∷ codes "--cnf" ∷ codes "b" ∷ []) ≡ Err fault.Usage
+unfolding job_on_literals
+option_twice = refl
+
+dashed_value : job_of (codes "--cnf" ∷ codes "-a" ∷ []) ≡ Err fault.Usage
+unfolding job_on_literals
+dashed_value = refl
+
+-- with all that is there where nothing is said
+generated_formula : job_of (codes "--generate" ∷ codes "4:0" ∷ []) ≡ Ok (record {
+  input = input.Generate 4 0;
+  tree = tree.Balanced;
+  script = None;
+  out_vtree = None;
+  out_sdd = None;
+  minimise = None;
+  every = None;
+  slack = 200;
+  limit = 16777216;
+})
+unfolding job_on_literals
+generated_formula = refl

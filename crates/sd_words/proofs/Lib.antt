@@ -1,0 +1,6 @@
+mod CommandLemmas
+mod JobLemmas
+mod Examples
+mod OptionSteps
+mod OrdinaryWalk
+mod OrdinaryLaw

@@ -1,0 +1,131 @@
+-- The ordinary words are accepted, and each option has the value that they give it.
+use Rattle.std.proofs.Common.{◌≡◌, ◌∙◌, ◌||◌, Bool, cond, ap, refl, true, false, subst}
+use Rattle.std.proofs.Common.{List, [], ◌∷◌, map, None, Result}
+use Rattle.std.specs.Prelude.{fold}
+use Rattle.std.specs.List.{list_all}
+use Rattle.std.specs.Str.{bytes_eq}
+use Rattle.clap.specs.Walk.{Row, Rule, Text, first_of, has_row, with_default}
+use Rattle.clap.specs.Faults.{default_fault, defaults_fault, given_default_fault}
+use Rattle.clap.proofs.WalkLemmas.{both}
+use Rattle.sd_words.specs.Command.{given_by, handed, rows_found, sddc, usage_faults}
+use Rattle.sd_words.specs.JobOf.{Answers, job_from, job_of}
+use Rattle.sd_words.specs.Options.{word_of}
+use Rattle.sd_words.specs.Ordinary.{Setting, Spells, has_each_once, is_spelled, setting_of, words_of}
+use Rattle.sd_words.specs.declared.faults.WordsFault.{WordsFault}
+use Rattle.sd_words.specs.declared.jobs.Job.{Job}
+use Rattle.sd_words.specs.declared.options.OptionName.{OptionName}
+use Rattle.sd_words.proofs.OptionSteps.{left_passes, left_used, row_of, the_rules, with_left}
+use Rattle.sd_words.proofs.OrdinaryWalk.{faults_all, fresh_in, row_for, walk_all}
+
+-- ---- after the words: no option has a default of `clap`'s
+
+-- no text is there
+abbrev has_none : List Text → Bool
+has_none [] = true
+has_none (_ ∷ _) = false
+
+-- none of the arguments has a default
+abbrev have_no_defaults : List Rule → Bool
+have_no_defaults rules = list_all (λ a. has_none a.defaults) rules
+
+none_of : (texts : List Text) → has_none texts ≡ true → texts ≡ []
+none_of [] e = refl
+none_of (t ∷ ts) e = cc
+
+kept_one : (a : Rule) (rows : List Row) → a.defaults ≡ [] → with_default rows a ≡ rows
+kept_one a rows e = rw e (go (has_row a.id rows))
+  where
+    go : (b : Bool) → cond b rows rows ≡ rows
+    go true = refl
+    go false = refl
+
+-- so no row is added
+kept_all : (rules : List Rule) (rows : List Row) → have_no_defaults rules ≡ true
+    → fold with_default rows rules ≡ rows
+kept_all [] rows none = refl
+kept_all (a ∷ rest) rows none =
+    let each = both _ _ none in
+    ap (λ (rs : List Row). fold with_default rs rest) (kept_one a rows (none_of _ each.0))
+    ∙ kept_all rest rows each.1
+
+fault_one : (a : Rule) (rows : List Row) → a.defaults ≡ [] → default_fault rows a ≡ []
+fault_one a rows e = rw e (go (has_row a.id rows))
+  where
+    go : (b : Bool) → cond (b || true) [] (given_default_fault a []) ≡ []
+    go true = refl
+    go false = refl
+
+-- and no default is a fault
+fault_all : (rules : List Rule) (rows : List Row) → have_no_defaults rules ≡ true
+    → defaults_fault rows rules ≡ []
+unfolding defaults_fault
+fault_all [] rows none = refl
+fault_all (a ∷ rest) rows none =
+    let each = both _ _ none in
+    let no_default = none_of _ each.0 in
+    rw (fault_one a rows no_default, kept_one a rows no_default) (fault_all rest rows each.1)
+
+no_defaults : have_no_defaults the_rules ≡ true
+unfolding sddc
+no_defaults = refl
+
+-- ---- the law
+
+all_fresh : (settings : List Setting) → fresh_in settings [] ≡ true
+all_fresh [] = refl
+all_fresh (s ∷ rest) = all_fresh rest
+
+-- the rows of settings give each option its value
+found : (settings : List Setting) (o : OptionName)
+    → first_of (word_of o) (map row_for settings) ≡ setting_of settings o
+unfolding row_of
+found [] o = refl
+found (s ∷ rest) o = go (bytes_eq (word_of s.option) (word_of o)) refl (found rest o)
+  where
+    go : (b : Bool) → bytes_eq (word_of s.option) (word_of o) ≡ b
+        → first_of (word_of o) (map row_for rest) ≡ setting_of rest o
+        → first_of (word_of o) (row_for s ∷ map row_for rest) ≡ setting_of (s ∷ rest) o
+    go true e given = rw e refl
+    go false e given = rw e given
+
+-- the ordinary words are accepted
+ordinary_accepted : (settings : List Setting) → has_each_once settings ≡ true
+    → list_all is_spelled settings ≡ true → usage_faults (handed (words_of settings)) ≡ []
+unfolding usage_faults sddc
+ordinary_accepted settings once spelled =
+    let ends = walk_all settings [] None tt (all_fresh settings) once spelled in
+    rw (
+      faults_all settings [] None tt (all_fresh settings) once spelled,
+      ends.is,
+      left_passes ends.rows ends.left ends.fresh,
+      left_used ends.rows ends.left ends.fresh,
+      fault_all the_rules (with_left ends.rows ends.left) no_defaults,
+    ) refl
+
+-- and each option has the value that they give it
+ordinary_values : (settings : List Setting) (o : OptionName) → has_each_once settings ≡ true
+    → list_all is_spelled settings ≡ true → given_by (words_of settings) o ≡ setting_of settings o
+unfolding rows_found sddc
+ordinary_values settings o once spelled =
+    let ends = walk_all settings [] None tt (all_fresh settings) once spelled in
+    rw (
+      ends.is,
+      left_used ends.rows ends.left ends.fresh,
+      kept_all the_rules (with_left ends.rows ends.left) no_defaults,
+      ends.whole,
+    ) (found settings o)
+
+job_of-words_of : (settings : List Setting) → has_each_once settings ≡ true
+    → list_all is_spelled settings ≡ true → job_of (words_of settings) ≡ job_from (setting_of settings)
+unfolding job_of
+job_of-words_of settings once spelled =
+    let given : given_by (words_of settings) ≡ setting_of settings =
+    λ i o. ordinary_values settings o once spelled i in
+    rw (ordinary_accepted settings once spelled) (ap job_from given)
+
+-- so an answer at such words is the one at the settings' values
+pub answers_ordinary : (words : List Text) (r : Result Job WordsFault) → Answers (job_of words) r
+    → (settings : List Setting) → Spells settings words → Answers (job_from (setting_of settings)) r
+answers_ordinary words r answer settings spells =
+    subst (λ (a : Result Job WordsFault). Answers a r)
+    (ap job_of spells.written ∙ job_of-words_of settings spells.once spells.spelled) answer

@@ -1,0 +1,60 @@
+-- The command line as a command of `clap`, and what `clap` makes of the words.
+use Rattle.std.specs.Prelude.{Bool, true, List, ◌∷◌, fold, codes, Some}
+use Rattle.clap.specs.Walk.{Row, Rule, Text, first_of, is_empty, rows_of}
+use Rattle.clap.specs.Simple.{App, Shape, matches_of, new_app, new_rule, on_top, with_rule}
+use Rattle.clap.specs.Faults.{fault_of}
+use Rattle.clap.specs.Kinds.{Kinds}
+use Rattle.clap.specs.Matches.{found_of}
+use Rattle.clap.specs.declared.parser.matches.ArgMatches.{ArgMatches}
+use Rattle.clap.specs.declared.builder.action.ArgAction.TheVariants.{Set}
+use Rattle.sd_words.specs.Given.{Given}
+use Rattle.sd_words.specs.Options.{all_options, word_of}
+use Rattle.sd_words.specs.declared.options.OptionName.{OptionName}
+
+-- `Arg::new(word).long(word).action(ArgAction::Set)`: an option that takes one text value
+abbrev pub text_option : Text → Rule
+text_option word = record (new_rule word) { long = Some word; action = Some Set }
+
+-- `disable_help_flag(true)` and `disable_version_flag(true)`
+abbrev pub without_help : Shape → Shape
+without_help s = record s { disable_help_flag = true; disable_version_flag = true }
+
+-- `Command::new("sddc")` without help and version
+abbrev pub bare_sddc : App
+bare_sddc = on_top without_help (new_app (codes "sddc"))
+
+-- `Command::arg` with such an option
+abbrev pub with_option : App → OptionName → App
+with_option app o = with_rule app (text_option (word_of o))
+
+-- the command with its options
+unfoldable pub sddc : App
+sddc = fold with_option bare_sddc all_options
+
+-- the words as `clap` is handed them: the program's name comes first
+abbrev pub handed : List Text → List Text
+handed words = codes "sddc" ∷ words
+
+-- what `clap` finds wrong with the words that it is handed
+unfoldable pub usage_faults : List Text → Kinds
+usage_faults = fault_of sddc
+
+-- what `clap` finds in them
+unfoldable pub rows_found : List Text → List Row
+rows_found = matches_of sddc
+
+-- `clap` takes the words
+abbrev pub accepts : List Text → Bool
+accepts words = is_empty (usage_faults (handed words))
+
+-- the first value of each option, among what was found
+abbrev pub given_in : List Row → Given
+given_in rows o = first_of (word_of o) rows
+
+-- what a parse gave
+unfoldable pub given_of : ArgMatches → Given
+given_of m = given_in (rows_of (found_of m))
+
+-- what the words give
+abbrev pub given_by : List Text → Given
+given_by words = given_in (rows_found (handed words))

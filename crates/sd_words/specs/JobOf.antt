@@ -1,0 +1,66 @@
+-- The job that the words of a call stand for, or the first fault in them.
+use Rattle.std.specs.Prelude.{◌≡◌, ◌⊎◌, ℕ, List, [], ◌∷◌, Result, Ok, Err, MatchResult}
+use Rattle.std.specs.Prelude.{Option, Some, None, unwrap_or, option_and_then, if◌then◌else◌}
+use Rattle.std.specs.Option.{option_map_or}
+use Rattle.clap.specs.Walk.{Text}
+use Rattle.sd_words.specs.Command.{accepts, given_by}
+use Rattle.sd_words.specs.Given.{Given, generated, number, start_of}
+use Rattle.sd_words.specs.Options.{default_limit, default_slack}
+use Rattle.sd_words.specs.Refusals.{refusals}
+use Rattle.sd_words.specs.declared.jobs.InputWord.{InputWord}
+use Rattle.sd_words.specs.declared.jobs.InputWord.TheVariants as input
+use Rattle.sd_words.specs.declared.jobs.TreeWord.{TreeWord}
+use Rattle.sd_words.specs.declared.jobs.TreeWord.TheVariants as tree
+use Rattle.sd_words.specs.declared.jobs.Job.{Job}
+use Rattle.sd_words.specs.declared.options.OptionName.TheVariants as option
+use Rattle.sd_words.specs.declared.faults.WordsFault.{WordsFault}
+use Rattle.sd_words.specs.declared.faults.WordsFault.TheVariants as fault
+
+-- the input that is there; where none is, the words were refused before
+abbrev pub input_of : Given → Option (ℕ × ℕ) → InputWord
+input_of given numbers = option_map_or input.Cnf (given option.Cnf)
+    (option_map_or input.Dnf (given option.Dnf)
+    (option_map_or (λ g. input.Generate g.0 g.1) numbers (input.Generate 0 0)))
+
+-- by the values of `--vtree` and `--start`: balanced, where neither is there
+abbrev pub tree_of : Option Text → Option Text → TreeWord
+tree_of (Some name) _ = tree.File name
+tree_of None start = unwrap_or (option_and_then start_of start) tree.Balanced
+
+-- the job, where nothing is refused
+unfoldable pub job_given : Given → Job
+job_given given = record {
+  input = input_of given (generated given);
+  tree = tree_of (given option.Vtree) (given option.Start);
+  script = given option.Script;
+  out_vtree = given option.OutVtree;
+  out_sdd = given option.OutSdd;
+  minimise = number given option.Minimise;
+  every = number given option.Every;
+  slack = unwrap_or (number given option.Slack) default_slack;
+  limit = unwrap_or (number given option.Limit) default_limit;
+}
+
+-- the first fault of a list that is there
+abbrev pub first_some : List (Option WordsFault) → Option WordsFault
+first_some [] = None
+first_some (Some f ∷ _) = Some f
+first_some (None ∷ rest) = first_some rest
+
+-- the fault, or where there is none the value
+abbrev pub unless : {T : Type 0} → Option WordsFault → T → Result T WordsFault
+unless (Some f) _ = Err f
+unless None x = Ok x
+
+-- the job, or the first refusal of the table
+unfoldable pub job_from : Given → Result Job WordsFault
+job_from given = unless (first_some (refusals given)) (job_given given)
+
+-- the same of the words, where `clap` takes them
+unfoldable pub job_of : List Text → Result Job WordsFault
+job_of words = if accepts words then job_from (given_by words) else Err fault.Usage
+
+-- the result is this answer, or memory ran out
+abbrev pub Answers : {T : Type 0} → Result T WordsFault → Result T WordsFault → Type 0
+Answers answer result = MatchResult result (λ x. answer ≡ Ok x)
+    (λ f. (f ≡ fault.OutOfMemory) ⊎ (answer ≡ Err f))

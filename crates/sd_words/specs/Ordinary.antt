@@ -1,0 +1,61 @@
+-- The ordinary words: each option at most once, as `--WORD=VALUE` or `--WORD VALUE`.
+use Rattle.std.specs.Prelude.{◌≡◌, Bool, true, false, not, ◌&&◌, ◌||◌, ◌==◌, List, [], ◌∷◌, ◌++◌}
+use Rattle.std.specs.Prelude.{codes, find, option_map}
+use Rattle.std.specs.List.{list_all}
+use Rattle.std.specs.Str.{bytes_eq}
+use Rattle.clap.specs.Walk.{Text}
+use Rattle.sd_words.specs.Given.{Given}
+use Rattle.sd_words.specs.Options.{word_of}
+use Rattle.sd_words.specs.declared.options.OptionName.{OptionName}
+
+-- an option with its value, in one word or in two
+pub record Setting : Type 0 where
+  pub option : OptionName
+  pub value : Text
+  pub is_attached : Bool
+
+-- the option's word with its two dashes
+abbrev pub dashed : OptionName → Text
+dashed o = codes "--" ++ word_of o
+
+-- `--WORD=VALUE`
+abbrev pub attached : OptionName → Text → Text
+attached o value = codes "--" ++ (word_of o ++ 61 ∷ value)
+
+-- the words of a setting, before others
+abbrev pub words_of_setting : OptionName → Text → Bool → List Text → List Text
+words_of_setting o value true rest = attached o value ∷ rest
+words_of_setting o value false rest = dashed o ∷ value ∷ rest
+
+-- the words of settings, one after another
+abbrev pub words_of : List Setting → List Text
+words_of [] = []
+words_of (s ∷ rest) = words_of_setting s.option s.value s.is_attached (words_of rest)
+
+-- a value in a word of its own begins with no hyphen
+abbrev pub can_stand_apart : Text → Bool
+can_stand_apart [] = true
+can_stand_apart (x ∷ xs) = not (x == 45)
+
+-- the value may stand where it does
+abbrev pub is_spelled : Setting → Bool
+is_spelled s = s.is_attached || can_stand_apart s.value
+
+-- the setting is one of this option
+abbrev pub sets : OptionName → Setting → Bool
+sets o s = bytes_eq (word_of s.option) (word_of o)
+
+-- no option stands twice
+abbrev pub has_each_once : List Setting → Bool
+has_each_once [] = true
+has_each_once (s ∷ rest) = list_all (λ q. not (sets q.option s)) rest && has_each_once rest
+
+-- the value that the settings give an option
+abbrev pub setting_of : List Setting → Given
+setting_of settings o = option_map (λ s. s.value) (find (sets o) settings)
+
+-- the words are those of the settings, and as they have to be
+pub record Spells (settings : List Setting) (words : List Text) : Type 0 where
+  pub once : has_each_once settings ≡ true
+  pub spelled : list_all is_spelled settings ≡ true
+  pub written : words ≡ words_of settings

@@ -1,0 +1,22 @@
+//! The command line: the job that the words after the program's name stand for.
+//! `clap` says which words are accepted and which value each option has. A table of refusals
+//! follows, and where none holds, the job.
+#![tactic(auto)]
+
+mod checks;
+mod command;
+mod faults;
+mod given;
+mod jobs;
+mod numbers;
+mod options;
+mod read;
+mod values;
+
+pub use faults::WordsFault;
+pub use jobs::{InputWord, Job, TreeWord};
+pub use options::OptionName;
+pub use read::read_words;
+
+#[cfg(test)]
+mod tests;

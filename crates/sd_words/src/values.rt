@@ -1,0 +1,100 @@
+//! The values of the options that are more than names.
+ghost use Rattle.std.specs.Prelude.{◌≡◌, IfErr, IfOk, None, OnOk, false, true};
+ghost use Rattle.sd_words.specs.Command.{given_of};
+ghost use Rattle.sd_words.specs.Given.{fails, generated, number, start_of};
+ghost use Rattle.sd_words.specs.JobOf.{tree_of};
+ghost use Rattle.sd_words.specs.Numbers.{count_and_seed, number_of};
+ghost use Rattle.sd_words.specs.Reading.{HasNumbers, RefusesBy};
+ghost use Rattle.sd_words.specs.Refusals.{number_range, start_unknown};
+
+use crate::faults::WordsFault;
+use crate::given::value;
+use crate::jobs::TreeWord;
+use crate::numbers::{count_and_seed, number_of};
+use crate::options::OptionName;
+use clap::ArgMatches;
+
+/// The numbers that the options have; `None` where an option is not there.
+#[derive(Clone, Copy)]
+pub(crate) struct Numbers {
+    /// The number of variables and the seed.
+    pub(crate) generated: Option<(u32, u32)>,
+    pub(crate) minimise: Option<u32>,
+    pub(crate) every: Option<u32>,
+    pub(crate) slack: Option<u32>,
+    pub(crate) limit: Option<u32>,
+}
+
+/// Each number is in its range.
+#[tactic(auto, unfolding(crate::specs::Refusals::number_range))]
+pub(crate) fn read_numbers(options: &ArgMatches<'_>) -> Result<Numbers, WordsFault>
+    ensures range { RefusesBy (number_range (given_of options.now)) result }
+    ensures readable { OnOk result
+        (fails count_and_seed (given_of options.now OptionName.Generate) ≡ false) }
+    ensures numbers { IfOk result (HasNumbers (given_of options.now)) }
+{
+    Ok(Numbers {
+        generated: generated(options)?,
+        minimise: number(options, OptionName::Minimise)?,
+        every: number(options, OptionName::Every)?,
+        slack: number(options, OptionName::Slack)?,
+        limit: number(options, OptionName::Limit)?,
+    })
+}
+
+/// The start is one of the three.
+#[tactic(auto, unfolding(crate::specs::Refusals::start_unknown))]
+pub(crate) fn read_start(options: &ArgMatches<'_>) -> Result<TreeWord, WordsFault>
+    ensures known { RefusesBy (start_unknown (given_of options.now)) result }
+    ensures start { IfOk result (λ t. t ≡ tree_of None (given_of options.now OptionName.Start)) }
+{
+    match value(options, OptionName::Start) {
+        None => Ok(TreeWord::Balanced),
+        Some(text) => start_of(text).ok_or(WordsFault::StartUnknown),
+    }
+}
+
+fn generated(options: &ArgMatches<'_>) -> Result<Option<(u32, u32)>, WordsFault>
+    ensures reads { let given = given_of options.now in
+        IfOk result (λ g. (fails count_and_seed (given OptionName.Generate) ≡ false)
+        × (g ≡ generated given)) }
+    ensures bad { IfErr result (λ fault. (fault ≡ WordsFault.NumberRange OptionName.Generate)
+        × (fails count_and_seed (given_of options.now OptionName.Generate) ≡ true)) }
+{
+    match value(options, OptionName::Generate) {
+        None => Ok(None),
+        Some(text) => match count_and_seed(text) {
+            Some(numbers) => Ok(Some(numbers)),
+            None => Err(WordsFault::NumberRange {
+                option: OptionName::Generate,
+            }),
+        },
+    }
+}
+
+fn number(options: &ArgMatches<'_>, option: OptionName) -> Result<Option<u32>, WordsFault>
+    ensures reads { let given = given_of options.now in
+        IfOk result (λ n. (fails (number_of option) (given option) ≡ false)
+        × (n ≡ number given option)) }
+    ensures bad { IfErr result (λ fault. (fault ≡ WordsFault.NumberRange option)
+        × (fails (number_of option) (given_of options.now option) ≡ true)) }
+{
+    match value(options, option) {
+        None => Ok(None),
+        Some(text) => match number_of(option, text) {
+            Some(number) => Ok(Some(number)),
+            None => Err(WordsFault::NumberRange { option }),
+        },
+    }
+}
+
+fn start_of(text: &str) -> Option<TreeWord>
+    ensures { result ≡ start_of text.now }
+{
+    match text {
+        "balanced" => Some(TreeWord::Balanced),
+        "right" => Some(TreeWord::Right),
+        "left" => Some(TreeWord::Left),
+        _ => None,
+    }
+}
