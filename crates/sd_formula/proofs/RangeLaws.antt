@@ -77,7 +77,8 @@ some_read kind (header ∷ lines) f e =
     subst (λ (n : ℕ). 1 ≤ n) same (some_stated kind header head.middle head.gave)
 
 -- an accepted plain text states at least one variable
-pub variables_of_plain : (kind : Kind) (bytes : List ℕ) (f : Groups) → plain_dimacs kind bytes ≡ Some f → 1 ≤ f.variables
+pub variables_of_plain : (kind : Kind) (bytes : List ℕ) (f : Groups) → plain_dimacs kind bytes ≡ Some f
+    → 1 ≤ f.variables
 unfolding plain_dimacs dimacs
 variables_of_plain kind bytes f e = go (is_plain bytes) (formula_of kind (content_of 99 bytes)) refl e
   where
