@@ -8,8 +8,7 @@ use std::alloc::{AllocError, AllocFailed};
 use thiserror::Error;
 
 /// Why words stand for no job, in the order of the tests: where several hold, it is the first.
-#[derive(Drop, Error)]
-#[derive_where(Debug)]
+#[derive(Debug, Drop, Error)]
 pub enum WordsFault {
     /// `clap` refuses the words: an unknown option, one that stands twice, a missing value, or a
     /// word that is no option and no value.
@@ -27,28 +26,19 @@ pub enum WordsFault {
     /// The value is not a number of one to ten digits in the option's range; or that of
     /// `--generate` is not two such numbers, joined by a colon.
     #[error("NumberRange")]
-    NumberRange {
-        option: OptionName,
-    },
+    NumberRange { option: OptionName },
     /// `--script` is there with `--out-vtree`, `--out-sdd` or `--minimise`.
     #[error("WithScript")]
-    WithScript {
-        option: OptionName,
-    },
+    WithScript { option: OptionName },
     /// `--out-vtree` and `--out-sdd` name the same file.
     #[error("FileTwice")]
-    FileTwice {
-        #[derive_where(skip(Debug))]
-        name: Name,
-    },
+    FileTwice { name: Name },
     /// The value of `--start` is not `balanced`, `right` or `left`.
     #[error("StartUnknown")]
     StartUnknown,
     /// The option's value is the name of a file, and empty.
     #[error("EmptyName")]
-    EmptyName {
-        option: OptionName,
-    },
+    EmptyName { option: OptionName },
     /// It may come at any words.
     #[error("OutOfMemory")]
     OutOfMemory,

@@ -3,23 +3,21 @@
 use sd_base::Name;
 
 /// Where the formula comes from. In the answer of `read_words` no name of a file is empty.
-#[derive(Drop)]
-#[derive_where(Debug)]
+#[derive(Debug, Drop)]
 pub enum InputWord {
     /// A DIMACS file of clauses.
-    Cnf(#[derive_where(skip(Debug))] Name),
+    Cnf(Name),
     /// A file of terms in the same layout, under `p dnf`.
-    Dnf(#[derive_where(skip(Debug))] Name),
+    Dnf(Name),
     /// `count` is the number of variables, 3 to 1,024; `seed` is at most 4,294,967,295.
     Generate { count: u64, seed: u64 },
 }
 
 /// Where the vtree comes from. The last three have the variables in their order.
-#[derive(Drop)]
-#[derive_where(Debug)]
+#[derive(Debug, Drop)]
 pub enum TreeWord {
     /// A vtree file.
-    File(#[derive_where(skip(Debug))] Name),
+    File(Name),
     /// Of m variables the left child gets the first m/2, rounded down.
     Balanced,
     /// Each left child is a leaf.
@@ -29,19 +27,15 @@ pub enum TreeWord {
 }
 
 /// What a run is to do. In the answer of `read_words` the two output files are two.
-#[derive(Drop)]
-#[derive_where(Debug)]
+#[derive(Debug, Drop)]
 pub struct Job {
     pub input: InputWord,
     pub tree: TreeWord,
     /// The commands to run; then `out_vtree`, `out_sdd` and `minimise` are `None`.
-    #[derive_where(skip(Debug))]
     pub script: Option<Name>,
     /// The file that gets the vtree.
-    #[derive_where(skip(Debug))]
     pub out_vtree: Option<Name>,
     /// The file that gets the diagram.
-    #[derive_where(skip(Debug))]
     pub out_sdd: Option<Name>,
     /// The rounds of the search, 1 to 100.
     pub minimise: Option<u32>,

@@ -1,0 +1,17 @@
+-- The numbered vtree that a plain one begins as: its numbers are the positions.
+use Rattle.std.specs.Prelude.{ℕ, List, [], ◌∷◌, ◌++◌}
+use Rattle.sd_model.specs.Tree.{Tree, Leaf, Node, position, right_base}
+use Rattle.sd_vtree.specs.declared.shape.Shape.{Shape}
+use Rattle.sd_vtree.specs.declared.shape.Shape.TheVariants.{Leaf as LeafShape, Inner}
+use Rattle.sd_vtree.specs.Numbered.{Numbered, NumberedLeaf, NumberedNode, number_of}
+
+-- the tree with its positions as numbers, counted from base
+abbrev pub numbered_from : ℕ → Tree → Numbered
+numbered_from base (Leaf x) = NumberedLeaf base x
+numbered_from base (Node l r) =
+    NumberedNode (position (Node l r) base) (numbered_from base l) (numbered_from (right_base l base) r)
+
+-- the shapes of the nodes in order
+abbrev pub shapes : Numbered → List Shape
+shapes (NumberedLeaf n x) = LeafShape x ∷ []
+shapes (NumberedNode n l r) = shapes l ++ Inner (number_of l) (number_of r) ∷ shapes r

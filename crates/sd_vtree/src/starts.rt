@@ -1,0 +1,57 @@
+// The start vtrees as plain trees.
+
+ghost use Rattle.std.specs.Prelude.{◌≡◌, ◌+◌, ◌^◌, ◌<◌, ◌≤◌, IfOk};
+ghost use Rattle.sd_model.specs.Seen.{tree_of};
+ghost use Rattle.sd_model.specs.StartTrees.{right_from, left_to, balanced_from};
+ghost use Rattle.sd_model.specs.Tree.{Node};
+
+use sd_model::Tree;
+use std::alloc::{AllocError, Global};
+
+// A node over two trees.
+pub(crate) fn node_over(alloc: Global, left: Tree, right: Tree) -> Result<Tree, AllocError>
+    ensures { IfOk result (λ t. tree_of t ≡ Node (tree_of left) (tree_of right)) }
+{
+    let left = Box::new(alloc, left)?;
+    let right = Box::new(alloc, right)?;
+    Ok(Tree::Node(left, right))
+}
+
+// The balanced tree over so many variables from the first one on.
+pub(crate) fn balanced_over(alloc: Global, first: u32, count: u32) -> Result<Tree, AllocError>
+    requires some { 1 ≤ count }
+    requires fits { first + count < 2 ^ 32 }
+    ensures { IfOk result (λ t. tree_of t ≡ balanced_from count first count) }
+{
+    if count < 2 {
+        return Ok(Tree::Leaf(first));
+    }
+    let half = count / 2;
+    let left = balanced_over(alloc, first, half)?;
+    let right = balanced_over(alloc, first + half, count - half)?;
+    node_over(alloc, left, right)
+}
+
+// The right tree over a variable and so many after it.
+pub(crate) fn right_over(alloc: Global, first: u32, more: u32) -> Result<Tree, AllocError>
+    requires { first + more < 2 ^ 32 }
+    ensures { IfOk result (λ t. tree_of t ≡ right_from first more) }
+{
+    if more == 0 {
+        return Ok(Tree::Leaf(first));
+    }
+    let right = right_over(alloc, first + 1, more - 1)?;
+    node_over(alloc, Tree::Leaf(first), right)
+}
+
+// The left tree over the first variable and so many after it.
+pub(crate) fn left_over(alloc: Global, more: u32) -> Result<Tree, AllocError>
+    requires { more + 1 < 2 ^ 32 }
+    ensures { IfOk result (λ t. tree_of t ≡ left_to more) }
+{
+    if more == 0 {
+        return Ok(Tree::Leaf(1));
+    }
+    let left = left_over(alloc, more - 1)?;
+    node_over(alloc, left, Tree::Leaf(more + 1))
+}
