@@ -6,11 +6,13 @@ use std::fs;
 use std::io::Write;
 use std::rt::Files;
 
-/// An opened file, with its name; one that is read, with how many bytes were read.
+/// What is in hand: no file, or an opened one with its name.
 #[derive(Drop)]
 pub enum InHand<F> {
     Nothing,
+    /// One that is read, with how many bytes were read.
     Read(F, Name, u64),
+    /// One that is written.
     Write(F, Name),
 }
 
@@ -29,6 +31,7 @@ impl<'a, R: Files> FileShelf<'a, R> {
     ghost use Rattle.sd_base.specs.Shelf.{NoFile};
     ghost use Rattle.sd_cli.specs.Outside.{hand_of};
 
+    /// The shelf with no file in hand and no fault counted.
     pub fn new(rt: &'a R, alloc: Global) -> Self
         ensures { hand_of result.hand ≡ NoFile }
     {

@@ -20,7 +20,7 @@ pub fn read_some<R: Read>(reader: &mut R, into: &mut [u8]) -> Option<usize>
     None
 }
 
-/// Writes at least a byte of the piece, and again where the call was interrupted.
+/// Writes once, and again where the call was interrupted; a write of nothing is a failure.
 pub fn write_some<W: Write>(writer: &mut W, piece: &[u8]) -> Option<usize>
     ensures some { IfSome result (λ count. 0 < count) }
     ensures within { IfSome result (λ count. count ≤ length piece.now) }

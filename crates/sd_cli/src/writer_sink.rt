@@ -11,6 +11,7 @@ pub struct WriterSink<W: Write> {
 }
 
 impl<W: Write> WriterSink<W> {
+    /// The sink over this writer, with no fault counted.
     pub fn new(writer: W) -> Self {
         WriterSink { writer, faults: 0 }
     }

@@ -33,7 +33,7 @@ pub record NotFewer (before now : Faults) : Type 0 where
   pub write : before.write ≤ now.write
   pub print : before.print ≤ now.print
 
--- no device failed
+-- neither the shelf nor `out` failed
 pub record NoneRose (before now : Faults) : Type 0 where
   pub read : ¬ (Rose before.read now.read)
   pub write : ¬ (Rose before.write now.write)

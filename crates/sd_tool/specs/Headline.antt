@@ -53,7 +53,7 @@ pub record CouldNotWrite (words : List (List ℕ)) (old new : Moment) : Type 0 w
   pub cause : HasCause (Unwritable effect) old.outside.files old.faults new.faults
   pub line : SaysLine (Unwritable effect) old new
 
--- When each status comes.
+-- When each status comes. That 9 comes wherever it may is the other half, in `IsComplete` and `Went`.
 pub record HasEnd (words : List (List ℕ)) (status : ℕ) (old new : Moment) : Type 0 where
   pub one_of : (status ≡ 0) ⊎ (status ≡ 5) ⊎ (status ≡ 6) ⊎ (status ≡ 7) ⊎ (status ≡ 9)
   pub read_fault : status ≡ 5 → CouldNotRead words old new
@@ -66,8 +66,9 @@ IsOwn Finished = Unit {0}
 IsOwn (Refused refusal) = Unit {0}
 IsOwn end = ⊥
 
--- Where no device fails over told files: an input that is served is written, or there was no memory; and where the
--- words and the files lead to an end of their own, the run comes to it with all its effects, or there was no memory.
+-- Over told files, where neither the shelf nor `out` fails: an input that is served is written, or there was no memory;
+-- and where the words and the files lead to an end of their own, the run comes to it with all its effects, or there
+-- was no memory.
 pub record IsComplete (words : List (List ℕ)) (status : ℕ) (old new : Moment) : Type 0 where
   pub served : (files : Files) (job : Job) (formula : Groups) → old.outside.files ≡ Some files
       → NoneRose old.faults new.faults → IsInput words files job formula → formula.variables ≤ 16

@@ -26,7 +26,9 @@ pub enum Command {
 /// What a command does outside.
 #[derive(Drop)]
 pub enum Act {
+    /// The named file is written whole with these bytes.
     WriteFile(Name, Bytes),
+    /// This line, with its end, is printed.
     PrintLine(Bytes),
 }
 
@@ -51,7 +53,8 @@ pub fn step(alloc: Global, state: &State, command: &Command) -> Result<Option<Ac
 }
 
 fn written(alloc: Global, state: &State, file: &str) -> Result<Act, AllocError>
-    ensures { IfOk result (λ act. act ≡ Act.WriteFile file.now (sdd_text (diagram_of state.now.diagram))) }
+    ensures { IfOk result (λ act.
+        act ≡ Act.WriteFile file.now (sdd_text (diagram_of state.now.diagram))) }
 {
     let name = Name::copy_of(alloc, file)?;
     let text = text_of(alloc, &state.diagram)?;
@@ -59,7 +62,8 @@ fn written(alloc: Global, state: &State, file: &str) -> Result<Act, AllocError>
 }
 
 fn sized(alloc: Global, state: &State) -> Result<Act, AllocError>
-    ensures { IfOk result (λ act. act ≡ Act.PrintLine (size_line (size_of (diagram_of state.now.diagram ∷ [])))) }
+    ensures { IfOk result (λ act.
+        act ≡ Act.PrintLine (size_line (size_of (diagram_of state.now.diagram ∷ [])))) }
 {
     let size = size_of(alloc, &state.diagram)?;
     Ok(Act::PrintLine(size_text(alloc, size)?))

@@ -76,7 +76,8 @@ fn is_top(d: &Diagram) -> bool
 #[tactic(auto, unfolding(crate::specs::Expansion::joined))]
 fn join(alloc: Global, index: u32, low: Diagram, high: Diagram) -> Result<Diagram, AllocError>
     requires { index < 2 ^ 30 }
-    ensures { IfOk result (λ d. diagram_of d ≡ expansions.joined index (diagram_of low) (diagram_of high)) }
+    ensures { IfOk result (λ d.
+        diagram_of d ≡ expansions.joined index (diagram_of low) (diagram_of high)) }
 {
     if compare(&low, &high) == Ordering::Equal {
         return Ok(low);
@@ -94,7 +95,8 @@ fn join(alloc: Global, index: u32, low: Diagram, high: Diagram) -> Result<Diagra
 // The decomposition by the variable after `index`.
 fn split(alloc: Global, index: u32, low: Diagram, high: Diagram) -> Result<Diagram, AllocError>
     requires { index < 2 ^ 30 }
-    ensures { IfOk result (λ d. diagram_of d ≡ expansions.split index (diagram_of low) (diagram_of high)) }
+    ensures { IfOk result (λ d.
+        diagram_of d ≡ expansions.split index (diagram_of low) (diagram_of high)) }
 {
     let literal = |positive: bool| Diagram::Literal {
         position: 2 * index,

@@ -19,6 +19,7 @@ use std::alloc::Global;
 #[derive(Drop)]
 pub struct Plan {
     pub start: State,
+    /// They are done in this order.
     pub commands: Vec<Command>,
 }
 

@@ -19,10 +19,12 @@ pub enum Stop {
     WriteFault(Name),
     /// The line in hand was not printed.
     OutputFault,
+    /// Memory ran out.
     OutOfMemory,
 }
 
 impl Stop {
+    /// The status that the program ends with.
     pub fn status(&self) -> u8
         ensures { result ≡ stop_status self.now }
     {

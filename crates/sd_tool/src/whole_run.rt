@@ -50,8 +50,8 @@ pub fn run<R: Threads + Sync, F: Shelf, O: Sink, E: Sink>(
         (moment F.files F.read_faults F.write_faults O.written O.faults E.written E.faults shelf.old out.old err.old)
         (moment F.files F.read_faults F.write_faults O.written O.faults E.written E.faults shelf.new out.new err.new) }
 
-    // Where these words and files lead to an end of their own, and no device fails, the run comes to it,
-    // or there is no memory.
+    // Where these words and files lead to an end of their own, and neither the shelf nor `out` fails, the run comes
+    // to it, or there is no memory.
     ensures complete { IsComplete (map string_bytes words.now) result
         (moment F.files F.read_faults F.write_faults O.written O.faults E.written E.faults shelf.old out.old err.old)
         (moment F.files F.read_faults F.write_faults O.written O.faults E.written E.faults shelf.new out.new err.new) }

@@ -7,7 +7,9 @@ ghost use Rattle.sd_tool.specs.Job.{job_of};
 /// What the words ask for.
 #[derive(Clone, Copy)]
 pub struct Job<'a> {
+    /// The name of the file to read, not empty.
     pub input: &'a str,
+    /// The name of the file to write, not empty.
     pub output: &'a str,
 }
 
