@@ -42,7 +42,7 @@ some_in_range s t e =
     let low = nat_le 1 s.variables in
     let high = nat_le s.variables 1024 in
     let first = past (not (low && high)) (VariablesRange s.variables)
-        (fault_if (nat_lt 1000000 s.groups) (TooManyGroups s.groups) >> Ok s) t e in
+    (fault_if (nat_lt 1000000 s.groups) (TooManyGroups s.groups) >> Ok s) t e in
     let second = past (nat_lt 1000000 s.groups) (TooManyGroups s.groups) (Ok s) t first.1 in
     let is : s ≡ t = (let same = second.1 in cc) in
     subst (λ (u : Stated). 1 ≤ u.variables) is (leb-true 1 s.variables (both low high first.0))
@@ -62,7 +62,7 @@ kept kind s parts f e =
     let count = length (all_but_last parts) in
     let differs = not (s.groups == count) in
     let first = past (not (length (last_part parts) == 0)) Unterminated
-        (fault_if differs (CountDiffers s.groups count) >> Ok formula) f e in
+    (fault_if differs (CountDiffers s.groups count) >> Ok formula) f e in
     let second = past differs (CountDiffers s.groups count) (Ok formula) f first.1 in
     let whole : Ok formula ≡ Ok f = second.1 in
     let is : formula ≡ f = cc in
