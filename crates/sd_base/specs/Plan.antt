@@ -1,5 +1,5 @@
 -- Faults that come by plan.
-use Rattle.std.specs.Prelude.{◌≡◌, ℕ, List, Contains}
+use Rattle.std.specs.Prelude.{◌≡◌, ℕ, ◌+◌, ◌-◌, ◌^◌, min, List, Contains, Result, IsErr}
 use Rattle.sd_base.specs.declared.memory.plan.Plan.{Plan}
 use Rattle.sd_base.specs.declared.memory.plan.PlannedFault.{PlannedFault}
 use Rattle.sd_base.specs.declared.memory.plan.ShelfCall.{ShelfCall}
@@ -16,6 +16,12 @@ calls_of plan Finish = plan.finishes
 -- the nth call of this kind is to fail
 abbrev pub IsPlanned : Plan → ShelfCall → ℕ → Type 0
 IsPlanned plan call nth = Contains plan.planned.items (record { call = call; nth = nth })
+
+-- a call of this kind is counted and fails where that is planned; the plan stays
+pub record GoesByPlan {T E : Type 0} (old : Plan) (call : ShelfCall) (new : Plan) (result : Result T E) : Type 0 where
+  pub counted : calls_of new call ≡ min (calls_of old call + 1) (2 ^ 64 - 1)
+  pub fails : IsPlanned old call (calls_of new call) → IsErr result
+  pub kept : new.planned.items ≡ old.planned.items
 
 -- these faults are planned, and no call was made yet
 pub record IsNewPlan (planned : List PlannedFault) (plan : Plan) : Type 0 where

@@ -131,12 +131,14 @@ fn the_nth_call_of_a_writing_fails(rt: HostRuntime) -> Result<(), Fail> {
     Ok(())
 }
 
-// A missing name is found before a planned fault, and so uses up none.
+// A start that finds no file is a call of its kind too, so the next is the second.
 #[test]
-fn a_missing_file_takes_no_planned_fault(rt: HostRuntime) -> Result<(), Fail> {
-    let mut shelf = shelf_with(rt.alloc(), b"text".to_vec(rt.alloc())?, StartRead, 1)?;
-    assert!(rt; read_all(rt.alloc(), &mut shelf, "none").is_err());
-    assert!(rt; read_all(rt.alloc(), &mut shelf, "old").is_err());
+fn a_start_that_finds_no_file_is_counted(rt: HostRuntime) -> Result<(), Fail> {
+    let mut shelf = shelf_with(rt.alloc(), b"text".to_vec(rt.alloc())?, StartRead, 2)?;
+    let none = read_all(rt.alloc(), &mut shelf, "none");
+    assert!(rt; matches!(none, Err(ReadError::ReadFault)));
+    let second = read_all(rt.alloc(), &mut shelf, "old");
+    assert!(rt; matches!(second, Err(ReadError::ReadFault)));
     assert!(rt; read_all(rt.alloc(), &mut shelf, "old").is_ok());
     Ok(())
 }

@@ -61,7 +61,8 @@ header_of kind line = do
   stated ← ok_or (numbers_of kind (drop 1 line.words)) (BadHeader line.number)
   in_range stated
 
--- ---- the body: the lines before the first that begins with %, as words with their lines
+-- ---- the body: the lines before the first that begins with %, which ends the files of the collection SATLIB;
+-- ---- as words with their lines
 
 -- a word of the body, with the number of its line
 pub record Word : Type 0 where

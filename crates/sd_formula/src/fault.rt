@@ -7,7 +7,7 @@ use std::alloc::{AllocError, AllocFailed};
 /// The first fault of a text, or want of memory. Lines are counted from 1.
 #[derive(Debug, Drop)]
 pub(crate) enum Fault {
-    /// No line counts, or the first that does begins with no word `p`.
+    /// Each line is blank or a comment, or the first word of the first other line is not `p`.
     NoHeader,
     /// The header is not `p`, the word of the kind and two numbers.
     BadHeader { line: u32 },

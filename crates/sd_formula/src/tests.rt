@@ -1,3 +1,5 @@
+//! Plain texts with their groups and values, and texts that are refused.
+
 use super::*;
 use std::test::Fail;
 

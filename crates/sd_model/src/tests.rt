@@ -114,15 +114,15 @@ fn moves_of_three_leaves(rt: HostRuntime) -> Result<(), Fail> {
 
     let rotated = moved(alloc, &left, &[], Move::RotateRight)
         .ok()
-        .ok_or("it is movable")?;
+        .ok_or("not moved")?;
     assert_eq!(rt; rotated, right);
     let back = moved(alloc, &right, &[], Move::RotateLeft)
         .ok()
-        .ok_or("it is movable")?;
+        .ok_or("not moved")?;
     assert_eq!(rt; back, left);
     let swap = moved(alloc, &left, &[Side::Left], Move::Swap)
         .ok()
-        .ok_or("it is movable")?;
+        .ok_or("not moved")?;
     assert_eq!(rt; swap, swapped);
     let leaf = moved(alloc, &left, &[Side::Right], Move::Swap);
     assert!(rt; matches!(leaf, Err(MovedError::NotMovable)));

@@ -13,7 +13,7 @@ use std::alloc::{AllocError, Global};
 
 /// The SDD text of a diagram, in the form of the SDD Package 2.0: the line `sdd N`, then a line for each of the N
 /// distinct diagrams in it, numbered from 0 in the order in which they are first complete. Its own line is the last.
-/// It takes time in the square of the number of nodes, and walks a shared diagram once for each use.
+/// It walks a diagram once for each use and compares it with the distinct ones, so it is for small diagrams.
 pub fn text_of(alloc: Global, d: &Diagram) -> Result<Vec<u8>, AllocError>
     ensures { IfOk result (λ text. text.items ≡ sdd_text (diagram_of d.now)) }
 {

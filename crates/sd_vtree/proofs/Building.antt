@@ -10,7 +10,8 @@ use Rattle.std.proofs.lemmas.Option.{none-some, same_Some}
 use Rattle.sd_model.specs.Tree.{Tree, Leaf, Node, position, right_base, leaves, variables, IsVtree}
 use Rattle.sd_vtree.specs.declared.shape.Shape.{Shape}
 use Rattle.sd_vtree.specs.declared.shape.Shape.TheVariants.{Leaf as LeafShape, Inner}
-use Rattle.sd_vtree.specs.Numbered.{Numbered, NumberedLeaf, NumberedNode, number_of, numbers, forget, times, IsNumbered}
+use Rattle.sd_vtree.specs.Numbered.{Numbered, NumberedLeaf, NumberedNode, number_of, numbers, forget, times}
+use Rattle.sd_vtree.specs.Numbered.{IsNumbered}
 use Rattle.sd_vtree.specs.Stored.{IsStored, IsKept, tree_in, tree_below}
 use Rattle.sd_vtree.specs.Built.{numbered_from, shapes}
 use Rattle.sd_vtree.proofs.Times.{times-same, times-other, times-append}

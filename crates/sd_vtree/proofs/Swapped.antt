@@ -7,7 +7,8 @@ use Rattle.std.proofs.lemmas.Option.{slice_get-get_or}
 use Rattle.sd_model.specs.declared.trees.Move.TheVariants.{Swap}
 use Rattle.sd_vtree.specs.declared.shape.Shape.{Shape}
 use Rattle.sd_vtree.specs.declared.shape.Shape.TheVariants.{Inner}
-use Rattle.sd_vtree.specs.Numbered.{Numbered, NumberedNode, number_of, numbers, subtree, times, children_at, IsNumbered}
+use Rattle.sd_vtree.specs.Numbered.{Numbered, NumberedNode, number_of, numbers, subtree, times, children_at}
+use Rattle.sd_vtree.specs.Numbered.{IsNumbered}
 use Rattle.sd_vtree.specs.Stored.{IsKept}
 use Rattle.sd_vtree.proofs.Times.{times-get_or, one_place, slice_get-append}
 use Rattle.sd_vtree.proofs.Subtrees.{once_numbered, inner_part, subtree_once, subtree_number, number_of_in}

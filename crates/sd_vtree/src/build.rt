@@ -40,6 +40,7 @@ pub(crate) fn add_nodes(tree: &Tree, nodes: &mut Vec<Shape>) -> Result<VNode, Al
 pub(crate) fn first_numbers(alloc: Global, count: u32) -> Result<Vec<u32>, AllocError>
     ensures { IfOk result (λ v. v.items ≡ range_with_len 0 count) }
 {
+    // The check proves a mapped range by itself, and a bare one not.
     (0..count).map(|number| number).collect(alloc)
 }
 

@@ -1,4 +1,4 @@
-// Laws of the definitions: functions whose contracts state a fact, and that do nothing.
+// Laws of the definitions: functions whose contracts state a fact. What a body calls only tells the proof something.
 
 ghost use Rattle.std.specs.Prelude.{◌≡◌, ℕ, ◌<◌, length, slice_get, Some};
 ghost use Rattle.std.specs.Option.{option_map};
@@ -16,5 +16,6 @@ pub fn plain_move(tree: &Vtree, node: VNode, kind: Move)
     ensures { (p : ℕ) → slice_get (numbers tree.now) p ≡ Some node →
         moved_at kind (forget tree.now) p ≡ option_map forget (moved_number kind tree.now node) }
 {
+    // `position` promises that the vtree is numbered.
     let _ = tree.position(node);
 }

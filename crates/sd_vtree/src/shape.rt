@@ -2,7 +2,7 @@
 
 use std::marker::Model;
 
-/// A node of a vtree, by its number.
+/// A node of a vtree, by its number, which no move changes.
 #[derive(Clone, Copy, PartialEq, Eq, Debug)]
 pub struct VNode(pub u32);
 

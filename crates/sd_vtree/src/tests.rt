@@ -1,3 +1,5 @@
+// Worked vtrees and moves, found by hand.
+
 use super::{NotMovable, Vtree};
 use sd_model::Tree;
 use std::alloc::{AllocError, Global};

@@ -1,4 +1,4 @@
-//! Vtrees.
+//! Vtrees, their nodes and their moves.
 
 ghost use Rattle.std.specs.Prelude.{◌≡◌, ◌↔◌, ℕ, ◌+◌, ◌<◌, ◌≤◌, List, ◌++◌, length, slice_get};
 ghost use Rattle.std.specs.Prelude.{Some, None, IfOk, IfSome, OnOk, OnErr, IsErr};
@@ -20,7 +20,8 @@ use sd_model::Tree;
 use std::alloc::{AllocError, Global};
 use std::marker::Model;
 
-/// A vtree over the variables 1 to V, whose nodes have the numbers 0 to 2V - 2.
+/// A vtree over the variables 1 to V, at most 1,024, whose nodes have the numbers 0 to 2V - 2.
+/// Contracts see it as the tree `Numbered`. A node that is handed to a call has to be one of this vtree.
 #[derive(Drop)]
 pub struct Vtree {
     // the shape of each node, by its number
@@ -52,7 +53,8 @@ impl Model for Vtree {
 }
 
 impl Vtree {
-    /// The balanced vtree: of m variables the left child has the first m / 2, rounded down.
+    /// The balanced vtree over 1 to `variables`, of which there are 1 to 1,024: of m variables the left child has the
+    /// first m / 2, rounded down.
     pub fn balanced(alloc: Global, variables: u32) -> Result<Vtree, AllocError>
         requires some { 1 ≤ variables }
         requires few { variables ≤ 1024 }
@@ -63,7 +65,7 @@ impl Vtree {
         Vtree::of_tree(alloc, &tree)
     }
 
-    /// The right vtree: each left child is a leaf.
+    /// The right vtree over 1 to `variables`, of which there are 1 to 1,024: each left child is a leaf.
     pub fn right(alloc: Global, variables: u32) -> Result<Vtree, AllocError>
         requires some { 1 ≤ variables }
         requires few { variables ≤ 1024 }
@@ -74,7 +76,7 @@ impl Vtree {
         Vtree::of_tree(alloc, &tree)
     }
 
-    /// The left vtree: each right child is a leaf.
+    /// The left vtree over 1 to `variables`, of which there are 1 to 1,024: each right child is a leaf.
     pub fn left(alloc: Global, variables: u32) -> Result<Vtree, AllocError>
         requires some { 1 ≤ variables }
         requires few { variables ≤ 1024 }
@@ -189,7 +191,7 @@ impl Vtree {
         self.order.get(position as usize).copied()
     }
 
-    /// The leaf of a variable.
+    /// The leaf of a variable, which is 1 to V.
     pub fn leaf(&self, variable: u32) -> VNode
         requires positive { 1 ≤ variable }
         requires within { variable ≤ leaves (forget self.now) }

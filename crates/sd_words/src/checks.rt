@@ -12,7 +12,7 @@ use clap::ArgMatches;
 use sd_base::Name;
 use std::alloc::Global;
 
-/// One input is there.
+/// Checks that exactly one input is there.
 #[tactic(auto, unfolding(crate::specs::Refusals::no_input, crate::specs::Refusals::two_inputs))]
 pub(crate) fn check_inputs(options: &ArgMatches<'_>) -> Result<(), WordsFault>
     ensures { let given = given_of options.now in
@@ -25,7 +25,7 @@ pub(crate) fn check_inputs(options: &ArgMatches<'_>) -> Result<(), WordsFault>
     }
 }
 
-/// No two vtrees are there.
+/// Checks that `--vtree` and `--start` are not both there.
 #[tactic(auto, unfolding(crate::specs::Refusals::two_vtrees))]
 pub(crate) fn check_vtrees(options: &ArgMatches<'_>) -> Result<(), WordsFault>
     ensures { RefusesBy (two_vtrees (given_of options.now)) result }
@@ -37,7 +37,7 @@ pub(crate) fn check_vtrees(options: &ArgMatches<'_>) -> Result<(), WordsFault>
     }
 }
 
-/// Nothing is there that a script stands in place of.
+/// Checks that a script is not there with what it stands in place of.
 #[tactic(auto, unfolding(crate::specs::Refusals::with_script))]
 pub(crate) fn check_script(options: &ArgMatches<'_>) -> Result<(), WordsFault>
     ensures { RefusesBy (with_script (given_of options.now)) result }
@@ -48,7 +48,7 @@ pub(crate) fn check_script(options: &ArgMatches<'_>) -> Result<(), WordsFault>
     }
 }
 
-/// The two written files are two. The memory is for the name in the fault.
+/// Checks that the two output files are two. The memory is for the name in the fault.
 #[tactic(auto, unfolding(crate::specs::Refusals::file_twice))]
 pub(crate) fn check_outputs(alloc: Global, options: &ArgMatches<'_>) -> Result<(), WordsFault>
     ensures { RefusesOrRunsOut (file_twice (given_of options.now)) result }
@@ -64,7 +64,7 @@ pub(crate) fn check_outputs(alloc: Global, options: &ArgMatches<'_>) -> Result<(
     }
 }
 
-/// No file has an empty name.
+/// Checks that no file has an empty name.
 #[tactic(auto, unfolding(crate::specs::Refusals::empty_name))]
 pub(crate) fn check_names(options: &ArgMatches<'_>) -> Result<(), WordsFault>
     ensures { RefusesBy (empty_name (given_of options.now)) result }

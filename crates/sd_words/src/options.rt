@@ -31,6 +31,7 @@ pub enum OptionName {
     Limit,
 }
 
+/// All of them, in their order.
 pub(crate) static ALL_OPTIONS: [OptionName; 12] = [
     OptionName::Cnf,
     OptionName::Dnf,
@@ -46,12 +47,14 @@ pub(crate) static ALL_OPTIONS: [OptionName; 12] = [
     OptionName::Limit,
 ];
 
+/// Those that say where the formula comes from.
 pub(crate) static INPUTS: [OptionName; 3] = [
     OptionName::Cnf,
     OptionName::Dnf,
     OptionName::Generate,
 ];
 
+/// Those whose value is the name of a file.
 pub(crate) static FILES: [OptionName; 6] = [
     OptionName::Cnf,
     OptionName::Dnf,
@@ -61,7 +64,7 @@ pub(crate) static FILES: [OptionName; 6] = [
     OptionName::OutSdd,
 ];
 
-/// What a script says itself.
+/// What a script stands in place of, in the order in which a fault names the first.
 pub(crate) static REPLACED_BY_SCRIPT: [OptionName; 3] = [
     OptionName::OutVtree,
     OptionName::OutSdd,

@@ -20,7 +20,8 @@ use sd_base::Name;
 use std::alloc::{AllocError, Global};
 
 /// The job that the words after the program's name stand for; `words` are without that name.
-/// Ordinary words are `--WORD VALUE` and `--WORD=VALUE`, each option at most once.
+/// Ordinary words are `--WORD=VALUE`, and `--WORD VALUE` where the value begins with no hyphen, each option at most
+/// once.
 ///
 /// An error is the first variant of `WordsFault` that holds, or `OutOfMemory`.
 pub fn read_words(alloc: Global, words: &[String]) -> Result<Job, WordsFault>
@@ -36,6 +37,7 @@ pub fn read_words(alloc: Global, words: &[String]) -> Result<Job, WordsFault>
     read_options(alloc, &options)
 }
 
+// The job of the options that `clap` found, or the first refusal.
 fn read_options(alloc: Global, options: &ArgMatches<'_>) -> Result<Job, WordsFault>
     ensures { Answers (job_from (given_of options.now)) result }
 {

@@ -146,6 +146,7 @@ fn unusual_words(rt: HostRuntime) -> Result<(), Fail> {
         ("--", "NoInput"),
         ("--cnf", "Usage"),
         ("--cnf -a", "Usage"),
+        ("--cnf --", "Usage"),
         ("--cnf -- a", "Usage"),
         ("--cnf --dnf b", "Usage"),
         ("--cnf a --cnf a", "Usage"),

@@ -25,7 +25,7 @@ pub(crate) struct Numbers {
     pub(crate) limit: Option<u32>,
 }
 
-/// Each number is in its range.
+/// The numbers that are there, each of which has to be in its range.
 #[tactic(auto, unfolding(crate::specs::Refusals::number_range))]
 pub(crate) fn read_numbers(options: &ArgMatches<'_>) -> Result<Numbers, WordsFault>
     ensures range { RefusesBy (number_range (given_of options.now)) result }
@@ -42,7 +42,7 @@ pub(crate) fn read_numbers(options: &ArgMatches<'_>) -> Result<Numbers, WordsFau
     })
 }
 
-/// The start is one of the three.
+/// The shape that `--start` names, or the balanced one. Three words are known.
 #[tactic(auto, unfolding(crate::specs::Refusals::start_unknown))]
 pub(crate) fn read_start(options: &ArgMatches<'_>) -> Result<TreeWord, WordsFault>
     ensures known { RefusesBy (start_unknown (given_of options.now)) result }

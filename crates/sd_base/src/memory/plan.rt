@@ -54,6 +54,7 @@ impl Plan {
     pub(crate) fn fails(&mut self, call: ShelfCall) -> bool
         ensures counted { calls_of self.new call ≡ min (calls_of self.old call + 1) (2 ^ 64 - 1) }
         ensures planned { IsTrue result ↔ IsPlanned self.old call (calls_of self.new call) }
+        ensures kept { self.new.planned.items ≡ self.old.planned.items }
     {
         let nth = self.count(call);
         self.planned.contains(&PlannedFault { call, nth })

@@ -36,11 +36,13 @@ impl MemoryShelf {
     ghost use Rattle.std.specs.Option.{option_map};
     ghost use Rattle.sd_base.specs.Files.{bytes_at};
     ghost use Rattle.sd_base.specs.Memory.{files_of};
-    ghost use Rattle.sd_base.specs.MemoryShown.{memory_files, memory_hand, memory_piece, memory_plan};
+    ghost use Rattle.sd_base.specs.MemoryShown.{memory_files, memory_hand};
+    ghost use Rattle.sd_base.specs.MemoryShown.{memory_piece, memory_plan, read_faults_of, write_faults_of};
     ghost use Rattle.sd_base.specs.Plan.{IsNewPlan};
     ghost use Rattle.sd_base.specs.Shelf.{NoFile};
 
     /// A shelf of these files, with none in hand. One `append` takes at most `piece` bytes.
+    /// Of two files of one name the first counts.
     pub fn new(
         alloc: Global,
         files: Vec<NamedBytes>,
@@ -52,6 +54,7 @@ impl MemoryShelf {
         ensures hand { memory_hand result ≡ NoFile }
         ensures piece { memory_piece result ≡ piece }
         ensures planned { IsNewPlan planned.items (memory_plan result) }
+        ensures faults { (read_faults_of result ≡ 0) × (write_faults_of result ≡ 0) }
     {
         MemoryShelf {
             alloc,
@@ -90,7 +93,15 @@ fn copy_next(bytes: &[u8], offset: usize, into: &mut [u8]) -> usize
 }
 
 impl Shelf for MemoryShelf {
-    ghost use Rattle.std.specs.Prelude.{Some};
+    ghost use Rattle.std.specs.Prelude.{◌≡◌, ◌≢◌, ◌⊎◌, ◌<◌, ◌≤◌, [], length, min, take, Some};
+    ghost use Rattle.std.specs.Prelude.{IfOk, OnOk, OnErr, IsErr};
+    ghost use Rattle.sd_base.specs.Faults.{Rose, HasCause};
+    ghost use Rattle.sd_base.specs.Files.{Lacks, told_with};
+    ghost use Rattle.sd_base.specs.Plan.{GoesByPlan};
+    ghost use Rattle.sd_base.specs.Shelf.{NoFile, Reading, Writing, IsReading, IsWriting, TakesNext, appended};
+    ghost use Rattle.sd_base.specs.MemoryShown.{memory_hand, memory_piece, memory_plan, told};
+    ghost use Rattle.sd_base.specs.MemoryShown.{read_faults_of, write_faults_of};
+    ghost use Rattle.sd_base.specs.declared.memory.plan.ShelfCall.TheVariants as calls;
     ghost use Rattle.sd_base.specs.Memory.{files_of, hand_of};
 
     ghost files = { λ shelf. Some (files_of shelf.files.items) };
@@ -101,11 +112,24 @@ impl Shelf for MemoryShelf {
 
     ghost write_faults = { λ shelf. shelf.write_faults };
 
-    fn start_read(&mut self, name: &str) -> Result<(), Failed> {
+    fn start_read(&mut self, name: &str) -> Result<(), Failed>
+        requires { memory_hand self.old ≡ NoFile }
+        ensures ok { OnOk result (memory_hand self.new ≡ Reading name.now 0) }
+        ensures err { OnErr result (memory_hand self.new ≡ NoFile) }
+        ensures files { told self.new ≡ told self.old }
+        ensures lacks { Lacks (told self.old) name.now
+            → IsErr result × (read_faults_of self.new ≡ read_faults_of self.old) }
+        ensures cause { OnErr result (
+            Lacks (told self.old) name.now ⊎ Rose (read_faults_of self.old) (read_faults_of self.new)) }
+        ensures read_faults { read_faults_of self.old ≤ read_faults_of self.new }
+        ensures write_faults { write_faults_of self.new ≡ write_faults_of self.old }
+        ensures plan { GoesByPlan (memory_plan self.old) calls.StartRead (memory_plan self.new) result }
+    {
+        let planned = self.plan.fails(ShelfCall::StartRead);
         let Some(_) = find_bytes(&self.files, name) else {
             return Err(Failed);
         };
-        if self.plan.fails(ShelfCall::StartRead) {
+        if planned {
             return Err(count_fault(&mut self.read_faults));
         }
         let Ok(held) = Name::copy_of(self.alloc, name) else {
@@ -115,13 +139,24 @@ impl Shelf for MemoryShelf {
         Ok(())
     }
 
-    fn read(&mut self, into: &mut [u8]) -> Result<usize, Failed> {
+    fn read(&mut self, into: &mut [u8]) -> Result<usize, Failed>
+        requires in_hand { IsReading (memory_hand self.old) }
+        requires room { 0 < length into.old }
+        ensures within { IfOk result (λ count. count ≤ length into.new) }
+        ensures ok { IfOk result (λ count.
+            TakesNext (told self.old) (memory_hand self.old) count into.new (memory_hand self.new)) }
+        ensures err { OnErr result (memory_hand self.new ≡ NoFile) }
+        ensures files { told self.new ≡ told self.old }
+        ensures cause { HasCause (read_faults_of self.old) (read_faults_of self.new) result }
+        ensures write_faults { write_faults_of self.new ≡ write_faults_of self.old }
+        ensures plan { GoesByPlan (memory_plan self.old) calls.Read (memory_plan self.new) result }
+    {
         if self.plan.fails(ShelfCall::Read) {
             self.hand = InHand::Nothing;
             return Err(count_fault(&mut self.read_faults));
         }
         let InHand::Read(name, offset) = &mut self.hand else {
-            return Ok(0);
+            unreachable!()
         };
         let Some(bytes) = find_bytes(&self.files, name.as_str()) else {
             return Ok(0);
@@ -131,7 +166,17 @@ impl Shelf for MemoryShelf {
         Ok(count)
     }
 
-    fn start_write(&mut self, name: &str) -> Result<(), Failed> {
+    fn start_write(&mut self, name: &str) -> Result<(), Failed>
+        requires { memory_hand self.old ≡ NoFile }
+        ensures ok { OnOk result (
+            (memory_hand self.new ≡ Writing name.now)
+            × (told self.new ≡ told_with (told self.old) name.now [])) }
+        ensures err { OnErr result (
+            (memory_hand self.new ≡ NoFile) × (told self.new ≡ told self.old)) }
+        ensures read_faults { read_faults_of self.new ≡ read_faults_of self.old }
+        ensures cause { HasCause (write_faults_of self.old) (write_faults_of self.new) result }
+        ensures plan { GoesByPlan (memory_plan self.old) calls.StartWrite (memory_plan self.new) result }
+    {
         if self.plan.fails(ShelfCall::StartWrite) {
             return Err(count_fault(&mut self.write_faults));
         }
@@ -145,13 +190,26 @@ impl Shelf for MemoryShelf {
         Ok(())
     }
 
-    fn append(&mut self, piece: &[u8]) -> Result<usize, Failed> {
+    fn append(&mut self, piece: &[u8]) -> Result<usize, Failed>
+        requires in_hand { IsWriting (memory_hand self.old) }
+        requires some { 0 < length piece.now }
+        ensures within { IfOk result (λ count. (0 < count) × (count ≤ length piece.now)) }
+        ensures ok { IfOk result (λ count.
+            (memory_hand self.new ≡ memory_hand self.old)
+            × (told self.new ≡ appended (told self.old) (memory_hand self.old) (take count piece.now))) }
+        ensures err { OnErr result (
+            (memory_hand self.new ≡ NoFile) × (told self.new ≡ told self.old)) }
+        ensures read_faults { read_faults_of self.new ≡ read_faults_of self.old }
+        ensures cause { HasCause (write_faults_of self.old) (write_faults_of self.new) result }
+        ensures piece { IfOk result (λ count. count ≡ min (length piece.now) (memory_piece self.old)) }
+        ensures plan { GoesByPlan (memory_plan self.old) calls.Append (memory_plan self.new) result }
+    {
         if self.plan.fails(ShelfCall::Append) {
             self.hand = InHand::Nothing;
             return Err(count_fault(&mut self.write_faults));
         }
         let InHand::Write(name) = &self.hand else {
-            return Ok(piece.len());
+            unreachable!()
         };
         let count = piece.len().min(self.piece);
         if extend_file(&mut self.files, name.as_str(), &piece[..count]).is_err() {
@@ -161,11 +219,19 @@ impl Shelf for MemoryShelf {
         Ok(count)
     }
 
-    fn finish(&mut self) -> Result<(), Failed> {
-        let reading = match &self.hand {
-            InHand::Read(_, _) => true,
-            InHand::Nothing | InHand::Write(_) => false,
-        };
+    fn finish(&mut self) -> Result<(), Failed>
+        requires { memory_hand self.old ≢ NoFile }
+        ensures hand { memory_hand self.new ≡ NoFile }
+        ensures files { told self.new ≡ told self.old }
+        ensures of_read { IsReading (memory_hand self.old)
+            → HasCause (read_faults_of self.old) (read_faults_of self.new) result
+            × (write_faults_of self.new ≡ write_faults_of self.old) }
+        ensures of_write { IsWriting (memory_hand self.old)
+            → HasCause (write_faults_of self.old) (write_faults_of self.new) result
+            × (read_faults_of self.new ≡ read_faults_of self.old) }
+        ensures plan { GoesByPlan (memory_plan self.old) calls.Finish (memory_plan self.new) result }
+    {
+        let reading = matches!(self.hand, InHand::Read(_, _));
         self.hand = InHand::Nothing;
         if !self.plan.fails(ShelfCall::Finish) {
             return Ok(());
