@@ -1,0 +1,19 @@
+-- the lines that were read, and their nodes
+pub mod Growing
+pub mod Placed
+pub mod Known
+pub mod AreRead
+pub mod OneMore
+pub mod Accepted
+-- the steps of the reader and of the writer
+pub mod Places
+pub mod Roots
+pub mod Writing
+-- what is written is read back
+pub mod Texts
+pub mod Written
+pub mod Kept
+pub mod TreeRead
+pub mod Back
+-- worked examples
+mod Rows

@@ -1,0 +1,21 @@
+use Rattle.std.proofs.Common.{◌∙◌, ap, arith}
+use Rattle.sd_model.specs.Seen.{tree_of}
+use Rattle.sd_model.specs.Tree.{leaves}
+use Rattle.sd_vfile.proofs.Accepted.{accepted}
+use Rattle.sd_vfile.proofs.reader.read_vtree.Goals as goal
+
+-- a tree that was read is a vtree
+pub of_tree-requires-clause-vtree : goal.of_tree-requires-clause-vtree
+of_tree-requires-clause-vtree c =
+    (accepted c.args.variables c.args.bytes.now (tree_of c.in_ok-tree.tree) c.in_ok-tree.ensures).vtree
+
+pub of_tree-requires-clause-few : goal.of_tree-requires-clause-few
+of_tree-requires-clause-few c =
+    let over = accepted c.args.variables c.args.bytes.now (tree_of c.in_ok-tree.tree) c.in_ok-tree.ensures in
+    omega (arith, over.count, c.requires.few)
+
+-- over the variables asked for
+pub returns-clause-leaves : goal.returns-clause-leaves
+returns-clause-leaves c =
+    ap leaves c.in_ok-vtree.ensures.tree
+    ∙ (accepted c.args.variables c.args.bytes.now (tree_of c.in_ok-tree.tree) c.in_ok-tree.ensures).count

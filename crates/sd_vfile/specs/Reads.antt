@@ -1,0 +1,154 @@
+-- The tree that a vtree file stands for, or its first fault.
+use Rattle.std.specs.Prelude.{◌≡◌, ℕ, Bool, false, not, ◌&&◌, ◌||◌, ◌==◌, nat_le, if◌then◌else◌, codes, bytes_eq}
+use Rattle.std.specs.Prelude.{List, [], ◌∷◌, length, filter, find}
+use Rattle.std.specs.Prelude.{Option, Some, None, ok_or, option_map, Result, Ok, Err}
+use Rattle.std.specs.List.{list_any, range_with_len}
+use Rattle.sd_base.specs.Lines.{TextLine, content_of}
+use Rattle.sd_base.specs.Numbers.{natural_value}
+use Rattle.sd_base.specs.Reading.{◌>>=◌, ◌>>◌, fault_if, each_after}
+use Rattle.sd_model.specs.Tree.{Tree, Leaf, Node}
+use Rattle.sd_vfile.specs.declared.fault.VtreeFault.{VtreeFault}
+use Rattle.sd_vfile.specs.declared.fault.VtreeFault.TheVariants.{NoHeader, BadLine, IdTwice, ChildUnknown}
+use Rattle.sd_vfile.specs.declared.fault.VtreeFault.TheVariants.{ChildTwice, VariableWrong, CountDiffers, NotOneRoot}
+use Rattle.sd_vfile.specs.declared.fault.VtreeFault.TheVariants.{VariableMissing, OutOfMemory}
+use Rattle.sd_vfile.specs.declared.form.Form.{Form}
+use Rattle.sd_vfile.specs.declared.form.Form.TheVariants.{LeafLine, InnerLine}
+
+-- a node line: its id, the tree below it, and the ids of its children
+pub record Entry : Type 0 where
+  pub id : ℕ
+  pub tree : Tree
+  pub children : List ℕ
+
+-- ---- the two forms of a node line: `L id variable` and `I id left right`
+
+-- a leaf, where both numbers are there
+abbrev pub leaf_of : Option ℕ → Option ℕ → Option Form
+leaf_of (Some id) (Some variable) = Some (LeafLine id variable)
+leaf_of id variable = None
+
+-- an internal node, where all three numbers are there
+abbrev pub inner_of : Option ℕ → Option ℕ → Option ℕ → Option Form
+inner_of (Some id) (Some left) (Some right) = Some (InnerLine id left right)
+inner_of id left right = None
+
+-- the leaf of the words after the letter L
+abbrev pub leaf_form : List (List ℕ) → Option Form
+leaf_form (id ∷ variable ∷ []) = leaf_of (natural_value id) (natural_value variable)
+leaf_form words = None
+
+-- the internal node of the words after the letter I
+abbrev pub inner_form : List (List ℕ) → Option Form
+inner_form (id ∷ left ∷ right ∷ []) = inner_of (natural_value id) (natural_value left) (natural_value right)
+inner_form words = None
+
+-- the form that a line's words have
+abbrev pub form_of : List (List ℕ) → Option Form
+form_of [] = None
+form_of (letter ∷ words) =
+    if bytes_eq letter (codes "L") then leaf_form words
+    else (if bytes_eq letter (codes "I") then inner_form words else None)
+
+-- ---- what the earlier lines have
+
+-- the tree of the line with an id
+abbrev pub tree_at : ℕ → List Entry → Option Tree
+tree_at id entries = option_map (λ e. e.tree) (find (λ e. e.id == id) entries)
+
+-- a line has the id
+abbrev pub has_id : ℕ → List Entry → Bool
+has_id id entries = list_any (λ e. e.id == id) entries
+
+-- a line has the id as that of a child
+abbrev pub is_child : ℕ → List Entry → Bool
+is_child id entries = list_any (λ e. list_any (λ child. child == id) e.children) entries
+
+-- the tree is the leaf of a variable
+abbrev pub is_leaf : ℕ → Tree → Bool
+is_leaf x (Leaf y) = y == x
+is_leaf x (Node left right) = false
+
+-- a line is the leaf of a variable
+abbrev pub has_leaf : ℕ → List Entry → Bool
+has_leaf x entries = list_any (λ e. is_leaf x e.tree) entries
+
+-- ---- a node line after earlier ones
+
+-- the node of a form on a line, over the variables 1 to v
+abbrev pub placed : ℕ → List Entry → ℕ → Form → Result Entry VtreeFault
+placed v earlier line (LeafLine id x) = do
+  fault_if (has_id id earlier) (IdTwice line)
+  fault_if (not (nat_le 1 x && nat_le x v) || has_leaf x earlier) (VariableWrong line)
+  Ok (record { id = id; tree = Leaf x; children = [] })
+placed v earlier line (InnerLine id left right) = do
+  fault_if (has_id id earlier) (IdTwice line)
+  l ← ok_or (tree_at left earlier) (ChildUnknown line)
+  r ← ok_or (tree_at right earlier) (ChildUnknown line)
+  fault_if (left == right || is_child left earlier || is_child right earlier) (ChildTwice line)
+  Ok (record { id = id; tree = Node l r; children = left ∷ right ∷ [] })
+
+-- the node of a line
+abbrev pub entry_of : ℕ → List Entry → TextLine → Result Entry VtreeFault
+entry_of v earlier line = do
+  form ← ok_or (form_of line.words) (BadLine line.number)
+  placed v earlier line.number form
+
+-- ---- after the last line
+
+-- the variables from 1 to v that have no leaf, in order
+abbrev pub missing : ℕ → List Entry → List ℕ
+missing v entries = filter (λ x. not (has_leaf x entries)) (range_with_len 1 v)
+
+-- the first that is missing is the fault
+abbrev pub none_missing : List ℕ → Result (Unit {0}) VtreeFault
+none_missing [] = Ok tt
+none_missing (x ∷ xs) = Err (VariableMissing x)
+
+-- the nodes that are nobody's child
+abbrev pub roots_of : List Entry → List Entry
+roots_of entries = filter (λ e. not (is_child e.id entries)) entries
+
+-- the tree of the only one
+abbrev pub one_root : List Entry → Result Tree VtreeFault
+one_root (root ∷ []) = Ok root.tree
+one_root roots = Err (NotOneRoot (length roots))
+
+-- the tree of all node lines, where the header states a number of them
+abbrev pub whole_tree : ℕ → ℕ → List Entry → Result Tree VtreeFault
+whole_tree v stated entries = do
+  fault_if (not (stated == length entries)) (CountDiffers stated (length entries))
+  tree ← one_root (roots_of entries)
+  none_missing (missing v entries)
+  Ok tree
+
+-- ---- the text
+
+-- the number of a header `vtree N`
+abbrev pub stated_by : List (List ℕ) → Option ℕ
+stated_by (name ∷ number ∷ []) = if bytes_eq name (codes "vtree") then natural_value number else None
+stated_by words = None
+
+-- the tree of a header and the lines after it
+abbrev pub tree_of_lines : ℕ → List TextLine → Result Tree VtreeFault
+tree_of_lines v [] = Err NoHeader
+tree_of_lines v (header ∷ lines) = do
+  stated ← ok_or (stated_by header.words) NoHeader
+  entries ← each_after (entry_of v) [] lines
+  whole_tree v stated entries
+
+-- The tree of a text over the variables 1 to v, or the text's first fault. Blank lines and comments, which begin with
+-- c, are passed over.
+unfoldable pub vtree_file : ℕ → List ℕ → Result Tree VtreeFault
+vtree_file v bytes = tree_of_lines v (content_of 99 bytes)
+
+-- ---- what a reader answers
+
+-- a reading has this fault; want of memory says nothing of it
+abbrev pub Fails : {Y : Type 0} → VtreeFault → Result Y VtreeFault → Type 0
+Fails OutOfMemory reading = Unit {0}
+Fails fault reading = reading ≡ Err fault
+
+-- The answer, as view sees it, is what the reading gives, unless memory ran out.
+abbrev pub Gives : {X Y : Type 0} → (X → Y) → Result X VtreeFault → Result Y VtreeFault → Type 0
+Gives view (Ok x) reading = reading ≡ Ok (view x)
+Gives view (Err e) reading = Fails e reading

@@ -1,0 +1,78 @@
+-- How the reader keeps node lines, for the contracts of its private functions.
+use Rattle.std.specs.Prelude.{◌≡◌, ℕ, ◌≤◌, ◌<◌, Bool, true, false, ◌==◌, List, [], ◌∷◌, ◌++◌, length, take}
+use Rattle.std.specs.Prelude.{slice_index_or, Option, Some, None}
+use Rattle.std.specs.List.{fold, list_any}
+use Rattle.sd_model.specs.Tree.{Tree, Leaf, Node}
+use Rattle.sd_vfile.specs.declared.form.Form.{Form}
+use Rattle.sd_vfile.specs.declared.form.Form.TheVariants.{LeafLine, InnerLine}
+use Rattle.sd_vfile.specs.Reads.{Entry, tree_at, has_id, is_leaf}
+
+-- ---- what a line has by itself
+
+-- its id
+abbrev pub id_of : Form → ℕ
+id_of (LeafLine id x) = id
+id_of (InnerLine id left right) = id
+
+-- the ids of its children
+abbrev pub children_of : Form → List ℕ
+children_of (LeafLine id x) = []
+children_of (InnerLine id left right) = left ∷ right ∷ []
+
+-- an id is that of a child
+abbrev pub has_child : ℕ → Form → Bool
+has_child id form = list_any (λ child. child == id) (children_of form)
+
+-- it is the leaf of a variable
+abbrev pub is_leaf_line : ℕ → Form → Bool
+is_leaf_line x (LeafLine id y) = y == x
+is_leaf_line x (InnerLine id left right) = false
+
+-- ---- the nodes of lines, one after another
+
+-- a tree that is there, or a leaf of no variable
+abbrev pub or_nothing : Option Tree → Tree
+or_nothing (Some t) = t
+or_nothing None = Leaf 0
+
+-- the tree of the line with an id
+abbrev pub tree_with : ℕ → List Entry → Tree
+tree_with id entries = or_nothing (tree_at id entries)
+
+-- the tree of a line after earlier ones
+abbrev pub tree_after : List Entry → Form → Tree
+tree_after earlier (LeafLine id x) = Leaf x
+tree_after earlier (InnerLine id left right) = Node (tree_with left earlier) (tree_with right earlier)
+
+-- the node of a line after earlier ones
+abbrev pub entry_after : List Entry → Form → Entry
+entry_after earlier form =
+    record { id = id_of form; tree = tree_after earlier form; children = children_of form }
+
+-- one more line behind nodes
+abbrev pub grow : List Entry → Form → List Entry
+grow earlier form = earlier ++ entry_after earlier form ∷ []
+
+-- the nodes of lines
+unfoldable pub entries_of : List Form → List Entry
+entries_of forms = fold grow [] forms
+
+-- no node
+abbrev pub no_entry : Entry
+no_entry = record { id = 0; tree = Leaf 0; children = [] }
+
+-- the tree at a place
+abbrev pub tree_in : List Entry → ℕ → Tree
+tree_in entries place = (slice_index_or entries place no_entry).tree
+
+-- ---- what is known of lines that were read
+
+-- a leaf has a variable of 1 to v, and children are on earlier lines
+pub record IsKnown (v : ℕ) (earlier : List Entry) (e : Entry) : Type 0 where
+  pub variable : (x : ℕ) → is_leaf x e.tree ≡ true → x ≤ v
+  pub children : (id : ℕ) → list_any (λ child. child == id) e.children ≡ true → has_id id earlier ≡ true
+
+-- this is so of each line
+abbrev pub AreKnown : ℕ → List Entry → Type 0
+AreKnown v entries =
+    (p : ℕ) → p < length entries → IsKnown v (take p entries) (slice_index_or entries p no_entry)

@@ -1,0 +1,17 @@
+//! Vtree files: the text of a vtree, and the vtree that such a text stands for, or its first fault.
+//! The format is that of the SDD Package 2.0. A caller sees a reading as `vtree_file` of `specs/Reads.antt`.
+#![tactic(auto)]
+
+mod fault;
+mod form;
+mod nodes;
+mod reader;
+mod whole;
+mod writer;
+
+pub use fault::VtreeFault;
+pub use reader::read_vtree;
+pub use writer::write_vtree;
+
+#[cfg(test)]
+mod tests;
