@@ -1,0 +1,8 @@
+mod Arenas
+mod Freed
+mod Grown
+pub mod Maps
+mod Pads
+pub mod Places
+mod Reused
+mod Steps

@@ -1,0 +1,4 @@
+mod Entries
+mod Found
+mod Inserted
+mod Numbered

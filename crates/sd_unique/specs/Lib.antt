@@ -1,0 +1,3 @@
+pub mod Inserting
+pub mod Nodes
+pub mod Record
