@@ -6,8 +6,9 @@ pub mod OneCourse
 pub mod OneOutcome
 pub mod OnePoint
 pub mod OneRun
-pub mod Parts
+pub mod PartLemmas
 pub mod ReadingLemmas
 pub mod RightTree
 pub mod StepLemmas
+pub mod TreeLemmas
 pub mod WrittenLemmas

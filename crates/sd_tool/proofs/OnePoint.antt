@@ -1,18 +1,23 @@
 -- Told files read in one way, so the readings of a run are over at one point.
-use Rattle.std.proofs.Common.{◌≡◌, ◌⊎◌, ℕ, List, length, Option, Some, None, Bool, true, false, cond, inl}
-use Rattle.std.proofs.Common.{inr}
-use Rattle.std.proofs.Common.{refl, sym, ap, subst, ◌∙◌, arith}
+use Rattle.std.proofs.Common.{◌≡◌, ◌⊎◌, ℕ, List, length, Option, Some, None, Result, Ok, Err}
+use Rattle.std.proofs.Common.{Bool, true, false, cond, inl, inr, refl, sym, ap, subst, ◌∙◌, arith}
 use Rattle.std.specs.Prelude.{nat_lt}
 use Rattle.sd_base.specs.Files.{Files, Lacks}
+use Rattle.sd_model.specs.Tree.{Tree, IsVtree}
+use Rattle.sd_model.specs.StartTrees.{right_tree}
 use Rattle.sd_formula.specs.declared.formula.Kind.TheVariants.{Cnf}
 use Rattle.sd_formula.specs.Dimacs.{Groups}
 use Rattle.sd_formula.specs.Plain.{plain_dimacs}
-use Rattle.sd_tool.specs.Job.{Job, job_of}
+use Rattle.sd_vfile.specs.Reads.{vtree_file}
+use Rattle.sd_vfile.specs.declared.fault.VtreeFault.{VtreeFault}
+use Rattle.sd_tool.specs.Job.{Job, TreeWord, StartOf, VtreeIn, job_of}
 use Rattle.sd_tool.specs.Readings.{Plan, Reading, Refuses, Begins, Reads, Text, Whole, TooLong, IsText, ReadsTo}
-use Rattle.sd_tool.specs.Readings.{reading_of, with_job, with_input, with_formula, plan_for}
+use Rattle.sd_tool.specs.Readings.{reading_of, with_job, with_input, with_formula, with_tree_word, with_tree}
+use Rattle.sd_tool.specs.Readings.{with_vtree_reading, plan_for, is_same_tree, start_tree}
 use Rattle.sd_tool.specs.Refusals.{NotYet}
 use Rattle.sd_tool.proofs.OneOutcome.{IsValid}
 use Rattle.sd_tool.proofs.RightTree.{right_tree_is_vtree}
+use Rattle.sd_tool.proofs.TreeLemmas.{same_trees}
 
 -- a told file reads in one way
 one_text : (files : Files) (file : List ℕ) (a b : Text) → IsText (Some files) file a → IsText (Some files) file b
@@ -59,17 +64,39 @@ one_point files (Reads file next) over point final (inr p) (inr q) =
     one_point files (next p.0) over point final p.2 (subst (λ t. ReadsTo (Some files) (next t) point) same q.2)
 
 -- what a plan of the readings begins with is valid
+valid_tree : (told : Option Files) (job : Job) (f : Groups) (tree : Tree) (plan : Plan)
+    → ReadsTo told (with_tree job f tree) (Begins plan) → IsValid plan.start
+valid_tree told job f tree plan p = go (is_same_tree tree (right_tree f.variables)) refl p
+  where
+    go : (same : Bool) → is_same_tree tree (right_tree f.variables) ≡ same
+        → ReadsTo told (cond same (Begins (plan_for job f tree)) (Refuses NotYet)) (Begins plan) → IsValid plan.start
+    go false e p = let bad : ⊥ = cc in absurd bad
+    go true e p =
+        let is : plan ≡ plan_for job f tree = cc in
+        subst (λ (b : Plan). IsValid b.start) (sym is)
+        (subst IsVtree (sym (same_trees tree (right_tree f.variables) e)) (right_tree_is_vtree f.variables))
+
+valid_tree_word : (told : Option Files) (job : Job) (f : Groups) (word : TreeWord) (plan : Plan)
+    → ReadsTo told (with_tree_word job f word) (Begins plan) → IsValid plan.start
+valid_tree_word told job f (StartOf shape) plan p = valid_tree told job f (start_tree shape f.variables) plan p
+valid_tree_word told job f (VtreeIn file) plan (inl p) = let bad : ⊥ = cc in absurd bad
+valid_tree_word told job f (VtreeIn file) plan (inr (TooLong, has, p)) = let bad : ⊥ = cc in absurd bad
+valid_tree_word told job f (VtreeIn file) plan (inr (Whole bytes, has, p)) = go (vtree_file f.variables bytes) p
+  where
+    go : (reading : Result Tree VtreeFault) → ReadsTo told (with_vtree_reading job f file reading) (Begins plan)
+        → IsValid plan.start
+    go (Ok tree) p = valid_tree told job f tree plan p
+    go (Err fault) p = let bad : ⊥ = cc in absurd bad
+
 valid_formula : (told : Option Files) (job : Job) (formula : Option Groups) (plan : Plan)
     → ReadsTo told (with_formula job formula) (Begins plan) → IsValid plan.start
 valid_formula told job None plan p = let bad : ⊥ = cc in absurd bad
-valid_formula told job (Some formula) plan p = go (nat_lt 16 formula.variables) p
+valid_formula told job (Some f) plan p = go (nat_lt 16 f.variables) p
   where
-    go : (many : Bool) → ReadsTo told (cond many (Refuses NotYet) (Begins (plan_for job formula))) (Begins plan)
+    go : (many : Bool) → ReadsTo told (cond many (Refuses NotYet) (with_tree_word job f job.tree)) (Begins plan)
         → IsValid plan.start
     go true p = let bad : ⊥ = cc in absurd bad
-    go false p =
-        let same : plan ≡ plan_for job formula = cc in
-        subst (λ (b : Plan). IsValid b.start) (sym same) (right_tree_is_vtree formula.variables)
+    go false p = valid_tree_word told job f job.tree plan p
 
 -- the plan of a run begins with a valid state
 pub valid_start : (told : Option Files) (words : List (List ℕ)) (plan : Plan)

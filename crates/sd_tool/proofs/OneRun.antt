@@ -1,25 +1,26 @@
 -- Over told files there is one course: where the words and the files lead to an end of their own, a run in which no
 -- device fails comes to that end, or memory ran out.
-use Rattle.std.proofs.Common.{◌≡◌, ◌⊎◌, ℕ, List, Some, inl, inr, refl, sym, ap, subst}
-use Rattle.std.proofs.Common.{◌∙◌}
+use Rattle.std.proofs.Common.{◌≡◌, ◌⊎◌, ◌≤◌, ℕ, List, Some, cond, inl, inr, refl, sym}
+use Rattle.std.proofs.Common.{ap, subst, ◌∙◌}
+use Rattle.std.proofs.lemmas.Bool.{le-ltb}
 use Rattle.sd_base.specs.Files.{Files, Lacks}
+use Rattle.sd_model.specs.StartTrees.{right_tree}
+use Rattle.sd_formula.specs.Dimacs.{Groups}
+use Rattle.sd_tool.specs.Job.{Job, TreeWord, StartOf, VtreeIn}
 use Rattle.sd_tool.specs.Effects.{Effect, Write, Print, after}
-use Rattle.sd_tool.specs.Readings.{Plan, Reading, Refuses, Begins, Reads, Text, reading_of, ReadsTo}
+use Rattle.sd_tool.specs.Readings.{Plan, Reading, Refuses, Begins, Reads, Text, Whole, reading_of, ReadsTo}
+use Rattle.sd_tool.specs.Readings.{with_input, with_formula, with_tree_word, with_tree, with_vtree_reading, plan_for}
 use Rattle.sd_tool.specs.Refusals.{Refusal, NotYet}
 use Rattle.sd_tool.specs.Ends.{End, Finished, Refused, Unreadable, Unwritable, OutOfMemory, status_of}
 use Rattle.sd_tool.specs.Devices.{Moment, Faults, NoneRose, HasCause}
 use Rattle.sd_tool.specs.Course.{EndsAmong, Comes, Leaves}
 use Rattle.sd_tool.specs.Headline.{Went, IsOwn, IsComplete}
-use Rattle.sd_tool.specs.Job.{Job}
-use Rattle.sd_tool.specs.Written.{IsInput}
-use Rattle.sd_formula.specs.Dimacs.{Groups}
-use Rattle.std.specs.Prelude.{nat_lt}
-use Rattle.std.proofs.Common.{◌≤◌, false, cond}
-use Rattle.std.proofs.lemmas.Bool.{le-ltb}
-use Rattle.sd_tool.specs.Readings.{Whole, with_job, with_formula, plan_for}
+use Rattle.sd_tool.specs.Written.{IsInput, IsStartTree}
 use Rattle.sd_tool.proofs.OneCourse.{one_end_among}
 use Rattle.sd_tool.proofs.OneOutcome.{none_refused}
 use Rattle.sd_tool.proofs.OnePoint.{one_point, valid_start}
+use Rattle.sd_tool.proofs.ReadingLemmas.{reads_on, reads_same, job_follows}
+use Rattle.sd_tool.proofs.TreeLemmas.{same_itself}
 
 -- the readings come to one plan
 same_plan : (files : Files) (reading : Reading) (a b : Plan) → ReadsTo (Some files) reading (Begins a)
@@ -121,42 +122,62 @@ no_other_end words files effects done own OutOfMemory before now a all comes cau
 
 -- where the words and the files lead to an end of their own, the run came to it, or there was no memory
 comes_to_own : (words : List (List ℕ)) (status : ℕ) (old new : Moment) → Went words status old new
-    → (files : Files) (effects : List Effect) (own : End) → old.outside.files ≡ Some files
+    → (files : Files) (effects : List Effect) (own : End) → old.contents.files ≡ Some files
     → NoneRose old.faults new.faults → IsOwn own → Comes words (Some files) effects own
-    → ((status ≡ status_of own) × (new.outside ≡ after effects old.outside)) ⊎ (status ≡ 7)
+    → ((status ≡ status_of own) × (new.contents ≡ after effects old.contents)) ⊎ (status ≡ 7)
 comes_to_own words status old new went files effects own told calm is all =
     let comes = subst (λ f. Comes words f went.effects went.end) told went.comes in
     let cause = subst (λ f. HasCause went.end f old.faults new.faults) told went.cause in
     elim (no_other_end words files effects went.effects own went.end old.faults new.faults is all comes cause calm) [
       | inl whole ↦ inl (
         went.status_is ∙ ap status_of whole.0,
-        all_done own is (subst (λ e. Leaves went.effects e old.outside new.outside) whole.0 went.leaves)
-            ∙ ap (λ l. after l old.outside) whole.1,
+        all_done own is (subst (λ e. Leaves went.effects e old.contents new.contents) whole.0 went.leaves)
+            ∙ ap (λ l. after l old.contents) whole.1,
       )
       | inr memory ↦ inr (went.status_is ∙ ap status_of memory)
     ]
   where
-    all_done : (end : End) → IsOwn end → Leaves went.effects end old.outside new.outside
-        → new.outside ≡ after went.effects old.outside
+    all_done : (end : End) → IsOwn end → Leaves went.effects end old.contents new.contents
+        → new.contents ≡ after went.effects old.contents
     all_done Finished is leaves = leaves
     all_done (Refused r) is leaves = leaves
     all_done (Unreadable file) is leaves = absurd is
     all_done (Unwritable effect) is leaves = absurd is
     all_done OutOfMemory is leaves = absurd is
 
+-- a start tree of the words that is the right one leads to its plan
+leads_with_tree : (files : Files) (job : Job) (f : Groups) (word : TreeWord)
+    → IsStartTree files word f.variables (right_tree f.variables)
+    → ReadsTo (Some files) (with_tree_word job f word) (with_tree job f (right_tree f.variables))
+leads_with_tree files job f (StartOf shape) is = reads_same (Some files) _ _ (ap (with_tree job f) (sym is))
+leads_with_tree files job f (VtreeIn file) (bytes, there, short, reads) =
+    inr (Whole bytes, (there, short), reads_same (Some files) _ _ (ap (with_vtree_reading job f file) reads))
+
+plan_of_right : (files : Files) (job : Job) (f : Groups)
+    → ReadsTo (Some files) (with_tree job f (right_tree f.variables)) (Begins (plan_for job f (right_tree f.variables)))
+plan_of_right files job f =
+    reads_same (Some files) _ _
+    (ap (λ b. cond b (Begins (plan_for job f (right_tree f.variables))) (Refuses NotYet))
+    (same_itself (right_tree f.variables)))
+
 -- an input that is served leads to its plan
-leads_to_plan : (words : List (List ℕ)) (files : Files) (job : Job) (formula : Groups)
-    → IsInput words files job formula → formula.variables ≤ 16
-    → ReadsTo (Some files) (reading_of words) (Begins (plan_for job formula))
-leads_to_plan words files job formula input few =
-    let few_enough : nat_lt 16 formula.variables ≡ false = le-ltb 16 formula.variables few in
-    let plan : with_formula job (Some formula) ≡ Begins (plan_for job formula) =
-    ap (λ b. cond b (Refuses NotYet) (Begins (plan_for job formula))) few_enough in
-    let begins = subst (λ r. ReadsTo (Some files) r (Begins (plan_for job formula))) (sym plan) refl in
-    let read = subst (λ f. ReadsTo (Some files) (with_formula job f) (Begins (plan_for job formula)))
-    (sym input.reads) begins in
-    subst (λ j. ReadsTo (Some files) (with_job j) (Begins (plan_for job formula))) (sym input.named)
-    (inr (Whole input.bytes, (input.there, input.short), read))
+leads_to_plan : (words : List (List ℕ)) (files : Files) (job : Job) (f : Groups) → IsInput words files job f
+    → f.variables ≤ 16 → IsStartTree files job.tree f.variables (right_tree f.variables)
+    → ReadsTo (Some files) (reading_of words) (Begins (plan_for job f (right_tree f.variables)))
+leads_to_plan words files job f input few tree =
+    let told = Some files in
+    let served : with_formula job (Some f) ≡ with_tree_word job f job.tree =
+    ap (λ b. cond b (Refuses NotYet) (with_tree_word job f job.tree)) (le-ltb 16 f.variables few) in
+    let read : ReadsTo told (Reads job.input (with_input job)) (with_tree_word job f job.tree) =
+    inr (
+      Whole input.bytes,
+      (input.there, input.short),
+      reads_same told _ _ (ap (with_formula job) input.reads ∙ served),
+    ) in
+    reads_on told (reading_of words) (Reads job.input (with_input job)) _ (job_follows told words job input.named)
+    (reads_on told (Reads job.input (with_input job)) (with_tree_word job f job.tree) _ read
+    (reads_on told (with_tree_word job f job.tree) (with_tree job f (right_tree f.variables)) _
+    (leads_with_tree files job f job.tree tree) (plan_of_right files job f)))
 
 -- where the readings lead to a plan and no device fails, all is done, or there was no memory
 done_or_none : (words : List (List ℕ)) (files : Files) (plan : Plan) (effects : List Effect) (end : End)
@@ -182,11 +203,12 @@ done_or_none words files plan effects OutOfMemory before now leads comes cause c
 pub completes : (words : List (List ℕ)) (status : ℕ) (old new : Moment) → Went words status old new
     → IsComplete words status old new
 completes words status old new went = record {
-  served = λ files job formula told calm input few.
+  served = λ files job formula told calm input few tree.
       let comes = subst (λ f. Comes words f went.effects went.end) told went.comes in
       let cause = subst (λ f. HasCause went.end f old.faults new.faults) told went.cause in
-      let leads = leads_to_plan words files job formula input few in
-      elim (done_or_none words files (plan_for job formula) went.effects went.end old.faults new.faults
+      let plan = plan_for job formula (right_tree formula.variables) in
+      let leads = leads_to_plan words files job formula input few tree in
+      elim (done_or_none words files plan went.effects went.end old.faults new.faults
       leads comes cause calm) [
         | inl done ↦ inl (went.status_is ∙ done)
         | inr memory ↦ inr (went.status_is ∙ memory)

@@ -1,18 +1,28 @@
 -- The readings of a run, one after another.
-use Rattle.std.proofs.Common.{◌≡◌, ℕ, ◌≤◌, List, length, Option, Some, None, Result, Ok, Err, IfOk, IfErr, inl, inr}
-use Rattle.std.proofs.Common.{refl, sym, subst}
-use Rattle.sd_base.specs.Files.{Files, HasBytes}
+use Rattle.std.proofs.Common.{◌≡◌, ◌⊎◌, ℕ, ◌≤◌, cond, List, length, Option, Some, None, Result, Ok}
+use Rattle.std.proofs.Common.{Err}
+use Rattle.std.proofs.Common.{IfOk, IfErr, inl, inr, refl, sym, ap, subst, ◌∙◌, arith}
+use Rattle.std.specs.Prelude.{nat_lt}
+use Rattle.std.proofs.lemmas.Bool.{le-ltb}
+use Rattle.sd_base.specs.Faults.{Rose}
+use Rattle.sd_base.specs.Files.{Files, HasBytes, Lacks}
+use Rattle.sd_model.specs.Tree.{Tree}
 use Rattle.sd_formula.specs.declared.formula.Kind.TheVariants.{Cnf}
+use Rattle.sd_formula.specs.Dimacs.{Groups}
 use Rattle.sd_formula.specs.Plain.{plain_dimacs}
-use Rattle.sd_tool.specs.Job.{Job, job_of}
-use Rattle.sd_tool.specs.Readings.{Plan, Reading, Refuses, Begins, Reads, Text, Whole, IsText, ReadsTo}
-use Rattle.sd_tool.specs.Readings.{reading_of, with_job, with_input}
+use Rattle.sd_tool.specs.Job.{Job, VtreeIn, job_of}
+use Rattle.sd_tool.specs.Readings.{Reading, Refuses, Begins, Reads, Whole, TooLong, IsText, ReadsTo}
+use Rattle.sd_tool.specs.Readings.{reading_of, with_job, with_input, with_formula, with_tree_word, with_tree}
+use Rattle.sd_tool.specs.Readings.{with_vtree_text, with_vtree_reading}
 use Rattle.sd_tool.specs.Refusals.{Refusal}
-use Rattle.sd_tool.specs.Given.{plan_of, PlansFor}
-use Rattle.sd_tool.specs.Stops.{StopsReading}
+use Rattle.sd_tool.specs.Refusals as refusals
+use Rattle.sd_tool.specs.Given.{plan_of}
+use Rattle.sd_tool.specs.Stops.{StopsReading, StopsTree, ReadsTree, GivesFormula, PlansAt}
 use Rattle.sd_tool.specs.declared.stop.Stop.{Stop}
-use Rattle.sd_tool.specs.declared.stop.Stop.TheVariants.{NotYet, ReadFault, WriteFault, OutputFault, OutOfMemory}
-use Rattle.sd_tool.specs.declared.reading.Plan.{Plan as CodePlan}
+use Rattle.sd_tool.specs.declared.stop.Stop.TheVariants as stops
+use Rattle.sd_tool.specs.declared.stop.Stop.TheVariants.{NotYet, BadVtree, ReadFault, WriteFault, OutputFault}
+use Rattle.sd_tool.specs.declared.stop.Stop.TheVariants.{OutOfMemory}
+use Rattle.sd_tool.specs.declared.plan.Plan.{Plan as CodePlan}
 
 -- what was read of a told file is its text
 pub is_text : (told : Option Files) (file bytes : List ℕ) → HasBytes told file bytes → length bytes ≤ 67108864
@@ -20,46 +30,135 @@ pub is_text : (told : Option Files) (file bytes : List ℕ) → HasBytes told fi
 is_text None file bytes has short = tt
 is_text (Some files) file bytes has short = (has, short)
 
--- where the readings are at a point, they have come there
-at_refusal : (told : Option Files) (reading : Reading) (refusal : Refusal) → reading ≡ Refuses refusal
-    → ReadsTo told reading (Refuses refusal)
-at_refusal told reading refusal is = subst (λ r. ReadsTo told r (Refuses refusal)) (sym is) refl
+-- readings are where they are
+pub reads_here : (told : Option Files) (reading : Reading) → ReadsTo told reading reading
+reads_here told (Refuses refusal) = refl
+reads_here told (Begins plan) = refl
+reads_here told (Reads file next) = inl refl
 
-at_plan : (told : Option Files) (reading : Reading) (plan : Plan) → reading ≡ Begins plan
-    → ReadsTo told reading (Begins plan)
-at_plan told reading plan is = subst (λ r. ReadsTo told r (Begins plan)) (sym is) refl
+-- where the readings have come to a point, they go on from there
+pub reads_on : (told : Option Files) (reading mid point : Reading) → ReadsTo told reading mid → ReadsTo told mid point
+    → ReadsTo told reading point
+reads_on told (Refuses refusal) mid point a b = subst (λ r. ReadsTo told r point) a b
+reads_on told (Begins plan) mid point a b = subst (λ r. ReadsTo told r point) a b
+reads_on told (Reads file next) mid point (inl a) b = subst (λ r. ReadsTo told r point) a b
+reads_on told (Reads file next) mid point (inr a) b = inr (a.0, a.1, reads_on told (next a.0) mid point a.2 b)
 
--- the job's input was read, and the readings go on from there
-after_input : (told : Option Files) (words : List (List ℕ)) (job : Job) (text : Text) (point : Reading)
-    → job_of words ≡ Some job → IsText told job.input text → ReadsTo told (with_input job text) point
-    → ReadsTo told (reading_of words) point
-after_input told words job text point is has goes =
-    subst (λ j. ReadsTo told (with_job j) point) (sym is) (inr (text, has, goes))
+-- a reading that is a point has come to it
+pub reads_same : (told : Option Files) (reading point : Reading) → reading ≡ point → ReadsTo told reading point
+reads_same told reading point is = subst (λ r. ReadsTo told reading r) is (reads_here told reading)
 
--- the job's input is read next
-pub asks_input : (told : Option Files) (words : List (List ℕ)) (job : Job) → job_of words ≡ Some job
+-- a stop at a point of the readings, with counts that have not fallen since, is a stop of all of them
+pub stops_on : (stop : Stop) (told : Option Files) (reading mid : Reading) (first before now : ℕ)
+    → ReadsTo told reading mid
+    → first ≤ before → StopsReading stop told mid before now → StopsReading stop told reading first now
+stops_on NotYet told reading mid first before now a later b = reads_on told reading mid _ a b
+stops_on (stops.TooLong file) told reading mid first before now a later b = reads_on told reading mid _ a b
+stops_on (BadVtree file fault) told reading mid first before now a later b = reads_on told reading mid _ a b
+stops_on (ReadFault file) told reading mid first before now a later ((next, b), inl lacks) =
+    ((next, reads_on told reading mid _ a b), inl lacks)
+stops_on (ReadFault file) told reading mid first before now a later ((next, b), inr rose) =
+    ((next, reads_on told reading mid _ a b), inr (omega arith))
+stops_on (WriteFault file) told reading mid first before now a later b = absurd b
+stops_on OutputFault told reading mid first before now a later b = absurd b
+stops_on OutOfMemory told reading mid first before now a later b = tt
+
+-- ---- the formula
+
+few_enough : (v : ℕ) (a b : Reading) → v ≤ 16 → cond (nat_lt 16 v) a b ≡ b
+few_enough v a b few = ap (λ t. cond t a b) (le-ltb 16 v few)
+
+-- a formula that is served leads to its vtree
+pub formula_follows : (told : Option Files) (job : Job) (bytes : List ℕ) (result : Result Groups Stop)
+    → IsText told job.input (Whole bytes) → GivesFormula (plain_dimacs Cnf bytes) result
+    → IfOk result (λ f. ReadsTo told (Reads job.input (with_input job)) (with_tree_word job f job.tree))
+formula_follows told job bytes (Ok f) has (reads, few) =
+    inr (Whole bytes, has, reads_same told _ _ (ap (with_formula job) reads ∙ few_enough f.variables _ _ few))
+formula_follows told job bytes (Err stop) has gives = tt
+
+pub formula_stops : (told : Option Files) (job : Job) (bytes : List ℕ) (result : Result Groups Stop) (before now : ℕ)
+    → IsText told job.input (Whole bytes) → GivesFormula (plain_dimacs Cnf bytes) result
+    → IfErr result (λ stop. StopsReading stop told (Reads job.input (with_input job)) before now)
+formula_stops told job bytes (Ok f) before now has gives = tt
+formula_stops told job bytes (Err NotYet) before now has gives =
+    inr (Whole bytes, has, reads_same told _ _ (gives job))
+formula_stops told job bytes (Err (stops.TooLong file)) before now has gives = absurd gives
+formula_stops told job bytes (Err (BadVtree file fault)) before now has gives = absurd gives
+formula_stops told job bytes (Err (ReadFault file)) before now has gives = absurd gives
+formula_stops told job bytes (Err (WriteFault file)) before now has gives = absurd gives
+formula_stops told job bytes (Err OutputFault) before now has gives = absurd gives
+formula_stops told job bytes (Err OutOfMemory) before now has gives = tt
+
+-- ---- the vtree
+
+-- the tree of a vtree file follows
+pub tree_follows : (told : Option Files) (job : Job) (f : Groups) (file : List ℕ) (tree : Tree)
+    → ReadsTree told file f.variables tree → ReadsTo told (with_tree_word job f (VtreeIn file)) (with_tree job f tree)
+tree_follows told job f file tree r =
+    inr (Whole r.bytes, r.text, reads_same told _ _ (ap (with_vtree_reading job f file) r.reads))
+
+pub tree_stops : (stop : Stop) (told : Option Files) (job : Job) (f : Groups) (file : List ℕ) (before now : ℕ)
+    → StopsTree stop told file f.variables before now
+    → StopsReading stop told (with_tree_word job f (VtreeIn file)) before now
+tree_stops (stops.TooLong name) told job f file before now (same, text) =
+    inr (TooLong, text, ap (λ (n : List ℕ). Refuses (refusals.TooLong n)) same)
+tree_stops (BadVtree name fault) told job f file before now (same, r) =
+    inr (
+      Whole r.bytes,
+      r.text,
+      reads_same told _ _ (ap (with_vtree_reading job f file) r.reads
+          ∙ ap (λ (n : List ℕ). Refuses (refusals.BadVtree n fault)) (sym same)),
+    )
+tree_stops (ReadFault name) told job f file before now (same, cause) = (
+  (
+    with_vtree_text job f file,
+    inl (ap (λ (n : List ℕ). Reads n (with_vtree_text job f file)) same),
+  ),
+  subst (λ (n : List ℕ). Lacks told n ⊎ Rose before now) (sym same) cause,
+)
+tree_stops OutOfMemory told job f file before now b = tt
+tree_stops NotYet told job f file before now b = absurd b
+tree_stops (WriteFault name) told job f file before now b = absurd b
+tree_stops OutputFault told job f file before now b = absurd b
+
+-- ---- the plan
+
+pub plan_follows : (told : Option Files) (point : Reading) (result : Result CodePlan Stop) → PlansAt point result
+    → IfOk result (λ plan. ReadsTo told point (Begins (plan_of plan)))
+plan_follows told point (Ok plan) is = reads_same told point _ is
+plan_follows told point (Err stop) is = tt
+
+pub plan_stops : (told : Option Files) (point : Reading) (result : Result CodePlan Stop) (before now : ℕ)
+    → PlansAt point result → IfErr result (λ stop. StopsReading stop told point before now)
+plan_stops told point (Ok plan) before now is = tt
+plan_stops told point (Err NotYet) before now is = reads_same told point _ is
+plan_stops told point (Err (stops.TooLong file)) before now is = absurd is
+plan_stops told point (Err (BadVtree file fault)) before now is = absurd is
+plan_stops told point (Err (ReadFault file)) before now is = absurd is
+plan_stops told point (Err (WriteFault file)) before now is = absurd is
+plan_stops told point (Err OutputFault) before now is = absurd is
+plan_stops told point (Err OutOfMemory) before now is = tt
+
+-- ---- the whole
+
+-- the words lead to the job's input
+pub job_follows : (told : Option Files) (words : List (List ℕ)) (job : Job) → job_of words ≡ Some job
     → ReadsTo told (reading_of words) (Reads job.input (with_input job))
-asks_input told words job is =
-    subst (λ j. ReadsTo told (with_job j) (Reads job.input (with_input job))) (sym is) (inl refl)
+job_follows told words job is = reads_same told _ _ (ap with_job is)
 
--- the plan for the job's input is that of the words
-pub plan_follows : (told : Option Files) (words : List (List ℕ)) (job : Job) (bytes : List ℕ)
-    (result : Result CodePlan Stop) → job_of words ≡ Some job → IsText told job.input (Whole bytes)
-    → PlansFor job.output (plain_dimacs Cnf bytes) result
-    → IfOk result (λ plan. ReadsTo told (reading_of words) (Begins (plan_of plan)))
-plan_follows told words job bytes (Ok plan) is has plans =
-    after_input told words job (Whole bytes) _ is has (at_plan told _ _ (plans job.input))
-plan_follows told words job bytes (Err stop) is has plans = tt
+-- the plan of a step is the plan of the words
+pub plan_on : (told now : Option Files) (reading mid : Reading) (result : Result CodePlan Stop) → now ≡ told
+    → ReadsTo told reading mid → IfOk result (λ plan. ReadsTo now mid (Begins (plan_of plan)))
+    → IfOk result (λ plan. ReadsTo told reading (Begins (plan_of plan)))
+plan_on told now reading mid (Ok plan) same a b =
+    reads_on told reading mid _ a (subst (λ t. ReadsTo t mid (Begins (plan_of plan))) same b)
+plan_on told now reading mid (Err stop) same a b = tt
 
--- and so is the stop
-pub stop_follows : (told : Option Files) (words : List (List ℕ)) (job : Job) (bytes : List ℕ)
-    (result : Result CodePlan Stop) (before now : ℕ) → job_of words ≡ Some job → IsText told job.input (Whole bytes)
-    → PlansFor job.output (plain_dimacs Cnf bytes) result
-    → IfErr result (λ stop. StopsReading stop told (reading_of words) before now)
-stop_follows told words job bytes (Ok plan) before now is has plans = tt
-stop_follows told words job bytes (Err NotYet) before now is has plans =
-    after_input told words job (Whole bytes) _ is has (at_refusal told _ _ (plans job.input))
-stop_follows told words job bytes (Err (ReadFault file)) before now is has plans = absurd plans
-stop_follows told words job bytes (Err (WriteFault file)) before now is has plans = absurd plans
-stop_follows told words job bytes (Err OutputFault) before now is has plans = absurd plans
-stop_follows told words job bytes (Err OutOfMemory) before now is has plans = tt
+-- and so is its stop
+pub stop_on : (told now : Option Files) (reading mid : Reading) (result : Result CodePlan Stop) (first before last : ℕ)
+    → now ≡ told → first ≤ before → ReadsTo told reading mid
+    → IfErr result (λ stop. StopsReading stop now mid before last)
+    → IfErr result (λ stop. StopsReading stop told reading first last)
+stop_on told now reading mid (Ok plan) first before last same later a b = tt
+stop_on told now reading mid (Err stop) first before last same later a b =
+    stops_on stop told reading mid first before last a later (subst (λ t. StopsReading stop t mid before last) same b)

@@ -6,7 +6,7 @@ use Rattle.std.proofs.lemmas.List.{append-nil, take_more}
 use Rattle.std.proofs.Math.Seq.{drop-cons}
 use Rattle.sd_base.specs.Faults.{Rose}
 use Rattle.sd_base.specs.Files.{Files}
-use Rattle.sd_tool.specs.Effects.{Effect, Write, Print, Outside, after_effect, after, DoesPart}
+use Rattle.sd_tool.specs.Effects.{Effect, Write, Print, Contents, after_effect, after, DoesPart}
 use Rattle.sd_tool.specs.Commands.{State, Done, Step, Steps}
 use Rattle.sd_tool.specs.Refusals as refusals
 use Rattle.sd_tool.specs.Ends.{Refused, Unwritable, OutOfMemory as NoMemory}
@@ -14,11 +14,12 @@ use Rattle.sd_tool.specs.Devices.{Faults, NotFewer, HasCause}
 use Rattle.sd_tool.specs.Course.{IsAt}
 use Rattle.sd_tool.specs.Stops.{stop_status, stop_text, RefusesAt, FailsAt, GoesOn}
 use Rattle.sd_tool.specs.declared.stop.Stop.{Stop}
-use Rattle.sd_tool.specs.declared.stop.Stop.TheVariants.{NotYet, ReadFault, WriteFault, OutputFault, OutOfMemory}
+use Rattle.sd_tool.specs.declared.stop.Stop.TheVariants.{NotYet, TooLong, BadVtree, ReadFault, WriteFault}
+use Rattle.sd_tool.specs.declared.stop.Stop.TheVariants.{OutputFault, OutOfMemory}
 use Rattle.sd_tool.specs.declared.commands.Command.{Command}
 
--- the outside after two lists of effects
-pub after-append : (first others : List Effect) (old : Outside)
+-- the contents after two lists of effects
+pub after-append : (first others : List Effect) (old : Contents)
     → after (first ++ others) old ≡ after others (after first old)
 after-append [] others old = refl
 after-append (effect ∷ first) others old = after-append first others (after_effect effect old)
@@ -45,7 +46,7 @@ Steps-push start mid new (command ∷ done) effects here next steps step = (
 )
 
 -- what the loop over the commands knows
-pub record SoFar (start : State) (commands : List Command) (index : ℕ) (old now : Outside) : Type 0 where
+pub record SoFar (start : State) (commands : List Command) (index : ℕ) (old now : Contents) : Type 0 where
   pub effects : List Effect
   pub steps : Steps start (take index commands) effects start
   pub is : now ≡ after effects old
@@ -74,7 +75,7 @@ reaches_next start commands index effects command next steps = record {
 }
 
 -- the command at the index is done
-pub so_far_more : (start : State) (commands : List Command) (index : ℕ) (old now new : Outside) (here : List Effect)
+pub so_far_more : (start : State) (commands : List Command) (index : ℕ) (old now new : Contents) (here : List Effect)
     (command : Command) → IsNext commands index command → SoFar start commands index old now
     → Step start command (Done start here) → new ≡ after here now → SoFar start commands (index + 1) old new
 so_far_more start commands index old now new here command next so_far step effect = record {
@@ -98,7 +99,7 @@ rose_since : (first mid last : ℕ) → first ≤ mid → Rose mid last → Rose
 rose_since first mid last later rose = omega arith
 
 -- so a device fault of a later command has its cause in the whole run
-cause_since : (effect : Effect) (files others : Option Files) (first mid last : Faults) → NotFewer first mid
+pub cause_since : (effect : Effect) (files others : Option Files) (first mid last : Faults) → NotFewer first mid
     → HasCause (Unwritable effect) files mid last → HasCause (Unwritable effect) others first last
 cause_since (Write file bytes) files others first mid last fewer rose =
     rose_since first.write mid.write last.write fewer.write rose
@@ -106,7 +107,7 @@ cause_since (Print line) files others first mid last fewer rose =
     rose_since first.print mid.print last.print fewer.print rose
 
 -- want of memory inside a command, or a command that is refused
-pub goes_to_stop : (start : State) (commands : List Command) (index : ℕ) (old now : Outside) (before after_ : Faults)
+pub goes_to_stop : (start : State) (commands : List Command) (index : ℕ) (old now : Contents) (before after_ : Faults)
     (command : Command) (stop : Stop) → IsNext commands index command → SoFar start commands index old now
     → (stop ≡ OutOfMemory) ⊎ RefusesAt start command stop → GoesOn start commands (Err stop) old now before after_
 goes_to_stop start commands index old now before after_ command stop next so_far (inl memory) =
@@ -126,13 +127,30 @@ goes_to_stop start commands index old now before after_ command NotYet next so_f
   leaves = so_far.is;
   cause = tt;
 }
+goes_to_stop start commands index old now before after_ command (TooLong file) next so_far (inr refused) = record {
+  end = Refused (refusals.TooLong file);
+  at = record { status = refl; text = refl; stopped = λ e. cc };
+  effects = so_far.effects;
+  ends = (start, command, reaches_next start commands index so_far.effects command next so_far.steps, refused);
+  leaves = so_far.is;
+  cause = tt;
+}
+goes_to_stop start commands index old now before after_ command (BadVtree file fault) next so_far (inr refused) =
+    record {
+      end = Refused (refusals.BadVtree file fault);
+      at = record { status = refl; text = refl; stopped = λ e. cc };
+      effects = so_far.effects;
+      ends = (start, command, reaches_next start commands index so_far.effects command next so_far.steps, refused);
+      leaves = so_far.is;
+      cause = tt;
+    }
 goes_to_stop start commands index old now before after_ command (ReadFault f) next so_far (inr none) = absurd none
 goes_to_stop start commands index old now before after_ command (WriteFault f) next so_far (inr none) = absurd none
 goes_to_stop start commands index old now before after_ command OutputFault next so_far (inr none) = absurd none
 goes_to_stop start commands index old now before after_ command OutOfMemory next so_far (inr none) = absurd none
 
 -- the effect of a command fails
-pub goes_to_fault : (start : State) (commands : List Command) (index : ℕ) (old now new : Outside)
+pub goes_to_fault : (start : State) (commands : List Command) (index : ℕ) (old now new : Contents)
     (first before after_ : Faults) (command : Command) (stop : Stop) (effects : List Effect)
     → IsNext commands index command → SoFar start commands index old now → NotFewer first before
     → Step start command (Done start effects) → FailsAt stop effects now new before after_
@@ -148,6 +166,6 @@ goes_to_fault start commands index old now new first before after_ command stop 
         reaches_next start commands index so_far.effects command next so_far.steps,
         (start, subst (λ (l : List Effect). Step start command (Done start l)) fails.one step),
       );
-      leaves = subst (λ (o : Outside). DoesPart fails.effect o new) so_far.is fails.part;
+      leaves = subst (λ (o : Contents). DoesPart fails.effect o new) so_far.is fails.part;
       cause = cause_since fails.effect now.files old.files first before after_ fewer fails.cause;
     }

@@ -4,11 +4,11 @@ use Rattle.sd_model.specs.Expression.{Expression}
 use Rattle.sd_model.specs.Tree.{Tree}
 use Rattle.sd_model.specs.Diagram.{Diagram}
 use Rattle.sd_model.specs.Size.{IsDiagramOf, HasSize}
-use Rattle.sd_model.specs.Text.{number_text, sdd_text}
+use Rattle.sd_model.specs.Text.{number_text, sdd_text, vtree_text}
 use Rattle.sd_tool.specs.Effects.{Effect, Write, Print}
 use Rattle.sd_tool.specs.Refusals.{Refusal}
 use Rattle.sd_tool.specs.declared.commands.Command.{Command}
-use Rattle.sd_tool.specs.declared.commands.Command.TheVariants.{WriteTo, Size}
+use Rattle.sd_tool.specs.declared.commands.Command.TheVariants.{WriteVtree, WriteDiagram, PrintSize}
 
 -- what a run holds between two commands
 pub record State : Type 0 where
@@ -32,9 +32,10 @@ size_line n = codes "size " ++ number_text n ++ 10 ∷ []
 
 -- what a command comes to in a state
 abbrev pub Step : State → Command → Outcome → Type 0
-Step state (WriteTo file) outcome =
+Step state (WriteVtree file) outcome = outcome ≡ Done state (Write file (vtree_text state.tree) ∷ [])
+Step state (WriteDiagram file) outcome =
     (text : List ℕ) × IsTextOf state text × (outcome ≡ Done state (Write file text ∷ []))
-Step state Size outcome =
+Step state PrintSize outcome =
     (n : ℕ) × HasSize (state.formula ∷ []) state.tree n × (outcome ≡ Done state (Print (size_line n) ∷ []))
 
 -- these commands are all done, one after another, with these effects

@@ -1,7 +1,7 @@
 -- The course of a run: the effects that it does, one after another, and the end that it comes to.
 use Rattle.std.specs.Prelude.{◌≡◌, ◌⊎◌, ℕ, List, [], ◌∷◌, ◌++◌, Option}
 use Rattle.sd_base.specs.Files.{Files}
-use Rattle.sd_tool.specs.Effects.{Effect, Outside, after, DoesPart}
+use Rattle.sd_tool.specs.Effects.{Effect, Contents, after, DoesPart}
 use Rattle.sd_tool.specs.Commands.{State, Done, Stops, Step, Steps}
 use Rattle.sd_tool.specs.Readings.{Plan, Reading, Refuses, Begins, Reads, reading_of, ReadsTo}
 use Rattle.sd_tool.specs.Ends.{End, Finished, Refused, Unreadable, Unwritable, OutOfMemory}
@@ -47,7 +47,7 @@ Comes words files effects end =
     (EndsReading files (reading_of words) end × (effects ≡ []))
     ⊎ ((plan : Plan) × ReadsTo files (reading_of words) (Begins plan) × EndsAmong plan.start plan.commands effects end)
 
--- The outside after these effects; where the effect in hand failed, after a part of it too.
-abbrev pub Leaves : List Effect → End → Outside → Outside → Type 0
+-- The contents after these effects; where the effect in hand failed, after a part of it too.
+abbrev pub Leaves : List Effect → End → Contents → Contents → Type 0
 Leaves effects (Unwritable effect) old new = DoesPart effect (after effects old) new
 Leaves effects end old new = new ≡ after effects old

@@ -3,7 +3,7 @@ use Rattle.std.specs.Prelude.{◌≡◌, ◌⊎◌, ℕ, ◌≤◌, List, Option
 use Rattle.sd_base.specs.Faults.{Rose}
 use Rattle.sd_base.specs.Files.{Files, Lacks}
 use Rattle.sd_base.specs.Sink.{told_then, AppendsPart}
-use Rattle.sd_tool.specs.Effects.{Write, Print, Outside}
+use Rattle.sd_tool.specs.Effects.{Write, Print, Contents}
 use Rattle.sd_tool.specs.Ends.{End, Finished, Unreadable, Unwritable, text_of, line_of}
 
 -- how often each device has failed
@@ -14,14 +14,14 @@ pub record Faults : Type 0 where
 
 -- the devices at a moment
 pub record Moment : Type 0 where
-  pub outside : Outside
+  pub contents : Contents
   pub errors : Option (List ℕ)
   pub faults : Faults
   pub err_faults : ℕ
 
--- the outside of this shelf and this `out`
-abbrev pub outside : {F O : Type 0} → (F → Option Files) → (O → Option (List ℕ)) → F → O → Outside
-outside files written shelf out = record { files = files shelf; printed = written out }
+-- the contents of this shelf and this `out`
+abbrev pub contents : {F O : Type 0} → (F → Option Files) → (O → Option (List ℕ)) → F → O → Contents
+contents files written shelf out = record { files = files shelf; printed = written out }
 
 -- their counts
 abbrev pub faults : {F O : Type 0} → (F → ℕ) → (F → ℕ) → (O → ℕ) → F → O → Faults
@@ -59,8 +59,15 @@ SaysLine end old new = Says (line_of (text_of end)) old.errors new.errors old.er
 abbrev pub moment : {F O E : Type 0} → (F → Option Files) → (F → ℕ) → (F → ℕ)
     → (O → Option (List ℕ)) → (O → ℕ) → (E → Option (List ℕ)) → (E → ℕ) → F → O → E → Moment
 moment files read write written print errors err_faults shelf out err = record {
-  outside = outside files written shelf out;
+  contents = contents files written shelf out;
   errors = errors err;
   faults = faults read write print shelf out;
   err_faults = err_faults err;
 }
+
+-- a fact of two moments of a shelf, `out` and `err`
+abbrev pub between : {F O E : Type 0} → (F → Option Files) → (F → ℕ) → (F → ℕ) → (O → Option (List ℕ)) → (O → ℕ)
+    → (E → Option (List ℕ)) → (E → ℕ) → F → O → E → F → O → E → (Moment → Moment → Type 0) → Type 0
+between files read write written print errors err_faults shelf out err shelf' out' err' holds =
+    holds (moment files read write written print errors err_faults shelf out err)
+    (moment files read write written print errors err_faults shelf' out' err')

@@ -9,21 +9,21 @@ pub data Effect : Type 0 where
   Print : (line : List ℕ) → Effect
 
 -- the files of the shelf and what was printed, as far as they are told
-pub record Outside : Type 0 where
+pub record Contents : Type 0 where
   pub files : Option Files
   pub printed : Option (List ℕ)
 
--- the outside after an effect
-abbrev pub after_effect : Effect → Outside → Outside
-after_effect (Write file bytes) outside = record outside { files = told_with outside.files file bytes }
-after_effect (Print line) outside = record outside { printed = told_then outside.printed line }
+-- the contents after an effect
+abbrev pub after_effect : Effect → Contents → Contents
+after_effect (Write file bytes) contents = record contents { files = told_with contents.files file bytes }
+after_effect (Print line) contents = record contents { printed = told_then contents.printed line }
 
--- the outside after these effects, in order
-abbrev pub after : List Effect → Outside → Outside
-after [] outside = outside
-after (effect ∷ effects) outside = after effects (after_effect effect outside)
+-- the contents after these effects, in order
+abbrev pub after : List Effect → Contents → Contents
+after [] contents = contents
+after (effect ∷ effects) contents = after effects (after_effect effect contents)
 
 -- the file of the effect is unchanged or holds a front of its bytes, or a front of its line was printed
-abbrev pub DoesPart : Effect → Outside → Outside → Type 0
+abbrev pub DoesPart : Effect → Contents → Contents → Type 0
 DoesPart (Write file bytes) old new = WritesPart old.files file bytes new.files × (new.printed ≡ old.printed)
 DoesPart (Print line) old new = AppendsPart old.printed line new.printed × (new.files ≡ old.files)

@@ -1,64 +1,72 @@
 -- What the top call promises of a run with these words that answers this status, between two moments.
 use Rattle.std.specs.Prelude.{◌≡◌, ◌⊎◌, ℕ, ◌≤◌, List, Some}
 use Rattle.sd_base.specs.Files.{Files}
+use Rattle.sd_model.specs.StartTrees.{right_tree}
 use Rattle.sd_formula.specs.Dimacs.{Groups}
 use Rattle.sd_tool.specs.Job.{Job}
-use Rattle.sd_tool.specs.Effects.{Effect, Outside, after, DoesPart}
+use Rattle.sd_tool.specs.Effects.{Effect, after, DoesPart}
 use Rattle.sd_tool.specs.Readings.{Refuses, Reads, reading_of, ReadsTo}
-use Rattle.sd_tool.specs.Refusals.{NotYet}
+use Rattle.sd_tool.specs.Refusals.{Refusal, refusal_status}
 use Rattle.sd_tool.specs.Ends.{End, Finished, Refused, Unreadable, Unwritable, OutOfMemory, status_of}
 use Rattle.sd_tool.specs.Devices.{Moment, NoneRose, HasCause, SaysLine}
 use Rattle.sd_tool.specs.Course.{Comes, Leaves}
-use Rattle.sd_tool.specs.Written.{IsInput}
+use Rattle.sd_tool.specs.Written.{IsInput, IsStartTree}
 
 -- How the run went: what it did and how it ended, where the words and the files lead; the status, the files and
 -- what was printed, the cause and the line are those of this one course.
 pub record Went (words : List (List ℕ)) (status : ℕ) (old new : Moment) : Type 0 where
   pub effects : List Effect
   pub end : End
-  pub comes : Comes words old.outside.files effects end
+  pub comes : Comes words old.contents.files effects end
   pub status_is : status ≡ status_of end
-  pub leaves : Leaves effects end old.outside new.outside
-  pub cause : HasCause end old.outside.files old.faults new.faults
+  pub leaves : Leaves effects end old.contents new.contents
+  pub cause : HasCause end old.contents.files old.faults new.faults
   pub line : SaysLine end old new
 
--- What was done outside: at status 0 all effects of the run, at 5 and 9 none, at 7 those of the first commands,
+-- What was done outside: at status 0 all effects of the run, at 2, 5 and 9 none, at 7 those of the first commands,
 -- at 6 those before the effect in hand, and a part of that one.
-pub record HasEffects (words : List (List ℕ)) (status : ℕ) (old new : Outside) : Type 0 where
-  pub all : status ≡ 0
-      → (effects : List Effect) × Comes words old.files effects Finished × (new ≡ after effects old)
-  pub none : (status ≡ 5) ⊎ (status ≡ 9) → new ≡ old
-  pub first : status ≡ 7
-      → (effects : List Effect) × Comes words old.files effects OutOfMemory × (new ≡ after effects old)
-  pub in_hand : status ≡ 6
-      → (effects : List Effect) × (effect : Effect) × Comes words old.files effects (Unwritable effect)
-      × DoesPart effect (after effects old) new
+pub record HasEffects (words : List (List ℕ)) (status : ℕ) (old new : Moment) : Type 0 where
+  pub all : status ≡ 0 → (effects : List Effect)
+      × Comes words old.contents.files effects Finished × (new.contents ≡ after effects old.contents)
+  pub none : (status ≡ 2) ⊎ (status ≡ 5) ⊎ (status ≡ 9) → new.contents ≡ old.contents
+  pub first : status ≡ 7 → (effects : List Effect)
+      × Comes words old.contents.files effects OutOfMemory × (new.contents ≡ after effects old.contents)
+  pub in_hand : status ≡ 6 → (effects : List Effect) × (effect : Effect)
+      × Comes words old.contents.files effects (Unwritable effect)
+      × DoesPart effect (after effects old.contents) new.contents
 
 -- The line: none at status 0, else the one line of an end with this status.
 abbrev pub HasLine : ℕ → Moment → Moment → Type 0
 HasLine status old new = (end : End) × (status ≡ status_of end) × SaysLine end old new
 
--- The input was asked for and not read; the line names it.
+-- The words or a text were refused; the line says why.
+pub record IsRefused (words : List (List ℕ)) (status : ℕ) (old new : Moment) : Type 0 where
+  pub refusal : Refusal
+  pub status_is : status ≡ refusal_status refusal
+  pub led : ReadsTo old.contents.files (reading_of words) (Refuses refusal)
+  pub line : SaysLine (Refused refusal) old new
+
+-- An input file was asked for and not read; the line names it.
 pub record CouldNotRead (words : List (List ℕ)) (old new : Moment) : Type 0 where
   pub file : List ℕ
-  pub asked : (next : _) × ReadsTo old.outside.files (reading_of words) (Reads file next)
-  pub cause : HasCause (Unreadable file) old.outside.files old.faults new.faults
+  pub asked : (next : _) × ReadsTo old.contents.files (reading_of words) (Reads file next)
+  pub cause : HasCause (Unreadable file) old.contents.files old.faults new.faults
   pub line : SaysLine (Unreadable file) old new
 
 -- An effect of the run was in hand and failed; the line names it.
 pub record CouldNotWrite (words : List (List ℕ)) (old new : Moment) : Type 0 where
   pub effects : List Effect
   pub effect : Effect
-  pub in_hand : Comes words old.outside.files effects (Unwritable effect)
-  pub cause : HasCause (Unwritable effect) old.outside.files old.faults new.faults
+  pub in_hand : Comes words old.contents.files effects (Unwritable effect)
+  pub cause : HasCause (Unwritable effect) old.contents.files old.faults new.faults
   pub line : SaysLine (Unwritable effect) old new
 
 -- When each status comes. That 9 comes wherever it may is the other half, in `IsComplete` and `Went`.
 pub record HasEnd (words : List (List ℕ)) (status : ℕ) (old new : Moment) : Type 0 where
-  pub one_of : (status ≡ 0) ⊎ (status ≡ 5) ⊎ (status ≡ 6) ⊎ (status ≡ 7) ⊎ (status ≡ 9)
+  pub one_of : (status ≡ 0) ⊎ (status ≡ 2) ⊎ (status ≡ 5) ⊎ (status ≡ 6) ⊎ (status ≡ 7) ⊎ (status ≡ 9)
+  pub refused : (status ≡ 2) ⊎ (status ≡ 9) → IsRefused words status old new
   pub read_fault : status ≡ 5 → CouldNotRead words old new
   pub write_fault : status ≡ 6 → CouldNotWrite words old new
-  pub not_yet : status ≡ 9 → ReadsTo old.outside.files (reading_of words) (Refuses NotYet)
 
 -- the ends to which the words and the files alone lead
 abbrev pub IsOwn : End → Type 0
@@ -70,9 +78,10 @@ IsOwn end = ⊥
 -- and where the words and the files lead to an end of their own, the run comes to it with all its effects, or there
 -- was no memory.
 pub record IsComplete (words : List (List ℕ)) (status : ℕ) (old new : Moment) : Type 0 where
-  pub served : (files : Files) (job : Job) (formula : Groups) → old.outside.files ≡ Some files
+  pub served : (files : Files) (job : Job) (formula : Groups) → old.contents.files ≡ Some files
       → NoneRose old.faults new.faults → IsInput words files job formula → formula.variables ≤ 16
+      → IsStartTree files job.tree formula.variables (right_tree formula.variables)
       → (status ≡ 0) ⊎ (status ≡ 7)
-  pub own : (files : Files) (effects : List Effect) (end : End) → old.outside.files ≡ Some files
+  pub own : (files : Files) (effects : List Effect) (end : End) → old.contents.files ≡ Some files
       → NoneRose old.faults new.faults → IsOwn end → Comes words (Some files) effects end
-      → ((status ≡ status_of end) × (new.outside ≡ after effects old.outside)) ⊎ (status ≡ 7)
+      → ((status ≡ status_of end) × (new.contents ≡ after effects old.contents)) ⊎ (status ≡ 7)

@@ -7,6 +7,7 @@ pub mod Expansion
 pub mod Given
 pub mod Headline
 pub mod Job
+pub mod Parts
 pub mod Readings
 pub mod Refusals
 pub mod Stops

@@ -1,16 +1,22 @@
 -- What a run reads before its first command, and when that is refused. A later reading is one more `Reads`.
-use Rattle.std.specs.Prelude.{◌≡◌, ◌⊎◌, ℕ, ◌<◌, ◌≤◌, nat_lt, if◌then◌else◌, List, [], ◌∷◌, length, Option, Some, None}
+use Rattle.std.specs.Prelude.{◌≡◌, ◌⊎◌, ℕ, ◌<◌, ◌≤◌, nat_lt, if◌then◌else◌, Bool, false, ◌==◌, ◌&&◌}
+use Rattle.std.specs.Prelude.{List, [], ◌∷◌, ◌++◌, length, Option, Some, None, Result, Ok, Err}
 use Rattle.sd_base.specs.Files.{Files, bytes_at}
-use Rattle.sd_model.specs.StartTrees.{right_tree}
+use Rattle.sd_model.specs.Tree.{Tree, Leaf, Node}
+use Rattle.sd_model.specs.StartTrees.{balanced_tree, right_tree, left_tree}
 use Rattle.sd_formula.specs.declared.formula.Kind.TheVariants.{Cnf}
 use Rattle.sd_formula.specs.Dimacs.{Groups}
 use Rattle.sd_formula.specs.Formulas.{expression_of}
 use Rattle.sd_formula.specs.Plain.{plain_dimacs}
-use Rattle.sd_tool.specs.Job.{Job, job_of}
+use Rattle.sd_vfile.specs.Reads.{vtree_file}
+use Rattle.sd_vfile.specs.declared.fault.VtreeFault.{VtreeFault}
+use Rattle.sd_tool.specs.Job.{Job, TreeWord, StartOf, VtreeIn, job_of}
 use Rattle.sd_tool.specs.Commands.{State}
-use Rattle.sd_tool.specs.Refusals.{Refusal, NotYet}
+use Rattle.sd_tool.specs.Refusals.{Refusal, NotYet, BadVtree, TooLong as LongVtree}
 use Rattle.sd_tool.specs.declared.commands.Command.{Command}
-use Rattle.sd_tool.specs.declared.commands.Command.TheVariants.{WriteTo, Size}
+use Rattle.sd_tool.specs.declared.commands.Command.TheVariants.{WriteVtree, WriteDiagram, PrintSize}
+use Rattle.sd_tool.specs.declared.words.Shape.{Shape}
+use Rattle.sd_tool.specs.declared.words.Shape.TheVariants.{Balanced, Right, Left}
 
 -- what the commands begin with
 pub record Plan : Type 0 where
@@ -28,18 +34,53 @@ pub data Reading : Type 0 where
   Begins : Plan → Reading
   Reads : (file : List ℕ) (next : Text → Reading) → Reading
 
--- the formula under the right start tree: its diagram is written, then its size is printed
-abbrev pub plan_for : Job → Groups → Plan
-plan_for job formula = record {
-  start = record { formula = expression_of formula; tree = right_tree formula.variables };
-  commands = WriteTo job.output ∷ Size ∷ [];
+-- a command for a file that is there
+abbrev pub for_file : (List ℕ → Command) → Option (List ℕ) → List Command
+for_file command None = []
+for_file command (Some file) = command file ∷ []
+
+-- the formula under this tree: the vtree and the diagram are written, and then the size is printed
+abbrev pub plan_for : Job → Groups → Tree → Plan
+plan_for job formula tree = record {
+  start = record { formula = expression_of formula; tree = tree };
+  commands = for_file WriteVtree job.out_vtree ++ for_file WriteDiagram job.out_sdd ++ PrintSize ∷ [];
 }
+
+-- whether two trees are one
+abbrev pub is_same_tree : Tree → Tree → Bool
+is_same_tree (Leaf x) (Leaf y) = x == y
+is_same_tree (Node l r) (Node m s) = is_same_tree l m && is_same_tree r s
+is_same_tree t u = false
+
+-- the right start tree is served
+abbrev pub with_tree : Job → Groups → Tree → Reading
+with_tree job formula tree =
+    if is_same_tree tree (right_tree formula.variables) then Begins (plan_for job formula tree) else Refuses NotYet
+
+abbrev pub start_tree : Shape → ℕ → Tree
+start_tree Balanced v = balanced_tree v
+start_tree Right v = right_tree v
+start_tree Left v = left_tree v
+
+abbrev pub with_vtree_reading : Job → Groups → List ℕ → Result Tree VtreeFault → Reading
+with_vtree_reading job formula file (Ok tree) = with_tree job formula tree
+with_vtree_reading job formula file (Err fault) = Refuses (BadVtree file fault)
+
+abbrev pub with_vtree_text : Job → Groups → List ℕ → Text → Reading
+with_vtree_text job formula file TooLong = Refuses (LongVtree file)
+with_vtree_text job formula file (Whole bytes) =
+    with_vtree_reading job formula file (vtree_file formula.variables bytes)
+
+-- the start tree of a shape, or that of a vtree file
+abbrev pub with_tree_word : Job → Groups → TreeWord → Reading
+with_tree_word job formula (StartOf shape) = with_tree job formula (start_tree shape formula.variables)
+with_tree_word job formula (VtreeIn file) = Reads file (with_vtree_text job formula file)
 
 -- an accepted formula of at most 16 variables is served
 abbrev pub with_formula : Job → Option Groups → Reading
 with_formula job None = Refuses NotYet
 with_formula job (Some formula) =
-    if nat_lt 16 formula.variables then Refuses NotYet else Begins (plan_for job formula)
+    if nat_lt 16 formula.variables then Refuses NotYet else with_tree_word job formula job.tree
 
 -- the input is a formula file of clauses
 abbrev pub with_input : Job → Text → Reading

@@ -1,13 +1,44 @@
 -- What the words, the texts and the commands of a run are refused for.
-use Rattle.std.specs.Prelude.{ℕ, List, codes}
+use Rattle.std.specs.Prelude.{ℕ, List, [], ◌++◌, codes}
+use Rattle.sd_model.specs.Text.{number_text}
+use Rattle.sd_vfile.specs.declared.fault.VtreeFault.{VtreeFault}
+use Rattle.sd_vfile.specs.declared.fault.VtreeFault.TheVariants.{NoHeader, BadLine, IdTwice, ChildUnknown, ChildTwice}
+use Rattle.sd_vfile.specs.declared.fault.VtreeFault.TheVariants.{VariableWrong, CountDiffers, NotOneRoot}
+use Rattle.sd_vfile.specs.declared.fault.VtreeFault.TheVariants.{VariableMissing, OutOfMemory}
 
 pub data Refusal : Type 0 where
   -- it is not served yet
   NotYet : Refusal
+  -- a vtree file is too long
+  TooLong : (file : List ℕ) → Refusal
+  -- a vtree file has this fault
+  BadVtree : (file : List ℕ) → VtreeFault → Refusal
 
 abbrev pub refusal_status : Refusal → ℕ
 refusal_status NotYet = 9
+refusal_status (TooLong file) = 2
+refusal_status (BadVtree file fault) = 2
+
+-- a fault of a line
+abbrev pub at_line : ℕ → List ℕ → List ℕ
+at_line n text = codes ": line " ++ number_text n ++ text
+
+-- the text of a fault of a vtree file, after the file's name
+abbrev pub vtree_fault_text : VtreeFault → List ℕ
+vtree_fault_text NoHeader = codes ": no header"
+vtree_fault_text (BadLine n) = at_line n (codes ": bad line")
+vtree_fault_text (IdTwice n) = at_line n (codes ": id twice")
+vtree_fault_text (ChildUnknown n) = at_line n (codes ": child unknown")
+vtree_fault_text (ChildTwice n) = at_line n (codes ": child twice")
+vtree_fault_text (VariableWrong n) = at_line n (codes ": variable wrong")
+vtree_fault_text (CountDiffers s f) =
+    codes ": " ++ number_text s ++ codes " stated, " ++ number_text f ++ codes " found"
+vtree_fault_text (NotOneRoot r) = codes ": " ++ number_text r ++ codes " roots"
+vtree_fault_text (VariableMissing x) = codes ": variable missing: " ++ number_text x
+vtree_fault_text OutOfMemory = []
 
 -- the text of the line, after the name of the program
 abbrev pub refusal_text : Refusal → List ℕ
 refusal_text NotYet = codes "not yet"
+refusal_text (TooLong file) = file ++ codes ": too long"
+refusal_text (BadVtree file fault) = file ++ vtree_fault_text fault

@@ -1,34 +1,46 @@
 -- What the stops and the acts of the code say, for the contracts of its private functions.
-use Rattle.std.specs.Prelude.{◌≡◌, ◌≢◌, ◌⊎◌, ℕ, List, [], ◌∷◌, ◌++◌, Option, Some, None, Result, Ok, Err, codes}
+use Rattle.std.specs.Prelude.{◌≤◌, ◌≡◌, ◌≢◌, ◌⊎◌, ℕ, List, [], ◌∷◌, Option, Some, None, Result, Ok, Err}
 use Rattle.sd_base.specs.Faults.{Rose}
 use Rattle.sd_base.specs.Files.{Files, Lacks}
-use Rattle.sd_tool.specs.Effects.{Effect, Write, Print, Outside, DoesPart}
+use Rattle.sd_tool.specs.Effects.{Effect, Write, Print, Contents, DoesPart}
 use Rattle.sd_tool.specs.Commands.{State, Stops, Step}
-use Rattle.sd_tool.specs.Readings.{Reading, Refuses, Reads, ReadsTo}
+use Rattle.sd_model.specs.Tree.{Tree}
+use Rattle.sd_formula.specs.Dimacs.{Groups}
+use Rattle.sd_vfile.specs.Reads.{vtree_file}
+use Rattle.sd_vfile.specs.declared.fault.VtreeFault.{VtreeFault}
+use Rattle.sd_tool.specs.Job.{Job}
+use Rattle.sd_tool.specs.Readings.{Reading, Refuses, Begins, Reads, ReadsTo, Whole, TooLong as LongText, IsText}
+use Rattle.sd_tool.specs.Readings.{with_formula}
+use Rattle.sd_tool.specs.Given.{plan_of}
+use Rattle.sd_tool.specs.declared.plan.Plan.{Plan as CodePlan}
 use Rattle.sd_tool.specs.Refusals as refusals
-use Rattle.sd_tool.specs.Ends.{End, Finished, Unwritable, status_of, text_of}
+use Rattle.sd_tool.specs.Ends.{End, Finished, Refused, Unreadable, Unwritable, OutOfMemory as NoMemory, status_of}
+use Rattle.sd_tool.specs.Ends.{text_of}
 use Rattle.sd_tool.specs.Devices.{HasCause, Faults}
 use Rattle.sd_tool.specs.Course.{EndsAmong, Comes, Leaves}
 use Rattle.sd_tool.specs.declared.stop.Stop.{Stop}
-use Rattle.sd_tool.specs.declared.stop.Stop.TheVariants.{NotYet, ReadFault, WriteFault, OutputFault, OutOfMemory}
+use Rattle.sd_tool.specs.declared.stop.Stop.TheVariants.{NotYet, TooLong, BadVtree, ReadFault, WriteFault}
+use Rattle.sd_tool.specs.declared.stop.Stop.TheVariants.{OutputFault, OutOfMemory}
 use Rattle.sd_tool.specs.declared.commands.Command.{Command}
 use Rattle.sd_tool.specs.declared.commands.Act.{Act}
 use Rattle.sd_tool.specs.declared.commands.Act.TheVariants.{WriteFile, PrintLine}
 
+-- the end that a stop stands for, as far as its status and its line go
+abbrev pub end_of : Stop → End
+end_of NotYet = Refused refusals.NotYet
+end_of (TooLong file) = Refused (refusals.TooLong file)
+end_of (BadVtree file fault) = Refused (refusals.BadVtree file fault)
+end_of (ReadFault file) = Unreadable file
+end_of (WriteFault file) = Unwritable (Write file [])
+end_of OutputFault = Unwritable (Print [])
+end_of OutOfMemory = NoMemory
+
 abbrev pub stop_status : Stop → ℕ
-stop_status NotYet = 9
-stop_status (ReadFault file) = 5
-stop_status (WriteFault file) = 6
-stop_status OutputFault = 6
-stop_status OutOfMemory = 7
+stop_status stop = status_of (end_of stop)
 
 -- the text of a stop's line
 abbrev pub stop_text : Stop → List ℕ
-stop_text NotYet = codes "not yet"
-stop_text (ReadFault file) = file ++ codes ": read fault"
-stop_text (WriteFault file) = file ++ codes ": write fault"
-stop_text OutputFault = codes "output: write fault"
-stop_text OutOfMemory = codes "out of memory"
+stop_text stop = text_of (end_of stop)
 
 -- the stop has the status and the text of this end
 pub record StandsFor (stop : Stop) (end : End) : Type 0 where
@@ -44,11 +56,16 @@ IsEnd (Err stop) end = StandsFor stop end
 -- the command is refused, and the stop says so
 abbrev pub RefusesAt : State → Command → Stop → Type 0
 RefusesAt state command NotYet = Step state command (Stops refusals.NotYet)
+RefusesAt state command (TooLong file) = Step state command (Stops (refusals.TooLong file))
+RefusesAt state command (BadVtree file fault) = Step state command (Stops (refusals.BadVtree file fault))
 RefusesAt state command stop = ⊥
 
 -- the readings stop so
 abbrev pub StopsReading : Stop → Option Files → Reading → ℕ → ℕ → Type 0
 StopsReading NotYet files reading before now = ReadsTo files reading (Refuses refusals.NotYet)
+StopsReading (TooLong file) files reading before now = ReadsTo files reading (Refuses (refusals.TooLong file))
+StopsReading (BadVtree file fault) files reading before now =
+    ReadsTo files reading (Refuses (refusals.BadVtree file fault))
 StopsReading (ReadFault file) files reading before now =
     ((next : _) × ReadsTo files reading (Reads file next)) × (Lacks files file ⊎ Rose before now)
 StopsReading OutOfMemory files reading before now = Unit {0}
@@ -56,7 +73,7 @@ StopsReading stop files reading before now = ⊥
 
 -- the commands come to an end, with the result of the code
 pub record GoesOn (start : State) (commands : List Command) (result : Result (Unit {0}) Stop)
-    (old new : Outside) (before now : Faults) : Type 0 where
+    (old new : Contents) (before now : Faults) : Type 0 where
   pub end : End
   pub at : IsEnd result end
   pub effects : List Effect
@@ -73,8 +90,13 @@ abbrev pub effects_of : Option Act → List Effect
 effects_of None = []
 effects_of (Some act) = effect_of act ∷ []
 
+-- an act is handed out, where there was memory for it
+abbrev pub HandsOut : {E : Type 0} → Result Act E → Result (Option Act) Stop → Type 0
+HandsOut (Ok act) result = result ≡ Ok (Some act)
+HandsOut (Err e) result = result ≡ Err OutOfMemory
+
 -- the one effect failed, after a part of it
-pub record FailsAt (stop : Stop) (effects : List Effect) (old new : Outside) (before now : Faults) : Type 0 where
+pub record FailsAt (stop : Stop) (effects : List Effect) (old new : Contents) (before now : Faults) : Type 0 where
   pub effect : Effect
   pub one : effects ≡ effect ∷ []
   pub at : StandsFor stop (Unwritable effect)
@@ -83,10 +105,46 @@ pub record FailsAt (stop : Stop) (effects : List Effect) (old new : Outside) (be
 
 -- the readings and the commands come to an end, with the result of the code
 pub record Attempts (words : List (List ℕ)) (result : Result (Unit {0}) Stop)
-    (old new : Outside) (before now : Faults) : Type 0 where
+    (old new : Contents) (before now : Faults) : Type 0 where
   pub end : End
   pub at : IsEnd result end
   pub effects : List Effect
   pub comes : Comes words old.files effects end
   pub leaves : Leaves effects end old new
   pub cause : HasCause end old.files before now
+
+-- ---- the readings, step by step
+
+-- a formula that is served, or the stop at its text
+abbrev pub GivesFormula : Option Groups → Result Groups Stop → Type 0
+GivesFormula reading (Ok formula) = (reading ≡ Some formula) × (formula.variables ≤ 16)
+GivesFormula reading (Err NotYet) = (job : Job) → with_formula job reading ≡ Refuses refusals.NotYet
+GivesFormula reading (Err OutOfMemory) = Unit {0}
+GivesFormula reading (Err stop) = ⊥
+
+-- the text of a vtree file was read, and it is that of this tree
+pub record ReadsTree (told : Option Files) (file : List ℕ) (v : ℕ) (tree : Tree) : Type 0 where
+  pub bytes : List ℕ
+  pub text : IsText told file (Whole bytes)
+  pub reads : vtree_file v bytes ≡ Ok tree
+
+-- the text of a vtree file was read, and has this fault
+pub record ReadsFault (told : Option Files) (file : List ℕ) (v : ℕ) (fault : VtreeFault) : Type 0 where
+  pub bytes : List ℕ
+  pub text : IsText told file (Whole bytes)
+  pub reads : vtree_file v bytes ≡ Err fault
+
+-- why a vtree file gave no tree
+abbrev pub StopsTree : Stop → Option Files → List ℕ → ℕ → ℕ → ℕ → Type 0
+StopsTree (TooLong name) told file v before now = (name ≡ file) × IsText told file LongText
+StopsTree (BadVtree name fault) told file v before now = (name ≡ file) × ReadsFault told file v fault
+StopsTree (ReadFault name) told file v before now = (name ≡ file) × (Lacks told file ⊎ Rose before now)
+StopsTree OutOfMemory told file v before now = Unit {0}
+StopsTree stop told file v before now = ⊥
+
+-- the readings are over at this point: the plan, or the stop there
+abbrev pub PlansAt : Reading → Result CodePlan Stop → Type 0
+PlansAt point (Ok plan) = point ≡ Begins (plan_of plan)
+PlansAt point (Err NotYet) = point ≡ Refuses refusals.NotYet
+PlansAt point (Err OutOfMemory) = Unit {0}
+PlansAt point (Err stop) = ⊥

@@ -1,26 +1,30 @@
 // The commands of a run, and what each does.
-ghost use Rattle.std.specs.Prelude.{◌≡◌, ◌⊎◌, ◌++◌, ◌∷◌, [], ◌<◌, ◌^◌, IfOk, IfErr};
+ghost use Rattle.std.specs.Prelude.{◌≡◌, ◌⊎◌, ◌∷◌, [], IfOk, IfErr};
 ghost use Rattle.sd_model.specs.Seen.{diagram_of};
 ghost use Rattle.sd_model.specs.Size.{size_of};
-ghost use Rattle.sd_model.specs.Text.{sdd_text};
+ghost use Rattle.sd_model.specs.Text.{sdd_text, vtree_text};
+ghost use Rattle.sd_vtree.specs.Numbered.{forget};
 ghost use Rattle.sd_tool.specs.Commands.{Step, Done, size_line};
 ghost use Rattle.sd_tool.specs.Given.{state_seen, IsCompiled};
-ghost use Rattle.sd_tool.specs.Stops.{effects_of, RefusesAt};
+ghost use Rattle.sd_tool.specs.Stops.{effects_of, RefusesAt, HandsOut};
 
 use crate::state::State;
 use crate::stop::Stop;
 use itoa::Buffer;
 use sd_base::{Bytes, Name};
 use sd_model::{size_of, text_of};
+use sd_vfile::write_vtree;
 use std::alloc::{AllocError, Global};
 
 /// A command of a run.
 #[derive(Drop)]
 pub enum Command {
+    /// Writes the text of the vtree to the named file.
+    WriteVtree(Name),
     /// Writes the text of the formula's diagram to the named file.
-    WriteTo(Name),
+    WriteDiagram(Name),
     /// Prints the size of the formula's diagram.
-    Size,
+    PrintSize,
 }
 
 /// What a command does outside.
@@ -41,29 +45,40 @@ pub fn step(alloc: Global, state: &State, command: &Command) -> Result<Option<Ac
         (stop ≡ Stop.OutOfMemory) ⊎ RefusesAt (state_seen state.now) command.now stop) }
 {
     match command {
-        Command::WriteTo(file) => match written(alloc, state, file.as_str()) {
-            Ok(act) => Ok(Some(act)),
-            Err(_) => Err(Stop::OutOfMemory),
-        },
-        Command::Size => match sized(alloc, state) {
-            Ok(act) => Ok(Some(act)),
-            Err(_) => Err(Stop::OutOfMemory),
-        },
+        Command::WriteVtree(file) => or_no_memory(vtree_written(alloc, state, file.as_str())),
+        Command::WriteDiagram(file) => or_no_memory(diagram_written(alloc, state, file.as_str())),
+        Command::PrintSize => or_no_memory(size_printed(alloc, state)),
     }
 }
 
-fn written(alloc: Global, state: &State, file: &str) -> Result<Act, AllocError>
-    ensures { IfOk result (λ act.
-        act ≡ Act.WriteFile file.now (sdd_text (diagram_of state.now.diagram))) }
+// The act, where there was memory for it.
+fn or_no_memory(act: Result<Act, AllocError>) -> Result<Option<Act>, Stop>
+    ensures { HandsOut act result }
+{
+    match act {
+        Ok(act) => Ok(Some(act)),
+        Err(_) => Err(Stop::OutOfMemory),
+    }
+}
+
+fn vtree_written(alloc: Global, state: &State, file: &str) -> Result<Act, AllocError>
+    ensures { IfOk result (λ act. act ≡ Act.WriteFile file.now (vtree_text (forget state.now.vtree))) }
+{
+    let name = Name::copy_of(alloc, file)?;
+    let text = write_vtree(alloc, &state.vtree)?;
+    Ok(Act::WriteFile(name, text))
+}
+
+fn diagram_written(alloc: Global, state: &State, file: &str) -> Result<Act, AllocError>
+    ensures { IfOk result (λ act. act ≡ Act.WriteFile file.now (sdd_text (diagram_of state.now.diagram))) }
 {
     let name = Name::copy_of(alloc, file)?;
     let text = text_of(alloc, &state.diagram)?;
     Ok(Act::WriteFile(name, Bytes::new(text)))
 }
 
-fn sized(alloc: Global, state: &State) -> Result<Act, AllocError>
-    ensures { IfOk result (λ act.
-        act ≡ Act.PrintLine (size_line (size_of (diagram_of state.now.diagram ∷ [])))) }
+fn size_printed(alloc: Global, state: &State) -> Result<Act, AllocError>
+    ensures { IfOk result (λ act. act ≡ Act.PrintLine (size_line (size_of (diagram_of state.now.diagram ∷ [])))) }
 {
     let size = size_of(alloc, &state.diagram)?;
     Ok(Act::PrintLine(size_text(alloc, size)?))

@@ -3,7 +3,7 @@ ghost use Rattle.std.specs.Prelude.{◌≡◌, OnOk, IfErr};
 ghost use Rattle.sd_base.specs.Shelf.{NoFile};
 ghost use Rattle.sd_tool.specs.Effects.{after, after_effect, DoesPart};
 ghost use Rattle.sd_tool.specs.Ends.{Unwritable};
-ghost use Rattle.sd_tool.specs.Devices.{outside, faults, HasCause, NotFewer};
+ghost use Rattle.sd_tool.specs.Devices.{contents, faults, HasCause, NotFewer};
 ghost use Rattle.sd_tool.specs.Stops.{StandsFor, FailsAt, effect_of, effects_of};
 
 use crate::commands::Act;
@@ -18,10 +18,10 @@ pub fn perform_any<F: Shelf, O: Sink>(
 ) -> Result<(), Stop>
     requires { F.hand shelf.old ≡ NoFile }
     ensures hand { F.hand shelf.new ≡ NoFile }
-    ensures ok { OnOk result (outside F.files O.written shelf.new out.new
-        ≡ after (effects_of act) (outside F.files O.written shelf.old out.old)) }
+    ensures ok { OnOk result (contents F.files O.written shelf.new out.new
+        ≡ after (effects_of act) (contents F.files O.written shelf.old out.old)) }
     ensures stop { IfErr result (λ stop. FailsAt stop (effects_of act)
-        (outside F.files O.written shelf.old out.old) (outside F.files O.written shelf.new out.new)
+        (contents F.files O.written shelf.old out.old) (contents F.files O.written shelf.new out.new)
         (faults F.read_faults F.write_faults O.faults shelf.old out.old)
         (faults F.read_faults F.write_faults O.faults shelf.new out.new)) }
     ensures fewer { NotFewer (faults F.read_faults F.write_faults O.faults shelf.old out.old)
@@ -37,10 +37,10 @@ pub fn perform_any<F: Shelf, O: Sink>(
 fn perform<F: Shelf, O: Sink>(shelf: &mut F, out: &mut O, act: Act) -> Result<(), Stop>
     requires { F.hand shelf.old ≡ NoFile }
     ensures hand { F.hand shelf.new ≡ NoFile }
-    ensures ok { OnOk result (outside F.files O.written shelf.new out.new
-        ≡ after_effect (effect_of act) (outside F.files O.written shelf.old out.old)) }
+    ensures ok { OnOk result (contents F.files O.written shelf.new out.new
+        ≡ after_effect (effect_of act) (contents F.files O.written shelf.old out.old)) }
     ensures part { IfErr result (λ stop. DoesPart (effect_of act)
-        (outside F.files O.written shelf.old out.old) (outside F.files O.written shelf.new out.new)) }
+        (contents F.files O.written shelf.old out.old) (contents F.files O.written shelf.new out.new)) }
     ensures stop { IfErr result (λ stop. StandsFor stop (Unwritable (effect_of act))) }
     ensures cause { IfErr result (λ stop. HasCause (Unwritable (effect_of act)) (F.files shelf.old)
         (faults F.read_faults F.write_faults O.faults shelf.old out.old)

@@ -1,13 +1,16 @@
-//! The whole run of the program over a shelf of files and two sinks: the words, the input, and the commands,
-//! which compile the formula, write the text of its diagram and print its size.
+//! The whole run of the program over a shelf of files and two sinks: the words, the input files, and the commands,
+//! which compile the formula, write the texts of its vtree and its diagram, and print its size.
 #![tactic(auto)]
 
 mod commands;
 mod devices;
 mod expansion;
+mod parts;
+mod plan;
 mod reading;
 mod state;
 mod stop;
+mod trees;
 mod whole_run;
 mod words;
 

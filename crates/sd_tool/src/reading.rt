@@ -1,27 +1,23 @@
-// The words and the input, up to the first command.
-ghost use Rattle.std.specs.Prelude.{◌≡◌, ◌≤◌, ◌^◌, Option, Some, IfOk, IfErr, length, map, string_bytes};
+// The words and the input files, up to the first command.
+ghost use Rattle.std.specs.Prelude.{◌≡◌, ◌≤◌, IfOk, IfErr, length, map, string_bytes};
 ghost use Rattle.sd_base.specs.Shelf.{NoFile};
 ghost use Rattle.sd_formula.specs.Plain.{plain_dimacs};
-ghost use Rattle.sd_tool.specs.Given.{plan_of, PlansFor, IsCompiled};
-ghost use Rattle.sd_tool.specs.Readings.{reading_of, ReadsTo, Begins};
-ghost use Rattle.sd_tool.specs.Stops.{StopsReading};
+ghost use Rattle.sd_vtree.specs.Numbered.{forget};
+ghost use Rattle.sd_model.specs.Tree.{leaves};
+ghost use Rattle.sd_tool.specs.Given.{job_seen, plan_of, IsCompiled};
+ghost use Rattle.sd_tool.specs.Readings.{reading_of, ReadsTo, Reads, Begins, with_input, with_tree_word, with_tree};
+ghost use Rattle.sd_tool.specs.Stops.{StopsReading, StopsTree, ReadsTree, GivesFormula, PlansAt};
 
-use crate::commands::Command;
 use crate::expansion::MAX_VARIABLES;
-use crate::state::State;
+use crate::plan::{Plan, plan_for};
 use crate::stop::Stop;
-use crate::words::read_words;
+use crate::trees::{is_right, start_vtree};
+use crate::words::{Job, TreeWord, read_words};
 use sd_base::{Name, ReadError, Shelf, read_all};
 use sd_formula::{Formula, FormulaError, Kind, read_dimacs};
+use sd_vfile::{VtreeFault, read_vtree};
+use sd_vtree::Vtree;
 use std::alloc::Global;
-
-/// What the commands begin with.
-#[derive(Drop)]
-pub struct Plan {
-    pub start: State,
-    /// They are done in this order.
-    pub commands: Vec<Command>,
-}
 
 /// Reads what the words ask for, up to the first command.
 pub fn prepare<F: Shelf>(alloc: Global, words: &[String], shelf: &mut F) -> Result<Plan, Stop>
@@ -39,46 +35,128 @@ pub fn prepare<F: Shelf>(alloc: Global, words: &[String], shelf: &mut F) -> Resu
     let Some(job) = read_words(words) else {
         return Err(Stop::NotYet);
     };
+    match read_formula(alloc, &job, shelf) {
+        Ok(formula) => plan_with(alloc, &job, formula, shelf),
+        Err(stop) => Err(stop),
+    }
+}
+
+// The formula of the job's input.
+fn read_formula<F: Shelf>(alloc: Global, job: &Job<'_>, shelf: &mut F) -> Result<Formula, Stop>
+    requires { F.hand shelf.old ≡ NoFile }
+    ensures hand { F.hand shelf.new ≡ NoFile }
+    ensures files { F.files shelf.new ≡ F.files shelf.old }
+    ensures read_faults { F.read_faults shelf.old ≤ F.read_faults shelf.new }
+    ensures write_faults { F.write_faults shelf.new ≡ F.write_faults shelf.old }
+    ensures ok { IfOk result (λ formula. ReadsTo (F.files shelf.old)
+        (Reads (job_seen job.now).input (with_input (job_seen job.now)))
+        (with_tree_word (job_seen job.now) formula (job_seen job.now).tree)) }
+    ensures few { IfOk result (λ formula. formula.variables ≤ 16) }
+    ensures stop { IfErr result (λ stop. StopsReading stop (F.files shelf.old)
+        (Reads (job_seen job.now).input (with_input (job_seen job.now)))
+        (F.read_faults shelf.old) (F.read_faults shelf.new)) }
+{
     let Ok(input) = Name::copy_of(alloc, job.input) else {
         return Err(Stop::OutOfMemory);
     };
     match read_all(alloc, shelf, input.as_str()) {
-        Ok(bytes) => plan_of_text(alloc, job.output, bytes.as_slice()),
+        Ok(bytes) => formula_of(alloc, bytes.as_slice()),
         Err(ReadError::ReadFault) => Err(Stop::ReadFault(input)),
         Err(ReadError::TooLong) => Err(Stop::NotYet),
         Err(ReadError::OutOfMemory) => Err(Stop::OutOfMemory),
     }
 }
 
-// The plan for an input.
-fn plan_of_text(alloc: Global, output: &str, bytes: &[u8]) -> Result<Plan, Stop>
+// The formula of a text.
+fn formula_of(alloc: Global, bytes: &[u8]) -> Result<Formula, Stop>
     requires { length bytes.now ≤ 67108864 }
-    ensures plan { PlansFor output.now (plain_dimacs Kind.Cnf bytes.now) result }
-    ensures compiled { IfOk result (λ plan. IsCompiled plan.start) }
+    ensures { GivesFormula (plain_dimacs Kind.Cnf bytes.now) result }
 {
     match read_dimacs(alloc, bytes, Kind::Cnf) {
-        Ok(formula) => plan_of_formula(alloc, output, formula),
+        Ok(formula) if formula.variables() as usize > MAX_VARIABLES => Err(Stop::NotYet),
+        Ok(formula) => Ok(formula),
         Err(FormulaError::NotYet) => Err(Stop::NotYet),
         Err(FormulaError::OutOfMemory) => Err(Stop::OutOfMemory),
     }
 }
 
-// The plan for an accepted formula.
-fn plan_of_formula(alloc: Global, output: &str, formula: Formula) -> Result<Plan, Stop>
-    ensures plan { PlansFor output.now (Some formula) result }
+// The plan for a formula, with the vtree of the words.
+fn plan_with<F: Shelf>(
+    alloc: Global,
+    job: &Job<'_>,
+    formula: Formula,
+    shelf: &mut F,
+) -> Result<Plan, Stop>
+    requires hand { F.hand shelf.old ≡ NoFile }
+    requires few { formula.variables ≤ 16 }
+    ensures hand { F.hand shelf.new ≡ NoFile }
+    ensures files { F.files shelf.new ≡ F.files shelf.old }
+    ensures read_faults { F.read_faults shelf.old ≤ F.read_faults shelf.new }
+    ensures write_faults { F.write_faults shelf.new ≡ F.write_faults shelf.old }
+    ensures ok { IfOk result (λ plan. ReadsTo (F.files shelf.old)
+        (with_tree_word (job_seen job.now) formula (job_seen job.now).tree) (Begins (plan_of plan))) }
+    ensures compiled { IfOk result (λ plan. IsCompiled plan.start) }
+    ensures stop { IfErr result (λ stop. StopsReading stop (F.files shelf.old)
+        (with_tree_word (job_seen job.now) formula (job_seen job.now).tree)
+        (F.read_faults shelf.old) (F.read_faults shelf.new)) }
+{
+    match job.tree {
+        TreeWord::Start(shape) => match start_vtree(alloc, shape, formula.variables()) {
+            Ok(vtree) => plan_over(alloc, job, formula, vtree),
+            Err(_) => Err(Stop::OutOfMemory),
+        },
+        TreeWord::File(file) => match read_tree(alloc, file, formula.variables(), shelf) {
+            Ok(vtree) => plan_over(alloc, job, formula, vtree),
+            Err(stop) => Err(stop),
+        },
+    }
+}
+
+// The plan for a formula and a vtree, where the vtree is served.
+fn plan_over(alloc: Global, job: &Job<'_>, formula: Formula, vtree: Vtree) -> Result<Plan, Stop>
+    requires { formula.variables ≤ 16 }
+    ensures plan { PlansAt (with_tree (job_seen job.now) formula (forget vtree)) result }
     ensures compiled { IfOk result (λ plan. IsCompiled plan.start) }
 {
-    if formula.variables() as usize > MAX_VARIABLES {
-        return Err(Stop::NotYet);
+    match is_right(alloc, &vtree, formula.variables()) {
+        Ok(true) => match plan_for(alloc, job, formula, vtree) {
+            Ok(plan) => Ok(plan),
+            Err(_) => Err(Stop::OutOfMemory),
+        },
+        Ok(false) => Err(Stop::NotYet),
+        Err(_) => Err(Stop::OutOfMemory),
     }
-    let Ok(file) = Name::copy_of(alloc, output) else {
+}
+
+// The vtree of a file, over so many variables.
+fn read_tree<F: Shelf>(
+    alloc: Global,
+    file: &str,
+    variables: u32,
+    shelf: &mut F,
+) -> Result<Vtree, Stop>
+    requires hand { F.hand shelf.old ≡ NoFile }
+    requires some { 1 ≤ variables }
+    requires few { variables ≤ 1024 }
+    ensures hand { F.hand shelf.new ≡ NoFile }
+    ensures files { F.files shelf.new ≡ F.files shelf.old }
+    ensures read_faults { F.read_faults shelf.old ≤ F.read_faults shelf.new }
+    ensures write_faults { F.write_faults shelf.new ≡ F.write_faults shelf.old }
+    ensures ok { IfOk result (λ vtree. ReadsTree (F.files shelf.old) file.now variables (forget vtree)) }
+    ensures stop { IfErr result (λ stop. StopsTree stop (F.files shelf.old) file.now variables
+        (F.read_faults shelf.old) (F.read_faults shelf.new)) }
+{
+    let Ok(name) = Name::copy_of(alloc, file) else {
         return Err(Stop::OutOfMemory);
     };
-    let Ok(commands) = vec![in alloc; Command::WriteTo(file), Command::Size] else {
-        return Err(Stop::OutOfMemory);
-    };
-    let Ok(start) = State::new(alloc, formula) else {
-        return Err(Stop::OutOfMemory);
-    };
-    Ok(Plan { start, commands })
+    match read_all(alloc, shelf, name.as_str()) {
+        Ok(bytes) => match read_vtree(alloc, bytes.as_slice(), variables) {
+            Ok(vtree) => Ok(vtree),
+            Err(VtreeFault::OutOfMemory) => Err(Stop::OutOfMemory),
+            Err(fault) => Err(Stop::BadVtree(name, fault)),
+        },
+        Err(ReadError::ReadFault) => Err(Stop::ReadFault(name)),
+        Err(ReadError::TooLong) => Err(Stop::TooLong(name)),
+        Err(ReadError::OutOfMemory) => Err(Stop::OutOfMemory),
+    }
 }

@@ -7,6 +7,9 @@ use crate::run;
 use sd_base::{Bytes, MemoryShelf, MemorySink, Name, NamedBytes, PlannedFault, ShelfCall};
 use std::alloc::{AllocError, Global};
 use std::test::Fail;
+use std::thread::Threads;
+
+mod vtrees;
 
 const SIX: [&str; 6] = ["--cnf", "in", "--start", "right", "--out-sdd", "out"];
 
@@ -87,24 +90,47 @@ fn other_inputs_are_not_served_yet(rt: HostRuntime) -> Result<(), Fail> {
     Ok(())
 }
 
+// Whether a run of these words ends as not served, with nothing written.
+fn is_not_served(
+    rt: &(impl Threads + Sync),
+    alloc: Global,
+    all: &[&str],
+) -> Result<bool, AllocError> {
+    let words = words_of(alloc, all)?;
+    let mut files = shelf_of(alloc, A_CLAUSE, Vec::new(alloc))?;
+    let mut out = MemorySink::new(alloc, Vec::new(alloc));
+    let mut err = MemorySink::new(alloc, Vec::new(alloc));
+    let status = run(rt, alloc, &words, &mut files, &mut out, &mut err);
+    Ok(
+        status == 9
+            && files.bytes_of("out").is_none()
+            && err.bytes() == b"sddc: not yet\n".as_slice(),
+    )
+}
+
 #[test]
 fn other_words_are_not_served_yet(rt: HostRuntime) -> Result<(), Fail> {
-    let alloc = rt.alloc();
     let table = [
         ["--dnf", "in", "--start", "right", "--out-sdd", "out"],
         ["--cnf", "", "--start", "right", "--out-sdd", "out"],
-        ["--cnf", "in", "--start", "left", "--out-sdd", "out"],
+        ["--cnf", "in", "--start", "round", "--out-sdd", "out"],
         ["--cnf", "in", "--start", "right", "--out-sdd", ""],
     ];
     for all in table {
-        let words = words_of(alloc, &all)?;
-        let mut files = shelf_of(alloc, A_CLAUSE, Vec::new(alloc))?;
-        let mut out = MemorySink::new(alloc, Vec::new(alloc));
-        let mut err = MemorySink::new(alloc, Vec::new(alloc));
-        let status = run(&rt, alloc, &words, &mut files, &mut out, &mut err);
-        assert_eq!(rt; status, 9, "{all:?}");
-        assert!(rt; files.bytes_of("out").is_none(), "{all:?}");
-        assert_eq!(rt; err.bytes(), b"sddc: not yet\n".as_slice(), "{all:?}");
+        assert!(rt; is_not_served(&rt, rt.alloc(), &all)?, "{all:?}");
+    }
+    Ok(())
+}
+
+#[test]
+fn words_in_another_order_are_not_served_yet(rt: HostRuntime) -> Result<(), Fail> {
+    let table = [
+        ["--cnf", "in", "--out-sdd", "out", "--start", "right"],
+        ["--cnf", "in", "--start", "right", "--vtree", "out"],
+        ["--cnf", "in", "--out-vtree", "out", "--out-sdd", "out"],
+    ];
+    for all in table {
+        assert!(rt; is_not_served(&rt, rt.alloc(), &all)?, "{all:?}");
     }
     Ok(())
 }
@@ -182,5 +208,22 @@ fn a_failure_of_err_changes_no_status(rt: HostRuntime) -> Result<(), Fail> {
     let status = run(&rt, alloc, &words, &mut files, &mut out, &mut err);
     assert_eq!(rt; status, 9);
     assert_eq!(rt; err.bytes(), b"sddc: ".as_slice());
+    Ok(())
+}
+
+#[test]
+fn a_long_input_is_not_served_yet(rt: HostRuntime) -> Result<(), Fail> {
+    let alloc = rt.alloc();
+    let words = words_of(alloc, &SIX)?;
+    let file = NamedBytes {
+        name: Name::copy_of(alloc, "in")?,
+        bytes: Bytes::new(vec![in alloc; b'0'; 67_108_865]?),
+    };
+    let mut files = MemoryShelf::new(alloc, vec![in alloc; file]?, 32, Vec::new(alloc));
+    let mut out = MemorySink::new(alloc, Vec::new(alloc));
+    let mut err = MemorySink::new(alloc, Vec::new(alloc));
+    let status = run(&rt, alloc, &words, &mut files, &mut out, &mut err);
+    assert_eq!(rt; status, 9);
+    assert_eq!(rt; err.bytes(), b"sddc: not yet\n".as_slice());
     Ok(())
 }

@@ -1,7 +1,7 @@
 // The whole run: its readings, its commands, and the line of its end.
 ghost use Rattle.std.specs.Prelude.{◌≡◌, map, string_bytes};
 ghost use Rattle.sd_base.specs.Shelf.{NoFile};
-ghost use Rattle.sd_tool.specs.Devices.{outside, faults, moment, NotFewer};
+ghost use Rattle.sd_tool.specs.Devices.{contents, faults, between, NotFewer};
 ghost use Rattle.sd_tool.specs.Given.{state_seen, IsCompiled};
 ghost use Rattle.sd_tool.specs.Headline.{Went, HasEffects, HasLine, HasEnd, IsComplete};
 ghost use Rattle.sd_tool.specs.Stops.{GoesOn, Attempts};
@@ -9,16 +9,18 @@ ghost use Rattle.sd_tool.specs.Written.{HasWritten, HasEqualTexts};
 
 use crate::commands::{Command, step};
 use crate::devices::perform_any;
+use crate::parts::write_line;
 use crate::reading::prepare;
 use crate::state::State;
-use crate::stop::{Stop, report};
+use crate::stop::Stop;
 use sd_base::{Shelf, Sink};
 use std::alloc::Global;
 use std::thread::Threads;
 
 /// Runs the program with these words over a shelf of files, and answers its status:
-/// 0 where all was done, 5 where the input was not read, 6 where the output or the printed line was not written,
-/// 7 where memory ran out, and 9 where the words or the input are not served yet.
+/// 0 where all was done, 2 where the vtree file is refused, 5 where an input was not read, 6 where an output or the
+/// printed line was not written, 7 where memory ran out, and 9 where the words, the formula or the vtree are not
+/// served yet.
 /// At every status but 0 the one line that says so is written to `err`.
 pub fn run<R: Threads + Sync, F: Shelf, O: Sink, E: Sink>(
     _rt: &R,
@@ -30,39 +32,20 @@ pub fn run<R: Threads + Sync, F: Shelf, O: Sink, E: Sink>(
 ) -> u8
     requires { F.hand shelf.old ≡ NoFile }
     ensures hand { F.hand shelf.new ≡ NoFile }
-
-    // The run has a course: what it did, how it ended, the status and the line are of one piece.
-    ensures course { Went (map string_bytes words.now) result
-        (moment F.files F.read_faults F.write_faults O.written O.faults E.written E.faults shelf.old out.old err.old)
-        (moment F.files F.read_faults F.write_faults O.written O.faults E.written E.faults shelf.new out.new err.new) }
-
-    // What was done outside at each status.
-    ensures effects { HasEffects (map string_bytes words.now) result
-        (outside F.files O.written shelf.old out.old) (outside F.files O.written shelf.new out.new) }
-
-    // The one line on `err`.
-    ensures line { HasLine result
-        (moment F.files F.read_faults F.write_faults O.written O.faults E.written E.faults shelf.old out.old err.old)
-        (moment F.files F.read_faults F.write_faults O.written O.faults E.written E.faults shelf.new out.new err.new) }
-
-    // When each status comes.
-    ensures ends { HasEnd (map string_bytes words.now) result
-        (moment F.files F.read_faults F.write_faults O.written O.faults E.written E.faults shelf.old out.old err.old)
-        (moment F.files F.read_faults F.write_faults O.written O.faults E.written E.faults shelf.new out.new err.new) }
-
-    // Where these words and files lead to an end of their own, and neither the shelf nor `out` fails, the run comes
-    // to it, or there is no memory.
-    ensures complete { IsComplete (map string_bytes words.now) result
-        (moment F.files F.read_faults F.write_faults O.written O.faults E.written E.faults shelf.old out.old err.old)
-        (moment F.files F.read_faults F.write_faults O.written O.faults E.written E.faults shelf.new out.new err.new) }
-
-    // What the written file is.
-    ensures written { HasWritten (map string_bytes words.now) result
-        (outside F.files O.written shelf.old out.old) (outside F.files O.written shelf.new out.new) }
-
-    // Equal texts are one function.
-    ensures equal_texts { HasEqualTexts (map string_bytes words.now) result
-        (outside F.files O.written shelf.old out.old) (outside F.files O.written shelf.new out.new) }
+    ensures course { between F.files F.read_faults F.write_faults O.written O.faults E.written E.faults
+        shelf.old out.old err.old shelf.new out.new err.new (Went (map string_bytes words.now) result) }
+    ensures effects { between F.files F.read_faults F.write_faults O.written O.faults E.written E.faults
+        shelf.old out.old err.old shelf.new out.new err.new (HasEffects (map string_bytes words.now) result) }
+    ensures line { between F.files F.read_faults F.write_faults O.written O.faults E.written E.faults
+        shelf.old out.old err.old shelf.new out.new err.new (HasLine result) }
+    ensures ends { between F.files F.read_faults F.write_faults O.written O.faults E.written E.faults
+        shelf.old out.old err.old shelf.new out.new err.new (HasEnd (map string_bytes words.now) result) }
+    ensures complete { between F.files F.read_faults F.write_faults O.written O.faults E.written E.faults
+        shelf.old out.old err.old shelf.new out.new err.new (IsComplete (map string_bytes words.now) result) }
+    ensures written { between F.files F.read_faults F.write_faults O.written O.faults E.written E.faults
+        shelf.old out.old err.old shelf.new out.new err.new (HasWritten (map string_bytes words.now) result) }
+    ensures equal_texts { between F.files F.read_faults F.write_faults O.written O.faults E.written E.faults
+        shelf.old out.old err.old shelf.new out.new err.new (HasEqualTexts (map string_bytes words.now) result) }
 {
     conduct(alloc, words, shelf, out, err)
 }
@@ -77,14 +60,13 @@ fn conduct<F: Shelf, O: Sink, E: Sink>(
 ) -> u8
     requires { F.hand shelf.old ≡ NoFile }
     ensures hand { F.hand shelf.new ≡ NoFile }
-    ensures course { Went (map string_bytes words.now) result
-        (moment F.files F.read_faults F.write_faults O.written O.faults E.written E.faults shelf.old out.old err.old)
-        (moment F.files F.read_faults F.write_faults O.written O.faults E.written E.faults shelf.new out.new err.new) }
+    ensures course { between F.files F.read_faults F.write_faults O.written O.faults E.written E.faults
+        shelf.old out.old err.old shelf.new out.new err.new (Went (map string_bytes words.now) result) }
 {
     match attempt(alloc, words, shelf, out) {
         Ok(()) => 0,
         Err(stop) => {
-            report(err, &stop);
+            write_line(err, &stop.parts());
             stop.status()
         }
     }
@@ -100,7 +82,7 @@ fn attempt<F: Shelf, O: Sink>(
     requires { F.hand shelf.old ≡ NoFile }
     ensures hand { F.hand shelf.new ≡ NoFile }
     ensures ends { Attempts (map string_bytes words.now) result
-        (outside F.files O.written shelf.old out.old) (outside F.files O.written shelf.new out.new)
+        (contents F.files O.written shelf.old out.old) (contents F.files O.written shelf.new out.new)
         (faults F.read_faults F.write_faults O.faults shelf.old out.old)
         (faults F.read_faults F.write_faults O.faults shelf.new out.new) }
 {
@@ -124,7 +106,7 @@ fn do_all<F: Shelf, O: Sink>(
     ensures fewer { NotFewer (faults F.read_faults F.write_faults O.faults shelf.old out.old)
         (faults F.read_faults F.write_faults O.faults shelf.new out.new) }
     ensures goes { GoesOn (state_seen state.now) commands.now result
-        (outside F.files O.written shelf.old out.old) (outside F.files O.written shelf.new out.new)
+        (contents F.files O.written shelf.old out.old) (contents F.files O.written shelf.new out.new)
         (faults F.read_faults F.write_faults O.faults shelf.old out.old)
         (faults F.read_faults F.write_faults O.faults shelf.new out.new) }
 {

@@ -1,5 +1,7 @@
-use Rattle.std.proofs.Common.{map, string_bytes, ap}
-use Rattle.sd_tool.proofs.EndLemmas.{reading_stops}
+use Rattle.std.proofs.Common.{map, string_bytes, ap, arith}
+use Rattle.sd_tool.specs.Devices.{faults, NotFewer}
+use Rattle.sd_tool.specs.Given.{plan_of}
+use Rattle.sd_tool.proofs.EndLemmas.{reading_stops, commands_go}
 use Rattle.sd_tool.proofs.whole_run.attempt.Goals as goal
 
 pub returns-in-Err-clause-ends : goal.returns-in-Err-clause-ends
@@ -7,3 +9,18 @@ returns-in-Err-clause-ends g c =
     reading_stops (map string_bytes c.args.words.now) c.in-Err.stop _ _ _ _
     (ap (λ files. record { files = files; printed = g.O.Sink.written c.args.out.now }) c.in-Err.ensures.files)
     c.in-Err.ensures.stop
+
+pub returns-in-Ok-clause-ends : goal.returns-in-Ok-clause-ends
+returns-in-Ok-clause-ends g c =
+    let first = faults g.F.Shelf.read_faults g.F.Shelf.write_faults g.O.Sink.faults c.args.shelf.now c.args.out.now in
+    let before =
+    faults g.F.Shelf.read_faults g.F.Shelf.write_faults g.O.Sink.faults c.prepare.new.shelf c.args.out.now in
+    let fewer : NotFewer first before = record {
+      read = c.in-Ok.ensures.read_faults;
+      write = omega (arith, c.in-Ok.ensures.write_faults);
+      print = omega arith;
+    } in
+    commands_go (map string_bytes c.args.words.now) (plan_of c.in-Ok.plan) c.deref.result.now c.do_all.result
+    _ _ _ first before _ c.in-Ok.ensures.ok
+    (ap (λ files. record { files = files; printed = g.O.Sink.written c.args.out.now }) c.in-Ok.ensures.files)
+    fewer c.deref.ensures.value c.do_all.ensures.goes

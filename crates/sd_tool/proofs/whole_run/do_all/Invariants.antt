@@ -1,6 +1,6 @@
 use Rattle.std.proofs.Common.{◌≡◌}
 use Rattle.sd_base.specs.Shelf.{NoFile}
-use Rattle.sd_tool.specs.Devices.{outside, faults, NotFewer}
+use Rattle.sd_tool.specs.Devices.{contents, faults, NotFewer}
 use Rattle.sd_tool.specs.Given.{state_seen}
 use Rattle.sd_tool.proofs.StepLemmas.{SoFar}
 use Rattle.sd_tool.proofs.whole_run.do_all.Given as goal
@@ -9,8 +9,8 @@ abbrev pub invariant-loop-command : goal.invariant-loop-command
 invariant-loop-command g l = record {
   hand : g.F.Shelf.hand l.shelf ≡ NoFile;
   so_far : SoFar (state_seen l.fn.state) l.commands l.command-index
-      (outside g.F.Shelf.files g.O.Sink.written l.fn.shelf l.fn.out)
-      (outside g.F.Shelf.files g.O.Sink.written l.shelf l.out);
+      (contents g.F.Shelf.files g.O.Sink.written l.fn.shelf l.fn.out)
+      (contents g.F.Shelf.files g.O.Sink.written l.shelf l.out);
   fewer : NotFewer
       (faults g.F.Shelf.read_faults g.F.Shelf.write_faults g.O.Sink.faults l.fn.shelf l.fn.out)
       (faults g.F.Shelf.read_faults g.F.Shelf.write_faults g.O.Sink.faults l.shelf l.out);

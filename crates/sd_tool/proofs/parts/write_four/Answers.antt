@@ -1,6 +1,6 @@
 use Rattle.std.proofs.Common.{◌++◌}
-use Rattle.sd_tool.proofs.Parts.{part_of_first, part_of_second, then_second}
-use Rattle.sd_tool.proofs.stop.write_parts.Goals as goal
+use Rattle.sd_tool.proofs.PartLemmas.{part_of_first, part_of_second, then_second}
+use Rattle.sd_tool.proofs.parts.write_four.Goals as goal
 
 pub returns-in_default-write_all-clause-err : goal.returns-in_default-write_all-clause-err
 returns-in_default-write_all-clause-err g c =

@@ -1,5 +1,9 @@
 -- Texts that are written part by part.
-use Rattle.std.proofs.Common.{◌≡◌, ℕ, List, ◌++◌, Option, Some, None, refl, sym, ap, ◌∙◌, append_assoc}
+use Rattle.std.proofs.Common.{◌≡◌, ℕ, List, [], ◌∷◌, ◌++◌, Option, Some, None, refl, sym, ap, ◌∙◌, append_assoc}
+use Rattle.std.specs.Prelude.{codes}
+use Rattle.sd_tool.specs.Ends.{line_of}
+use Rattle.sd_tool.specs.Parts.{parts_text, number_seen}
+use Rattle.sd_tool.specs.declared.parts.Parts.{Parts}
 use Rattle.sd_base.specs.Sink.{told_then, AppendsPart}
 
 -- one text after another
@@ -32,3 +36,20 @@ pub then_second : (old mid new : Option (List ℕ)) (a b : List ℕ) → mid ≡
     → new ≡ told_then mid b → new ≡ told_then old (a ++ b)
 then_second old mid new a b first second =
     second ∙ ap (λ told. told_then told b) first ∙ told_then_then old a b
+
+-- the line of parts, in the two halves in which it is written
+pub two_halves : (start s b f m g a end : List ℕ)
+    → (start ++ s ++ b ++ f) ++ (m ++ g ++ a ++ end) ≡ start ++ (s ++ b ++ f ++ m ++ g ++ a) ++ end
+two_halves start s b f m g a end = simp append_assoc
+
+-- the same with the digits of the numbers
+pub line_is : (p : Parts) (f g : List ℕ) → f ≡ number_seen p.first → g ≡ number_seen p.second
+    → (codes "sddc: " ++ p.subject.now ++ p.before.now ++ f) ++ (p.between.now ++ g ++ p.after.now ++ 10 ∷ [])
+    ≡ line_of (parts_text p)
+line_is p f g first second =
+    ap (λ (l : List ℕ). (codes "sddc: " ++ p.subject.now ++ p.before.now ++ l)
+    ++ (p.between.now ++ g ++ p.after.now ++ 10 ∷ [])) first
+    ∙ ap (λ (l : List ℕ). (codes "sddc: " ++ p.subject.now ++ p.before.now ++ number_seen p.first)
+    ++ (p.between.now ++ l ++ p.after.now ++ 10 ∷ [])) second
+    ∙ two_halves (codes "sddc: ") p.subject.now p.before.now (number_seen p.first) p.between.now
+    (number_seen p.second) p.after.now (10 ∷ [])

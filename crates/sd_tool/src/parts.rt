@@ -1,0 +1,164 @@
+// A line of text in parts, of which two may be numbers. It is written without memory, so that want of memory can't
+// come between a status and its line.
+ghost use Rattle.std.specs.Prelude.{◌≡◌, ◌≤◌, ◌++◌, OnOk, OnErr, codes};
+ghost use Rattle.sd_base.specs.Faults.{Rose};
+ghost use Rattle.sd_base.specs.Sink.{told_then, AppendsPart};
+ghost use Rattle.sd_model.specs.Text.{number_text};
+ghost use Rattle.sd_tool.specs.Devices.{Says};
+ghost use Rattle.sd_tool.specs.Ends.{line_of};
+ghost use Rattle.sd_tool.specs.Parts.{parts_text, number_seen};
+ghost use Rattle.sd_tool.specs.Refusals.{at_line};
+
+use itoa::Buffer;
+use sd_base::{Sink, WriteFault, write_all};
+
+/// What a line is about, and what it says of it: texts, and perhaps one number or two between them.
+#[derive(Clone, Copy, Debug)]
+pub struct Parts<'a> {
+    pub subject: &'a [u8],
+    pub before: &'static [u8],
+    pub first: Option<u64>,
+    pub between: &'static [u8],
+    pub second: Option<u64>,
+    pub after: &'static [u8],
+}
+
+/// A text without numbers.
+pub fn plain<'a>(subject: &'a [u8], text: &'static [u8]) -> Parts<'a>
+    ensures { parts_text result ≡ subject.now ++ text.now }
+{
+    Parts {
+        subject,
+        before: text,
+        first: None,
+        between: b"",
+        second: None,
+        after: b"",
+    }
+}
+
+/// A text with one number.
+pub fn numbered<'a>(
+    subject: &'a [u8],
+    before: &'static [u8],
+    number: u64,
+    after: &'static [u8],
+) -> Parts<'a>
+    ensures { parts_text result ≡ subject.now ++ before.now ++ number_text number ++ after.now }
+{
+    Parts {
+        subject,
+        before,
+        first: Some(number),
+        between: after,
+        second: None,
+        after: b"",
+    }
+}
+
+/// A fault of a line of this file.
+pub fn at_line<'a>(file: &'a [u8], line: u32, text: &'static [u8]) -> Parts<'a>
+    ensures { parts_text result ≡ file.now ++ at_line line text.now }
+{
+    numbered(file, b": line ", u64::from(line), text)
+}
+
+/// Two numbers of this file that differ.
+pub fn counts(file: &[u8], stated: u64, found: u64) -> Parts<'_>
+    ensures { parts_text result
+        ≡ file.now ++ (codes ": " ++ number_text stated ++ codes " stated, " ++ number_text found ++ codes " found") }
+{
+    Parts {
+        subject: file,
+        before: b": ",
+        first: Some(stated),
+        between: b" stated, ",
+        second: Some(found),
+        after: b" found",
+    }
+}
+
+/// Writes the line of these parts, as far as it goes.
+pub fn write_line<E: Sink>(err: &mut E, parts: &Parts<'_>)
+    ensures { Says (line_of (parts_text parts.now))
+        (E.written err.old) (E.written err.new) (E.faults err.old) (E.faults err.new) }
+{
+    let mut first = Buffer::new();
+    let mut second = Buffer::new();
+    let _ = write_text(
+        err,
+        parts,
+        digits(&mut first, parts.first),
+        digits(&mut second, parts.second),
+    );
+}
+
+// A number in decimal, if it is there.
+fn digits(buffer: &mut Buffer, number: Option<u64>) -> &[u8]
+    ensures { result.now ≡ number_seen number }
+{
+    match number {
+        Some(number) => number_digits(buffer, number),
+        None => b"",
+    }
+}
+
+fn number_digits(buffer: &mut Buffer, number: u64) -> &[u8]
+    ensures { result.now ≡ number_text number }
+{
+    buffer.format(number).as_bytes()
+}
+
+// Writes the line of these parts, whose numbers have these digits.
+fn write_text<E: Sink>(
+    err: &mut E,
+    parts: &Parts<'_>,
+    first: &[u8],
+    second: &[u8],
+) -> Result<(), WriteFault>
+    requires first { first.now ≡ number_seen parts.now.first }
+    requires second { second.now ≡ number_seen parts.now.second }
+    ensures ok { OnOk result (E.written err.new ≡ told_then (E.written err.old) (line_of (parts_text parts.now))) }
+    ensures err { OnErr result
+        (AppendsPart (E.written err.old) (line_of (parts_text parts.now)) (E.written err.new)) }
+    ensures cause { OnErr result (Rose (E.faults err.old) (E.faults err.new)) }
+    ensures faults { E.faults err.old ≤ E.faults err.new }
+{
+    let Ok(()) = write_four(err, b"sddc: ", parts.subject, parts.before, first) else {
+        return Err(WriteFault);
+    };
+    match write_four(err, parts.between, second, parts.after, b"\n") {
+        Ok(()) => Ok(()),
+        Err(_) => Err(WriteFault),
+    }
+}
+
+// Writes one after another.
+fn write_four<E: Sink>(
+    err: &mut E,
+    a: &[u8],
+    b: &[u8],
+    c: &[u8],
+    d: &[u8],
+) -> Result<(), WriteFault>
+    ensures ok { OnOk result (E.written err.new
+        ≡ told_then (E.written err.old) (a.now ++ b.now ++ c.now ++ d.now)) }
+    ensures err { OnErr result
+        (AppendsPart (E.written err.old) (a.now ++ b.now ++ c.now ++ d.now) (E.written err.new)) }
+    ensures cause { OnErr result (Rose (E.faults err.old) (E.faults err.new)) }
+    ensures faults { E.faults err.old ≤ E.faults err.new }
+{
+    let Ok(()) = write_all(err, a) else {
+        return Err(WriteFault);
+    };
+    let Ok(()) = write_all(err, b) else {
+        return Err(WriteFault);
+    };
+    let Ok(()) = write_all(err, c) else {
+        return Err(WriteFault);
+    };
+    match write_all(err, d) {
+        Ok(()) => Ok(()),
+        Err(_) => Err(WriteFault),
+    }
+}

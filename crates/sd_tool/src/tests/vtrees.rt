@@ -1,0 +1,146 @@
+// Runs with vtree files and start shapes.
+ghost use Rattle.std.specs.Prelude.{◌≡◌, IfOk};
+ghost use Rattle.sd_base.specs.Shelf.{NoFile};
+ghost use Rattle.sd_base.specs.MemoryShown.{memory_hand};
+
+use super::words_of;
+use crate::run;
+use sd_base::{Bytes, MemoryShelf, MemorySink, Name, NamedBytes, PlannedFault, ShelfCall};
+use std::alloc::{AllocError, Global};
+use std::test::Fail;
+
+const NO_CLAUSES: &str = "p cnf 2 0\n";
+
+const SHAPE: &str = "vtree 3\nL 0 1\nL 2 2\nI 1 0 2\n";
+
+fn file_of(alloc: Global, name: &str, text: &str) -> Result<NamedBytes, AllocError> {
+    Ok(NamedBytes {
+        name: Name::copy_of(alloc, name)?,
+        bytes: Bytes::new(text.as_bytes().to_vec(alloc)?),
+    })
+}
+
+// A shelf with the files `in` and `tree`.
+fn shelf_of(
+    alloc: Global,
+    text: &str,
+    tree: &str,
+    planned: Vec<PlannedFault>,
+) -> Result<MemoryShelf, AllocError>
+    ensures { IfOk result (λ shelf. memory_hand shelf ≡ NoFile) }
+{
+    let mut files = Vec::new(alloc);
+    files.push(file_of(alloc, "in", text)?)?;
+    files.push(file_of(alloc, "tree", tree)?)?;
+    Ok(MemoryShelf::new(alloc, files, 32, planned))
+}
+
+#[test]
+fn vtree_files_are_read_and_written(rt: HostRuntime) -> Result<(), Fail> {
+    let alloc = rt.alloc();
+    let wrong = "sddc: tree: line 3: variable wrong\n";
+    let table = [
+        ("c a comment\nvtree 3\nL 2 1\nL 0 2\nI 1 2 0\n", 0, "", true),
+        ("vtree 3\nL 0 1\nL 1 1\nI 2 0 1\n", 2, wrong, false),
+        ("vtree 3\nL 7 1\nL 9 2\nI 20 7 9\n", 0, "", true),
+        ("vtree 0\n", 2, "sddc: tree: 0 roots\n", false),
+        ("", 2, "sddc: tree: no header\n", false),
+        (
+            "vtree 4\nL 0 1\n",
+            2,
+            "sddc: tree: 4 stated, 1 found\n",
+            false,
+        ),
+        (
+            "vtree 1\nL 0 2\n",
+            2,
+            "sddc: tree: variable missing: 1\n",
+            false,
+        ),
+        (
+            "vtree 3\nL 0 2\nL 1 1\nI 2 0 1\n",
+            9,
+            "sddc: not yet\n",
+            false,
+        ),
+    ];
+    for (tree, status, line, written) in table {
+        let words = words_of(
+            alloc,
+            &["--cnf", "in", "--vtree", "tree", "--out-vtree", "shape"],
+        )?;
+        let mut files = shelf_of(alloc, NO_CLAUSES, tree, Vec::new(alloc))?;
+        let mut out = MemorySink::new(alloc, Vec::new(alloc));
+        let mut err = MemorySink::new(alloc, Vec::new(alloc));
+        let answer = run(&rt, alloc, &words, &mut files, &mut out, &mut err);
+        assert_eq!(rt; answer, status, "{tree}");
+        assert_eq!(rt; err.bytes(), line.as_bytes(), "{tree}");
+        let shape = if written {
+            Some(SHAPE.as_bytes())
+        } else {
+            None
+        };
+        assert!(rt; files.bytes_of("shape") == shape, "{tree}");
+        let printed = if written { "size 0\n" } else { "" };
+        assert_eq!(rt; out.bytes(), printed.as_bytes(), "{tree}");
+    }
+    Ok(())
+}
+
+#[test]
+fn shapes_that_are_the_right_tree_are_served(rt: HostRuntime) -> Result<(), Fail> {
+    let alloc = rt.alloc();
+    let three = "p cnf 3 0\n";
+    let table = [
+        (NO_CLAUSES, "balanced", 0),
+        (three, "balanced", 0),
+        ("p cnf 4 0\n", "balanced", 9),
+        (NO_CLAUSES, "left", 0),
+        (three, "left", 9),
+        (three, "right", 0),
+    ];
+    for (text, shape, status) in table {
+        let words = words_of(alloc, &["--cnf", "in", "--start", shape])?;
+        let mut files = shelf_of(alloc, text, "", Vec::new(alloc))?;
+        let mut out = MemorySink::new(alloc, Vec::new(alloc));
+        let mut err = MemorySink::new(alloc, Vec::new(alloc));
+        let answer = run(&rt, alloc, &words, &mut files, &mut out, &mut err);
+        assert_eq!(rt; answer, status, "{shape} {text}");
+    }
+    Ok(())
+}
+
+#[test]
+fn a_missing_vtree_file_is_a_read_fault(rt: HostRuntime) -> Result<(), Fail> {
+    let alloc = rt.alloc();
+    let words = words_of(alloc, &["--cnf", "in", "--vtree", "gone"])?;
+    let mut files = shelf_of(alloc, NO_CLAUSES, "", Vec::new(alloc))?;
+    let mut out = MemorySink::new(alloc, Vec::new(alloc));
+    let mut err = MemorySink::new(alloc, Vec::new(alloc));
+    let status = run(&rt, alloc, &words, &mut files, &mut out, &mut err);
+    assert_eq!(rt; status, 5);
+    assert_eq!(rt; err.bytes(), b"sddc: gone: read fault\n".as_slice());
+    Ok(())
+}
+
+#[test]
+fn the_vtree_is_written_before_the_diagram(rt: HostRuntime) -> Result<(), Fail> {
+    let alloc = rt.alloc();
+    let words = words_of(
+        alloc,
+        &["--cnf", "in", "--out-vtree", "shape", "--out-sdd", "out"],
+    )?;
+    let fault = PlannedFault {
+        call: ShelfCall::StartWrite,
+        nth: 2,
+    };
+    let mut files = shelf_of(alloc, NO_CLAUSES, "", vec![in alloc; fault]?)?;
+    let mut out = MemorySink::new(alloc, Vec::new(alloc));
+    let mut err = MemorySink::new(alloc, Vec::new(alloc));
+    let status = run(&rt, alloc, &words, &mut files, &mut out, &mut err);
+    assert_eq!(rt; status, 6);
+    assert!(rt; files.bytes_of("shape") == Some(SHAPE.as_bytes()));
+    assert!(rt; files.bytes_of("out").is_none());
+    assert_eq!(rt; err.bytes(), b"sddc: out: write fault\n".as_slice());
+    Ok(())
+}
