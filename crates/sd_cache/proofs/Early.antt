@@ -1,8 +1,9 @@
 -- A call of an epoch past all keys is in no cache.
-use Rattle.std.proofs.Common.{◌≡◌, ℕ, ◌<◌, ◌≤◌, false, [], ◌∷◌, None, refl, inl, inr, arith, IsSome, subst, ap, ◌∙◌}
+use Rattle.std.proofs.Common.{◌≡◌, ℕ, ◌<◌, ◌≤◌, false, [], ◌∷◌}
+use Rattle.std.proofs.Common.{None, refl, inl, inr, arith, IsSome, subst}
 use Rattle.std.specs.Map.{lookup, lookup_entry}
 use Rattle.std.proofs.lemmas.Bool.Decides.{nat_tests}
-use Rattle.lru.specs.LruCache.{LruCache, lru_cache, put_entries, promoted}
+use Rattle.lru.specs.LruCache.{LruCache, put_entries, promoted}
 use Rattle.lru.proofs.Splits.{Contains-head, Contains-tail}
 use Rattle.lru.proofs.CallerLemmas.{Contains-promoted, Contains-put_entries}
 use Rattle.sd_cache.specs.Entries.{Call, Entries, AreEarly, is_call}
@@ -56,9 +57,3 @@ put_early es c answer h early = λ e d. elim (Contains-put_entries is_call es c 
 pub replaces_none : {X : Type 0} (c : Call) (es : Entries) → AreEarly es
     → 72057594037927936 ≤ c.epoch → IsSome (lookup (is_call c) es) → X
 replaces_none c es h late there = let gone = subst IsSome (no_answer c es h late) there in cc
-
--- the cache after a look-up has its capacity and early calls alone
-pub looked_kept : (c r : LruCache Call ℕ) (k : Call) → (c.cap ≡ 65536) × AreEarly c.entries
-    → r ≡ lru_cache (promoted (is_call k) c.entries) c.cap
-    → (r.cap ≡ 65536) × AreEarly r.entries
-looked_kept c r k h is = (ap (λ x. x.cap) is ∙ h.0, rw is (promoted_early k c.entries h.1))

@@ -12,9 +12,11 @@ pub record Call : Type 0 where
   pub a : ℕ
   pub b : ℕ
 
+-- the call with these four numbers
 abbrev pub call : ℕ → ℕ → ℕ → ℕ → Call
 call epoch operation a b = record { epoch = epoch; operation = operation; a = a; b = b }
 
+-- a call is stored as its numbers
 abbrev pub call_code : Coded Call
 call_code = code_by ((ℕ × ℕ) × (ℕ × ℕ))
     (coded× (coded× coded_ℕ coded_ℕ) (coded× coded_ℕ coded_ℕ))
@@ -22,16 +24,18 @@ call_code = code_by ((ℕ × ℕ) × (ℕ × ℕ))
 
 -- whether two calls are one: all four numbers are equal
 abbrev pub is_call : Call → Call → Bool
-is_call c d = (c.a == d.a) && ((c.b == d.b) && ((c.operation == d.operation) && (c.epoch == d.epoch)))
+is_call c d =
+    (c.a == d.a) && ((c.b == d.b) && ((c.operation == d.operation) && (c.epoch == d.epoch)))
 
 -- the calls with their answers, the most recently used first
 abbrev pub Entries : Type 0
 Entries = List (Call × ℕ)
 
+-- and so are the entries
 abbrev pub entries_code : Coded Entries
 entries_code = coded_list (coded× call_code coded_ℕ)
 
--- the entries once an answer is put in: its call goes first, and of more than 65,536 the last is dropped
+-- the entries once an answer is put in: its call goes first, and past 65,536 the last is dropped
 abbrev pub kept : Entries → Call → ℕ → Entries
 kept es c answer = put_entries is_call (lru_cache es 65536) c answer
 

@@ -10,11 +10,11 @@ use std::alloc::{AllocError, Global};
 use std::marker::Model;
 use std::num::NonZeroUsize;
 
-/// The first epoch for which nothing is found and nothing kept, 2^56: the key of an answer has two words.
+/// The first epoch for which nothing is found and nothing kept, 2^56: a key has two words.
 const NO_EPOCH: u64 = 0x0100_0000_0000_0000;
 
-/// Answers of operations in an epoch, at most 65,536 of them. A call that keeps one more drops the one whose last
-/// use is the longest ago.
+/// Answers of operations in an epoch, at most 65,536 of them. A call that keeps one more drops the
+/// one whose last use is the longest ago.
 #[derive(Drop)]
 pub struct Cache {
     answers: LruCache<Call, u32>,
@@ -45,7 +45,8 @@ impl Cache {
         Ok(Cache { answers })
     }
 
-    /// The answer that is kept for the operation at these numbers in this epoch. It becomes the most recently used.
+    /// The answer that is kept for the operation at these numbers in this epoch. It becomes the most
+    /// recently used.
     pub fn look(&mut self, epoch: u64, operation: u8, a: u32, b: u32) -> Option<u32>
         ensures value { result ≡ lookup (is_call (call epoch operation a b)) self.old }
         ensures entries { self.new ≡ promoted (is_call (call epoch operation a b)) self.old }
@@ -58,10 +59,11 @@ impl Cache {
         self.answers.get(&asked).copied()
     }
 
-    /// Keeps an answer, in place of the one that the same call had. Where there is none and memory is refused, or
-    /// where the epoch is past all keys, the answer is dropped and nothing is changed.
+    /// Keeps an answer, in place of the one that the same call had. Where there is none and memory is
+    /// refused, or where the epoch is past all keys, the answer is dropped and nothing is changed.
     pub fn keep(&mut self, epoch: u64, operation: u8, a: u32, b: u32, answer: u32)
-        ensures keeps { (self.new ≡ kept self.old (call epoch operation a b) answer) ⊎ (self.new ≡ self.old) }
+        ensures keeps { (self.new ≡ kept self.old (call epoch operation a b) answer)
+            ⊎ (self.new ≡ self.old) }
         ensures replaces { IsSome (lookup (is_call (call epoch operation a b)) self.old)
             → self.new ≡ kept self.old (call epoch operation a b) answer }
     {

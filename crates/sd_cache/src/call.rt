@@ -10,8 +10,8 @@ use std::marker::Model;
 
 /// An operation at two numbers, in one epoch.
 ///
-/// It is two words, and not four fields: a field that is stored narrow and then read in a wider move makes
-/// the processor wait for all stores before it, which took most of the time of a look-up.
+/// It is two words, and not four fields: a field that is stored narrow and then read in a wider
+/// move makes the processor wait for all stores before it, which took most of a look-up's time.
 #[derive(Drop)]
 pub struct Call {
     // b * 2^32 + a

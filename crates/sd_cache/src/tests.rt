@@ -13,7 +13,7 @@ fn an_answer_is_found_again(rt: HostRuntime) -> Result<(), Fail> {
     Ok(())
 }
 
-/// Of 65,537 answers the one whose last use is the longest ago is dropped, and the others are there.
+/// Of 65,537 answers the one whose last use is the longest ago is dropped, and others are there.
 #[test]
 fn one_answer_too_many(rt: HostRuntime) -> Result<(), Fail> {
     let mut cache = Cache::new(rt.alloc())?;
