@@ -1,7 +1,7 @@
 -- A canonical diagram is no deeper than its vtree.
-use Rattle.std.proofs.Common.{◌≡◌, ℕ, zero, suc, ◌+◌, ◌-◌, ◌≤◌, ◌<◌, max, Bool, arith, length-append}
-use Rattle.sd_model.specs.Tree.{Tree, Leaf, Node, leaves, variables}
-use Rattle.sd_model.specs.Diagram.{Diagram, Bottom, Top, Literal, Decomposition, Elements, End, Pair}
+use Rattle.std.proofs.Common.{ℕ, ◌+◌, ◌-◌, ◌≤◌, ◌<◌, arith, length-append}
+use Rattle.sd_model.specs.Tree.{Tree, leaves, variables}
+use Rattle.sd_model.specs.Diagram.{Diagram, Decomposition, Elements, End, Pair}
 use Rattle.sd_model.specs.Canonical.{IsElement, first, later, IsCanonical, canonical_bottom, canonical_top}
 use Rattle.sd_model.specs.Canonical.{canonical_literal, canonical_in_left, canonical_in_right}
 use Rattle.sd_model.specs.Canonical.{canonical_decomposition}

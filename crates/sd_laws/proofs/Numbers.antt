@@ -1,22 +1,21 @@
 -- Subtrees and leaves by the numbers of their nodes, and the positions at which they stand.
-use Rattle.std.proofs.Common.{◌≡◌, inl, inr, ℕ, zero, suc, ◌+◌, ◌-◌, ◌*◌, ◌≤◌, ◌<◌, Bool, true, false, List, [], ◌∷◌}
-use Rattle.std.proofs.Common.{◌++◌, length, Option, Some, None, slice_get, get_or, refl, sym, ◌∙◌, ap, subst, arith}
-use Rattle.std.proofs.Common.{eq-eqb, ne_eqb, eqb-true, ◌||◌, if◌then◌else◌, append_assoc, append-nil, length-append}
+use Rattle.std.proofs.Common.{◌≡◌, inl, inr, ℕ, ◌+◌, ◌*◌, ◌≤◌, ◌<◌, Bool, true, List, [], ◌∷◌}
+use Rattle.std.proofs.Common.{◌++◌, length, Option, Some, None, slice_get, refl, sym, ◌∙◌, ap, subst, arith}
+use Rattle.std.proofs.Common.{eq-eqb, ne_eqb, ◌||◌, if◌then◌else◌, append_assoc, append-nil, length-append}
 use Rattle.std.proofs.lemmas.Bool.{cases_eq, cases_lt}
-use Rattle.std.proofs.lemmas.Option.{same_Some, none-some, slice_get_within, slice_get-get_or}
+use Rattle.std.proofs.lemmas.Option.{same_Some, none-some, slice_get-get_or}
 use Rattle.sd_model.specs.Tree.{Tree, Leaf, Node, leaves, variables, position, right_base, IsVtree}
-use Rattle.sd_model.specs.Diagram.{Diagram, Bottom, Top, Literal, Decomposition}
+use Rattle.sd_model.specs.Diagram.{Diagram, Literal}
 use Rattle.sd_model.specs.Canonical.{IsCanonical, canonical_literal, canonical_in_left, canonical_in_right}
 use Rattle.sd_model.proofs.Blend.{IsApart, occurs, or_left, or_right}
-use Rattle.sd_model.proofs.OverVtree.{vtree_apart}
 use Rattle.sd_vtree.specs.Numbered.{Numbered, NumberedLeaf, NumberedNode, number_of, numbers, forget, subtree, times}
-use Rattle.sd_vtree.specs.Numbered.{or_else, children_at, variable_at, IsNumbered, IsUnder}
-use Rattle.sd_vtree.proofs.Times.{Place, place, one_place, slice_get-append, slice_get-left, times-append, times-same}
+use Rattle.sd_vtree.specs.Numbered.{or_else, children_at, IsNumbered}
+use Rattle.sd_vtree.proofs.Times.{Place, place, one_place, slice_get-append, slice_get-left, times-append}
 use Rattle.sd_vtree.proofs.Times.{times-other}
-use Rattle.sd_vtree.proofs.Subtrees.{Way, Here, Left, Right, way, once_numbered, InnerPart, inner_part}
+use Rattle.sd_vtree.proofs.Subtrees.{Here, Left, Right, way, once_numbered, InnerPart, inner_part}
 use Rattle.sd_vtree.proofs.Pigeons.{has_variable}
 use Rattle.sd_laws.specs.Parts.{IsPart, here, in_left, in_right, leaf_position, HasPosition, IsInner}
-use Rattle.sd_laws.proofs.Places.{leaves-positive, position-from, canonical-in}
+use Rattle.sd_laws.proofs.Places.{position-from, canonical-in}
 
 -- the position of a variable's leaf
 
@@ -167,7 +166,7 @@ pub part-of_subtree : (t : Numbered) (u : ℕ) (s : Numbered) (b : ℕ) → subt
 part-of_subtree (NumberedLeaf m x) u s b e = elim (cases_eq m u) [
   | inl h ↦
       let f : NumberedLeaf m x ≡ s = same_Some (NumberedLeaf m x) s
-          (sym (ap (λ c. if c then Some (NumberedLeaf m x) else None) (eq-eqb m u h)) ∙ e) in
+      (sym (ap (λ c. if c then Some (NumberedLeaf m x) else None) (eq-eqb m u h)) ∙ e) in
       subst (λ v. PartAt (NumberedLeaf m x) u v b) f (whole_part (NumberedLeaf m x) u b)
   | inr d ↦ absurd (none-some s (sym (ap (λ c. if c then Some (NumberedLeaf m x) else None) (ne_eqb m u d)) ∙ e))
 ]

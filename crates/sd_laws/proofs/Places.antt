@@ -1,19 +1,17 @@
 -- Diagrams that are canonical for a subtree, and the same ones seen from a tree above it.
-use Rattle.std.proofs.Common.{◌≡◌, ◌⊎◌, inl, inr, ℕ, zero, suc, ◌+◌, ◌-◌, ◌*◌, ◌≤◌, ◌<◌, Bool, true, false, List, []}
-use Rattle.std.proofs.Common.{◌∷◌, ◌++◌, length, Option, Some, None, slice_get, refl, sym, ◌∙◌, ap, subst, arith}
-use Rattle.std.proofs.Common.{eq-eqb, ne_eqb, if◌then◌else◌, append_assoc, length-append}
-use Rattle.std.proofs.lemmas.Bool.{cases_eq, cases_lt}
-use Rattle.std.proofs.lemmas.Option.{same_Some, none-some, slice_get_within}
-use Rattle.sd_model.specs.Tree.{Tree, Leaf, Node, leaves, variables, position, right_base, IsVtree}
-use Rattle.sd_model.specs.Diagram.{Diagram, Bottom, Top, Literal, Decomposition, Elements, meaning, some_element}
+use Rattle.std.proofs.Common.{◌≡◌, ℕ, ◌+◌, ◌*◌, ◌≤◌, ◌<◌, Bool, true, List, []}
+use Rattle.std.proofs.Common.{sym, ◌∙◌, ap, arith}
+use Rattle.std.proofs.Common.{length-append}
+use Rattle.sd_model.specs.Tree.{Tree, Leaf, Node, leaves, variables, position}
+use Rattle.sd_model.specs.Diagram.{Diagram, Elements, meaning, some_element}
 use Rattle.sd_model.specs.Diagram.{is_constant}
 use Rattle.sd_model.specs.Canonical.{IsCanonical, canonical_bottom, canonical_top, canonical_literal}
 use Rattle.sd_model.specs.Canonical.{canonical_in_left, canonical_in_right, canonical_decomposition}
-use Rattle.sd_model.proofs.Blend.{IsApart, AgreeOn, occurs, agree_left, agree_right, blend, blend_left, blend_right}
-use Rattle.sd_model.proofs.Blend.{value_left, value_right, depends, or_left, or_right}
+use Rattle.sd_model.proofs.Blend.{IsApart, AgreeOn, agree_left, agree_right, blend, blend_left, blend_right}
+use Rattle.sd_model.proofs.Blend.{value_left, value_right, depends}
 use Rattle.sd_model.proofs.Valued.{Decomposes, parts, constant_only}
 use Rattle.sd_model.proofs.Dependence.{DependsBeside, depends_on_left, depends_on_right}
-use Rattle.sd_model.proofs.Unique.{unique, SameMeaning}
+use Rattle.sd_model.proofs.Unique.{unique}
 use Rattle.sd_laws.specs.Parts.{IsPart, here, in_left, in_right, HasPosition}
 use Rattle.sd_laws.proofs.Joining.{lift_left, lift_right}
 
