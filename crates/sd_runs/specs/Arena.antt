@@ -1,9 +1,9 @@
 -- An arena of runs: the live runs by their start, the free runs of each length, the extent and the bound.
-use Rattle.std.specs.Prelude.{◌≡◌, ◌⊎◌, ℕ, ◌+◌, ◌<◌, ◌≤◌, List, [], ◌∷◌, length, Option, Some, None, unwrap_or, refl}
+use Rattle.std.specs.Prelude.{◌≡◌, ◌⊎◌, ℕ, ◌+◌, ◌*◌, ◌<◌, ◌≤◌, List, [], ◌∷◌, length, Option, Some, None, unwrap_or, refl}
 use Rattle.std.specs.List.{sum_by}
 use Rattle.std.specs.Option.{option_map}
 use Rattle.std.specs.Ordering.{nat_cmp}
-use Rattle.std.specs.FinMap.{FinMap, get, insert, remove, values, code}
+use Rattle.std.specs.FinMap.{FinMap, get, insert, remove, entries, values, code}
 use Rattle.std.specs.Coded.{Coded, code_by, coded×, coded_list, coded_ℕ}
 
 -- The live runs are a map from start to list. The free runs are a map from length to starts, the last given first;
@@ -35,6 +35,10 @@ live_length a start = option_map length (get a.live start)
 -- the sum of the lengths of the live runs
 abbrev pub live_total : Arena → ℕ
 live_total a = sum_by length (values a.live)
+
+-- the sum of the lengths of the free runs
+abbrev pub free_total : Arena → ℕ
+free_total a = sum_by (λ (e : ℕ × List ℕ). e.0 * length e.1) (entries a.free)
 
 -- the map with this list at this key, where no list is kept as the empty one
 abbrev pub with_list : {X : Type 0} → FinMap nat_cmp (List X) → ℕ → List X → FinMap nat_cmp (List X)
@@ -71,3 +75,5 @@ pub record IsArena (a : Arena) : Type 0 where
   pub listed : (n : ℕ) → ¬ (get a.free n ≡ Some [])
   pub used : live_total a ≤ a.extent
   pub bounded : a.extent ≤ a.bound
+  -- each element is that of a live or a free run
+  pub whole : live_total a + free_total a ≡ a.extent

@@ -1,3 +1,4 @@
+mod Counts
 mod Entries
 mod Found
 mod Inserted

@@ -39,7 +39,8 @@ impl Nodes {
     /// No nodes, over an arena of at most `bound` elements. The only error is want of memory.
     pub fn new(alloc: Global, bound: u32) -> Result<Nodes, AllocError>
         requires { bound < 2 ^ 31 }
-        ensures { IfOk result (λ nodes. nodes ≡ no_nodes bound) }
+        ensures empty { IfOk result (λ nodes. nodes ≡ no_nodes bound) }
+        ensures nodes { IfOk result (λ nodes. IsNodes nodes) }
     {
         Ok(Nodes {
             runs: Runs::new(alloc, bound),
@@ -51,6 +52,7 @@ impl Nodes {
     pub fn find(&self, place: u32, list: &[(u32, u32)]) -> Option<u32>
         ensures some { IfSome result (λ n. get self.now.linked n ≡ Some (place, list.now)) }
         ensures none { IfNone result ((n : ℕ) → get self.now.linked n ≢ Some (place, list.now)) }
+        ensures nodes { IsNodes self.now }
     {
         for (number, record) in self.records.iter().enumerate() {
             if record.place == place && self.runs.get(record.start, record.length) == list {
@@ -130,7 +132,8 @@ impl Nodes {
     pub fn add_use(&mut self, node: u32)
         requires node { IsSome (key_at self.old node) }
         requires room { uses_at self.old node < 2 ^ 64 - 1 }
-        ensures { self.new ≡ with_uses self.old node (uses_at self.old node + 1) }
+        ensures uses { self.new ≡ with_uses self.old node (uses_at self.old node + 1) }
+        ensures nodes { IsNodes self.new }
     {
         self.records[node as usize].uses += 1;
     }
@@ -139,7 +142,8 @@ impl Nodes {
     pub fn drop_use(&mut self, node: u32)
         requires node { IsSome (key_at self.old node) }
         requires used { 0 < uses_at self.old node }
-        ensures { self.new ≡ with_uses self.old node (uses_at self.old node - 1) }
+        ensures uses { self.new ≡ with_uses self.old node (uses_at self.old node - 1) }
+        ensures nodes { IsNodes self.new }
     {
         self.records[node as usize].uses -= 1;
     }

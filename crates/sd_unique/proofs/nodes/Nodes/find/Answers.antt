@@ -4,9 +4,10 @@ use Rattle.std.proofs.lemmas.Slice.Eq.{slice_eq-Decides}
 use Rattle.std.specs.FinMap.{get}
 use Rattle.sd_runs.proofs.Places.{by_cases}
 use Rattle.sd_unique.proofs.Found.{pair_decides, linked_inside_records, found, other_place, other_list}
-use Rattle.sd_unique.proofs.Numbered.{records_few}
+use Rattle.sd_unique.proofs.Numbered.{is_nodes, records_few}
 use Rattle.sd_unique.proofs.nodes.Nodes.find.Goals.{else-record-place-via-then-record-place+else-eq}
 use Rattle.sd_unique.proofs.nodes.Nodes.find.Goals.{else-record-place-via-else-record-place}
+use Rattle.sd_unique.specs.Nodes.{IsNodes}
 use Rattle.sd_unique.proofs.nodes.Nodes.find.Goals as goal
 
 pub overflow_cast-result : goal.overflow_cast-result
@@ -48,3 +49,9 @@ returns-clause-none c = λ n h.
     linked_inside_records c.self.inside.runs c.self.inside.records.items n (c.args.place, c.args.list.now)
     (ap (λ a. get a.linked n) c.self.view_is ∙ h) in
     c.loop-number.invariant n (omega (arith, ap length c.deref-record-items.ensures.value)) h
+
+pub returns-then-eq-clause-nodes : goal.returns-then-eq-clause-nodes
+returns-then-eq-clause-nodes c = subst IsNodes c.self.view_is (is_nodes c.self.invariant)
+
+pub returns-clause-nodes : goal.returns-clause-nodes
+returns-clause-nodes c = subst IsNodes c.self.view_is (is_nodes c.self.invariant)

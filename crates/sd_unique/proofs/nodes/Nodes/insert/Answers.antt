@@ -4,7 +4,8 @@ use Rattle.sd_runs.proofs.Places.{pushed}
 use Rattle.std.specs.FinMap.{get}
 use Rattle.sd_unique.specs.Inserting.{IsNewNumber, IsFull, IsRefusal, inserted}
 use Rattle.sd_unique.specs.Record.{nodes_of, Stored}
-use Rattle.sd_unique.proofs.Inserted.{count_is, stored_push, nodes_push, refusal_is, refused_by}
+use Rattle.sd_unique.proofs.Counts.{count_is}
+use Rattle.sd_unique.proofs.Inserted.{stored_push, nodes_push, refusal_is, refused_by}
 use Rattle.sd_unique.proofs.Numbered.{is_nodes, records_few, inside_node}
 use Rattle.sd_unique.proofs.nodes.Nodes.insert.Goals as goal
 
