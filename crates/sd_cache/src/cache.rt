@@ -1,5 +1,5 @@
 // The cache over a map of bounded size whose entries are in the order of their last use.
-ghost use Rattle.std.specs.Prelude.{◌≡◌, ◌⊎◌, [], length, IfOk, IsSome};
+ghost use Rattle.std.specs.Prelude.{◌≡◌, ◌⊎◌, ◌^◌, ◌<◌, ◌≤◌, [], length, IfOk, IfSome, IsSome};
 ghost use Rattle.std.specs.Map.{lookup};
 ghost use Rattle.lru.specs.LruCache.{promoted};
 ghost use Rattle.sd_cache.specs.Entries.{IsCache, call, is_call, kept};
@@ -50,6 +50,7 @@ impl Cache {
     pub fn look(&mut self, epoch: u64, operation: u8, a: u32, b: u32) -> Option<u32>
         ensures value { result ≡ lookup (is_call (call epoch operation a b)) self.old }
         ensures entries { self.new ≡ promoted (is_call (call epoch operation a b)) self.old }
+        ensures early { IfSome result (λ _. epoch < 2 ^ 56) }
     {
         let _ = &self.answers;
         if epoch >= NO_EPOCH {
@@ -66,6 +67,7 @@ impl Cache {
             ⊎ (self.new ≡ self.old) }
         ensures replaces { IsSome (lookup (is_call (call epoch operation a b)) self.old)
             → self.new ≡ kept self.old (call epoch operation a b) answer }
+        ensures late { 2 ^ 56 ≤ epoch → self.new ≡ self.old }
     {
         let _ = &self.answers;
         if epoch >= NO_EPOCH {
