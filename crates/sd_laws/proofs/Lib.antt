@@ -5,3 +5,5 @@ pub mod Codes
 pub mod Places
 pub mod Numbers
 pub mod Depths
+pub mod Nodes
+pub mod Pigeons

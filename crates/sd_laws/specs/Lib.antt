@@ -2,3 +2,4 @@ pub mod Pairs
 pub mod Parts
 pub mod Shown
 pub mod Depth
+pub mod Trimming
