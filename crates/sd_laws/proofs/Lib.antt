@@ -7,3 +7,5 @@ pub mod Numbers
 pub mod Depths
 pub mod Nodes
 pub mod Pigeons
+pub mod Products
+pub mod Merged

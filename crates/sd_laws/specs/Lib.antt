@@ -3,3 +3,5 @@ pub mod Parts
 pub mod Shown
 pub mod Depth
 pub mod Trimming
+pub mod Products
+pub mod Below
