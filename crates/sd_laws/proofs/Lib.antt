@@ -9,3 +9,5 @@ pub mod Nodes
 pub mod Pigeons
 pub mod Products
 pub mod Merged
+pub mod Below
+pub mod Expanded

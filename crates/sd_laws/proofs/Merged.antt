@@ -1,5 +1,5 @@
 -- Compression: two elements with one sub are joined by the disjunction of their primes.
-use Rattle.std.proofs.Common.{◌≡◌, ◌≢◌, ℕ, ◌+◌, ◌≤◌, Bool, true, false, cond, ◌||◌, List, [], ◌∷◌, ◌++◌, length, map}
+use Rattle.std.proofs.Common.{◌≡◌, ◌≢◌, ℕ, Bool, true, false, cond, ◌||◌, List, [], ◌∷◌, ◌++◌, length}
 use Rattle.std.proofs.Common.{refl, sym, ◌∙◌, ap, subst, arith, append_assoc, length-append}
 use Rattle.std.specs.List.{AllByRecursion}
 use Rattle.std.specs.List.Sorted.{IsStrictlySortedBy}
@@ -38,12 +38,12 @@ merged-value xs ys d e p f same prime h a =
 
     whole : answers a xs
         ++ cond (meaning d.0 a) (meaning d.1 a ∷ cond (meaning e.0 a) (meaning d.1 a ∷ answers a ys) (answers a ys))
-            (cond (meaning e.0 a) (meaning d.1 a ∷ answers a ys) (answers a ys))
+        (cond (meaning e.0 a) (meaning d.1 a ∷ answers a ys) (answers a ys))
         ≡ f a ∷ []
     whole =
         ap (λ b. answers a xs
         ++ cond (meaning d.0 a) (meaning d.1 a ∷ cond (meaning e.0 a) (b ∷ answers a ys) (answers a ys))
-            (cond (meaning e.0 a) (b ∷ answers a ys) (answers a ys))) (sym sub)
+        (cond (meaning e.0 a) (b ∷ answers a ys) (answers a ys))) (sym sub)
         ∙ sym (answers-append a xs (d ∷ e ∷ ys)) ∙ h a
 
 -- the last of the merged elements takes the next one in

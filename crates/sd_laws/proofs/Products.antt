@@ -1,7 +1,7 @@
 -- The products of two partitions: each prime of the one with each of the other, where both can be true at once.
-use Rattle.std.proofs.Common.{◌≡◌, ◌≢◌, ℕ, ◌+◌, ◌≤◌, Bool, true, false, cond, ◌&&◌, not, List, [], ◌∷◌, ◌++◌, length, map}
-use Rattle.std.proofs.Common.{refl, sym, ◌∙◌, ap, subst, arith, append_assoc, append-nil}
-use Rattle.std.specs.List.{AllByRecursion, AllZip}
+use Rattle.std.proofs.Common.{◌≡◌, ◌≢◌, ℕ, Bool, true, false, cond, ◌&&◌, not, List, [], ◌∷◌, ◌++◌, length, map}
+use Rattle.std.proofs.Common.{refl, sym, ◌∙◌, ap, append_assoc, append-nil}
+use Rattle.std.specs.List.{AllByRecursion}
 use Rattle.sd_model.specs.Tree.{Tree, right_base}
 use Rattle.sd_model.specs.Diagram.{Diagram, Bottom, meaning}
 use Rattle.sd_model.specs.Canonical.{IsCanonical}
@@ -19,7 +19,7 @@ answers-append a [] fs = refl
 answers-append a (d ∷ ds) fs =
     elim (meaning d.0 a)
     as (λ b. cond b (meaning d.1 a ∷ answers a (ds ++ fs)) (answers a (ds ++ fs))
-        ≡ cond b (meaning d.1 a ∷ answers a ds) (answers a ds) ++ answers a fs) [
+    ≡ cond b (meaning d.1 a ∷ answers a ds) (answers a ds) ++ answers a fs) [
       | true ↦ ap (λ l. meaning d.1 a ∷ l) (answers-append a ds fs)
       | false ↦ answers-append a ds fs
     ]
