@@ -11,3 +11,5 @@ pub mod Products
 pub mod Merged
 pub mod Below
 pub mod Expanded
+pub mod Leaves
+pub mod Connectives

@@ -182,8 +182,8 @@ subs-differ t at keys l ds h k =
     (half (λ e d. Shows t at e.0 d.0 × Shows t at e.1 d.1) (λ e d. Shows t at e.1 d.1) l ds (λ x y h. h.1) h) k)
 
 -- and compressed pairs have subs of different codes
-pub sub_codes-differ : (t : Numbered) (at : Lookup) → IsNumbered t → (l : List (ℕ × ℕ)) (ds : List (Diagram × Diagram)) →
-    ShowPairs t at l ds → IsCompressed ds → AreDistinct (map (λ e. e.1) l)
+pub sub_codes-differ : (t : Numbered) (at : Lookup) → IsNumbered t → (l : List (ℕ × ℕ))
+    (ds : List (Diagram × Diagram)) → ShowPairs t at l ds → IsCompressed ds → AreDistinct (map (λ e. e.1) l)
 sub_codes-differ t at v l ds h k =
     codes_differ t at v (λ e. e.1) (λ d. d.1) l ds
     (half (λ e d. Shows t at e.0 d.0 × Shows t at e.1 d.1) (λ e d. Shows t at e.1 d.1) l ds (λ x y h. h.1) h)
