@@ -9,7 +9,6 @@ pub mod Nodes
 pub mod Pigeons
 pub mod Products
 pub mod Merged
-pub mod Below
 pub mod Expanded
 pub mod Leaves
 pub mod Connectives
