@@ -12,3 +12,4 @@ pub mod Merged
 pub mod Expanded
 pub mod Leaves
 pub mod Connectives
+mod Worked
