@@ -12,4 +12,5 @@ pub mod Merged
 pub mod Expanded
 pub mod Leaves
 pub mod Connectives
+pub mod Made
 mod Worked

@@ -310,7 +310,7 @@ one_false true c (inr e) = rw e refl
 one_false false c (inr e) = refl
 
 -- pairs that are not trimmed are several, and one of their subs is no constant
-untrimmed : (t : Numbered) (at : Lookup) (l : List (ℕ × ℕ)) (ds : List (Diagram × Diagram)) → ShowPairs t at l ds →
+pub untrimmed : (t : Numbered) (at : Lookup) (l : List (ℕ × ℕ)) (ds : List (Diagram × Diagram)) → ShowPairs t at l ds →
     IsOneTrue ds → IsCompressed ds → AreDistinct (map (λ e. e.1) l) → trim_of l ≡ None →
     (2 ≤ length ds) × (list_all is_constant (subs (from_pairs ds)) ≡ false)
 untrimmed t at [] [] h one k differ e = absurd (omega (arith, one []))
