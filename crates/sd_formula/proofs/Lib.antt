@@ -4,5 +4,4 @@ pub mod ReaderLaws
 pub mod FitLaws
 pub mod FlatLaws
 pub mod GroupLaws
-pub mod PlainLaws
 pub mod RangeLaws

@@ -5,8 +5,8 @@ use Rattle.std.proofs.lemmas.List.Sums.{take_while-cons}
 use Rattle.sd_base.specs.Lines.{TextLine, begins_with}
 use Rattle.sd_base.specs.Reading.{◌>>=◌, each}
 use Rattle.sd_formula.specs.declared.formula.Kind.{Kind}
-use Rattle.sd_formula.specs.declared.fault.Fault.{Fault}
-use Rattle.sd_formula.specs.declared.fault.Fault.TheVariants.{OutOfMemory}
+use Rattle.sd_formula.specs.declared.error.FormulaError.{FormulaError}
+use Rattle.sd_formula.specs.declared.error.FormulaError.TheVariants.{OutOfMemory}
 use Rattle.sd_formula.specs.Dimacs.{Groups, Stated, Word, literal_of, is_zero, all_but_last, last_part}
 use Rattle.sd_formula.specs.Dimacs.{body_of, words_at, groups_of, header_of, formula_of, Fails}
 use Rattle.sd_formula.specs.Steps.{Parts, no_parts, put_literal, put_words, list_of}
@@ -34,7 +34,7 @@ put_words-append : (v : ℕ) (p : Parts) (xs ys : List Word)
 put_words-append v p [] ys = refl
 put_words-append v p (x ∷ xs) ys = after (literal_of v x) (λ z. put_words-append v (put_literal p z) xs ys)
   where
-    after : (r : Result ℤ Fault)
+    after : (r : Result ℤ FormulaError)
         → ((z : ℤ) → put_words v (put_literal p z) (xs ++ ys)
         ≡ (put_words v (put_literal p z) xs >>= λ q. put_words v q ys))
         → (r >>= λ z. put_words v (put_literal p z) (xs ++ ys))
@@ -55,17 +55,17 @@ body_line v p line lines other =
 -- ---- the whole text
 
 -- a fault decides, whatever would come after it
-pub fails_then : {A B : Type 0} (e : Fault) (r : Result A Fault) (f : A → Result B Fault) → Fails e r
+pub fails_then : {A B : Type 0} (e : FormulaError) (r : Result A FormulaError) (f : A → Result B FormulaError) → Fails e r
     → Fails e (r >>= f)
 fails_then OutOfMemory r f h = tt
 fails_then e r f h = ap (λ x. x >>= f) h
 
 -- what the lines of a body give
-abbrev body_parts : List TextLine → Stated → Result Parts Fault
+abbrev body_parts : List TextLine → Stated → Result Parts FormulaError
 body_parts lines s = put_words s.variables no_parts (body_of lines)
 
 -- the formula of a header and a body that was read into parts
-abbrev of_parts : Kind → Stated → Result Parts Fault → Result Groups Fault
+abbrev of_parts : Kind → Stated → Result Parts FormulaError → Result Groups FormulaError
 of_parts kind s reading = reading >>= λ p. groups_of kind s (list_of p)
 
 -- the formula by way of the parts
@@ -73,7 +73,7 @@ formula_by_parts : (kind : Kind) (header : TextLine) (lines : List TextLine)
     → formula_of kind (header ∷ lines) ≡ (header_of kind header >>= λ s. of_parts kind s (body_parts lines s))
 formula_by_parts kind header lines = at (header_of kind header)
   where
-    at : (r : Result Stated Fault)
+    at : (r : Result Stated FormulaError)
         → (r >>= λ s. each (literal_of s.variables) (body_of lines) >>= λ zs. groups_of kind s (slice_split is_zero zs))
         ≡ (r >>= λ s. of_parts kind s (body_parts lines s))
     at (Ok s) = by_parts s.variables (body_of lines) (groups_of kind s)
@@ -84,7 +84,7 @@ after_header : (kind : Kind) (content : List TextLine) (header : TextLine) (line
     → content ≡ header ∷ lines → header_of kind header ≡ Ok s
     → formula_of kind content ≡ of_parts kind s (body_parts lines s)
 after_header kind content header lines s at header-is =
-    let go_on = λ (r : Result Stated Fault). r >>= λ t. of_parts kind t (body_parts lines t) in
+    let go_on = λ (r : Result Stated FormulaError). r >>= λ t. of_parts kind t (body_parts lines t) in
     ap (formula_of kind) at ∙ formula_by_parts kind header lines ∙ ap go_on header-is
 
 -- the reading, where header and body have no fault
@@ -96,7 +96,7 @@ whole kind content header lines s p at header-is body-is =
 
 -- the reading, where the body has a fault
 pub body_fails : (kind : Kind) (content : List TextLine) (header : TextLine) (lines : List TextLine) (s : Stated)
-    (e : Fault) → content ≡ header ∷ lines → header_of kind header ≡ Ok s
+    (e : FormulaError) → content ≡ header ∷ lines → header_of kind header ≡ Ok s
     → Fails e (put_words s.variables no_parts (body_of lines)) → Fails e (formula_of kind content)
 body_fails kind content header lines s e at header-is fails =
     let decided = fails_then e (body_parts lines s) (λ q. groups_of kind s (list_of q)) fails in

@@ -6,26 +6,26 @@ ghost use Rattle.sd_formula.specs.Dimacs as texts;
 ghost use Rattle.sd_formula.specs.Dimacs.{Gives};
 ghost use Rattle.sd_formula.specs.Steps.{body_view, no_parts, put_words};
 
-use crate::fault::Fault;
+use crate::error::FormulaError;
 use crate::parts::Body;
 use sd_base::{ContentLines, Line, integer};
 use std::alloc::Global;
 
 /// The literal or the zero that a word of the body stands for.
-fn literal_of(variables: u32, line: u32, word: &[u8]) -> Result<i32, Fault>
+fn literal_of(variables: u32, line: u32, word: &[u8]) -> Result<i32, FormulaError>
     requires { variables ≤ 1024 }
     ensures { Gives (λ z. z) result
         (texts.literal_of variables (record { line = line; bytes = word.now })) }
 {
-    let literal = integer(word).ok_or(Fault::BadWord { line })?;
+    let literal = integer(word).ok_or(FormulaError::BadWord { line })?;
     if literal.unsigned_abs() > u64::from(variables) {
-        return Err(Fault::LiteralRange { line, literal });
+        return Err(FormulaError::LiteralRange { line, literal });
     }
     Ok(literal as i32)
 }
 
 /// Puts the literals of a line; after a fault those before it are put.
-fn read_line(body: &mut Body, variables: u32, line: &Line<'_>) -> Result<(), Fault>
+fn read_line(body: &mut Body, variables: u32, line: &Line<'_>) -> Result<(), FormulaError>
     requires { variables ≤ 1024 }
     ensures { Gives (λ _. body_view body.new) result
         (put_words variables (body_view body.old) (texts.words_at (line_view line.now))) }
@@ -43,7 +43,7 @@ pub(crate) fn read_body(
     alloc: Global,
     variables: u32,
     lines: ContentLines<'_>,
-) -> Result<Body, Fault>
+) -> Result<Body, FormulaError>
     requires { variables ≤ 1024 }
     ensures { Gives body_view result
         (put_words variables no_parts (texts.body_of (content_left lines.entry))) }
