@@ -5,3 +5,4 @@ pub mod FitLaws
 pub mod FlatLaws
 pub mod GroupLaws
 pub mod RangeLaws
+pub mod FewWords

@@ -1,5 +1,5 @@
 -- A text that stands for a formula stands for one in range.
-use Rattle.std.proofs.Common.{◌≡◌, ℕ, ◌≤◌, Bool, true, false, not, ◌&&◌, List, [], ◌∷◌, length, drop, ℤ}
+use Rattle.std.proofs.Common.{◌≡◌, ℕ, Bool, true, false, not, ◌&&◌, List, [], ◌∷◌, length, drop}
 use Rattle.std.proofs.Common.{Result, Ok, Err, refl, sym, subst, ◌∙◌, arith}
 use Rattle.std.proofs.lemmas.Bool.{and_parts, not-false, leb-true, ltb-false, eqb-true}
 use Rattle.std.specs.Prelude.{nat_le, nat_lt, ◌==◌, ok_or}
@@ -7,11 +7,10 @@ use Rattle.std.specs.List.{AllByRecursion}
 use Rattle.sd_base.specs.Lines.{TextLine, content_of}
 use Rattle.sd_base.specs.Reading.{◌>>=◌, ◌>>◌, fault_if}
 use Rattle.sd_formula.specs.declared.formula.Kind.{Kind}
-use Rattle.sd_formula.specs.declared.error.FormulaError.{FormulaError}
 use Rattle.sd_formula.specs.declared.error.FormulaError.TheVariants.{NoHeader, BadHeader, VariablesRange}
 use Rattle.sd_formula.specs.declared.error.FormulaError.TheVariants.{Unterminated, CountDiffers, TooManyGroups}
 use Rattle.sd_formula.specs.Dimacs.{Groups, Stated, dimacs, formula_of, header_of, in_range, numbers_of, is_header}
-use Rattle.sd_formula.specs.Dimacs.{groups_of, literal_of, body_of, all_but_last, last_part}
+use Rattle.sd_formula.specs.Dimacs.{groups_of, body_of, all_but_last, last_part}
 use Rattle.sd_formula.specs.Formulas.{AreLiterals, IsFormula}
 use Rattle.sd_formula.specs.Steps.{Parts, no_parts, put_words, list_of, InRange, PartsFit}
 use Rattle.sd_formula.proofs.FitLaws.{words_fit}

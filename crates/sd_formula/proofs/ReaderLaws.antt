@@ -1,5 +1,6 @@
 -- The steps of the reader, against the definition.
-use Rattle.std.proofs.Common.{◌≡◌, ℕ, false, not, List, [], ◌∷◌, ◌++◌, ℤ, Result, Ok, Err, refl, sym, ap, ◌∙◌, subst}
+use Rattle.std.proofs.Common.{◌≡◌, ℕ, ◌+◌, false, not, List, [], ◌∷◌, ◌++◌, length, length-append, ℤ, Result, Ok, Err}
+use Rattle.std.proofs.Common.{refl, sym, ap, ◌∙◌, subst}
 use Rattle.std.specs.List.{take_while, flat_map, slice_split}
 use Rattle.std.proofs.lemmas.List.Sums.{take_while-cons}
 use Rattle.sd_base.specs.Lines.{TextLine, begins_with}
@@ -42,15 +43,26 @@ put_words-append v p (x ∷ xs) ys = after (literal_of v x) (λ z. put_words-app
     after (Ok z) shorter = shorter z
     after (Err e) shorter = refl
 
+-- the words of a line, and those of the lines after it
+body-cons : (line : TextLine) (lines : List TextLine) → begins_with 37 line.words ≡ false
+    → body_of (line ∷ lines) ≡ words_at line ++ body_of lines
+body-cons line lines other =
+    let counts = λ (l : TextLine). not (begins_with 37 l.words) in
+    let first : take_while counts (line ∷ lines) ≡ line ∷ take_while counts lines =
+    take_while-cons counts line lines ∙ rw other refl in
+    ap (flat_map words_at) first
+
 -- a line of the body, and the lines after it
 pub body_line : (v : ℕ) (p : Parts) (line : TextLine) (lines : List TextLine) → begins_with 37 line.words ≡ false
     → put_words v p (body_of (line ∷ lines)) ≡ (put_words v p (words_at line) >>= λ q. put_words v q (body_of lines))
 body_line v p line lines other =
-    let counts = λ (l : TextLine). not (begins_with 37 l.words) in
-    let first : take_while counts (line ∷ lines) ≡ line ∷ take_while counts lines =
-    take_while-cons counts line lines ∙ rw other refl in
-    let kept : body_of (line ∷ lines) ≡ words_at line ++ body_of lines = ap (flat_map words_at) first in
-    ap (put_words v p) kept ∙ put_words-append v p (words_at line) (body_of lines)
+    ap (put_words v p) (body-cons line lines other) ∙ put_words-append v p (words_at line) (body_of lines)
+
+-- and how many words that are
+pub body_length : (line : TextLine) (lines : List TextLine) → begins_with 37 line.words ≡ false
+    → length (body_of (line ∷ lines)) ≡ length (words_at line) + length (body_of lines)
+body_length line lines other =
+    ap length (body-cons line lines other) ∙ length-append (words_at line) (body_of lines)
 
 -- ---- the whole text
 

@@ -1,6 +1,6 @@
 //! The body of a text in the format of DIMACS.
 
-ghost use Rattle.std.specs.Prelude.{◌≤◌};
+ghost use Rattle.std.specs.Prelude.{◌≤◌, ◌+◌, length, OnOk};
 ghost use Rattle.sd_base.specs.Views.{line_view, content_left};
 ghost use Rattle.sd_formula.specs.Dimacs as texts;
 ghost use Rattle.sd_formula.specs.Dimacs.{Gives};
@@ -26,8 +26,11 @@ fn literal_of(variables: u32, line: u32, word: &[u8]) -> Result<i32, FormulaErro
 
 /// Puts the literals of a line; after a fault those before it are put.
 fn read_line(body: &mut Body, variables: u32, line: &Line<'_>) -> Result<(), FormulaError>
-    requires { variables ≤ 1024 }
-    ensures { Gives (λ _. body_view body.new) result
+    requires range { variables ≤ 1024 }
+    requires few { length body.old.literals.items + length (texts.words_at (line_view line.now)) ≤ 67108864 }
+    ensures few { length body.new.literals.items
+        ≤ length body.old.literals.items + length (texts.words_at (line_view line.now)) }
+    ensures read { Gives (λ _. body_view body.new) result
         (put_words variables (body_view body.old) (texts.words_at (line_view line.now))) }
 {
     for word in line.words() {
@@ -38,13 +41,14 @@ fn read_line(body: &mut Body, variables: u32, line: &Line<'_>) -> Result<(), For
 }
 
 /// What the lines before the first that begins with `%` stand for.
-#[tactic(auto, using(crate::proofs::ReaderLaws::body_line))]
+#[tactic(auto, using(crate::proofs::ReaderLaws::body_line, crate::proofs::ReaderLaws::body_length))]
 pub(crate) fn read_body(
     alloc: Global,
     variables: u32,
     lines: ContentLines<'_>,
 ) -> Result<Body, FormulaError>
-    requires { variables ≤ 1024 }
+    requires range { variables ≤ 1024 }
+    requires few { length (texts.body_of (content_left lines)) ≤ 67108864 }
     ensures { Gives body_view result
         (put_words variables no_parts (texts.body_of (content_left lines.entry))) }
 {
