@@ -90,4 +90,5 @@ few_words bytes header lines e =
     let content = ap word_count e ∙ word_count-cons header lines in
     let counts = kept (is_content 99) (numbered_from 1 (lines_of bytes)) in
     let body = first_lines (prefix_len (λ line. not (begins_with 37 line.words)) lines) lines in
-    omega (arith, content, counts, body, numbered 1 (lines_of bytes), total-without pieces, total-split is_line_end bytes)
+    let lengths = numbered 1 (lines_of bytes) in
+    omega (arith, content, counts, body, lengths, total-without pieces, total-split is_line_end bytes)

@@ -119,7 +119,8 @@ pub put_words-each : (v : ℕ) (p : Parts) (words : List Word)
 put_words-each v p [] = refl
 put_words-each v p (word ∷ words) = after (literal_of v word) (λ z. put_words-each v (put_literal p z) words)
   where
-    regroup : (z : ℤ) (r : Result (List ℤ) FormulaError) → put_all (put_literal p z) r ≡ put_all p (r >>= λ zs. Ok (z ∷ zs))
+    regroup : (z : ℤ) (r : Result (List ℤ) FormulaError)
+        → put_all (put_literal p z) r ≡ put_all p (r >>= λ zs. Ok (z ∷ zs))
     regroup z (Ok zs) = refl
     regroup z (Err e) = refl
 

@@ -67,8 +67,8 @@ body_length line lines other =
 -- ---- the whole text
 
 -- a fault decides, whatever would come after it
-pub fails_then : {A B : Type 0} (e : FormulaError) (r : Result A FormulaError) (f : A → Result B FormulaError) → Fails e r
-    → Fails e (r >>= f)
+pub fails_then : {A B : Type 0} (e : FormulaError) (r : Result A FormulaError) (f : A → Result B FormulaError)
+    → Fails e r → Fails e (r >>= f)
 fails_then OutOfMemory r f h = tt
 fails_then e r f h = ap (λ x. x >>= f) h
 

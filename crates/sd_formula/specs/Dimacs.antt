@@ -10,8 +10,8 @@ use Rattle.sd_formula.specs.declared.formula.Kind.{Kind}
 use Rattle.sd_formula.specs.declared.formula.Kind.TheVariants.{Cnf, Dnf}
 use Rattle.sd_formula.specs.declared.error.FormulaError.{FormulaError}
 use Rattle.sd_formula.specs.declared.error.FormulaError.TheVariants.{NoHeader, BadHeader, VariablesRange, BadWord}
-use Rattle.sd_formula.specs.declared.error.FormulaError.TheVariants.{LiteralRange, Unterminated, CountDiffers, TooManyGroups}
-use Rattle.sd_formula.specs.declared.error.FormulaError.TheVariants.{OutOfMemory}
+use Rattle.sd_formula.specs.declared.error.FormulaError.TheVariants.{LiteralRange, Unterminated, CountDiffers}
+use Rattle.sd_formula.specs.declared.error.FormulaError.TheVariants.{TooManyGroups, OutOfMemory}
 
 -- A formula as it is seen: a literal is a number of DIMACS, n or -n, and each group is a clause or a term.
 pub record Groups : Type 0 where

@@ -1,6 +1,6 @@
 //! The body of a text in the format of DIMACS.
 
-ghost use Rattle.std.specs.Prelude.{◌≤◌, ◌+◌, length, OnOk};
+ghost use Rattle.std.specs.Prelude.{◌≤◌, ◌+◌, length};
 ghost use Rattle.sd_base.specs.Views.{line_view, content_left};
 ghost use Rattle.sd_formula.specs.Dimacs as texts;
 ghost use Rattle.sd_formula.specs.Dimacs.{Gives};
@@ -27,7 +27,8 @@ fn literal_of(variables: u32, line: u32, word: &[u8]) -> Result<i32, FormulaErro
 /// Puts the literals of a line; after a fault those before it are put.
 fn read_line(body: &mut Body, variables: u32, line: &Line<'_>) -> Result<(), FormulaError>
     requires range { variables ≤ 1024 }
-    requires few { length body.old.literals.items + length (texts.words_at (line_view line.now)) ≤ 67108864 }
+    requires few { length body.old.literals.items + length (texts.words_at (line_view line.now))
+        ≤ 67108864 }
     ensures few { length body.new.literals.items
         ≤ length body.old.literals.items + length (texts.words_at (line_view line.now)) }
     ensures read { Gives (λ _. body_view body.new) result

@@ -5,7 +5,7 @@ ghost use Rattle.std.specs.Prelude.{◌≡◌};
 use std::alloc::{AllocError, AllocFailed};
 use thiserror::Error;
 
-/// The first fault of a text, or want of memory. Lines are counted from 1, over all lines of the text.
+/// The first fault of a text, or want of memory. Lines are counted from 1, over all lines.
 ///
 /// The header is tested first, in the order of the first four variants. Then each word of the body
 /// is tested for `BadWord` and `LiteralRange`, and at the end the groups for the last two.

@@ -1,7 +1,7 @@
 //! The literals that were read, in groups.
 
-ghost use Rattle.std.specs.Prelude.{◌≡◌, ◌==◌, ◌<◌, ◌≤◌, ◌+◌, ◌^◌, [], ◌∷◌, ◌++◌, not, length, OnOk, OnErr};
-ghost use Rattle.std.specs.Prelude.{if◌then◌else◌, is_ok};
+ghost use Rattle.std.specs.Prelude.{◌≡◌, ◌==◌, ◌<◌, ◌≤◌, ◌+◌, ◌^◌, [], ◌∷◌, ◌++◌, not, length};
+ghost use Rattle.std.specs.Prelude.{if◌then◌else◌, is_ok, OnOk, OnErr};
 ghost use Rattle.sd_formula.specs.Flat.{AreEnds, AreEnds-prop};
 
 use crate::flat::start_of;
@@ -25,7 +25,7 @@ impl Body {
     /// Nothing read yet.
     pub(crate) fn new(alloc: Global) -> Self
         ensures nothing { body_view result ≡ no_parts }
-        ensures few { result.literals.items ≡ [] }
+        ensures no_literals { result.literals.items ≡ [] }
     {
         Body {
             literals: Vec::new(alloc),
@@ -51,7 +51,7 @@ impl Body {
     #[tactic(auto, using(crate::proofs::FlatLaws::end_is, crate::proofs::FlatLaws::ends_push))]
     fn end_group(&mut self) -> Result<(), AllocError>
         requires { length self.old.literals.items < 2 ^ 32 }
-        ensures few { self.new.literals.items ≡ self.old.literals.items }
+        ensures literals { self.new.literals.items ≡ self.old.literals.items }
         ensures ok { OnOk result (body_view self.new ≡ ended (body_view self.old)) }
         ensures err { OnErr result (body_view self.new ≡ body_view self.old) }
     {
@@ -81,7 +81,8 @@ impl Body {
 
 /// Puts an item behind the others. A full list grows by a quarter, so that little room is unused.
 fn put_last<T: Drop>(list: &mut Vec<T>, item: T) -> Result<(), AllocError>
-    ensures { list.new.items ≡ (if is_ok result then list.old.items ++ item ∷ [] else list.old.items) }
+    ensures { list.new.items
+        ≡ (if is_ok result then list.old.items ++ item ∷ [] else list.old.items) }
 {
     if list.len() == list.capacity() {
         list.reserve_exact(list.len() / 4 + LEAST_ROOM)?;
