@@ -5,8 +5,8 @@ use Rattle.std.specs.List.{AllByRecursion}
 use Rattle.std.proofs.lemmas.Bool.{cases_Bool, ltb-false, eqb-false}
 use Rattle.sd_base.specs.Numbers.{integer_value}
 use Rattle.sd_base.specs.Reading.{◌>>=◌, ◌>>◌, fault_if}
-use Rattle.sd_formula.specs.declared.fault.Fault.{Fault}
-use Rattle.sd_formula.specs.declared.fault.Fault.TheVariants.{BadWord, LiteralRange}
+use Rattle.sd_formula.specs.declared.error.FormulaError.{FormulaError}
+use Rattle.sd_formula.specs.declared.error.FormulaError.TheVariants.{BadWord, LiteralRange}
 use Rattle.sd_formula.specs.Dimacs.{Word, literal_of, is_zero}
 use Rattle.sd_formula.specs.Formulas.{IsLiteral, AreLiterals}
 use Rattle.sd_formula.specs.Steps.{Parts, put_literal, put_words, PartsFit}
@@ -28,7 +28,7 @@ put_fits v p z small fit = elim (cases_Bool (is_zero z)) [
       rw other (record { closed = fit.closed; open_part = all_push (IsLiteral v) p.open_part z fit.open_part fits })
 ]
 
-abbrev done : {A : Type 0} → A → Result A Fault
+abbrev done : {A : Type 0} → A → Result A FormulaError
 done x = Ok x
 
 -- a literal that was read is in range
@@ -44,7 +44,7 @@ small_after v line (Some y) z e = elim (cases_Bool (ltb v (unsigned_abs y))) [
       subst (λ x. unsigned_abs x ≤ v) is (ltb-false v (unsigned_abs y) within)
 ]
 
-words_fit_after : (v : ℕ) (p q : Parts) (r : Result ℤ Fault) (words : List Word) → PartsFit v p
+words_fit_after : (v : ℕ) (p q : Parts) (r : Result ℤ FormulaError) (words : List Word) → PartsFit v p
     → ((z : ℤ) → r ≡ Ok z → unsigned_abs z ≤ v)
     → ((z : ℤ) → PartsFit v (put_literal p z) → put_words v (put_literal p z) words ≡ Ok q → PartsFit v q)
     → (r >>= λ z. put_words v (put_literal p z) words) ≡ Ok q → PartsFit v q

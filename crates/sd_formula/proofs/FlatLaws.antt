@@ -1,5 +1,6 @@
 -- Groups that stand one after another: their number, the group of a number, and one more literal or end.
 use Rattle.std.proofs.Common.{◌≡◌, ℕ, zero, suc, ◌==◌, ◌+◌, ◌-◌, ◌<◌, ◌≤◌, List, [], ◌∷◌, ◌++◌, length}
+use Rattle.std.proofs.Common.{Bool, true, false, cond, length-append, sym, subst}
 use Rattle.std.proofs.Common.{get_or, take, drop, slice_get, slice_range, Some, ℤ, refl, ap, ◌∙◌, arith, length-drop}
 use Rattle.std.proofs.lemmas.List.{take_rest, take-append-le, drop-append-le, drop_all}
 use Rattle.std.proofs.lemmas.Bool.Decides.{nat_tests}
@@ -51,6 +52,14 @@ literal_is ends zs z rise =
 pub ends_more : (from : ℕ) (ends : List ℕ) (total : ℕ) → AreEnds from ends total → AreEnds from ends (total + 1)
 ends_more from [] total rise = omega arith
 ends_more from (e ∷ es) total rise = (rise.0, ends_more e es total rise.1)
+
+-- also where there was no room for the literal
+pub ends_after : (put : Bool) (ends : List ℕ) (zs later : List ℤ) (z : ℤ) → AreEnds 0 ends (length zs)
+    → later ≡ cond put (zs ++ z ∷ []) zs → AreEnds 0 ends (length later)
+ends_after true ends zs later z rise is =
+    let longer : length later ≡ length zs + 1 = ap length is ∙ length-append zs (z ∷ []) in
+    subst (AreEnds 0 ends) (sym longer) (ends_more 0 ends (length zs) rise)
+ends_after false ends zs later z rise is = subst (λ (l : List ℤ). AreEnds 0 ends (length l)) (sym is) rise
 
 -- ---- one more end
 

@@ -4,5 +4,5 @@ pub mod ReaderLaws
 pub mod FitLaws
 pub mod FlatLaws
 pub mod GroupLaws
-pub mod PlainLaws
 pub mod RangeLaws
+pub mod FewWords

@@ -5,7 +5,7 @@ use Rattle.std.specs.List.{slice_split, onto_first, fold}
 use Rattle.std.proofs.lemmas.List.{append-nil}
 use Rattle.std.proofs.lemmas.Bool.{cases_Bool}
 use Rattle.sd_base.specs.Reading.{◌>>=◌, each}
-use Rattle.sd_formula.specs.declared.fault.Fault.{Fault}
+use Rattle.sd_formula.specs.declared.error.FormulaError.{FormulaError}
 use Rattle.sd_formula.specs.Dimacs.{Word, literal_of, is_zero}
 use Rattle.sd_formula.specs.Steps.{Parts, no_parts, put_literal, put_words, list_of}
 
@@ -110,7 +110,7 @@ puts_from_none zs = puts_are zs [] no_parts refl
 -- ---- words that are read one after another
 
 -- all literals of some words are put
-abbrev put_all : Parts → Result (List ℤ) Fault → Result Parts Fault
+abbrev put_all : Parts → Result (List ℤ) FormulaError → Result Parts FormulaError
 put_all p reading = reading >>= λ zs. Ok (fold put_literal p zs)
 
 -- reading and putting word by word is reading all words and putting their literals
@@ -119,11 +119,12 @@ pub put_words-each : (v : ℕ) (p : Parts) (words : List Word)
 put_words-each v p [] = refl
 put_words-each v p (word ∷ words) = after (literal_of v word) (λ z. put_words-each v (put_literal p z) words)
   where
-    regroup : (z : ℤ) (r : Result (List ℤ) Fault) → put_all (put_literal p z) r ≡ put_all p (r >>= λ zs. Ok (z ∷ zs))
+    regroup : (z : ℤ) (r : Result (List ℤ) FormulaError)
+        → put_all (put_literal p z) r ≡ put_all p (r >>= λ zs. Ok (z ∷ zs))
     regroup z (Ok zs) = refl
     regroup z (Err e) = refl
 
-    after : (r : Result ℤ Fault)
+    after : (r : Result ℤ FormulaError)
         → ((z : ℤ) → put_words v (put_literal p z) words ≡ put_all (put_literal p z) (each (literal_of v) words))
         → (r >>= λ z. put_words v (put_literal p z) words)
         ≡ put_all p (r >>= λ z. each (literal_of v) words >>= λ zs. Ok (z ∷ zs))
@@ -131,14 +132,14 @@ put_words-each v p (word ∷ words) = after (literal_of v word) (λ z. put_words
     after (Err e) shorter = refl
 
 -- what comes after the words sees the parts of the whole list of literals
-pub by_parts : {Y : Type 0} (v : ℕ) (words : List Word) (next : List (List ℤ) → Result Y Fault)
+pub by_parts : {Y : Type 0} (v : ℕ) (words : List Word) (next : List (List ℤ) → Result Y FormulaError)
     → (each (literal_of v) words >>= λ zs. next (slice_split is_zero zs))
     ≡ (put_words v no_parts words >>= λ p. next (list_of p))
 by_parts v words next =
-    let finished = λ (r : Result Parts Fault). r >>= λ p. next (list_of p) in
+    let finished = λ (r : Result Parts FormulaError). r >>= λ p. next (list_of p) in
     sym (ap finished (put_words-each v no_parts words) ∙ at (each (literal_of v) words))
   where
-    at : (r : Result (List ℤ) Fault)
+    at : (r : Result (List ℤ) FormulaError)
         → (put_all no_parts r >>= λ p. next (list_of p)) ≡ (r >>= λ zs. next (slice_split is_zero zs))
     at (Ok zs) = ap next (puts_from_none zs)
     at (Err e) = refl

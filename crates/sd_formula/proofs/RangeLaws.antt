@@ -1,20 +1,21 @@
--- A text that stands for a formula states at least one variable.
-use Rattle.std.proofs.Common.{◌≡◌, ℕ, ◌≤◌, Bool, true, false, cond, not, ◌&&◌, List, [], ◌∷◌, length, drop, Option}
-use Rattle.std.proofs.Common.{Some, None, Result, Ok, Err}
-use Rattle.std.proofs.Common.{refl, sym, ap, subst, ◌∙◌}
-use Rattle.std.proofs.lemmas.Bool.{leb-true}
-use Rattle.std.specs.Prelude.{nat_le, nat_lt, ◌==◌, ok_or, ℤ}
-use Rattle.std.specs.Result.{result_ok}
-use Rattle.std.specs.List.{slice_split}
+-- A text that stands for a formula stands for one in range.
+use Rattle.std.proofs.Common.{◌≡◌, ℕ, Bool, true, false, not, ◌&&◌, List, [], ◌∷◌, length, drop}
+use Rattle.std.proofs.Common.{Result, Ok, Err, refl, sym, subst, ◌∙◌, arith}
+use Rattle.std.proofs.lemmas.Bool.{and_parts, not-false, leb-true, ltb-false, eqb-true}
+use Rattle.std.specs.Prelude.{nat_le, nat_lt, ◌==◌, ok_or}
+use Rattle.std.specs.List.{AllByRecursion}
 use Rattle.sd_base.specs.Lines.{TextLine, content_of}
-use Rattle.sd_base.specs.Reading.{◌>>=◌, ◌>>◌, fault_if, each}
+use Rattle.sd_base.specs.Reading.{◌>>=◌, ◌>>◌, fault_if}
 use Rattle.sd_formula.specs.declared.formula.Kind.{Kind}
-use Rattle.sd_formula.specs.declared.fault.Fault.{Fault}
-use Rattle.sd_formula.specs.declared.fault.Fault.TheVariants.{NoHeader, BadHeader, VariablesRange}
-use Rattle.sd_formula.specs.declared.fault.Fault.TheVariants.{Unterminated, CountDiffers, TooManyGroups}
+use Rattle.sd_formula.specs.declared.error.FormulaError.TheVariants.{NoHeader, BadHeader, VariablesRange}
+use Rattle.sd_formula.specs.declared.error.FormulaError.TheVariants.{Unterminated, CountDiffers, TooManyGroups}
 use Rattle.sd_formula.specs.Dimacs.{Groups, Stated, dimacs, formula_of, header_of, in_range, numbers_of, is_header}
-use Rattle.sd_formula.specs.Dimacs.{groups_of, literal_of, body_of, is_zero, all_but_last, last_part}
-use Rattle.sd_formula.specs.Plain.{is_plain, plain_dimacs}
+use Rattle.sd_formula.specs.Dimacs.{groups_of, body_of, all_but_last, last_part}
+use Rattle.sd_formula.specs.Formulas.{AreLiterals, IsFormula}
+use Rattle.sd_formula.specs.Steps.{Parts, no_parts, put_words, list_of, InRange, PartsFit}
+use Rattle.sd_formula.proofs.FitLaws.{words_fit}
+use Rattle.sd_formula.proofs.PartsLaws.{by_parts}
+use Rattle.sd_formula.proofs.ReaderLaws.{all_but_last_push}
 
 -- a chain of two steps that came to an end went through the first
 record Through {A B E : Type 0} (first : Result A E) (rest : A → Result B E) (end : B) : Type 0 where
@@ -33,59 +34,64 @@ past : {B E : Type 0} (test : Bool) (fault : E) (rest : Result B E) (end : B) �
 past true fault rest end e = cc
 past false fault rest end e = (refl, e)
 
-both : (a b : Bool) → not (a && b) ≡ false → a ≡ true
-both true b e = refl
-both false b e = cc
-
-some_in_range : (s t : Stated) → in_range s ≡ Ok t → 1 ≤ t.variables
-some_in_range s t e =
+-- the numbers of a header are in range
+numbers_fit : (s t : Stated) → in_range s ≡ Ok t → InRange t
+numbers_fit s t e =
     let low = nat_le 1 s.variables in
     let high = nat_le s.variables 1024 in
     let first = past (not (low && high)) (VariablesRange s.variables)
     (fault_if (nat_lt 1000000 s.groups) (TooManyGroups s.groups) >> Ok s) t e in
     let second = past (nat_lt 1000000 s.groups) (TooManyGroups s.groups) (Ok s) t first.1 in
+    let within = and_parts low high (not-false (low && high) first.0) in
     let is : s ≡ t = (let same = second.1 in cc) in
-    subst (λ (u : Stated). 1 ≤ u.variables) is (leb-true 1 s.variables (both low high first.0))
+    let fits : InRange s = record {
+      some = leb-true 1 s.variables within.0;
+      few = leb-true s.variables 1024 within.1;
+      count = ltb-false 1000000 s.groups second.0;
+    } in
+    subst InRange is fits
 
-some_stated : (kind : Kind) (line : TextLine) (t : Stated) → header_of kind line ≡ Ok t → 1 ≤ t.variables
-some_stated kind line t e =
+header_fits : (kind : Kind) (line : TextLine) (t : Stated) → header_of kind line ≡ Ok t → InRange t
+header_fits kind line t e =
     let numbers = ok_or (numbers_of kind (drop 1 line.words)) (BadHeader line.number) in
     let first = past (not (is_header line.words)) NoHeader (numbers >>= in_range) t e in
     let second = through numbers in_range t first.1 in
-    some_in_range second.middle t second.led
+    numbers_fit second.middle t second.led
 
--- the groups keep the number of variables
-kept : (kind : Kind) (s : Stated) (parts : List (List ℤ)) (f : Groups) → groups_of kind s parts ≡ Ok f
-    → s.variables ≡ f.variables
-kept kind s parts f e =
-    let formula : Groups = record { kind = kind; variables = s.variables; groups = all_but_last parts } in
-    let count = length (all_but_last parts) in
-    let differs = not (s.groups == count) in
-    let first = past (not (length (last_part parts) == 0)) Unterminated
-    (fault_if differs (CountDiffers s.groups count) >> Ok formula) f e in
-    let second = past differs (CountDiffers s.groups count) (Ok formula) f first.1 in
+-- the groups are as many as the header states, and their literals are in range
+groups_fit : (kind : Kind) (s : Stated) (p : Parts) (f : Groups) → InRange s → PartsFit s.variables p
+    → groups_of kind s (list_of p) ≡ Ok f → IsFormula f
+groups_fit kind s p f range fit e =
+    let groups = all_but_last (list_of p) in
+    let formula : Groups = record { kind = kind; variables = s.variables; groups = groups } in
+    let same = s.groups == length groups in
+    let first = past (not (length (last_part (list_of p)) == 0)) Unterminated
+    (fault_if (not same) (CountDiffers s.groups (length groups)) >> Ok formula) f e in
+    let second = past (not same) (CountDiffers s.groups (length groups)) (Ok formula) f first.1 in
     let whole : Ok formula ≡ Ok f = second.1 in
     let is : formula ≡ f = cc in
-    ap (λ (g : Groups). g.variables) is
+    let count = eqb-true s.groups (length groups) (not-false same second.0) in
+    let closed : groups ≡ p.closed = all_but_last_push p.closed p.open_part in
+    let fits : IsFormula formula = record {
+      some = range.some;
+      few = range.few;
+      count = omega (arith, range.count, count);
+      literals = subst (AllByRecursion (AreLiterals s.variables)) (sym closed) fit.closed;
+    } in
+    subst IsFormula is fits
 
-some_read : (kind : Kind) (content : List TextLine) (f : Groups) → formula_of kind content ≡ Ok f → 1 ≤ f.variables
-some_read kind [] f e = cc
-some_read kind (header ∷ lines) f e =
+lines_fit : (kind : Kind) (content : List TextLine) (f : Groups) → formula_of kind content ≡ Ok f → IsFormula f
+lines_fit kind [] f e = absurd cc
+lines_fit kind (header ∷ lines) f e =
     let head = through (header_of kind header) _ f e in
-    let body = through (each (literal_of head.middle.variables) (body_of lines)) _ f head.led in
-    let same = kept kind head.middle (slice_split is_zero body.middle) f body.led in
-    subst (λ (n : ℕ). 1 ≤ n) same (some_stated kind header head.middle head.gave)
+    let s = head.middle in
+    let words = body_of lines in
+    let by = sym (by_parts s.variables words (groups_of kind s)) ∙ head.led in
+    let body = through (put_words s.variables no_parts words) (λ p. groups_of kind s (list_of p)) f by in
+    let fit = words_fit s.variables no_parts body.middle words (record { closed = tt; open_part = tt }) body.gave in
+    groups_fit kind s body.middle f (header_fits kind header s head.gave) fit body.led
 
--- an accepted plain text states at least one variable
-pub variables_of_plain : (kind : Kind) (bytes : List ℕ) (f : Groups) → plain_dimacs kind bytes ≡ Some f
-    → 1 ≤ f.variables
-unfolding plain_dimacs dimacs
-variables_of_plain kind bytes f e = go (is_plain bytes) (formula_of kind (content_of 99 bytes)) refl e
-  where
-    go : (plain : Bool) (reading : Result Groups Fault) → reading ≡ formula_of kind (content_of 99 bytes)
-        → cond plain (result_ok reading) None ≡ Some f → 1 ≤ f.variables
-    go true (Ok g) is e =
-        let same : g ≡ f = cc in
-        some_read kind (content_of 99 bytes) f (sym is ∙ ap Ok same)
-    go true (Err fault) is e = cc
-    go false reading is e = cc
+-- the formula of a text has its numbers and its literals in range
+pub accepted_fits : (kind : Kind) (bytes : List ℕ) (f : Groups) → dimacs kind bytes ≡ Ok f → IsFormula f
+unfolding dimacs
+accepted_fits kind bytes f e = lines_fit kind (content_of 99 bytes) f e

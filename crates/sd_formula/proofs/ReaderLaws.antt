@@ -1,12 +1,13 @@
 -- The steps of the reader, against the definition.
-use Rattle.std.proofs.Common.{◌≡◌, ℕ, false, not, List, [], ◌∷◌, ◌++◌, ℤ, Result, Ok, Err, refl, sym, ap, ◌∙◌, subst}
+use Rattle.std.proofs.Common.{◌≡◌, ℕ, ◌+◌, false, not, List, [], ◌∷◌, ◌++◌, length, length-append, ℤ, Result, Ok, Err}
+use Rattle.std.proofs.Common.{refl, sym, ap, ◌∙◌, subst}
 use Rattle.std.specs.List.{take_while, flat_map, slice_split}
 use Rattle.std.proofs.lemmas.List.Sums.{take_while-cons}
 use Rattle.sd_base.specs.Lines.{TextLine, begins_with}
 use Rattle.sd_base.specs.Reading.{◌>>=◌, each}
 use Rattle.sd_formula.specs.declared.formula.Kind.{Kind}
-use Rattle.sd_formula.specs.declared.fault.Fault.{Fault}
-use Rattle.sd_formula.specs.declared.fault.Fault.TheVariants.{OutOfMemory}
+use Rattle.sd_formula.specs.declared.error.FormulaError.{FormulaError}
+use Rattle.sd_formula.specs.declared.error.FormulaError.TheVariants.{OutOfMemory}
 use Rattle.sd_formula.specs.Dimacs.{Groups, Stated, Word, literal_of, is_zero, all_but_last, last_part}
 use Rattle.sd_formula.specs.Dimacs.{body_of, words_at, groups_of, header_of, formula_of, Fails}
 use Rattle.sd_formula.specs.Steps.{Parts, no_parts, put_literal, put_words, list_of}
@@ -34,7 +35,7 @@ put_words-append : (v : ℕ) (p : Parts) (xs ys : List Word)
 put_words-append v p [] ys = refl
 put_words-append v p (x ∷ xs) ys = after (literal_of v x) (λ z. put_words-append v (put_literal p z) xs ys)
   where
-    after : (r : Result ℤ Fault)
+    after : (r : Result ℤ FormulaError)
         → ((z : ℤ) → put_words v (put_literal p z) (xs ++ ys)
         ≡ (put_words v (put_literal p z) xs >>= λ q. put_words v q ys))
         → (r >>= λ z. put_words v (put_literal p z) (xs ++ ys))
@@ -42,30 +43,41 @@ put_words-append v p (x ∷ xs) ys = after (literal_of v x) (λ z. put_words-app
     after (Ok z) shorter = shorter z
     after (Err e) shorter = refl
 
+-- the words of a line, and those of the lines after it
+body-cons : (line : TextLine) (lines : List TextLine) → begins_with 37 line.words ≡ false
+    → body_of (line ∷ lines) ≡ words_at line ++ body_of lines
+body-cons line lines other =
+    let counts = λ (l : TextLine). not (begins_with 37 l.words) in
+    let first : take_while counts (line ∷ lines) ≡ line ∷ take_while counts lines =
+    take_while-cons counts line lines ∙ rw other refl in
+    ap (flat_map words_at) first
+
 -- a line of the body, and the lines after it
 pub body_line : (v : ℕ) (p : Parts) (line : TextLine) (lines : List TextLine) → begins_with 37 line.words ≡ false
     → put_words v p (body_of (line ∷ lines)) ≡ (put_words v p (words_at line) >>= λ q. put_words v q (body_of lines))
 body_line v p line lines other =
-    let counts = λ (l : TextLine). not (begins_with 37 l.words) in
-    let first : take_while counts (line ∷ lines) ≡ line ∷ take_while counts lines =
-    take_while-cons counts line lines ∙ rw other refl in
-    let kept : body_of (line ∷ lines) ≡ words_at line ++ body_of lines = ap (flat_map words_at) first in
-    ap (put_words v p) kept ∙ put_words-append v p (words_at line) (body_of lines)
+    ap (put_words v p) (body-cons line lines other) ∙ put_words-append v p (words_at line) (body_of lines)
+
+-- and how many words that are
+pub body_length : (line : TextLine) (lines : List TextLine) → begins_with 37 line.words ≡ false
+    → length (body_of (line ∷ lines)) ≡ length (words_at line) + length (body_of lines)
+body_length line lines other =
+    ap length (body-cons line lines other) ∙ length-append (words_at line) (body_of lines)
 
 -- ---- the whole text
 
 -- a fault decides, whatever would come after it
-pub fails_then : {A B : Type 0} (e : Fault) (r : Result A Fault) (f : A → Result B Fault) → Fails e r
-    → Fails e (r >>= f)
+pub fails_then : {A B : Type 0} (e : FormulaError) (r : Result A FormulaError) (f : A → Result B FormulaError)
+    → Fails e r → Fails e (r >>= f)
 fails_then OutOfMemory r f h = tt
 fails_then e r f h = ap (λ x. x >>= f) h
 
 -- what the lines of a body give
-abbrev body_parts : List TextLine → Stated → Result Parts Fault
+abbrev body_parts : List TextLine → Stated → Result Parts FormulaError
 body_parts lines s = put_words s.variables no_parts (body_of lines)
 
 -- the formula of a header and a body that was read into parts
-abbrev of_parts : Kind → Stated → Result Parts Fault → Result Groups Fault
+abbrev of_parts : Kind → Stated → Result Parts FormulaError → Result Groups FormulaError
 of_parts kind s reading = reading >>= λ p. groups_of kind s (list_of p)
 
 -- the formula by way of the parts
@@ -73,7 +85,7 @@ formula_by_parts : (kind : Kind) (header : TextLine) (lines : List TextLine)
     → formula_of kind (header ∷ lines) ≡ (header_of kind header >>= λ s. of_parts kind s (body_parts lines s))
 formula_by_parts kind header lines = at (header_of kind header)
   where
-    at : (r : Result Stated Fault)
+    at : (r : Result Stated FormulaError)
         → (r >>= λ s. each (literal_of s.variables) (body_of lines) >>= λ zs. groups_of kind s (slice_split is_zero zs))
         ≡ (r >>= λ s. of_parts kind s (body_parts lines s))
     at (Ok s) = by_parts s.variables (body_of lines) (groups_of kind s)
@@ -84,7 +96,7 @@ after_header : (kind : Kind) (content : List TextLine) (header : TextLine) (line
     → content ≡ header ∷ lines → header_of kind header ≡ Ok s
     → formula_of kind content ≡ of_parts kind s (body_parts lines s)
 after_header kind content header lines s at header-is =
-    let go_on = λ (r : Result Stated Fault). r >>= λ t. of_parts kind t (body_parts lines t) in
+    let go_on = λ (r : Result Stated FormulaError). r >>= λ t. of_parts kind t (body_parts lines t) in
     ap (formula_of kind) at ∙ formula_by_parts kind header lines ∙ ap go_on header-is
 
 -- the reading, where header and body have no fault
@@ -96,7 +108,7 @@ whole kind content header lines s p at header-is body-is =
 
 -- the reading, where the body has a fault
 pub body_fails : (kind : Kind) (content : List TextLine) (header : TextLine) (lines : List TextLine) (s : Stated)
-    (e : Fault) → content ≡ header ∷ lines → header_of kind header ≡ Ok s
+    (e : FormulaError) → content ≡ header ∷ lines → header_of kind header ≡ Ok s
     → Fails e (put_words s.variables no_parts (body_of lines)) → Fails e (formula_of kind content)
 body_fails kind content header lines s e at header-is fails =
     let decided = fails_then e (body_parts lines s) (λ q. groups_of kind s (list_of q)) fails in

@@ -1,11 +1,13 @@
--- Worked examples of texts in the format of DIMACS, and of the plain ones.
-use Rattle.std.proofs.Common.{◌≡◌, [], ◌∷◌, ◌++◌, refl, Ok, Err, Some, None, pos, negsuc}
+-- Worked examples of texts in the format of DIMACS.
+use Rattle.std.proofs.Common.{◌≡◌, [], ◌∷◌, ◌++◌, refl, Ok, Err, pos, negsuc}
 use Rattle.std.specs.Prelude.{codes}
 use Rattle.sd_formula.specs.declared.formula.Kind.TheVariants.{Cnf, Dnf}
-use Rattle.sd_formula.specs.declared.fault.Fault.TheVariants.{NoHeader, VariablesRange, BadWord, LiteralRange}
-use Rattle.sd_formula.specs.declared.fault.Fault.TheVariants.{Unterminated, CountDiffers, TooManyGroups}
+use Rattle.sd_formula.specs.declared.error.FormulaError.TheVariants.{NoHeader, BadHeader, VariablesRange, BadWord}
+use Rattle.sd_formula.specs.declared.error.FormulaError.TheVariants.{LiteralRange, Unterminated, CountDiffers}
+use Rattle.sd_formula.specs.declared.error.FormulaError.TheVariants.{TooManyGroups}
 use Rattle.sd_formula.specs.Dimacs.{dimacs}
-use Rattle.sd_formula.specs.Plain.{plain_dimacs}
+
+-- ---- texts that stand for a formula
 
 -- a comment, the layout of the collection SATLIB, and a last line that is not read
 satlib : dimacs Cnf (codes "c SATLIB layout\np cnf 2 2\n 1 2 0\n-1 2 0\n%\n0\n\n")
@@ -13,29 +15,87 @@ satlib : dimacs Cnf (codes "c SATLIB layout\np cnf 2 2\n 1 2 0\n-1 2 0\n%\n0\n\n
 unfolding dimacs
 satlib = refl
 
-three_stated : dimacs Cnf (codes "p cnf 2 3\n1 2 0\n-1 0\n") ≡ Err (CountDiffers 3 2)
+-- lines that end in CR and LF, and a byte past ASCII in a comment
+windows : dimacs Dnf (codes "c " ++ 255 ∷ codes "\r\np dnf 2 1\r\n1 -2\r\n 0\r\n")
+    ≡ Ok (record { kind = Dnf; variables = 2; groups = (pos 1 ∷ negsuc 1 ∷ []) ∷ [] })
 unfolding dimacs
-three_stated = refl
+windows = refl
 
-not_ended : dimacs Cnf (codes "p cnf 2 1\n1 2\n") ≡ Err Unterminated
+-- a group goes over lines, one of them blank and one a comment, and two groups share a line
+over_lines : dimacs Dnf (codes " p\tdnf 2 2\r\n1\n\n c 0\n-2 0 0")
+    ≡ Ok (record { kind = Dnf; variables = 2; groups = (pos 1 ∷ negsuc 1 ∷ []) ∷ [] ∷ [] })
 unfolding dimacs
-not_ended = refl
+over_lines = refl
 
-out_of_range : dimacs Cnf (codes "p cnf 4 1\n1 5 0\n") ≡ Err (LiteralRange 2 (pos 5))
+no_clauses : dimacs Cnf (codes "p cnf 17 0") ≡ Ok (record { kind = Cnf; variables = 17; groups = [] })
 unfolding dimacs
-out_of_range = refl
+no_clauses = refl
+
+-- an empty clause; repeated and opposite literals; minus zero
+kept_as_written : dimacs Cnf (codes "p cnf 2 2\n0 1 -1 1 -0")
+    ≡ Ok (record { kind = Cnf; variables = 2; groups = [] ∷ (pos 1 ∷ negsuc 0 ∷ pos 1 ∷ []) ∷ [] })
+unfolding dimacs
+kept_as_written = refl
+
+-- ---- faults of the header
 
 empty : dimacs Cnf [] ≡ Err NoHeader
 unfolding dimacs
 empty = refl
 
-none_found : dimacs Cnf (codes "p cnf 2 1") ≡ Err (CountDiffers 1 0)
+-- only a comment and a blank line
+no_line : dimacs Cnf (codes "c p cnf 1 0\n \n") ≡ Err NoHeader
 unfolding dimacs
-none_found = refl
+no_line = refl
 
+-- compressed data
 packed : dimacs Cnf (31 ∷ codes "p cnf 2 1\n") ≡ Err NoHeader
 unfolding dimacs
 packed = refl
+
+-- a percent sign before any header
+percent_first : dimacs Cnf (codes "%\np cnf 2 0\n") ≡ Err NoHeader
+unfolding dimacs
+percent_first = refl
+
+other_kind : dimacs Dnf (codes "c x\np cnf 2 1\n1 2 0\n") ≡ Err (BadHeader 2)
+unfolding dimacs
+other_kind = refl
+
+five_words : dimacs Cnf (codes "p cnf 2 1 0\n") ≡ Err (BadHeader 1)
+unfolding dimacs
+five_words = refl
+
+negative : dimacs Cnf (codes "p cnf 2 -1\n") ≡ Err (BadHeader 1)
+unfolding dimacs
+negative = refl
+
+no_variables : dimacs Cnf (codes "p cnf 0 0\n") ≡ Err (VariablesRange 0)
+unfolding dimacs
+no_variables = refl
+
+too_many_variables : dimacs Cnf (codes "p cnf 1025 0\n") ≡ Err (VariablesRange 1025)
+unfolding dimacs
+too_many_variables = refl
+
+too_many_groups : dimacs Cnf (codes "p cnf 2 1000001\n") ≡ Err (TooManyGroups 1000001)
+unfolding dimacs
+too_many_groups = refl
+
+-- the number of variables is tested before that of groups, and both before the body
+variables_first : dimacs Cnf (codes "p cnf 0 1000001\n") ≡ Err (VariablesRange 0)
+unfolding dimacs
+variables_first = refl
+
+groups_before_body : dimacs Cnf (codes "p cnf 2 1000001\nq\n") ≡ Err (TooManyGroups 1000001)
+unfolding dimacs
+groups_before_body = refl
+
+-- ---- faults of the body
+
+out_of_range : dimacs Cnf (codes "p cnf 4 1\n1 5 0\n") ≡ Err (LiteralRange 2 (pos 5))
+unfolding dimacs
+out_of_range = refl
 
 eighteen_digits : dimacs Cnf (codes "p cnf 2 1\n1 999999999999999999 0\n")
     ≡ Err (LiteralRange 2 (pos 999999999999999999))
@@ -46,53 +106,36 @@ nineteen_digits : dimacs Cnf (codes "p cnf 2 1\n1 1000000000000000000 0\n") ≡ 
 unfolding dimacs
 nineteen_digits = refl
 
-too_many_variables : dimacs Cnf (codes "p cnf 1025 0\n") ≡ Err (VariablesRange 1025)
+second_header : dimacs Cnf (codes "p cnf 2 1\np cnf 2 1\n1 2 0\n") ≡ Err (BadWord 2)
 unfolding dimacs
-too_many_variables = refl
+second_header = refl
 
-too_many_groups : dimacs Cnf (codes "p cnf 2 1000001\n") ≡ Err (TooManyGroups 1000001)
+-- the first word with a fault decides, in the order of the text
+word_by_word : dimacs Cnf (codes "p cnf 2 1\n1 -3 +2\nq\n") ≡ Err (LiteralRange 2 (negsuc 2))
 unfolding dimacs
-too_many_groups = refl
+word_by_word = refl
 
--- lines that end in CR and LF, and a byte past ASCII in a comment
-windows : dimacs Dnf (codes "c " ++ 255 ∷ codes "\r\np dnf 2 1\r\n1 -2\r\n 0\r\n")
-    ≡ Ok (record { kind = Dnf; variables = 2; groups = (pos 1 ∷ negsuc 1 ∷ []) ∷ [] })
+bad_word_first : dimacs Cnf (codes "p cnf 2 1\n1 +2 -3\n") ≡ Err (BadWord 2)
 unfolding dimacs
-windows = refl
+bad_word_first = refl
 
--- ---- plain texts
+not_ended : dimacs Cnf (codes "p cnf 2 1\n1 2\n") ≡ Err Unterminated
+unfolding dimacs
+not_ended = refl
 
-two_literals : plain_dimacs Cnf (codes "p cnf 2 1\n1 2 0\n")
-    ≡ Some (record { kind = Cnf; variables = 2; groups = (pos 1 ∷ pos 2 ∷ []) ∷ [] })
-unfolding plain_dimacs dimacs
-two_literals = refl
+-- the end is tested before the count, and a zero after a percent sign ends nothing
+not_ended_first : dimacs Cnf (codes "p cnf 2 3\n1 2 0 1\n%\n0\n") ≡ Err Unterminated
+unfolding dimacs
+not_ended_first = refl
 
--- a group goes over a line's end, and two groups share a line
-over_lines : plain_dimacs Dnf (codes " p\tdnf 2 2\r\n1\n-2 0 0")
-    ≡ Some (record { kind = Dnf; variables = 2; groups = (pos 1 ∷ negsuc 1 ∷ []) ∷ [] ∷ [] })
-unfolding plain_dimacs dimacs
-over_lines = refl
+three_stated : dimacs Cnf (codes "p cnf 2 3\n1 2 0\n-1 0\n") ≡ Err (CountDiffers 3 2)
+unfolding dimacs
+three_stated = refl
 
-no_groups : plain_dimacs Cnf (codes "p cnf 17 0") ≡ Some (record { kind = Cnf; variables = 17; groups = [] })
-unfolding plain_dimacs dimacs
-no_groups = refl
+none_found : dimacs Cnf (codes "p cnf 2 1") ≡ Err (CountDiffers 1 0)
+unfolding dimacs
+none_found = refl
 
-no_line : plain_dimacs Cnf [] ≡ None
-unfolding plain_dimacs dimacs
-no_line = refl
-
-blank_line : plain_dimacs Cnf (codes "p cnf 2 1\n \n1 2 0\n") ≡ None
-unfolding plain_dimacs dimacs
-blank_line = refl
-
-comment : plain_dimacs Cnf (codes "c x\np cnf 2 1\n1 2 0\n") ≡ None
-unfolding plain_dimacs dimacs
-comment = refl
-
-percent : plain_dimacs Cnf (codes "p cnf 2 1\n1 2 0\n%\n") ≡ None
-unfolding plain_dimacs dimacs
-percent = refl
-
-other_kind : plain_dimacs Dnf (codes "p cnf 2 1\n1 2 0\n") ≡ None
-unfolding plain_dimacs dimacs
-other_kind = refl
+more_found : dimacs Dnf (codes "p dnf 2 0\n0 0\n") ≡ Err (CountDiffers 0 2)
+unfolding dimacs
+more_found = refl

@@ -8,10 +8,10 @@ use Rattle.sd_base.specs.Numbers.{natural_value, integer_value}
 use Rattle.sd_base.specs.Reading.{◌>>=◌, ◌>>◌, fault_if, each}
 use Rattle.sd_formula.specs.declared.formula.Kind.{Kind}
 use Rattle.sd_formula.specs.declared.formula.Kind.TheVariants.{Cnf, Dnf}
-use Rattle.sd_formula.specs.declared.fault.Fault.{Fault}
-use Rattle.sd_formula.specs.declared.fault.Fault.TheVariants.{NoHeader, BadHeader, VariablesRange, BadWord}
-use Rattle.sd_formula.specs.declared.fault.Fault.TheVariants.{LiteralRange, Unterminated, CountDiffers, TooManyGroups}
-use Rattle.sd_formula.specs.declared.fault.Fault.TheVariants.{OutOfMemory}
+use Rattle.sd_formula.specs.declared.error.FormulaError.{FormulaError}
+use Rattle.sd_formula.specs.declared.error.FormulaError.TheVariants.{NoHeader, BadHeader, VariablesRange, BadWord}
+use Rattle.sd_formula.specs.declared.error.FormulaError.TheVariants.{LiteralRange, Unterminated, CountDiffers}
+use Rattle.sd_formula.specs.declared.error.FormulaError.TheVariants.{TooManyGroups, OutOfMemory}
 
 -- A formula as it is seen: a literal is a number of DIMACS, n or -n, and each group is a clause or a term.
 pub record Groups : Type 0 where
@@ -48,14 +48,14 @@ numbers_of kind (name ∷ variables ∷ groups ∷ []) =
 numbers_of kind words = None
 
 -- 1 to 1,024 variables, and at most 1,000,000 groups
-abbrev pub in_range : Stated → Result Stated Fault
+abbrev pub in_range : Stated → Result Stated FormulaError
 in_range s = do
   fault_if (not (nat_le 1 s.variables && nat_le s.variables 1024)) (VariablesRange s.variables)
   fault_if (nat_lt 1000000 s.groups) (TooManyGroups s.groups)
   Ok s
 
 -- the numbers of a header line, or its fault
-abbrev pub header_of : Kind → TextLine → Result Stated Fault
+abbrev pub header_of : Kind → TextLine → Result Stated FormulaError
 header_of kind line = do
   fault_if (not (is_header line.words)) NoHeader
   stated ← ok_or (numbers_of kind (drop 1 line.words)) (BadHeader line.number)
@@ -78,7 +78,7 @@ abbrev pub body_of : List TextLine → List Word
 body_of lines = flat_map words_at (take_while (λ line. not (begins_with 37 line.words)) lines)
 
 -- the literal, or the zero, of a word
-abbrev pub literal_of : ℕ → Word → Result ℤ Fault
+abbrev pub literal_of : ℕ → Word → Result ℤ FormulaError
 literal_of variables word = do
   z ← ok_or (integer_value word.bytes) (BadWord word.line)
   fault_if (nat_lt variables (unsigned_abs z)) (LiteralRange word.line z)
@@ -103,7 +103,7 @@ last_part (part ∷ []) = part
 last_part (part ∷ next ∷ parts) = last_part (next ∷ parts)
 
 -- the formula of the parts, of which the last is empty and the others are as many as was stated
-abbrev pub groups_of : Kind → Stated → List (List ℤ) → Result Groups Fault
+abbrev pub groups_of : Kind → Stated → List (List ℤ) → Result Groups FormulaError
 groups_of kind stated parts =
     let groups = all_but_last parts in
     let found = length groups in do
@@ -114,7 +114,7 @@ groups_of kind stated parts =
 -- ---- the text
 
 -- the formula of a header and the lines after it
-abbrev pub formula_of : Kind → List TextLine → Result Groups Fault
+abbrev pub formula_of : Kind → List TextLine → Result Groups FormulaError
 formula_of kind [] = Err NoHeader
 formula_of kind (header ∷ lines) = do
   stated ← header_of kind header
@@ -122,17 +122,17 @@ formula_of kind (header ∷ lines) = do
   groups_of kind stated (slice_split is_zero literals)
 
 -- The formula of a text, or its first fault. Blank lines and comments, which begin with c, are passed over.
-unfoldable pub dimacs : Kind → List ℕ → Result Groups Fault
+unfoldable pub dimacs : Kind → List ℕ → Result Groups FormulaError
 dimacs kind bytes = formula_of kind (content_of 99 bytes)
 
 -- ---- what a reader answers
 
 -- a reading has this fault; want of memory says nothing of it
-abbrev pub Fails : {Y : Type 0} → Fault → Result Y Fault → Type 0
+abbrev pub Fails : {Y : Type 0} → FormulaError → Result Y FormulaError → Type 0
 Fails OutOfMemory reading = Unit {0}
 Fails fault reading = reading ≡ Err fault
 
 -- The answer, as view sees it, is what the reading gives, unless memory ran out.
-abbrev pub Gives : {X Y : Type 0} → (X → Y) → Result X Fault → Result Y Fault → Type 0
+abbrev pub Gives : {X Y : Type 0} → (X → Y) → Result X FormulaError → Result Y FormulaError → Type 0
 Gives view (Ok x) reading = reading ≡ Ok (view x)
 Gives view (Err e) reading = Fails e reading

@@ -2,7 +2,7 @@
 use Rattle.std.specs.Prelude.{ℕ, ◌≤◌, if◌then◌else◌, List, [], ◌∷◌, ◌++◌, drop, Result, Ok, ℤ}
 use Rattle.std.specs.List.{AllByRecursion}
 use Rattle.sd_base.specs.Reading.{◌>>=◌}
-use Rattle.sd_formula.specs.declared.fault.Fault.{Fault}
+use Rattle.sd_formula.specs.declared.error.FormulaError.{FormulaError}
 use Rattle.sd_formula.specs.declared.header.Header.{Header}
 use Rattle.sd_formula.specs.declared.parts.Body.{Body}
 use Rattle.sd_formula.specs.Dimacs.{Stated, Word, literal_of, is_zero}
@@ -47,7 +47,7 @@ abbrev pub put_literal : Parts → ℤ → Parts
 put_literal p z = if is_zero z then ended p else extended p z
 
 -- words are put, up to the first that has a fault
-abbrev pub put_words : ℕ → Parts → List Word → Result Parts Fault
+abbrev pub put_words : ℕ → Parts → List Word → Result Parts FormulaError
 put_words variables p [] = Ok p
 put_words variables p (word ∷ words) = do
   z ← literal_of variables word

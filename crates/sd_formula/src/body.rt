@@ -1,33 +1,37 @@
 //! The body of a text in the format of DIMACS.
 
-ghost use Rattle.std.specs.Prelude.{◌≤◌};
+ghost use Rattle.std.specs.Prelude.{◌≤◌, ◌+◌, length};
 ghost use Rattle.sd_base.specs.Views.{line_view, content_left};
 ghost use Rattle.sd_formula.specs.Dimacs as texts;
 ghost use Rattle.sd_formula.specs.Dimacs.{Gives};
 ghost use Rattle.sd_formula.specs.Steps.{body_view, no_parts, put_words};
 
-use crate::fault::Fault;
+use crate::error::FormulaError;
 use crate::parts::Body;
 use sd_base::{ContentLines, Line, integer};
 use std::alloc::Global;
 
 /// The literal or the zero that a word of the body stands for.
-fn literal_of(variables: u32, line: u32, word: &[u8]) -> Result<i32, Fault>
+fn literal_of(variables: u32, line: u32, word: &[u8]) -> Result<i32, FormulaError>
     requires { variables ≤ 1024 }
     ensures { Gives (λ z. z) result
         (texts.literal_of variables (record { line = line; bytes = word.now })) }
 {
-    let literal = integer(word).ok_or(Fault::BadWord { line })?;
+    let literal = integer(word).ok_or(FormulaError::BadWord { line })?;
     if literal.unsigned_abs() > u64::from(variables) {
-        return Err(Fault::LiteralRange { line, literal });
+        return Err(FormulaError::LiteralRange { line, literal });
     }
     Ok(literal as i32)
 }
 
 /// Puts the literals of a line; after a fault those before it are put.
-fn read_line(body: &mut Body, variables: u32, line: &Line<'_>) -> Result<(), Fault>
-    requires { variables ≤ 1024 }
-    ensures { Gives (λ _. body_view body.new) result
+fn read_line(body: &mut Body, variables: u32, line: &Line<'_>) -> Result<(), FormulaError>
+    requires range { variables ≤ 1024 }
+    requires few { length body.old.literals.items + length (texts.words_at (line_view line.now))
+        ≤ 67108864 }
+    ensures few { length body.new.literals.items
+        ≤ length body.old.literals.items + length (texts.words_at (line_view line.now)) }
+    ensures read { Gives (λ _. body_view body.new) result
         (put_words variables (body_view body.old) (texts.words_at (line_view line.now))) }
 {
     for word in line.words() {
@@ -38,13 +42,14 @@ fn read_line(body: &mut Body, variables: u32, line: &Line<'_>) -> Result<(), Fau
 }
 
 /// What the lines before the first that begins with `%` stand for.
-#[tactic(auto, using(crate::proofs::ReaderLaws::body_line))]
+#[tactic(auto, using(crate::proofs::ReaderLaws::body_line, crate::proofs::ReaderLaws::body_length))]
 pub(crate) fn read_body(
     alloc: Global,
     variables: u32,
     lines: ContentLines<'_>,
-) -> Result<Body, Fault>
-    requires { variables ≤ 1024 }
+) -> Result<Body, FormulaError>
+    requires range { variables ≤ 1024 }
+    requires few { length (texts.body_of (content_left lines)) ≤ 67108864 }
     ensures { Gives body_view result
         (put_words variables no_parts (texts.body_of (content_left lines.entry))) }
 {

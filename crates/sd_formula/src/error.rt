@@ -1,29 +1,61 @@
-//! Why a text gives no formula.
+//! Why a text is no formula.
 
 ghost use Rattle.std.specs.Prelude.{◌≡◌};
-ghost use Rattle.sd_formula.specs.Plain.{without_reason};
 
-use crate::fault::Fault;
+use std::alloc::{AllocError, AllocFailed};
 use thiserror::Error;
 
-/// Why `read_dimacs` gives no formula.
+/// The first fault of a text, or want of memory. Lines are counted from 1, over all lines.
+///
+/// The header is tested first, in the order of the first four variants. Then each word of the body
+/// is tested for `BadWord` and `LiteralRange`, and at the end the groups for the last two.
 #[derive(Clone, Copy, Debug, PartialEq, Eq, Error)]
 pub enum FormulaError {
-    /// The text is not plain, or stands for no formula of the kind.
-    #[error("NotYet")]
-    NotYet,
+    /// Each line is blank or a comment, or the first word of the first other line is not `p`.
+    #[error("NoHeader")]
+    NoHeader,
+    /// The header is not `p`, the word of the kind and two naturals.
+    #[error("BadHeader")]
+    BadHeader { line: u32 },
+    /// The stated number of variables is not 1 to 1,024.
+    #[error("VariablesRange")]
+    VariablesRange { found: u64 },
+    /// The header states more than 1,000,000 groups.
+    #[error("TooManyGroups")]
+    TooManyGroups { stated: u64 },
+    /// A word of the body is no integer.
+    #[error("BadWord")]
+    BadWord { line: u32 },
+    /// A literal is of no variable of the formula.
+    #[error("LiteralRange")]
+    LiteralRange { line: u32, literal: i64 },
+    /// Literals stand after the last zero.
+    #[error("Unterminated")]
+    Unterminated,
+    /// The number of groups is not the one that the header states.
+    #[error("CountDiffers")]
+    CountDiffers { stated: u64, found: u64 },
     /// Want of memory, whatever the text.
     #[error("OutOfMemory")]
     OutOfMemory,
 }
 
-impl From<Fault> for FormulaError {
-    ghost from_gives = { λ fault e. e ≡ without_reason fault };
+impl From<AllocError> for FormulaError {
+    ghost use Rattle.sd_formula.specs.declared.error.FormulaError.TheVariants.{OutOfMemory};
 
-    fn from(fault: Fault) -> FormulaError {
-        match fault {
-            Fault::OutOfMemory => FormulaError::OutOfMemory,
-            _ => FormulaError::NotYet,
-        }
+    ghost from_gives = { λ _ e. e ≡ OutOfMemory };
+
+    fn from(_e: AllocError) -> FormulaError {
+        FormulaError::OutOfMemory
+    }
+}
+
+impl<T: Drop> From<AllocFailed<T>> for FormulaError {
+    ghost use Rattle.sd_formula.specs.declared.error.FormulaError.TheVariants.{OutOfMemory};
+
+    ghost from_gives = { λ _ e. e ≡ OutOfMemory };
+
+    fn from(_e: AllocFailed<T>) -> FormulaError {
+        FormulaError::OutOfMemory
     }
 }

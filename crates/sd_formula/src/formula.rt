@@ -41,7 +41,7 @@ pub struct Formula {
     /// The literals of all groups, one group after another.
     pub(crate) literals: Vec<i32>,
     /// For each group how many literals stand up to its end.
-    pub(crate) ends: Vec<usize>,
+    pub(crate) ends: Vec<u32>,
 }
 
 impl Model for Formula {

@@ -6,7 +6,7 @@ ghost use Rattle.sd_formula.specs.Dimacs as texts;
 ghost use Rattle.sd_formula.specs.Dimacs.{Gives};
 ghost use Rattle.sd_formula.specs.Steps.{header_view, pair_view, InRange};
 
-use crate::fault::Fault;
+use crate::error::FormulaError;
 use crate::formula::Kind;
 use sd_base::{Line, Words, natural};
 
@@ -24,15 +24,15 @@ pub(crate) struct Header {
 }
 
 /// The header of a text of this kind.
-pub(crate) fn header_of(kind: Kind, line: &Line<'_>) -> Result<Header, Fault>
+pub(crate) fn header_of(kind: Kind, line: &Line<'_>) -> Result<Header, FormulaError>
     ensures value { Gives header_view result (texts.header_of kind (line_view line.now)) }
     ensures range { IfOk result (λ header. InRange (header_view header)) }
 {
     let mut words = line.words();
     if words.next() != Some(b"p") {
-        return Err(Fault::NoHeader);
+        return Err(FormulaError::NoHeader);
     }
-    let (variables, groups) = numbers_of(kind, words).ok_or(Fault::BadHeader {
+    let (variables, groups) = numbers_of(kind, words).ok_or(FormulaError::BadHeader {
         line: line.number,
     })?;
     in_range(variables, groups)
@@ -52,16 +52,16 @@ fn numbers_of(kind: Kind, mut words: Words<'_>) -> Option<(u64, u64)>
 }
 
 /// The header of two numbers.
-fn in_range(variables: u64, groups: u64) -> Result<Header, Fault>
+fn in_range(variables: u64, groups: u64) -> Result<Header, FormulaError>
     ensures value { Gives header_view result
         (texts.in_range (record { variables = variables; groups = groups })) }
     ensures range { IfOk result (λ header. InRange (header_view header)) }
 {
     if variables < 1 || variables > MAX_VARIABLES {
-        return Err(Fault::VariablesRange { found: variables });
+        return Err(FormulaError::VariablesRange { found: variables });
     }
     if groups > MAX_GROUPS {
-        return Err(Fault::TooManyGroups { stated: groups });
+        return Err(FormulaError::TooManyGroups { stated: groups });
     }
     Ok(Header {
         variables: variables as u32,

@@ -4,18 +4,17 @@
 
 mod body;
 mod error;
-mod fault;
 mod flat;
 mod formula;
 mod header;
+pub mod laws;
 mod literals;
 mod parts;
-mod plain;
 mod reader;
 
 pub use error::FormulaError;
 pub use formula::{Formula, Kind};
-pub use plain::read_dimacs;
+pub use reader::read_dimacs;
 
 #[cfg(test)]
 mod tests;

@@ -1,17 +1,21 @@
 //! The literals that were read, in groups.
 
-ghost use Rattle.std.specs.Prelude.{◌≡◌, ◌==◌, not, length, OnOk, OnErr};
+ghost use Rattle.std.specs.Prelude.{◌≡◌, ◌==◌, ◌<◌, ◌≤◌, ◌+◌, ◌^◌, [], ◌∷◌, ◌++◌, not, length};
+ghost use Rattle.std.specs.Prelude.{if◌then◌else◌, is_ok, OnOk, OnErr};
 ghost use Rattle.sd_formula.specs.Flat.{AreEnds, AreEnds-prop};
 
 use crate::flat::start_of;
 use std::alloc::{AllocError, Global};
+
+// For how many more items a list gets room at least.
+const LEAST_ROOM: usize = 16;
 
 /// The literals that were read, without zeros, and the places at which groups end.
 #[derive(Drop)]
 pub(crate) struct Body {
     pub(crate) literals: Vec<i32>,
     /// For each zero how many literals stood before it.
-    pub(crate) ends: Vec<usize>,
+    pub(crate) ends: Vec<u32>,
     ghost rise: { AreEnds 0 ends.items (length literals.items) } by { AreEnds-prop _ _ _ },
 }
 
@@ -20,7 +24,8 @@ impl Body {
 
     /// Nothing read yet.
     pub(crate) fn new(alloc: Global) -> Self
-        ensures { body_view result ≡ no_parts }
+        ensures nothing { body_view result ≡ no_parts }
+        ensures no_literals { result.literals.items ≡ [] }
     {
         Body {
             literals: Vec::new(alloc),
@@ -30,6 +35,8 @@ impl Body {
 
     /// Ends the group in hand at a zero, or puts a literal into it.
     pub(crate) fn put(&mut self, literal: i32) -> Result<(), AllocError>
+        requires { length self.old.literals.items < 2 ^ 32 }
+        ensures few { length self.new.literals.items ≤ length self.old.literals.items + 1 }
         ensures ok { OnOk result (body_view self.new ≡ put_literal (body_view self.old) literal) }
         ensures err { OnErr result (body_view self.new ≡ body_view self.old) }
     {
@@ -43,20 +50,23 @@ impl Body {
     /// Ends the group in hand.
     #[tactic(auto, using(crate::proofs::FlatLaws::end_is, crate::proofs::FlatLaws::ends_push))]
     fn end_group(&mut self) -> Result<(), AllocError>
+        requires { length self.old.literals.items < 2 ^ 32 }
+        ensures literals { self.new.literals.items ≡ self.old.literals.items }
         ensures ok { OnOk result (body_view self.new ≡ ended (body_view self.old)) }
         ensures err { OnErr result (body_view self.new ≡ body_view self.old) }
     {
-        self.ends.push(self.literals.len())?;
+        put_last(&mut self.ends, self.literals.len() as u32)?;
         Ok(())
     }
 
     /// Puts a literal into the group in hand.
     #[tactic(auto, using(crate::proofs::FlatLaws::literal_is, crate::proofs::FlatLaws::ends_more))]
     fn put_behind(&mut self, literal: i32) -> Result<(), AllocError>
+        ensures few { length self.new.literals.items ≤ length self.old.literals.items + 1 }
         ensures ok { OnOk result (body_view self.new ≡ extended (body_view self.old) literal) }
         ensures err { OnErr result (body_view self.new ≡ body_view self.old) }
     {
-        self.literals.push(literal)?;
+        put_last(&mut self.literals, literal)?;
         Ok(())
     }
 
@@ -67,4 +77,16 @@ impl Body {
     {
         start_of(&self.ends, self.ends.len()) != self.literals.len()
     }
+}
+
+/// Puts an item behind the others. A full list grows by a quarter, so that little room is unused.
+fn put_last<T: Drop>(list: &mut Vec<T>, item: T) -> Result<(), AllocError>
+    ensures { list.new.items
+        ≡ (if is_ok result then list.old.items ++ item ∷ [] else list.old.items) }
+{
+    if list.len() == list.capacity() {
+        list.reserve_exact(list.len() / 4 + LEAST_ROOM)?;
+    }
+    list.push(item)?;
+    Ok(())
 }

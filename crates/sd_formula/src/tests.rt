@@ -1,16 +1,21 @@
-//! Plain texts with their groups and values, and texts that are refused.
+//! Texts with their groups and values, and texts that are refused, each with its fault.
 
 use super::*;
 use std::test::Fail;
 
 #[test]
-fn plain_texts_and_their_groups(rt: HostRuntime) -> Result<(), Fail> {
+fn texts_and_their_groups(rt: HostRuntime) -> Result<(), Fail> {
+    let satlib = b"c SATLIB layout\np cnf 2 2\n 1 2 0\n-1 2 0\n%\n0\n\n".as_slice();
+    let windows = b"c \xff\r\np dnf 2 1\r\n1 -2\r\n 0\r\n";
     let long = b"p dnf 1024 2\n1024 -1024 -1024 0 007 0\n";
-    let rows: [(&[u8], Kind, &[&[i32]]); 4] = [
+    let lines = b" p\tcnf 2 3\n1\n\n c 0\n-2 0 0\n-0";
+    let rows: [(&[u8], Kind, &[&[i32]]); 6] = [
         (b"p cnf 2 1\n1 2 0\n", Kind::Cnf, &[&[1, 2]]),
         (b"p cnf 3 0", Kind::Cnf, &[]),
-        (b" p\tcnf 2 2\r\n1\n-2 0 0\n", Kind::Cnf, &[&[1, -2], &[]]),
+        (satlib, Kind::Cnf, &[&[1, 2], &[-1, 2]]),
+        (windows, Kind::Dnf, &[&[1, -2]]),
         (long, Kind::Dnf, &[&[1024, -1024, -1024], &[7]]),
+        (lines, Kind::Cnf, &[&[1, -2], &[], &[]]),
     ];
     for (text, kind, groups) in rows {
         let formula = read_dimacs(rt.alloc(), text, kind)?;
@@ -24,29 +29,63 @@ fn plain_texts_and_their_groups(rt: HostRuntime) -> Result<(), Fail> {
     Ok(())
 }
 
+/// The fault of each text, read as a CNF.
 #[test]
-fn other_texts_are_not_yet(rt: HostRuntime) {
-    for text in [
-        b"".as_slice(),
-        b"\n",
-        b"p cnf 2 1\n\n1 2 0\n",
-        b"p cnf 2 1\n1 2 0\n \n",
-        b"c x\np cnf 2 1\n1 2 0\n",
-        b"p cnf 2 1\n1 2 0\n cx\n",
-        b"p cnf 2 1\n1 2 0\n%\n0\n",
-        b"p cnf 2 1\n1 2\n",
-        b"p cnf 2 2\n1 2 0\n",
-        b"p cnf 2 0\n1 2 0\n",
-        b"p cnf 2 1\n1 3 0\n",
-        b"p cnf 2 1\n1 +2 0\n",
-        b"p cnf 0 0\n",
-        b"p cnf 1025 0\n",
-        b"p cnf 2 1000001\n",
-        b"p dnf 2 1\n1 2 0\n",
-        b"q cnf 2 1\n1 2 0\n",
-    ] {
+fn texts_that_are_refused(rt: HostRuntime) {
+    let rows = [
+        (b"".as_slice(), FormulaError::NoHeader),
+        (b"c x\n \n", FormulaError::NoHeader),
+        (b"\x1f\x8b", FormulaError::NoHeader),
+        (b"%\np cnf 2 0\n", FormulaError::NoHeader),
+        (b"c\np dnf 2 0\n", FormulaError::BadHeader { line: 2 }),
+        (b"p cnf 2\n", FormulaError::BadHeader { line: 1 }),
+        (b"p cnf 0 0\n", FormulaError::VariablesRange { found: 0 }),
+        (
+            b"p cnf 1025 0\n",
+            FormulaError::VariablesRange { found: 1025 },
+        ),
+        (
+            b"p cnf 2 1000001\nx",
+            FormulaError::TooManyGroups { stated: 1_000_001 },
+        ),
+        (b"p cnf 2 1\np cnf 2 1\n", FormulaError::BadWord { line: 2 }),
+        (
+            b"p cnf 2 1\n1000000000000000000 0",
+            FormulaError::BadWord { line: 2 },
+        ),
+        (
+            b"p cnf 2 1\n\n999999999999999999 0\nx",
+            FormulaError::LiteralRange {
+                line: 3,
+                literal: 999_999_999_999_999_999,
+            },
+        ),
+        (
+            b"p cnf 2 9\n1 0 -3",
+            FormulaError::LiteralRange {
+                line: 2,
+                literal: -3,
+            },
+        ),
+        (b"p cnf 2 3\n1 2 0 1\n%\n0\n", FormulaError::Unterminated),
+        (
+            b"p cnf 2 3\n1 2 0\n-1 0\n",
+            FormulaError::CountDiffers {
+                stated: 3,
+                found: 2,
+            },
+        ),
+        (
+            b"p cnf 2 0\n0 0",
+            FormulaError::CountDiffers {
+                stated: 0,
+                found: 2,
+            },
+        ),
+    ];
+    for (text, fault) in rows {
         let answer = read_dimacs(rt.alloc(), text, Kind::Cnf);
-        assert!(rt; matches!(answer, Err(FormulaError::NotYet)), "{text:?}");
+        assert!(rt; matches!(answer, Err(e) if e == fault), "{text:?}");
     }
 }
 

@@ -1,4 +1,4 @@
-use Rattle.std.proofs.Common.{◌≡◌}
+use Rattle.std.proofs.Common.{◌≡◌, ◌+◌, ◌≤◌, length}
 use Rattle.sd_base.specs.Views.{content_left}
 use Rattle.sd_formula.specs.Dimacs.{body_of}
 use Rattle.sd_formula.specs.Steps.{body_view, no_parts, put_words}
@@ -11,4 +11,5 @@ invariant-loop-line l = record {
   ends : (goal.iterator-loop-line).is_finite l.line-iterator;
   same : put_words l.variables (body_view l.body) (body_of (content_left l.line-iterator))
       ≡ put_words l.variables no_parts (body_of (content_left l.fn.lines));
+  few : length l.body.literals.items + length (body_of (content_left l.line-iterator)) ≤ 67108864;
 }

@@ -1,8 +1,9 @@
-use Rattle.std.proofs.Common.{sym, ◌∙◌}
+use Rattle.std.proofs.Common.{sym, ◌∙◌, arith}
 use Rattle.std.proofs.lemmas.Result.{err_from_is_err_and}
 use Rattle.sd_base.specs.Views.{content_left}
 use Rattle.sd_formula.specs.Dimacs.{body_of, dimacs}
 use Rattle.sd_formula.specs.Steps.{no_parts, body_view}
+use Rattle.sd_formula.proofs.FewWords.{few_words}
 use Rattle.sd_formula.proofs.FitLaws.{words_fit}
 use Rattle.sd_formula.proofs.ReaderLaws.{whole, body_fails}
 use Rattle.sd_formula.proofs.reader.read_text.Goals as goal
@@ -29,3 +30,9 @@ finish-requires-clause-literals c =
     let words = body_of (content_left c.next.new.self) in
     words_fit c.in_ok-header.header.variables no_parts (body_view c.in_ok-body.body) words
     (record { closed = tt; open_part = tt }) c.in_ok-body.ensures
+
+-- there are no more words than bytes
+pub read_body-requires-clause-few : goal.read_body-requires-clause-few
+read_body-requires-clause-few c =
+    let lines = sym c.new-lines.ensures ∙ c.in-Some.ensures.steps in
+    omega (arith, few_words c.args.bytes.now _ _ lines, c.requires)
