@@ -1,6 +1,7 @@
 -- What a reading of a whole file answers.
-use Rattle.std.specs.Prelude.{◌≡◌, ℕ, ◌<◌, ◌≤◌, List, length, Result, Ok, Err}
-use Rattle.sd_base.specs.Shelf.{Hand, NoFile, IsReading}
+use Rattle.std.specs.Prelude.{◌≡◌, ◌⊎◌, ℕ, ◌+◌, ◌<◌, ◌≤◌, List, length, Option, Result, Ok, Err}
+use Rattle.sd_base.specs.Files.{Files, HasBytes}
+use Rattle.sd_base.specs.Shelf.{Hand, NoFile, Reading, IsReading}
 use Rattle.sd_base.specs.declared.read_whole.ReadError.{ReadError}
 use Rattle.sd_base.specs.declared.read_whole.ReadError.TheVariants.{ReadFault, TooLong, OutOfMemory}
 
@@ -17,3 +18,25 @@ IsHeldAfter (Ok done) hand = IsReading hand
 IsHeldAfter (Err ReadFault) hand = hand ≡ NoFile
 IsHeldAfter (Err TooLong) hand = IsReading hand
 IsHeldAfter (Err OutOfMemory) hand = IsReading hand
+
+-- where it lies in the file then: at its end, or a byte past so many
+abbrev pub IsPlacedAfter : List ℕ → ℕ → List ℕ → Result (Unit {0}) ReadError → Hand → Type 0
+IsPlacedAfter name most bytes (Ok done) hand = hand ≡ Reading name (length bytes)
+IsPlacedAfter name most bytes (Err ReadFault) hand = Unit {0}
+IsPlacedAfter name most bytes (Err TooLong) hand = hand ≡ Reading name (most + 1)
+IsPlacedAfter name most bytes (Err OutOfMemory) hand = Unit {0}
+
+-- the named file was read to its end, and has at most so many bytes
+pub record IsReadWhole (told : Option Files) (name : List ℕ) (most : ℕ) (hand : Hand) : Type 0 where
+  pub bytes : List ℕ
+  pub has : HasBytes told name bytes
+  pub at_end : hand ≡ Reading name (length bytes)
+  pub within : length bytes ≤ most
+
+-- How far the file was read where its `finish` failed, and no file where that did not fail.
+-- So a failed `finish` is a fault only of a file that was read whole.
+abbrev pub IsLeftUnfinished : Option Files → List ℕ → ℕ → Result (List ℕ) ReadError → Hand → Type 0
+IsLeftUnfinished told name most (Ok read) hand = hand ≡ NoFile
+IsLeftUnfinished told name most (Err ReadFault) hand = (hand ≡ NoFile) ⊎ IsReadWhole told name most hand
+IsLeftUnfinished told name most (Err TooLong) hand = (hand ≡ NoFile) ⊎ (hand ≡ Reading name (most + 1))
+IsLeftUnfinished told name most (Err OutOfMemory) hand = (hand ≡ NoFile) ⊎ IsReading hand

@@ -4,7 +4,8 @@ ghost use Rattle.std.specs.Prelude.{◌≡◌, ◌⊎◌, ◌≤◌, ℕ, List, 
 ghost use Rattle.sd_base.specs.Faults.{Rose};
 ghost use Rattle.sd_base.specs.Files.{HasBytes, HasLonger, IsTold, Lacks};
 ghost use Rattle.sd_base.specs.Shelf.{NoFile};
-ghost use Rattle.sd_base.specs.WholeFile.{IsReadingOf, IsHeldAfter};
+ghost use Rattle.sd_base.specs.WholeFile.{IsReadingOf, IsLeftUnfinished};
+ghost use Rattle.sd_base.specs.WholeFile.{IsHeldAfter, IsPlacedAfter};
 
 use crate::{Bytes, Shelf};
 use std::alloc::Global;
@@ -46,6 +47,10 @@ pub fn read_all<F: Shelf>(alloc: Global, shelf: &mut F, name: &str) -> Result<By
     ensures complete { (bytes : List ℕ) → IsTold (F.files shelf.old) name.now bytes
         → IsReadingOf bytes LONGEST_FILE result
         ⊎ Rose (F.read_faults shelf.old) (F.read_faults shelf.new) }
+
+    // A `finish` that failed changes nothing, but where the whole file was read.
+    ensures unfinished { IsLeftUnfinished (F.files shelf.old) name.now LONGEST_FILE result
+        (F.unfinished shelf.new) }
     ensures read_faults { F.read_faults shelf.old ≤ F.read_faults shelf.new }
     ensures write_faults { F.write_faults shelf.new ≡ F.write_faults shelf.old }
 {
@@ -69,6 +74,8 @@ fn take_in<F: Shelf>(shelf: &mut F, name: &str, bytes: &mut Vec<u8>) -> Result<(
     requires free { F.hand shelf.old ≡ NoFile }
     requires empty { bytes.old.items ≡ [] }
     ensures hand { IsHeldAfter result (F.hand shelf.new) }
+    ensures place { IsPlacedAfter name.now LONGEST_FILE bytes.new.items result (F.hand shelf.new) }
+    ensures unfinished { F.unfinished shelf.new ≡ NoFile }
     ensures files { F.files shelf.new ≡ F.files shelf.old }
     ensures ok { OnOk result (HasBytes (F.files shelf.old) name.now bytes.new.items) }
     ensures within { OnOk result (length bytes.new.items ≤ LONGEST_FILE) }

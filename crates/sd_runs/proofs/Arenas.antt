@@ -7,13 +7,14 @@ use Rattle.std.proofs.lemmas.List.{map-set, reverse-append, reverse-reverse}
 use Rattle.std.specs.FinMap.{FinMap}
 use Rattle.std.specs.Option.{option_map, option_to_list}
 use Rattle.std.specs.Ordering.{nat_cmp}
-use Rattle.sd_runs.specs.Arena.{Arena, IsArena, Has, IsOnce, HasRun, free_of, live_length, live_total}
+use Rattle.sd_runs.specs.Arena.{Arena, IsArena, Has, IsOnce, HasRun, free_of, live_length, live_total, free_total}
 use Rattle.sd_runs.specs.declared.slots.Slot.{Slot}
 use Rattle.sd_runs.specs.declared.slots.Kept.{Kept}
-use Rattle.sd_runs.specs.Slots.{filled_map, lists_of, lengths_of, stacks_of, counts_of, rooms_of}
+use Rattle.sd_runs.specs.Slots.{filled_map, lists_of, lengths_of, stacks_of, counts_of, rooms_of, free_sum}
 use Rattle.sd_runs.specs.Stored.{Stored}
 use Rattle.sd_runs.specs.Taking.{first}
 use Rattle.sd_runs.proofs.Maps.{shown, shown_listed, length_shown, get-filled, free_filled, total-filled}
+use Rattle.sd_runs.proofs.Totals.{free_total-filled}
 use Rattle.sd_runs.proofs.Places.{by_cases}
 use Rattle.sd_runs.proofs.Steps.{used_fits}
 
@@ -58,6 +59,9 @@ module _ {lists : List (List (ℕ × ℕ))} {lengths : List ℕ} {stacks : List 
   pub total_is : live_total (arena_of lists stacks extent bound) ≡ used
   total_is = total-filled lists ∙ sym st.uses
 
+  free_total_is : free_total (arena_of lists stacks extent bound) ≡ free_sum 0 stacks
+  free_total_is = free_total-filled stacks
+
   -- what holds of the fields gives what holds of the arena
   pub is_arena : IsArena (arena_of lists stacks extent bound)
   is_arena =
@@ -76,6 +80,7 @@ module _ {lists : List (List (ℕ × ℕ))} {lengths : List ℕ} {stacks : List 
         listed = λ n e. shown_listed (get_or stacks n []) (sym (get-filled stacks n) ∙ e);
         used = omega (arith, total_is, used_fits st);
         bounded = st.bounded;
+        whole = omega (arith, total_is, free_total_is, st.whole);
       }
 
 -- what the fields are after one slot and what is kept for one length were replaced
@@ -161,6 +166,7 @@ arena_of_nothing slots kept bound p q fits =
           room = λ n. omega arith;
           uses = refl;
           fills = refl;
+          whole = refl;
           slots = omega arith;
           bounded = omega arith;
           bound_fits = fits;

@@ -6,3 +6,4 @@ mod Pads
 pub mod Places
 mod Reused
 mod Steps
+mod Totals

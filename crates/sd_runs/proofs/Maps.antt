@@ -1,7 +1,7 @@
 -- Finite maps from numbers, and the map that a list of lists stands for.
 use Rattle.std.proofs.Common.{IfOk, OnOk, Result, Ok, Err, ◌≡◌, ℕ, suc, zero, ◌+◌, ◌<◌, true, false}
 use Rattle.std.proofs.Common.{cond, List, [], ◌∷◌, length, map, get_or, Option, Some, None}
-use Rattle.std.proofs.Common.{unwrap_or, refl, sym, ap, subst, ◌∙◌, arith, zero-add}
+use Rattle.std.proofs.Common.{T, unwrap_or, refl, sym, ap, subst, ◌∙◌, arith, zero-add}
 use Rattle.std.proofs.Math.ListN.{set}
 use Rattle.std.proofs.lemmas.Bool.{cases_eq}
 use Rattle.std.proofs.lemmas.Cmp.{tied_itself, nat_cmp_total}
@@ -17,6 +17,7 @@ use Rattle.std.specs.FinMap.{FinMap, empty, get, get-entries, insert, remove, en
 use Rattle.std.specs.FinMap.{from_entries, find, put, get-insert, get-remove, get-from_entries}
 use Rattle.std.specs.FinMap.{entries-insert, len-empty, len-entries, same_map}
 use Rattle.std.specs.FinMap.{nat_cmp-IsAntisymmetric}
+use Rattle.std.specs.FinMap.{from_sorted, is_sorted, entries-from_sorted, get-from_sorted}
 use Rattle.std.specs.FinMap.Entries.{by_order}
 use Rattle.sd_runs.specs.Arena.{Arena, free_of, live_total, with_list}
 use Rattle.sd_runs.specs.Slots.{filled, filled_map}
@@ -47,6 +48,14 @@ module _ {X : Type 0} where
 
   pub get-remove_other : (m : FinMap nat_cmp X) (k q : ℕ) → ¬ (q ≡ k) → get (remove m k) q ≡ get m q
   get-remove_other m k q ne = get-remove nat_cmp_total m k q ∙ ap (λ b. cond b None (get m q)) (apart q k ne)
+
+-- the map of entries in order has these entries
+pub entries_kept : {X : Type 0} (es : List (ℕ × X)) → T (is_sorted nat_cmp es)
+    → entries (from_entries {R = nat_cmp} es) ≡ es
+entries_kept es h =
+    ap entries (same_at_each (from_entries es) (from_sorted es)
+    (λ q. get-from_entries {R = nat_cmp} nat_cmp_total es q ∙ sym (get-from_sorted nat_cmp es q h)))
+    ∙ entries-from_sorted nat_cmp es h
 
 -- nothing for the empty list
 abbrev pub shown : {X : Type 0} → List X → Option (List X)

@@ -15,6 +15,7 @@ use Rattle.sd_runs.specs.Slots.{lists_of, lengths_of, stacks_of, counts_of, room
 use Rattle.sd_runs.specs.Padded.{IsPaddedSlots, IsPaddedKept, HasRoom}
 use Rattle.sd_runs.specs.Stored.{Stored}
 use Rattle.sd_runs.proofs.Places.{by_cases, counted_no}
+use Rattle.sd_runs.proofs.Totals.{free_sum_same}
 
 -- what is read past the end stays what it was
 get_or_pad : {X : Type 0} (xs : List X) (d : X) (k : ℕ) → get_or (xs ++ d ∷ []) k d ≡ get_or xs k d
@@ -136,6 +137,7 @@ stored_padded_slots old new kept {used} {extent} p st =
       room = st.room;
       uses = st.uses ∙ sym (p.sums length refl);
       fills = p.total ∙ st.fills;
+      whole = st.whole;
       slots = omega (
         arith,
         st.slots,
@@ -151,7 +153,7 @@ stored_padded_slots old new kept {used} {extent} p st =
 pub stored_padded_kept : (slots : List Slot) (old new : List Kept) {used extent bound : ℕ} → IsPaddedKept old new
     → Stored (lists_of slots) (lengths_of slots) (stacks_of old) (counts_of old) (rooms_of old) used extent bound
     → Stored (lists_of slots) (lengths_of slots) (stacks_of new) (counts_of new) (rooms_of new) used extent bound
-stored_padded_kept slots old new p st =
+stored_padded_kept slots old new {used} p st =
     record {
       same_length = st.same_length;
       held = st.held;
@@ -165,6 +167,7 @@ stored_padded_kept slots old new p st =
       room = λ n. omega (arith, st.room n, p.rooms n, p.counts n, ap length (p.stacks n));
       uses = st.uses;
       fills = st.fills;
+      whole = ap (λ n. used + n) (free_sum_same 0 (stacks_of new) (stacks_of old) p.stacks) ∙ st.whole;
       slots = st.slots;
       bounded = st.bounded;
       bound_fits = st.bound_fits;

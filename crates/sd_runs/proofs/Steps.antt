@@ -1,5 +1,5 @@
 -- What holds of the fields is kept when a run is freed, used again or added.
-use Rattle.std.proofs.Common.{◌≡◌, ℕ, suc, zero, ◌+◌, ◌-◌, ◌<◌, ◌≤◌, List, [], ◌∷◌, length, get_or}
+use Rattle.std.proofs.Common.{◌≡◌, ℕ, suc, zero, ◌+◌, ◌*◌, ◌-◌, ◌<◌, ◌≤◌, List, [], ◌∷◌, length, get_or}
 use Rattle.std.proofs.Common.{refl, sym, ap, subst, ◌∙◌, arith, inl, inr}
 use Rattle.std.proofs.Math.ListN.{set}
 use Rattle.std.proofs.lemmas.Bool.{cases_eq}
@@ -11,6 +11,7 @@ use Rattle.sd_runs.specs.Arena.{Has, IsOnce}
 use Rattle.sd_runs.specs.Slots.{counted}
 use Rattle.sd_runs.specs.Stored.{Stored}
 use Rattle.sd_runs.proofs.Places.{by_cases, placed, list_inside, no_elements, sum_below}
+use Rattle.sd_runs.proofs.Totals.{free_sum_set, times_more}
 use Rattle.sd_runs.proofs.Places.{counted_yes, counted_no, counted-le}
 
 -- the number of lists of a length, where one list is replaced by another of that length or not
@@ -147,6 +148,15 @@ module _ {lists : List (List (ℕ × ℕ))} {lengths : List ℕ} {stacks : List 
             (omega (arith, st.room n, more, alive)) (st.room m);
         uses = omega (arith, st.uses, sum_by-set length lists s [] [] inside, size);
         fills = st.fills;
+        whole = omega (
+          arith,
+          st.whole,
+          sum_by-set length lists s [] [] inside,
+          size,
+          st.uses,
+          free_sum_set 0 stacks n (s ∷ get_or stacks n []) in_stacks,
+          times_more n (length (get_or stacks n [])),
+        );
         slots = omega (arith, st.slots, length-set lists s []);
         bounded = st.bounded;
         bound_fits = st.bound_fits;
@@ -191,6 +201,13 @@ module _ {lists : List (List (ℕ × ℕ))} {lengths : List ℕ} {stacks : List 
             (omega (arith, st.room n, more, ap length stack)) (st.room m);
         uses = omega (arith, st.uses, sum_by-set length lists s list [] inside, size, ap length empty);
         fills = st.fills;
+        whole = omega (
+          arith,
+          st.whole,
+          free_sum_set 0 stacks n rest in_stacks,
+          times_more n (length rest),
+          ap (λ l. n * length l) stack,
+        );
         slots = omega (arith, st.slots, length-set lists s list);
         bounded = st.bounded;
         bound_fits = st.bound_fits;
@@ -273,6 +290,7 @@ module _ {lists : List (List (ℕ × ℕ))} {lengths : List ℕ} {stacks : List 
             (cases_eq m n);
         uses = omega (arith, st.uses, sum_by-set length lists extent list [] inside, size, ap length no_list);
         fills = omega (arith, st.fills, sum_by-set (λ n. n) lengths extent n 0 here, no_length);
+        whole = omega (arith, st.whole);
         slots = omega (arith, fits, length-set lists extent list);
         bounded = below;
         bound_fits = st.bound_fits;

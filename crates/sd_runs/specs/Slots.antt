@@ -1,5 +1,5 @@
 -- The fields of the runs as plain lists, and the maps that they stand for.
-use Rattle.std.specs.Prelude.{ℕ, ◌+◌, List, [], ◌∷◌, map, reverse, length, vec_capacity, cond, ◌==◌}
+use Rattle.std.specs.Prelude.{ℕ, ◌+◌, ◌*◌, List, [], ◌∷◌, map, reverse, length, vec_capacity, cond, ◌==◌}
 use Rattle.std.specs.Ordering.{nat_cmp}
 use Rattle.std.specs.FinMap.{FinMap, from_entries}
 use Rattle.sd_runs.specs.declared.slots.Slot.{Slot}
@@ -38,3 +38,8 @@ rooms_of kept = map (λ k. vec_capacity k.starts) kept
 -- 1 where a list has this length
 abbrev pub counted : ℕ → List (ℕ × ℕ) → ℕ
 counted n list = cond (length list == n) 1 0
+
+-- the sum of the lengths of the free runs, where the first list has the starts of those of this length
+abbrev pub free_sum : ℕ → List (List ℕ) → ℕ
+free_sum n [] = 0
+free_sum n (starts ∷ more) = n * length starts + free_sum (n + 1) more

@@ -2,7 +2,7 @@
 use Rattle.std.specs.Prelude.{◌≡◌, ℕ, ◌+◌, ◌<◌, ◌≤◌, ◌^◌, List, [], length, get_or}
 use Rattle.std.specs.List.{sum_by}
 use Rattle.sd_runs.specs.Arena.{Has, IsOnce}
-use Rattle.sd_runs.specs.Slots.{counted}
+use Rattle.sd_runs.specs.Slots.{counted, free_sum}
 
 -- The lists of the live runs and the lengths of all runs stand at their starts; the starts of the free runs,
 -- the number of live runs and the room for starts stand at their lengths. There is room for the starts of all live
@@ -21,6 +21,7 @@ pub record Stored (lists : List (List (ℕ × ℕ))) (lengths : List ℕ) (stack
   pub room : (n : ℕ) → get_or counts n 0 + length (get_or stacks n []) ≤ get_or rooms n 0
   pub uses : used ≡ sum_by length lists
   pub fills : sum_by (λ n. n) lengths ≡ extent
+  pub whole : used + free_sum 0 stacks ≡ extent
   pub slots : extent ≤ length lists
   pub bounded : extent ≤ bound
   pub bound_fits : bound < 2 ^ 31

@@ -1,23 +1,22 @@
 -- A new record is put behind the others, with a run that was just taken.
-use Rattle.std.proofs.Common.{◌≡◌, ◌≢◌, ◌⊎◌, ℕ, suc, zero, ◌+◌, ◌-◌, ◌<◌, ◌^◌, Bool, true, false, cond, max}
+use Rattle.std.proofs.Common.{◌≡◌, ◌≢◌, ◌⊎◌, ℕ, suc, zero, ◌+◌, ◌-◌, ◌<◌, ◌^◌, max}
 use Rattle.std.proofs.Common.{List, [], ◌∷◌, ◌++◌, length, map, slice_get, Option, Some, None, unwrap_or}
 use Rattle.std.proofs.Common.{refl, sym, ap, subst, ◌∙◌, arith, inl, inr}
 use Rattle.std.proofs.Common.{Result, Ok, Err, IfErr}
 use Rattle.std.specs.Result.{IsErrAnd}
 use Rattle.std.proofs.lemmas.Bool.{cases_eq}
-use Rattle.std.proofs.lemmas.Cmp.{nat_cmp_total}
 use Rattle.std.proofs.lemmas.List.{length-map, map_push, length_push}
 use Rattle.std.proofs.lemmas.List.Sums.{sum_by_push}
+use Rattle.std.specs.List.{sum_by}
 use Rattle.std.specs.Option.{option_map}
-use Rattle.std.specs.Ordering.{nat_cmp, eq_by_cmp}
-use Rattle.std.specs.FinMap.{FinMap, empty, get, get-entries, remove, entries, find, get-from_entries}
+use Rattle.std.specs.Ordering.{nat_cmp}
+use Rattle.std.specs.FinMap.{FinMap, empty, get, remove}
 use Rattle.sd_runs.specs.Arena.{Arena, IsArena, free_of, live_length, live_total, with_list}
 use Rattle.sd_runs.specs.Taking.{taken, taken_at, KeepsLive}
 use Rattle.sd_runs.proofs.Maps.{same_at_each, get-insert_same, get-insert_other, get-remove_same, get-remove_other}
 use Rattle.sd_runs.proofs.Maps.{shown, get-with_list_same, get-with_list_other}
 use Rattle.sd_runs.proofs.Places.{by_cases}
 use Rattle.sd_unique.specs.declared.record.Record.{Record}
-use Rattle.sd_unique.specs.Nodes.{free_count}
 use Rattle.sd_unique.specs.Inserting.{with_count, extent_after, inserted, no_nodes, IsRefusal}
 use Rattle.sd_runs.specs.Taking.{empty_arena, IsRefusal as ArenaRefusal}
 use Rattle.sd_runs.specs.declared.error.TakeError.{TakeError}
@@ -26,34 +25,10 @@ use Rattle.sd_runs.proofs.Maps.{no_entries}
 use Rattle.std.specs.FinMap.{from_entries}
 use Rattle.sd_unique.specs.Record.{numbered_map, key_of, keys_of, counts_of, nodes_of, Stored}
 use Rattle.sd_unique.proofs.Entries.{slice_get_push, slice_get_before, option_map_some, numbered_push}
+use Rattle.sd_unique.proofs.Counts.{get-counts, count_is}
+use Rattle.sd_unique.specs.Chains.{IsLinked}
+use Rattle.sd_unique.proofs.Linked.{linked_same}
 use Rattle.sd_unique.proofs.Numbered.{linked_at}
-
-counted_entry : (b : Bool) (l : List ℕ) (es : List (ℕ × List ℕ)) (n : ℕ)
-    → find nat_cmp n (map (λ (e : ℕ × List ℕ). (e.0, length e.1)) es) ≡ option_map length (find nat_cmp n es)
-    → cond b (Some (length l)) (find nat_cmp n (map (λ (e : ℕ × List ℕ). (e.0, length e.1)) es))
-    ≡ option_map length (cond b (Some l) (find nat_cmp n es))
-counted_entry true l es n rest = refl
-counted_entry false l es n rest = rest
-
-find-counts : (es : List (ℕ × List ℕ)) (n : ℕ)
-    → find nat_cmp n (map (λ (e : ℕ × List ℕ). (e.0, length e.1)) es) ≡ option_map length (find nat_cmp n es)
-find-counts [] n = refl
-find-counts (e ∷ es) n = counted_entry (eq_by_cmp nat_cmp n e.0) e.1 es n (find-counts es n)
-
--- the count of a length is the number of the free starts of that length
-get-counts : (f : FinMap nat_cmp (List ℕ)) (n : ℕ) → get (counts_of f) n ≡ option_map length (get f n)
-get-counts f n =
-    get-from_entries nat_cmp_total (map (λ (e : ℕ × List ℕ). (e.0, length e.1)) (entries f)) n
-    ∙ find-counts (entries f) n ∙ ap (option_map length) (sym (get-entries f n))
-
-count_there : (o : Option (List ℕ)) → unwrap_or (option_map length o) 0 ≡ length (unwrap_or o [])
-count_there None = refl
-count_there (Some l) = refl
-
--- the count of free runs is the number of their starts
-pub count_is : (arena : Arena) (rs : List Record) (n : ℕ)
-    → free_count (nodes_of arena rs) n ≡ length (free_of arena n)
-count_is arena rs n = ap (λ o. unwrap_or o 0) (get-counts arena.free n) ∙ count_there (get arena.free n)
 
 -- nothing for no run
 abbrev count_shown : ℕ → Option ℕ
@@ -138,6 +113,11 @@ module _ (arena new : Arena) (rs : List Record) (r : Record) (st : Stored arena 
   -- the old records keep their keys
   key_kept : (i : ℕ) (t : Record) → slice_get rs i ≡ Some t → key_of new t ≡ key_of arena t
   key_kept i t e j = (t.place, unwrap_or (old_live i t e j) [])
+
+  -- the old records stay in their chains
+  pub linked_kept : (heads : List ℕ) → IsLinked arena rs heads → IsLinked new rs heads
+  linked_kept heads old =
+      linked_same arena new rs rs heads refl (λ k. refl) (λ i t e. (t, e, key_kept i t e)) old
 
   new_list : get new.live r.start ≡ Some list
   new_list = ap (get new.live) at_start ∙ live
@@ -245,3 +225,15 @@ pub refused_by : {X : Type 0} (r : Result X TakeError) (cause : TakeError) (P : 
     → IsErrAnd r (λ e. e ≡ cause) → P cause → IfErr r P
 refused_by (Ok x) cause P h p = tt
 refused_by (Err e) cause P h p = subst P (sym h) p
+
+-- with no records the fields are in order
+pub stored_of_nothing : (arena : Arena) (rs : List Record) (bound : ℕ) → arena ≡ empty_arena bound → rs ≡ []
+    → IsArena arena → bound < 2 ^ 31 → Stored arena rs
+stored_of_nothing arena rs bound is none well fits =
+    subst (Stored arena) (sym none) (record {
+      well = well;
+      live = λ i r e. cc;
+      total = sym (ap live_total is ∙ ap (λ es. sum_by length (map (λ e. e.1) es)) (no_entries (List (ℕ × ℕ))));
+      unique = λ i j r t p q same. cc;
+      bound_fits = subst (λ b. b < 2 ^ 31) (sym (ap (λ a. a.bound) is)) fits;
+    })

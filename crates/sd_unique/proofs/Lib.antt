@@ -1,4 +1,6 @@
+mod Counts
 mod Entries
 mod Found
 mod Inserted
+mod Linked
 mod Numbered

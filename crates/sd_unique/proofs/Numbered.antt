@@ -1,6 +1,6 @@
 -- The nodes that the records stand for, and what holds of them.
 use Rattle.std.proofs.Common.{◌≡◌, ℕ, suc, zero, ◌<◌, ◌≤◌, List, [], ◌∷◌, length, map}
-use Rattle.std.proofs.Common.{get_or, slice_get, Option, Some, None, unwrap_or, refl, sym, ap, subst, ◌∙◌, arith, inl}
+use Rattle.std.proofs.Common.{get_or, slice_get, Option, Some, None, unwrap_or, refl, sym, ap, subst, ◌∙◌, arith, inl, inr}
 use Rattle.std.proofs.Common.{true}
 use Rattle.std.proofs.Math.ListN.{set}
 use Rattle.std.proofs.Math.Seq.{map-set_same}
@@ -12,12 +12,15 @@ use Rattle.std.specs.Option.{option_map, IsSome}
 use Rattle.std.specs.Ordering.{nat_cmp}
 use Rattle.std.specs.FinMap.{empty, get, values, contains_key, get-empty}
 use Rattle.std.specs.Prelude.{is_some}
-use Rattle.sd_runs.specs.Arena.{Arena, live_length}
+use Rattle.sd_runs.specs.Arena.{Arena, Has, free_of, live_length, live_total}
 use Rattle.sd_runs.proofs.Maps.{no_entries}
 use Rattle.sd_runs.proofs.Places.{by_cases}
 use Rattle.sd_unique.specs.declared.record.Record.{Record}
 use Rattle.sd_unique.specs.Nodes.{IsNodes, key_at, or_else, total_length}
 use Rattle.sd_unique.specs.Inserting.{with_uses}
+use Rattle.sd_unique.specs.Chains.{IsLinked}
+use Rattle.sd_unique.proofs.Linked.{linked_same}
+use Rattle.sd_unique.proofs.Counts.{get-counts, count_is, free_total_is}
 use Rattle.sd_unique.specs.Record.{numbered_map, key_of, keys_of, counts_of, nodes_of, Stored}
 use Rattle.sd_unique.proofs.Entries.{slice_get-map, slice_get_at, slice_get_inside, slice_get_set}
 use Rattle.sd_unique.proofs.Entries.{slice_get_set_other}
@@ -113,6 +116,19 @@ sum_of_keys arena (r ∷ rs) h =
       sum_by-cons (λ (k : ℕ × List (ℕ × ℕ)). length k.1) (key_of arena r) (keys_of arena rs),
     )
 
+no_empty : (n : ℕ) (o : Option (List ℕ)) → ¬ (o ≡ Some []) → ¬ (option_map length o ≡ Some 0)
+no_empty n None h e = cc
+no_empty n (Some []) h e = h refl
+no_empty n (Some (x ∷ xs)) h e = let same : length (x ∷ xs) ≡ 0 = cc in omega arith
+
+none_at : {X : Type 0} {x : X} → ¬ (None ≡ Some x)
+none_at e = cc
+
+some_below : (f : Record → ℕ) (rs : List Record) (n : ℕ) → IsSome (option_map f (slice_get rs n)) → n < length rs
+some_below f [] n h = cc
+some_below f (r ∷ rs) zero h = omega arith
+some_below f (r ∷ rs) (suc n) h = let k : n < length rs = some_below f rs n h in omega arith
+
 none_total : {X : Type 0} (f : X → ℕ) → sum_by f (values (empty {X = X} {R = nat_cmp})) ≡ 0
 none_total {X} f = ap (λ es. sum_by f (map (λ e. e.1) es)) (no_entries X)
 
@@ -124,17 +140,31 @@ module _ {arena : Arena} {rs : List Record} (st : Stored arena rs) where
   pub records_few : length rs ≤ arena.extent
   records_few = omega (arith, sum_at_least rs some_length, st.total, (st.well).used)
 
-  total_is : total_length (nodes_of arena rs) ≤ arena.extent
+  -- the lists of all nodes are together as long as the live runs
+  total_is : total_length (nodes_of arena rs) ≡ live_total arena
   total_is =
       omega (
         arith,
         total-numbered (λ (k : ℕ × List (ℕ × ℕ)). length k.1) (keys_of arena rs),
         sum_of_keys arena rs st.live,
         st.total,
-        (st.well).used,
         none_total (λ (k : ℕ × List (ℕ × ℕ)). length k.1),
         none_total (λ (l : List (ℕ × ℕ)). length l),
       )
+
+  -- no run has no elements
+  none_of_zero : length (free_of arena 0) ≡ 0
+  none_of_zero = none (free_of arena 0) (λ s h. (st.well).some s 0 (inr h))
+    where
+      none : (l : List ℕ) → ((s : ℕ) → Has s l → 0 < 0) → length l ≡ 0
+      none [] h = refl
+      none (x ∷ xs) h = absurd (omega (arith, h x (inl refl)))
+
+  -- what has an entry for each record has it for nodes alone
+  numbered_only : (f : Record → ℕ) (n : ℕ) → IsSome (get (numbered_map (map f rs)) n)
+      → IsSome (key_at (nodes_of arena rs) n)
+  numbered_only f n h =
+      inside_node arena rs n (some_below f rs n (subst IsSome (get-numbered (map f rs) n ∙ slice_get-map f rs n) h))
 
   -- what holds of the fields gives what holds of the nodes
   pub is_nodes : IsNodes (nodes_of arena rs)
@@ -161,9 +191,15 @@ module _ {arena : Arena} {rs : List Record} (st : Stored arena rs) where
         marked = λ n k p.
             let a = option_map_some (λ r. key_of arena r) (slice_get rs n) k (sym (key_at_is arena rs n) ∙ p) in
             numbered_some (λ (r : Record). r.mark) rs n a.0 a.1;
-        total = total_is;
+        total = omega (arith, total_is, (st.well).used);
         records_fit = records_few;
         bounded = (st.well).bounded;
+        whole = omega (arith, total_is, free_total_is arena rs, (st.well).whole);
+        listed = λ n e. no_empty n (get arena.free n) ((st.well).listed n) (sym (get-counts arena.free n) ∙ e);
+        sized = count_is arena rs 0 ∙ none_of_zero;
+        filled = λ s e. none_at (sym (get-empty nat_cmp s) ∙ e);
+        counted_only = λ n h. numbered_only (λ (r : Record). r.uses) n h;
+        marked_only = λ n h. numbered_only (λ (r : Record). r.mark) n h;
       }
 
   module _ (n : ℕ) (r t : Record) (inside : n < length rs) (read : r ≡ get_or rs n r)
@@ -173,7 +209,7 @@ module _ {arena : Arena} {rs : List Record} (st : Stored arena rs) where
     key_same i = (place i, unwrap_or (get arena.live (start i)) [])
 
     -- each record had its key and run before
-    before : (i : ℕ) (x : Record) → slice_get (set rs n t) i ≡ Some x
+    pub before : (i : ℕ) (x : Record) → slice_get (set rs n t) i ≡ Some x
         → (o : Record) × (slice_get rs i ≡ Some o) × (key_of arena x ≡ key_of arena o) × (x.start ≡ o.start)
         × (x.length ≡ o.length)
     before i x e =
@@ -206,6 +242,32 @@ module _ {arena : Arena} {rs : List Record} (st : Stored arena rs) where
           unique = λ i j x y p q same. let o = before i x p in let w = before j y q in
               st.unique i j o.0 w.0 o.1 w.1 (sym o.2 ∙ same ∙ w.2);
           bound_fits = st.bound_fits;
+        }
+
+    -- the chains are as before where the link is the same
+    pub linked_set : (heads : List ℕ) → t.next ≡ r.next → IsLinked arena rs heads → IsLinked arena (set rs n t) heads
+    linked_set heads next old =
+        linked_same arena arena rs (set rs n t) heads (sym (length-set rs n t))
+        (λ k. ap (λ l. get_or l k 0)
+        (sym (map-set_same (λ (r : Record). r.next) rs n t r (next ∙ ap (λ (r : Record). r.next) read))))
+        (λ i x e. let o = before i x e in (o.0, o.1, o.2)) old
+
+    -- the nodes are the same where the link alone was changed
+    pub nodes_same : t.uses ≡ r.uses → t.mark ≡ r.mark → nodes_of arena (set rs n t) ≡ nodes_of arena rs
+    nodes_same uses mark i =
+        record {
+          linked = ap numbered_map (map-set_same (λ r. key_of arena r) rs n t r (key_same ∙ ap (key_of arena) read))
+              i;
+          detached = empty;
+          loose = empty;
+          uses = ap numbered_map (map-set_same (λ (r : Record). r.uses) rs n t r
+              (uses ∙ ap (λ (r : Record). r.uses) read)) i;
+          marks = ap numbered_map (map-set_same (λ (r : Record). r.mark) rs n t r
+              (mark ∙ ap (λ (r : Record). r.mark) read)) i;
+          free = counts_of arena.free;
+          records = length-set rs n t i;
+          extent = arena.extent;
+          bound = arena.bound;
         }
 
     -- the nodes after the uses of one were changed

@@ -8,6 +8,7 @@ use super::named_bytes::{extend_file, find_bytes, make_empty};
 use super::plan::{Plan, count_fault};
 use crate::{Failed, Name, NamedBytes, PlannedFault, Shelf, ShelfCall};
 use std::alloc::Global;
+use std::mem;
 
 // What is in hand: no file, one being read from an offset on, or one being written.
 #[derive(Drop)]
@@ -26,6 +27,8 @@ pub struct MemoryShelf {
     piece: usize,
     plan: Plan,
     hand: InHand,
+    // what was being read when its `finish` failed
+    unfinished: InHand,
     read_faults: u64,
     write_faults: u64,
     ghost takes_some: { 0 < piece },
@@ -36,7 +39,7 @@ impl MemoryShelf {
     ghost use Rattle.std.specs.Option.{option_map};
     ghost use Rattle.sd_base.specs.Files.{bytes_at};
     ghost use Rattle.sd_base.specs.Memory.{files_of};
-    ghost use Rattle.sd_base.specs.MemoryShown.{memory_files, memory_hand};
+    ghost use Rattle.sd_base.specs.MemoryShown.{memory_files, memory_hand, memory_unfinished};
     ghost use Rattle.sd_base.specs.MemoryShown.{memory_piece, memory_plan, read_faults_of, write_faults_of};
     ghost use Rattle.sd_base.specs.Plan.{IsNewPlan};
     ghost use Rattle.sd_base.specs.Shelf.{NoFile};
@@ -53,6 +56,7 @@ impl MemoryShelf {
         ensures files { memory_files result ≡ files_of files.items }
         ensures hand { memory_hand result ≡ NoFile }
         ensures piece { memory_piece result ≡ piece }
+        ensures unfinished { memory_unfinished result ≡ NoFile }
         ensures planned { IsNewPlan planned.items (memory_plan result) }
         ensures faults { (read_faults_of result ≡ 0) × (write_faults_of result ≡ 0) }
     {
@@ -62,6 +66,7 @@ impl MemoryShelf {
             piece,
             plan: Plan::new(planned),
             hand: InHand::Nothing,
+            unfinished: InHand::Nothing,
             read_faults: 0,
             write_faults: 0,
         }
@@ -100,6 +105,7 @@ impl Shelf for MemoryShelf {
     ghost use Rattle.sd_base.specs.Plan.{GoesByPlan};
     ghost use Rattle.sd_base.specs.Shelf.{NoFile, Reading, Writing, IsReading, IsWriting, TakesNext, appended};
     ghost use Rattle.sd_base.specs.MemoryShown.{memory_hand, memory_piece, memory_plan, told};
+    ghost use Rattle.sd_base.specs.MemoryShown.{memory_unfinished};
     ghost use Rattle.sd_base.specs.MemoryShown.{read_faults_of, write_faults_of};
     ghost use Rattle.sd_base.specs.declared.memory.plan.ShelfCall.TheVariants as calls;
     ghost use Rattle.sd_base.specs.Memory.{files_of, hand_of};
@@ -112,6 +118,8 @@ impl Shelf for MemoryShelf {
 
     ghost write_faults = { λ shelf. shelf.write_faults };
 
+    ghost unfinished = { λ shelf. hand_of shelf.unfinished };
+
     fn start_read(&mut self, name: &str) -> Result<(), Failed>
         requires { memory_hand self.old ≡ NoFile }
         ensures ok { OnOk result (memory_hand self.new ≡ Reading name.now 0) }
@@ -123,8 +131,10 @@ impl Shelf for MemoryShelf {
             Lacks (told self.old) name.now ⊎ Rose (read_faults_of self.old) (read_faults_of self.new)) }
         ensures read_faults { read_faults_of self.old ≤ read_faults_of self.new }
         ensures write_faults { write_faults_of self.new ≡ write_faults_of self.old }
+        ensures unfinished { memory_unfinished self.new ≡ NoFile }
         ensures plan { GoesByPlan (memory_plan self.old) calls.StartRead (memory_plan self.new) result }
     {
+        self.unfinished = InHand::Nothing;
         let planned = self.plan.fails(ShelfCall::StartRead);
         let Some(_) = find_bytes(&self.files, name) else {
             return Err(Failed);
@@ -149,6 +159,7 @@ impl Shelf for MemoryShelf {
         ensures files { told self.new ≡ told self.old }
         ensures cause { HasCause (read_faults_of self.old) (read_faults_of self.new) result }
         ensures write_faults { write_faults_of self.new ≡ write_faults_of self.old }
+        ensures unfinished { memory_unfinished self.new ≡ memory_unfinished self.old }
         ensures plan { GoesByPlan (memory_plan self.old) calls.Read (memory_plan self.new) result }
     {
         if self.plan.fails(ShelfCall::Read) {
@@ -229,14 +240,17 @@ impl Shelf for MemoryShelf {
         ensures of_write { IsWriting (memory_hand self.old)
             → HasCause (write_faults_of self.old) (write_faults_of self.new) result
             × (read_faults_of self.new ≡ read_faults_of self.old) }
+        ensures finished { OnOk result (memory_unfinished self.new ≡ memory_unfinished self.old) }
+        ensures unfinished { IsReading (memory_hand self.old)
+            → OnErr result (memory_unfinished self.new ≡ memory_hand self.old) }
         ensures plan { GoesByPlan (memory_plan self.old) calls.Finish (memory_plan self.new) result }
     {
-        let reading = matches!(self.hand, InHand::Read(_, _));
-        self.hand = InHand::Nothing;
+        let held = mem::replace(&mut self.hand, InHand::Nothing);
         if !self.plan.fails(ShelfCall::Finish) {
             return Ok(());
         }
-        if reading {
+        if matches!(held, InHand::Read(_, _)) {
+            self.unfinished = held;
             return Err(count_fault(&mut self.read_faults));
         }
         Err(count_fault(&mut self.write_faults))

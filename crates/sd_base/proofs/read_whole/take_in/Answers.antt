@@ -16,6 +16,7 @@ reading-init g c =
       };
       within = search rules;
       read_faults = search rules;
+      unfinished = search rules;
       write_faults = search rules;
     }
 
@@ -31,6 +32,7 @@ reading-preserved g c =
           read_more _ _ _ _ _ _ _ _ c.in-Ok.count was.so_far was.files c.in-Ok.ensures.within c.in-Ok.ensures.ok more;
       within = grind (arith, common_steps);
       read_faults = omega arith;
+      unfinished = search rules;
       write_faults = search rules;
     }
 

@@ -1,0 +1,4 @@
+pub mod Pairs
+pub mod Parts
+pub mod Shown
+pub mod Depth
