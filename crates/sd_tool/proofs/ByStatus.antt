@@ -3,7 +3,7 @@ use Rattle.std.proofs.Common.{◌≡◌, ◌⊎◌, ℕ, List, [], Option, inl, 
 use Rattle.sd_base.specs.Files.{Files}
 use Rattle.sd_tool.specs.Effects.{Effect, Contents, after}
 use Rattle.sd_tool.specs.Readings.{Refuses, Reads, reading_of, ReadsTo}
-use Rattle.sd_tool.specs.Refusals.{Refusal, NotYet, TooLong, BadVtree, refusal_status}
+use Rattle.sd_tool.specs.Refusals.{Refusal, NotYet, TooLong, BadFormula, BadVtree, refusal_status}
 use Rattle.sd_tool.specs.Ends.{End, Finished, Refused, Unreadable, Unwritable, OutOfMemory, status_of}
 use Rattle.sd_tool.specs.Devices.{Moment, HasCause, SaysLine}
 use Rattle.sd_tool.specs.Course.{Comes, Leaves}
@@ -14,6 +14,7 @@ use Rattle.sd_tool.proofs.OneOutcome.{none_refused}
 two_or_nine : (refusal : Refusal) (status : ℕ) → status ≡ refusal_status refusal → (status ≡ 2) ⊎ (status ≡ 9)
 two_or_nine NotYet status is = inr is
 two_or_nine (TooLong file) status is = inl is
+two_or_nine (BadFormula file fault) status is = inl is
 two_or_nine (BadVtree file fault) status is = inl is
 
 -- and no other

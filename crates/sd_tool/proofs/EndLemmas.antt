@@ -13,8 +13,8 @@ use Rattle.sd_tool.specs.Stops.{stop_status, stop_text, StandsFor, StopsReading,
 use Rattle.sd_tool.proofs.StepLemmas.{cause_since}
 use Rattle.sd_tool.specs.declared.commands.Command.{Command}
 use Rattle.sd_tool.specs.declared.stop.Stop.{Stop}
-use Rattle.sd_tool.specs.declared.stop.Stop.TheVariants.{NotYet, TooLong, BadVtree, ReadFault, WriteFault}
-use Rattle.sd_tool.specs.declared.stop.Stop.TheVariants.{OutputFault, OutOfMemory}
+use Rattle.sd_tool.specs.declared.stop.Stop.TheVariants.{NotYet, TooLong, BadFormula, BadVtree, ReadFault}
+use Rattle.sd_tool.specs.declared.stop.Stop.TheVariants.{WriteFault, OutputFault, OutOfMemory}
 
 -- the readings stop, and nothing was done
 pub reading_stops : (words : List (List ℕ)) (stop : Stop) (old new : Contents) (before now : Faults) → new ≡ old
@@ -29,6 +29,14 @@ reading_stops words NotYet old new before now same stops = record {
 }
 reading_stops words (TooLong file) old new before now same stops = record {
   end = Refused (refusals.TooLong file);
+  at = record { status = refl; text = refl; stopped = λ e. cc };
+  effects = [];
+  comes = inl (stops, refl);
+  leaves = same;
+  cause = tt;
+}
+reading_stops words (BadFormula file fault) old new before now same stops = record {
+  end = Refused (refusals.BadFormula file fault);
   at = record { status = refl; text = refl; stopped = λ e. cc };
   effects = [];
   comes = inl (stops, refl);

@@ -5,9 +5,8 @@ use Rattle.std.specs.Prelude.{nat_lt}
 use Rattle.sd_base.specs.Files.{Files, Lacks}
 use Rattle.sd_model.specs.Tree.{Tree, IsVtree}
 use Rattle.sd_model.specs.StartTrees.{right_tree}
-use Rattle.sd_formula.specs.declared.formula.Kind.TheVariants.{Cnf}
-use Rattle.sd_formula.specs.Dimacs.{Groups}
-use Rattle.sd_formula.specs.Plain.{plain_dimacs}
+use Rattle.sd_formula.specs.declared.error.FormulaError.{FormulaError}
+use Rattle.sd_formula.specs.Dimacs.{Groups, dimacs}
 use Rattle.sd_vfile.specs.Reads.{vtree_file}
 use Rattle.sd_vfile.specs.declared.fault.VtreeFault.{VtreeFault}
 use Rattle.sd_tool.specs.Job.{Job, TreeWord, StartOf, VtreeIn, job_of}
@@ -88,10 +87,10 @@ valid_tree_word told job f (VtreeIn file) plan (inr (Whole bytes, has, p)) = go 
     go (Ok tree) p = valid_tree told job f tree plan p
     go (Err fault) p = let bad : ⊥ = cc in absurd bad
 
-valid_formula : (told : Option Files) (job : Job) (formula : Option Groups) (plan : Plan)
+valid_formula : (told : Option Files) (job : Job) (formula : Result Groups FormulaError) (plan : Plan)
     → ReadsTo told (with_formula job formula) (Begins plan) → IsValid plan.start
-valid_formula told job None plan p = let bad : ⊥ = cc in absurd bad
-valid_formula told job (Some f) plan p = go (nat_lt 16 f.variables) p
+valid_formula told job (Err fault) plan p = let bad : ⊥ = cc in absurd bad
+valid_formula told job (Ok f) plan p = go (nat_lt 16 f.variables) p
   where
     go : (many : Bool) → ReadsTo told (cond many (Refuses NotYet) (with_tree_word job f job.tree)) (Begins plan)
         → IsValid plan.start
@@ -105,7 +104,7 @@ valid_start told words plan p = go (job_of words) p
   where
     read : (job : Job) (text : Text) → ReadsTo told (with_input job text) (Begins plan) → IsValid plan.start
     read job TooLong p = let bad : ⊥ = cc in absurd bad
-    read job (Whole bytes) p = valid_formula told job (plain_dimacs Cnf bytes) plan p
+    read job (Whole bytes) p = valid_formula told job (dimacs job.input.kind bytes) plan p
 
     go : (job : Option Job) → ReadsTo told (with_job job) (Begins plan) → IsValid plan.start
     go None p = let bad : ⊥ = cc in absurd bad

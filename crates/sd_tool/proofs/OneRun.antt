@@ -1,6 +1,6 @@
 -- Over told files there is one course: where the words and the files lead to an end of their own, a run in which no
 -- device fails comes to that end, or memory ran out.
-use Rattle.std.proofs.Common.{◌≡◌, ◌⊎◌, ◌≤◌, ℕ, List, Some, cond, inl, inr, refl, sym}
+use Rattle.std.proofs.Common.{◌≡◌, ◌⊎◌, ◌≤◌, ℕ, List, Some, Ok, cond, inl, inr, refl, sym}
 use Rattle.std.proofs.Common.{ap, subst, ◌∙◌}
 use Rattle.std.proofs.lemmas.Bool.{le-ltb}
 use Rattle.sd_base.specs.Files.{Files, Lacks}
@@ -166,16 +166,16 @@ leads_to_plan : (words : List (List ℕ)) (files : Files) (job : Job) (f : Group
     → ReadsTo (Some files) (reading_of words) (Begins (plan_for job f (right_tree f.variables)))
 leads_to_plan words files job f input few tree =
     let told = Some files in
-    let served : with_formula job (Some f) ≡ with_tree_word job f job.tree =
+    let served : with_formula job (Ok f) ≡ with_tree_word job f job.tree =
     ap (λ b. cond b (Refuses NotYet) (with_tree_word job f job.tree)) (le-ltb 16 f.variables few) in
-    let read : ReadsTo told (Reads job.input (with_input job)) (with_tree_word job f job.tree) =
+    let read : ReadsTo told (Reads job.input.file (with_input job)) (with_tree_word job f job.tree) =
     inr (
       Whole input.bytes,
       (input.there, input.short),
       reads_same told _ _ (ap (with_formula job) input.reads ∙ served),
     ) in
-    reads_on told (reading_of words) (Reads job.input (with_input job)) _ (job_follows told words job input.named)
-    (reads_on told (Reads job.input (with_input job)) (with_tree_word job f job.tree) _ read
+    reads_on told (reading_of words) (Reads job.input.file (with_input job)) _ (job_follows told words job input.named)
+    (reads_on told (Reads job.input.file (with_input job)) (with_tree_word job f job.tree) _ read
     (reads_on told (with_tree_word job f job.tree) (with_tree job f (right_tree f.variables)) _
     (leads_with_tree files job f job.tree tree) (plan_of_right files job f)))
 

@@ -1,6 +1,10 @@
 -- Texts that are written part by part.
 use Rattle.std.proofs.Common.{◌≡◌, ℕ, List, [], ◌∷◌, ◌++◌, Option, Some, None, refl, sym, ap, ◌∙◌, append_assoc}
 use Rattle.std.specs.Prelude.{codes}
+use Rattle.std.proofs.lemmas.List.{append-nil}
+use Rattle.sd_model.specs.Text.{number_text}
+use Rattle.sd_formula.specs.declared.error.FormulaError.TheVariants.{VariablesRange}
+use Rattle.sd_tool.specs.Refusals.{formula_fault_text}
 use Rattle.sd_tool.specs.Ends.{line_of}
 use Rattle.sd_tool.specs.Parts.{parts_text, number_seen}
 use Rattle.sd_tool.specs.declared.parts.Parts.{Parts}
@@ -53,3 +57,12 @@ line_is p f g first second =
     ++ (p.between.now ++ l ++ p.after.now ++ 10 ∷ [])) second
     ∙ two_halves (codes "sddc: ") p.subject.now p.before.now (number_seen p.first) p.between.now
     (number_seen p.second) p.after.now (10 ∷ [])
+
+-- ---- a fault of a formula file that ends in a number
+
+nothing_after : (file before number : List ℕ) → file ++ before ++ number ++ [] ≡ file ++ (before ++ number)
+nothing_after file before number = append-nil (file ++ before ++ number) ∙ append_assoc file before number
+
+pub variables_text : (file : List ℕ) (v : ℕ)
+    → file ++ codes ": variables out of range: " ++ number_text v ++ [] ≡ file ++ formula_fault_text (VariablesRange v)
+variables_text file v = nothing_after file (codes ": variables out of range: ") (number_text v)

@@ -5,11 +5,9 @@ use Rattle.std.proofs.Common.{IfOk, IfErr, inl, inr, refl, sym, ap, subst, ◌�
 use Rattle.std.specs.Prelude.{nat_lt}
 use Rattle.std.proofs.lemmas.Bool.{le-ltb}
 use Rattle.sd_base.specs.Faults.{Rose}
-use Rattle.sd_base.specs.Files.{Files, HasBytes, Lacks}
+use Rattle.sd_base.specs.Files.{Files, HasBytes, HasLonger, Lacks}
 use Rattle.sd_model.specs.Tree.{Tree}
-use Rattle.sd_formula.specs.declared.formula.Kind.TheVariants.{Cnf}
-use Rattle.sd_formula.specs.Dimacs.{Groups}
-use Rattle.sd_formula.specs.Plain.{plain_dimacs}
+use Rattle.sd_formula.specs.Dimacs.{Groups, dimacs}
 use Rattle.sd_tool.specs.Job.{Job, VtreeIn, job_of}
 use Rattle.sd_tool.specs.Readings.{Reading, Refuses, Begins, Reads, Whole, TooLong, IsText, ReadsTo}
 use Rattle.sd_tool.specs.Readings.{reading_of, with_job, with_input, with_formula, with_tree_word, with_tree}
@@ -20,8 +18,8 @@ use Rattle.sd_tool.specs.Given.{plan_of}
 use Rattle.sd_tool.specs.Stops.{StopsReading, StopsTree, ReadsTree, GivesFormula, PlansAt}
 use Rattle.sd_tool.specs.declared.stop.Stop.{Stop}
 use Rattle.sd_tool.specs.declared.stop.Stop.TheVariants as stops
-use Rattle.sd_tool.specs.declared.stop.Stop.TheVariants.{NotYet, BadVtree, ReadFault, WriteFault, OutputFault}
-use Rattle.sd_tool.specs.declared.stop.Stop.TheVariants.{OutOfMemory}
+use Rattle.sd_tool.specs.declared.stop.Stop.TheVariants.{NotYet, BadFormula, BadVtree, ReadFault}
+use Rattle.sd_tool.specs.declared.stop.Stop.TheVariants.{WriteFault, OutputFault, OutOfMemory}
 use Rattle.sd_tool.specs.declared.plan.Plan.{Plan as CodePlan}
 
 -- what was read of a told file is its text
@@ -29,6 +27,11 @@ pub is_text : (told : Option Files) (file bytes : List ℕ) → HasBytes told fi
     → IsText told file (Whole bytes)
 is_text None file bytes has short = tt
 is_text (Some files) file bytes has short = (has, short)
+
+-- a told file that is longer is too long
+pub is_long : (told : Option Files) (file : List ℕ) → HasLonger told file 67108864 → IsText told file TooLong
+is_long None file longer = tt
+is_long (Some files) file longer = longer
 
 -- readings are where they are
 pub reads_here : (told : Option Files) (reading : Reading) → ReadsTo told reading reading
@@ -54,6 +57,7 @@ pub stops_on : (stop : Stop) (told : Option Files) (reading mid : Reading) (firs
     → first ≤ before → StopsReading stop told mid before now → StopsReading stop told reading first now
 stops_on NotYet told reading mid first before now a later b = reads_on told reading mid _ a b
 stops_on (stops.TooLong file) told reading mid first before now a later b = reads_on told reading mid _ a b
+stops_on (BadFormula file fault) told reading mid first before now a later b = reads_on told reading mid _ a b
 stops_on (BadVtree file fault) told reading mid first before now a later b = reads_on told reading mid _ a b
 stops_on (ReadFault file) told reading mid first before now a later ((next, b), inl lacks) =
     ((next, reads_on told reading mid _ a b), inl lacks)
@@ -70,24 +74,44 @@ few_enough v a b few = ap (λ t. cond t a b) (le-ltb 16 v few)
 
 -- a formula that is served leads to its vtree
 pub formula_follows : (told : Option Files) (job : Job) (bytes : List ℕ) (result : Result Groups Stop)
-    → IsText told job.input (Whole bytes) → GivesFormula (plain_dimacs Cnf bytes) result
-    → IfOk result (λ f. ReadsTo told (Reads job.input (with_input job)) (with_tree_word job f job.tree))
+    → IsText told job.input.file (Whole bytes)
+    → GivesFormula job.input.file (dimacs job.input.kind bytes) result
+    → IfOk result (λ f. ReadsTo told (Reads job.input.file (with_input job)) (with_tree_word job f job.tree))
 formula_follows told job bytes (Ok f) has (reads, few) =
     inr (Whole bytes, has, reads_same told _ _ (ap (with_formula job) reads ∙ few_enough f.variables _ _ few))
 formula_follows told job bytes (Err stop) has gives = tt
 
 pub formula_stops : (told : Option Files) (job : Job) (bytes : List ℕ) (result : Result Groups Stop) (before now : ℕ)
-    → IsText told job.input (Whole bytes) → GivesFormula (plain_dimacs Cnf bytes) result
-    → IfErr result (λ stop. StopsReading stop told (Reads job.input (with_input job)) before now)
+    → IsText told job.input.file (Whole bytes)
+    → GivesFormula job.input.file (dimacs job.input.kind bytes) result
+    → IfErr result (λ stop. StopsReading stop told (Reads job.input.file (with_input job)) before now)
 formula_stops told job bytes (Ok f) before now has gives = tt
 formula_stops told job bytes (Err NotYet) before now has gives =
     inr (Whole bytes, has, reads_same told _ _ (gives job))
 formula_stops told job bytes (Err (stops.TooLong file)) before now has gives = absurd gives
+formula_stops told job bytes (Err (BadFormula name fault)) before now has (same, reads) =
+    inr (
+      Whole bytes,
+      has,
+      reads_same told _ _ (ap (with_formula job) reads
+          ∙ ap (λ (n : List ℕ). Refuses (refusals.BadFormula n fault)) (sym same)),
+    )
 formula_stops told job bytes (Err (BadVtree file fault)) before now has gives = absurd gives
 formula_stops told job bytes (Err (ReadFault file)) before now has gives = absurd gives
 formula_stops told job bytes (Err (WriteFault file)) before now has gives = absurd gives
 formula_stops told job bytes (Err OutputFault) before now has gives = absurd gives
 formula_stops told job bytes (Err OutOfMemory) before now has gives = tt
+
+-- an input that is too long
+pub long_stops : (told : Option Files) (job : Job) (name : List ℕ) → name ≡ job.input.file
+    → HasLonger told name 67108864
+    → ReadsTo told (Reads job.input.file (with_input job)) (Refuses (refusals.TooLong name))
+long_stops told job name same longer =
+    inr (
+      TooLong,
+      is_long told job.input.file (subst (λ (n : List ℕ). HasLonger told n 67108864) same longer),
+      ap (λ (n : List ℕ). Refuses (refusals.TooLong n)) same,
+    )
 
 -- ---- the vtree
 
@@ -118,6 +142,7 @@ tree_stops (ReadFault name) told job f file before now (same, cause) = (
 )
 tree_stops OutOfMemory told job f file before now b = tt
 tree_stops NotYet told job f file before now b = absurd b
+tree_stops (BadFormula name fault) told job f file before now b = absurd b
 tree_stops (WriteFault name) told job f file before now b = absurd b
 tree_stops OutputFault told job f file before now b = absurd b
 
@@ -133,6 +158,7 @@ pub plan_stops : (told : Option Files) (point : Reading) (result : Result CodePl
 plan_stops told point (Ok plan) before now is = tt
 plan_stops told point (Err NotYet) before now is = reads_same told point _ is
 plan_stops told point (Err (stops.TooLong file)) before now is = absurd is
+plan_stops told point (Err (BadFormula file fault)) before now is = absurd is
 plan_stops told point (Err (BadVtree file fault)) before now is = absurd is
 plan_stops told point (Err (ReadFault file)) before now is = absurd is
 plan_stops told point (Err (WriteFault file)) before now is = absurd is
@@ -143,7 +169,7 @@ plan_stops told point (Err OutOfMemory) before now is = tt
 
 -- the words lead to the job's input
 pub job_follows : (told : Option Files) (words : List (List ℕ)) (job : Job) → job_of words ≡ Some job
-    → ReadsTo told (reading_of words) (Reads job.input (with_input job))
+    → ReadsTo told (reading_of words) (Reads job.input.file (with_input job))
 job_follows told words job is = reads_same told _ _ (ap with_job is)
 
 -- the plan of a step is the plan of the words

@@ -14,8 +14,8 @@ use Rattle.sd_tool.specs.Devices.{Faults, NotFewer, HasCause}
 use Rattle.sd_tool.specs.Course.{IsAt}
 use Rattle.sd_tool.specs.Stops.{stop_status, stop_text, RefusesAt, FailsAt, GoesOn}
 use Rattle.sd_tool.specs.declared.stop.Stop.{Stop}
-use Rattle.sd_tool.specs.declared.stop.Stop.TheVariants.{NotYet, TooLong, BadVtree, ReadFault, WriteFault}
-use Rattle.sd_tool.specs.declared.stop.Stop.TheVariants.{OutputFault, OutOfMemory}
+use Rattle.sd_tool.specs.declared.stop.Stop.TheVariants.{NotYet, TooLong, BadFormula, BadVtree, ReadFault}
+use Rattle.sd_tool.specs.declared.stop.Stop.TheVariants.{WriteFault, OutputFault, OutOfMemory}
 use Rattle.sd_tool.specs.declared.commands.Command.{Command}
 
 -- the contents after two lists of effects
@@ -135,6 +135,15 @@ goes_to_stop start commands index old now before after_ command (TooLong file) n
   leaves = so_far.is;
   cause = tt;
 }
+goes_to_stop start commands index old now before after_ command (BadFormula file fault) next so_far (inr refused) =
+    record {
+      end = Refused (refusals.BadFormula file fault);
+      at = record { status = refl; text = refl; stopped = λ e. cc };
+      effects = so_far.effects;
+      ends = (start, command, reaches_next start commands index so_far.effects command next so_far.steps, refused);
+      leaves = so_far.is;
+      cause = tt;
+    }
 goes_to_stop start commands index old now before after_ command (BadVtree file fault) next so_far (inr refused) =
     record {
       end = Refused (refusals.BadVtree file fault);

@@ -15,11 +15,10 @@ use Rattle.sd_model.specs.Size.{IsDiagramOf, size_of}
 use Rattle.sd_model.specs.StartTrees.{right_tree}
 use Rattle.sd_model.specs.Text.{sdd_text, vtree_text}
 use Rattle.sd_model.proofs.Determined.{diagram_determined, texts_equal}
-use Rattle.sd_formula.specs.declared.formula.Kind.TheVariants.{Cnf}
-use Rattle.sd_formula.specs.Dimacs.{Groups}
+use Rattle.sd_formula.specs.declared.error.FormulaError.{FormulaError}
+use Rattle.sd_formula.specs.Dimacs.{Groups, dimacs}
 use Rattle.sd_formula.specs.Formulas.{expression_of}
-use Rattle.sd_formula.specs.Plain.{plain_dimacs}
-use Rattle.sd_formula.proofs.RangeLaws.{variables_of_plain}
+use Rattle.sd_formula.proofs.RangeLaws.{accepted_fits}
 use Rattle.sd_vfile.specs.Reads.{vtree_file}
 use Rattle.sd_vfile.specs.declared.fault.VtreeFault.{VtreeFault}
 use Rattle.sd_tool.specs.Job.{Job, TreeWord, StartOf, VtreeIn, job_of}
@@ -96,16 +95,20 @@ from_word files job f plan (VtreeIn file) e (inr (Whole bytes, has, p)) = go (vt
           is = found.1;
         }
 
+-- a formula that was read
+abbrev ok : Groups → Result Groups FormulaError
+ok formula = Ok formula
+
 -- a plan is made of a formula
-from_formula : (files : Files) (job : Job) (formula : Option Groups) (plan : Plan)
+from_formula : (files : Files) (job : Job) (formula : Result Groups FormulaError) (plan : Plan)
     → ReadsTo (Some files) (with_formula job formula) (Begins plan)
-    → (f : Groups) × (formula ≡ Some f) × FromTree files job f plan
-from_formula files job None plan p = let bad : ⊥ = cc in absurd bad
-from_formula files job (Some formula) plan p = go (nat_lt 16 formula.variables) p
+    → (f : Groups) × (formula ≡ Ok f) × FromTree files job f plan
+from_formula files job (Err fault) plan p = let bad : ⊥ = cc in absurd bad
+from_formula files job (Ok formula) plan p = go (nat_lt 16 formula.variables) p
   where
     go : (many : Bool)
         → ReadsTo (Some files) (cond many (Refuses NotYet) (with_tree_word job formula job.tree)) (Begins plan)
-        → (f : Groups) × (Some formula ≡ Some f) × FromTree files job f plan
+        → (f : Groups) × (ok formula ≡ Ok f) × FromTree files job f plan
     go true p = let bad : ⊥ = cc in absurd bad
     go false p = (formula, refl, from_word files job formula plan job.tree refl p)
 
@@ -114,11 +117,11 @@ from_input : (words : List (List ℕ)) (files : Files) (plan : Plan)
     → ReadsTo (Some files) (reading_of words) (Begins plan) → FromInput words files plan
 from_input words files plan p = go (job_of words) refl p
   where
-    read : (job : Job) → job_of words ≡ Some job → (text : Text) → IsText (Some files) job.input text
+    read : (job : Job) → job_of words ≡ Some job → (text : Text) → IsText (Some files) job.input.file text
         → ReadsTo (Some files) (with_input job text) (Begins plan) → FromInput words files plan
     read job named TooLong has p = let bad : ⊥ = cc in absurd bad
     read job named (Whole bytes) has p =
-        let found = from_formula files job (plain_dimacs Cnf bytes) plan p in record {
+        let found = from_formula files job (dimacs job.input.kind bytes) plan p in record {
           job = job;
           formula = found.0;
           tree = found.2.tree;
@@ -335,9 +338,11 @@ same_formula : (words : List (List ℕ)) (files : Files) (j k : Job) (f g : Grou
     → IsInput words files k g → f ≡ g
 same_formula words files j k f g p q =
     let same = same_job words files j k f g p q in
-    let there : Some p.bytes ≡ Some q.bytes = sym p.there ∙ ap (λ (x : Job). bytes_at files x.input) same ∙ q.there in
+    let there : Some p.bytes ≡ Some q.bytes =
+    sym p.there ∙ ap (λ (x : Job). bytes_at files x.input.file) same ∙ q.there in
     let bytes : p.bytes ≡ q.bytes = cc in
-    let reads : Some f ≡ Some g = sym p.reads ∙ ap (plain_dimacs Cnf) bytes ∙ q.reads in
+    let reads : ok f ≡ Ok g =
+    sym p.reads ∙ ap (λ (x : Job). dimacs x.input.kind p.bytes) same ∙ ap (dimacs k.input.kind) bytes ∙ q.reads in
     cc
 
 same_tree : (files : Files) (word : TreeWord) (v : ℕ) (t u : Tree) → IsStartTree files word v t
@@ -387,5 +392,5 @@ equal_texts_at words status old new went =
     let is = text_is (with_output job.out_vtree (vtree_text tree) files) now job.out_sdd output
     (sdd_text written.diagram) text named (sym told_now ∙ written.files_are) found in
     subst (λ t. (sdd_text e ≡ t) ↔ AreOneFunction formula.variables g (expression_of formula)) (sym is)
-    (equal_to formula tree written.diagram e g (variables_of_plain Cnf input.bytes formula input.reads) right
+    (equal_to formula tree written.diagram e g (accepted_fits job.input.kind input.bytes formula input.reads).some right
     written.of_formula of_other)

@@ -4,14 +4,18 @@ use Rattle.sd_model.specs.Seen.{diagram_of}
 use Rattle.sd_model.specs.Size.{IsDiagramOf}
 use Rattle.sd_formula.specs.Formulas.{expression_of}
 use Rattle.sd_vtree.specs.Numbered.{forget}
-use Rattle.sd_tool.specs.Job.{Job, TreeWord, StartOf, VtreeIn}
+use Rattle.sd_tool.specs.Job.{Job, Input, TreeWord, StartOf, VtreeIn}
 use Rattle.sd_tool.specs.Commands.{State}
 use Rattle.sd_tool.specs.Readings.{Plan}
 use Rattle.sd_tool.specs.declared.words.Job.{Job as CodeJob}
+use Rattle.sd_tool.specs.declared.words.Input.{Input as CodeInput}
 use Rattle.sd_tool.specs.declared.words.TreeWord.{TreeWord as CodeTreeWord}
 use Rattle.sd_tool.specs.declared.words.TreeWord.TheVariants.{Start, File}
 use Rattle.sd_tool.specs.declared.state.State.{State as CodeState}
 use Rattle.sd_tool.specs.declared.plan.Plan.{Plan as CodePlan}
+
+abbrev pub input_seen : CodeInput → Input
+input_seen input = record { kind = input.kind; file = input.file.now }
 
 abbrev pub tree_seen : CodeTreeWord → TreeWord
 tree_seen (Start shape) = StartOf shape
@@ -19,7 +23,7 @@ tree_seen (File file) = VtreeIn file.now
 
 abbrev pub job_seen : CodeJob → Job
 job_seen job = record {
-  input = job.input.now;
+  input = input_seen job.input;
   tree = tree_seen job.tree;
   out_vtree = option_map (λ file. file.now) job.out_vtree;
   out_sdd = option_map (λ file. file.now) job.out_sdd;

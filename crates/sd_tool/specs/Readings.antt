@@ -4,15 +4,14 @@ use Rattle.std.specs.Prelude.{List, [], ◌∷◌, ◌++◌, length, Option, Som
 use Rattle.sd_base.specs.Files.{Files, bytes_at}
 use Rattle.sd_model.specs.Tree.{Tree, Leaf, Node}
 use Rattle.sd_model.specs.StartTrees.{balanced_tree, right_tree, left_tree}
-use Rattle.sd_formula.specs.declared.formula.Kind.TheVariants.{Cnf}
-use Rattle.sd_formula.specs.Dimacs.{Groups}
+use Rattle.sd_formula.specs.declared.error.FormulaError.{FormulaError}
+use Rattle.sd_formula.specs.Dimacs.{Groups, dimacs}
 use Rattle.sd_formula.specs.Formulas.{expression_of}
-use Rattle.sd_formula.specs.Plain.{plain_dimacs}
 use Rattle.sd_vfile.specs.Reads.{vtree_file}
 use Rattle.sd_vfile.specs.declared.fault.VtreeFault.{VtreeFault}
 use Rattle.sd_tool.specs.Job.{Job, TreeWord, StartOf, VtreeIn, job_of}
 use Rattle.sd_tool.specs.Commands.{State}
-use Rattle.sd_tool.specs.Refusals.{Refusal, NotYet, BadVtree, TooLong as LongVtree}
+use Rattle.sd_tool.specs.Refusals.{Refusal, NotYet, BadFormula, BadVtree, TooLong as LongFile}
 use Rattle.sd_tool.specs.declared.commands.Command.{Command}
 use Rattle.sd_tool.specs.declared.commands.Command.TheVariants.{WriteVtree, WriteDiagram, PrintSize}
 use Rattle.sd_tool.specs.declared.words.Shape.{Shape}
@@ -67,7 +66,7 @@ with_vtree_reading job formula file (Ok tree) = with_tree job formula tree
 with_vtree_reading job formula file (Err fault) = Refuses (BadVtree file fault)
 
 abbrev pub with_vtree_text : Job → Groups → List ℕ → Text → Reading
-with_vtree_text job formula file TooLong = Refuses (LongVtree file)
+with_vtree_text job formula file TooLong = Refuses (LongFile file)
 with_vtree_text job formula file (Whole bytes) =
     with_vtree_reading job formula file (vtree_file formula.variables bytes)
 
@@ -76,20 +75,20 @@ abbrev pub with_tree_word : Job → Groups → TreeWord → Reading
 with_tree_word job formula (StartOf shape) = with_tree job formula (start_tree shape formula.variables)
 with_tree_word job formula (VtreeIn file) = Reads file (with_vtree_text job formula file)
 
--- an accepted formula of at most 16 variables is served
-abbrev pub with_formula : Job → Option Groups → Reading
-with_formula job None = Refuses NotYet
-with_formula job (Some formula) =
+-- a formula of at most 16 variables is served; a text that is none has a fault
+abbrev pub with_formula : Job → Result Groups FormulaError → Reading
+with_formula job (Err fault) = Refuses (BadFormula job.input.file fault)
+with_formula job (Ok formula) =
     if nat_lt 16 formula.variables then Refuses NotYet else with_tree_word job formula job.tree
 
--- the input is a formula file of clauses
+-- the input is a formula file of its kind
 abbrev pub with_input : Job → Text → Reading
-with_input job TooLong = Refuses NotYet
-with_input job (Whole bytes) = with_formula job (plain_dimacs Cnf bytes)
+with_input job TooLong = Refuses (LongFile job.input.file)
+with_input job (Whole bytes) = with_formula job (dimacs job.input.kind bytes)
 
 abbrev pub with_job : Option Job → Reading
 with_job None = Refuses NotYet
-with_job (Some job) = Reads job.input (with_input job)
+with_job (Some job) = Reads job.input.file (with_input job)
 
 -- the readings of a run, in order
 abbrev pub reading_of : List (List ℕ) → Reading

@@ -6,6 +6,7 @@ use Rattle.sd_tool.specs.Effects.{Effect, Write, Print, Contents, DoesPart}
 use Rattle.sd_tool.specs.Commands.{State, Stops, Step}
 use Rattle.sd_model.specs.Tree.{Tree}
 use Rattle.sd_formula.specs.Dimacs.{Groups}
+use Rattle.sd_formula.specs.declared.error.FormulaError.{FormulaError}
 use Rattle.sd_vfile.specs.Reads.{vtree_file}
 use Rattle.sd_vfile.specs.declared.fault.VtreeFault.{VtreeFault}
 use Rattle.sd_tool.specs.Job.{Job}
@@ -19,8 +20,8 @@ use Rattle.sd_tool.specs.Ends.{text_of}
 use Rattle.sd_tool.specs.Devices.{HasCause, Faults}
 use Rattle.sd_tool.specs.Course.{EndsAmong, Comes, Leaves}
 use Rattle.sd_tool.specs.declared.stop.Stop.{Stop}
-use Rattle.sd_tool.specs.declared.stop.Stop.TheVariants.{NotYet, TooLong, BadVtree, ReadFault, WriteFault}
-use Rattle.sd_tool.specs.declared.stop.Stop.TheVariants.{OutputFault, OutOfMemory}
+use Rattle.sd_tool.specs.declared.stop.Stop.TheVariants.{NotYet, TooLong, BadFormula, BadVtree, ReadFault}
+use Rattle.sd_tool.specs.declared.stop.Stop.TheVariants.{WriteFault, OutputFault, OutOfMemory}
 use Rattle.sd_tool.specs.declared.commands.Command.{Command}
 use Rattle.sd_tool.specs.declared.commands.Act.{Act}
 use Rattle.sd_tool.specs.declared.commands.Act.TheVariants.{WriteFile, PrintLine}
@@ -29,6 +30,7 @@ use Rattle.sd_tool.specs.declared.commands.Act.TheVariants.{WriteFile, PrintLine
 abbrev pub end_of : Stop → End
 end_of NotYet = Refused refusals.NotYet
 end_of (TooLong file) = Refused (refusals.TooLong file)
+end_of (BadFormula file fault) = Refused (refusals.BadFormula file fault)
 end_of (BadVtree file fault) = Refused (refusals.BadVtree file fault)
 end_of (ReadFault file) = Unreadable file
 end_of (WriteFault file) = Unwritable (Write file [])
@@ -57,6 +59,7 @@ IsEnd (Err stop) end = StandsFor stop end
 abbrev pub RefusesAt : State → Command → Stop → Type 0
 RefusesAt state command NotYet = Step state command (Stops refusals.NotYet)
 RefusesAt state command (TooLong file) = Step state command (Stops (refusals.TooLong file))
+RefusesAt state command (BadFormula file fault) = Step state command (Stops (refusals.BadFormula file fault))
 RefusesAt state command (BadVtree file fault) = Step state command (Stops (refusals.BadVtree file fault))
 RefusesAt state command stop = ⊥
 
@@ -64,6 +67,8 @@ RefusesAt state command stop = ⊥
 abbrev pub StopsReading : Stop → Option Files → Reading → ℕ → ℕ → Type 0
 StopsReading NotYet files reading before now = ReadsTo files reading (Refuses refusals.NotYet)
 StopsReading (TooLong file) files reading before now = ReadsTo files reading (Refuses (refusals.TooLong file))
+StopsReading (BadFormula file fault) files reading before now =
+    ReadsTo files reading (Refuses (refusals.BadFormula file fault))
 StopsReading (BadVtree file fault) files reading before now =
     ReadsTo files reading (Refuses (refusals.BadVtree file fault))
 StopsReading (ReadFault file) files reading before now =
@@ -115,12 +120,13 @@ pub record Attempts (words : List (List ℕ)) (result : Result (Unit {0}) Stop)
 
 -- ---- the readings, step by step
 
--- a formula that is served, or the stop at its text
-abbrev pub GivesFormula : Option Groups → Result Groups Stop → Type 0
-GivesFormula reading (Ok formula) = (reading ≡ Some formula) × (formula.variables ≤ 16)
-GivesFormula reading (Err NotYet) = (job : Job) → with_formula job reading ≡ Refuses refusals.NotYet
-GivesFormula reading (Err OutOfMemory) = Unit {0}
-GivesFormula reading (Err stop) = ⊥
+-- a formula that is served, or the stop at the text of its file
+abbrev pub GivesFormula : List ℕ → Result Groups FormulaError → Result Groups Stop → Type 0
+GivesFormula file reading (Ok formula) = (reading ≡ Ok formula) × (formula.variables ≤ 16)
+GivesFormula file reading (Err NotYet) = (job : Job) → with_formula job reading ≡ Refuses refusals.NotYet
+GivesFormula file reading (Err (BadFormula name fault)) = (name ≡ file) × (reading ≡ Err fault)
+GivesFormula file reading (Err OutOfMemory) = Unit {0}
+GivesFormula file reading (Err stop) = ⊥
 
 -- the text of a vtree file was read, and it is that of this tree
 pub record ReadsTree (told : Option Files) (file : List ℕ) (v : ℕ) (tree : Tree) : Type 0 where

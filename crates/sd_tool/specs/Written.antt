@@ -7,10 +7,8 @@ use Rattle.sd_model.specs.Diagram.{Diagram}
 use Rattle.sd_model.specs.Size.{IsDiagramOf, size_of}
 use Rattle.sd_model.specs.Tree.{Tree}
 use Rattle.sd_model.specs.Text.{sdd_text, vtree_text}
-use Rattle.sd_formula.specs.declared.formula.Kind.TheVariants.{Cnf}
-use Rattle.sd_formula.specs.Dimacs.{Groups}
+use Rattle.sd_formula.specs.Dimacs.{Groups, dimacs}
 use Rattle.sd_formula.specs.Formulas.{expression_of}
-use Rattle.sd_formula.specs.Plain.{plain_dimacs}
 use Rattle.sd_vfile.specs.Reads.{vtree_file}
 use Rattle.sd_tool.specs.Job.{Job, TreeWord, StartOf, VtreeIn, job_of}
 use Rattle.sd_tool.specs.Readings.{start_tree}
@@ -22,9 +20,9 @@ use Rattle.sd_tool.specs.Commands.{size_line}
 pub record IsInput (words : List (List ℕ)) (files : Files) (job : Job) (formula : Groups) : Type 0 where
   pub named : job_of words ≡ Some job
   pub bytes : List ℕ
-  pub there : bytes_at files job.input ≡ Some bytes
+  pub there : bytes_at files job.input.file ≡ Some bytes
   pub short : length bytes ≤ 67108864
-  pub reads : plain_dimacs Cnf bytes ≡ Some formula
+  pub reads : dimacs job.input.kind bytes ≡ Ok formula
 
 -- the start tree of the words, for a formula of so many variables: that of a shape, or that of a vtree file
 abbrev pub IsStartTree : Files → TreeWord → ℕ → Tree → Type 0

@@ -1,13 +1,13 @@
 // A line of text in parts, of which two may be numbers. It is written without memory, so that want of memory can't
 // come between a status and its line.
-ghost use Rattle.std.specs.Prelude.{◌≡◌, ◌≤◌, ◌++◌, OnOk, OnErr, codes};
+ghost use Rattle.std.specs.Prelude.{◌≡◌, ◌≤◌, ◌++◌, OnOk, OnErr, codes, if◌then◌else◌};
 ghost use Rattle.sd_base.specs.Faults.{Rose};
 ghost use Rattle.sd_base.specs.Sink.{told_then, AppendsPart};
 ghost use Rattle.sd_model.specs.Text.{number_text};
 ghost use Rattle.sd_tool.specs.Devices.{Says};
 ghost use Rattle.sd_tool.specs.Ends.{line_of};
 ghost use Rattle.sd_tool.specs.Parts.{parts_text, number_seen};
-ghost use Rattle.sd_tool.specs.Refusals.{at_line};
+ghost use Rattle.sd_tool.specs.Refusals.{at_line, counts, signed_text};
 
 use itoa::Buffer;
 use sd_base::{Sink, WriteFault, write_all};
@@ -63,10 +63,36 @@ pub fn at_line<'a>(file: &'a [u8], line: u32, text: &'static [u8]) -> Parts<'a>
     numbered(file, b": line ", u64::from(line), text)
 }
 
+/// A literal of a line of this file that is of no variable, with its sign.
+pub fn literal_at_line(file: &[u8], line: u32, literal: i64) -> Parts<'_>
+    ensures { parts_text result
+        ≡ file.now ++ at_line line (codes ": literal out of range: " ++ signed_text literal) }
+{
+    Parts {
+        subject: file,
+        before: b": line ",
+        first: Some(u64::from(line)),
+        between: before_literal(literal < 0),
+        second: Some(literal.unsigned_abs()),
+        after: b"",
+    }
+}
+
+// What stands before the digits of a literal that is out of range.
+fn before_literal(negative: bool) -> &'static [u8]
+    ensures { result.now
+        ≡ (if negative then codes ": literal out of range: -" else codes ": literal out of range: ") }
+{
+    if negative {
+        b": literal out of range: -"
+    } else {
+        b": literal out of range: "
+    }
+}
+
 /// Two numbers of this file that differ.
 pub fn counts(file: &[u8], stated: u64, found: u64) -> Parts<'_>
-    ensures { parts_text result
-        ≡ file.now ++ (codes ": " ++ number_text stated ++ codes " stated, " ++ number_text found ++ codes " found") }
+    ensures { parts_text result ≡ file.now ++ counts stated found }
 {
     Parts {
         subject: file,

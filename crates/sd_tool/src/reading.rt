@@ -1,7 +1,7 @@
 // The words and the input files, up to the first command.
 ghost use Rattle.std.specs.Prelude.{◌≡◌, ◌≤◌, IfOk, IfErr, length, map, string_bytes};
 ghost use Rattle.sd_base.specs.Shelf.{NoFile};
-ghost use Rattle.sd_formula.specs.Plain.{plain_dimacs};
+ghost use Rattle.sd_formula.specs.Dimacs.{dimacs};
 ghost use Rattle.sd_vtree.specs.Numbered.{forget};
 ghost use Rattle.sd_model.specs.Tree.{leaves};
 ghost use Rattle.sd_tool.specs.Given.{job_seen, plan_of, IsCompiled};
@@ -49,34 +49,34 @@ fn read_formula<F: Shelf>(alloc: Global, job: &Job<'_>, shelf: &mut F) -> Result
     ensures read_faults { F.read_faults shelf.old ≤ F.read_faults shelf.new }
     ensures write_faults { F.write_faults shelf.new ≡ F.write_faults shelf.old }
     ensures ok { IfOk result (λ formula. ReadsTo (F.files shelf.old)
-        (Reads (job_seen job.now).input (with_input (job_seen job.now)))
+        (Reads (job_seen job.now).input.file (with_input (job_seen job.now)))
         (with_tree_word (job_seen job.now) formula (job_seen job.now).tree)) }
     ensures few { IfOk result (λ formula. formula.variables ≤ 16) }
     ensures stop { IfErr result (λ stop. StopsReading stop (F.files shelf.old)
-        (Reads (job_seen job.now).input (with_input (job_seen job.now)))
+        (Reads (job_seen job.now).input.file (with_input (job_seen job.now)))
         (F.read_faults shelf.old) (F.read_faults shelf.new)) }
 {
-    let Ok(input) = Name::copy_of(alloc, job.input) else {
+    let Ok(input) = Name::copy_of(alloc, job.input.file) else {
         return Err(Stop::OutOfMemory);
     };
     match read_all(alloc, shelf, input.as_str()) {
-        Ok(bytes) => formula_of(alloc, bytes.as_slice()),
+        Ok(bytes) => formula_of(alloc, input, job.input.kind, bytes.as_slice()),
         Err(ReadError::ReadFault) => Err(Stop::ReadFault(input)),
-        Err(ReadError::TooLong) => Err(Stop::NotYet),
+        Err(ReadError::TooLong) => Err(Stop::TooLong(input)),
         Err(ReadError::OutOfMemory) => Err(Stop::OutOfMemory),
     }
 }
 
-// The formula of a text.
-fn formula_of(alloc: Global, bytes: &[u8]) -> Result<Formula, Stop>
+// The formula of the text of this file.
+fn formula_of(alloc: Global, file: Name, kind: Kind, bytes: &[u8]) -> Result<Formula, Stop>
     requires { length bytes.now ≤ 67108864 }
-    ensures { GivesFormula (plain_dimacs Kind.Cnf bytes.now) result }
+    ensures { GivesFormula file (dimacs kind bytes.now) result }
 {
-    match read_dimacs(alloc, bytes, Kind::Cnf) {
+    match read_dimacs(alloc, bytes, kind) {
         Ok(formula) if formula.variables() as usize > MAX_VARIABLES => Err(Stop::NotYet),
         Ok(formula) => Ok(formula),
-        Err(FormulaError::NotYet) => Err(Stop::NotYet),
         Err(FormulaError::OutOfMemory) => Err(Stop::OutOfMemory),
+        Err(fault) => Err(Stop::BadFormula(file, fault)),
     }
 }
 

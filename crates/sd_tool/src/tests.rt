@@ -9,6 +9,7 @@ use std::alloc::{AllocError, Global};
 use std::test::Fail;
 use std::thread::Threads;
 
+mod formulas;
 mod vtrees;
 
 const SIX: [&str; 6] = ["--cnf", "in", "--start", "right", "--out-sdd", "out"];
@@ -69,13 +70,9 @@ fn formulas_become_diagrams(rt: HostRuntime) -> Result<(), Fail> {
 }
 
 #[test]
-fn other_inputs_are_not_served_yet(rt: HostRuntime) -> Result<(), Fail> {
+fn many_variables_are_not_served_yet(rt: HostRuntime) -> Result<(), Fail> {
     let alloc = rt.alloc();
-    let table = [
-        "p cnf 17 0\n",
-        "p cnf 2 1\n1 2\n",
-        "c x\np cnf 2 1\n1 2 0\n",
-    ];
+    let table = ["p cnf 17 0\n", "p cnf 1024 0\n"];
     for text in table {
         let words = words_of(alloc, &SIX)?;
         let mut files = shelf_of(alloc, text, Vec::new(alloc))?;
@@ -111,7 +108,9 @@ fn is_not_served(
 #[test]
 fn other_words_are_not_served_yet(rt: HostRuntime) -> Result<(), Fail> {
     let table = [
-        ["--dnf", "in", "--start", "right", "--out-sdd", "out"],
+        ["--cnf", "in", "--dnf", "in", "--out-sdd", "out"],
+        ["--dnf", "in", "--cnf", "in", "--out-sdd", "out"],
+        ["--cnf", "in", "--vtree", "", "--out-sdd", "out"],
         ["--cnf", "", "--start", "right", "--out-sdd", "out"],
         ["--cnf", "in", "--start", "round", "--out-sdd", "out"],
         ["--cnf", "in", "--start", "right", "--out-sdd", ""],
@@ -212,18 +211,18 @@ fn a_failure_of_err_changes_no_status(rt: HostRuntime) -> Result<(), Fail> {
 }
 
 #[test]
-fn a_long_input_is_not_served_yet(rt: HostRuntime) -> Result<(), Fail> {
+fn a_long_input_is_refused(rt: HostRuntime) -> Result<(), Fail> {
     let alloc = rt.alloc();
     let words = words_of(alloc, &SIX)?;
     let file = NamedBytes {
         name: Name::copy_of(alloc, "in")?,
         bytes: Bytes::new(vec![in alloc; b'0'; 67_108_865]?),
     };
-    let mut files = MemoryShelf::new(alloc, vec![in alloc; file]?, 32, Vec::new(alloc));
+    let mut files = MemoryShelf::new(alloc, vec![in alloc; file]?, 4096, Vec::new(alloc));
     let mut out = MemorySink::new(alloc, Vec::new(alloc));
     let mut err = MemorySink::new(alloc, Vec::new(alloc));
     let status = run(&rt, alloc, &words, &mut files, &mut out, &mut err);
-    assert_eq!(rt; status, 9);
-    assert_eq!(rt; err.bytes(), b"sddc: not yet\n".as_slice());
+    assert_eq!(rt; status, 2);
+    assert_eq!(rt; err.bytes(), b"sddc: in: too long\n".as_slice());
     Ok(())
 }

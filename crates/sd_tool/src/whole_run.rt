@@ -18,9 +18,9 @@ use std::alloc::Global;
 use std::thread::Threads;
 
 /// Runs the program with these words over a shelf of files, and answers its status:
-/// 0 where all was done, 2 where the vtree file is refused, 5 where an input was not read, 6 where an output or the
-/// printed line was not written, 7 where memory ran out, and 9 where the words, the formula or the vtree are not
-/// served yet.
+/// 0 where all was done, 2 where the formula file or the vtree file is too long or has a fault, 5 where an input was
+/// not read, 6 where an output or the printed line was not written, 7 where memory ran out, and 9 where the words, the
+/// number of variables or the vtree are not served yet. The formula file is read first.
 /// At every status but 0 the one line that says so is written to `err`.
 pub fn run<R: Threads + Sync, F: Shelf, O: Sink, E: Sink>(
     _rt: &R,

@@ -4,6 +4,8 @@ ghost use Rattle.std.specs.Option.{option_map};
 ghost use Rattle.sd_tool.specs.Given as seen;
 ghost use Rattle.sd_tool.specs.Job as jobs;
 
+use sd_formula::Kind;
+
 /// The shape of a start vtree over the variables in order.
 #[derive(Clone, Copy, Debug, PartialEq, Eq)]
 pub enum Shape {
@@ -13,6 +15,13 @@ pub enum Shape {
     Right,
     /// Each right child is a leaf.
     Left,
+}
+
+/// The formula file, and whether its groups are clauses or terms.
+#[derive(Clone, Copy, Debug)]
+pub struct Input<'a> {
+    pub kind: Kind,
+    pub file: &'a str,
 }
 
 /// The start vtree: one of a shape, or that of a file.
@@ -25,7 +34,7 @@ pub enum TreeWord<'a> {
 /// What the words ask for.
 #[derive(Clone, Copy, Debug)]
 pub struct Job<'a> {
-    pub input: &'a str,
+    pub input: Input<'a>,
     pub tree: TreeWord<'a>,
     pub out_vtree: Option<&'a str>,
     pub out_sdd: Option<&'a str>,
@@ -35,29 +44,31 @@ pub struct Job<'a> {
 pub fn read_words(words: &[String]) -> Option<Job<'_>>
     ensures { option_map seen.job_seen result ≡ jobs.job_of (map string_bytes words.now) }
 {
-    let (input, rest) = take_option("--cnf", words);
+    let (cnf, rest) = take_option("--cnf", words);
+    let (dnf, rest) = take_option("--dnf", rest);
     let (start, rest) = take_option("--start", rest);
     let (vtree, rest) = take_option("--vtree", rest);
     let (out_vtree, rest) = take_option("--out-vtree", rest);
     let (out_sdd, rest) = take_option("--out-sdd", rest);
+    let input = input_word(cnf, dnf);
     job_from(input, tree_word(start, vtree), out_vtree, out_sdd, rest)
 }
 
 // The job with these parts, where each is as it has to be and no word is left.
 fn job_from<'a>(
-    input: Option<&'a str>,
+    input: Option<Input<'a>>,
     tree: Option<TreeWord<'a>>,
     out_vtree: Option<&'a str>,
     out_sdd: Option<&'a str>,
     rest: &[String],
 ) -> Option<Job<'a>>
-    ensures { option_map seen.job_seen result ≡ jobs.job_from (option_map (λ s. s.now) input.entry)
+    ensures { option_map seen.job_seen result ≡ jobs.job_from (option_map seen.input_seen input.entry)
         (option_map seen.tree_seen tree.entry) (option_map (λ s. s.now) out_vtree.entry)
         (option_map (λ s. s.now) out_sdd.entry) (map string_bytes rest.now) }
 {
     let input = input?;
     let tree = tree?;
-    if !rest.is_empty() || input.is_empty() {
+    if !rest.is_empty() || input.file.is_empty() {
         return None;
     }
     if !is_named(out_vtree) || !is_named(out_sdd) || !are_apart(out_vtree, out_sdd) {
@@ -89,6 +100,24 @@ fn shape_of(word: &str) -> Option<Shape>
         "balanced" => Some(Shape::Balanced),
         "right" => Some(Shape::Right),
         "left" => Some(Shape::Left),
+        _ => None,
+    }
+}
+
+// The formula file that the words name: one of clauses or one of terms.
+fn input_word<'a>(cnf: Option<&'a str>, dnf: Option<&'a str>) -> Option<Input<'a>>
+    ensures { option_map seen.input_seen result
+        ≡ jobs.input_word (option_map (λ s. s.now) cnf.entry) (option_map (λ s. s.now) dnf.entry) }
+{
+    match (cnf, dnf) {
+        (Some(file), None) => Some(Input {
+            kind: Kind::Cnf,
+            file,
+        }),
+        (None, Some(file)) => Some(Input {
+            kind: Kind::Dnf,
+            file,
+        }),
         _ => None,
     }
 }

@@ -9,7 +9,7 @@ returns-in-Ok-clause-ok g c =
     let told = g.F.Shelf.files c.args.shelf.now in
     let words = map string_bytes c.args.words.now in
     let job = job_seen c.in-Some.job in
-    let led = reads_on told (reading_of words) (Reads job.input (with_input job))
+    let led = reads_on told (reading_of words) (Reads job.input.file (with_input job))
     (with_tree_word job c.in-Ok.formula job.tree)
     (job_follows told words job (sym c.in-Some.ensures)) c.in-Ok.ensures.ok in
     plan_on told _ (reading_of words) _ _ c.in-Ok.ensures.files led c.plan_with.ensures.ok
@@ -19,7 +19,7 @@ returns-in-Ok-clause-stop g c =
     let told = g.F.Shelf.files c.args.shelf.now in
     let words = map string_bytes c.args.words.now in
     let job = job_seen c.in-Some.job in
-    let led = reads_on told (reading_of words) (Reads job.input (with_input job))
+    let led = reads_on told (reading_of words) (Reads job.input.file (with_input job))
     (with_tree_word job c.in-Ok.formula job.tree)
     (job_follows told words job (sym c.in-Some.ensures)) c.in-Ok.ensures.ok in
     stop_on told _ (reading_of words) _ _ (g.F.Shelf.read_faults c.args.shelf.now)
