@@ -1,0 +1,9 @@
+//! Scripts: the commands that a text stands for, or its first fault.
+//! A caller sees a reading as `script_of` of `specs/Scripts.antt`.
+#![tactic(auto)]
+
+mod command;
+mod fault;
+
+pub use command::{Action, Command};
+pub use fault::ScriptFault;
