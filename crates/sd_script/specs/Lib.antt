@@ -1,3 +1,5 @@
 pub mod Phrases
 pub mod Commands
 pub mod Scripts
+pub mod Views
+pub mod Tables

@@ -64,10 +64,13 @@ file_of word = if nat_le (length word) 255 && is_printable word then Some word e
 abbrev pub is_bit : ℕ → Bool
 is_bit b = b == 48 || b == 49
 
+-- digits as truth values
+abbrev pub values_of : Word → List Bool
+values_of word = map (λ b. b == 49) word
+
 -- a word of v digits 0 or 1, as truth values
 abbrev pub bits_of : ℕ → Word → Option (List Bool)
-bits_of v word =
-    if length word == v && list_all is_bit word then Some (map (λ b. b == 49) word) else None
+bits_of v word = if length word == v && list_all is_bit word then Some (values_of word) else None
 
 -- ---- the table of commands, by the number of words after the first
 

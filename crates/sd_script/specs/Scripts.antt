@@ -28,7 +28,7 @@ empty = record { commands = []; names = []; files = [] }
 -- ---- numbers in first-seen order
 
 -- the distinct words with one more
-abbrev pub see : List Word → Word → List Word
+unfoldable pub see : List Word → Word → List Word
 see words word = if list_any (bytes_eq word) words then words else words ++ word ∷ []
 
 -- the distinct words with more of them, in order
@@ -36,7 +36,7 @@ abbrev pub see_all : List Word → List Word → List Word
 see_all words more = fold see words more
 
 -- the number of a word: its place among the distinct words
-abbrev pub number : List Word → Word → ℕ
+unfoldable pub number : List Word → Word → ℕ
 number words word = position_or_len (bytes_eq word) words
 
 -- ---- ranges, over the variables 1 to v

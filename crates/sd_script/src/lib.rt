@@ -4,6 +4,8 @@
 
 mod command;
 mod fault;
+mod phrase;
+mod table;
 
 pub use command::{Action, Command};
 pub use fault::ScriptFault;
