@@ -1,6 +1,6 @@
 //! Words with their numbers, and which of them are marked.
 
-ghost use Rattle.std.specs.Prelude.{◌≡◌, ◌<◌, ◌≤◌, ◌^◌, ℕ, length, IfOk, vec_len, slice_set, slice_index_or};
+ghost use Rattle.std.specs.Prelude.{◌≡◌, ◌<◌, ◌≤◌, ◌^◌, ℕ, [], false, length, IfOk, OnOk, vec_len, slice_set, slice_index_or};
 ghost use Rattle.sd_script.specs.Scripts.{see, number};
 
 use crate::fault::ScriptFault;
@@ -31,6 +31,18 @@ impl<'a> Table<'a> {
         }
     }
 
+    /// Makes room for the mark of one more word.
+    fn make_room(&mut self) -> Result<(), ScriptFault>
+        ensures words { self.new.words ≡ self.old.words }
+        ensures marks { (i : ℕ) → is_marked self.new i ≡ is_marked self.old i }
+        ensures room { OnOk result (length self.new.words.keys < vec_len self.new.marks) }
+    {
+        if self.marks.len() == self.words.len() {
+            self.marks.push(false)?;
+        }
+        Ok(())
+    }
+
     /// The number of a word, which is put behind the others where it is new, with no mark.
     pub(crate) fn number(&mut self, word: &'a str) -> Result<u32, ScriptFault>
         requires { length (words_of self.old) < 2 ^ 31 }
@@ -39,9 +51,7 @@ impl<'a> Table<'a> {
         ensures within { IfOk result (λ n. n < length (words_of self.new)) }
         ensures marks { IfOk result (λ _. (i : ℕ) → is_marked self.new i ≡ is_marked self.old i) }
     {
-        if self.marks.len() == self.words.len() {
-            self.marks.push(false)?;
-        }
+        self.make_room()?;
         let (index, _) = self.words.insert_full(word)?;
         Ok(index as u32)
     }
