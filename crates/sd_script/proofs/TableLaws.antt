@@ -6,6 +6,10 @@ use Rattle.std.proofs.lemmas.List.{map-append}
 use Rattle.std.proofs.lemmas.List.Folds.{list_any-append}
 use Rattle.std.proofs.lemmas.Slice.Eq.{bytes_eq-Decides}
 use Rattle.indexmap.specs.IndexSet.{insert_key}
+use Rattle.std.proofs.Common.{◌<◌, ◌≢◌, ◌&&◌, get_or, set, subst, get_or-set_other, get_or-set_same}
+use Rattle.std.proofs.lemmas.Bool.Decides.{nat_tests}
+use Rattle.std.specs.Prelude.{◌==◌}
+use Rattle.sd_script.specs.Commands.{has}
 use Rattle.sd_script.specs.Phrases.{Word}
 use Rattle.sd_script.specs.Scripts.{see, number}
 
@@ -124,3 +128,23 @@ module _ {R : Type 0} (view : R → Word) where
       by : (b : Bool) → map view (if b then keys else keys ++ k ∷ []) ≡ (if b then map view keys else map view keys ++ view k ∷ [])
       by true = refl
       by false = map-append view keys (k ∷ [])
+
+-- ---- marks
+
+-- a place that is marked
+pub mark_there : (marks : List Bool) (n i : ℕ) → n < length marks
+    → get_or (set marks n true) i false ≡ (has (n ∷ []) i || get_or marks i false)
+mark_there marks n i h = by (n == i) refl
+  where
+    by : (b : Bool) → (n == i) ≡ b → get_or (set marks n true) i false ≡ ((b || false) || get_or marks i false)
+    by true e = let same : n ≡ i = grind (arith, nat_tests) in subst (λ k. get_or (set marks n true) k false ≡ true) same (get_or-set_same marks n true false h)
+    by false e = let other : i ≢ n = grind (arith, nat_tests) in get_or-set_other marks n i true false other
+
+-- a place that loses its mark
+pub mark_gone : (marks : List Bool) (n i : ℕ) → n < length marks
+    → get_or (set marks n false) i false ≡ (not (has (n ∷ []) i) && get_or marks i false)
+mark_gone marks n i h = by (n == i) refl
+  where
+    by : (b : Bool) → (n == i) ≡ b → get_or (set marks n false) i false ≡ (not (b || false) && get_or marks i false)
+    by true e = let same : n ≡ i = grind (arith, nat_tests) in subst (λ k. get_or (set marks n false) k false ≡ false) same (get_or-set_same marks n false false h)
+    by false e = let other : i ≢ n = grind (arith, nat_tests) in get_or-set_other marks n i false false other

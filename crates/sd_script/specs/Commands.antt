@@ -81,7 +81,7 @@ has numbers n = list_any (λ m. m == n) numbers
 
 -- the bound names after one more command
 abbrev pub bound_after : List ℕ → Command → List ℕ
-bound_after names c = filter (λ n. not (has (frees c.action) n)) names ++ binds c.action
+bound_after names c = binds c.action ++ filter (λ n. not (has (frees c.action) n)) names
 
 -- the names that commands leave bound
 abbrev pub bound : List Command → List ℕ

@@ -1,11 +1,14 @@
 //! Words with their numbers, and which of them are marked.
 
-ghost use Rattle.std.specs.Prelude.{◌≡◌, ◌<◌, ◌≤◌, ◌^◌, ℕ, [], false, length, IfOk, OnOk, vec_len, slice_set, slice_index_or};
+ghost use Rattle.std.specs.Prelude.{◌≡◌, ◌<◌, ◌≤◌, ◌^◌, ℕ, [], ◌∷◌, false, not, ◌&&◌, ◌||◌};
+ghost use Rattle.std.specs.Prelude.{length, IfOk, OnOk, vec_len};
+ghost use Rattle.sd_script.specs.Commands.{has};
 ghost use Rattle.sd_script.specs.Scripts.{see, number};
 
 use crate::fault::ScriptFault;
 use indexmap::IndexSet;
-use std::alloc::Global;
+use sd_base::Name;
+use std::alloc::{AllocError, Global};
 
 /// Words in the order in which they were first seen. Each has its place as its number, and can be
 /// marked.
@@ -66,13 +69,36 @@ impl<'a> Table<'a> {
         }
     }
 
-    /// Marks the word of a number, or takes its mark.
-    pub(crate) fn set(&mut self, number: u32, mark: bool)
+    /// Marks the word of a number.
+    #[tactic(auto, using(crate::proofs::TableLaws::mark_there))]
+    pub(crate) fn mark(&mut self, number: u32)
         requires { number < length (words_of self.old) }
         ensures words { words_of self.new ≡ words_of self.old }
-        ensures marks { self.new.marks.items ≡ slice_set self.old.marks.items number mark }
-        ensures within { number < vec_len self.old.marks }
+        ensures marks { (i : ℕ) → is_marked self.new i
+            ≡ (has (number ∷ []) i || is_marked self.old i) }
     {
-        self.marks[number as usize] = mark;
+        self.marks[number as usize] = true;
+    }
+
+    /// Takes the mark of the word of a number.
+    #[tactic(auto, using(crate::proofs::TableLaws::mark_gone))]
+    pub(crate) fn unmark(&mut self, number: u32)
+        requires { number < length (words_of self.old) }
+        ensures words { words_of self.new ≡ words_of self.old }
+        ensures marks { (i : ℕ) → is_marked self.new i
+            ≡ (not (has (number ∷ []) i) && is_marked self.old i) }
+    {
+        self.marks[number as usize] = false;
+    }
+
+    /// The words, in the order of their numbers.
+    pub(crate) fn texts(&self, alloc: Global) -> Result<Vec<Name>, AllocError>
+        ensures { IfOk result (λ names. names.items ≡ words_of self.now) }
+    {
+        let mut names = Vec::new(alloc);
+        for word in self.words.as_slice() {
+            names.push(Name::copy_of(alloc, word)?)?;
+        }
+        Ok(names)
     }
 }
