@@ -1,3 +1,4 @@
 pub mod Ascii
 pub mod TableLaws
+pub mod Marking
 mod Rows

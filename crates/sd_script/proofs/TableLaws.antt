@@ -96,6 +96,9 @@ number-see_two words w x y =
     number-see_other (see (see words w) x) w y (has-see_other (see words w) w x (has-see words w))
     ∙ number-see_one words w x
 
+-- the three
+pub ruleset numbers_stay = (number-see, number-see_one, number-see_two)
+
 -- ---- a set of references
 
 module _ {R : Type 0} (view : R → Word) where

@@ -3,3 +3,4 @@ pub mod Commands
 pub mod Scripts
 pub mod Views
 pub mod Tables
+pub mod Steps

@@ -4,7 +4,11 @@
 
 mod command;
 mod fault;
+mod marks;
+mod number;
 mod phrase;
+mod reader;
+mod seen;
 mod table;
 
 pub use command::{Action, Command};

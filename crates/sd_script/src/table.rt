@@ -1,6 +1,6 @@
 //! Words with their numbers, and which of them are marked.
 
-ghost use Rattle.std.specs.Prelude.{◌≡◌, ◌<◌, ◌≤◌, ◌^◌, ℕ, [], ◌∷◌, false, not, ◌&&◌, ◌||◌};
+ghost use Rattle.std.specs.Prelude.{◌≡◌, ◌+◌, ◌<◌, ◌≤◌, ◌^◌, ℕ, [], ◌∷◌, false, not, ◌&&◌, ◌||◌};
 ghost use Rattle.std.specs.Prelude.{length, IfOk, OnOk, vec_len};
 ghost use Rattle.sd_script.specs.Commands.{has};
 ghost use Rattle.sd_script.specs.Scripts.{see, number};
@@ -49,14 +49,50 @@ impl<'a> Table<'a> {
     /// The number of a word, which is put behind the others where it is new, with no mark.
     pub(crate) fn number(&mut self, word: &'a str) -> Result<u32, ScriptFault>
         requires { length (words_of self.old) < 2 ^ 31 }
-        ensures words { IfOk result (λ _. words_of self.new ≡ see (words_of self.old) word.now) }
-        ensures number { IfOk result (λ n. n ≡ number (words_of self.old) word.now) }
-        ensures within { IfOk result (λ n. n < length (words_of self.new)) }
-        ensures marks { IfOk result (λ _. (i : ℕ) → is_marked self.new i ≡ is_marked self.old i) }
+        ensures words { OnOk result (words_of self.new ≡ see (words_of self.old) word.now) }
+        ensures number { IfOk result (λ n. n ≡ number (words_of self.new) word.now) }
+        ensures grows { OnOk result (length (words_of self.new) ≤ length (words_of self.old) + 1) }
+        ensures marks { (i : ℕ) → is_marked self.new i ≡ is_marked self.old i }
     {
         self.make_room()?;
         let (index, _) = self.words.insert_full(word)?;
         Ok(index as u32)
+    }
+
+    /// The numbers of two words, one after the other.
+    #[tactic(auto, using(crate::proofs::TableLaws::numbers_stay))]
+    pub(crate) fn number_two(&mut self, a: &'a str, b: &'a str) -> Result<[u32; 2], ScriptFault>
+        requires { length (words_of self.old) < 2 ^ 30 }
+        ensures words { OnOk result (words_of self.new
+            ≡ see (see (words_of self.old) a.now) b.now) }
+        ensures numbers { IfOk result (λ ns. ns
+            ≡ number (words_of self.new) a.now ∷ number (words_of self.new) b.now ∷ []) }
+        ensures marks { (i : ℕ) → is_marked self.new i ≡ is_marked self.old i }
+    {
+        let first = self.number(a)?;
+        let second = self.number(b)?;
+        Ok([first, second])
+    }
+
+    /// The numbers of three words, one after the other.
+    #[tactic(auto, using(crate::proofs::TableLaws::numbers_stay))]
+    pub(crate) fn number_three(
+        &mut self,
+        a: &'a str,
+        b: &'a str,
+        c: &'a str,
+    ) -> Result<[u32; 3], ScriptFault>
+        requires { length (words_of self.old) < 2 ^ 30 }
+        ensures words { OnOk result (words_of self.new
+            ≡ see (see (see (words_of self.old) a.now) b.now) c.now) }
+        ensures numbers { IfOk result (λ ns. ns ≡ number (words_of self.new) a.now
+            ∷ number (words_of self.new) b.now ∷ number (words_of self.new) c.now ∷ []) }
+        ensures marks { (i : ℕ) → is_marked self.new i ≡ is_marked self.old i }
+    {
+        let first = self.number(a)?;
+        let second = self.number(b)?;
+        let third = self.number(c)?;
+        Ok([first, second, third])
     }
 
     /// Whether the word of a number is marked.
