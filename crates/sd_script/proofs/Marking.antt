@@ -1,11 +1,11 @@
 -- What one more command changes.
-use Rattle.std.proofs.Common.{◌≡◌, ℕ, ◌+◌, Bool, true, false, not, ◌&&◌, ◌||◌, List, [], ◌∷◌, ◌++◌, refl, sym, ap, ◌∙◌, arith, if◌then◌else◌, append-nil, add-zero}
+use Rattle.std.proofs.Common.{◌≡◌, ℕ, ◌+◌, Bool, true, false, not, ◌&&◌, ◌||◌, List, [], ◌∷◌, ◌++◌, refl, sym, ap, ◌∙◌, arith, cond, append-nil, zero-add}
 use Rattle.std.proofs.lemmas.Bool.Decides.{nat_tests}
 use Rattle.std.proofs.lemmas.List.Concat.{flat_map-append}
 use Rattle.std.proofs.lemmas.List.Folds.{list_any-append}
 use Rattle.std.proofs.lemmas.List.Sums.{fold_push, sum_by-append}
 use Rattle.std.proofs.lemmas.Map.Views.{any-filter_same}
-use Rattle.std.specs.Prelude.{◌==◌, filter, count_by}
+use Rattle.std.specs.Prelude.{◌==◌, filter}
 use Rattle.sd_script.specs.declared.command.Command.{Command}
 use Rattle.sd_script.specs.Commands.{has, binds, frees, writes, bound, bound_after, written, is_load, loads}
 
@@ -20,8 +20,8 @@ bound_more cs c i =
     ap (λ names. has names i) (fold_push bound_after [] cs c)
     ∙ list_any-append (λ m. m == i) (binds c.action) (filter (λ n. not (has (frees c.action) n)) (bound cs))
     ∙ ap (λ b. has (binds c.action) i || b)
-        (any-filter_same (λ m. m == i) (λ n. not (has (frees c.action) n)) (not (has (frees c.action) i))
-        (same_test (frees c.action) i) (bound cs))
+    (any-filter_same (λ m. m == i) (λ n. not (has (frees c.action) n)) (not (has (frees c.action) i))
+    (same_test (frees c.action) i) (bound cs))
 
 -- one test or the other
 or_swap : (a b : Bool) → (a || b) ≡ (b || a)
@@ -41,8 +41,10 @@ written_more cs c i =
 
 -- a command that loads is counted
 pub loads_more : (cs : List Command) (c : Command)
-    → loads (cs ++ c ∷ []) ≡ loads cs + (if is_load c.action then 1 else 0)
-loads_more cs c = sum_by-append (λ d. if is_load d.action then 1 else 0) cs (c ∷ []) ∙ ap (λ n. loads cs + n) (add-zero (if is_load c.action then 1 else 0))
+    → loads (cs ++ c ∷ []) ≡ loads cs + cond (is_load c.action) 1 0
+loads_more cs c =
+    sum_by-append (λ d. cond (is_load d.action) 1 0) cs (c ∷ [])
+    ∙ ap (λ n. loads cs + n) (zero-add (cond (is_load c.action) 1 0))
 
 -- the three
 pub ruleset more = (bound_more, written_more, loads_more)

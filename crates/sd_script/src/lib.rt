@@ -8,8 +8,13 @@ mod marks;
 mod number;
 mod phrase;
 mod reader;
+mod script;
 mod seen;
 mod table;
 
 pub use command::{Action, Command};
 pub use fault::ScriptFault;
+pub use script::{Script, read_script};
+
+#[cfg(test)]
+mod tests;

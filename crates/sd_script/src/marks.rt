@@ -16,7 +16,7 @@ pub(crate) fn mark_names(names: &mut Table<'_>, phrase: &Phrase<'_, u32>)
     ensures words { words_of names.new ≡ words_of names.old }
     ensures marks { (i : ℕ) → is_marked names.new i
         ≡ (has (binds (action_of (numbers_view phrase.now))) i
-            || (not (has (frees (action_of (numbers_view phrase.now))) i) && is_marked names.old i)) }
+        || (not (has (frees (action_of (numbers_view phrase.now))) i) && is_marked names.old i)) }
 {
     match phrase {
         Phrase::Input(n)

@@ -146,7 +146,7 @@ fn binary<'a>(
 ) -> Option<Phrase<'a, &'a str>>
     ensures { option_map (viewed (λ word. word.now)) result
         ≡ texts.triple (texts.Binary operation)
-            (texts.name_of n.now) (texts.name_of a.now) (texts.name_of b.now) }
+        (texts.name_of n.now) (texts.name_of a.now) (texts.name_of b.now) }
 {
     Some(Phrase::Binary(operation, name_of(n)?, name_of(a)?, name_of(b)?))
 }
@@ -156,7 +156,11 @@ fn binary<'a>(
 fn name_of(word: &[u8]) -> Option<&str>
     ensures { option_map (λ text. text.now) result ≡ texts.name_of word.now }
 {
-    if is_name(word) { from_utf8(word).ok() } else { None }
+    if is_name(word) {
+        from_utf8(word).ok()
+    } else {
+        None
+    }
 }
 
 /// The text of a word that names a file: at most 255 bytes, each of 33 to 126.

@@ -1,6 +1,6 @@
 //! The commands of a text, line by line.
 
-ghost use Rattle.std.specs.Prelude.{◌≡◌, ◌≤◌, ◌<◌, ℕ, true, length, IfOk, OnOk};
+ghost use Rattle.std.specs.Prelude.{◌≡◌, ◌+◌, ◌≤◌, ◌<◌, ℕ, true, length, IfOk, OnOk};
 ghost use Rattle.std.specs.List.{list_any, list_all};
 ghost use Rattle.sd_base.specs.Views.{line_view};
 ghost use Rattle.sd_script.specs.Commands.{uses, binds, writes, has, bound, written, loads};
@@ -18,7 +18,7 @@ use crate::phrase::{Phrase, phrase_of};
 use crate::seen::number_words;
 use crate::table::Table;
 use sd_base::Line;
-use std::alloc::Global;
+use std::alloc::{AllocError, Global};
 
 const MAX_LINES: u32 = 100_000;
 
@@ -75,7 +75,8 @@ impl<'a> Reader<'a> {
             (uses (commands.action_of (numbers_view phrase.now))) }
     {
         match phrase {
-            Phrase::Binary(_, _, a, b) | Phrase::Same(a, b) => self.is_bound(*a) && self.is_bound(*b),
+            Phrase::Binary(_, _, a, b) | Phrase::Same(a, b) => self.is_bound(*a)
+                && self.is_bound(*b),
             Phrase::Not(_, a)
             | Phrase::Given(_, a, _)
             | Phrase::Forget(_, a, _)
@@ -117,12 +118,7 @@ impl<'a> Reader<'a> {
     }
 
     /// The first fault of a command after the earlier ones.
-    fn check(
-        &self,
-        variables: u32,
-        line: u32,
-        phrase: &Phrase<'a, u32>,
-    ) -> Result<(), ScriptFault>
+    fn check(&self, variables: u32, line: u32, phrase: &Phrase<'a, u32>) -> Result<(), ScriptFault>
         requires { 1 ≤ variables }
         ensures value { Gives (λ _. tt) result
             (texts.checked variables self.now.commands.items line (numbers_view phrase.now)) }
@@ -151,18 +147,16 @@ impl<'a> Reader<'a> {
 
     /// Puts a command behind the others.
     #[tactic(auto, using(crate::proofs::Marking::more))]
-    fn put(
-        &mut self,
-        line: u32,
-        action: Action,
-        phrase: &Phrase<'a, u32>,
-    ) -> Result<(), ScriptFault>
+    fn put(&mut self, line: u32, action: Action, phrase: &Phrase<'a, u32>) -> Result<(), AllocError>
         requires action { action ≡ commands.action_of (numbers_view phrase.now) }
         requires known { IsKnown (script_view self.old) (numbers_view phrase.now) }
         requires loads { commands.is_load (commands.action_of (numbers_view phrase.now)) ≡ true
             → self.old.loaded < 64 }
-        ensures { OnOk result (script_view self.new ≡ record (script_view self.old) {
-            commands = with_command self.old.commands.items line (numbers_view phrase.now) }) }
+        ensures value { OnOk result (script_view self.new ≡ record (script_view self.old) {
+          commands = with_command self.old.commands.items line (numbers_view phrase.now);
+        }) }
+        ensures names { words_of self.new.names ≡ words_of self.old.names }
+        ensures files { words_of self.new.files ≡ words_of self.old.files }
     {
         self.commands.push(Command { line, action })?;
         mark_names(&mut self.names, phrase);
@@ -184,22 +178,70 @@ impl<'a> Reader<'a> {
         requires some { 1 ≤ variables }
         requires few { variables ≤ 1024 }
         requires known { IsKnown (script_view self.old) (numbers_view phrase.now) }
-        ensures { Gives (λ _. script_view self.new) result
+        ensures value { Gives (λ _. script_view self.new) result
             (texts.placed variables (script_view self.old) line (numbers_view phrase.now)) }
+        ensures names { words_of self.new.names ≡ words_of self.old.names }
+        ensures files { words_of self.new.files ≡ words_of self.old.files }
     {
         self.check(variables, line, phrase)?;
         let action = action_of(alloc, variables, phrase)?;
-        self.put(line, action, phrase)
+        self.put(line, action, phrase)?;
+        Ok(())
     }
 
     /// The command over numbers; names and files that are new are put behind the others.
-    fn number(&mut self, phrase: &Phrase<'a, &'a str>) -> Result<Phrase<'a, u32>, ScriptFault>
-        requires { HasRoom 300000 (script_view self.old) }
+    fn number(&mut self, phrase: &Phrase<'a, &'a str>) -> Result<Phrase<'a, u32>, AllocError>
+        requires { HasRoom 100000 (script_view self.old) }
         ensures seen { OnOk result (script_view self.new
             ≡ seen (script_view self.old) (viewed (λ word. word.now) phrase.now)) }
         ensures numbered { IfOk result (λ p. numbers_view p ≡ numbered (script_view self.new)
             (viewed (λ word. word.now) phrase.now)) }
     {
         number_words(&mut self.names, &mut self.files, phrase)
+    }
+
+    /// Reads a command line.
+    fn read_command(
+        &mut self,
+        alloc: Global,
+        variables: u32,
+        line: &Line<'a>,
+    ) -> Result<(), ScriptFault>
+        requires some { 1 ≤ variables }
+        requires few { variables ≤ 1024 }
+        requires below { line.now.number ≤ 100000 }
+        requires room { HasRoom line.now.number (script_view self.old) }
+        ensures value { Gives (λ _. script_view self.new) result
+            (texts.with_line variables (script_view self.old) (line_view line.now)) }
+        ensures room { OnOk result (HasRoom (line.now.number + 1) (script_view self.new)) }
+    {
+        let number = line.number;
+        let words = phrase_of(variables, line).ok_or(ScriptFault::BadLine { line: number })?;
+        let phrase = self.number(&words)?;
+        self.place(alloc, variables, number, &phrase)?;
+        Ok(())
+    }
+
+    /// Reads a line.
+    pub(crate) fn read_line(
+        &mut self,
+        alloc: Global,
+        variables: u32,
+        line: &Line<'a>,
+    ) -> Result<(), ScriptFault>
+        requires some { 1 ≤ variables }
+        requires few { variables ≤ 1024 }
+        requires room { HasRoom line.now.number (script_view self.old) }
+        ensures value { Gives (λ _. script_view self.new) result
+            (texts.after_line variables (script_view self.old) (line_view line.now)) }
+        ensures room { OnOk result (HasRoom (line.now.number + 1) (script_view self.new)) }
+    {
+        if line.number > MAX_LINES {
+            return Err(ScriptFault::TooManyLines);
+        }
+        if line.is_blank() || line.begins_with(b'#') {
+            return Ok(());
+        }
+        self.read_command(alloc, variables, line)
     }
 }

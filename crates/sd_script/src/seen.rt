@@ -6,16 +6,16 @@ ghost use Rattle.sd_script.specs.Scripts.{see_all, number};
 ghost use Rattle.sd_script.specs.Tables.{words_of, is_marked};
 ghost use Rattle.sd_script.specs.Views.{viewed, numbers_view};
 
-use crate::fault::ScriptFault;
 use crate::phrase::Phrase;
 use crate::table::Table;
+use std::alloc::AllocError;
 
 /// The command over numbers; names and files that are new are put behind the others.
 pub(crate) fn number_words<'a>(
     names: &mut Table<'a>,
     files: &mut Table<'a>,
     phrase: &Phrase<'a, &'a str>,
-) -> Result<Phrase<'a, u32>, ScriptFault>
+) -> Result<Phrase<'a, u32>, AllocError>
     requires names { length (words_of names.old) < 2 ^ 30 }
     requires files { length (words_of files.old) < 2 ^ 30 }
     ensures names { OnOk result (words_of names.new
@@ -24,7 +24,7 @@ pub(crate) fn number_words<'a>(
         ≡ see_all (words_of files.old) (files_in (viewed (λ word. word.now) phrase.now))) }
     ensures numbered { IfOk result (λ p. numbers_view p
         ≡ renamed (number (words_of names.new)) (number (words_of files.new))
-            (viewed (λ word. word.now) phrase.now)) }
+        (viewed (λ word. word.now) phrase.now)) }
     ensures names_marks { (i : ℕ) → is_marked names.new i ≡ is_marked names.old i }
     ensures files_marks { (i : ℕ) → is_marked files.new i ≡ is_marked files.old i }
 {

@@ -5,7 +5,6 @@ ghost use Rattle.std.specs.Prelude.{length, IfOk, OnOk, vec_len};
 ghost use Rattle.sd_script.specs.Commands.{has};
 ghost use Rattle.sd_script.specs.Scripts.{see, number};
 
-use crate::fault::ScriptFault;
 use indexmap::IndexSet;
 use sd_base::Name;
 use std::alloc::{AllocError, Global};
@@ -35,7 +34,7 @@ impl<'a> Table<'a> {
     }
 
     /// Makes room for the mark of one more word.
-    fn make_room(&mut self) -> Result<(), ScriptFault>
+    fn make_room(&mut self) -> Result<(), AllocError>
         ensures words { self.new.words ≡ self.old.words }
         ensures marks { (i : ℕ) → is_marked self.new i ≡ is_marked self.old i }
         ensures room { OnOk result (length self.new.words.keys < vec_len self.new.marks) }
@@ -47,7 +46,7 @@ impl<'a> Table<'a> {
     }
 
     /// The number of a word, which is put behind the others where it is new, with no mark.
-    pub(crate) fn number(&mut self, word: &'a str) -> Result<u32, ScriptFault>
+    pub(crate) fn number(&mut self, word: &'a str) -> Result<u32, AllocError>
         requires { length (words_of self.old) < 2 ^ 31 }
         ensures words { OnOk result (words_of self.new ≡ see (words_of self.old) word.now) }
         ensures number { IfOk result (λ n. n ≡ number (words_of self.new) word.now) }
@@ -61,7 +60,7 @@ impl<'a> Table<'a> {
 
     /// The numbers of two words, one after the other.
     #[tactic(auto, using(crate::proofs::TableLaws::numbers_stay))]
-    pub(crate) fn number_two(&mut self, a: &'a str, b: &'a str) -> Result<[u32; 2], ScriptFault>
+    pub(crate) fn number_two(&mut self, a: &'a str, b: &'a str) -> Result<[u32; 2], AllocError>
         requires { length (words_of self.old) < 2 ^ 30 }
         ensures words { OnOk result (words_of self.new
             ≡ see (see (words_of self.old) a.now) b.now) }
@@ -81,7 +80,7 @@ impl<'a> Table<'a> {
         a: &'a str,
         b: &'a str,
         c: &'a str,
-    ) -> Result<[u32; 3], ScriptFault>
+    ) -> Result<[u32; 3], AllocError>
         requires { length (words_of self.old) < 2 ^ 30 }
         ensures words { OnOk result (words_of self.new
             ≡ see (see (see (words_of self.old) a.now) b.now) c.now) }

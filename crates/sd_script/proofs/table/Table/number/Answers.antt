@@ -17,5 +17,5 @@ returns-clause-number c =
     ∙ number_view (λ (k : Bor (List ℕ)). k.now) c.args.word.now c.make_room.new.self.words.keys
     ∙ sym (number-see (map (λ (k : Bor (List ℕ)). k.now) c.make_room.new.self.words.keys) c.args.word.now)
     ∙ ap (λ words. number words c.args.word.now)
-        (sym (see_view (λ (k : Bor (List ℕ)). k.now) c.make_room.new.self.words.keys c.args.word)
-        ∙ sym (ap (map (λ (k : Bor (List ℕ)). k.now)) c.in_ok-index.ensures.keys))
+    (sym (see_view (λ (k : Bor (List ℕ)). k.now) c.make_room.new.self.words.keys c.args.word)
+    ∙ sym (ap (map (λ (k : Bor (List ℕ)). k.now)) c.in_ok-index.ensures.keys))
