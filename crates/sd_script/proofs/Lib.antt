@@ -1,0 +1,6 @@
+pub mod Ascii
+pub mod TableLaws
+pub mod Marking
+pub mod Seeing
+pub mod Ahead
+mod Rows

@@ -1,0 +1,139 @@
+-- Worked examples of scripts, with their commands or their first faults.
+use Rattle.std.proofs.Common.{◌≡◌, [], ◌∷◌, ◌++◌, refl, Ok, Err, pos, negsuc, true, false}
+use Rattle.std.specs.Prelude.{codes}
+use Rattle.sd_model.specs.declared.trees.Operation.TheVariants.{And, Xor}
+use Rattle.sd_script.specs.declared.command.Action.TheVariants.{Load, Lit, Constant, Binary, Not, Drop, Same, Value, Write}
+use Rattle.sd_script.specs.declared.fault.ScriptFault.TheVariants.{BadLine, NameUnknown, NameTaken, LiteralRange}
+use Rattle.sd_script.specs.declared.fault.ScriptFault.TheVariants.{NumberRange, FileTwice, TooManyLines, TooManyLoads}
+use Rattle.sd_base.specs.Lines.{numbered_from}
+use Rattle.sd_base.specs.Words.{lines_of}
+use Rattle.sd_script.specs.Scripts.{script_of, empty, after_lines, see, number}
+
+-- ---- the first fault
+
+unknown : script_of 2 (codes "and g a b\n") ≡ Err (NameUnknown 1)
+unfolding script_of see number
+unknown = refl
+
+taken : script_of 2 (codes "lit a 1\nlit a 2\n") ≡ Err (NameTaken 2)
+unfolding script_of see number
+taken = refl
+
+out_of_range : script_of 2 (codes "lit a 3\n") ≡ Err (LiteralRange 1)
+unfolding script_of see number
+out_of_range = refl
+
+file_twice : script_of 2 (codes "vtree v\nvtree v\n") ≡ Err (FileTwice 2)
+unfolding script_of see number
+file_twice = refl
+
+-- positions over four variables are 0 to 6
+no_position : script_of 4 (codes "rotr 7\n") ≡ Err (NumberRange 1)
+unfolding script_of see number
+no_position = refl
+
+-- blank lines and comments are counted
+too_many_words : script_of 2 (codes "# a comment\n\nlit a 1 1\n") ≡ Err (BadLine 3)
+unfolding script_of see number
+too_many_words = refl
+
+-- the form of a word is tested before its name
+bits_of_a_wrong_length : script_of 2 (codes "value a 011\n") ≡ Err (BadLine 1)
+unfolding script_of see number
+bits_of_a_wrong_length = refl
+
+-- an unknown name is told before one that is taken
+unknown_before_taken : script_of 2 (codes "lit a 1\nnot a b\n") ≡ Err (NameUnknown 2)
+unfolding script_of see number
+unknown_before_taken = refl
+
+-- a name that is taken is told before a literal
+taken_before_range : script_of 2 (codes "lit a 1\nlit a 9\n") ≡ Err (NameTaken 2)
+unfolding script_of see number
+taken_before_range = refl
+
+-- a name is not bound on its own line
+unknown_itself : script_of 2 (codes "not a a\n") ≡ Err (NameUnknown 1)
+unfolding script_of see number
+unknown_itself = refl
+
+forgets_no_negation : script_of 2 (codes "lit a 1\nforget b a -1\n") ≡ Err (LiteralRange 2)
+unfolding script_of see number
+forgets_no_negation = refl
+
+zero_is_no_literal : script_of 2 (codes "lit a -0\n") ≡ Err (LiteralRange 1)
+unfolding script_of see number
+zero_is_no_literal = refl
+
+no_natural : script_of 2 (codes "swap -1\n") ≡ Err (BadLine 1)
+unfolding script_of see number
+no_natural = refl
+
+no_natural_zero : script_of 2 (codes "swap -0\n") ≡ Err (BadLine 1)
+unfolding script_of see number
+no_natural_zero = refl
+
+-- a byte past 126 stands in no command
+no_such_byte : script_of 2 (codes "vtree " ++ 127 ∷ []) ≡ Err (BadLine 1)
+unfolding script_of see number
+no_such_byte = refl
+
+unknown_once_dropped : script_of 2 (codes "lit a 1\ndrop a\nsize a\n") ≡ Err (NameUnknown 3)
+unfolding script_of see number
+unknown_once_dropped = refl
+
+-- line 100,001 is too many where it is blank too
+line_past_the_last : after_lines 2 empty (numbered_from 100000 (lines_of (codes "# one\n\n"))) ≡ Err TooManyLines
+line_past_the_last = refl
+
+-- an earlier line with a fault decides
+fault_before_the_last_line : after_lines 2 empty (numbered_from 100000 (lines_of (codes "one\n\n"))) ≡ Err (BadLine 100000)
+fault_before_the_last_line = refl
+
+-- ---- scripts without a fault
+
+nothing : script_of 2 [] ≡ Ok empty
+unfolding script_of see number
+nothing = refl
+
+-- bytes past 126 stand in comments
+any_byte_in_a_comment : script_of 2 (codes " #" ++ 127 ∷ 255 ∷ []) ≡ Ok empty
+unfolding script_of see number
+any_byte_in_a_comment = refl
+
+-- a name is free again, and keeps its number
+freed : script_of 2 (codes "lit a 1\ndrop a\nlit b 1\nlit a -2\nwrite a in\n") ≡ Ok (record {
+  commands = record { line = 1; action = Lit 0 (pos 1) }
+      ∷ record { line = 2; action = Drop 0 }
+      ∷ record { line = 3; action = Lit 1 (pos 1) }
+      ∷ record { line = 4; action = Lit 0 (negsuc 1) }
+      ∷ record { line = 5; action = Write 0 0 }
+      ∷ [];
+  names = codes "a" ∷ codes "b" ∷ [];
+  files = codes "in" ∷ [];
+})
+unfolding script_of see number
+freed = refl
+
+compared : script_of 2 (codes "lit a 1\nxor c a a\nnot d c\ntrue t\nsame d t\nvalue a 01") ≡ Ok (record {
+  commands = record { line = 1; action = Lit 0 (pos 1) }
+      ∷ record { line = 2; action = Binary Xor 1 0 0 }
+      ∷ record { line = 3; action = Not 2 1 }
+      ∷ record { line = 4; action = Constant 3 true }
+      ∷ record { line = 5; action = Same 2 3 }
+      ∷ record { line = 6; action = Value 0 (false ∷ true ∷ []) }
+      ∷ [];
+  names = codes "a" ∷ codes "c" ∷ codes "d" ∷ codes "t" ∷ [];
+  files = [];
+})
+unfolding script_of see number
+compared = refl
+
+-- a file may be loaded and written, and has one number
+loaded_and_written : script_of 2 (codes "load a f\nwrite a f\n") ≡ Ok (record {
+  commands = record { line = 1; action = Load 0 0 } ∷ record { line = 2; action = Write 0 0 } ∷ [];
+  names = codes "a" ∷ [];
+  files = codes "f" ∷ [];
+})
+unfolding script_of see number
+loaded_and_written = refl

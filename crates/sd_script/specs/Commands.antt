@@ -1,0 +1,96 @@
+-- Commands over numbered names and files, and what earlier commands leave: which names are bound, which files are
+-- written, and how many files were loaded.
+use Rattle.std.specs.Prelude.{ℕ, Bool, true, false, not, ◌==◌, List, [], ◌∷◌, ◌++◌, length, filter, fold, flat_map}
+use Rattle.std.specs.Prelude.{count_by, unsigned_abs}
+use Rattle.std.specs.List.{list_any}
+use Rattle.sd_script.specs.declared.command.Action.{Action}
+use Rattle.sd_script.specs.declared.command.Action.TheVariants.{Input, Load, Lit, Constant, Binary, Not, Given, Forget}
+use Rattle.sd_script.specs.declared.command.Action.TheVariants.{Drop, Turn, Minimise, Limit, Same, Size, Value, Write, Vtree}
+use Rattle.sd_script.specs.declared.command.Command.{Command}
+use Rattle.sd_script.specs.Phrases as phrases
+use Rattle.sd_script.specs.Phrases.{Phrase}
+
+-- the command of a phrase over numbers; the variable that is forgotten is its absolute value
+abbrev pub action_of : Phrase ℕ → Action
+action_of (phrases.Input n) = Input n
+action_of (phrases.Load n file) = Load n file
+action_of (phrases.Lit n literal) = Lit n literal
+action_of (phrases.Constant n value) = Constant n value
+action_of (phrases.Binary operation n a b) = Binary operation n a b
+action_of (phrases.Not n a) = Not n a
+action_of (phrases.Given n a literal) = Given n a literal
+action_of (phrases.Forget n a x) = Forget n a (unsigned_abs x)
+action_of (phrases.Drop a) = Drop a
+action_of (phrases.Turn kind p) = Turn kind p
+action_of (phrases.Minimise rounds) = Minimise rounds
+action_of (phrases.Limit k) = Limit k
+action_of (phrases.Same a b) = Same a b
+action_of (phrases.Size a) = Size a
+action_of (phrases.Value a bits) = Value a bits
+action_of (phrases.Write a file) = Write a file
+action_of (phrases.Vtree file) = Vtree file
+
+-- ---- what a command uses, binds, frees and writes
+
+-- the names that must be bound
+abbrev pub uses : Action → List ℕ
+uses (Binary operation n a b) = a ∷ b ∷ []
+uses (Not n a) = a ∷ []
+uses (Given n a literal) = a ∷ []
+uses (Forget n a x) = a ∷ []
+uses (Drop a) = a ∷ []
+uses (Same a b) = a ∷ b ∷ []
+uses (Size a) = a ∷ []
+uses (Value a bits) = a ∷ []
+uses (Write a file) = a ∷ []
+uses action = []
+
+-- the name that must be free, and is bound then
+abbrev pub binds : Action → List ℕ
+binds (Input n) = n ∷ []
+binds (Load n file) = n ∷ []
+binds (Lit n literal) = n ∷ []
+binds (Constant n value) = n ∷ []
+binds (Binary operation n a b) = n ∷ []
+binds (Not n a) = n ∷ []
+binds (Given n a literal) = n ∷ []
+binds (Forget n a x) = n ∷ []
+binds action = []
+
+-- the name that is free then
+abbrev pub frees : Action → List ℕ
+frees (Drop a) = a ∷ []
+frees action = []
+
+-- the file that is written
+abbrev pub writes : Action → List ℕ
+writes (Write a file) = file ∷ []
+writes (Vtree file) = file ∷ []
+writes action = []
+
+-- the command reads a file
+abbrev pub is_load : Action → Bool
+is_load (Load n file) = true
+is_load action = false
+
+-- ---- what earlier commands leave
+
+-- a number is in a list
+abbrev pub has : List ℕ → ℕ → Bool
+has numbers n = list_any (λ m. m == n) numbers
+
+-- the bound names after one more command
+abbrev pub bound_after : List ℕ → Command → List ℕ
+bound_after names c = binds c.action ++ filter (λ n. not (has (frees c.action) n)) names
+
+-- the names that commands leave bound
+abbrev pub bound : List Command → List ℕ
+bound earlier = fold bound_after [] earlier
+
+-- the files that commands write
+abbrev pub written : List Command → List ℕ
+written earlier = flat_map (λ c. writes c.action) earlier
+
+-- how many commands load a file
+abbrev pub loads : List Command → ℕ
+loads earlier = count_by (λ c. is_load c.action) earlier

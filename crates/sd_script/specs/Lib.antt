@@ -1,0 +1,6 @@
+pub mod Phrases
+pub mod Commands
+pub mod Scripts
+pub mod Views
+pub mod Tables
+pub mod Steps

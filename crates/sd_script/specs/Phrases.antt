@@ -1,0 +1,179 @@
+-- The words of a command. A phrase has its names and files as they are written, or as numbers.
+use Rattle.std.specs.Prelude.{ℕ, Bool, true, false, ◌&&◌, ◌||◌, ◌==◌, nat_le, if◌then◌else◌, codes, bytes_eq}
+use Rattle.std.specs.Prelude.{List, [], ◌∷◌, length, map, Option, Some, None, option_map, ℤ}
+use Rattle.std.specs.Char.{is_ascii_alphabetic, is_ascii_alphanumeric}
+use Rattle.std.specs.List.{list_all}
+use Rattle.sd_base.specs.Numbers.{natural_value, integer_value}
+use Rattle.sd_model.specs.declared.trees.Move.{Move}
+use Rattle.sd_model.specs.declared.trees.Move.TheVariants.{RotateLeft, RotateRight, Swap}
+use Rattle.sd_model.specs.declared.trees.Operation.{Operation}
+use Rattle.sd_model.specs.declared.trees.Operation.TheVariants.{And, Or, Xor}
+
+-- a command, with names and files of a type
+pub data Phrase (W : Type 0) : Type 0 where
+  Input : W → Phrase W
+  Load : W → W → Phrase W
+  Lit : W → ℤ → Phrase W
+  Constant : W → Bool → Phrase W
+  Binary : Operation → W → W → W → Phrase W
+  Not : W → W → Phrase W
+  Given : W → W → ℤ → Phrase W
+  Forget : W → W → ℤ → Phrase W
+  Drop : W → Phrase W
+  Turn : Move → ℕ → Phrase W
+  Minimise : ℕ → Phrase W
+  Limit : ℕ → Phrase W
+  Same : W → W → Phrase W
+  Size : W → Phrase W
+  Value : W → List Bool → Phrase W
+  Write : W → W → Phrase W
+  Vtree : W → Phrase W
+
+-- a word, as its bytes
+abbrev pub Word : Type 0
+Word = List ℕ
+
+-- ---- the forms of words
+
+-- a letter or _ (byte 95)
+abbrev pub starts_name : ℕ → Bool
+starts_name b = is_ascii_alphabetic b || b == 95
+
+-- a letter, a digit or _
+abbrev pub continues_name : ℕ → Bool
+continues_name b = is_ascii_alphanumeric b || b == 95
+
+-- a letter or _, and at most 31 letters, digits or _ after it
+abbrev pub is_name : Word → Bool
+is_name [] = false
+is_name (b ∷ bs) = starts_name b && nat_le (length bs) 31 && list_all continues_name bs
+
+-- a word that is a name
+abbrev pub name_of : Word → Option Word
+name_of word = if is_name word then Some word else None
+
+-- no byte but 33 to 126
+abbrev pub is_printable : Word → Bool
+is_printable word = list_all (λ b. nat_le 33 b && nat_le b 126) word
+
+-- a word that names a file: at most 255 bytes, each of 33 to 126
+abbrev pub file_of : Word → Option Word
+file_of word = if nat_le (length word) 255 && is_printable word then Some word else None
+
+-- a digit 0 or 1 (bytes 48 and 49)
+abbrev pub is_bit : ℕ → Bool
+is_bit b = b == 48 || b == 49
+
+-- digits as truth values
+abbrev pub values_of : Word → List Bool
+values_of word = map (λ b. b == 49) word
+
+-- a word of v digits 0 or 1, as truth values
+abbrev pub bits_of : ℕ → Word → Option (List Bool)
+bits_of v word = if length word == v && list_all is_bit word then Some (values_of word) else None
+
+-- ---- the table of commands, by the number of words after the first
+
+-- a phrase of two words, where both have their form
+abbrev pub pair : {A B : Type 0} → (A → B → Phrase Word) → Option A → Option B → Option (Phrase Word)
+pair make (Some a) (Some b) = Some (make a b)
+pair make a b = None
+
+-- a phrase of three words, where all have their form
+abbrev pub triple : {A B C : Type 0}
+    → (A → B → C → Phrase Word) → Option A → Option B → Option C → Option (Phrase Word)
+triple make (Some a) (Some b) (Some c) = Some (make a b c)
+triple make a b c = None
+
+-- a command with one word after it
+abbrev pub one_word : Word → Word → Option (Phrase Word)
+one_word command a =
+    if bytes_eq command (codes "input") then option_map Input (name_of a)
+    else if bytes_eq command (codes "true") then option_map (λ n. Constant n true) (name_of a)
+    else if bytes_eq command (codes "false") then option_map (λ n. Constant n false) (name_of a)
+    else if bytes_eq command (codes "drop") then option_map Drop (name_of a)
+    else if bytes_eq command (codes "rotl") then option_map (Turn RotateLeft) (natural_value a)
+    else if bytes_eq command (codes "rotr") then option_map (Turn RotateRight) (natural_value a)
+    else if bytes_eq command (codes "swap") then option_map (Turn Swap) (natural_value a)
+    else if bytes_eq command (codes "minimise") then option_map Minimise (natural_value a)
+    else if bytes_eq command (codes "limit") then option_map Limit (natural_value a)
+    else if bytes_eq command (codes "size") then option_map Size (name_of a)
+    else if bytes_eq command (codes "vtree") then option_map Vtree (file_of a)
+    else None
+
+-- a command with two words after it, over v variables
+abbrev pub two_words : ℕ → Word → Word → Word → Option (Phrase Word)
+two_words v command a b =
+    if bytes_eq command (codes "load") then pair Load (name_of a) (file_of b)
+    else if bytes_eq command (codes "lit") then pair Lit (name_of a) (integer_value b)
+    else if bytes_eq command (codes "not") then pair Not (name_of a) (name_of b)
+    else if bytes_eq command (codes "same") then pair Same (name_of a) (name_of b)
+    else if bytes_eq command (codes "value") then pair Value (name_of a) (bits_of v b)
+    else if bytes_eq command (codes "write") then pair Write (name_of a) (file_of b)
+    else None
+
+-- a command with three words after it
+abbrev pub three_words : Word → Word → Word → Word → Option (Phrase Word)
+three_words command a b c =
+    if bytes_eq command (codes "and") then triple (Binary And) (name_of a) (name_of b) (name_of c)
+    else if bytes_eq command (codes "or") then triple (Binary Or) (name_of a) (name_of b) (name_of c)
+    else if bytes_eq command (codes "xor") then triple (Binary Xor) (name_of a) (name_of b) (name_of c)
+    else if bytes_eq command (codes "given") then triple Given (name_of a) (name_of b) (integer_value c)
+    else if bytes_eq command (codes "forget") then triple Forget (name_of a) (name_of b) (integer_value c)
+    else None
+
+-- the command of the words of a line, over v variables
+abbrev pub phrase_of : ℕ → List Word → Option (Phrase Word)
+phrase_of v (command ∷ a ∷ []) = one_word command a
+phrase_of v (command ∷ a ∷ b ∷ []) = two_words v command a b
+phrase_of v (command ∷ a ∷ b ∷ c ∷ []) = three_words command a b c
+phrase_of v words = None
+
+-- ---- the names and the files of a phrase
+
+-- the names, in the order of the words
+abbrev pub names_in : {W : Type 0} → Phrase W → List W
+names_in (Input n) = n ∷ []
+names_in (Load n file) = n ∷ []
+names_in (Lit n literal) = n ∷ []
+names_in (Constant n value) = n ∷ []
+names_in (Binary operation n a b) = n ∷ a ∷ b ∷ []
+names_in (Not n a) = n ∷ a ∷ []
+names_in (Given n a literal) = n ∷ a ∷ []
+names_in (Forget n a x) = n ∷ a ∷ []
+names_in (Drop a) = a ∷ []
+names_in (Turn kind p) = []
+names_in (Minimise rounds) = []
+names_in (Limit k) = []
+names_in (Same a b) = a ∷ b ∷ []
+names_in (Size a) = a ∷ []
+names_in (Value a bits) = a ∷ []
+names_in (Write a file) = a ∷ []
+names_in (Vtree file) = []
+
+-- the file, if there is one
+abbrev pub files_in : {W : Type 0} → Phrase W → List W
+files_in (Load n file) = file ∷ []
+files_in (Write a file) = file ∷ []
+files_in (Vtree file) = file ∷ []
+files_in phrase = []
+
+-- the phrase with other names and files in the places of its own
+abbrev pub renamed : {W X : Type 0} → (W → X) → (W → X) → Phrase W → Phrase X
+renamed name file (Input n) = Input (name n)
+renamed name file (Load n f) = Load (name n) (file f)
+renamed name file (Lit n literal) = Lit (name n) literal
+renamed name file (Constant n value) = Constant (name n) value
+renamed name file (Binary operation n a b) = Binary operation (name n) (name a) (name b)
+renamed name file (Not n a) = Not (name n) (name a)
+renamed name file (Given n a literal) = Given (name n) (name a) literal
+renamed name file (Forget n a x) = Forget (name n) (name a) x
+renamed name file (Drop a) = Drop (name a)
+renamed name file (Turn kind p) = Turn kind p
+renamed name file (Minimise rounds) = Minimise rounds
+renamed name file (Limit k) = Limit k
+renamed name file (Same a b) = Same (name a) (name b)
+renamed name file (Size a) = Size (name a)
+renamed name file (Value a bits) = Value (name a) bits
+renamed name file (Write a f) = Write (name a) (file f)
+renamed name file (Vtree f) = Vtree (file f)

@@ -1,0 +1,20 @@
+//! Scripts: the commands that a text stands for, or its first fault.
+//! A caller sees a reading as `script_of` of `specs/Scripts.antt`.
+#![tactic(auto)]
+
+mod command;
+mod fault;
+mod marks;
+mod number;
+mod phrase;
+mod reader;
+mod script;
+mod seen;
+mod table;
+
+pub use command::{Action, Command};
+pub use fault::ScriptFault;
+pub use script::{Script, read_script};
+
+#[cfg(test)]
+mod tests;

@@ -1,0 +1,233 @@
+//! A command by the words of its line.
+
+ghost use Rattle.std.specs.Prelude.{◌≡◌, option_map};
+ghost use Rattle.std.specs.List.{list_all};
+ghost use Rattle.sd_base.specs.Views.{line_view};
+ghost use Rattle.sd_script.specs.Phrases as texts;
+ghost use Rattle.sd_script.specs.Views.{viewed};
+
+use sd_base::{Line, integer, natural};
+use sd_model::{Move, Operation};
+use std::str::from_utf8;
+
+/// A command, with its names and files as words or as numbers.
+#[derive(Clone, Copy)]
+pub(crate) enum Phrase<'a, W> {
+    Input(W),
+    Load(W, W),
+    Lit(W, i64),
+    Constant(W, bool),
+    Binary(Operation, W, W, W),
+    Not(W, W),
+    Given(W, W, i64),
+    Forget(W, W, i64),
+    Drop(W),
+    Turn(Move, u64),
+    Minimise(u64),
+    Limit(u64),
+    Same(W, W),
+    Size(W),
+    /// The truth values are digits 0 and 1.
+    Value(W, &'a [u8]),
+    Write(W, W),
+    Vtree(W),
+}
+
+/// The command of a line, where it is one.
+pub(crate) fn phrase_of<'a>(variables: u32, line: &Line<'a>) -> Option<Phrase<'a, &'a str>>
+    ensures { option_map (viewed (λ word. word.now)) result
+        ≡ texts.phrase_of variables (line_view line.now).words }
+{
+    let mut words = line.words();
+    let command = words.next()?;
+    let first = words.next()?;
+    let Some(second) = words.next() else {
+        return one_word(command, first);
+    };
+    let Some(third) = words.next() else {
+        return two_words(variables, command, first, second);
+    };
+    if words.next().is_some() {
+        return None;
+    }
+    three_words(command, first, second, third)
+}
+
+/// A command with one word after it.
+fn one_word<'a>(command: &[u8], word: &'a [u8]) -> Option<Phrase<'a, &'a str>>
+    ensures { option_map (viewed (λ word. word.now)) result
+        ≡ texts.one_word command.now word.now }
+{
+    if command == b"input".as_slice() {
+        Some(Phrase::Input(name_of(word)?))
+    } else if command == b"true".as_slice() {
+        Some(Phrase::Constant(name_of(word)?, true))
+    } else if command == b"false".as_slice() {
+        Some(Phrase::Constant(name_of(word)?, false))
+    } else if command == b"drop".as_slice() {
+        Some(Phrase::Drop(name_of(word)?))
+    } else if command == b"rotl".as_slice() {
+        Some(Phrase::Turn(Move::RotateLeft, natural(word)?))
+    } else if command == b"rotr".as_slice() {
+        Some(Phrase::Turn(Move::RotateRight, natural(word)?))
+    } else if command == b"swap".as_slice() {
+        Some(Phrase::Turn(Move::Swap, natural(word)?))
+    } else if command == b"minimise".as_slice() {
+        Some(Phrase::Minimise(natural(word)?))
+    } else if command == b"limit".as_slice() {
+        Some(Phrase::Limit(natural(word)?))
+    } else if command == b"size".as_slice() {
+        Some(Phrase::Size(name_of(word)?))
+    } else if command == b"vtree".as_slice() {
+        Some(Phrase::Vtree(file_of(word)?))
+    } else {
+        None
+    }
+}
+
+/// A command with two words after it.
+fn two_words<'a>(
+    variables: u32,
+    command: &[u8],
+    a: &'a [u8],
+    b: &'a [u8],
+) -> Option<Phrase<'a, &'a str>>
+    ensures { option_map (viewed (λ word. word.now)) result
+        ≡ texts.two_words variables command.now a.now b.now }
+{
+    if command == b"load".as_slice() {
+        Some(Phrase::Load(name_of(a)?, file_of(b)?))
+    } else if command == b"lit".as_slice() {
+        Some(Phrase::Lit(name_of(a)?, integer(b)?))
+    } else if command == b"not".as_slice() {
+        Some(Phrase::Not(name_of(a)?, name_of(b)?))
+    } else if command == b"same".as_slice() {
+        Some(Phrase::Same(name_of(a)?, name_of(b)?))
+    } else if command == b"value".as_slice() {
+        Some(Phrase::Value(name_of(a)?, bits_of(variables, b)?))
+    } else if command == b"write".as_slice() {
+        Some(Phrase::Write(name_of(a)?, file_of(b)?))
+    } else {
+        None
+    }
+}
+
+/// A command with three words after it.
+fn three_words<'a>(
+    command: &[u8],
+    a: &'a [u8],
+    b: &'a [u8],
+    c: &'a [u8],
+) -> Option<Phrase<'a, &'a str>>
+    ensures { option_map (viewed (λ word. word.now)) result
+        ≡ texts.three_words command.now a.now b.now c.now }
+{
+    if command == b"and".as_slice() {
+        binary(Operation::And, a, b, c)
+    } else if command == b"or".as_slice() {
+        binary(Operation::Or, a, b, c)
+    } else if command == b"xor".as_slice() {
+        binary(Operation::Xor, a, b, c)
+    } else if command == b"given".as_slice() {
+        Some(Phrase::Given(name_of(a)?, name_of(b)?, integer(c)?))
+    } else if command == b"forget".as_slice() {
+        Some(Phrase::Forget(name_of(a)?, name_of(b)?, integer(c)?))
+    } else {
+        None
+    }
+}
+
+/// A command that joins two formulas.
+fn binary<'a>(
+    operation: Operation,
+    n: &'a [u8],
+    a: &'a [u8],
+    b: &'a [u8],
+) -> Option<Phrase<'a, &'a str>>
+    ensures { option_map (viewed (λ word. word.now)) result
+        ≡ texts.triple (texts.Binary operation)
+        (texts.name_of n.now) (texts.name_of a.now) (texts.name_of b.now) }
+{
+    Some(Phrase::Binary(operation, name_of(n)?, name_of(a)?, name_of(b)?))
+}
+
+/// The text of a word that is a name: a letter or `_`, and at most 31 letters, digits or `_`.
+#[tactic(auto, using(crate::proofs::Ascii::names_are_text))]
+fn name_of(word: &[u8]) -> Option<&str>
+    ensures { option_map (λ text. text.now) result ≡ texts.name_of word.now }
+{
+    if is_name(word) {
+        from_utf8(word).ok()
+    } else {
+        None
+    }
+}
+
+/// The text of a word that names a file: at most 255 bytes, each of 33 to 126.
+#[tactic(auto, using(crate::proofs::Ascii::files_are_text))]
+fn file_of(word: &[u8]) -> Option<&str>
+    ensures { option_map (λ text. text.now) result ≡ texts.file_of word.now }
+{
+    if word.len() <= MAX_FILE && is_printable(word) {
+        from_utf8(word).ok()
+    } else {
+        None
+    }
+}
+
+/// The length of the longest word that names a file.
+const MAX_FILE: usize = 255;
+
+/// A word with a digit 0 or 1 for each variable.
+fn bits_of(variables: u32, word: &[u8]) -> Option<&[u8]>
+    ensures { option_map (λ bits. texts.values_of bits.now) result
+        ≡ texts.bits_of variables word.now }
+{
+    if word.len() == variables as usize && all_bits(word) {
+        Some(word)
+    } else {
+        None
+    }
+}
+
+// Whether each byte is a digit 0 or 1.
+fn all_bits(word: &[u8]) -> bool
+    ensures { result ≡ list_all texts.is_bit word.now }
+{
+    word.iter().all(|byte| *byte == b'0' || *byte == b'1')
+}
+
+// Whether a word is a name.
+fn is_name(word: &[u8]) -> bool
+    ensures { result ≡ texts.is_name word.now }
+{
+    match word {
+        [] => false,
+        [first, others @ ..] => {
+            starts_name(*first) && others.len() <= 31 && all_continue_name(others)
+        }
+    }
+}
+
+// Whether a byte can begin a name.
+fn starts_name(byte: u8) -> bool
+    ensures { result ≡ texts.starts_name byte }
+{
+    byte.is_ascii_alphabetic() || byte == b'_'
+}
+
+// Whether each byte can stand in a name.
+fn all_continue_name(bytes: &[u8]) -> bool
+    ensures { result ≡ list_all texts.continues_name bytes.now }
+{
+    bytes
+        .iter()
+        .all(|byte| byte.is_ascii_alphanumeric() || *byte == b'_')
+}
+
+// Whether no byte is outside 33 to 126.
+fn is_printable(word: &[u8]) -> bool
+    ensures { result ≡ texts.is_printable word.now }
+{
+    word.iter().all(|byte| 33 <= *byte && *byte <= 126)
+}

@@ -1,0 +1,247 @@
+//! The commands of a text, line by line.
+
+ghost use Rattle.std.specs.Prelude.{◌≡◌, ◌+◌, ◌≤◌, ◌<◌, ℕ, true, length, IfOk, OnOk};
+ghost use Rattle.std.specs.List.{list_any, list_all};
+ghost use Rattle.sd_base.specs.Views.{line_view};
+ghost use Rattle.sd_script.specs.Commands.{uses, binds, writes, has, bound, written, loads};
+ghost use Rattle.sd_script.specs.Commands as commands;
+ghost use Rattle.sd_script.specs.Scripts as texts;
+ghost use Rattle.sd_script.specs.Scripts.{Gives, empty, seen, numbered, with_command};
+ghost use Rattle.sd_script.specs.Tables.{words_of, is_marked};
+ghost use Rattle.sd_script.specs.Views.{viewed, numbers_view};
+
+use crate::command::{Action, Command};
+use crate::fault::ScriptFault;
+use crate::marks::{mark_files, mark_names};
+use crate::number::{action_of, is_load, literals_fit, numbers_fit};
+use crate::phrase::{Phrase, phrase_of};
+use crate::seen::number_words;
+use crate::table::Table;
+use sd_base::Line;
+use std::alloc::{AllocError, Global};
+
+const MAX_LINES: u32 = 100_000;
+
+const MAX_LOADS: u32 = 64;
+
+/// What was read so far.
+#[derive(Drop)]
+pub(crate) struct Reader<'a> {
+    pub(crate) commands: Vec<Command>,
+    /// Marked where they are bound.
+    pub(crate) names: Table<'a>,
+    /// Marked where they are written.
+    pub(crate) files: Table<'a>,
+    /// How many commands load a file.
+    loaded: u32,
+    ghost marked: { (i : ℕ) → is_marked names i ≡ has (bound commands.items) i },
+    ghost noted: { (i : ℕ) → is_marked files i ≡ has (written commands.items) i },
+    ghost count: { loaded ≡ loads commands.items },
+    ghost few: { loaded ≤ 64 },
+}
+
+impl<'a> Reader<'a> {
+    ghost use Rattle.sd_script.specs.Steps.{script_view, IsKnown, Fits, HasRoom};
+
+    /// Nothing read yet.
+    pub(crate) fn new(alloc: Global) -> Self
+        ensures { script_view result ≡ empty }
+    {
+        Reader {
+            commands: Vec::new(alloc),
+            names: Table::new(alloc),
+            files: Table::new(alloc),
+            loaded: 0,
+        }
+    }
+
+    /// Whether the name of a number is bound.
+    fn is_bound(&self, number: u32) -> bool
+        ensures { result ≡ has (bound self.now.commands.items) number }
+    {
+        self.names.is_marked(number)
+    }
+
+    /// Whether the file of a number is written.
+    fn is_written(&self, number: u32) -> bool
+        ensures { result ≡ has (written self.now.commands.items) number }
+    {
+        self.files.is_marked(number)
+    }
+
+    /// Whether the names that a command uses are bound.
+    fn all_used_bound(&self, phrase: &Phrase<'a, u32>) -> bool
+        ensures { result ≡ list_all (has (bound self.now.commands.items))
+            (uses (commands.action_of (numbers_view phrase.now))) }
+    {
+        match phrase {
+            Phrase::Binary(_, _, a, b) | Phrase::Same(a, b) => self.is_bound(*a)
+                && self.is_bound(*b),
+            Phrase::Not(_, a)
+            | Phrase::Given(_, a, _)
+            | Phrase::Forget(_, a, _)
+            | Phrase::Drop(a)
+            | Phrase::Size(a)
+            | Phrase::Value(a, _)
+            | Phrase::Write(a, _) => self.is_bound(*a),
+            _ => true,
+        }
+    }
+
+    /// Whether the name that a command binds is bound.
+    fn is_taken(&self, phrase: &Phrase<'a, u32>) -> bool
+        ensures { result ≡ list_any (has (bound self.now.commands.items))
+            (binds (commands.action_of (numbers_view phrase.now))) }
+    {
+        match phrase {
+            Phrase::Input(n)
+            | Phrase::Load(n, _)
+            | Phrase::Lit(n, _)
+            | Phrase::Constant(n, _)
+            | Phrase::Binary(_, n, _, _)
+            | Phrase::Not(n, _)
+            | Phrase::Given(n, _, _)
+            | Phrase::Forget(n, _, _) => self.is_bound(*n),
+            _ => false,
+        }
+    }
+
+    /// Whether the file that a command writes is written.
+    fn is_twice(&self, phrase: &Phrase<'a, u32>) -> bool
+        ensures { result ≡ list_any (has (written self.now.commands.items))
+            (writes (commands.action_of (numbers_view phrase.now))) }
+    {
+        match phrase {
+            Phrase::Write(_, file) | Phrase::Vtree(file) => self.is_written(*file),
+            _ => false,
+        }
+    }
+
+    /// The first fault of a command after the earlier ones.
+    fn check(&self, variables: u32, line: u32, phrase: &Phrase<'a, u32>) -> Result<(), ScriptFault>
+        requires { 1 ≤ variables }
+        ensures value { Gives (λ _. tt) result
+            (texts.checked variables self.now.commands.items line (numbers_view phrase.now)) }
+        ensures fits { OnOk result (Fits variables self.now.loaded (numbers_view phrase.now)) }
+    {
+        if !self.all_used_bound(phrase) {
+            return Err(ScriptFault::NameUnknown { line });
+        }
+        if self.is_taken(phrase) {
+            return Err(ScriptFault::NameTaken { line });
+        }
+        if !literals_fit(variables, phrase) {
+            return Err(ScriptFault::LiteralRange { line });
+        }
+        if !numbers_fit(variables, phrase) {
+            return Err(ScriptFault::NumberRange { line });
+        }
+        if self.is_twice(phrase) {
+            return Err(ScriptFault::FileTwice { line });
+        }
+        if is_load(phrase) && self.loaded >= MAX_LOADS {
+            return Err(ScriptFault::TooManyLoads { line });
+        }
+        Ok(())
+    }
+
+    /// Puts a command behind the others.
+    #[tactic(auto, using(crate::proofs::Marking::more))]
+    fn put(&mut self, line: u32, action: Action, phrase: &Phrase<'a, u32>) -> Result<(), AllocError>
+        requires action { action ≡ commands.action_of (numbers_view phrase.now) }
+        requires known { IsKnown (script_view self.old) (numbers_view phrase.now) }
+        requires loads { commands.is_load (commands.action_of (numbers_view phrase.now)) ≡ true
+            → self.old.loaded < 64 }
+        ensures value { OnOk result (script_view self.new ≡ record (script_view self.old) {
+          commands = with_command self.old.commands.items line (numbers_view phrase.now);
+        }) }
+        ensures names { words_of self.new.names ≡ words_of self.old.names }
+        ensures files { words_of self.new.files ≡ words_of self.old.files }
+    {
+        self.commands.push(Command { line, action })?;
+        mark_names(&mut self.names, phrase);
+        mark_files(&mut self.files, phrase);
+        if is_load(phrase) {
+            self.loaded += 1;
+        }
+        Ok(())
+    }
+
+    /// Puts a command behind the others, if it has no fault.
+    fn place(
+        &mut self,
+        alloc: Global,
+        variables: u32,
+        line: u32,
+        phrase: &Phrase<'a, u32>,
+    ) -> Result<(), ScriptFault>
+        requires some { 1 ≤ variables }
+        requires few { variables ≤ 1024 }
+        requires known { IsKnown (script_view self.old) (numbers_view phrase.now) }
+        ensures value { Gives (λ _. script_view self.new) result
+            (texts.placed variables (script_view self.old) line (numbers_view phrase.now)) }
+        ensures names { words_of self.new.names ≡ words_of self.old.names }
+        ensures files { words_of self.new.files ≡ words_of self.old.files }
+    {
+        self.check(variables, line, phrase)?;
+        let action = action_of(alloc, variables, phrase)?;
+        self.put(line, action, phrase)?;
+        Ok(())
+    }
+
+    /// The command over numbers; names and files that are new are put behind the others.
+    fn number(&mut self, phrase: &Phrase<'a, &'a str>) -> Result<Phrase<'a, u32>, AllocError>
+        requires { HasRoom 100000 (script_view self.old) }
+        ensures seen { OnOk result (script_view self.new
+            ≡ seen (script_view self.old) (viewed (λ word. word.now) phrase.now)) }
+        ensures numbered { IfOk result (λ p. numbers_view p ≡ numbered (script_view self.new)
+            (viewed (λ word. word.now) phrase.now)) }
+    {
+        number_words(&mut self.names, &mut self.files, phrase)
+    }
+
+    /// Reads a command line.
+    fn read_command(
+        &mut self,
+        alloc: Global,
+        variables: u32,
+        line: &Line<'a>,
+    ) -> Result<(), ScriptFault>
+        requires some { 1 ≤ variables }
+        requires few { variables ≤ 1024 }
+        requires below { line.now.number ≤ 100000 }
+        requires room { HasRoom line.now.number (script_view self.old) }
+        ensures value { Gives (λ _. script_view self.new) result
+            (texts.with_line variables (script_view self.old) (line_view line.now)) }
+        ensures room { OnOk result (HasRoom (line.now.number + 1) (script_view self.new)) }
+    {
+        let number = line.number;
+        let words = phrase_of(variables, line).ok_or(ScriptFault::BadLine { line: number })?;
+        let phrase = self.number(&words)?;
+        self.place(alloc, variables, number, &phrase)?;
+        Ok(())
+    }
+
+    /// Reads a line.
+    pub(crate) fn read_line(
+        &mut self,
+        alloc: Global,
+        variables: u32,
+        line: &Line<'a>,
+    ) -> Result<(), ScriptFault>
+        requires some { 1 ≤ variables }
+        requires few { variables ≤ 1024 }
+        requires room { HasRoom line.now.number (script_view self.old) }
+        ensures value { Gives (λ _. script_view self.new) result
+            (texts.after_line variables (script_view self.old) (line_view line.now)) }
+        ensures room { OnOk result (HasRoom (line.now.number + 1) (script_view self.new)) }
+    {
+        if line.number > MAX_LINES {
+            return Err(ScriptFault::TooManyLines);
+        }
+        if line.is_blank() || line.begins_with(b'#') {
+            return Ok(());
+        }
+        self.read_command(alloc, variables, line)
+    }
+}

@@ -1,0 +1,71 @@
+//! The words of a command, as numbers.
+
+ghost use Rattle.std.specs.Prelude.{◌≡◌, ◌<◌, ◌^◌, ℕ, length, IfOk, OnOk};
+ghost use Rattle.sd_script.specs.Phrases.{names_in, files_in, renamed};
+ghost use Rattle.sd_script.specs.Scripts.{see_all, number};
+ghost use Rattle.sd_script.specs.Tables.{words_of, is_marked};
+ghost use Rattle.sd_script.specs.Views.{viewed, numbers_view};
+
+use crate::phrase::Phrase;
+use crate::table::Table;
+use std::alloc::AllocError;
+
+/// The command over numbers; names and files that are new are put behind the others.
+pub(crate) fn number_words<'a>(
+    names: &mut Table<'a>,
+    files: &mut Table<'a>,
+    phrase: &Phrase<'a, &'a str>,
+) -> Result<Phrase<'a, u32>, AllocError>
+    requires names { length (words_of names.old) < 2 ^ 30 }
+    requires files { length (words_of files.old) < 2 ^ 30 }
+    ensures names { OnOk result (words_of names.new
+        ≡ see_all (words_of names.old) (names_in (viewed (λ word. word.now) phrase.now))) }
+    ensures files { OnOk result (words_of files.new
+        ≡ see_all (words_of files.old) (files_in (viewed (λ word. word.now) phrase.now))) }
+    ensures numbered { IfOk result (λ p. numbers_view p
+        ≡ renamed (number (words_of names.new)) (number (words_of files.new))
+        (viewed (λ word. word.now) phrase.now)) }
+    ensures names_marks { (i : ℕ) → is_marked names.new i ≡ is_marked names.old i }
+    ensures files_marks { (i : ℕ) → is_marked files.new i ≡ is_marked files.old i }
+{
+    match *phrase {
+        Phrase::Input(n) => Ok(Phrase::Input(names.number(n)?)),
+        Phrase::Load(n, file) => {
+            let n = names.number(n)?;
+            Ok(Phrase::Load(n, files.number(file)?))
+        }
+        Phrase::Lit(n, literal) => Ok(Phrase::Lit(names.number(n)?, literal)),
+        Phrase::Constant(n, value) => Ok(Phrase::Constant(names.number(n)?, value)),
+        Phrase::Binary(operation, n, a, b) => {
+            let [n, a, b] = names.number_three(n, a, b)?;
+            Ok(Phrase::Binary(operation, n, a, b))
+        }
+        Phrase::Not(n, a) => {
+            let [n, a] = names.number_two(n, a)?;
+            Ok(Phrase::Not(n, a))
+        }
+        Phrase::Given(n, a, literal) => {
+            let [n, a] = names.number_two(n, a)?;
+            Ok(Phrase::Given(n, a, literal))
+        }
+        Phrase::Forget(n, a, x) => {
+            let [n, a] = names.number_two(n, a)?;
+            Ok(Phrase::Forget(n, a, x))
+        }
+        Phrase::Drop(a) => Ok(Phrase::Drop(names.number(a)?)),
+        Phrase::Turn(kind, position) => Ok(Phrase::Turn(kind, position)),
+        Phrase::Minimise(rounds) => Ok(Phrase::Minimise(rounds)),
+        Phrase::Limit(limit) => Ok(Phrase::Limit(limit)),
+        Phrase::Same(a, b) => {
+            let [a, b] = names.number_two(a, b)?;
+            Ok(Phrase::Same(a, b))
+        }
+        Phrase::Size(a) => Ok(Phrase::Size(names.number(a)?)),
+        Phrase::Value(a, digits) => Ok(Phrase::Value(names.number(a)?, digits)),
+        Phrase::Write(a, file) => {
+            let a = names.number(a)?;
+            Ok(Phrase::Write(a, files.number(file)?))
+        }
+        Phrase::Vtree(file) => Ok(Phrase::Vtree(files.number(file)?)),
+    }
+}

@@ -1,0 +1,139 @@
+//! Words with their numbers, and which of them are marked.
+
+ghost use Rattle.std.specs.Prelude.{◌≡◌, ◌+◌, ◌<◌, ◌≤◌, ◌^◌, ℕ, [], ◌∷◌, false, not, ◌&&◌, ◌||◌};
+ghost use Rattle.std.specs.Prelude.{length, IfOk, OnOk, vec_len};
+ghost use Rattle.sd_script.specs.Commands.{has};
+ghost use Rattle.sd_script.specs.Scripts.{see, number};
+
+use indexmap::IndexSet;
+use sd_base::Name;
+use std::alloc::{AllocError, Global};
+
+/// Words in the order in which they were first seen. Each has its place as its number, and can be
+/// marked.
+#[derive(Drop)]
+pub(crate) struct Table<'a> {
+    pub(crate) words: IndexSet<&'a str>,
+    /// By number; there may be more marks than words.
+    pub(crate) marks: Vec<bool>,
+    ghost room: { length words.keys ≤ vec_len marks },
+}
+
+impl<'a> Table<'a> {
+    ghost use Rattle.sd_script.specs.Tables.{words_of, is_marked};
+
+    /// No word.
+    pub(crate) fn new(alloc: Global) -> Self
+        ensures words { words_of result ≡ [] }
+        ensures marks { (i : ℕ) → is_marked result i ≡ false }
+    {
+        Table {
+            words: IndexSet::new(alloc),
+            marks: Vec::new(alloc),
+        }
+    }
+
+    /// Makes room for the mark of one more word.
+    fn make_room(&mut self) -> Result<(), AllocError>
+        ensures words { self.new.words ≡ self.old.words }
+        ensures marks { (i : ℕ) → is_marked self.new i ≡ is_marked self.old i }
+        ensures room { OnOk result (length self.new.words.keys < vec_len self.new.marks) }
+    {
+        if self.marks.len() == self.words.len() {
+            self.marks.push(false)?;
+        }
+        Ok(())
+    }
+
+    /// The number of a word, which is put behind the others where it is new, with no mark.
+    pub(crate) fn number(&mut self, word: &'a str) -> Result<u32, AllocError>
+        requires { length (words_of self.old) < 2 ^ 31 }
+        ensures words { OnOk result (words_of self.new ≡ see (words_of self.old) word.now) }
+        ensures number { IfOk result (λ n. n ≡ number (words_of self.new) word.now) }
+        ensures grows { OnOk result (length (words_of self.new) ≤ length (words_of self.old) + 1) }
+        ensures marks { (i : ℕ) → is_marked self.new i ≡ is_marked self.old i }
+    {
+        self.make_room()?;
+        let (index, _) = self.words.insert_full(word)?;
+        Ok(index as u32)
+    }
+
+    /// The numbers of two words, one after the other.
+    #[tactic(auto, using(crate::proofs::TableLaws::numbers_stay))]
+    pub(crate) fn number_two(&mut self, a: &'a str, b: &'a str) -> Result<[u32; 2], AllocError>
+        requires { length (words_of self.old) < 2 ^ 30 }
+        ensures words { OnOk result (words_of self.new
+            ≡ see (see (words_of self.old) a.now) b.now) }
+        ensures numbers { IfOk result (λ ns. ns
+            ≡ number (words_of self.new) a.now ∷ number (words_of self.new) b.now ∷ []) }
+        ensures marks { (i : ℕ) → is_marked self.new i ≡ is_marked self.old i }
+    {
+        let first = self.number(a)?;
+        let second = self.number(b)?;
+        Ok([first, second])
+    }
+
+    /// The numbers of three words, one after the other.
+    #[tactic(auto, using(crate::proofs::TableLaws::numbers_stay))]
+    pub(crate) fn number_three(
+        &mut self,
+        a: &'a str,
+        b: &'a str,
+        c: &'a str,
+    ) -> Result<[u32; 3], AllocError>
+        requires { length (words_of self.old) < 2 ^ 30 }
+        ensures words { OnOk result (words_of self.new
+            ≡ see (see (see (words_of self.old) a.now) b.now) c.now) }
+        ensures numbers { IfOk result (λ ns. ns ≡ number (words_of self.new) a.now
+            ∷ number (words_of self.new) b.now ∷ number (words_of self.new) c.now ∷ []) }
+        ensures marks { (i : ℕ) → is_marked self.new i ≡ is_marked self.old i }
+    {
+        let first = self.number(a)?;
+        let second = self.number(b)?;
+        let third = self.number(c)?;
+        Ok([first, second, third])
+    }
+
+    /// Whether the word of a number is marked.
+    pub(crate) fn is_marked(&self, number: u32) -> bool
+        ensures { result ≡ is_marked self.now number }
+    {
+        match self.marks.get(number as usize) {
+            Some(mark) => *mark,
+            None => false,
+        }
+    }
+
+    /// Marks the word of a number.
+    #[tactic(auto, using(crate::proofs::TableLaws::mark_there))]
+    pub(crate) fn mark(&mut self, number: u32)
+        requires { number < length (words_of self.old) }
+        ensures words { words_of self.new ≡ words_of self.old }
+        ensures marks { (i : ℕ) → is_marked self.new i
+            ≡ (has (number ∷ []) i || is_marked self.old i) }
+    {
+        self.marks[number as usize] = true;
+    }
+
+    /// Takes the mark of the word of a number.
+    #[tactic(auto, using(crate::proofs::TableLaws::mark_gone))]
+    pub(crate) fn unmark(&mut self, number: u32)
+        requires { number < length (words_of self.old) }
+        ensures words { words_of self.new ≡ words_of self.old }
+        ensures marks { (i : ℕ) → is_marked self.new i
+            ≡ (not (has (number ∷ []) i) && is_marked self.old i) }
+    {
+        self.marks[number as usize] = false;
+    }
+
+    /// The words, in the order of their numbers.
+    pub(crate) fn texts(&self, alloc: Global) -> Result<Vec<Name>, AllocError>
+        ensures { IfOk result (λ names. names.items ≡ words_of self.now) }
+    {
+        let mut names = Vec::new(alloc);
+        for word in self.words.as_slice() {
+            names.push(Name::copy_of(alloc, word)?)?;
+        }
+        Ok(names)
+    }
+}
