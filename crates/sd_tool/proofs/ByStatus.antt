@@ -9,6 +9,7 @@ use Rattle.sd_tool.specs.Devices.{Moment, HasCause, SaysLine}
 use Rattle.sd_tool.specs.Course.{Comes, Leaves}
 use Rattle.sd_tool.specs.Headline.{Went, HasEffects, HasLine, HasEnd}
 use Rattle.sd_tool.proofs.OneOutcome.{none_refused}
+use Rattle.sd_tool.proofs.NoWant.{refused_of_text}
 
 -- a refusal has one of its two statuses
 two_or_nine : (refusal : Refusal) (status : ℕ) → status ≡ refusal_status refusal → (status ≡ 2) ⊎ (status ≡ 9)
@@ -113,6 +114,8 @@ end_at words status old new went = go went.end went.comes went.status_is went.ca
         refusal = refusal;
         status_is = is;
         led = (refused_early words old.contents.files went.effects refusal comes).0;
+        of_text = refused_of_text old.contents.files words refusal
+            (refused_early words old.contents.files went.effects refusal comes).0;
         line = line;
       };
       read_fault = λ s. other_status refusal status is (inr (inl s));

@@ -1,7 +1,9 @@
 pub mod ByStatus
 pub mod EndLemmas
 pub mod Expanding
+pub mod FormulaFaults
 pub mod Fronts
+pub mod NoWant
 pub mod OneCourse
 pub mod OneOutcome
 pub mod OnePoint

@@ -6,7 +6,7 @@ use Rattle.sd_formula.specs.Dimacs.{Groups}
 use Rattle.sd_tool.specs.Job.{Job}
 use Rattle.sd_tool.specs.Effects.{Effect, after, DoesPart}
 use Rattle.sd_tool.specs.Readings.{Refuses, Reads, reading_of, ReadsTo}
-use Rattle.sd_tool.specs.Refusals.{Refusal, refusal_status}
+use Rattle.sd_tool.specs.Refusals.{Refusal, IsOfText, refusal_status}
 use Rattle.sd_tool.specs.Ends.{End, Finished, Refused, Unreadable, Unwritable, OutOfMemory, status_of}
 use Rattle.sd_tool.specs.Devices.{Moment, NoneRose, HasCause, SaysLine}
 use Rattle.sd_tool.specs.Course.{Comes, Leaves}
@@ -39,11 +39,12 @@ pub record HasEffects (words : List (List ℕ)) (status : ℕ) (old new : Moment
 abbrev pub HasLine : ℕ → Moment → Moment → Type 0
 HasLine status old new = (end : End) × (status ≡ status_of end) × SaysLine end old new
 
--- The words or a text were refused; the line says why.
+-- The words or a text were refused; the line says why, and that is never want of memory.
 pub record IsRefused (words : List (List ℕ)) (status : ℕ) (old new : Moment) : Type 0 where
   pub refusal : Refusal
   pub status_is : status ≡ refusal_status refusal
   pub led : ReadsTo old.contents.files (reading_of words) (Refuses refusal)
+  pub of_text : IsOfText refusal
   pub line : SaysLine (Refused refusal) old new
 
 -- An input file was asked for and not read; the line names it.

@@ -24,6 +24,12 @@ refusal_status (TooLong file) = 2
 refusal_status (BadFormula file fault) = 2
 refusal_status (BadVtree file fault) = 2
 
+-- the fault is one of a text: want of memory is none
+abbrev pub IsOfText : Refusal → Type 0
+IsOfText (BadFormula file formula.OutOfMemory) = ⊥
+IsOfText (BadVtree file OutOfMemory) = ⊥
+IsOfText refusal = Unit {0}
+
 -- a fault of a line
 abbrev pub at_line : ℕ → List ℕ → List ℕ
 at_line n text = codes ": line " ++ number_text n ++ text

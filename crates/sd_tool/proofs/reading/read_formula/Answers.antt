@@ -1,4 +1,4 @@
-use Rattle.std.proofs.Common.{◌⊎◌, ℕ, List, Err, inl, inr, ap, ◌∙◌, subst}
+use Rattle.std.proofs.Common.{◌⊎◌, ℕ, List, Err, inl, ap, ◌∙◌, subst}
 use Rattle.sd_base.specs.Faults.{Rose}
 use Rattle.sd_base.specs.Files.{HasBytes, HasLonger, Lacks}
 use Rattle.sd_formula.specs.Dimacs.{dimacs}
