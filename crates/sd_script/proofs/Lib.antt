@@ -3,4 +3,6 @@ pub mod TableLaws
 pub mod Marking
 pub mod Seeing
 pub mod Ahead
+pub mod Bits
+pub mod Allowed
 mod Rows

@@ -73,6 +73,20 @@ length-see words w = by (list_any (bytes_eq w) words)
     by true = omega arith
     by false = omega (arith, length-append words (w ∷ []))
 
+-- and no less
+see_least : (words : List Word) (w : Word) → length words ≤ length (see words w)
+unfolding see
+see_least words w = by (list_any (bytes_eq w) words)
+  where
+    by : (b : Bool) → length words ≤ length (if b then words else words ++ w ∷ [])
+    by true = omega arith
+    by false = omega (arith, length-append words (w ∷ []))
+
+-- more words are no less
+pub length-see_least : (words more : List Word) → length words ≤ length (see_all words more)
+length-see_least words [] = omega arith
+length-see_least words (w ∷ more) = omega (arith, see_least words w, length-see_least (see words w) more)
+
 -- a phrase has three names at most
 length-names : (words : List Word) (p : Phrase Word) → length (see_all words (names_in p)) ≤ length words + 3
 length-names words (phrases.Input n) = omega (arith, length-see words n)

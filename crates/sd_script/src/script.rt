@@ -1,6 +1,7 @@
 //! The script of a text.
 
 ghost use Rattle.std.specs.Prelude.{◌≡◌, ◌<◌, ◌≤◌, length, slice_get, Ok, Some, IfOk, IfErr};
+ghost use Rattle.sd_script.specs.Read.{IsScript};
 ghost use Rattle.sd_script.specs.Scripts.{Fails, Gives, script_of};
 ghost use Rattle.sd_script.specs.Steps.{script_view};
 
@@ -70,6 +71,7 @@ pub fn read_script(alloc: Global, bytes: &[u8], variables: u32) -> Result<Script
     requires short { length bytes.now ≤ 67108864 }
     ensures ok { IfOk result (λ script. script_of variables bytes.now ≡ Ok script) }
     ensures fault { IfErr result (λ e. Fails e (script_of variables bytes.now)) }
+    ensures script { IfOk result (IsScript variables) }
 {
     let reader = read_lines(alloc, bytes, variables)?;
     let names = reader.names.texts(alloc)?;

@@ -159,7 +159,7 @@ fn the_last_line(rt: HostRuntime) -> Result<(), Fail> {
     let rows = [
         (100_000, b'\n', None),
         (100_001, b'\n', Some(ScriptFault::TooManyLines)),
-        (100_001, b'x', Some(ScriptFault::BadLine { line: 1 })),
+        (100_002, b'x', Some(ScriptFault::BadLine { line: 1 })),
     ];
     for (count, first, wanted) in rows {
         let mut text = vec![in rt.alloc(); b'\n'; count]?;

@@ -1,0 +1,230 @@
+-- What is read is a script: each of its commands can be done after those before it.
+use Rattle.std.proofs.Common.{◌≡◌, ℕ, zero, suc, ◌+◌, ◌-◌, ◌*◌, ◌<◌, ◌≤◌, Bool, true, false, not, ◌&&◌, List, [], ◌∷◌, ◌++◌, length, take, refl, sym, ap, subst, ◌∙◌, arith, if◌then◌else◌, Result, Ok, Err}
+use Rattle.std.specs.Prelude.{◌==◌, nat_le, nat_lt, int_le, ℤ, pos, negsuc, unsigned_abs, slice_get, ok_or, Option, Some, None, bytes_eq}
+use Rattle.std.specs.List.{list_any, list_all, AllByRecursion}
+use Rattle.sd_base.specs.Words.{lines_of}
+use Rattle.sd_base.specs.Lines.{TextLine, numbered_from, is_content}
+use Rattle.sd_base.specs.Reading.{◌>>=◌, ◌>>◌, fault_if}
+use Rattle.sd_script.specs.declared.command.Command.{Command}
+use Rattle.sd_script.specs.declared.fault.ScriptFault.{ScriptFault}
+use Rattle.sd_script.specs.declared.fault.ScriptFault.TheVariants as faults
+use Rattle.sd_script.specs.Commands.{action_of, uses, binds, writes, is_load, has, bound, written, loads}
+use Rattle.sd_script.specs.Phrases as p
+use Rattle.sd_script.specs.Phrases.{Phrase, Word, phrase_of, names_in, files_in, renamed}
+use Rattle.sd_script.specs.Read.{reads, in_range, IsAllowed, IsScript}
+use Rattle.sd_script.specs.Scripts.{Script, empty, see, see_all, number, seen, numbered, literals_fit, numbers_fit, is_within}
+use Rattle.sd_script.specs.Scripts.{checked, placed, with_command, with_line, after_line, after_lines, script_of}
+use Rattle.sd_script.specs.Steps.{IsKnown}
+use Rattle.sd_script.proofs.Bits.{bits_fit, phrase_fits}
+use Rattle.sd_script.proofs.Seeing.{known, length-see_least}
+
+-- ---- steps of a reading that has no fault
+
+-- a test that passed, and what follows
+passed : {B : Type 0} (b : Bool) (e : ScriptFault) (rest : Result B ScriptFault) (x : B)
+    → (fault_if b e >> rest) ≡ Ok x → (b ≡ false) × (rest ≡ Ok x)
+passed true e rest x h = cc
+passed false e rest x h = (refl, h)
+
+-- a step that gave a value, and what follows
+gave : {A B : Type 0} (r : Result A ScriptFault) (f : A → Result B ScriptFault) (x : B)
+    → (r >>= f) ≡ Ok x → (a : A) × (r ≡ Ok a) × (f a ≡ Ok x)
+gave (Ok a) f x h = (a, refl, h)
+gave (Err e) f x h = cc
+
+-- a step, and what follows
+went_on : {A B : Type 0} (r : Result A ScriptFault) (rest : Result B ScriptFault) (x : B)
+    → (r >> rest) ≡ Ok x → (a : A) × (r ≡ Ok a) × (rest ≡ Ok x)
+went_on (Ok a) rest x h = (a, refl, h)
+went_on (Err e) rest x h = cc
+
+-- an option that was there
+was_there : {A : Type 0} (o : Option A) (e : ScriptFault) (a : A) → ok_or o e ≡ Ok a → o ≡ Some a
+was_there (Some b) e a h = let same : b ≡ a = cc in ap Some same
+was_there None e a h = cc
+
+-- a test that did not fail
+not_not : (b : Bool) → not b ≡ false → b ≡ true
+not_not true h = refl
+not_not false h = cc
+
+-- what the tests of a command tell
+record Passes (v : ℕ) (earlier : List Command) (phrase : Phrase ℕ) : Type 0 where
+  known : list_all (has (bound earlier)) (uses (action_of phrase)) ≡ true
+  free : list_any (has (bound earlier)) (binds (action_of phrase)) ≡ false
+  literals : literals_fit v phrase ≡ true
+  numbers : numbers_fit v phrase ≡ true
+  unwritten : list_any (has (written earlier)) (writes (action_of phrase)) ≡ false
+
+-- where they found no fault
+passes : (v : ℕ) (earlier : List Command) (line : ℕ) (phrase : Phrase ℕ)
+    → checked v earlier line phrase ≡ Ok tt → Passes v earlier phrase
+passes v earlier line phrase h =
+    let one = passed _ (faults.NameUnknown line) _ tt h in
+    let two = passed _ (faults.NameTaken line) _ tt one.1 in
+    let three = passed _ (faults.LiteralRange line) _ tt two.1 in
+    let four = passed _ (faults.NumberRange line) _ tt three.1 in
+    let five = passed _ (faults.FileTwice line) _ tt four.1 in
+    record {
+      known = not_not _ one.0;
+      free = two.0;
+      literals = not_not _ three.0;
+      numbers = not_not _ four.0;
+      unwritten = five.0;
+    }
+
+-- ---- what a phrase has, of its command
+
+-- its names
+names_same : (q : Phrase ℕ) → names_in q ≡ binds (action_of q) ++ uses (action_of q)
+names_same (p.Input n) = refl
+names_same (p.Load n file) = refl
+names_same (p.Lit n literal) = refl
+names_same (p.Constant n value) = refl
+names_same (p.Binary operation n a b) = refl
+names_same (p.Not n a) = refl
+names_same (p.Given n a literal) = refl
+names_same (p.Forget n a x) = refl
+names_same (p.Drop a) = refl
+names_same (p.Turn kind q) = refl
+names_same (p.Minimise rounds) = refl
+names_same (p.Limit k) = refl
+names_same (p.Same a b) = refl
+names_same (p.Size a) = refl
+names_same (p.Value a bits) = refl
+names_same (p.Write a file) = refl
+names_same (p.Vtree file) = refl
+
+-- its files
+files_same : (q : Phrase ℕ) → files_in q ≡ reads (action_of q) ++ writes (action_of q)
+files_same (p.Load n file) = refl
+files_same (p.Write a file) = refl
+files_same (p.Vtree file) = refl
+files_same q = refl
+
+-- a variable to forget
+variable_fits : (v : ℕ) (x : ℤ) → (int_le (pos 1) x && int_le x (pos v)) ≡ true → is_within 1 v (unsigned_abs x) ≡ true
+variable_fits v (pos n) h = h
+variable_fits v (negsuc n) h = cc
+
+-- its numbers
+ranges : (v : ℕ) (q : Phrase ℕ) → literals_fit v q ≡ true → numbers_fit v q ≡ true → bits_fit v q ≡ true
+    → in_range v (action_of q) ≡ true
+ranges v (p.Lit n literal) l m b = l
+ranges v (p.Given n a literal) l m b = l
+ranges v (p.Forget n a x) l m b = variable_fits v x l
+ranges v (p.Turn kind q) l m b = m
+ranges v (p.Minimise rounds) l m b = m
+ranges v (p.Limit k) l m b = m
+ranges v (p.Value a bits) l m b = b
+ranges v q l m b = refl
+
+-- the same with numbers for words
+bits_stay : {W X : Type 0} (v : ℕ) (name file : W → X) (q : Phrase W) → bits_fit v (renamed name file q) ≡ bits_fit v q
+bits_stay v name file (p.Value a bits) = refl
+bits_stay v name file q = refl
+
+-- ---- a list with one more at its end
+
+-- numbers below m are below what is no less
+all_below : (m n : ℕ) (xs : List ℕ) → m ≤ n → AllByRecursion (λ k. k < m) xs → AllByRecursion (λ k. k < n) xs
+all_below m n [] h all = tt
+all_below m n (x ∷ xs) h all =
+    let here : x < m = all.0 in
+    (omega arith, all_below m n xs h all.1)
+
+-- what holds of each element and those before it
+with_last : {X : Type 0} (P : List X → X → Type 0) (xs : List X) (y : X)
+    → ((k : ℕ) (x : X) → slice_get xs k ≡ Some x → P (take k xs) x) → P xs y
+    → (k : ℕ) (x : X) → slice_get (xs ++ y ∷ []) k ≡ Some x → P (take k (xs ++ y ∷ [])) x
+with_last P [] y all last zero x h = let same : y ≡ x = cc in subst (P []) same last
+with_last P [] y all last (suc k) x h = cc
+with_last P (z ∷ zs) y all last zero x h = all zero x h
+with_last P (z ∷ zs) y all last (suc k) x h =
+    with_last (λ us w. P (z ∷ us) w) zs y (λ j w g. all (suc j) w g) last k x h
+
+-- ---- one more command
+
+-- a command that can be done can be done where there are more names and files
+still_allowed : (v : ℕ) (s t : Script) (earlier : List Command) (c : Command)
+    → length s.names ≤ length t.names → length s.files ≤ length t.files
+    → IsAllowed v s earlier c → IsAllowed v t earlier c
+still_allowed v s t earlier c names files h = record {
+  names = all_below (length s.names) (length t.names) _ names h.names;
+  files = all_below (length s.files) (length t.files) _ files h.files;
+  known = h.known;
+  free = h.free;
+  unwritten = h.unwritten;
+  ranges = h.ranges;
+}
+
+-- a command that passes its tests can be done
+allowed : (v : ℕ) (s : Script) (line : ℕ) (phrase : Phrase Word) → bits_fit v phrase ≡ true
+    → Passes v s.commands (numbered (seen s phrase) phrase)
+    → IsAllowed v (seen s phrase) s.commands (record { line = line; action = action_of (numbered (seen s phrase) phrase) })
+allowed v s line phrase bits h =
+    let q = numbered (seen s phrase) phrase in
+    let t = seen s phrase in
+    let k = known s phrase in
+    record {
+      names = subst (AllByRecursion (λ n. n < length t.names)) (names_same q) k.names;
+      files = subst (AllByRecursion (λ n. n < length t.files)) (files_same q) k.files;
+      known = h.known;
+      free = h.free;
+      unwritten = h.unwritten;
+      ranges = ranges v q h.literals h.numbers (bits_stay v (number t.names) (number t.files) phrase ∙ bits);
+    }
+
+-- a script with one more command
+more : (v : ℕ) (s : Script) (line : ℕ) (phrase : Phrase Word) → bits_fit v phrase ≡ true → IsScript v s
+    → Passes v s.commands (numbered (seen s phrase) phrase)
+    → IsScript v (record (seen s phrase) {
+      commands = with_command s.commands line (numbered (seen s phrase) phrase);
+    })
+more v s line phrase bits h tested =
+    let c : Command = record { line = line; action = action_of (numbered (seen s phrase) phrase) } in
+    let t : Script = record (seen s phrase) { commands = s.commands ++ c ∷ [] } in
+    record {
+      allowed =
+          with_last (IsAllowed v t) s.commands c
+          (λ k d g. still_allowed v s t (take k s.commands) d
+          (length-see_least s.names (names_in phrase)) (length-see_least s.files (files_in phrase)) (h.allowed k d g))
+          (still_allowed v (seen s phrase) t s.commands c (omega arith) (omega arith)
+          (allowed v s line phrase bits tested));
+    }
+
+-- ---- lines
+
+-- a command line that has no fault
+command_keeps : (v : ℕ) (s t : Script) (line : TextLine) → IsScript v s → with_line v s line ≡ Ok t → IsScript v t
+command_keeps v s t line h e =
+    let found = gave (ok_or (phrase_of v line.words) (faults.BadLine line.number))
+    (λ phrase. placed v (seen s phrase) line.number (numbered (seen s phrase) phrase)) t e in
+    let phrase = found.0 in
+    let tested = went_on (checked v s.commands line.number (numbered (seen s phrase) phrase)) _ t found.2 in
+    let bits = phrase_fits v line.words phrase (was_there (phrase_of v line.words) (faults.BadLine line.number) phrase found.1) in
+    let same : record (seen s phrase) { commands = with_command s.commands line.number (numbered (seen s phrase) phrase) } ≡ t
+    = cc (tested.2) in
+    subst (IsScript v) same
+    (more v s line.number phrase bits h (passes v s.commands line.number (numbered (seen s phrase) phrase) tested.1))
+
+-- a line that has no fault
+line_keeps : (v : ℕ) (s t : Script) (line : TextLine) → IsScript v s → after_line v s line ≡ Ok t → IsScript v t
+line_keeps v s t line h e = by (is_content 35 line) (passed (nat_lt 100000 line.number) faults.TooManyLines _ t e).1
+  where
+    by : (b : Bool) → (if b then with_line v s line else Ok s) ≡ Ok t → IsScript v t
+    by true g = command_keeps v s t line h g
+    by false g = let same : s ≡ t = cc in subst (IsScript v) same h
+
+-- lines that have no fault
+lines_keep : (v : ℕ) (s t : Script) (lines : List TextLine) → IsScript v s → after_lines v s lines ≡ Ok t → IsScript v t
+lines_keep v s t [] h e = let same : s ≡ t = cc in subst (IsScript v) same h
+lines_keep v s t (line ∷ lines) h e =
+    let first = gave (after_line v s line) (λ next. after_lines v next lines) t e in
+    lines_keep v first.0 t lines (line_keeps v s first.0 line h first.1) first.2
+
+-- the script of a text
+pub is_script : (v : ℕ) (bytes : List ℕ) (t : Script) → script_of v bytes ≡ Ok t → IsScript v t
+unfolding script_of
+is_script v bytes t e =
+    lines_keep v empty t (numbered_from 1 (lines_of bytes)) (record { allowed = λ k c h. cc }) e

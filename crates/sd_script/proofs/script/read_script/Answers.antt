@@ -1,0 +1,23 @@
+use Rattle.std.proofs.Common.{◌≡◌, sym, subst}
+use Rattle.sd_script.specs.Read.{IsScript}
+use Rattle.sd_script.specs.Scripts.{Script}
+use Rattle.sd_script.specs.Steps.{script_view}
+use Rattle.sd_script.specs.Tables.{words_of}
+use Rattle.sd_script.proofs.Allowed.{is_script}
+use Rattle.sd_script.proofs.script.read_script.Goals as goal
+
+-- what was read is a script, and its words are copied
+pub returns-clause-script : goal.returns-clause-script
+returns-clause-script c =
+    let r = script_view c.in_ok-reader.reader in
+    let read = is_script c.args.variables c.args.bytes.now r c.in_ok-reader.ensures in
+    subst (λ files. IsScript c.args.variables (record {
+      commands = r.commands;
+      names = c.in_ok-names.names.items;
+      files = files;
+    })) (sym c.in_ok-files.ensures)
+    (subst (λ names. IsScript c.args.variables (record {
+      commands = r.commands;
+      names = names;
+      files = r.files;
+    })) (sym c.in_ok-names.ensures) read)

@@ -1,0 +1,39 @@
+-- What holds of a script that is read.
+use Rattle.std.specs.Prelude.{◌≡◌, ℕ, ◌-◌, ◌*◌, ◌<◌, ◌≤◌, Bool, true, false, ◌==◌, nat_le}
+use Rattle.std.specs.Prelude.{List, [], ◌∷◌, ◌++◌, length, take, slice_get, Option, Some, unsigned_abs}
+use Rattle.std.specs.List.{list_any, list_all, AllByRecursion}
+use Rattle.sd_script.specs.declared.command.Action.{Action}
+use Rattle.sd_script.specs.declared.command.Action.TheVariants.{Load, Lit, Given, Forget, Turn, Minimise, Limit, Value}
+use Rattle.sd_script.specs.declared.command.Command.{Command}
+use Rattle.sd_script.specs.Commands.{uses, binds, writes, has, bound, written, loads}
+use Rattle.sd_script.specs.Scripts.{Script, is_within}
+
+-- the file that a command loads
+abbrev pub reads : Action → List ℕ
+reads (Load n file) = file ∷ []
+reads action = []
+
+-- The numbers of a command are in range over the variables 1 to v, and it has as many truth values as there are.
+abbrev pub in_range : ℕ → Action → Bool
+in_range v (Lit n literal) = is_within 1 v (unsigned_abs literal)
+in_range v (Given n a literal) = is_within 1 v (unsigned_abs literal)
+in_range v (Forget n a x) = is_within 1 v x
+in_range v (Turn kind p) = nat_le p (2 * v - 2)
+in_range v (Minimise rounds) = is_within 1 100 rounds
+in_range v (Limit k) = is_within 1 268435456 k
+in_range v (Value a bits) = length bits == v
+in_range v action = true
+
+-- A command of a script can be done after the earlier ones: its names and files are the script's, those that it uses
+-- are bound, the one that it binds is not, and the file that it writes is written by none of them.
+pub record IsAllowed (v : ℕ) (s : Script) (earlier : List Command) (c : Command) : Type 0 where
+  pub names : AllByRecursion (λ n. n < length s.names) (binds c.action ++ uses c.action)
+  pub files : AllByRecursion (λ n. n < length s.files) (reads c.action ++ writes c.action)
+  pub known : list_all (has (bound earlier)) (uses c.action) ≡ true
+  pub free : list_any (has (bound earlier)) (binds c.action) ≡ false
+  pub unwritten : list_any (has (written earlier)) (writes c.action) ≡ false
+  pub ranges : in_range v c.action ≡ true
+
+-- each command can be done after those before it
+pub record IsScript (v : ℕ) (s : Script) : Type 0 where
+  pub allowed : (k : ℕ) (c : Command) → slice_get s.commands k ≡ Some c → IsAllowed v s (take k s.commands) c
