@@ -9,5 +9,8 @@ pub mod Nodes
 pub mod Pigeons
 pub mod Products
 pub mod Merged
-pub mod Below
 pub mod Expanded
+pub mod Leaves
+pub mod Connectives
+pub mod Made
+mod Worked

@@ -85,3 +85,15 @@ ascending-distinct (x ∷ xs) h = (each xs h.0, ascending-distinct xs h.1)
     each : (ys : List ℕ) → AllByRecursion (λ y. nat_cmp x y ≡ Less) ys → AllByRecursion (λ y. x ≢ y) ys
     each [] a = tt
     each (y ∷ ys) a = (itself y a.0, each ys a.1)
+
+-- numbers that ascend strictly to a last one go on with a greater one
+pub ascending-push : (xs : List ℕ) (last y : ℕ) → IsStrictlySortedBy nat_cmp (xs ++ last ∷ []) → nat_cmp last y ≡ Less →
+    IsStrictlySortedBy nat_cmp ((xs ++ last ∷ []) ++ y ∷ [])
+unfolding IsStrictlySortedBy
+ascending-push [] last y h less = ((less, tt), (tt, tt))
+ascending-push (x ∷ xs) last y h less = (below xs h.0, ascending-push xs last y h.1 less)
+  where
+    below : (xs : List ℕ) → AllByRecursion (λ z. nat_cmp x z ≡ Less) (xs ++ last ∷ []) →
+        AllByRecursion (λ z. nat_cmp x z ≡ Less) ((xs ++ last ∷ []) ++ y ∷ [])
+    below [] a = (a.0, (nat_cmp_total.trans x last y a.0 less, tt))
+    below (z ∷ xs) a = (a.0, below xs a.1)

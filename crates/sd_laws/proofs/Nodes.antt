@@ -25,7 +25,7 @@ use Rattle.sd_vtree.specs.Numbered.{Numbered, numbers, forget, IsNumbered}
 use Rattle.sd_laws.specs.Pairs.{from_pairs, IsOneTrue, IsCompressed, HasValue, sorted, decomposed}
 use Rattle.sd_laws.specs.Shown.{Lookup, HasPairs, Shows, ShowPairs, AreKeys, Keeps, IsNode, IsSplitAt}
 use Rattle.sd_laws.specs.Trimming.{trim_two, trim_of}
-use Rattle.sd_laws.proofs.Lists.{IsAmong, within-permuted, first-permuted, second-permuted}
+use Rattle.sd_laws.proofs.Lists.{zip_weaker, IsAmong, within-permuted, first-permuted, second-permuted}
 use Rattle.std.proofs.lemmas.Option.{some_pair_parts}
 use Rattle.sd_laws.proofs.Pairs.{IsSplit-permuted, subs-pairs}
 use Rattle.sd_laws.proofs.Joining.{lift_left, lift_right, primes-differ, sorted-ascends, sorted-permutation}
@@ -165,28 +165,20 @@ diagrams_differ t at keys f g (e ∷ l) (d ∷ ds) h k = (each l ds h.1 k.0, dia
       each l ds h'.1 k.1,
     )
 
--- one half of what pairs show
-half : {A B : Type 0} (P Q : A → B → Type 0) (xs : List A) (ys : List B) → ((x : A) (y : B) → P x y → Q x y) →
-    AllZip P xs ys → AllZip Q xs ys
-half P Q [] [] f h = tt
-half P Q [] (y ∷ ys) f h = h
-half P Q (x ∷ xs) [] f h = h
-half P Q (x ∷ xs) (y ∷ ys) f h = (f x y h.0, half P Q xs ys f h.1)
-
 -- pairs whose subs have different codes are compressed
 pub subs-differ : (t : Numbered) (at : Lookup) → AreKeys at → (l : List (ℕ × ℕ)) (ds : List (Diagram × Diagram)) →
     ShowPairs t at l ds → AreDistinct (map (λ e. e.1) l) → IsCompressed ds
 subs-differ t at keys l ds h k =
     subst AreDifferent (sym (subs-pairs ds))
     (diagrams_differ t at keys (λ e. e.1) (λ d. d.1) l ds
-    (half (λ e d. Shows t at e.0 d.0 × Shows t at e.1 d.1) (λ e d. Shows t at e.1 d.1) l ds (λ x y h. h.1) h) k)
+    (zip_weaker (λ e d. Shows t at e.0 d.0 × Shows t at e.1 d.1) (λ e d. Shows t at e.1 d.1) (λ x y h. h.1) l ds h) k)
 
 -- and compressed pairs have subs of different codes
-pub sub_codes-differ : (t : Numbered) (at : Lookup) → IsNumbered t → (l : List (ℕ × ℕ)) (ds : List (Diagram × Diagram)) →
-    ShowPairs t at l ds → IsCompressed ds → AreDistinct (map (λ e. e.1) l)
+pub sub_codes-differ : (t : Numbered) (at : Lookup) → IsNumbered t → (l : List (ℕ × ℕ))
+    (ds : List (Diagram × Diagram)) → ShowPairs t at l ds → IsCompressed ds → AreDistinct (map (λ e. e.1) l)
 sub_codes-differ t at v l ds h k =
     codes_differ t at v (λ e. e.1) (λ d. d.1) l ds
-    (half (λ e d. Shows t at e.0 d.0 × Shows t at e.1 d.1) (λ e d. Shows t at e.1 d.1) l ds (λ x y h. h.1) h)
+    (zip_weaker (λ e d. Shows t at e.0 d.0 × Shows t at e.1 d.1) (λ e d. Shows t at e.1 d.1) (λ x y h. h.1) l ds h)
     (subst AreDifferent (subs-pairs ds) k)
 
 -- a vtree has no variable on both sides of a node that is split
@@ -200,7 +192,7 @@ pub prime_codes-differ : (t : Numbered) (at : Lookup) → IsNumbered t → (u : 
     (ds : List (Diagram × Diagram)) → IsSplitAt t at u l ds → AreDistinct (map (λ e. e.0) l)
 prime_codes-differ t at v u l ds h =
     codes_differ t at v (λ e. e.0) (λ d. d.0) l ds
-    (half (λ e d. Shows t at e.0 d.0 × Shows t at e.1 d.1) (λ e d. Shows t at e.0 d.0) l ds (λ x y h. h.0) h.shown)
+    (zip_weaker (λ e d. Shows t at e.0 d.0 × Shows t at e.1 d.1) (λ e d. Shows t at e.0 d.0) (λ x y h. h.0) l ds h.shown)
     (primes-differ (leaves (forget t)) h.left h.right h.base ds (split_apart t at u l ds v h).1 h.split)
 
 -- neighbours in a list without copies differ
@@ -318,7 +310,7 @@ one_false true c (inr e) = rw e refl
 one_false false c (inr e) = refl
 
 -- pairs that are not trimmed are several, and one of their subs is no constant
-untrimmed : (t : Numbered) (at : Lookup) (l : List (ℕ × ℕ)) (ds : List (Diagram × Diagram)) → ShowPairs t at l ds →
+pub untrimmed : (t : Numbered) (at : Lookup) (l : List (ℕ × ℕ)) (ds : List (Diagram × Diagram)) → ShowPairs t at l ds →
     IsOneTrue ds → IsCompressed ds → AreDistinct (map (λ e. e.1) l) → trim_of l ≡ None →
     (2 ≤ length ds) × (list_all is_constant (subs (from_pairs ds)) ≡ false)
 untrimmed t at [] [] h one k differ e = absurd (omega (arith, one []))

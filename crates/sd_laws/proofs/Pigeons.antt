@@ -89,9 +89,11 @@ pub few-codes : (v : ℕ) (numbers cs : List ℕ) → AreDistinct cs → AllByRe
 few-codes v numbers cs d a =
     let low = range_with_len 0 (2 * v + 2) in
     let high = map (λ m. 2050 + m) numbers in
+    let within : AllByRecursion (λ c. IsAmong c (low ++ high)) cs =
+    all-from (λ c. IsAmong c (low ++ high)) cs (λ c m. go c (all-at (IsCodeOf v numbers) cs c a m)) in
     omega (
       arith,
-      length-within cs (low ++ high) d (all-from (λ c. IsAmong c (low ++ high)) cs (λ c m. go c (all-at (IsCodeOf v numbers) cs c a m))),
+      length-within cs (low ++ high) d within,
       length-append low high,
       length-range 0 (2 * v + 2),
       length-map numbers (λ m. 2050 + m),

@@ -5,10 +5,8 @@ use Rattle.std.specs.List.{AllByRecursion}
 use Rattle.sd_model.specs.Tree.{Tree, right_base}
 use Rattle.sd_model.specs.Diagram.{Diagram, Bottom, meaning}
 use Rattle.sd_model.specs.Canonical.{IsCanonical}
-use Rattle.sd_vtree.specs.Numbered.{Numbered}
 use Rattle.sd_laws.specs.Pairs.{answers, AreElements, IsSplit, HasValue}
 use Rattle.sd_laws.specs.Products.{row, products}
-use Rattle.sd_laws.specs.Shown.{Lookup, Shows, ShowPairs}
 
 -- lists that grow
 
@@ -44,15 +42,6 @@ elements-push left right base ds d h prime possible sub =
       subs = all-push (λ (e : Diagram × Diagram). IsCanonical right (right_base left base) e.1) ds d h.subs sub;
       possible = all-push (λ (e : Diagram × Diagram). e.0 ≢ Bottom) ds d h.possible possible;
     }
-
--- one pair of codes more
-pub pairs-push : (t : Numbered) (at : Lookup) (l : List (ℕ × ℕ)) (ds : List (Diagram × Diagram)) (e : ℕ × ℕ)
-    (d : Diagram × Diagram) → ShowPairs t at l ds → Shows t at e.0 d.0 → Shows t at e.1 d.1 →
-    ShowPairs t at (l ++ e ∷ []) (ds ++ d ∷ [])
-pairs-push t at [] [] e d h p s = ((p, s), tt)
-pairs-push t at [] (f ∷ ds) e d h p s = absurd h
-pairs-push t at (x ∷ l) [] e d h p s = absurd h
-pairs-push t at (x ∷ l) (f ∷ ds) e d h p s = (h.0, pairs-push t at l ds e d h.1 p s)
 
 -- elements with a value are a partition
 pub split-from_value : (left right : Tree) (base : ℕ) (ds : List (Diagram × Diagram)) (f : List Bool → Bool) →

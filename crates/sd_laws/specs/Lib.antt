@@ -4,4 +4,4 @@ pub mod Shown
 pub mod Depth
 pub mod Trimming
 pub mod Products
-pub mod Below
+pub mod Depends
