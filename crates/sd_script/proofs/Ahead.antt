@@ -1,5 +1,5 @@
 -- The numbers of the lines of a text rise.
-use Rattle.std.proofs.Common.{◌≡◌, ℕ, ◌+◌, ◌*◌, ◌<◌, ◌≤◌, List, [], ◌∷◌, length, arith}
+use Rattle.std.proofs.Common.{ℕ, ◌+◌, ◌<◌, List, [], ◌∷◌, arith}
 use Rattle.sd_base.specs.Lines.{TextLine, numbered_from}
 use Rattle.sd_script.specs.Scripts.{Script, empty}
 use Rattle.sd_script.specs.Steps.{IsAhead, HasRoom, HasRoomFor}

@@ -1,6 +1,6 @@
 -- What is read is a script: each of its commands can be done after those before it.
-use Rattle.std.proofs.Common.{◌≡◌, ℕ, zero, suc, ◌+◌, ◌-◌, ◌*◌, ◌<◌, ◌≤◌, Bool, true, false, not, ◌&&◌, List, [], ◌∷◌, ◌++◌, length, take, refl, sym, ap, subst, ◌∙◌, arith, if◌then◌else◌, Result, Ok, Err}
-use Rattle.std.specs.Prelude.{◌==◌, nat_le, nat_lt, int_le, ℤ, pos, negsuc, unsigned_abs, slice_get, ok_or, Option, Some, None, bytes_eq}
+use Rattle.std.proofs.Common.{◌≡◌, ℕ, zero, suc, ◌<◌, ◌≤◌, Bool, true, false, not, ◌&&◌, List, [], ◌∷◌, ◌++◌, length, take, refl, ap, subst, ◌∙◌, arith, if◌then◌else◌, Result, Ok, Err}
+use Rattle.std.specs.Prelude.{nat_lt, int_le, ℤ, pos, negsuc, unsigned_abs, slice_get, ok_or, Option, Some, None}
 use Rattle.std.specs.List.{list_any, list_all, AllByRecursion}
 use Rattle.sd_base.specs.Words.{lines_of}
 use Rattle.sd_base.specs.Lines.{TextLine, numbered_from, is_content}
@@ -8,13 +8,12 @@ use Rattle.sd_base.specs.Reading.{◌>>=◌, ◌>>◌, fault_if}
 use Rattle.sd_script.specs.declared.command.Command.{Command}
 use Rattle.sd_script.specs.declared.fault.ScriptFault.{ScriptFault}
 use Rattle.sd_script.specs.declared.fault.ScriptFault.TheVariants as faults
-use Rattle.sd_script.specs.Commands.{action_of, uses, binds, writes, is_load, has, bound, written, loads}
+use Rattle.sd_script.specs.Commands.{action_of, uses, binds, writes, has, bound, written}
 use Rattle.sd_script.specs.Phrases as p
 use Rattle.sd_script.specs.Phrases.{Phrase, Word, phrase_of, names_in, files_in, renamed}
 use Rattle.sd_script.specs.Read.{reads, in_range, IsAllowed, IsScript}
-use Rattle.sd_script.specs.Scripts.{Script, empty, see, see_all, number, seen, numbered, literals_fit, numbers_fit, is_within}
+use Rattle.sd_script.specs.Scripts.{Script, empty, number, seen, numbered, literals_fit, numbers_fit, is_within}
 use Rattle.sd_script.specs.Scripts.{checked, placed, with_command, with_line, after_line, after_lines, script_of}
-use Rattle.sd_script.specs.Steps.{IsKnown}
 use Rattle.sd_script.proofs.Bits.{bits_fit, phrase_fits}
 use Rattle.sd_script.proofs.Seeing.{known, length-see_least}
 

@@ -1,10 +1,10 @@
 -- Worked examples of scripts, with their commands or their first faults.
 use Rattle.std.proofs.Common.{◌≡◌, [], ◌∷◌, ◌++◌, refl, Ok, Err, pos, negsuc, true, false}
 use Rattle.std.specs.Prelude.{codes}
-use Rattle.sd_model.specs.declared.trees.Operation.TheVariants.{And, Xor}
+use Rattle.sd_model.specs.declared.trees.Operation.TheVariants.{Xor}
 use Rattle.sd_script.specs.declared.command.Action.TheVariants.{Load, Lit, Constant, Binary, Not, Drop, Same, Value, Write}
 use Rattle.sd_script.specs.declared.fault.ScriptFault.TheVariants.{BadLine, NameUnknown, NameTaken, LiteralRange}
-use Rattle.sd_script.specs.declared.fault.ScriptFault.TheVariants.{NumberRange, FileTwice, TooManyLines, TooManyLoads}
+use Rattle.sd_script.specs.declared.fault.ScriptFault.TheVariants.{NumberRange, FileTwice, TooManyLines}
 use Rattle.sd_base.specs.Lines.{numbered_from}
 use Rattle.sd_base.specs.Words.{lines_of}
 use Rattle.sd_script.specs.Scripts.{script_of, empty, after_lines, see, number}

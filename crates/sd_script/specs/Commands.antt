@@ -1,6 +1,6 @@
 -- Commands over numbered names and files, and what earlier commands leave: which names are bound, which files are
 -- written, and how many files were loaded.
-use Rattle.std.specs.Prelude.{ℕ, Bool, true, false, not, ◌==◌, List, [], ◌∷◌, ◌++◌, length, filter, fold, flat_map}
+use Rattle.std.specs.Prelude.{ℕ, Bool, true, false, not, ◌==◌, List, [], ◌∷◌, ◌++◌, filter, fold, flat_map}
 use Rattle.std.specs.Prelude.{count_by, unsigned_abs}
 use Rattle.std.specs.List.{list_any}
 use Rattle.sd_script.specs.declared.command.Action.{Action}

@@ -1,11 +1,11 @@
 -- What holds of a script that is read.
-use Rattle.std.specs.Prelude.{◌≡◌, ℕ, ◌-◌, ◌*◌, ◌<◌, ◌≤◌, Bool, true, false, ◌==◌, nat_le}
-use Rattle.std.specs.Prelude.{List, [], ◌∷◌, ◌++◌, length, take, slice_get, Option, Some, unsigned_abs}
+use Rattle.std.specs.Prelude.{◌≡◌, ℕ, ◌-◌, ◌*◌, ◌<◌, Bool, true, false, ◌==◌, nat_le}
+use Rattle.std.specs.Prelude.{List, [], ◌∷◌, ◌++◌, length, take, slice_get, Some, unsigned_abs}
 use Rattle.std.specs.List.{list_any, list_all, AllByRecursion}
 use Rattle.sd_script.specs.declared.command.Action.{Action}
 use Rattle.sd_script.specs.declared.command.Action.TheVariants.{Load, Lit, Given, Forget, Turn, Minimise, Limit, Value}
 use Rattle.sd_script.specs.declared.command.Command.{Command}
-use Rattle.sd_script.specs.Commands.{uses, binds, writes, has, bound, written, loads}
+use Rattle.sd_script.specs.Commands.{uses, binds, writes, has, bound, written}
 use Rattle.sd_script.specs.Scripts.{Script, is_within}
 
 -- the file that a command loads

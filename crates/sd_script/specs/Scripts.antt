@@ -1,6 +1,6 @@
 -- The commands that the text of a script stands for, or its first fault.
 use Rattle.std.specs.Prelude.{◌≡◌, ℕ, ◌-◌, ◌*◌, Bool, true, not, ◌&&◌, nat_le, nat_lt, if◌then◌else◌, bytes_eq}
-use Rattle.std.specs.Prelude.{List, [], ◌∷◌, ◌++◌, length, fold, ok_or, Result, Ok, Err, pos, unsigned_abs, int_le}
+use Rattle.std.specs.Prelude.{List, [], ◌∷◌, ◌++◌, fold, ok_or, Result, Ok, Err, pos, unsigned_abs, int_le}
 use Rattle.std.specs.List.{list_any, list_all, position_or_len}
 use Rattle.sd_base.specs.Words.{lines_of}
 use Rattle.sd_base.specs.Lines.{TextLine, numbered_from, is_content}

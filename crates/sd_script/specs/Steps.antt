@@ -3,7 +3,7 @@ use Rattle.std.specs.Prelude.{◌≡◌, ℕ, ◌*◌, ◌<◌, ◌≤◌, true,
 use Rattle.std.specs.List.{AllByRecursion}
 use Rattle.sd_base.specs.Lines.{TextLine}
 use Rattle.sd_script.specs.declared.reader.Reader.{Reader}
-use Rattle.sd_script.specs.Commands.{is_load, action_of, loads}
+use Rattle.sd_script.specs.Commands.{is_load, action_of}
 use Rattle.sd_script.specs.Phrases.{Phrase, names_in, files_in}
 use Rattle.sd_script.specs.Scripts.{Script, literals_fit, numbers_fit}
 use Rattle.sd_script.specs.Tables.{words_of}

@@ -53,51 +53,14 @@ fn commands_of_three_words(rt: HostRuntime) -> Result<(), Fail> {
     let script = read_script(rt.alloc(), text, 2)?;
     let commands = script.commands();
     assert_eq!(rt; commands.len(), 5);
-    assert!(rt;
-        matches!(
-            commands[0],
-            Command {
-                line: 1,
-                action: Action::Lit(0, 1)
-            }
-        )
-    );
-    assert!(rt;
-        matches!(
-            commands[1],
-            Command {
-                line: 4,
-                action: Action::Binary(Operation::Xor, 1, 0, 0)
-            }
-        )
-    );
-    assert!(rt;
-        matches!(
-            commands[2],
-            Command {
-                line: 5,
-                action: Action::Given(2, 1, -2)
-            }
-        )
-    );
-    assert!(rt;
-        matches!(
-            commands[3],
-            Command {
-                line: 6,
-                action: Action::Write(2, 0)
-            }
-        )
-    );
-    assert!(rt;
-        matches!(
-            commands[4],
-            Command {
-                line: 7,
-                action: Action::Forget(3, 2, 2)
-            }
-        )
-    );
+    for (command, line) in commands.iter().zip(&[1, 4, 5, 6, 7]) {
+        assert_eq!(rt; command.line, *line);
+    }
+    assert!(rt; matches!(commands[0].action, Action::Lit(0, literal) if literal == 1));
+    assert!(rt; matches!(commands[1].action, Action::Binary(Operation::Xor, 1, 0, 0)));
+    assert!(rt; matches!(commands[2].action, Action::Given(2, 1, literal) if literal == -2));
+    assert!(rt; matches!(commands[3].action, Action::Write(2, 0)));
+    assert!(rt; matches!(commands[4].action, Action::Forget(3, 2, 2)));
     Ok(())
 }
 

@@ -1,8 +1,6 @@
-use Rattle.std.proofs.Common.{◌≡◌, sym, subst}
+use Rattle.std.proofs.Common.{sym, subst}
 use Rattle.sd_script.specs.Read.{IsScript}
-use Rattle.sd_script.specs.Scripts.{Script}
 use Rattle.sd_script.specs.Steps.{script_view}
-use Rattle.sd_script.specs.Tables.{words_of}
 use Rattle.sd_script.proofs.Allowed.{is_script}
 use Rattle.sd_script.proofs.script.read_script.Goals as goal
 

@@ -1,4 +1,4 @@
-use Rattle.std.proofs.Common.{◌≡◌, ℕ, List, map, sym, ap, ◌∙◌, Bor}
+use Rattle.std.proofs.Common.{ℕ, List, map, sym, ap, ◌∙◌, Bor}
 use Rattle.sd_script.specs.Scripts.{see, number}
 use Rattle.sd_script.proofs.TableLaws.{see_view, number_view, number-see}
 use Rattle.sd_script.proofs.table.Table.number.Goals as goal
