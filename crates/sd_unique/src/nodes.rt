@@ -62,7 +62,8 @@ impl Nodes {
         ensures nodes { IsNodes self.now }
     {
         let mut number = self.heads[bucket(place, list, self.heads.len())];
-        for step in 0..self.records.len() {
+        // A chain has no more records than there are in all.
+        for _step in 0..self.records.len() {
             if number as usize >= self.records.len() {
                 return None;
             }
