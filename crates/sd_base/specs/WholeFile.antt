@@ -33,10 +33,10 @@ pub record IsReadWhole (told : Option Files) (name : List ℕ) (most : ℕ) (han
   pub at_end : hand ≡ Reading name (length bytes)
   pub within : length bytes ≤ most
 
--- How far the file was read where its `finish` failed, and no file where that did not fail.
--- So a failed `finish` is a fault only of a file that was read whole.
-abbrev pub IsLeftUnfinished : Option Files → List ℕ → ℕ → Result (List ℕ) ReadError → Hand → Type 0
-IsLeftUnfinished told name most (Ok read) hand = hand ≡ NoFile
-IsLeftUnfinished told name most (Err ReadFault) hand = (hand ≡ NoFile) ⊎ IsReadWhole told name most hand
-IsLeftUnfinished told name most (Err TooLong) hand = (hand ≡ NoFile) ⊎ (hand ≡ Reading name (most + 1))
-IsLeftUnfinished told name most (Err OutOfMemory) hand = (hand ≡ NoFile) ⊎ IsReading hand
+-- What the shelf tells as unfinished before and afterwards: it is changed only where the `finish` of this reading
+-- failed, and then it says how far the file was read. So a failed `finish` is a fault only of a file read whole.
+abbrev pub IsLeftUnfinished : Option Files → List ℕ → ℕ → Result (List ℕ) ReadError → Hand → Hand → Type 0
+IsLeftUnfinished told name most (Ok read) old new = new ≡ old
+IsLeftUnfinished told name most (Err ReadFault) old new = (new ≡ old) ⊎ IsReadWhole told name most new
+IsLeftUnfinished told name most (Err TooLong) old new = (new ≡ old) ⊎ (new ≡ Reading name (most + 1))
+IsLeftUnfinished told name most (Err OutOfMemory) old new = (new ≡ old) ⊎ IsReading new

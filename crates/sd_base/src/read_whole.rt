@@ -50,7 +50,7 @@ pub fn read_all<F: Shelf>(alloc: Global, shelf: &mut F, name: &str) -> Result<By
 
     // A `finish` that failed changes nothing, but where the whole file was read.
     ensures unfinished { IsLeftUnfinished (F.files shelf.old) name.now LONGEST_FILE result
-        (F.unfinished shelf.new) }
+        (F.unfinished shelf.old) (F.unfinished shelf.new) }
     ensures read_faults { F.read_faults shelf.old ≤ F.read_faults shelf.new }
     ensures write_faults { F.write_faults shelf.new ≡ F.write_faults shelf.old }
 {
@@ -75,7 +75,7 @@ fn take_in<F: Shelf>(shelf: &mut F, name: &str, bytes: &mut Vec<u8>) -> Result<(
     requires empty { bytes.old.items ≡ [] }
     ensures hand { IsHeldAfter result (F.hand shelf.new) }
     ensures place { IsPlacedAfter name.now LONGEST_FILE bytes.new.items result (F.hand shelf.new) }
-    ensures unfinished { F.unfinished shelf.new ≡ NoFile }
+    ensures unfinished { F.unfinished shelf.new ≡ F.unfinished shelf.old }
     ensures files { F.files shelf.new ≡ F.files shelf.old }
     ensures ok { OnOk result (HasBytes (F.files shelf.old) name.now bytes.new.items) }
     ensures within { OnOk result (length bytes.new.items ≤ LONGEST_FILE) }

@@ -7,8 +7,9 @@ use thiserror::Error;
 
 /// The first fault of a text, or want of memory. Lines are counted from 1, over all lines.
 ///
-/// The header is tested first, in the order of the first four variants. Then each word of the body
-/// is tested for `BadWord` and `LiteralRange`, and at the end the groups for the last two.
+/// The header is tested first, in the order of the first four variants. Then the words of the body
+/// are tested one after another, each for `BadWord` and then for `LiteralRange`. At the end the
+/// groups are tested for `Unterminated` and then for `CountDiffers`.
 #[derive(Clone, Copy, Debug, PartialEq, Eq, Error)]
 pub enum FormulaError {
     /// Each line is blank or a comment, or the first word of the first other line is not `p`.

@@ -1,4 +1,5 @@
-//! Runs of pairs in one arena: a run is taken for a list, read by its start, and given back for reuse.
+//! Runs of pairs in one arena: a run is taken for a list, read by its start, and given back for
+//! reuse.
 #![tactic(auto)]
 
 mod error;

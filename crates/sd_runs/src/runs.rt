@@ -8,7 +8,8 @@ use crate::slots::{Kept, Slot, copied, make_lengths, make_room, make_slots};
 use std::alloc::Global;
 use std::marker::Model;
 
-/// Runs of pairs in one arena. A free run is used again for a list of its own length only, the last given first.
+/// Runs of pairs in one arena. A free run is used again for a list of its own length only, the last
+/// given first.
 #[derive(Drop)]
 pub struct Runs {
     alloc: Global,
@@ -68,8 +69,9 @@ impl Runs {
         }
     }
 
-    /// Makes a run of this list, of one element or more, live and answers its start: that of the free run of its
-    /// length that was given last, or else the extent, which grows. After an error nothing is changed.
+    /// Makes a run of this list, of one element or more, live and answers its start: that of the free
+    /// run of its length that was given last, or else the extent, which grows. After an error nothing
+    /// is changed.
     pub fn take(&mut self, list: &[(u32, u32)]) -> Result<u32, TakeError>
         requires { 0 < length list.now }
         ensures start { IfOk result (λ start. start ≡ next_start self.old (length list.now)) }

@@ -1,7 +1,8 @@
 use super::*;
 use std::test::Fail;
 
-/// Of an arena of three elements two are taken, no two more fit, and the two given back are taken again.
+/// Of an arena of three elements two are taken, no two more fit, and the two given back are taken
+/// again.
 #[test]
 fn three_elements(rt: HostRuntime) -> Result<(), Fail> {
     let mut runs = Runs::new(rt.alloc(), 3);

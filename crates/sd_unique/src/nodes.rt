@@ -15,7 +15,8 @@ pub struct Nodes {
     runs: Runs,
     /// The records of the nodes, by number.
     records: Vec<Record>,
-    /// The first number of the chain of each bucket. There are about as many buckets as records, or more.
+    /// The first number of the chain of each bucket. There are about as many buckets as records, or
+    /// more.
     heads: Vec<u32>,
 }
 
@@ -55,14 +56,16 @@ impl Nodes {
         })
     }
 
-    /// The number of the linked node with this place and list, or None where no linked node has them.
+    /// The number of the linked node with this place and list, or None where no linked node has
+    /// them.
     pub fn find(&self, place: u32, list: &[(u32, u32)]) -> Option<u32>
         ensures some { IfSome result (λ n. get self.now.linked n ≡ Some (place, list.now)) }
         ensures none { IfNone result ((n : ℕ) → get self.now.linked n ≢ Some (place, list.now)) }
         ensures nodes { IsNodes self.now }
     {
         let mut number = self.heads[bucket(place, list, self.heads.len())];
-        for step in 0..self.records.len() {
+        // A chain has no more records than there are in all.
+        for _step in 0..self.records.len() {
             if number as usize >= self.records.len() {
                 return None;
             }
@@ -75,8 +78,9 @@ impl Nodes {
         None
     }
 
-    /// Makes a linked node with this place and list, with no uses and mark 0, and answers its number. No linked node
-    /// may have them yet, and the list has one element or more. After an error nothing is changed.
+    /// Makes a linked node with this place and list, with no uses and mark 0, and answers its number.
+    /// No linked node may have them yet, and the list has one element or more. After an error nothing
+    /// is changed.
     pub fn insert(&mut self, place: u32, list: &[(u32, u32)]) -> Result<u32, TakeError>
         requires some { 0 < length list.now }
         requires absent { (n : ℕ) → get self.old.linked n ≢ Some (place, list.now) }
@@ -91,7 +95,8 @@ impl Nodes {
         self.add(place, list)
     }
 
-    // Doubles the buckets where they are fewer than the records. Where there is no memory for that, they stay.
+    // Doubles the buckets where they are not more than the records. Where there is no memory for
+    // that, they stay.
     fn widen(&mut self)
         ensures { self.new ≡ self.old }
     {

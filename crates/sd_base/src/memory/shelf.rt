@@ -27,7 +27,7 @@ pub struct MemoryShelf {
     piece: usize,
     plan: Plan,
     hand: InHand,
-    // what was being read when its `finish` failed
+    // what was being read when a `finish` of it last failed
     unfinished: InHand,
     read_faults: u64,
     write_faults: u64,
@@ -131,10 +131,9 @@ impl Shelf for MemoryShelf {
             Lacks (told self.old) name.now ⊎ Rose (read_faults_of self.old) (read_faults_of self.new)) }
         ensures read_faults { read_faults_of self.old ≤ read_faults_of self.new }
         ensures write_faults { write_faults_of self.new ≡ write_faults_of self.old }
-        ensures unfinished { memory_unfinished self.new ≡ NoFile }
+        ensures unfinished { memory_unfinished self.new ≡ memory_unfinished self.old }
         ensures plan { GoesByPlan (memory_plan self.old) calls.StartRead (memory_plan self.new) result }
     {
-        self.unfinished = InHand::Nothing;
         let planned = self.plan.fails(ShelfCall::StartRead);
         let Some(_) = find_bytes(&self.files, name) else {
             return Err(Failed);

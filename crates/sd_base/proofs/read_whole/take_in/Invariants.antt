@@ -1,5 +1,4 @@
 use Rattle.std.proofs.Common.{◌≡◌, ◌≤◌, ◌-◌, length}
-use Rattle.sd_base.specs.Shelf.{NoFile}
 use Rattle.sd_base.proofs.ReadLemmas.{ReadSoFar}
 use Rattle.sd_base.proofs.read_whole.take_in.Given as goal
 
@@ -10,7 +9,7 @@ invariant-reading g l = record {
   so_far : ReadSoFar (g.F.Shelf.files l.fn.shelf) (g.F.Shelf.hand l.shelf) l.name l.bytes.items;
   within : length l.bytes.items ≤ 67108865;
   read_faults : g.F.Shelf.read_faults l.fn.shelf ≤ g.F.Shelf.read_faults l.shelf;
-  unfinished : g.F.Shelf.unfinished l.shelf ≡ NoFile;
+  unfinished : g.F.Shelf.unfinished l.shelf ≡ g.F.Shelf.unfinished l.fn.shelf;
   write_faults : g.F.Shelf.write_faults l.shelf ≡ g.F.Shelf.write_faults l.fn.shelf;
 }
 

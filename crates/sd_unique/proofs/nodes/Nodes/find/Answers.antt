@@ -54,10 +54,10 @@ returns-then-eq-clause-nodes c = subst IsNodes c.self.view_is (is_nodes c.self.i
 
 pub loop-step-preserved : goal.loop-step-preserved
 loop-step-preserved c = λ n e.
-    let one_more : length c.self.inside.records.items - c.loop-step.step
-    ≡ suc (length c.self.inside.records.items - (c.loop-step.step + 1)) = omega arith in
+    let one_more : length c.self.inside.records.items - c.loop-step._step
+    ≡ suc (length c.self.inside.records.items - (c.loop-step._step + 1)) = omega arith in
     follows c.self.inside.runs c.self.inside.records.items (c.args.place, c.args.list.now)
-    (length c.self.inside.records.items - (c.loop-step.step + 1)) c.loop-step.number n c.index-record.result.now
+    (length c.self.inside.records.items - (c.loop-step._step + 1)) c.loop-step.number n c.index-record.result.now
     c.index-record.ensures (omega arith)
     (elim c.else-record-place.branch [
       | else-record-place-via-then-record-place+else-eq w ↦

@@ -7,4 +7,4 @@ use Rattle.sd_unique.proofs.nodes.Nodes.find.Given as goal
 abbrev pub invariant-loop-step : goal.invariant-loop-step
 invariant-loop-step l = (n : ℕ)
     → get (nodes_of l.self-inside.runs l.self-inside.records.items).linked n ≡ Some (l.place, l.list)
-    → Reaches l.self-inside.records.items (length l.self-inside.records.items - l.step) l.number n
+    → Reaches l.self-inside.records.items (length l.self-inside.records.items - l._step) l.number n
