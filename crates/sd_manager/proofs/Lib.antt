@@ -7,3 +7,4 @@ pub mod Reading
 pub mod Same
 pub mod Evaluating
 pub mod Linking
+pub mod OverTwo

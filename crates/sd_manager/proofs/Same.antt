@@ -1,5 +1,5 @@
 -- Equal functions are equal nodes.
-use Rattle.std.proofs.Common.{◌≡◌, ◌↔◌, ℕ, Bool, eqb, List, length, Some, IsTrue, sym, ap, subst, ◌∙◌}
+use Rattle.std.proofs.Common.{◌≡◌, ◌↔◌, ℕ, Bool, eqb, List, length, Some, IsTrue, Result, Ok, Err, IfOk, sym, ap, subst, ◌∙◌}
 use Rattle.std.proofs.lemmas.Bool.{eqb-true}
 use Rattle.std.specs.FinMap.{get}
 use Rattle.sd_runs.proofs.Places.{eqb_same}
@@ -9,7 +9,9 @@ use Rattle.sd_model.proofs.OverVtree.{unique_lem}
 use Rattle.sd_vtree.specs.Numbered.{forget}
 use Rattle.sd_laws.proofs.Codes.{one-diagram, one-code}
 use Rattle.sd_manager.specs.Table.{Table}
-use Rattle.sd_manager.specs.Shown.{IsShown, HoldsDiagram}
+use Rattle.sd_manager.specs.Shown.{IsShown, IsKnown, HoldsDiagram, IsPartitionAt}
+use Rattle.sd_manager.specs.Making.{IsMade}
+use Rattle.sd_runs.specs.declared.error.TakeError.{TakeError}
 use Rattle.sd_manager.specs.Valid.{IsTable}
 
 -- one code shows one diagram
@@ -48,3 +50,12 @@ held_code t root c d e h =
     let there : Some h.code ≡ Some c = sym h.held ∙ e in
     let same : h.code ≡ c = cc in
     subst (λ x. IsShown t x d) same h.is
+
+-- what was made is known
+pub made_known : (old new : Table) (place : ℕ) (pairs : List (ℕ × ℕ)) (ds : List (Diagram × Diagram)) →
+    IsPartitionAt old place pairs ds → (r : Result ℕ TakeError) →
+    IfOk r (λ c. (ds : List (Diagram × Diagram)) → IsPartitionAt old place pairs ds → IsMade new c ds) →
+    IfOk r (λ c. IsKnown new c)
+made_known old new place pairs ds split (Ok c) made =
+    let is = made ds split in record { diagram = is.diagram; is = is.is }
+made_known old new place pairs ds split (Err e) made = tt

@@ -6,3 +6,4 @@ pub mod Making
 pub mod Stored
 pub mod Counting
 pub mod Literals
+pub mod OverTwo

@@ -15,3 +15,6 @@ pub use manager::Manager;
 pub use node_id::NodeId;
 pub use roots::Root;
 pub use view::View;
+
+#[cfg(test)]
+mod tests;
