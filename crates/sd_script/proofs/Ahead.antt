@@ -12,7 +12,8 @@ rises n m (line ∷ lines) h = (h, rises m (m + 1) lines (omega arith))
 -- there is room for all lines of a text
 pub room_at_first : (lines : List (List ℕ)) → HasRoomFor (numbered_from 1 lines) empty
 room_at_first [] = tt
-room_at_first (line ∷ lines) = (record { names = omega arith; files = omega arith }, rises 1 (1 + 1) lines (omega arith))
+room_at_first (line ∷ lines) =
+    (record { names = omega arith; files = omega arith }, rises 1 (1 + 1) lines (omega arith))
 
 -- there is room for what follows a line, where there is after that line
 pub room_after : (n : ℕ) (s : Script) (lines : List TextLine)

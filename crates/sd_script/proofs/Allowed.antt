@@ -1,6 +1,9 @@
 -- What is read is a script: each of its commands can be done after those before it.
-use Rattle.std.proofs.Common.{◌≡◌, ℕ, zero, suc, ◌<◌, ◌≤◌, Bool, true, false, not, ◌&&◌, List, [], ◌∷◌, ◌++◌, length, take, refl, ap, subst, ◌∙◌, arith, if◌then◌else◌, Result, Ok, Err}
-use Rattle.std.specs.Prelude.{nat_lt, int_le, ℤ, pos, negsuc, unsigned_abs, slice_get, ok_or, Option, Some, None}
+use Rattle.std.proofs.Common.{◌≡◌, ℕ, zero, suc, ◌<◌, ◌≤◌, Bool, true, false, not, ◌&&◌, List, []}
+use Rattle.std.proofs.Common.{◌∷◌, ◌++◌, length, take, refl, ap, subst, ◌∙◌, arith, if◌then◌else◌}
+use Rattle.std.proofs.Common.{Result, Ok, Err}
+use Rattle.std.specs.Prelude.{nat_lt, int_le, ℤ, pos, negsuc, unsigned_abs, slice_get, ok_or}
+use Rattle.std.specs.Prelude.{Option, Some, None}
 use Rattle.std.specs.List.{list_any, list_all, AllByRecursion}
 use Rattle.sd_base.specs.Words.{lines_of}
 use Rattle.sd_base.specs.Lines.{TextLine, numbered_from, is_content}
@@ -12,8 +15,10 @@ use Rattle.sd_script.specs.Commands.{action_of, uses, binds, writes, has, bound,
 use Rattle.sd_script.specs.Phrases as p
 use Rattle.sd_script.specs.Phrases.{Phrase, Word, phrase_of, names_in, files_in, renamed}
 use Rattle.sd_script.specs.Read.{reads, in_range, IsAllowed, IsScript}
-use Rattle.sd_script.specs.Scripts.{Script, empty, number, seen, numbered, literals_fit, numbers_fit, is_within}
-use Rattle.sd_script.specs.Scripts.{checked, placed, with_command, with_line, after_line, after_lines, script_of}
+use Rattle.sd_script.specs.Scripts.{Script, empty, number, seen, numbered, literals_fit}
+use Rattle.sd_script.specs.Scripts.{numbers_fit, is_within}
+use Rattle.sd_script.specs.Scripts.{checked, placed, with_command, with_line, after_line}
+use Rattle.sd_script.specs.Scripts.{after_lines, script_of}
 use Rattle.sd_script.proofs.Bits.{bits_fit, phrase_fits}
 use Rattle.sd_script.proofs.Seeing.{known, length-see_least}
 
@@ -102,13 +107,14 @@ files_same (p.Vtree file) = refl
 files_same q = refl
 
 -- a variable to forget
-variable_fits : (v : ℕ) (x : ℤ) → (int_le (pos 1) x && int_le x (pos v)) ≡ true → is_within 1 v (unsigned_abs x) ≡ true
+variable_fits : (v : ℕ) (x : ℤ)
+    → (int_le (pos 1) x && int_le x (pos v)) ≡ true → is_within 1 v (unsigned_abs x) ≡ true
 variable_fits v (pos n) h = h
 variable_fits v (negsuc n) h = cc
 
 -- its numbers
-ranges : (v : ℕ) (q : Phrase ℕ) → literals_fit v q ≡ true → numbers_fit v q ≡ true → bits_fit v q ≡ true
-    → in_range v (action_of q) ≡ true
+ranges : (v : ℕ) (q : Phrase ℕ)
+    → literals_fit v q ≡ true → numbers_fit v q ≡ true → bits_fit v q ≡ true → in_range v (action_of q) ≡ true
 ranges v (p.Lit n literal) l m b = l
 ranges v (p.Given n a literal) l m b = l
 ranges v (p.Forget n a x) l m b = variable_fits v x l
@@ -119,14 +125,16 @@ ranges v (p.Value a bits) l m b = b
 ranges v q l m b = refl
 
 -- the same with numbers for words
-bits_stay : {W X : Type 0} (v : ℕ) (name file : W → X) (q : Phrase W) → bits_fit v (renamed name file q) ≡ bits_fit v q
+bits_stay : {W X : Type 0} (v : ℕ) (name file : W → X) (q : Phrase W)
+    → bits_fit v (renamed name file q) ≡ bits_fit v q
 bits_stay v name file (p.Value a bits) = refl
 bits_stay v name file q = refl
 
 -- ---- a list with one more at its end
 
 -- numbers below m are below what is no less
-all_below : (m n : ℕ) (xs : List ℕ) → m ≤ n → AllByRecursion (λ k. k < m) xs → AllByRecursion (λ k. k < n) xs
+all_below : (m n : ℕ) (xs : List ℕ)
+    → m ≤ n → AllByRecursion (λ k. k < m) xs → AllByRecursion (λ k. k < n) xs
 all_below m n [] h all = tt
 all_below m n (x ∷ xs) h all =
     let here : x < m = all.0 in
@@ -160,7 +168,8 @@ still_allowed v s t earlier c names files h = record {
 -- a command that passes its tests can be done
 allowed : (v : ℕ) (s : Script) (line : ℕ) (phrase : Phrase Word) → bits_fit v phrase ≡ true
     → Passes v s.commands (numbered (seen s phrase) phrase)
-    → IsAllowed v (seen s phrase) s.commands (record { line = line; action = action_of (numbered (seen s phrase) phrase) })
+    → IsAllowed v (seen s phrase) s.commands
+    (record { line = line; action = action_of (numbered (seen s phrase) phrase) })
 allowed v s line phrase bits h =
     let q = numbered (seen s phrase) phrase in
     let t = seen s phrase in
@@ -171,11 +180,13 @@ allowed v s line phrase bits h =
       known = h.known;
       free = h.free;
       unwritten = h.unwritten;
-      ranges = ranges v q h.literals h.numbers (bits_stay v (number t.names) (number t.files) phrase ∙ bits);
+      ranges =
+          ranges v q h.literals h.numbers (bits_stay v (number t.names) (number t.files) phrase ∙ bits);
     }
 
 -- a script with one more command
-more : (v : ℕ) (s : Script) (line : ℕ) (phrase : Phrase Word) → bits_fit v phrase ≡ true → IsScript v s
+more : (v : ℕ) (s : Script) (line : ℕ) (phrase : Phrase Word)
+    → bits_fit v phrase ≡ true → IsScript v s
     → Passes v s.commands (numbered (seen s phrase) phrase)
     → IsScript v (record (seen s phrase) {
       commands = with_command s.commands line (numbered (seen s phrase) phrase);
@@ -187,7 +198,8 @@ more v s line phrase bits h tested =
       allowed =
           with_last (IsAllowed v t) s.commands c
           (λ k d g. still_allowed v s t (take k s.commands) d
-          (length-see_least s.names (names_in phrase)) (length-see_least s.files (files_in phrase)) (h.allowed k d g))
+          (length-see_least s.names (names_in phrase)) (length-see_least s.files (files_in phrase))
+          (h.allowed k d g))
           (still_allowed v (seen s phrase) t s.commands c (omega arith) (omega arith)
           (allowed v s line phrase bits tested));
     }
@@ -195,28 +207,35 @@ more v s line phrase bits h tested =
 -- ---- lines
 
 -- a command line that has no fault
-command_keeps : (v : ℕ) (s t : Script) (line : TextLine) → IsScript v s → with_line v s line ≡ Ok t → IsScript v t
+command_keeps : (v : ℕ) (s t : Script) (line : TextLine)
+    → IsScript v s → with_line v s line ≡ Ok t → IsScript v t
 command_keeps v s t line h e =
-    let found = gave (ok_or (phrase_of v line.words) (faults.BadLine line.number))
+    let fault = faults.BadLine line.number in
+    let found = gave (ok_or (phrase_of v line.words) fault)
     (λ phrase. placed v (seen s phrase) line.number (numbered (seen s phrase) phrase)) t e in
     let phrase = found.0 in
-    let tested = went_on (checked v s.commands line.number (numbered (seen s phrase) phrase)) _ t found.2 in
-    let bits = phrase_fits v line.words phrase (was_there (phrase_of v line.words) (faults.BadLine line.number) phrase found.1) in
-    let same : record (seen s phrase) { commands = with_command s.commands line.number (numbered (seen s phrase) phrase) } ≡ t
-    = cc (tested.2) in
+    let q = numbered (seen s phrase) phrase in
+    let tested = went_on (checked v s.commands line.number q) _ t found.2 in
+    let bits =
+    phrase_fits v line.words phrase (was_there (phrase_of v line.words) fault phrase found.1) in
+    let same : record (seen s phrase) { commands = with_command s.commands line.number q } ≡ t =
+    cc (tested.2) in
     subst (IsScript v) same
-    (more v s line.number phrase bits h (passes v s.commands line.number (numbered (seen s phrase) phrase) tested.1))
+    (more v s line.number phrase bits h (passes v s.commands line.number q tested.1))
 
 -- a line that has no fault
-line_keeps : (v : ℕ) (s t : Script) (line : TextLine) → IsScript v s → after_line v s line ≡ Ok t → IsScript v t
-line_keeps v s t line h e = by (is_content 35 line) (passed (nat_lt 100000 line.number) faults.TooManyLines _ t e).1
+line_keeps : (v : ℕ) (s t : Script) (line : TextLine)
+    → IsScript v s → after_line v s line ≡ Ok t → IsScript v t
+line_keeps v s t line h e =
+    by (is_content 35 line) (passed (nat_lt 100000 line.number) faults.TooManyLines _ t e).1
   where
     by : (b : Bool) → (if b then with_line v s line else Ok s) ≡ Ok t → IsScript v t
     by true g = command_keeps v s t line h g
     by false g = let same : s ≡ t = cc in subst (IsScript v) same h
 
 -- lines that have no fault
-lines_keep : (v : ℕ) (s t : Script) (lines : List TextLine) → IsScript v s → after_lines v s lines ≡ Ok t → IsScript v t
+lines_keep : (v : ℕ) (s t : Script) (lines : List TextLine)
+    → IsScript v s → after_lines v s lines ≡ Ok t → IsScript v t
 lines_keep v s t [] h e = let same : s ≡ t = cc in subst (IsScript v) same h
 lines_keep v s t (line ∷ lines) h e =
     let first = gave (after_line v s line) (λ next. after_lines v next lines) t e in

@@ -1,13 +1,16 @@
 -- A value of a phrase has as many truth values as there are variables.
-use Rattle.std.proofs.Common.{◌≡◌, ℕ, Bool, true, false, ◌&&◌, List, [], ◌∷◌, length, refl, ap, ◌∙◌, if◌then◌else◌}
+use Rattle.std.proofs.Common.{◌≡◌, ℕ, Bool, true, false, ◌&&◌, List, [], ◌∷◌, length, refl, ap, ◌∙◌}
+use Rattle.std.proofs.Common.{if◌then◌else◌}
 use Rattle.std.proofs.lemmas.List.{length-map}
 use Rattle.std.specs.Prelude.{◌==◌, codes, bytes_eq, Option, Some, None, option_map}
 use Rattle.std.specs.List.{list_all}
 use Rattle.sd_base.specs.Numbers.{natural_value, integer_value}
 use Rattle.sd_model.specs.declared.trees.Move.TheVariants.{RotateLeft, RotateRight, Swap}
+use Rattle.sd_model.specs.declared.trees.Operation.{Operation}
 use Rattle.sd_model.specs.declared.trees.Operation.TheVariants.{And, Or, Xor}
 use Rattle.sd_script.specs.Phrases as p
-use Rattle.sd_script.specs.Phrases.{Phrase, Word, name_of, file_of, is_bit, bits_of, values_of, pair, triple}
+use Rattle.sd_script.specs.Phrases.{Phrase, Word, name_of, file_of, is_bit, bits_of, values_of}
+use Rattle.sd_script.specs.Phrases.{pair, triple}
 use Rattle.sd_script.specs.Phrases.{one_word, two_words, three_words, phrase_of}
 use Rattle.sd_script.proofs.Ascii.{and_left}
 
@@ -26,7 +29,8 @@ pub record HaveFit (v : ℕ) (o : Option (Phrase Word)) : Type 0 where
   pub fact : SomeFit v o
 
 -- a choice of two
-choose : (v : ℕ) (b : Bool) (x y : Option (Phrase Word)) → HaveFit v x → HaveFit v y → HaveFit v (if b then x else y)
+choose : (v : ℕ) (b : Bool) (x y : Option (Phrase Word))
+    → HaveFit v x → HaveFit v y → HaveFit v (if b then x else y)
 choose v true x y h k = h
 choose v false x y h k = k
 
@@ -41,7 +45,8 @@ of_one v make h None = record { fact = tt }
 of_one v make h (Some a) = record { fact = h a }
 
 -- of two words
-of_two : {A B : Type 0} (v : ℕ) (make : A → B → Phrase Word) → ((a : A) (b : B) → bits_fit v (make a b) ≡ true)
+of_two : {A B : Type 0} (v : ℕ) (make : A → B → Phrase Word)
+    → ((a : A) (b : B) → bits_fit v (make a b) ≡ true)
     → (x : Option A) (y : Option B) → HaveFit v (pair make x y)
 of_two v make h (Some a) (Some b) = record { fact = h a b }
 of_two v make h (Some a) None = record { fact = tt }
@@ -68,7 +73,9 @@ of_value v (Some a) word = by (length word == v && list_all is_bit word) refl
     by : (b : Bool) → (length word == v && list_all is_bit word) ≡ b
         → HaveFit v (pair p.Value (Some a) (if b then Some (values_of word) else None))
     by true e = record {
-      fact = ap (λ n. n == v) (length-map word (λ b. b == 49)) ∙ and_left (length word == v) (list_all is_bit word) e;
+      fact =
+          ap (λ n. n == v) (length-map word (λ b. b == 49))
+          ∙ and_left (length word == v) (list_all is_bit word) e;
     }
     by false e = record { fact = tt }
 
@@ -102,12 +109,19 @@ of_two_words v command a b =
 -- with three
 of_three_words : (v : ℕ) (command a b c : Word) → HaveFit v (three_words command a b c)
 of_three_words v command a b c =
-    choose v (bytes_eq command (codes "and")) _ _ (of_three v (p.Binary And) (λ n l m. refl) (name_of a) (name_of b) (name_of c))
-    (choose v (bytes_eq command (codes "or")) _ _ (of_three v (p.Binary Or) (λ n l m. refl) (name_of a) (name_of b) (name_of c))
-    (choose v (bytes_eq command (codes "xor")) _ _ (of_three v (p.Binary Xor) (λ n l m. refl) (name_of a) (name_of b) (name_of c))
-    (choose v (bytes_eq command (codes "given")) _ _ (of_three v p.Given (λ n l m. refl) (name_of a) (name_of b) (integer_value c))
-    (choose v (bytes_eq command (codes "forget")) _ _ (of_three v p.Forget (λ n l m. refl) (name_of a) (name_of b) (integer_value c))
+    choose v (bytes_eq command (codes "and")) _ _ (joined And)
+    (choose v (bytes_eq command (codes "or")) _ _ (joined Or)
+    (choose v (bytes_eq command (codes "xor")) _ _ (joined Xor)
+    (choose v (bytes_eq command (codes "given")) _ _
+    (of_three v p.Given (λ n l m. refl) (name_of a) (name_of b) (integer_value c))
+    (choose v (bytes_eq command (codes "forget")) _ _
+    (of_three v p.Forget (λ n l m. refl) (name_of a) (name_of b) (integer_value c))
     (nothing v)))))
+  where
+    joined : (operation : Operation)
+        → HaveFit v (triple (p.Binary operation) (name_of a) (name_of b) (name_of c))
+    joined operation =
+        of_three v (p.Binary operation) (λ n l m. refl) (name_of a) (name_of b) (name_of c)
 
 -- the phrase of a line
 of_line : (v : ℕ) (words : List Word) → HaveFit v (phrase_of v words)

@@ -1,5 +1,6 @@
 -- What one more command changes.
-use Rattle.std.proofs.Common.{◌≡◌, ℕ, ◌+◌, Bool, true, false, not, ◌&&◌, ◌||◌, List, [], ◌∷◌, ◌++◌, refl, ap, ◌∙◌, arith, cond, append-nil, zero-add}
+use Rattle.std.proofs.Common.{◌≡◌, ℕ, ◌+◌, Bool, true, false, not, ◌&&◌, ◌||◌, List, [], ◌∷◌, ◌++◌}
+use Rattle.std.proofs.Common.{refl, ap, ◌∙◌, arith, cond, append-nil, zero-add}
 use Rattle.std.proofs.lemmas.Bool.Decides.{nat_tests}
 use Rattle.std.proofs.lemmas.List.Concat.{flat_map-append}
 use Rattle.std.proofs.lemmas.List.Folds.{list_any-append}
@@ -7,15 +8,19 @@ use Rattle.std.proofs.lemmas.List.Sums.{fold_push, sum_by-append}
 use Rattle.std.proofs.lemmas.Map.Views.{any-filter_same}
 use Rattle.std.specs.Prelude.{◌==◌, filter}
 use Rattle.sd_script.specs.declared.command.Command.{Command}
-use Rattle.sd_script.specs.Commands.{has, binds, frees, writes, bound, bound_after, written, is_load, loads}
+use Rattle.sd_script.specs.Commands.{has, binds, frees, writes, bound, bound_after, written}
+use Rattle.sd_script.specs.Commands.{is_load, loads}
 
 -- equal numbers pass a test alike
-same_test : (numbers : List ℕ) (i k : ℕ) → (k == i) ≡ true → not (has numbers k) ≡ not (has numbers i)
-same_test numbers i k e = let same : k ≡ i = grind (arith, nat_tests) in ap (λ n. not (has numbers n)) same
+same_test : (numbers : List ℕ) (i k : ℕ)
+    → (k == i) ≡ true → not (has numbers k) ≡ not (has numbers i)
+same_test numbers i k e =
+    let same : k ≡ i = grind (arith, nat_tests) in ap (λ n. not (has numbers n)) same
 
 -- a name is bound if the command binds it, or was bound and is not freed
 pub bound_more : (cs : List Command) (c : Command) (i : ℕ)
-    → has (bound (cs ++ c ∷ [])) i ≡ (has (binds c.action) i || (not (has (frees c.action) i) && has (bound cs) i))
+    → has (bound (cs ++ c ∷ [])) i
+    ≡ (has (binds c.action) i || (not (has (frees c.action) i) && has (bound cs) i))
 bound_more cs c i =
     ap (λ names. has names i) (fold_push bound_after [] cs c)
     ∙ list_any-append (λ m. m == i) (binds c.action) (filter (λ n. not (has (frees c.action) n)) (bound cs))

@@ -2,9 +2,12 @@
 use Rattle.std.proofs.Common.{◌≡◌, [], ◌∷◌, ◌++◌, refl, Ok, Err, pos, negsuc, true, false}
 use Rattle.std.specs.Prelude.{codes}
 use Rattle.sd_model.specs.declared.trees.Operation.TheVariants.{Xor}
-use Rattle.sd_script.specs.declared.command.Action.TheVariants.{Load, Lit, Constant, Binary, Not, Drop, Same, Value, Write}
-use Rattle.sd_script.specs.declared.fault.ScriptFault.TheVariants.{BadLine, NameUnknown, NameTaken, LiteralRange}
-use Rattle.sd_script.specs.declared.fault.ScriptFault.TheVariants.{NumberRange, FileTwice, TooManyLines}
+use Rattle.sd_script.specs.declared.command.Action.TheVariants.{Load, Lit, Constant, Binary, Not}
+use Rattle.sd_script.specs.declared.command.Action.TheVariants.{Drop, Same, Value, Write}
+use Rattle.sd_script.specs.declared.fault.ScriptFault.TheVariants.{BadLine, NameUnknown, NameTaken}
+use Rattle.sd_script.specs.declared.fault.ScriptFault.TheVariants.{LiteralRange}
+use Rattle.sd_script.specs.declared.fault.ScriptFault.TheVariants.{NumberRange, FileTwice}
+use Rattle.sd_script.specs.declared.fault.ScriptFault.TheVariants.{TooManyLines}
 use Rattle.sd_base.specs.Lines.{numbered_from}
 use Rattle.sd_base.specs.Words.{lines_of}
 use Rattle.sd_script.specs.Scripts.{script_of, empty, after_lines, see, number}
@@ -83,11 +86,13 @@ unfolding script_of see number
 unknown_once_dropped = refl
 
 -- line 100,001 is too many where it is blank too
-line_past_the_last : after_lines 2 empty (numbered_from 100000 (lines_of (codes "# one\n\n"))) ≡ Err TooManyLines
+line_past_the_last :
+    after_lines 2 empty (numbered_from 100000 (lines_of (codes "# one\n\n"))) ≡ Err TooManyLines
 line_past_the_last = refl
 
 -- an earlier line with a fault decides
-fault_before_the_last_line : after_lines 2 empty (numbered_from 100000 (lines_of (codes "one\n\n"))) ≡ Err (BadLine 100000)
+fault_before_the_last_line :
+    after_lines 2 empty (numbered_from 100000 (lines_of (codes "one\n\n"))) ≡ Err (BadLine 100000)
 fault_before_the_last_line = refl
 
 -- ---- scripts without a fault

@@ -1,7 +1,8 @@
 -- The numbers of the words of a command, and how many words there are.
-use Rattle.std.proofs.Common.{◌≡◌, ℕ, ◌+◌, ◌<◌, ◌≤◌, Bool, true, false, List, [], ◌∷◌, ◌++◌, length, refl, ap, arith, if◌then◌else◌, length-append}
+use Rattle.std.proofs.Common.{◌≡◌, ℕ, ◌+◌, ◌<◌, ◌≤◌, Bool, true, false, List, [], ◌∷◌, ◌++◌, length}
+use Rattle.std.proofs.Common.{refl, ap, arith, if◌then◌else◌, length-append}
 use Rattle.std.specs.Prelude.{bytes_eq}
-use Rattle.std.specs.List.{list_any, position_or_len}
+use Rattle.std.specs.List.{list_any, position_or_len, AllByRecursion}
 use Rattle.sd_script.specs.Phrases as phrases
 use Rattle.sd_script.specs.Phrases.{Phrase, Word, names_in, files_in, Load, Write, Vtree}
 use Rattle.sd_script.specs.Scripts.{Script, see, see_all, number, seen, numbered}
@@ -9,7 +10,8 @@ use Rattle.sd_script.specs.Steps.{IsKnown, HasRoom}
 use Rattle.sd_script.proofs.TableLaws.{has-see, has-see_other}
 
 -- a place that is there is within
-place_within : {X : Type 0} (p : X → Bool) (xs : List X) → list_any p xs ≡ true → position_or_len p xs < length xs
+place_within : {X : Type 0} (p : X → Bool) (xs : List X)
+    → list_any p xs ≡ true → position_or_len p xs < length xs
 place_within p [] h = cc
 place_within p (x ∷ xs) h = by (p x) refl (place_within p xs)
   where
@@ -19,7 +21,8 @@ place_within p (x ∷ xs) h = by (p x) refl (place_within p xs)
     by false e rest = let h2 = rest (rw e at h) in rw e (omega arith)
 
 -- the number of a word that is there is below their count
-within : (words : List Word) (w : Word) → list_any (bytes_eq w) words ≡ true → number words w < length words
+within : (words : List Word) (w : Word)
+    → list_any (bytes_eq w) words ≡ true → number words w < length words
 unfolding number
 within words w h = place_within (bytes_eq w) words h
 
@@ -30,7 +33,8 @@ within_one words a = within (see words a) a (has-see words a)
 -- of the one before it
 within_two : (words : List Word) (a b : Word)
     → number (see (see words a) b) a < length (see (see words a) b)
-within_two words a b = within (see (see words a) b) a (has-see_other (see words a) a b (has-see words a))
+within_two words a b =
+    within (see (see words a) b) a (has-see_other (see words a) a b (has-see words a))
 
 -- and of the one before both
 within_three : (words : List Word) (a b c : Word)
@@ -39,27 +43,39 @@ within_three words a b c =
     within (see (see (see words a) b) c) a
     (has-see_other (see (see words a) b) a c (has-see_other (see words a) a b (has-see words a)))
 
+-- of two
+known_two : (words : List Word) (a b : Word)
+    → AllByRecursion (λ n. n < length (see (see words a) b))
+    (number (see (see words a) b) a ∷ number (see (see words a) b) b ∷ [])
+known_two words a b = (within_two words a b, (within_one (see words a) b, tt))
+
 -- the numbers of a phrase are those of words that were seen
 pub known : (s : Script) (p : Phrase Word) → IsKnown (seen s p) (numbered (seen s p) p)
 known s (phrases.Input n) = record { names = (within_one s.names n, tt); files = tt }
-known s (phrases.Load n f) = record { names = (within_one s.names n, tt); files = (within_one s.files f, tt) }
+known s (phrases.Load n f) =
+    record { names = (within_one s.names n, tt); files = (within_one s.files f, tt) }
 known s (phrases.Lit n literal) = record { names = (within_one s.names n, tt); files = tt }
 known s (phrases.Constant n value) = record { names = (within_one s.names n, tt); files = tt }
 known s (phrases.Binary operation n a b) = record {
-  names = (within_three s.names n a b, (within_two (see s.names n) a b, (within_one (see (see s.names n) a) b, tt)));
+  names = (within_three s.names n a b, known_two (see s.names n) a b);
   files = tt;
 }
-known s (phrases.Not n a) = record { names = (within_two s.names n a, (within_one (see s.names n) a, tt)); files = tt }
-known s (phrases.Given n a literal) = record { names = (within_two s.names n a, (within_one (see s.names n) a, tt)); files = tt }
-known s (phrases.Forget n a x) = record { names = (within_two s.names n a, (within_one (see s.names n) a, tt)); files = tt }
+known s (phrases.Not n a) =
+    record { names = known_two s.names n a; files = tt }
+known s (phrases.Given n a literal) =
+    record { names = known_two s.names n a; files = tt }
+known s (phrases.Forget n a x) =
+    record { names = known_two s.names n a; files = tt }
 known s (phrases.Drop a) = record { names = (within_one s.names a, tt); files = tt }
 known s (phrases.Turn kind p) = record { names = tt; files = tt }
 known s (phrases.Minimise rounds) = record { names = tt; files = tt }
 known s (phrases.Limit k) = record { names = tt; files = tt }
-known s (phrases.Same a b) = record { names = (within_two s.names a b, (within_one (see s.names a) b, tt)); files = tt }
+known s (phrases.Same a b) =
+    record { names = known_two s.names a b; files = tt }
 known s (phrases.Size a) = record { names = (within_one s.names a, tt); files = tt }
 known s (phrases.Value a bits) = record { names = (within_one s.names a, tt); files = tt }
-known s (phrases.Write a f) = record { names = (within_one s.names a, tt); files = (within_one s.files f, tt) }
+known s (phrases.Write a f) =
+    record { names = (within_one s.names a, tt); files = (within_one s.files f, tt) }
 known s (phrases.Vtree f) = record { names = tt; files = (within_one s.files f, tt) }
 
 -- ---- how many words there are
@@ -85,19 +101,24 @@ see_least words w = by (list_any (bytes_eq w) words)
 -- more words are no less
 pub length-see_least : (words more : List Word) → length words ≤ length (see_all words more)
 length-see_least words [] = omega arith
-length-see_least words (w ∷ more) = omega (arith, see_least words w, length-see_least (see words w) more)
+length-see_least words (w ∷ more) =
+    omega (arith, see_least words w, length-see_least (see words w) more)
 
 -- a phrase has three names at most
-length-names : (words : List Word) (p : Phrase Word) → length (see_all words (names_in p)) ≤ length words + 3
+length-names : (words : List Word) (p : Phrase Word)
+    → length (see_all words (names_in p)) ≤ length words + 3
 length-names words (phrases.Input n) = omega (arith, length-see words n)
 length-names words (phrases.Load n f) = omega (arith, length-see words n)
 length-names words (phrases.Lit n literal) = omega (arith, length-see words n)
 length-names words (phrases.Constant n value) = omega (arith, length-see words n)
 length-names words (phrases.Binary operation n a b) =
     omega (arith, length-see words n, length-see (see words n) a, length-see (see (see words n) a) b)
-length-names words (phrases.Not n a) = omega (arith, length-see words n, length-see (see words n) a)
-length-names words (phrases.Given n a literal) = omega (arith, length-see words n, length-see (see words n) a)
-length-names words (phrases.Forget n a x) = omega (arith, length-see words n, length-see (see words n) a)
+length-names words (phrases.Not n a) =
+    omega (arith, length-see words n, length-see (see words n) a)
+length-names words (phrases.Given n a literal) =
+    omega (arith, length-see words n, length-see (see words n) a)
+length-names words (phrases.Forget n a x) =
+    omega (arith, length-see words n, length-see (see words n) a)
 length-names words (phrases.Drop a) = omega (arith, length-see words a)
 length-names words (phrases.Turn kind p) = omega arith
 length-names words (phrases.Minimise rounds) = omega arith
@@ -109,7 +130,8 @@ length-names words (phrases.Write a f) = omega (arith, length-see words a)
 length-names words (phrases.Vtree f) = omega arith
 
 -- and one file at most
-length-files : (words : List Word) (p : Phrase Word) → length (see_all words (files_in p)) ≤ length words + 3
+length-files : (words : List Word) (p : Phrase Word)
+    → length (see_all words (files_in p)) ≤ length words + 3
 length-files words (phrases.Load n f) = omega (arith, length-see words f)
 length-files words (phrases.Write a f) = omega (arith, length-see words f)
 length-files words (phrases.Vtree f) = omega (arith, length-see words f)

@@ -1,5 +1,6 @@
 -- Numbers in first-seen order, and how a set of references and a list of words go together.
-use Rattle.std.proofs.Common.{◌≡◌, ℕ, ◌+◌, Bool, true, false, not, cond, ◌||◌, List, [], ◌∷◌, ◌++◌, map, length, refl, ap, ◌∙◌, arith, if◌then◌else◌}
+use Rattle.std.proofs.Common.{◌≡◌, ℕ, ◌+◌, Bool, true, false, not, cond, ◌||◌, List, [], ◌∷◌, ◌++◌}
+use Rattle.std.proofs.Common.{map, length, refl, ap, ◌∙◌, arith, if◌then◌else◌}
 use Rattle.std.specs.Prelude.{bytes_eq}
 use Rattle.std.specs.List.{list_any, position_or_len}
 use Rattle.std.proofs.lemmas.List.{map-append}
@@ -71,7 +72,8 @@ unfolding see number
 number-see words w = by (list_any (bytes_eq w) words) refl
   where
     by : (b : Bool) → list_any (bytes_eq w) words ≡ b
-        → position_or_len (bytes_eq w) (if b then words else words ++ w ∷ []) ≡ position_or_len (bytes_eq w) words
+        → position_or_len (bytes_eq w) (if b then words else words ++ w ∷ [])
+        ≡ position_or_len (bytes_eq w) words
     by true e = refl
     by false e = place_next (bytes_eq w) words w e (same_word w)
 
@@ -81,7 +83,9 @@ number-see_other : (words : List Word) (w x : Word) → list_any (bytes_eq w) wo
 unfolding see number
 number-see_other words w x h = by (list_any (bytes_eq x) words)
   where
-    by : (b : Bool) → position_or_len (bytes_eq w) (if b then words else words ++ x ∷ []) ≡ position_or_len (bytes_eq w) words
+    by : (b : Bool)
+        → position_or_len (bytes_eq w) (if b then words else words ++ x ∷ [])
+        ≡ position_or_len (bytes_eq w) words
     by true = refl
     by false = place_stays (bytes_eq w) words x h
 
@@ -128,7 +132,8 @@ module _ {R : Type 0} (view : R → Word) where
       ap (λ b. map view (if b then keys else keys ++ k ∷ [])) (any_view (view k) keys)
       ∙ by (list_any (bytes_eq (view k)) (map view keys))
     where
-      by : (b : Bool) → map view (if b then keys else keys ++ k ∷ []) ≡ (if b then map view keys else map view keys ++ view k ∷ [])
+      by : (b : Bool) → map view (if b then keys else keys ++ k ∷ [])
+          ≡ (if b then map view keys else map view keys ++ view k ∷ [])
       by true = refl
       by false = map-append view keys (k ∷ [])
 
@@ -139,15 +144,25 @@ pub mark_there : (marks : List Bool) (n i : ℕ) → n < length marks
     → get_or (set marks n true) i false ≡ (has (n ∷ []) i || get_or marks i false)
 mark_there marks n i h = by (n == i) refl
   where
-    by : (b : Bool) → (n == i) ≡ b → get_or (set marks n true) i false ≡ ((b || false) || get_or marks i false)
-    by true e = let same : n ≡ i = grind (arith, nat_tests) in subst (λ k. get_or (set marks n true) k false ≡ true) same (get_or-set_same marks n true false h)
-    by false e = let other : i ≢ n = grind (arith, nat_tests) in get_or-set_other marks n i true false other
+    by : (b : Bool) → (n == i) ≡ b
+        → get_or (set marks n true) i false ≡ ((b || false) || get_or marks i false)
+    by true e =
+        let same : n ≡ i = grind (arith, nat_tests) in
+        subst (λ k. get_or (set marks n true) k false ≡ true) same (get_or-set_same marks n true false h)
+    by false e =
+        let other : i ≢ n = grind (arith, nat_tests) in
+        get_or-set_other marks n i true false other
 
 -- a place that loses its mark
 pub mark_gone : (marks : List Bool) (n i : ℕ) → n < length marks
     → get_or (set marks n false) i false ≡ (not (has (n ∷ []) i) && get_or marks i false)
 mark_gone marks n i h = by (n == i) refl
   where
-    by : (b : Bool) → (n == i) ≡ b → get_or (set marks n false) i false ≡ (not (b || false) && get_or marks i false)
-    by true e = let same : n ≡ i = grind (arith, nat_tests) in subst (λ k. get_or (set marks n false) k false ≡ false) same (get_or-set_same marks n false false h)
-    by false e = let other : i ≢ n = grind (arith, nat_tests) in get_or-set_other marks n i false false other
+    by : (b : Bool) → (n == i) ≡ b
+        → get_or (set marks n false) i false ≡ (not (b || false) && get_or marks i false)
+    by true e =
+        let same : n ≡ i = grind (arith, nat_tests) in
+        subst (λ k. get_or (set marks n false) k false ≡ false) same (get_or-set_same marks n false false h)
+    by false e =
+        let other : i ≢ n = grind (arith, nat_tests) in
+        get_or-set_other marks n i false false other

@@ -1,11 +1,14 @@
--- Commands over numbered names and files, and what earlier commands leave: which names are bound, which files are
--- written, and how many files were loaded.
-use Rattle.std.specs.Prelude.{ℕ, Bool, true, false, not, ◌==◌, List, [], ◌∷◌, ◌++◌, filter, fold, flat_map}
+-- Commands over numbered names and files, and what earlier commands leave: which names are bound,
+-- which files are written, and how many files were loaded.
+use Rattle.std.specs.Prelude.{ℕ, Bool, true, false, not, ◌==◌, List, [], ◌∷◌, ◌++◌, filter, fold}
+use Rattle.std.specs.Prelude.{flat_map}
 use Rattle.std.specs.Prelude.{count_by, unsigned_abs}
 use Rattle.std.specs.List.{list_any}
 use Rattle.sd_script.specs.declared.command.Action.{Action}
-use Rattle.sd_script.specs.declared.command.Action.TheVariants.{Input, Load, Lit, Constant, Binary, Not, Given, Forget}
-use Rattle.sd_script.specs.declared.command.Action.TheVariants.{Drop, Turn, Minimise, Limit, Same, Size, Value, Write, Vtree}
+use Rattle.sd_script.specs.declared.command.Action.TheVariants.{Input, Load, Lit, Constant, Binary}
+use Rattle.sd_script.specs.declared.command.Action.TheVariants.{Not, Given, Forget}
+use Rattle.sd_script.specs.declared.command.Action.TheVariants.{Drop, Turn, Minimise, Limit, Same}
+use Rattle.sd_script.specs.declared.command.Action.TheVariants.{Size, Value, Write, Vtree}
 use Rattle.sd_script.specs.declared.command.Command.{Command}
 use Rattle.sd_script.specs.Phrases as phrases
 use Rattle.sd_script.specs.Phrases.{Phrase}

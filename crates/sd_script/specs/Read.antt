@@ -3,7 +3,8 @@ use Rattle.std.specs.Prelude.{◌≡◌, ℕ, ◌-◌, ◌*◌, ◌<◌, Bool, t
 use Rattle.std.specs.Prelude.{List, [], ◌∷◌, ◌++◌, length, take, slice_get, Some, unsigned_abs}
 use Rattle.std.specs.List.{list_any, list_all, AllByRecursion}
 use Rattle.sd_script.specs.declared.command.Action.{Action}
-use Rattle.sd_script.specs.declared.command.Action.TheVariants.{Load, Lit, Given, Forget, Turn, Minimise, Limit, Value}
+use Rattle.sd_script.specs.declared.command.Action.TheVariants.{Load, Lit, Given, Forget, Turn}
+use Rattle.sd_script.specs.declared.command.Action.TheVariants.{Minimise, Limit, Value}
 use Rattle.sd_script.specs.declared.command.Command.{Command}
 use Rattle.sd_script.specs.Commands.{uses, binds, writes, has, bound, written}
 use Rattle.sd_script.specs.Scripts.{Script, is_within}
@@ -13,7 +14,7 @@ abbrev pub reads : Action → List ℕ
 reads (Load n file) = file ∷ []
 reads action = []
 
--- The numbers of a command are in range over the variables 1 to v, and it has as many truth values as there are.
+-- The numbers of a command are in range over the variables 1 to v, and a value has as many bits.
 abbrev pub in_range : ℕ → Action → Bool
 in_range v (Lit n literal) = is_within 1 v (unsigned_abs literal)
 in_range v (Given n a literal) = is_within 1 v (unsigned_abs literal)
@@ -24,8 +25,8 @@ in_range v (Limit k) = is_within 1 268435456 k
 in_range v (Value a bits) = length bits == v
 in_range v action = true
 
--- A command of a script can be done after the earlier ones: its names and files are the script's, those that it uses
--- are bound, the one that it binds is not, and the file that it writes is written by none of them.
+-- A command of a script can be done after the earlier ones: its names and files are the script's,
+-- those that it uses are bound, the one that it binds is not, and no earlier one writes its file.
 pub record IsAllowed (v : ℕ) (s : Script) (earlier : List Command) (c : Command) : Type 0 where
   pub names : AllByRecursion (λ n. n < length s.names) (binds c.action ++ uses c.action)
   pub files : AllByRecursion (λ n. n < length s.files) (reads c.action ++ writes c.action)
@@ -36,4 +37,5 @@ pub record IsAllowed (v : ℕ) (s : Script) (earlier : List Command) (c : Comman
 
 -- each command can be done after those before it
 pub record IsScript (v : ℕ) (s : Script) : Type 0 where
-  pub allowed : (k : ℕ) (c : Command) → slice_get s.commands k ≡ Some c → IsAllowed v s (take k s.commands) c
+  pub allowed : (k : ℕ) (c : Command) → slice_get s.commands k ≡ Some c
+      → IsAllowed v s (take k s.commands) c

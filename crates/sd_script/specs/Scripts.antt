@@ -1,21 +1,26 @@
 -- The commands that the text of a script stands for, or its first fault.
-use Rattle.std.specs.Prelude.{◌≡◌, ℕ, ◌-◌, ◌*◌, Bool, true, not, ◌&&◌, nat_le, nat_lt, if◌then◌else◌, bytes_eq}
-use Rattle.std.specs.Prelude.{List, [], ◌∷◌, ◌++◌, fold, ok_or, Result, Ok, Err, pos, unsigned_abs, int_le}
+use Rattle.std.specs.Prelude.{◌≡◌, ℕ, ◌-◌, ◌*◌, Bool, true, not, ◌&&◌, nat_le, nat_lt}
+use Rattle.std.specs.Prelude.{if◌then◌else◌, bytes_eq}
+use Rattle.std.specs.Prelude.{List, [], ◌∷◌, ◌++◌, fold, ok_or, Result, Ok, Err, pos, unsigned_abs}
+use Rattle.std.specs.Prelude.{int_le}
 use Rattle.std.specs.List.{list_any, list_all, position_or_len}
 use Rattle.sd_base.specs.Words.{lines_of}
 use Rattle.sd_base.specs.Lines.{TextLine, numbered_from, is_content}
 use Rattle.sd_base.specs.Reading.{◌>>=◌, ◌>>◌, fault_if}
 use Rattle.sd_script.specs.declared.command.Command.{Command}
 use Rattle.sd_script.specs.declared.fault.ScriptFault.{ScriptFault}
-use Rattle.sd_script.specs.declared.fault.ScriptFault.TheVariants.{BadLine, NameUnknown, NameTaken, LiteralRange}
-use Rattle.sd_script.specs.declared.fault.ScriptFault.TheVariants.{NumberRange, FileTwice, TooManyLines, TooManyLoads}
+use Rattle.sd_script.specs.declared.fault.ScriptFault.TheVariants.{BadLine, NameUnknown, NameTaken}
+use Rattle.sd_script.specs.declared.fault.ScriptFault.TheVariants.{LiteralRange}
+use Rattle.sd_script.specs.declared.fault.ScriptFault.TheVariants.{NumberRange, FileTwice}
+use Rattle.sd_script.specs.declared.fault.ScriptFault.TheVariants.{TooManyLines, TooManyLoads}
 use Rattle.sd_script.specs.declared.fault.ScriptFault.TheVariants.{OutOfMemory}
-use Rattle.sd_script.specs.Commands.{action_of, uses, binds, writes, is_load, has, bound, written, loads}
+use Rattle.sd_script.specs.Commands.{action_of, uses, binds, writes, is_load, has, bound, written}
+use Rattle.sd_script.specs.Commands.{loads}
 use Rattle.sd_script.specs.Phrases.{Phrase, Word, Lit, Given, Forget, Turn, Minimise, Limit}
 use Rattle.sd_script.specs.Phrases.{phrase_of, names_in, files_in, renamed}
 
--- A script as it is seen. The names, and apart from them the files, stand in the order in which they are first seen,
--- and the commands have their places there, counted from 0.
+-- A script as it is seen. The names, and apart from them the files, stand in the order in which
+-- they are first seen, and the commands have their places there, counted from 0.
 pub record Script : Type 0 where
   pub commands : List Command
   pub names : List Word

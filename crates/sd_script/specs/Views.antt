@@ -3,7 +3,8 @@ use Rattle.std.specs.Prelude.{ℕ}
 use Rattle.sd_script.specs.declared.phrase.Phrase as code
 use Rattle.sd_script.specs.declared.phrase.Phrase.TheVariants as variants
 use Rattle.sd_script.specs.Phrases.{Phrase, Input, Load, Lit, Constant, Binary, Not, Given, Forget}
-use Rattle.sd_script.specs.Phrases.{values_of, Drop, Turn, Minimise, Limit, Same, Size, Value, Write, Vtree}
+use Rattle.sd_script.specs.Phrases.{values_of, Drop, Turn, Minimise, Limit, Same, Size, Value}
+use Rattle.sd_script.specs.Phrases.{Write, Vtree}
 
 -- a phrase whose names and files stand for others
 abbrev pub viewed : {R W : Type 0} → (R → W) → code.Phrase R → Phrase W
