@@ -1,0 +1,176 @@
+-- The nodes that an SDD file stands for, or its first fault, and the file's value.
+use Rattle.std.specs.Prelude.{◌≡◌, ℕ, Bool, true, false, not, ◌&&◌, ◌==◌, ◌*◌, nat_le, if◌then◌else◌}
+use Rattle.std.specs.Prelude.{List, [], ◌∷◌, map, length, position, Option, Some, None, ok_or, option_map}
+use Rattle.std.specs.Prelude.{option_and_then, is_some, Result, Ok, Err, ℤ, unsigned_abs, codes, bytes_eq}
+use Rattle.sd_base.specs.Lines.{TextLine, content_of}
+use Rattle.sd_base.specs.Numbers.{natural_value, integer_value}
+use Rattle.sd_base.specs.Reading.{◌>>=◌, ◌>>◌, fault_if, each, each_after}
+use Rattle.sd_model.specs.Expression.{FileNode, FileConstant, FileLiteral, FileDecomposition, Expression, OfFile}
+use Rattle.sd_file.specs.declared.fault.SddFault.{SddFault}
+use Rattle.sd_file.specs.declared.fault.SddFault.TheVariants.{NoHeader, BadLine, IdTwice, ChildUnknown}
+use Rattle.sd_file.specs.declared.fault.SddFault.TheVariants.{LiteralRange, CountDiffers, Empty, OutOfMemory}
+
+-- a node with the vtree id that the file has; primes and subs are places in the list of the nodes before it
+pub data Node : Type 0 where
+  Constant : (value : Bool) → Node
+  Literal : (vtree : ℕ) (literal : ℤ) → Node
+  Decomposition : (vtree : ℕ) (pairs : List (ℕ × ℕ)) → Node
+
+-- a node line: its id and its node
+pub record Entry : Type 0 where
+  pub id : ℕ
+  pub node : Node
+
+-- a file over the variables 1 to a number: its nodes in the order of their lines
+pub record File : Type 0 where
+  pub variables : ℕ
+  pub nodes : List Entry
+
+-- ---- the four forms of a node line; in a decomposition primes and subs are ids
+
+pub data Form : Type 0 where
+  ConstantForm : (id : ℕ) (value : Bool) → Form
+  LiteralForm : (id vtree : ℕ) (literal : ℤ) → Form
+  DecompositionForm : (id vtree : ℕ) (pairs : List (ℕ × ℕ)) → Form
+
+-- the id of a line
+abbrev pub id_of : Form → ℕ
+id_of (ConstantForm id value) = id
+id_of (LiteralForm id vtree literal) = id
+id_of (DecompositionForm id vtree pairs) = id
+
+-- the constant of the words after F or T
+abbrev pub constant_form : Bool → List (List ℕ) → Option Form
+constant_form value (id ∷ []) = option_map (λ n. ConstantForm n value) (natural_value id)
+constant_form value words = None
+
+-- a literal, where all three numbers are there
+abbrev pub literal_from : Option ℕ → Option ℕ → Option ℤ → Option Form
+literal_from (Some id) (Some vtree) (Some literal) = Some (LiteralForm id vtree literal)
+literal_from id vtree literal = None
+
+-- the literal of the words after L
+abbrev pub literal_form : List (List ℕ) → Option Form
+literal_form (id ∷ vtree ∷ literal ∷ []) =
+    literal_from (natural_value id) (natural_value vtree) (integer_value literal)
+literal_form words = None
+
+-- two by two
+abbrev pub pairs_of : List ℕ → List (ℕ × ℕ)
+pairs_of (p ∷ s ∷ others) = (p, s) ∷ pairs_of others
+pairs_of others = []
+
+-- the numbers after D: an id, a vtree id, k, and k pairs, at least one
+abbrev pub decomposition_form : List ℕ → Option Form
+decomposition_form (id ∷ vtree ∷ k ∷ children) =
+    if nat_le 1 k && length children == 2 * k then Some (DecompositionForm id vtree (pairs_of children)) else None
+decomposition_form numbers = None
+
+-- each element where all have a value
+abbrev pub all_values : {A B : Type 0} → (A → Option B) → List A → Option (List B)
+all_values f [] = Some []
+all_values f (x ∷ xs) = option_and_then (λ y. option_map (λ ys. y ∷ ys) (all_values f xs)) (f x)
+
+-- the form that a line's words have
+abbrev pub form_of : List (List ℕ) → Option Form
+form_of [] = None
+form_of (letter ∷ words) =
+    if bytes_eq letter (codes "F") then constant_form false words
+    else (if bytes_eq letter (codes "T") then constant_form true words
+    else (if bytes_eq letter (codes "L") then literal_form words
+    else (if bytes_eq letter (codes "D") then option_and_then decomposition_form (all_values natural_value words)
+    else None)))
+
+-- ---- a node line after earlier ones, of which the ids are known
+
+-- the place of an id
+abbrev pub place_of : ℕ → List ℕ → Option ℕ
+place_of id ids = position (λ i. i == id) ids
+
+-- the literal is one of a variable of 1 to v
+abbrev pub is_literal : ℕ → ℤ → Bool
+is_literal v z = nat_le 1 (unsigned_abs z) && nat_le (unsigned_abs z) v
+
+-- the places of a prime and a sub
+abbrev pub pair_at : List ℕ → ℕ → ℕ × ℕ → Result (ℕ × ℕ) SddFault
+pair_at ids line (prime, sub) = do
+  p ← ok_or (place_of prime ids) (ChildUnknown line)
+  s ← ok_or (place_of sub ids) (ChildUnknown line)
+  Ok (p, s)
+
+-- the decomposition of these pairs of ids
+abbrev pub decomposition_of : List ℕ → ℕ → ℕ → List (ℕ × ℕ) → Result Node SddFault
+decomposition_of ids line vtree pairs = do
+  places ← each (pair_at ids line) pairs
+  Ok (Decomposition vtree places)
+
+-- the node of a form on a line, over the variables 1 to v
+abbrev pub node_of : ℕ → List ℕ → ℕ → Form → Result Node SddFault
+node_of v ids line (ConstantForm id value) = Ok (Constant value)
+node_of v ids line (LiteralForm id vtree literal) = do
+  fault_if (not (is_literal v literal)) (LiteralRange line)
+  Ok (Literal vtree literal)
+node_of v ids line (DecompositionForm id vtree pairs) = decomposition_of ids line vtree pairs
+
+-- the entry of a line after lines with these ids
+abbrev pub entry_with : ℕ → List ℕ → TextLine → Result Entry SddFault
+entry_with v ids line = do
+  form ← ok_or (form_of line.words) (BadLine line.number)
+  fault_if (is_some (place_of (id_of form) ids)) (IdTwice line.number)
+  node ← node_of v ids line.number form
+  Ok (record { id = id_of form; node = node })
+
+-- the entry of a line after earlier ones
+abbrev pub entry_of : ℕ → List Entry → TextLine → Result Entry SddFault
+entry_of v earlier line = entry_with v (map (λ e. e.id) earlier) line
+
+-- ---- the text
+
+-- the number of a header `sdd N`
+abbrev pub stated_by : List (List ℕ) → Option ℕ
+stated_by (name ∷ number ∷ []) = if bytes_eq name (codes "sdd") then natural_value number else None
+stated_by words = None
+
+-- the file of all node lines, where the header states a number of them
+abbrev pub finish : ℕ → ℕ → List Entry → Result File SddFault
+finish v stated entries = do
+  fault_if (not (stated == length entries)) (CountDiffers stated (length entries))
+  fault_if (length entries == 0) Empty
+  Ok (record { variables = v; nodes = entries })
+
+-- the file of a header and the lines after it
+abbrev pub file_of_lines : ℕ → List TextLine → Result File SddFault
+file_of_lines v [] = Err NoHeader
+file_of_lines v (header ∷ lines) = do
+  stated ← ok_or (stated_by header.words) NoHeader
+  entries ← each_after (entry_of v) [] lines
+  finish v stated entries
+
+-- The file of a text over the variables 1 to v, or the text's first fault. Blank lines and comments, which begin with
+-- c, are passed over.
+unfoldable pub sdd_file : ℕ → List ℕ → Result File SddFault
+sdd_file v bytes = file_of_lines v (content_of 99 bytes)
+
+-- ---- the value of a file
+
+-- a node without ids
+abbrev pub plain : Node → FileNode
+plain (Constant value) = FileConstant value
+plain (Literal vtree literal) = FileLiteral literal
+plain (Decomposition vtree pairs) = FileDecomposition pairs
+
+-- the propositional formula of a file: that of its last node
+abbrev pub expression_of : File → Expression
+expression_of f = OfFile (map (λ e. plain e.node) f.nodes)
+
+-- ---- what a reader answers
+
+-- a reading has this fault; want of memory says nothing of it
+abbrev pub Fails : {Y : Type 0} → SddFault → Result Y SddFault → Type 0
+Fails OutOfMemory reading = Unit {0}
+Fails fault reading = reading ≡ Err fault
+
+-- The answer, as view sees it, is what the reading gives, unless memory ran out.
+abbrev pub Gives : {X Y : Type 0} → (X → Y) → Result X SddFault → Result Y SddFault → Type 0
+Gives view (Ok x) reading = reading ≡ Ok (view x)
+Gives view (Err e) reading = Fails e reading

@@ -1,0 +1,93 @@
+-- How the reader keeps nodes, for the contracts of its private functions.
+use Rattle.std.specs.Prelude.{◌≡◌, ℕ, ◌+◌, ◌≤◌, List, [], ◌∷◌, ◌++◌, map, length, take, drop, Result, Ok}
+use Rattle.std.specs.BTreeMap as tree
+use Rattle.std.specs.List.{AllByRecursion}
+use Rattle.std.specs.Ordering.{nat_cmp}
+use Rattle.sd_base.specs.Lines.{TextLine}
+use Rattle.sd_base.specs.Reading.{◌>>=◌}
+use Rattle.sd_file.specs.declared.file.FileNode.{FileNode}
+use Rattle.sd_file.specs.declared.file.FileNode.TheVariants as kinds
+use Rattle.sd_file.specs.declared.file.Kept.{Kept}
+use Rattle.sd_file.specs.declared.form.Form as forms
+use Rattle.sd_file.specs.declared.form.Form.TheVariants.{ConstantLine, LiteralLine, DecompositionLine}
+use Rattle.sd_file.specs.declared.known.Known.{Known}
+use Rattle.sd_file.specs.declared.reader.Nodes.{Nodes}
+use Rattle.sd_file.specs.Reads.{Form, ConstantForm, LiteralForm, DecompositionForm, pairs_of, place_of}
+use Rattle.sd_file.specs.Reads.{Node, Constant, Literal, Decomposition, Entry, File}
+
+-- the form of a line
+abbrev pub form_view : forms.Form → Form
+form_view (ConstantLine id value) = ConstantForm id value
+form_view (LiteralLine id vtree literal) = LiteralForm id vtree literal
+form_view (DecompositionLine id vtree children) = DecompositionForm id vtree (pairs_of children.items)
+
+-- how many ids of children it has
+abbrev pub children_count : forms.Form → ℕ
+children_count (ConstantLine id value) = 0
+children_count (LiteralLine id vtree literal) = 0
+children_count (DecompositionLine id vtree children) = length children.items
+
+-- ---- nodes over one list of pairs
+
+-- a node whose pairs begin at a place
+abbrev pub node_in : List (ℕ × ℕ) → ℕ → FileNode → Node
+node_in pairs start (kinds.Constant value) = Constant value
+node_in pairs start (kinds.Literal vtree literal) = Literal vtree literal
+node_in pairs start (kinds.Decomposition vtree count) = Decomposition vtree (take count (drop start pairs))
+
+-- how many pairs a node has
+abbrev pub count_of : FileNode → ℕ
+count_of (kinds.Constant value) = 0
+count_of (kinds.Literal vtree literal) = 0
+count_of (kinds.Decomposition vtree count) = count
+
+-- a node as it is kept
+abbrev pub entry_in : List (ℕ × ℕ) → Kept → Entry
+entry_in pairs k = record { id = k.id; node = node_in pairs k.start k.node }
+
+-- nodes as they are kept
+abbrev pub entries_of : List Kept → List (ℕ × ℕ) → List Entry
+entries_of kept pairs = map (entry_in pairs) kept
+
+-- a file of these nodes
+abbrev pub file_of : ℕ → List Entry → File
+file_of variables entries = record { variables = variables; nodes = entries }
+
+-- the pairs of a node are among a number of them
+abbrev pub IsWithin : ℕ → Kept → Type 0
+IsWithin total k = k.start + count_of k.node ≤ total
+
+-- pairs with others put behind them
+pub record IsPutIn (before after : List (ℕ × ℕ)) : Type 0 where
+  pub more : List (ℕ × ℕ)
+  pub is : after ≡ before ++ more
+
+-- what was read, with a list in front
+abbrev pub put_before : {B E : Type 0} → List B → Result (List B) E → Result (List B) E
+put_before front reading = do
+  ys ← reading
+  Ok (front ++ ys)
+
+-- ---- the nodes that were read
+
+-- their ids
+abbrev pub ids_of : Known → List ℕ
+ids_of known = map (λ k. k.id) known.kept.items
+
+-- the map has the place of each id
+pub record IsIndexed (known : Known) : Type 0 where
+  pub places : (id : ℕ) → tree.get nat_cmp known.places id ≡ place_of id (ids_of known)
+
+-- the nodes
+abbrev pub nodes_view : Nodes → List Entry
+nodes_view n = entries_of n.known.kept.items n.pairs.items
+
+-- the map has the place of each id, and pairs are in the list
+pub record IsRead (n : Nodes) : Type 0 where
+  pub indexed : IsIndexed n.known
+  pub within : AllByRecursion (IsWithin (length n.pairs.items)) n.known.kept.items
+
+-- how many words the lines have
+abbrev pub word_count : List TextLine → ℕ
+word_count [] = 0
+word_count (line ∷ lines) = length line.words + word_count lines
