@@ -1,29 +1,16 @@
 -- The parts that a reader keeps are the parts of the whole list of literals between zeros.
-use Rattle.std.proofs.Common.{◌≡◌, ℕ, ◌<◌, Bool, true, false, cond, List, [], ◌∷◌, ◌++◌, length, ℤ, Result, Ok, Err}
+use Rattle.std.proofs.Common.{◌≡◌, ℕ, ◌<◌, Bool, true, false, List, [], ◌∷◌, ◌++◌, length, ℤ, Result, Ok, Err}
 use Rattle.std.proofs.Common.{refl, sym, ap, ◌∙◌, append_assoc, arith, inl, inr}
 use Rattle.std.specs.List.{slice_split, onto_first, fold}
 use Rattle.std.proofs.lemmas.List.{append-nil}
 use Rattle.std.proofs.lemmas.Bool.{cases_Bool}
 use Rattle.sd_base.specs.Reading.{◌>>=◌, each}
+use Rattle.sd_base.proofs.Pieces.{split_is_filled}
 use Rattle.sd_formula.specs.declared.error.FormulaError.{FormulaError}
 use Rattle.sd_formula.specs.Dimacs.{Word, literal_of, is_zero}
 use Rattle.sd_formula.specs.Steps.{Parts, no_parts, put_literal, put_words, list_of}
 
 -- ---- one more element at the end of a list that is cut into parts
-
-onto_is_filled : {X : Type 0} (x : X) (parts : List (List X)) → 0 < length (onto_first x parts)
-onto_is_filled x [] = omega arith
-onto_is_filled x (part ∷ parts) = omega arith
-
--- there is always a part
-split_is_filled : {X : Type 0} (p : X → Bool) (xs : List X) → 0 < length (slice_split p xs)
-split_is_filled p [] = omega arith
-split_is_filled p (x ∷ xs) =
-    let parts = slice_split p xs in
-    elim (p x) as (λ b. 0 < length (cond b ([] ∷ parts) (onto_first x parts))) [
-      | true ↦ omega arith
-      | false ↦ onto_is_filled x parts
-    ]
 
 -- an element at the end of the last part
 onto_last : {X : Type 0} → X → List (List X) → List (List X)

@@ -37,6 +37,12 @@ kept_as_written : dimacs Cnf (codes "p cnf 2 2\n0 1 -1 1 -0")
 unfolding dimacs
 kept_as_written = refl
 
+-- a percent sign ends the body where it is the first byte that is no separator
+percent_after_spaces : dimacs Cnf (codes "p cnf 2 1\n1 2 0\n \t% 3\nq\n")
+    ≡ Ok (record { kind = Cnf; variables = 2; groups = (pos 1 ∷ pos 2 ∷ []) ∷ [] })
+unfolding dimacs
+percent_after_spaces = refl
+
 -- ---- faults of the header
 
 empty : dimacs Cnf [] ≡ Err NoHeader
@@ -109,6 +115,16 @@ nineteen_digits = refl
 second_header : dimacs Cnf (codes "p cnf 2 1\np cnf 2 1\n1 2 0\n") ≡ Err (BadWord 2)
 unfolding dimacs
 second_header = refl
+
+-- a percent sign that is not first in its line is no integer
+percent_inside : dimacs Cnf (codes "p cnf 2 1\n1 % 0\n") ≡ Err (BadWord 2)
+unfolding dimacs
+percent_inside = refl
+
+-- no integer begins with a plus
+plus : dimacs Cnf (codes "p cnf 2 1\n+1 0\n") ≡ Err (BadWord 2)
+unfolding dimacs
+plus = refl
 
 -- the first word with a fault decides, in the order of the text
 word_by_word : dimacs Cnf (codes "p cnf 2 1\n1 -3 +2\nq\n") ≡ Err (LiteralRange 2 (negsuc 2))
