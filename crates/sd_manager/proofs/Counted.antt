@@ -1,5 +1,6 @@
 -- The uses of nodes after one more or one less.
-use Rattle.std.proofs.Common.{◌≡◌, ℕ, ◌+◌, ◌-◌, ◌^◌, ◌≤◌, ◌<◌, cond, eqb, List, [], ◌∷◌, take, get_or, length, Option, Some, None, unwrap_or}
+use Rattle.std.proofs.Common.{◌≡◌, ℕ, ◌+◌, ◌-◌, ◌^◌, ◌≤◌, ◌<◌, cond, eqb, List, [], ◌∷◌, take, get_or, length}
+use Rattle.std.proofs.Common.{Option, Some, None, unwrap_or}
 use Rattle.std.proofs.Common.{refl, sym, ap, subst, ◌∙◌, arith, suc, zero}
 use Rattle.std.proofs.lemmas.Bool.{cases_eq}
 use Rattle.std.proofs.lemmas.List.{take_all}
@@ -104,7 +105,11 @@ still_counted a b code h k least = subst (λ m. IsSome (get m (code - 2050))) (s
 
 -- nothing is added by no codes
 pub adds_none : (a : Nodes) (more : ℕ → ℕ) → ((c : ℕ) → more c ≡ 0) → AddsUses a a more
-adds_none a more h = record { rest = refl; uses = λ n. map_same (λ k. k + more (2050 + n)) (λ k. omega (arith, h (2050 + n))) (get a.uses n) }
+adds_none a more h = record {
+  rest = refl;
+  uses = λ n. map_same (λ k. k + more (2050 + n))
+      (λ k. omega (arith, h (2050 + n))) (get a.uses n);
+}
 
 -- two sums one after another
 map_twice : (i j m : ℕ) → m ≡ i + j → (o : Option ℕ) →

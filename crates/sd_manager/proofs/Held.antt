@@ -22,7 +22,8 @@ find-before q i (Some c ∷ slots) h =
     ∙ find-before q (i + 1) slots (omega arith)
 
 -- the entry of a slot is what stands in it
-find-held : (k i q : ℕ) (slots : List (Option ℕ)) → k ≡ i + q → find nat_cmp k (held_from i slots) ≡ get_or slots q None
+find-held : (k i q : ℕ) (slots : List (Option ℕ)) → k ≡ i + q → find nat_cmp k (held_from i slots) ≡ get_or
+    slots q None
 find-held k i q [] e = refl
 find-held k i zero (None ∷ slots) e = find-before k (i + 1) slots (omega arith)
 find-held k i (suc q) (None ∷ slots) e = find-held k (i + 1) q slots (omega arith)

@@ -69,7 +69,8 @@ uses_of-le t c =
     omega (
       arith,
       sum_twice (λ (k : ℕ × List (ℕ × ℕ)). uses_in c k.1) (λ k. length k.1) (values t.linked) (λ k. uses_in-le c k.1),
-      sum_twice (λ (k : ℕ × List (ℕ × ℕ)). uses_in c k.1) (λ k. length k.1) (values t.detached) (λ k. uses_in-le c k.1),
+      sum_twice (λ (k : ℕ × List (ℕ × ℕ)). uses_in c k.1) (λ k. length k.1) (values t.detached)
+          (λ k. uses_in-le c k.1),
       sum_twice (uses_in c) length (values t.loose) (uses_in-le c),
       sum_ones (λ held. cond (eqb held c) 1 0) (values t.roots) (λ held. at_most_one (eqb held c)),
       length-values t.roots,
@@ -163,7 +164,8 @@ held_after_insert : (t : Table) (root c : ℕ) → IsTable t → t.moving ≡ No
 held_after_insert t root c i still known r d e =
     by_cases
     (λ same.
-    let there : Some c ≡ Some d = sym (get-insert_same t.roots root c) ∙ ap (get (insert t.roots root c)) (sym same) ∙ e in
+    let there : Some c ≡ Some d = sym (get-insert_same t.roots root c) ∙ ap (get (insert t.roots root c))
+    (sym same) ∙ e in
     let is : c ≡ d = cc in
     subst (IsKnown t) is known)
     (λ ne. i.held still r d (sym (get-insert_other t.roots root c r ne) ∙ e))

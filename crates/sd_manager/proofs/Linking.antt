@@ -120,7 +120,8 @@ any_among : (n : ℕ) (ns : List ℕ) → list_any (eq_by_cmp nat_cmp n) ns ≡ 
 any_among n [] e = cc
 any_among n (k ∷ ns) e = elim (cases_eq n k) [
   | inl same ↦ inl same
-  | inr ne ↦ inr (any_among n ns (or_rest (eq_by_cmp nat_cmp n k) (list_any (eq_by_cmp nat_cmp n) ns) (apart n k ne) e))
+  | inr ne ↦ inr (any_among n ns (or_rest (eq_by_cmp nat_cmp n k) (list_any (eq_by_cmp nat_cmp n) ns)
+      (apart n k ne) e))
 ]
 
 -- the number of a node is a key of the map
@@ -131,7 +132,8 @@ length-keys : {X : Type 0} (m : FinMap nat_cmp X) → length (keys m) ≡ len m
 length-keys {X} m = length-map (entries m) (λ (e : ℕ × X). e.0) ∙ sym (len-entries m)
 
 -- a list that is asked for
-pub record IsAsked (v : Numbered) (a : Nodes) (m : FinMap nat_cmp ℕ) (e u : ℕ) (elements l : List (ℕ × ℕ)) : Type 0 where
+pub record IsAsked (v : Numbered) (a : Nodes) (m : FinMap nat_cmp ℕ) (e u : ℕ) (elements l : List (ℕ × ℕ)) :
+    Type 0 where
   pub stored : IsStored a (table_of v a m e)
   pub some : (ds : List (Diagram × Diagram)) × IsPartitionAt (table_of v a m e) u elements ds
   pub differ : AreDistinct (map (λ e. e.1) elements)
@@ -152,7 +154,8 @@ module _ (v : Numbered) (a : Nodes) (m : FinMap nat_cmp ℕ) (e u : ℕ) (elemen
     pub made_found : (n : ℕ) → get a.linked n ≡ Some (u, l) → (ds : List (Diagram × Diagram)) →
         IsPartitionAt (table_of v a m e) u elements ds → IsMade (table_of v a m e) (n + 2050) ds
     made_found n found ds split =
-        let z = made-node v (get a.linked) (get a.linked) h.stored.table.numbered h.stored.table.keys u n elements l ds
+        let z = made-node v (get a.linked) (get a.linked) h.stored.table.numbered h.stored.table.keys u n
+        elements l ds
         split h.order h.differ none (λ q k there. there) found in
         let code : 2050 + n ≡ n + 2050 = omega arith in
         subst (λ c. IsMade (table_of v a m e) c ds) code (record { diagram = z.0; is = z.1; value = z.2 })
@@ -160,7 +163,8 @@ module _ (v : Numbered) (a : Nodes) (m : FinMap nat_cmp ℕ) (e u : ℕ) (elemen
     -- there are two pairs or more
     pub two_pairs : 2 ≤ length l
     two_pairs =
-        made-several v (get a.linked) h.stored.table.numbered h.stored.table.keys u elements l h.some.0 h.some.1 h.order
+        made-several v (get a.linked) h.stored.table.numbered h.stored.table.keys u elements l h.some.0
+        h.some.1 h.order
         h.differ none
 
     few_elements : length elements ≤ a.extent / 2 + 2 * leaves (forget v) + 2
@@ -276,7 +280,8 @@ module _ (v : Numbered) (a : Nodes) (m : FinMap nat_cmp ℕ) (e u : ℕ) (elemen
       list_room short q k is =
           by_cases
           (λ same.
-          let zero : Some 0 ≡ Some k = sym (get-insert_same a.uses n 0) ∙ ap (get (insert a.uses n 0)) (sym same) ∙ is in
+          let zero : Some 0 ≡ Some k = sym (get-insert_same a.uses n 0) ∙ ap (get (insert a.uses n 0))
+          (sym same) ∙ is in
           let none : 0 ≡ k = cc in
           omega (arith, uses_in-le (2050 + q) l))
           (λ ne.
@@ -290,7 +295,8 @@ module _ (v : Numbered) (a : Nodes) (m : FinMap nat_cmp ℕ) (e u : ℕ) (elemen
           (counts : (q : ℕ) → get w q ≡ option_map (λ k. k + uses_in (2050 + q) l) (get (insert a.uses n 0) q))
           (valid : IsNodes (record (inserted a n u l) { uses = w })) where
         -- what was known is known
-        known_kept : (c : ℕ) → IsKnown (table_of v a m e) c → IsKnown (table_of v (record (inserted a n u l) { uses = w }) m e) c
+        known_kept : (c : ℕ) → IsKnown (table_of v a m e) c →
+            IsKnown (table_of v (record (inserted a n u l) { uses = w }) m e) c
         known_kept c k = record {
           diagram = k.diagram;
           is = record {
@@ -433,7 +439,8 @@ module _ (v : Numbered) (a : Nodes) (m : FinMap nat_cmp ℕ) (e u : ℕ) (elemen
 
         -- and one node was linked
         pub grown_new : (¬ IsFullOfNodes a (length l)) →
-            HasNewNode (table_of v a m e) (table_of v (record (inserted a n u l) { uses = w }) m e) u elements (n + 2050)
+            HasNewNode (table_of v a m e) (table_of v (record (inserted a n u l) { uses = w }) m e) u elements
+            (n + 2050)
         grown_new room = record {
           number = n;
           list = l;

@@ -1,4 +1,4 @@
--- Partitions of the root of the vtree of the variables 1 and 2, by codes: 2 and 3 are the literals of 1, 4 is that of 2.
+-- Partitions of the root of the vtree of the variables 1 and 2. By codes, 2 and 3 are the literals of 1, and 4 is 2.
 use Rattle.std.proofs.Common.{◌≡◌, ℕ, Bool, true, false, cond, not, List, [], ◌∷◌, length, Some, slice_get}
 use Rattle.std.proofs.Common.{refl, sym, ap, subst, ◌∙◌}
 use Rattle.std.specs.FinMap.{get}

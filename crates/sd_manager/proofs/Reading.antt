@@ -52,7 +52,8 @@ view_node t c n k at e =
     rw (first, second) (ap view_of_key key)
 
 -- the pairs of a node
-pub pairs_node : (t : Table) (c n : ℕ) (k : ℕ × List (ℕ × ℕ)) → c ≡ 2050 + n → key_at t n ≡ Some k → pairs_at t c ≡ k.1
+pub pairs_node : (t : Table) (c n : ℕ) (k : ℕ × List (ℕ × ℕ)) → c ≡ 2050 + n → key_at t n ≡ Some k → pairs_at t
+    c ≡ k.1
 pairs_node t c n k at e =
     let second : ltb c 2050 ≡ false = grind (arith, nat_tests) in
     let number : c - 2050 ≡ n = omega arith in

@@ -1,5 +1,6 @@
 -- Equal functions are equal nodes.
-use Rattle.std.proofs.Common.{◌≡◌, ◌↔◌, ℕ, Bool, eqb, List, length, Some, IsTrue, Result, Ok, Err, IfOk, sym, ap, subst, ◌∙◌}
+use Rattle.std.proofs.Common.{◌≡◌, ◌↔◌, ℕ, Bool, eqb, List, length, Some, IsTrue, Result, Ok, Err, IfOk, sym}
+use Rattle.std.proofs.Common.{ap, subst, ◌∙◌}
 use Rattle.std.proofs.lemmas.Bool.{eqb-true}
 use Rattle.std.specs.FinMap.{get}
 use Rattle.sd_runs.proofs.Places.{eqb_same}
@@ -45,7 +46,8 @@ same_function t i a b x y h k r e =
     )
 
 -- the code that a root holds
-pub held_code : (t : Table) (root c : ℕ) (d : Diagram) → get t.roots root ≡ Some c → HoldsDiagram t root d → IsShown t c d
+pub held_code : (t : Table) (root c : ℕ) (d : Diagram) → get t.roots root ≡ Some c → HoldsDiagram t root d →
+    IsShown t c d
 held_code t root c d e h =
     let there : Some h.code ≡ Some c = sym h.held ∙ e in
     let same : h.code ≡ c = cc in

@@ -6,7 +6,8 @@ use Rattle.std.proofs.lemmas.Cmp.{nat_cmp_total}
 use Rattle.std.specs.List.{sum_by}
 use Rattle.std.specs.Option.{is_some}
 use Rattle.std.specs.Ordering.{nat_cmp}
-use Rattle.std.specs.FinMap.{FinMap, get, get-entries, insert, remove, values, entries, find, len, len-entries, len-insert}
+use Rattle.std.specs.FinMap.{FinMap, get, get-entries, insert, remove, values, entries, find, len}
+use Rattle.std.specs.FinMap.{len-entries, len-insert}
 use Rattle.sd_runs.proofs.Maps.{same_at_each, get-insert_same, get-insert_other, get-remove_same, get-remove_other}
 use Rattle.sd_runs.proofs.Maps.{total-insert, tied}
 use Rattle.sd_runs.proofs.Places.{by_cases}
@@ -95,7 +96,8 @@ module _ {X : Type 0} (f : X → ℕ) where
       zero_step m (entries m) refl (λ k v there. absurd (omega (arith, len-left m k v there))) h
   zeros (suc n) m few h =
       zero_step m (entries m) refl
-      (λ k v there. zeros n (remove m k) (omega (arith, len-left m k v there)) (λ q x e. h q x (left_was m k q x e))) h
+      (λ k v there. zeros n (remove m k) (omega (arith, len-left m k v there))
+      (λ q x e. h q x (left_was m k q x e))) h
 
   -- a sum of zeros
   pub sum_zero : (m : FinMap nat_cmp X) → ((q : ℕ) (x : X) → get m q ≡ Some x → f x ≡ 0) → sum_by f (values m) ≡ 0

@@ -100,7 +100,8 @@ pub stored_with : (v : Numbered) (a b : Nodes) (m : FinMap nat_cmp ℕ) (e : ℕ
 stored_with v a b m e rest valid loose i uses =
     let Good : Nodes → Type 0 = λ x. IsNodes x → ((n : ℕ) (k : ℕ × List (ℕ × ℕ)) → get a.linked n ≡ Some k →
     get x.uses n ≡ Some (uses_of (table_of v a m e) (2050 + n))) → IsStored x (table_of v x m e) in
-    subst Good (sym rest) (λ valid uses. record { table = i; valid = valid; none_loose = loose; uses = uses }) valid uses
+    subst Good (sym rest) (λ valid uses. record { table = i; valid = valid; none_loose = loose; uses = uses })
+    valid uses
 
 -- what a code shows in a table that is the same
 pub known_inside : (t u : Table) (c d : ℕ) → t ≡ u → c ≡ d → IsKnown u d → IsKnown t c

@@ -187,8 +187,8 @@ impl Manager {
         ensures released { self.new ≡ without_root self.old root }
         ensures table { IsTable self.new }
     {
-        let code = self.roots.release(&root);
-        drop_use(&mut self.nodes, code);
+        let held = self.roots.release(&root);
+        drop_use(&mut self.nodes, held);
     }
 
     /// Makes a root hold another node, and hands the old one back.
@@ -201,10 +201,10 @@ impl Manager {
         ensures root { root.new ≡ root.old }
         ensures table { IsTable self.new }
     {
-        let code = self.roots.rebind(root, node.0);
+        let former = self.roots.rebind(root, node.0);
         add_use(&mut self.nodes, node.0);
-        drop_use(&mut self.nodes, code);
-        NodeId(code)
+        drop_use(&mut self.nodes, former);
+        NodeId(former)
     }
 
     /// The node that a root holds.

@@ -22,8 +22,16 @@ pub(crate) fn sort_into(
     for element in elements {
         list.push((element.0.0, element.1.0))?;
     }
-    list.sort_unstable();
+    sort(list);
     Ok(())
+}
+
+// Puts the pairs into ascending order.
+fn sort(list: &mut Vec<(u32, u32)>)
+    ensures permutation { IsPermutation list.old.items list.new.items }
+    ensures sorted { IsSorted (λ (x y : ℕ × ℕ). ordering_then (nat_cmp x.0 y.0) (nat_cmp x.1 y.1)) list.new.items }
+{
+    list.sort_unstable();
 }
 
 // The code that a list is trimmed to: of its only sub, or of the prime whose sub is true where the other is false.

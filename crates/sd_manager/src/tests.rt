@@ -51,7 +51,13 @@ fn one(m: &mut Manager, root: VNode) -> Result<NodeId, TakeError>
 fn over_two_variables(rt: HostRuntime) -> Result<(), Fail> {
     let (mut m, root) = over_two(rt.alloc(), 3)?;
     let clause = one_or_two(&mut m, root)?;
-    assert_eq!(rt; m.view(clause), View::Decomposition { place: root, count: 2 });
+    assert_eq!(rt;
+        m.view(clause),
+        View::Decomposition {
+            place: root,
+            count: 2
+        }
+    );
     let again = one_or_two(&mut m, root)?;
     assert_eq!(rt; again, clause);
     let literal = one(&mut m, root)?;

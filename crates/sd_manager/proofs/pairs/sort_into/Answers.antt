@@ -5,6 +5,6 @@ use Rattle.sd_manager.proofs.pairs.sort_into.Goals as goal
 
 pub returns-clause-permutation : goal.returns-clause-permutation
 returns-clause-permutation c =
-    let Moved : List (ℕ × ℕ) → Type 0 = λ l. IsPermutation l c.sort_unstable.new.self.items in
+    let Moved : List (ℕ × ℕ) → Type 0 = λ l. IsPermutation l c.sort.new.list.items in
     subst Moved (c.loop-element.invariant ∙ take_all c.loop-element.element-index c.args.elements.now (omega arith))
-    c.sort_unstable.ensures.permutation
+    c.sort.ensures.permutation

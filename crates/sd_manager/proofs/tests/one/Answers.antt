@@ -6,7 +6,8 @@ use Rattle.sd_manager.proofs.tests.one.Goals as goal
 pub make-requires-clause-partition : goal.make-requires-clause-partition
 make-requires-clause-partition c =
     literal_asked c.args.m.now c.args.root c.literal-other.result c.constant-no.result c.literal-one.result
-    c.constant-yes.result c.requires c.literal-other.ensures.code c.constant-no.ensures.code c.literal-one.ensures.code
+    c.constant-yes.result c.requires c.literal-other.ensures.code c.constant-no.ensures.code
+    c.literal-one.ensures.code
     c.constant-yes.ensures.code
 
 pub returns-clause-known : goal.returns-clause-known

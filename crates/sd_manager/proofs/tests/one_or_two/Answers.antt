@@ -6,7 +6,8 @@ use Rattle.sd_manager.proofs.tests.one_or_two.Goals as goal
 pub make-requires-clause-partition : goal.make-requires-clause-partition
 make-requires-clause-partition c =
     clause_asked c.args.m.now c.args.root c.literal-other.result c.literal-two.result c.literal-one.result
-    c.constant-yes.result c.requires c.literal-other.ensures.code c.literal-two.ensures.code c.literal-one.ensures.code
+    c.constant-yes.result c.requires c.literal-other.ensures.code c.literal-two.ensures.code
+    c.literal-one.ensures.code
     c.constant-yes.ensures.code
 
 pub returns-clause-known : goal.returns-clause-known

@@ -35,7 +35,22 @@ value_below-requires t c =
     let k = children c.args.self.now c.args.node w.0 c.loop-index.index w.1 c.element-prime.result is
     c.element-prime.ensures.pair in (
       omega (arith, c.decreases, ap depth w.2, c.requires.known.2, k.prime_depth),
-      (c.requires.table, ((k.prime, k.prime_is, omega (arith, ap depth w.2, c.requires.known.2, k.prime_depth)), c.requires.values)),
+      (
+        c.requires.table,
+        (
+          (
+            k.prime,
+            k.prime_is,
+            omega (
+              arith,
+              ap depth w.2,
+              c.requires.known.2,
+              k.prime_depth,
+            ),
+          ),
+          c.requires.values,
+        ),
+      ),
     )
 
 pub value_below-requires-then-value_below : goal.value_below-requires-then-value_below
@@ -45,7 +60,13 @@ value_below-requires-then-value_below t c =
     let k = children c.args.self.now c.args.node w.0 c.loop-index.index w.1 c.element-prime.result is
     c.element-prime.ensures.pair in (
       omega (arith, c.decreases, ap depth w.2, c.requires.known.2, k.sub_depth),
-      (c.requires.table, ((k.sub, k.sub_is, omega (arith, ap depth w.2, c.requires.known.2, k.sub_depth)), c.requires.values)),
+      (
+        c.requires.table,
+        (
+          (k.sub, k.sub_is, omega (arith, ap depth w.2, c.requires.known.2, k.sub_depth)),
+          c.requires.values,
+        ),
+      ),
     )
 
 pub returns-then-value_below : goal.returns-then-value_below

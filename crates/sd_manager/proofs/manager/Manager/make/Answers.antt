@@ -44,7 +44,8 @@ insert-requires-clause-some c =
     let none = sym c.trimmed.ensures ∙ c.in_default.is in
     omega (
       arith,
-      two_pairs s.vtree s.nodes s.roots s.epoch c.place.inside.0 c.args.elements.now c.as_slice-list.result.now h none,
+      two_pairs s.vtree s.nodes s.roots s.epoch c.place.inside.0 c.args.elements.now c.as_slice-list.result.now
+          h none,
     )
 
 pub returns-in-Err-clause-full : goal.returns-in-Err-clause-full
@@ -80,7 +81,8 @@ add_uses-requires-clause-counted c =
     c.as_slice-list.ensures.value in
     let none = sym c.trimmed.ensures ∙ c.in_default.is in
     subst (λ x. AreCounted x c.as_slice-list.result.now) (sym c.in-Ok.ensures.ok)
-    (list_counted s.vtree s.nodes s.roots s.epoch c.place.inside.0 c.args.elements.now c.as_slice-list.result.now h none
+    (list_counted s.vtree s.nodes s.roots s.epoch c.place.inside.0 c.args.elements.now
+    c.as_slice-list.result.now h none
     c.in-Ok.number c.in-Ok.ensures.number)
 
 pub add_uses-requires-clause-room : goal.add_uses-requires-clause-room
@@ -110,7 +112,8 @@ invariant_of-self-2 c =
     c.in-Ok.number c.in-Ok.ensures.number c.insert.new.self c.add_uses.new.nodes c.in-Ok.ensures.ok
     c.add_uses.ensures.uses c.add_uses.ensures.valid
     (λ d. IsStored d (table_of s.vtree d s.roots s.epoch))
-    (λ w counts valid. stored_new s.vtree s.nodes s.roots s.epoch c.place.inside.0 c.args.elements.now c.as_slice-list.result.now h none
+    (λ w counts valid. stored_new s.vtree s.nodes s.roots s.epoch c.place.inside.0 c.args.elements.now
+    c.as_slice-list.result.now h none
     c.in-Ok.number c.in-Ok.ensures.number w counts valid)
 
 pub returns-clause-ok : goal.returns-clause-ok
@@ -125,7 +128,8 @@ returns-clause-ok c = λ ds split.
     c.in-Ok.number c.in-Ok.ensures.number c.insert.new.self c.add_uses.new.nodes c.in-Ok.ensures.ok
     c.add_uses.ensures.uses c.add_uses.ensures.valid
     (λ d. IsMade (table_of s.vtree d s.roots s.epoch) (c.in-Ok.number + 2050) ds)
-    (λ w counts valid. made_new s.vtree s.nodes s.roots s.epoch c.place.inside.0 c.args.elements.now c.as_slice-list.result.now h none
+    (λ w counts valid. made_new s.vtree s.nodes s.roots s.epoch c.place.inside.0 c.args.elements.now
+    c.as_slice-list.result.now h none
     c.in-Ok.number c.in-Ok.ensures.number w counts valid ds
     (partition_inside (table_of s.vtree s.nodes s.roots s.epoch) c.args.self.now c.place.inside.0 c.args.place
     c.args.elements.now ds c.self.view_is c.place.view_is split))
@@ -143,7 +147,8 @@ returns-clause-kept c =
     c.in-Ok.number c.in-Ok.ensures.number c.insert.new.self c.add_uses.new.nodes c.in-Ok.ensures.ok
     c.add_uses.ensures.uses c.add_uses.ensures.valid
     (λ d. Extends (table_of s.vtree s.nodes s.roots s.epoch) (table_of s.vtree d s.roots s.epoch))
-    (λ w counts valid. kept_new s.vtree s.nodes s.roots s.epoch c.place.inside.0 c.args.elements.now c.as_slice-list.result.now h none
+    (λ w counts valid. kept_new s.vtree s.nodes s.roots s.epoch c.place.inside.0 c.args.elements.now
+    c.as_slice-list.result.now h none
     c.in-Ok.number c.in-Ok.ensures.number w counts valid))
 
 pub returns-clause-grown : goal.returns-clause-grown
@@ -164,7 +169,8 @@ returns-clause-grown c =
     c.add_uses.ensures.uses c.add_uses.ensures.valid
     (λ d. HasNewNode (table_of s.vtree s.nodes s.roots s.epoch) (table_of s.vtree d s.roots s.epoch)
     c.place.inside.0 c.args.elements.now (c.in-Ok.number + 2050))
-    (λ w counts valid. grown_new s.vtree s.nodes s.roots s.epoch c.place.inside.0 c.args.elements.now c.as_slice-list.result.now h none
+    (λ w counts valid. grown_new s.vtree s.nodes s.roots s.epoch c.place.inside.0 c.args.elements.now
+    c.as_slice-list.result.now h none
     c.in-Ok.number c.in-Ok.ensures.number w counts valid c.in-Ok.ensures.room))))
 
 pub returns-clause-table : goal.returns-clause-table

@@ -24,30 +24,30 @@ add_use-requires-clause-room c =
 pub drop_use-requires-clause-counted : goal.drop_use-requires-clause-counted
 drop_use-requires-clause-counted c =
     let s = c.self.inside in
-    still_counted s.nodes c.add_use.new.nodes c.rebind-code.result c.add_use.ensures.uses
-    (known_counted s.vtree s.nodes s.roots s.epoch c.rebind-code.result c.self.invariant.table.numbered
-    (c.self.invariant.table.held refl c.args.root.now c.rebind-code.result c.rebind-code.ensures.held))
+    still_counted s.nodes c.add_use.new.nodes c.rebind-former.result c.add_use.ensures.uses
+    (known_counted s.vtree s.nodes s.roots s.epoch c.rebind-former.result c.self.invariant.table.numbered
+    (c.self.invariant.table.held refl c.args.root.now c.rebind-former.result c.rebind-former.ensures.held))
 
 pub drop_use-requires-clause-used : goal.drop_use-requires-clause-used
 drop_use-requires-clause-used c = λ least.
     let s = c.self.inside in
-    let counted = known_counted s.vtree s.nodes s.roots s.epoch c.rebind-code.result c.self.invariant.table.numbered
-    (c.self.invariant.table.held refl c.args.root.now c.rebind-code.result c.rebind-code.ensures.held) in
-    used_still s.nodes c.add_use.new.nodes c.rebind-code.result c.add_use.ensures.uses
+    let counted = known_counted s.vtree s.nodes s.roots s.epoch c.rebind-former.result c.self.invariant.table.numbered
+    (c.self.invariant.table.held refl c.args.root.now c.rebind-former.result c.rebind-former.ensures.held) in
+    used_still s.nodes c.add_use.new.nodes c.rebind-former.result c.add_use.ensures.uses
     (omega (
       arith,
-      counted_is s.vtree s.nodes s.roots s.epoch c.rebind-code.result c.self.invariant counted least,
-      held_is_used (table_of s.vtree s.nodes s.roots s.epoch) c.args.root.now c.rebind-code.result
-          c.rebind-code.ensures.held,
+      counted_is s.vtree s.nodes s.roots s.epoch c.rebind-former.result c.self.invariant counted least,
+      held_is_used (table_of s.vtree s.nodes s.roots s.epoch) c.args.root.now c.rebind-former.result
+          c.rebind-former.ensures.held,
     ))
 
 pub invariant_of-self : goal.invariant_of-self
 invariant_of-self c =
     let s = c.self.inside in
     subst (λ m. IsStored c.drop_use.new.nodes (table_of s.vtree c.drop_use.new.nodes m s.epoch))
-    (sym c.rebind-code.ensures.bound)
+    (sym c.rebind-former.ensures.bound)
     (stored_rebind s.vtree s.nodes s.roots s.epoch c.self.invariant c.add_use.new.nodes c.drop_use.new.nodes
-    c.args.root.now c.rebind-code.result c.node.inside.0 c.rebind-code.ensures.held
+    c.args.root.now c.rebind-former.result c.node.inside.0 c.rebind-former.ensures.held
     (known_inside (table_of s.vtree s.nodes s.roots s.epoch) c.args.self.now c.node.inside.0 c.args.node
     c.self.view_is c.node.view_is c.requires.known) c.add_use.ensures.uses c.drop_use.ensures.uses
     c.drop_use.ensures.valid)
