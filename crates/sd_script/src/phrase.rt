@@ -10,6 +10,12 @@ use sd_base::{Line, integer, natural};
 use sd_model::{Move, Operation};
 use std::str::from_utf8;
 
+// The length of the longest name, without its first letter.
+const MAX_LATER: usize = 31;
+
+// The length of the longest word that names a file.
+const MAX_FILE: usize = 255;
+
 /// A command, with its names and files as words or as numbers.
 #[derive(Clone, Copy)]
 pub(crate) enum Phrase<'a, W> {
@@ -175,9 +181,6 @@ fn file_of(word: &[u8]) -> Option<&str>
     }
 }
 
-/// The length of the longest word that names a file.
-const MAX_FILE: usize = 255;
-
 /// A word with a digit 0 or 1 for each variable.
 fn bits_of(variables: u32, word: &[u8]) -> Option<&[u8]>
     ensures { option_map (λ bits. texts.values_of bits.now) result
@@ -204,7 +207,7 @@ fn is_name(word: &[u8]) -> bool
     match word {
         [] => false,
         [first, others @ ..] => {
-            starts_name(*first) && others.len() <= 31 && all_continue_name(others)
+            starts_name(*first) && others.len() <= MAX_LATER && all_continue_name(others)
         }
     }
 }
