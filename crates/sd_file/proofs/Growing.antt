@@ -1,5 +1,6 @@
 -- The pairs of one more node, and one more node, behind the earlier ones.
-use Rattle.std.proofs.Common.{◌≡◌, ℕ, suc, ◌+◌, ◌-◌, ◌≤◌, List, [], ◌∷◌, ◌++◌, map, length, take, drop, length-drop, refl, sym, ap, ◌∙◌}
+use Rattle.std.proofs.Common.{◌≡◌, ℕ, suc, ◌+◌, ◌-◌, ◌≤◌, List, [], ◌∷◌, ◌++◌, map, length, take, drop}
+use Rattle.std.proofs.Common.{length-drop, refl, sym, ap, ◌∙◌}
 use Rattle.std.proofs.Common.{arith, subst, Result, Ok, Err, ok_or, slice_index_or, append_assoc, length-append}
 use Rattle.std.proofs.lemmas.List.{take-append-le, drop-append-le, take_all, map_push}
 use Rattle.std.proofs.Math.Seq.{drop-append_seam}
@@ -22,7 +23,7 @@ put_more front y (Ok ys) = ap Ok (append_assoc front (y ∷ []) ys)
 put_more front y (Err e) = refl
 
 -- two readings, one after the other
-abbrev two : {A B E : Type 0} → Result A E → Result B E → Result (A × B) E
+abbrev pub two : {A B E : Type 0} → Result A E → Result B E → Result (A × B) E
 two r t = do
   x ← r
   y ← t
@@ -157,6 +158,7 @@ within_push before after (x ∷ kept) k within put last =
     (omega (arith, longer, within.0), within_push before after kept k within.1 put last)
 
 -- the ids of nodes do not depend on pairs
-pub ids_same : (kept : List Kept) (pairs : List (ℕ × ℕ)) → map (λ e. e.id) (entries_of kept pairs) ≡ map (λ k. k.id) kept
+pub ids_same : (kept : List Kept) (pairs : List (ℕ × ℕ))
+    → map (λ e. e.id) (entries_of kept pairs) ≡ map (λ k. k.id) kept
 ids_same [] pairs = refl
 ids_same (k ∷ kept) pairs = ap (λ ids. k.id ∷ ids) (ids_same kept pairs)

@@ -1,4 +1,5 @@
 pub mod FewWords
+pub mod FitLaws
 pub mod FormLaws
 pub mod Growing
 pub mod LineLaws

@@ -37,7 +37,8 @@ with_form : (v : ℕ) (kept : List Kept) (pairs : List (ℕ × ℕ)) (line : Tex
     → read_more (entry_of v) (entries_of kept pairs) line
     ≡ (placed v (kept_ids kept) line.number form >>= λ e. Ok (entries_of kept pairs ++ e ∷ []))
 with_form v kept pairs line form form-is =
-    let put : Result Entry SddFault → Result (List Entry) SddFault = λ r. r >>= λ e. Ok (entries_of kept pairs ++ e ∷ []) in
+    let put : Result Entry SddFault → Result (List Entry) SddFault =
+    λ r. r >>= λ e. Ok (entries_of kept pairs ++ e ∷ []) in
     let rest : Form → Result Entry SddFault = placed v (kept_ids kept) line.number in
     ap (λ ids. put (entry_with v ids line)) (ids_same kept pairs)
     ∙ ap (λ (o : Option Form). put (ok_or o (BadLine line.number) >>= rest)) form-is

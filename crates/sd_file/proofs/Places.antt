@@ -1,5 +1,6 @@
 -- The place of an id after one more id.
-use Rattle.std.proofs.Common.{◌≡◌, ℕ, ◌+◌, Bool, true, false, not, cond, eqb, ltb, List, [], ◌∷◌, ◌++◌, length, Option, Some, None, refl, sym, ap, ◌∙◌, arith, inl, inr}
+use Rattle.std.proofs.Common.{◌≡◌, ℕ, ◌+◌, Bool, true, false, not, cond, eqb, ltb, List, [], ◌∷◌, ◌++◌, length}
+use Rattle.std.proofs.Common.{Option, Some, None, refl, sym, ap, ◌∙◌, arith, inl, inr}
 use Rattle.std.specs.List.{position, position_or_len}
 use Rattle.std.proofs.lemmas.List.{length_push}
 use Rattle.std.proofs.lemmas.List.Folds.{position_or_len_push}
@@ -17,12 +18,14 @@ push_place : {X : Type 0} (p : X → Bool) (xs : List X) (x : X)
 push_place p xs x = elim (cases_lt (position_or_len p xs) (length xs)) [
   | inl found ↦
       let apart : eqb (position_or_len p xs) (length xs) ≡ false = ne_eqb _ _ (λ e. omega arith) in
-      let place : position_or_len p (xs ++ x ∷ []) ≡ position_or_len p xs = position_or_len_push p xs x ∙ rw apart refl in
+      let place : position_or_len p (xs ++ x ∷ []) ≡ position_or_len p xs =
+      position_or_len_push p xs x ∙ rw apart refl in
       let inside : ltb (position_or_len p xs) (length xs + 1) ≡ true = lt-ltb _ _ (omega arith) in
       rw (length_push xs x, place, inside, lt-ltb _ _ found) refl
   | inr past ↦
       let same : position_or_len p xs ≡ length xs = omega (arith, prefix_len-le-length (λ y. not (p y)) xs) in
-      let place : position_or_len p (xs ++ x ∷ []) ≡ length xs + cond (p x) 0 1 = position_or_len_push p xs x ∙ rw (eq-eqb _ _ same) refl in
+      let place : position_or_len p (xs ++ x ∷ []) ≡ length xs + cond (p x) 0 1 =
+      position_or_len_push p xs x ∙ rw (eq-eqb _ _ same) refl in
       rw (length_push xs x, place, le-ltb _ _ past) (at (p x) (length xs))
 ]
   where

@@ -1,7 +1,8 @@
 -- Worked examples.
 use Rattle.std.proofs.Common.{◌≡◌, [], ◌∷◌, refl, Ok, Err, pos, negsuc}
 use Rattle.std.specs.Prelude.{codes}
-use Rattle.sd_file.specs.declared.fault.SddFault.TheVariants.{BadLine, IdTwice, ChildUnknown, LiteralRange, CountDiffers, Empty}
+use Rattle.sd_file.specs.declared.fault.SddFault.TheVariants.{BadLine, IdTwice, ChildUnknown}
+use Rattle.sd_file.specs.declared.fault.SddFault.TheVariants.{LiteralRange, CountDiffers, Empty}
 use Rattle.sd_file.specs.Reads.{Constant, Literal, Decomposition, File, sdd_file}
 
 -- not compressed, ids with a gap, and ids of another vtree

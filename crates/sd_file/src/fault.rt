@@ -5,7 +5,8 @@ ghost use Rattle.std.specs.Prelude.{◌≡◌};
 use std::alloc::{AllocError, AllocFailed};
 use thiserror::Error;
 
-/// The first fault of a text, or want of memory. Lines are counted from 1, over all lines of the text.
+/// The first fault of a text, or want of memory. Lines are counted from 1, over all lines of the
+/// text.
 #[derive(Clone, Copy, Debug, PartialEq, Eq, Error)]
 pub enum SddFault {
     /// No line counts, or the first that does is not `sdd` and a number.

@@ -1,5 +1,8 @@
 //! The nodes of an SDD file.
 
+ghost use Rattle.std.specs.Prelude.{◌≡◌, ◌<◌, ◌≤◌, length, slice_get, Some};
+ghost use Rattle.sd_file.specs.Files.{entry_at, pairs_at, kind_of, IsEarlier, IsFile};
+
 use std::marker::Model;
 
 /// What a node is.
@@ -31,8 +34,9 @@ pub struct SddFile {
 }
 
 impl Model for SddFile {
-    ghost use Rattle.std.specs.Prelude.{◌≤◌, length};
+    ghost use Rattle.std.specs.Prelude.{length};
     ghost use Rattle.std.specs.List.{AllByRecursion};
+    ghost use Rattle.sd_file.specs.Files.{IsFile};
     ghost use Rattle.sd_file.specs.Reads.{File};
     ghost use Rattle.sd_file.specs.Steps.{entries_of, file_of, IsWithin};
 
@@ -41,5 +45,60 @@ impl Model for SddFile {
     ghost view = { λ f. file_of f.variables (entries_of f.kept.items f.pairs.items) };
 
     ghost invariant = { λ f. AllByRecursion (IsWithin (length f.pairs.items)) f.kept.items
-        × (length f.kept.items ≤ 67108864) };
+        × IsFile (file_of f.variables (entries_of f.kept.items f.pairs.items)) };
+}
+
+impl SddFile {
+    /// How many variables the file is over, also those that no literal names.
+    pub fn variables(&self) -> u32
+        ensures value { result ≡ self.now.variables }
+        ensures range { (1 ≤ result) × (result ≤ 1024) }
+    {
+        self.variables
+    }
+
+    /// How many nodes there are; the last one is the file's.
+    pub fn nodes(&self) -> u32
+        ensures value { result ≡ length self.now.nodes }
+        ensures range { (1 ≤ result) × (result ≤ 67108864) }
+    {
+        self.kept.len() as u32
+    }
+
+    /// The id of a node, counted from 0.
+    pub fn id(&self, index: u32) -> u64
+        requires { index < length self.now.nodes }
+        ensures { result ≡ (entry_at self.now index).id }
+    {
+        self.kept[index as usize].id
+    }
+
+    /// What a node is, counted from 0.
+    pub fn node(&self, index: u32) -> FileNode
+        requires { index < length self.now.nodes }
+        ensures { result ≡ kind_of (entry_at self.now index).node }
+    {
+        self.kept[index as usize].node
+    }
+
+    /// The prime and the sub of an element of a decomposition: both are numbers of earlier nodes.
+    pub fn pair(&self, index: u32, element: u32) -> (u32, u32)
+        requires node { index < length self.now.nodes }
+        requires element { element < length (pairs_at self.now index) }
+        ensures value { slice_get (pairs_at self.now index) element ≡ Some result }
+        ensures earlier { IsEarlier index result }
+    {
+        self.pair_in(index, element)
+    }
+
+    /// The pair of an element.
+    fn pair_in(&self, index: u32, element: u32) -> (u32, u32)
+        requires node { index < length self.now.nodes }
+        requires element { element < length (pairs_at self.now index) }
+        ensures value { slice_get (pairs_at self.now index) element ≡ Some result }
+        ensures file { IsFile self.now }
+    {
+        let kept = self.kept[index as usize];
+        self.pairs[kept.start + element as usize]
+    }
 }

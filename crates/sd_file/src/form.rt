@@ -1,7 +1,7 @@
 //! The four forms of a node line.
 
-ghost use Rattle.std.specs.Prelude.{◌≡◌, ◌≤◌, ◌*◌, ◌==◌, ◌&&◌, nat_le, length, IfOk, IfSome};
-ghost use Rattle.std.specs.Prelude.{option_map, option_and_then};
+ghost use Rattle.std.specs.Prelude.{◌≡◌, ◌≤◌, ◌*◌, ◌==◌, ◌&&◌, nat_le, length};
+ghost use Rattle.std.specs.Prelude.{IfOk, IfSome, option_map, option_and_then};
 ghost use Rattle.sd_base.specs.Numbers.{natural_value};
 ghost use Rattle.sd_base.specs.Views.{words_left, line_view};
 ghost use Rattle.sd_file.specs.Reads as texts;
@@ -65,7 +65,8 @@ pub(crate) fn form_of(alloc: Global, line: &Line<'_>) -> Result<Option<Form>, Al
 
 /// The constant of the words after the letter.
 fn constant_form(value: bool, mut words: Words<'_>) -> Option<Form>
-    ensures form { option_map form_view result ≡ texts.constant_form value (words_left words.entry) }
+    ensures form { option_map form_view result
+        ≡ texts.constant_form value (words_left words.entry) }
     ensures none { IfSome result (λ f. children_count f ≡ 0) }
 {
     let id = natural(words.next()?)?;
@@ -110,7 +111,8 @@ fn naturals(alloc: Global, words: Words<'_>) -> Result<Option<Vec<u64>>, AllocEr
 /// The decomposition of the words after the letter.
 fn decomposition_form(alloc: Global, words: Words<'_>) -> Result<Option<Form>, AllocError>
     ensures form { IfOk result (λ form. option_map form_view form
-        ≡ option_and_then texts.decomposition_form (all_values natural_value (words_left words.entry))) }
+        ≡ option_and_then texts.decomposition_form
+        (all_values natural_value (words_left words.entry))) }
     ensures few { IfOk result (λ form. IfSome form
         (λ f. children_count f ≤ length (words_left words.entry))) }
 {

@@ -1,10 +1,12 @@
 //! The earlier nodes, with the place of each id.
 
-ghost use Rattle.std.specs.Prelude.{◌≡◌, ◌≤◌, ◌<◌, ◌+◌, ◌^◌, ◌++◌, [], ◌∷◌, length, OnOk, IfOk, ok_or, None, is_some};
+ghost use Rattle.std.specs.Prelude.{◌≡◌, ◌≤◌, ◌<◌, ◌+◌, ◌^◌, ◌++◌, [], ◌∷◌, length};
+ghost use Rattle.std.specs.Prelude.{OnOk, IfOk, ok_or, None, is_some};
 ghost use Rattle.sd_base.specs.Reading.{each};
 ghost use Rattle.sd_file.specs.Reads as texts;
 ghost use Rattle.sd_file.specs.Reads.{Gives};
-ghost use Rattle.sd_file.specs.Steps.{form_view, children_count, count_of, node_in, put_before, ids_of, IsIndexed, IsPutIn};
+ghost use Rattle.sd_file.specs.Steps.{form_view, children_count, count_of, node_in, put_before};
+ghost use Rattle.sd_file.specs.Steps.{ids_of, IsIndexed, IsPutIn};
 
 use crate::fault::SddFault;
 use crate::file::{FileNode, Kept};

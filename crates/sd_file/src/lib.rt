@@ -1,6 +1,6 @@
 //! SDD files: the nodes that a text stands for, or its first fault.
-//! The format is that of the SDD Package 2.0; ids may be any distinct numbers. A caller sees a reading as
-//! `sdd_file` of `specs/Reads.antt`.
+//! The format is that of the SDD Package 2.0; ids may be any distinct numbers. A caller sees a
+//! reading as `sdd_file` of `specs/Reads.antt`.
 #![tactic(auto)]
 
 mod fault;

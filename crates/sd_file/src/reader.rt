@@ -4,6 +4,7 @@ ghost use Rattle.std.specs.Prelude.{◌≡◌, ◌≤◌, ◌+◌, ◌++◌, [],
 ghost use Rattle.std.specs.List.{AllByRecursion};
 ghost use Rattle.sd_base.specs.Reading.{each_after, read_more};
 ghost use Rattle.sd_base.specs.Views.{line_view, content_left};
+ghost use Rattle.sd_file.specs.Files.{FitFrom, IsFile};
 ghost use Rattle.sd_file.specs.Reads as texts;
 ghost use Rattle.sd_file.specs.Reads.{Fails, Gives, sdd_file};
 ghost use Rattle.sd_file.specs.Steps.{nodes_view, entries_of, IsRead, word_count};
@@ -40,7 +41,8 @@ impl Nodes {
     /// Puts the node of one more line behind the others.
     fn read_line(&mut self, variables: u32, line: &Line<'_>) -> Result<(), SddFault>
         requires range { variables ≤ 1024 }
-        requires few { length self.old.known.kept.items + length (line_view line.now).words ≤ 67108864 }
+        requires few { length self.old.known.kept.items + length (line_view line.now).words
+            ≤ 67108864 }
         requires read { IsRead self.old }
         ensures value { Gives (λ _. nodes_view self.new) result
             (read_more (texts.entry_of variables) (nodes_view self.old) (line_view line.now)) }
@@ -99,15 +101,16 @@ fn stated_by(line: &Line<'_>) -> Option<u64>
 /// The file over the variables 1 to `variables` that a text stands for, or the text's first fault.
 ///
 /// There are 1 to 1,024 variables, and the text has at most 67,108,864 bytes. The first line that
-/// counts is `sdd N`, and each of the N others, at least one, is `F id`, `T id`, `L id vtree literal`
-/// or `D id vtree k p1 s1 ..` with k pairs of ids of earlier lines, at least one. Blank lines and
-/// lines that begin with `c` do not count. Any text may answer `OutOfMemory`.
+/// counts is `sdd N`, and each of the N others, at least one, is `F id`, `T id`,
+/// `L id vtree literal` or `D id vtree k p1 s1 ..` with k pairs of ids of earlier lines, at least
+/// one. Blank lines and lines that begin with `c` do not count. Any text may answer `OutOfMemory`.
 pub fn read_sdd(alloc: Global, bytes: &[u8], variables: u32) -> Result<SddFile, SddFault>
     requires some { 1 ≤ variables }
     requires few { variables ≤ 1024 }
     requires short { length bytes.now ≤ 67108864 }
     ensures ok { IfOk result (λ f. sdd_file variables bytes.now ≡ Ok f) }
     ensures fault { IfErr result (λ e. Fails e (sdd_file variables bytes.now)) }
+    ensures fit { IfOk result IsFile }
 {
     read_text(alloc, bytes, variables)
 }
@@ -115,6 +118,7 @@ pub fn read_sdd(alloc: Global, bytes: &[u8], variables: u32) -> Result<SddFile, 
 /// The file of a text.
 #[tactic(auto, unfolding(crate::specs::Reads::sdd_file))]
 fn read_text(alloc: Global, bytes: &[u8], variables: u32) -> Result<SddFile, SddFault>
+    requires some { 1 ≤ variables }
     requires few { variables ≤ 1024 }
     requires short { length bytes.now ≤ 67108864 }
     ensures { Gives (λ f. f) result (sdd_file variables bytes.now) }
@@ -132,7 +136,10 @@ fn read_text(alloc: Global, bytes: &[u8], variables: u32) -> Result<SddFile, Sdd
 
 /// The file of these nodes, where the header states their number.
 fn finish(variables: u32, stated: u64, nodes: Nodes) -> Result<SddFile, SddFault>
+    requires some { 1 ≤ variables }
+    requires range { variables ≤ 1024 }
     requires few { length nodes.known.kept.items ≤ 67108864 }
+    requires fit { FitFrom variables 0 (nodes_view nodes) }
     requires read { IsRead nodes }
     ensures { Gives (λ f. f) result (texts.finish variables stated (nodes_view nodes)) }
 {

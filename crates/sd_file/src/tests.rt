@@ -1,13 +1,42 @@
 use super::*;
+use std::alloc::Global;
+use std::ops::Range;
 use std::test::Fail;
 
 /// A file of another tool: its ids have a gap, and its decomposition is not compressed.
 const ELSEWHERE: &[u8] = b"c made elsewhere\nsdd 4\nL 0 9 1\nL 1 9 -1\nL 3 7 2\nD 2 8 2 0 3 1 3\n";
 
+/// The text of `(1 and 2) or (3 and 4)` over the balanced tree.
+const TWO_PAIRS: &[u8] = b"sdd 13\nL 0 0 -1\nF 1\nL 2 0 1\nL 3 2 2\nD 4 1 2 0 1 2 3\nT 5\n\
+    L 6 2 -2\nD 7 1 2 0 5 2 6\nL 8 4 -3\nL 9 4 3\nL 10 6 4\nD 11 5 2 8 1 9 10\nD 12 3 2 4 5 7 11\n";
+
+const fn bad(line: u32) -> SddFault {
+    SddFault::BadLine { line }
+}
+
+const fn found(found: u64) -> SddFault {
+    SddFault::CountDiffers { stated: 13, found }
+}
+
 #[test]
 fn file_of_another_tool(rt: HostRuntime) -> Result<(), Fail> {
     let file = read_sdd(rt.alloc(), ELSEWHERE, 2)?;
-    assert_eq!(rt; file.kept.len(), 4);
+    assert_eq!(rt; file.variables(), 2);
+    assert_eq!(rt; file.nodes(), 4);
+    assert_eq!(rt; file.id(2), 3);
+    assert_eq!(rt;
+        file.node(1),
+        FileNode::Literal {
+            vtree: 9,
+            literal: -1
+        }
+    );
+    assert_eq!(rt;
+        file.node(3),
+        FileNode::Decomposition { vtree: 8, count: 2 }
+    );
+    assert_eq!(rt; file.pair(3, 0), (0, 2));
+    assert_eq!(rt; file.pair(3, 1), (1, 2));
     Ok(())
 }
 
@@ -43,9 +72,77 @@ fn each_fault(rt: HostRuntime) {
         (b"sdd 0\n", SddFault::Empty),
     ];
     for (text, expected) in rows {
+        let answer = read_sdd(rt.alloc(), text, 2);
         assert!(rt;
-            matches!(read_sdd(rt.alloc(), text, 2), Err(fault) if fault == expected),
+            matches!(answer, Err(fault) if fault == expected),
             "{text:?}"
         );
+    }
+}
+
+/// The reading of the first bytes.
+fn read_prefix(alloc: Global, length: usize) -> Result<SddFile, SddFault> {
+    let end = length.min(TWO_PAIRS.len());
+    read_sdd(alloc, &TWO_PAIRS[..end], 4)
+}
+
+/// Whether the prefixes of these lengths have a fault.
+fn all_have(alloc: Global, lengths: Range<usize>, expected: SddFault) -> bool {
+    for length in lengths {
+        if !matches!(read_prefix(alloc, length), Err(fault) if fault == expected) {
+            return false;
+        }
+    }
+    true
+}
+
+#[test]
+fn each_prefix(rt: HostRuntime) {
+    let rows = [
+        (0..5, SddFault::NoHeader),
+        (
+            5..6,
+            SddFault::CountDiffers {
+                stated: 1,
+                found: 0,
+            },
+        ),
+        (6..8, found(0)),
+        (8..15, bad(2)),
+        (15..17, found(1)),
+        (17..19, bad(3)),
+        (19..21, found(2)),
+        (21..27, bad(4)),
+        (27..29, found(3)),
+        (29..35, bad(5)),
+        (35..37, found(4)),
+        (37..51, bad(6)),
+        (51..53, found(5)),
+        (53..55, bad(7)),
+        (55..57, found(6)),
+        (57..64, bad(8)),
+        (64..66, found(7)),
+        (66..80, bad(9)),
+        (80..82, found(8)),
+        (82..89, bad(10)),
+        (89..91, found(9)),
+        (91..97, bad(11)),
+        (97..99, found(10)),
+        (99..106, bad(12)),
+        (106..108, found(11)),
+        (108..123, bad(13)),
+        (123..126, found(12)),
+        (126..141, bad(14)),
+    ];
+    for (lengths, expected) in rows {
+        assert!(rt; all_have(rt.alloc(), lengths, expected), "{expected:?}");
+    }
+}
+
+/// The last byte of a text may be missing where it is a line feed, or where a shorter number is left.
+#[test]
+fn nothing_missing(rt: HostRuntime) {
+    for length in [141, 142, 143] {
+        assert!(rt; read_prefix(rt.alloc(), length).is_ok(), "{length}");
     }
 }

@@ -1,4 +1,7 @@
-use Rattle.std.proofs.Common.{sym, ◌∙◌, arith}
+use Rattle.std.proofs.Common.{sym, ◌∙◌, arith, []}
+use Rattle.sd_base.specs.Views.{content_left}
+use Rattle.sd_file.specs.Steps.{nodes_view}
+use Rattle.sd_file.proofs.FitLaws.{after_fits}
 use Rattle.sd_file.proofs.FewWords.{few_words}
 use Rattle.sd_file.proofs.reader.read_text.Goals as goal
 
@@ -7,3 +10,9 @@ pub read_nodes-requires-clause-few : goal.read_nodes-requires-clause-few
 read_nodes-requires-clause-few c =
     let lines = sym c.new-lines.ensures ∙ c.in-Some.ensures.steps in
     omega (arith, few_words c.args.bytes.now _ _ lines, c.requires.short)
+
+-- an accepted text fits
+pub finish-requires-clause-fit : goal.finish-requires-clause-fit
+finish-requires-clause-fit c =
+    after_fits c.args.variables (content_left c.next.new.self) [] (nodes_view c.in_ok-nodes.nodes) tt
+    c.in_ok-nodes.ensures.value

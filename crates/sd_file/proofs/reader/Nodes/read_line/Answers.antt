@@ -49,7 +49,8 @@ returns-clause-read c =
     let after = c.node_of.new.pairs.items in
     let kept = c.args.self.now.known.kept.items in
     let k : Kept = record { id = c.id-id.result; node = c.in_ok-node.node; start = c.len-start.result } in
-    let last : IsWithin (length after) k = omega (arith, c.len-start.ensures, c.args.self.now.pairs.ok.0, c.in_ok-node.ensures.within) in
+    let last : IsWithin (length after) k =
+    omega (arith, c.len-start.ensures, c.args.self.now.pairs.ok.0, c.in_ok-node.ensures.within) in
     let within = within_push before after kept k c.requires.read.within c.in_ok-node.ensures.put last in
     record {
       indexed = c.in_ok-add.ensures.indexed;

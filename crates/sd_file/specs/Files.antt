@@ -1,0 +1,56 @@
+-- What the nodes of a file show of themselves, and what is known of each.
+use Rattle.std.specs.Prelude.{ℕ, ◌+◌, ◌≤◌, ◌<◌, false, List, [], ◌∷◌, length, slice_index_or, unsigned_abs}
+use Rattle.std.specs.List.{AllByRecursion}
+use Rattle.sd_file.specs.declared.file.FileNode.{FileNode}
+use Rattle.sd_file.specs.declared.file.FileNode.TheVariants as kinds
+use Rattle.sd_file.specs.Reads.{Node, Constant, Literal, Decomposition, Entry, File}
+
+-- no node
+abbrev pub no_entry : Entry
+no_entry = record { id = 0; node = Constant false }
+
+-- the entry of a number, counted from 0
+abbrev pub entry_at : File → ℕ → Entry
+entry_at f index = slice_index_or f.nodes index no_entry
+
+-- the pairs of a node
+abbrev pub pairs_in : Node → List (ℕ × ℕ)
+pairs_in (Constant value) = []
+pairs_in (Literal vtree literal) = []
+pairs_in (Decomposition vtree pairs) = pairs
+
+-- the pairs of the node of a number
+abbrev pub pairs_at : File → ℕ → List (ℕ × ℕ)
+pairs_at f index = pairs_in (entry_at f index).node
+
+-- what a node is, with the number of its pairs
+abbrev pub kind_of : Node → FileNode
+kind_of (Constant value) = kinds.Constant value
+kind_of (Literal vtree literal) = kinds.Literal vtree literal
+kind_of (Decomposition vtree pairs) = kinds.Decomposition vtree (length pairs)
+
+-- ---- what is known of a file
+
+-- a prime and a sub that are numbers of earlier nodes
+pub record IsEarlier (index : ℕ) (pair : ℕ × ℕ) : Type 0 where
+  pub prime : pair.0 < index
+  pub sub : pair.1 < index
+
+-- a literal is of a variable of 1 to v, and primes and subs are earlier nodes
+abbrev pub FitsAt : ℕ → ℕ → Node → Type 0
+FitsAt v index (Constant value) = Unit {0}
+FitsAt v index (Literal vtree literal) = (1 ≤ unsigned_abs literal) × (unsigned_abs literal ≤ v)
+FitsAt v index (Decomposition vtree pairs) = AllByRecursion (IsEarlier index) pairs
+
+-- this is so of each entry, where the first has a number
+abbrev pub FitFrom : ℕ → ℕ → List Entry → Type 0
+FitFrom v index [] = Unit {0}
+FitFrom v index (e ∷ es) = FitsAt v index e.node × FitFrom v (1 + index) es
+
+-- 1 to 1,024 variables, 1 to 67,108,864 nodes, and each fits behind the earlier ones
+pub record IsFile (f : File) : Type 0 where
+  pub some : 1 ≤ f.variables
+  pub few : f.variables ≤ 1024
+  pub filled : 1 ≤ length f.nodes
+  pub count : length f.nodes ≤ 67108864
+  pub fit : FitFrom f.variables 0 f.nodes
