@@ -1,15 +1,12 @@
 -- Partitions of the root of the vtree of the variables 1 and 2. By codes, 2 and 3 are the literals of 1, and 4 is 2.
 use Rattle.std.proofs.Common.{◌≡◌, ℕ, Bool, true, false, cond, not, List, [], ◌∷◌, length, Some, slice_get}
 use Rattle.std.proofs.Common.{refl, sym, ap, subst, ◌∙◌}
-use Rattle.std.specs.FinMap.{get}
 use Rattle.sd_model.specs.Assignment.{value_in}
-use Rattle.sd_model.specs.Tree.{Tree, Leaf, Node}
+use Rattle.sd_model.specs.Tree.{Leaf, Node}
 use Rattle.sd_model.specs.Diagram.{Diagram, Bottom, Top, Literal}
 use Rattle.sd_model.specs.Canonical.{canonical_top, canonical_bottom, canonical_literal}
 use Rattle.sd_vtree.specs.Numbered.{Numbered, NumberedLeaf, NumberedNode, number_of, numbers, forget}
-use Rattle.sd_laws.specs.Pairs.{answers}
 use Rattle.sd_laws.specs.Parts.{IsPart, here, leaf_position, IsInner}
-use Rattle.sd_laws.specs.Shown.{Lookup, ShowPairs, IsSplitAt}
 use Rattle.sd_manager.specs.Table.{Table}
 use Rattle.sd_manager.specs.Shown.{IsPartitionAt}
 use Rattle.sd_manager.specs.OverTwo.{IsOverTwo}

@@ -229,7 +229,9 @@ impl Manager {
             meaning x given ≡ meaning y given) }
         ensures table { IsTable self.now }
     {
-        self.node_of(a) == self.node_of(b)
+        let first = self.node_of(a);
+        let second = self.node_of(b);
+        first == second
     }
 
     /// The value of a root under an assignment, which has one truth value for each variable.
