@@ -62,8 +62,10 @@ unfolding IsStrictlySortedBy
 put-ascends key x [] a h = (tt, tt)
 put-ascends {X} key x (y ∷ ys) a h = go (put-ascends key x ys a.1 h.1) (is_lt (diagram_cmp (key x) (key y))) refl
   where
-    go : IsStrictlySortedBy diagram_cmp (map key (put key x ys)) → (b : Bool) → is_lt (diagram_cmp (key x) (key y)) ≡ b →
-        IsStrictlySortedBy diagram_cmp (map key (cond (is_lt (diagram_cmp (key x) (key y))) (x ∷ y ∷ ys) (y ∷ put key x ys)))
+    go : IsStrictlySortedBy diagram_cmp (map key (put key x ys)) → (b : Bool) →
+        is_lt (diagram_cmp (key x) (key y)) ≡ b →
+        IsStrictlySortedBy diagram_cmp
+        (map key (cond (is_lt (diagram_cmp (key x) (key y))) (x ∷ y ∷ ys) (y ∷ put key x ys)))
     go ih true e =
         let less : diagram_cmp (key x) (key y) ≡ Less = less_from_test (key x) (key y) e in
         rw e (

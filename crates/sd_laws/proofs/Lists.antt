@@ -1,6 +1,6 @@
 -- Lists in another order, two lists side by side, and lists that ascend strictly.
-use Rattle.std.proofs.Common.{◌≡◌, ◌⊎◌, inl, inr, ℕ, true, false, cond, List, [], ◌∷◌, map}
-use Rattle.std.proofs.Common.{get_or, refl, sym, ◌∙◌, ap, subst}
+use Rattle.std.proofs.Common.{◌≡◌, ◌⊎◌, inl, inr, ℕ, zero, suc, length, ◌<◌, arith, true, false, cond, List, [], ◌∷◌, map}
+use Rattle.std.proofs.Common.{take, drop, ◌++◌, ◌≤◌, get_or, refl, sym, ◌∙◌, ap, subst}
 use Rattle.std.specs.Prelude.{swap, Contains}
 use Rattle.std.specs.List.{AllByRecursion, AllZip}
 use Rattle.std.specs.List.Sorted.{IsPermutation, apply_swaps, SwapsInRange, IsStrictlySortedBy}
@@ -153,6 +153,63 @@ second-permuted {A} {B} R xs ys vs h p =
           (related_lists R l.0
           (all-permuted (λ (z : A × B). R z.0 z.1) zs l.0 l.1 (each_related R xs ys h))),
     )
+
+-- two related lists are equally long
+pub zip_length : {A B : Type 0} (R : A → B → Type 0) (xs : List A) (ys : List B) → AllZip R xs ys →
+    length xs ≡ length ys
+zip_length R [] [] h = refl
+zip_length R [] (y ∷ ys) h = absurd h
+zip_length R (x ∷ xs) [] h = absurd h
+zip_length R (x ∷ xs) (y ∷ ys) h = ap suc (zip_length R xs ys h.1)
+
+-- what follows of each pair
+pub zip_weaker : {A B : Type 0} (P Q : A → B → Type 0) → ((x : A) (y : B) → P x y → Q x y) → (xs : List A)
+    (ys : List B) → AllZip P xs ys → AllZip Q xs ys
+zip_weaker P Q f [] [] h = tt
+zip_weaker P Q f [] (y ∷ ys) h = h
+zip_weaker P Q f (x ∷ xs) [] h = h
+zip_weaker P Q f (x ∷ xs) (y ∷ ys) h = (f x y h.0, zip_weaker P Q f xs ys h.1)
+
+-- one more of each
+pub zip_push : {A B : Type 0} (R : A → B → Type 0) (xs : List A) (ys : List B) (x : A) (y : B) → AllZip R xs ys →
+    R x y → AllZip R (xs ++ x ∷ []) (ys ++ y ∷ [])
+zip_push R [] [] x y h r = (r, tt)
+zip_push R [] (z ∷ ys) x y h r = absurd h
+zip_push R (z ∷ xs) [] x y h r = absurd h
+zip_push R (z ∷ xs) (w ∷ ys) x y h r = (h.0, zip_push R xs ys x y h.1 r)
+
+-- what stands beside the element at an index, and follows the elements before it
+pub record Beside {A B : Type 0} (R : A → B → Type 0) (x : A) (ys : List B) (i : ℕ) : Type 0 where
+  pub other : B
+  pub related : R x other
+  pub more : take (suc i) ys ≡ take i ys ++ other ∷ []
+  pub rest : drop i ys ≡ other ∷ drop (suc i) ys
+
+-- each element of the first list has it
+pub beside : {A B : Type 0} (R : A → B → Type 0) (xs : List A) (ys : List B) (i : ℕ) (x d : A) → AllZip R xs ys →
+    i < length xs → x ≡ get_or xs i d → Beside R x ys i
+beside R [] ys i x d h lt e = absurd (omega arith)
+beside R (z ∷ xs) [] i x d h lt e = absurd h
+beside R (z ∷ xs) (y ∷ ys) zero x d h lt e =
+    record { other = y; related = subst (λ v. R v y) (sym e) h.0; more = refl; rest = refl }
+beside R (z ∷ xs) (y ∷ ys) (suc i) x d h lt e =
+    let k = beside R xs ys i x d h.1 (omega arith) e in
+    record { other = k.other; related = k.related; more = ap (λ l. y ∷ l) k.more; rest = k.rest }
+
+-- of nothing nothing is taken and nothing is left
+of_nothing : {B : Type 0} (i : ℕ) → (take {A = B} i [] ≡ []) × (drop {A = B} i [] ≡ [])
+of_nothing zero = (refl, refl)
+of_nothing (suc i) = (refl, refl)
+
+-- at the end the whole list was read
+pub zip_whole : {A B : Type 0} (R : A → B → Type 0) (xs : List A) (ys : List B) (i : ℕ) → AllZip R xs ys →
+    length xs ≤ i → (take i ys ≡ ys) × (drop i ys ≡ [])
+zip_whole R [] [] i h le = of_nothing i
+zip_whole R [] (y ∷ ys) i h le = absurd h
+zip_whole R (x ∷ xs) [] i h le = absurd h
+zip_whole R (x ∷ xs) (y ∷ ys) zero h le = absurd (omega arith)
+zip_whole R (x ∷ xs) (y ∷ ys) (suc i) h le =
+    let k = zip_whole R xs ys i h.1 (omega arith) in (ap (λ l. y ∷ l) k.0, k.1)
 
 -- each element of the first list has a related one of the second
 pub second_at : {A B : Type 0} (R : A → B → Type 0) (xs : List A) (ys : List B) → AllZip R xs ys → (x : A) →

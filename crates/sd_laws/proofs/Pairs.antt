@@ -129,7 +129,8 @@ answers-at a (x ∷ ds) d m e h = go m (λ k h'. answers-at a ds d k e h') (mean
     empty (b ∷ bs) e = absurd (omega arith)
 
     go : (d ≡ x) ⊎ IsAmong d ds → (IsAmong d ds → length (answers a ds) ≡ 1 → answers a ds ≡ meaning d.1 a ∷ []) →
-        (b : Bool) → meaning x.0 a ≡ b → length (cond (meaning x.0 a) (meaning x.1 a ∷ answers a ds) (answers a ds)) ≡ 1 →
+        (b : Bool) → meaning x.0 a ≡ b →
+        length (cond (meaning x.0 a) (meaning x.1 a ∷ answers a ds) (answers a ds)) ≡ 1 →
         cond (meaning x.0 a) (meaning x.1 a ∷ answers a ds) (answers a ds) ≡ meaning d.1 a ∷ []
     go (inl k) ih true f h =
         let h' : suc (length (answers a ds)) ≡ 1 = rw f at h in

@@ -12,6 +12,7 @@ use Rattle.sd_model.proofs.Blend.{value_left, value_right, depends}
 use Rattle.sd_model.proofs.Valued.{Decomposes, parts, constant_only}
 use Rattle.sd_model.proofs.Dependence.{DependsBeside, depends_on_left, depends_on_right}
 use Rattle.sd_model.proofs.Unique.{unique}
+pub use Rattle.sd_laws.specs.Depends.{DependsOn}
 use Rattle.sd_laws.specs.Parts.{IsPart, here, in_left, in_right, HasPosition}
 use Rattle.sd_laws.proofs.Joining.{lift_left, lift_right}
 
@@ -41,10 +42,6 @@ pub same-diagram : (n : ℕ) {s t : Tree} {c b : ℕ} → IsApart n t → IsPart
 same-diagram n apart part d e k j same = unique n (part_apart n part apart) k j same
 
 -- what depends on a subtree's variables
-
--- f has one value under assignments that agree on the tree
-abbrev pub DependsOn : Tree → (List Bool → Bool) → Type 0
-DependsOn t f = (a b : List Bool) → AgreeOn t a b → f a ≡ f b
 
 -- what agrees on a tree agrees on its subtrees
 pub part_agree : {s t : Tree} {c b : ℕ} → IsPart s c t b → (x y : List Bool) → AgreeOn t x y → AgreeOn s x y
