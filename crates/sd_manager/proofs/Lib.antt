@@ -1,0 +1,10 @@
+pub mod Held
+pub mod Totals
+pub mod Counted
+pub mod Valid
+pub mod Holding
+pub mod Reading
+pub mod Same
+pub mod Evaluating
+pub mod Linking
+pub mod OverTwo

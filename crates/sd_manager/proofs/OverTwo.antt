@@ -1,0 +1,99 @@
+-- Partitions of the root of the vtree of the variables 1 and 2. By codes, 2 and 3 are the literals of 1, and 4 is 2.
+use Rattle.std.proofs.Common.{◌≡◌, ℕ, Bool, true, false, cond, not, List, [], ◌∷◌, length, Some, slice_get}
+use Rattle.std.proofs.Common.{refl, sym, ap, subst, ◌∙◌}
+use Rattle.std.specs.FinMap.{get}
+use Rattle.sd_model.specs.Assignment.{value_in}
+use Rattle.sd_model.specs.Tree.{Tree, Leaf, Node}
+use Rattle.sd_model.specs.Diagram.{Diagram, Bottom, Top, Literal}
+use Rattle.sd_model.specs.Canonical.{canonical_top, canonical_bottom, canonical_literal}
+use Rattle.sd_vtree.specs.Numbered.{Numbered, NumberedLeaf, NumberedNode, number_of, numbers, forget}
+use Rattle.sd_laws.specs.Pairs.{answers}
+use Rattle.sd_laws.specs.Parts.{IsPart, here, leaf_position, IsInner}
+use Rattle.sd_laws.specs.Shown.{Lookup, ShowPairs, IsSplitAt}
+use Rattle.sd_manager.specs.Table.{Table}
+use Rattle.sd_manager.specs.Shown.{IsPartitionAt}
+use Rattle.sd_manager.specs.OverTwo.{IsOverTwo}
+
+-- the partition of `1 or 2`
+abbrev pub clause : List (Diagram × Diagram)
+clause = (Literal 0 1 false, Literal 2 2 true) ∷ (Literal 0 1 true, Top) ∷ []
+
+-- the partition of `1`
+abbrev pub literal : List (Diagram × Diagram)
+literal = (Literal 0 1 false, Bottom) ∷ (Literal 0 1 true, Top) ∷ []
+
+-- the root is the inner node over both leaves
+root_inner : (v : Numbered) (root : ℕ) → forget v ≡ Node (Leaf 1) (Leaf 2) → root ≡ number_of v →
+    IsInner v root (Leaf 1) (Leaf 2) 0
+root_inner v root tree is = record {
+  part = subst (λ t. IsPart (Node (Leaf 1) (Leaf 2)) 0 t 0) (sym tree) here;
+  number = second v tree ∙ ap Some (sym is);
+}
+  where
+    second : (v : Numbered) → forget v ≡ Node (Leaf 1) (Leaf 2) → slice_get (numbers v) 1 ≡ Some (number_of v)
+    second (NumberedLeaf n x) e = cc
+    second (NumberedNode n (NumberedLeaf a x) r) e = refl
+    second (NumberedNode n (NumberedNode a x y) r) e = cc
+
+-- one of the two literals of 1 is true
+one_of_two : (b : Bool) (x y : Bool) → length (cond (not b) (x ∷ cond b (y ∷ []) []) (cond b (y ∷ []) [])) ≡ 1
+one_of_two true x y = refl
+one_of_two false x y = refl
+
+pub clause_partition : (t : Table) (root : ℕ) → IsOverTwo t root →
+    IsPartitionAt t root ((3, 4) ∷ (2, 1) ∷ []) clause
+clause_partition t root h =
+    let one = ap (λ s. leaf_position s 0 1) h.vtree in
+    let two = ap (λ s. leaf_position s 0 2) h.vtree in
+    record {
+      left = Leaf 1;
+      right = Leaf 2;
+      base = 0;
+      inner = root_inner t.vtree root h.vtree h.root_is;
+      shown = (((refl, one), (refl, two)), (((refl, one), refl), tt));
+      split = record {
+        elements = record {
+          primes = (canonical_literal false, (canonical_literal true, tt));
+          subs = (canonical_literal true, (canonical_top, tt));
+          possible = (λ e. cc, (λ e. cc, tt));
+        };
+        one_true = λ a. one_of_two (value_in a 1) (value_in a 2) true;
+      };
+    }
+
+pub literal_partition : (t : Table) (root : ℕ) → IsOverTwo t root →
+    IsPartitionAt t root ((3, 0) ∷ (2, 1) ∷ []) literal
+literal_partition t root h =
+    let one = ap (λ s. leaf_position s 0 1) h.vtree in
+    record {
+      left = Leaf 1;
+      right = Leaf 2;
+      base = 0;
+      inner = root_inner t.vtree root h.vtree h.root_is;
+      shown = (((refl, one), refl), (((refl, one), refl), tt));
+      split = record {
+        elements = record {
+          primes = (canonical_literal false, (canonical_literal true, tt));
+          subs = (canonical_bottom, (canonical_top, tt));
+          possible = (λ e. cc, (λ e. cc, tt));
+        };
+        one_true = λ a. one_of_two (value_in a 1) false true;
+      };
+    }
+
+-- the same by equal codes
+pub clause_asked : (t : Table) (root w x y z : ℕ) → IsOverTwo t root → w ≡ 3 → x ≡ 4 → y ≡ 2 → z ≡ 1 →
+    (ds : List (Diagram × Diagram)) × IsPartitionAt t root ((w, x) ∷ (y, z) ∷ []) ds
+clause_asked t root w x y z h a b c d =
+    let Asked : ℕ → ℕ → ℕ → ℕ → Type 0 =
+    λ w x y z. (ds : List (Diagram × Diagram)) × IsPartitionAt t root ((w, x) ∷ (y, z) ∷ []) ds in
+    subst (λ n. Asked n x y z) (sym a) (subst (λ n. Asked 3 n y z) (sym b) (subst (λ n. Asked 3 4 n z) (sym c)
+    (subst (λ n. Asked 3 4 2 n) (sym d) (clause, clause_partition t root h))))
+
+pub literal_asked : (t : Table) (root w x y z : ℕ) → IsOverTwo t root → w ≡ 3 → x ≡ 0 → y ≡ 2 → z ≡ 1 →
+    (ds : List (Diagram × Diagram)) × IsPartitionAt t root ((w, x) ∷ (y, z) ∷ []) ds
+literal_asked t root w x y z h a b c d =
+    let Asked : ℕ → ℕ → ℕ → ℕ → Type 0 =
+    λ w x y z. (ds : List (Diagram × Diagram)) × IsPartitionAt t root ((w, x) ∷ (y, z) ∷ []) ds in
+    subst (λ n. Asked n x y z) (sym a) (subst (λ n. Asked 3 n y z) (sym b) (subst (λ n. Asked 3 0 n z) (sym c)
+    (subst (λ n. Asked 3 0 2 n) (sym d) (literal, literal_partition t root h))))

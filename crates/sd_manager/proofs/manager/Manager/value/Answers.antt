@@ -1,0 +1,25 @@
+use Rattle.std.proofs.Common.{ap, arith}
+use Rattle.sd_model.specs.Tree.{leaves}
+use Rattle.sd_vtree.specs.Numbered.{forget}
+use Rattle.sd_laws.proofs.Depths.{depth-canonical}
+use Rattle.sd_manager.proofs.Same.{held_code}
+use Rattle.sd_manager.proofs.manager.Manager.value.Goals as goal
+
+pub value_below-requires-clause-known : goal.value_below-requires-clause-known
+value_below-requires-clause-known c =
+    let is = held_code c.args.self.now c.args.root.now c.node_of.result c.requires.held.0 c.node_of.ensures.held
+    c.requires.held.1 in (
+      c.requires.held.0,
+      is,
+      omega (
+        arith,
+        depth-canonical is.canonical,
+        c.variables.ensures.count,
+        ap (λ t. leaves (forget t.vtree)) c.self.view_is,
+      ),
+    )
+
+pub returns-clause-value : goal.returns-clause-value
+returns-clause-value c = λ d h.
+    c.value_below.ensures d
+    (held_code c.args.self.now c.args.root.now c.node_of.result d c.node_of.ensures.held h)

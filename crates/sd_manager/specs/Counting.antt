@@ -1,0 +1,28 @@
+-- The uses of the nodes, as they are counted.
+use Rattle.std.specs.Prelude.{◌≡◌, ℕ, ◌+◌, ◌-◌, ◌≤◌, List, ◌==◌, if◌then◌else◌}
+use Rattle.std.specs.List.{AllByRecursion}
+use Rattle.std.specs.Option.{IsSome, option_map}
+use Rattle.std.specs.FinMap.{get}
+use Rattle.sd_unique.specs.Nodes.{Nodes}
+
+-- 1 where the codes are equal
+abbrev pub counts_one : ℕ → ℕ → ℕ
+counts_one c code = if code == c then 1 else 0
+
+-- the code is of a constant, a literal or a linked node
+abbrev pub IsCounted : Nodes → ℕ → Type 0
+IsCounted a code = 2050 ≤ code → IsSome (get a.linked (code - 2050))
+
+-- the codes in the list are so
+abbrev pub AreCounted : Nodes → List (ℕ × ℕ) → Type 0
+AreCounted a list = AllByRecursion (λ (e : ℕ × ℕ). IsCounted a e.0 × IsCounted a e.1) list
+
+-- only the uses changed, and each grew by as much as its code says
+pub record AddsUses (old new : Nodes) (more : ℕ → ℕ) : Type 0 where
+  pub rest : new ≡ record old { uses = new.uses }
+  pub uses : (n : ℕ) → get new.uses n ≡ option_map (λ k. k + more (2050 + n)) (get old.uses n)
+
+-- only the uses changed, and that of the code fell by one
+pub record DropsUse (old new : Nodes) (code : ℕ) : Type 0 where
+  pub rest : new ≡ record old { uses = new.uses }
+  pub uses : (n : ℕ) → get new.uses n ≡ option_map (λ k. k - counts_one (2050 + n) code) (get old.uses n)

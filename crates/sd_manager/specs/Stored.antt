@@ -1,0 +1,44 @@
+-- How a manager is kept: its nodes with their uses, and its roots in slots.
+use Rattle.std.specs.Prelude.{◌≡◌, ℕ, ◌+◌, List, [], ◌∷◌, Option, Some, None}
+use Rattle.std.specs.Ordering.{nat_cmp}
+use Rattle.std.specs.FinMap.{FinMap, empty, get, from_entries}
+use Rattle.sd_unique.specs.Nodes.{Nodes, IsNodes}
+use Rattle.sd_vtree.specs.Numbered.{Numbered}
+use Rattle.sd_manager.specs.Table.{Table, uses_of}
+use Rattle.sd_manager.specs.Valid.{IsTable}
+
+-- the codes in slots with the numbers of the slots, the first at this number
+abbrev pub held_from : ℕ → List (Option ℕ) → List (ℕ × ℕ)
+held_from i [] = []
+held_from i (None ∷ slots) = held_from (i + 1) slots
+held_from i (Some c ∷ slots) = (i, c) ∷ held_from (i + 1) slots
+
+-- the map from the numbers of the slots to the codes in them
+abbrev pub held_map : List (Option ℕ) → FinMap nat_cmp ℕ
+held_map slots = from_entries (held_from 0 slots)
+
+-- the table that these parts stand for
+abbrev pub table_of : Numbered → Nodes → FinMap nat_cmp ℕ → ℕ → Table
+table_of vtree nodes roots epoch =
+    record {
+      vtree = vtree;
+      linked = nodes.linked;
+      detached = nodes.detached;
+      loose = nodes.loose;
+      marks = nodes.marks;
+      free = nodes.free;
+      roots = roots;
+      epoch = epoch;
+      records = nodes.records;
+      extent = nodes.extent;
+      bound = nodes.bound;
+      moving = None;
+    }
+
+-- the parts stand for a valid table, no run is loose, and the uses of each node are counted
+pub record IsStored (nodes : Nodes) (t : Table) : Type 0 where
+  pub table : IsTable t
+  pub valid : IsNodes nodes
+  pub none_loose : nodes.loose ≡ empty
+  pub uses : (n : ℕ) (k : ℕ × List (ℕ × ℕ)) → get nodes.linked n ≡ Some k →
+      get nodes.uses n ≡ Some (uses_of t (2050 + n))

@@ -1,0 +1,20 @@
+//! Diagrams under one vtree as numbered nodes: equal functions are equal nodes.
+//!
+//! A caller sees a `Manager` as the record `Table` of `specs/Table.antt`. A node is named by a code: 0 is false, 1 is
+//! true, 2x is the literal x, 2x + 1 is the literal -x, and 2,050 + n is the decomposition with the number n.
+#![tactic(auto)]
+
+mod manager;
+mod node_id;
+mod pairs;
+mod roots;
+mod uses;
+mod view;
+
+pub use manager::Manager;
+pub use node_id::NodeId;
+pub use roots::Root;
+pub use view::View;
+
+#[cfg(test)]
+mod tests;

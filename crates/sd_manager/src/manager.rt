@@ -1,0 +1,299 @@
+//! Diagrams under one vtree.
+
+ghost use Rattle.std.specs.Prelude.{◌≡◌, ◌≢◌, ◌↔◌, ◌⊎◌, ℕ, ◌+◌, ◌-◌, ◌<◌, ◌≤◌, ◌^◌, Bool, List, length, map};
+ghost use Rattle.std.specs.Prelude.{Some, None, IfOk, IfErr, OnOk, OnErr, IsTrue, slice_get, cond};
+ghost use Rattle.std.specs.Option.{IsSome};
+ghost use Rattle.std.specs.FinMap.{get, len};
+ghost use Rattle.sd_model.specs.Tree.{leaves, AreDistinct};
+ghost use Rattle.sd_model.specs.Assignment.{literal_holds};
+ghost use Rattle.sd_model.specs.Diagram.{Diagram, Elements, Decomposition, meaning};
+ghost use Rattle.sd_vtree.specs.Numbered.{IsNumbered, forget};
+ghost use Rattle.sd_laws.specs.Depth.{depth};
+ghost use Rattle.sd_manager.specs.Table.{no_table};
+ghost use Rattle.sd_manager.specs.Literals.{IsLiteralTo, code_of_literal};
+ghost use Rattle.sd_manager.specs.Shown.{Shows, IsShown, IsKnown, HoldsDiagram, IsPartitionAt, HasNode};
+ghost use Rattle.sd_manager.specs.Shown.{ShowsElement, constant_diagram};
+ghost use Rattle.sd_manager.specs.Views.{view_of, pairs_at, IsViewOf};
+ghost use Rattle.sd_manager.specs.Valid.{IsTable};
+ghost use Rattle.sd_manager.specs.Making.{Extends, IsMade, IsFull, IsRefusal, KeepsRule, HasNewNode};
+ghost use Rattle.sd_manager.specs.Making.{with_root, without_root};
+
+use crate::node_id::NodeId;
+use crate::pairs::{sort_into, trimmed};
+use crate::roots::{Root, Roots};
+use crate::uses::{add_use, add_uses, drop_use};
+use crate::view::{View, literal_code, literal_value};
+use sd_runs::TakeError;
+use sd_unique::Nodes;
+use sd_vtree::{VNode, Vtree};
+use std::alloc::{AllocError, Global};
+use std::marker::Model;
+
+/// Diagrams under one vtree, as nodes that their elements find again, so that equal functions are equal nodes.
+///
+/// A node that is handed to a call has to be one of this manager, and a root one that this manager gave.
+#[derive(Drop)]
+pub struct Manager {
+    vtree: Vtree,
+    nodes: Nodes,
+    roots: Roots,
+    epoch: u64,
+    // Room for the list of a node that is made.
+    sorted: Vec<(u32, u32)>,
+}
+
+impl Model for Manager {
+    ghost use Rattle.sd_manager.specs.Table.{Table, table_code};
+    ghost use Rattle.sd_manager.specs.Stored.{table_of, IsStored};
+
+    ghost Value = { Table };
+
+    ghost coded = { table_code };
+
+    ghost view = { λ a. table_of a.vtree a.nodes a.roots a.epoch };
+
+    ghost invariant = { λ a. IsStored a.nodes (table_of a.vtree a.nodes a.roots a.epoch) };
+}
+
+impl Manager {
+    /// A manager of no nodes and no roots, whose arena has at most `bound` elements. The only error is want of memory.
+    pub fn new(alloc: Global, vtree: Vtree, bound: u32) -> Result<Manager, AllocError>
+        requires { bound < 2 ^ 31 }
+        ensures ok { IfOk result (λ m. m ≡ no_table vtree bound) }
+        ensures table { IfOk result (λ m. IsTable m) }
+    {
+        let _ = vtree.variables();
+        Ok(Manager {
+            vtree,
+            nodes: Nodes::new(alloc, bound)?,
+            roots: Roots::new(alloc),
+            epoch: 0,
+            sorted: Vec::new(alloc),
+        })
+    }
+
+    /// The vtree.
+    pub fn vtree(&self) -> &Vtree
+        ensures vtree { result.now ≡ self.now.vtree }
+        ensures table { IsTable self.now }
+    {
+        &self.vtree
+    }
+
+    /// How often a sweep removed a node or the vtree was moved.
+    pub fn epoch(&self) -> u64
+        ensures epoch { result ≡ self.now.epoch }
+        ensures table { IsTable self.now }
+    {
+        self.epoch
+    }
+
+    /// The node of a constant: false has the code 0 and true has the code 1.
+    pub fn constant(&self, value: bool) -> NodeId
+        ensures code { result ≡ cond value 1 0 }
+        ensures shown { IsShown self.now result (constant_diagram value) }
+        ensures table { IsTable self.now }
+    {
+        let _ = &self.epoch;
+        if value { NodeId(1) } else { NodeId(0) }
+    }
+
+    /// The node of a literal, as DIMACS has it: x for a variable x from 1 to V, and -x for its negation.
+    pub fn literal(&self, literal: i32) -> NodeId
+        requires { IsLiteralTo (leaves (forget self.now.vtree)) literal }
+        ensures shown { (d : Diagram) × IsShown self.now result d
+            × ((given : List Bool) → meaning d given ≡ literal_holds given literal) }
+        ensures code { result ≡ code_of_literal literal }
+        ensures table { IsTable self.now }
+    {
+        let _ = &self.epoch;
+        NodeId(literal_code(literal))
+    }
+
+    /// What a node is.
+    pub fn view(&self, node: NodeId) -> View
+        requires { HasNode self.now node }
+        ensures view { result ≡ view_of self.now node }
+        ensures shown { (d : Diagram) → Shows self.now node d → IsViewOf self.now result d }
+        ensures table { IsTable self.now }
+    {
+        self.read(node)
+    }
+
+    // What a node is, by its code alone.
+    fn read(&self, node: NodeId) -> View
+        requires { HasNode self.now node }
+        ensures view { result ≡ view_of self.now node }
+        ensures table { IsTable self.now }
+    {
+        let code = node.0;
+        if code < 2 {
+            let _ = &self.epoch;
+            View::Constant(code == 1)
+        } else if code < 2050 {
+            let _ = &self.epoch;
+            let variable = (code / 2) as i32;
+            View::Literal(if code % 2 == 0 { variable } else { -variable })
+        } else {
+            let number = code - 2050;
+            View::Decomposition {
+                place: VNode(self.nodes.place(number)),
+                count: self.nodes.list(number).len() as u32,
+            }
+        }
+    }
+
+    /// The element of a decomposition at an index below the number of its elements: the prime and the sub. The elements
+    /// ascend by the codes of the primes.
+    pub fn element(&self, node: NodeId, index: u32) -> (NodeId, NodeId)
+        requires { index < length (pairs_at self.now node) }
+        ensures pair { slice_get (pairs_at self.now node) index ≡ Some result }
+        ensures shown { (p : ℕ) (elements : Elements) → Shows self.now node (Decomposition p elements) →
+            ShowsElement self.now result elements }
+        ensures table { IsTable self.now }
+    {
+        self.pair(node, index)
+    }
+
+    // The pair of a decomposition at an index.
+    fn pair(&self, node: NodeId, index: u32) -> (NodeId, NodeId)
+        requires { index < length (pairs_at self.now node) }
+        ensures pair { slice_get (pairs_at self.now node) index ≡ Some result }
+        ensures table { IsTable self.now }
+    {
+        let (prime, sub) = self.nodes.list(node.0 - 2050)[index as usize];
+        (NodeId(prime), NodeId(sub))
+    }
+
+    /// A new root that holds a node. The only error is want of memory, and then nothing is changed.
+    pub fn hold(&mut self, node: NodeId) -> Result<Root, AllocError>
+        requires still { self.old.moving ≡ None }
+        requires known { IsKnown self.old node }
+        requires room { len self.old.roots < 2 ^ 32 - 1 }
+        ensures absent { IfOk result (λ root. get self.old.roots root ≡ None) }
+        ensures ok { IfOk result (λ root. self.new ≡ with_root self.old root node) }
+        ensures err { OnErr result (self.new ≡ self.old) }
+        ensures table { IsTable self.new }
+    {
+        let root = self.roots.hold(node.0)?;
+        add_use(&mut self.nodes, node.0);
+        Ok(root)
+    }
+
+    /// Takes a root away. Its node stays until a sweep.
+    pub fn release(&mut self, root: Root)
+        requires still { self.old.moving ≡ None }
+        requires root { IsSome (get self.old.roots root) }
+        ensures released { self.new ≡ without_root self.old root }
+        ensures table { IsTable self.new }
+    {
+        let held = self.roots.release(&root);
+        drop_use(&mut self.nodes, held);
+    }
+
+    /// Makes a root hold another node, and hands the old one back.
+    pub fn rebind(&mut self, root: &mut Root, node: NodeId) -> NodeId
+        requires still { self.old.moving ≡ None }
+        requires root { IsSome (get self.old.roots root.old) }
+        requires known { IsKnown self.old node }
+        ensures held { get self.old.roots root.old ≡ Some result }
+        ensures rebound { self.new ≡ with_root self.old root.old node }
+        ensures root { root.new ≡ root.old }
+        ensures table { IsTable self.new }
+    {
+        let former = self.roots.rebind(root, node.0);
+        add_use(&mut self.nodes, node.0);
+        drop_use(&mut self.nodes, former);
+        NodeId(former)
+    }
+
+    /// The node that a root holds.
+    pub fn node_of(&self, root: &Root) -> NodeId
+        requires { IsSome (get self.now.roots root.now) }
+        ensures held { get self.now.roots root.now ≡ Some result }
+        ensures known { self.now.moving ≡ None → IsKnown self.now result }
+        ensures table { IsTable self.now }
+    {
+        NodeId(self.roots.code(root))
+    }
+
+    /// Whether two roots hold one function. They do exactly where they hold one node.
+    pub fn same(&self, a: &Root, b: &Root) -> bool
+        requires still { self.now.moving ≡ None }
+        requires first { IsSome (get self.now.roots a.now) }
+        requires second { IsSome (get self.now.roots b.now) }
+        ensures diagrams { (x y : Diagram) → HoldsDiagram self.now a.now x → HoldsDiagram self.now b.now y →
+            IsTrue result ↔ (x ≡ y) }
+        ensures functions { (x y : Diagram) → HoldsDiagram self.now a.now x → HoldsDiagram self.now b.now y →
+            IsTrue result ↔ ((given : List Bool) → length given ≡ leaves (forget self.now.vtree) →
+            meaning x given ≡ meaning y given) }
+        ensures table { IsTable self.now }
+    {
+        self.node_of(a) == self.node_of(b)
+    }
+
+    /// The value of a root under an assignment, which has one truth value for each variable.
+    pub fn value(&self, root: &Root, assignment: &[bool]) -> bool
+        requires held { (d : Diagram) × HoldsDiagram self.now root.now d }
+        requires values { length assignment.now ≡ leaves (forget self.now.vtree) }
+        ensures value { (d : Diagram) → HoldsDiagram self.now root.now d → result ≡ meaning d assignment.now }
+        ensures table { IsTable self.now }
+    {
+        self.value_below(self.node_of(root), assignment, self.vtree.variables())
+    }
+
+    // The value of a node that shows a diagram of at most so many levels of decompositions.
+    fn value_below(&self, node: NodeId, assignment: &[bool], levels: u32) -> bool
+        requires table { IsTable self.now }
+        requires known { (d : Diagram) × IsShown self.now node d × (depth d ≤ levels) }
+        requires values { length assignment.now ≡ leaves (forget self.now.vtree) }
+        ensures { (d : Diagram) → IsShown self.now node d → result ≡ meaning d assignment.now }
+    {
+        let count = match self.view(node) {
+            View::Constant(value) => return value,
+            View::Literal(literal) => return literal_value(literal, assignment),
+            View::Decomposition { count, .. } => count,
+        };
+        for index in 0..count {
+            let (prime, sub) = self.element(node, index);
+            if self.value_below(prime, assignment, levels - 1) {
+                return self.value_below(sub, assignment, levels - 1);
+            }
+        }
+        false
+    }
+
+    /// The node with the value of a partition of a vtree node: the elements are pairs of a prime and a sub, and no two
+    /// subs are equal. A constant stands below every vtree node.
+    ///
+    /// ArenaFull where the elements find no room in the arena, and OutOfMemory for want of memory; then nothing is
+    /// changed.
+    pub fn make(&mut self, place: VNode, elements: &[(NodeId, NodeId)]) -> Result<NodeId, TakeError>
+        requires partition { (ds : List (Diagram × Diagram)) × IsPartitionAt self.old place elements.now ds }
+        requires differ { AreDistinct (map (λ e. e.1) elements.now) }
+        ensures ok { IfOk result (λ c. (ds : List (Diagram × Diagram)) →
+            IsPartitionAt self.old place elements.now ds → IsMade self.new c ds) }
+        ensures kept { Extends self.old self.new }
+        ensures grown { IfOk result (λ c. (self.new ≡ self.old)
+            ⊎ HasNewNode self.old self.new place elements.now c) }
+        ensures err { OnErr result (self.new ≡ self.old) }
+        ensures full { IfErr result (λ e. IsRefusal self.old (length elements.now) e) }
+        ensures rule { IfErr result (λ e. KeepsRule self.new e) }
+        ensures table { IsTable self.new }
+    {
+        sort_into(&mut self.sorted, elements)?;
+        let list = self.sorted.as_slice();
+        if let Some(code) = trimmed(list) {
+            return Ok(NodeId(code));
+        }
+        if let Some(number) = self.nodes.find(place.0, list) {
+            return Ok(NodeId(number + 2050));
+        }
+        let number = match self.nodes.insert(place.0, list) {
+            Ok(number) => number,
+            Err(error) => return Err(error),
+        };
+        add_uses(&mut self.nodes, list);
+        Ok(NodeId(number + 2050))
+    }
+}

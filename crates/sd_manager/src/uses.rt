@@ -1,0 +1,62 @@
+//! The uses of nodes, counted by codes.
+
+ghost use Rattle.std.specs.Prelude.{◌≡◌, ◌+◌, ◌-◌, ◌<◌, ◌≤◌, ◌^◌, ℕ, Some};
+ghost use Rattle.std.specs.Option.{IsSome};
+ghost use Rattle.std.specs.FinMap.{get};
+ghost use Rattle.sd_unique.specs.Nodes.{IsNodes, uses_at};
+ghost use Rattle.sd_manager.specs.Table.{uses_in, uses_of_pair};
+ghost use Rattle.sd_manager.specs.Counting.{counts_one, AddsUses, AreCounted, DropsUse, IsCounted};
+
+use sd_unique::Nodes;
+
+// Counts one use more of a code. Constants and literals have no count.
+pub(crate) fn add_use(nodes: &mut Nodes, code: u32)
+    requires valid { IsNodes nodes.old }
+    requires counted { IsCounted nodes.old code }
+    requires room { 2050 ≤ code → uses_at nodes.old (code - 2050) < 2 ^ 64 - 1 }
+    ensures uses { AddsUses nodes.old nodes.new (λ c. counts_one c code) }
+    ensures valid { IsNodes nodes.new }
+{
+    if code >= 2050 {
+        nodes.add_use(code - 2050);
+    }
+}
+
+// Counts one use less of a code.
+pub(crate) fn drop_use(nodes: &mut Nodes, code: u32)
+    requires valid { IsNodes nodes.old }
+    requires counted { IsCounted nodes.old code }
+    requires used { 2050 ≤ code → 0 < uses_at nodes.old (code - 2050) }
+    ensures uses { DropsUse nodes.old nodes.new code }
+    ensures valid { IsNodes nodes.new }
+{
+    if code >= 2050 {
+        nodes.drop_use(code - 2050);
+    }
+}
+
+// Counts one use more of both codes of a pair.
+fn add_pair(nodes: &mut Nodes, pair: (u32, u32))
+    requires valid { IsNodes nodes.old }
+    requires first { IsCounted nodes.old pair.0 }
+    requires second { IsCounted nodes.old pair.1 }
+    requires room { (n k : ℕ) → get nodes.old.uses n ≡ Some k → k + uses_of_pair (2050 + n) pair < 2 ^ 64 }
+    ensures uses { AddsUses nodes.old nodes.new (λ c. uses_of_pair c pair) }
+    ensures valid { IsNodes nodes.new }
+{
+    add_use(nodes, pair.0);
+    add_use(nodes, pair.1);
+}
+
+// Counts one use more of each code in a list of pairs, as often as it stands there.
+pub(crate) fn add_uses(nodes: &mut Nodes, list: &[(u32, u32)])
+    requires valid { IsNodes nodes.old }
+    requires counted { AreCounted nodes.old list.now }
+    requires room { (n k : ℕ) → get nodes.old.uses n ≡ Some k → k + uses_in (2050 + n) list.now < 2 ^ 64 }
+    ensures uses { AddsUses nodes.old nodes.new (λ c. uses_in c list.now) }
+    ensures valid { IsNodes nodes.new }
+{
+    for pair in list {
+        add_pair(nodes, *pair);
+    }
+}
