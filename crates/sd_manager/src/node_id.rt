@@ -3,7 +3,7 @@
 use std::marker::Model;
 
 /// A node of a manager, by its code, which stays the node's own while the node is there.
-#[derive(Clone, Copy, PartialEq, Eq, Debug)]
+#[derive(Clone, Copy, Default, PartialEq, Eq, Debug)]
 pub struct NodeId(pub u32);
 
 impl Model for NodeId {
