@@ -3,7 +3,7 @@ use Rattle.std.specs.Prelude.{ℕ, ◌<◌, ◌≤◌, Bool, ◌==◌, ◌&&◌,
 use Rattle.std.specs.List.{IsDistinct}
 use Rattle.std.specs.Map.{keys_of}
 use Rattle.std.specs.Coded.{Coded, code_by, coded×, coded_list, coded_ℕ}
-use Rattle.lru.specs.LruCache.{lru_cache, put_entries}
+use Rattle.lru.specs.LruCache.{lru_cache, promoted, put_entries}
 
 -- an operation at two numbers of nodes, in one epoch
 pub record Call : Type 0 where
@@ -34,6 +34,10 @@ Entries = List (Call × ℕ)
 -- and so are the entries
 abbrev pub entries_code : Coded Entries
 entries_code = coded_list (coded× call_code coded_ℕ)
+
+-- the entries once the call was looked up: where it is there, it goes first
+abbrev pub looked : Entries → Call → Entries
+looked es c = promoted (is_call c) es
 
 -- the entries once an answer is put in: its call goes first, and past 65,536 the last is dropped
 abbrev pub kept : Entries → Call → ℕ → Entries

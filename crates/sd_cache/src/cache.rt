@@ -1,8 +1,7 @@
 // The cache over a map of bounded size whose entries are in the order of their last use.
 ghost use Rattle.std.specs.Prelude.{◌≡◌, ◌⊎◌, ◌^◌, ◌<◌, ◌≤◌, [], length, IfOk, IfSome, IsSome};
 ghost use Rattle.std.specs.Map.{lookup};
-ghost use Rattle.lru.specs.LruCache.{promoted};
-ghost use Rattle.sd_cache.specs.Entries.{IsCache, call, is_call, kept};
+ghost use Rattle.sd_cache.specs.Entries.{IsCache, call, is_call, kept, looked};
 
 use crate::call::Call;
 use lru::LruCache;
@@ -49,7 +48,7 @@ impl Cache {
     /// recently used.
     pub fn look(&mut self, epoch: u64, operation: u8, a: u32, b: u32) -> Option<u32>
         ensures value { result ≡ lookup (is_call (call epoch operation a b)) self.old }
-        ensures entries { self.new ≡ promoted (is_call (call epoch operation a b)) self.old }
+        ensures entries { self.new ≡ looked self.old (call epoch operation a b) }
         ensures early { IfSome result (λ _. epoch < 2 ^ 56) }
     {
         let _ = &self.answers;

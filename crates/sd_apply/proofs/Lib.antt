@@ -1,0 +1,11 @@
+pub mod Trees
+pub mod Listed
+pub mod Steps
+pub mod Rows
+pub mod Merging
+pub mod KnownLaws
+pub mod Sorting
+pub mod Standing
+pub mod Served
+pub mod Expanding
+pub mod Whole

@@ -1,0 +1,7 @@
+use Rattle.std.proofs.Common.{◌≡◌, ℕ, List, map, take}
+use Rattle.sd_apply.specs.Elements.{turned}
+use Rattle.sd_apply.proofs.lists.by_sub.Given as goal
+
+-- the first pairs are there, turned round
+abbrev pub invariant-loop-i : goal.invariant-loop-i
+invariant-loop-i l = map turned l.list.items ≡ take l.i l.pairs

@@ -1,0 +1,29 @@
+use Rattle.std.proofs.Common.{ap, ◌∙◌, ◌≡◌, subst, sym, None, ◌≤◌, arith}
+use Rattle.sd_vtree.specs.Numbered.{children_at}
+use Rattle.sd_apply.specs.Places.{HasChildren}
+use Rattle.sd_apply.proofs.Standing.{own-inner, shown}
+use Rattle.sd_apply.proofs.Trees.{stands-under, fork-width}
+use Rattle.sd_apply.proofs.places.own_fork.Goals as goal
+
+-- a decomposition stands at no leaf
+pub unreachable-requires : goal.unreachable-requires
+unreachable-requires c =
+    let m = c.args.m.now in
+    let x = c.requires.known in
+    let sx = shown m c.args.at c.args.a x.diagram x.is in
+    let q = c.place_of-place.result in
+    let none = subst (λ t. children_at t q ≡ None) c.vtree.ensures.vtree (sym c.children.ensures.children ∙ c.in_default.is) in
+    own-inner m c.place_of-place.ensures.table q c.args.a x.diagram sx (c.place_of-place.ensures.place x.diagram sx)
+    c.requires.code none
+
+pub returns-clause-narrow : goal.returns-clause-narrow
+returns-clause-narrow c =
+    let m = c.args.m.now in
+    let v = c.place_of-place.ensures.table.numbered in
+    let x = c.requires.known in
+    let sx = shown m c.args.at c.args.a x.diagram x.is in
+    let q = c.place_of-place.result in
+    fork-width m.vtree v q c.in-Some.children.0 c.in-Some.children.1 c.args.at
+    (subst (λ t. HasChildren t q c.in-Some.children.0 c.in-Some.children.1) c.vtree.ensures.vtree
+    (sym c.in-Some.is ∙ c.children.ensures.children))
+    (stands-under m.vtree v c.args.at q x.diagram c.requires.at x.is.under (c.place_of-place.ensures.place x.diagram sx))

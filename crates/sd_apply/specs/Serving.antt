@@ -1,0 +1,27 @@
+-- When the kept answers are right for a manager.
+use Rattle.std.specs.Prelude.{◌≡◌, ℕ, ◌≤◌, Contains}
+use Rattle.sd_model.specs.Diagram.{Diagram}
+use Rattle.sd_cache.specs.Entries.{Call, Entries}
+use Rattle.sd_manager.specs.Table.{Table}
+use Rattle.sd_manager.specs.Shown.{IsShown}
+use Rattle.sd_apply.specs.Operations.{operation_value}
+use Rattle.sd_apply.specs.Answers.{HasAnswer}
+
+-- an entry is of one of the six operations, and names nodes that show canonical diagrams, and an answer with the value
+-- of the operation at them
+pub record IsRight (t : Table) (e : Call × ℕ) : Type 0 where
+  pub known : e.0.operation ≤ 5
+  pub first : Diagram
+  pub second : Diagram
+  pub first_is : IsShown t e.0.a first
+  pub second_is : IsShown t e.0.b second
+  pub answer : HasAnswer t (operation_value e.0.operation first second) e.1
+
+-- the last epoch, 2^64 - 1, at which a manager stays
+abbrev pub last_epoch : ℕ
+last_epoch = 18446744073709551615
+
+-- No entry has a later epoch than the manager; before the last epoch each entry of the manager's own is right.
+pub record Serves (c : Entries) (t : Table) : Type 0 where
+  pub early : (e : Call × ℕ) → Contains c e → e.0.epoch ≤ t.epoch
+  pub right : ¬ (t.epoch ≡ last_epoch) → (e : Call × ℕ) → Contains c e → e.0.epoch ≡ t.epoch → IsRight t e

@@ -1,0 +1,376 @@
+// The operations, which call one another below the vtree node of their operands.
+ghost use Rattle.std.specs.Prelude.{◌≡◌, ◌≤◌, ◌<◌, ◌/◌, ℕ, List, [], ◌∷◌, map, length, None, IfOk, IfErr};
+ghost use Rattle.sd_model.specs.Tree.{AreDistinct};
+ghost use Rattle.sd_model.specs.declared.trees.Operation.TheVariants.{And, Or, Xor};
+ghost use Rattle.sd_vtree.specs.Numbered.{numbers};
+ghost use Rattle.sd_manager.specs.Valid.{IsTable};
+ghost use Rattle.sd_manager.specs.Making.{Extends, KeepsRule};
+ghost use Rattle.sd_apply.specs.Operations.{number_of};
+ghost use Rattle.sd_apply.specs.Serving.{Serves};
+ghost use Rattle.sd_apply.specs.Known.{known_of};
+ghost use Rattle.sd_apply.specs.Places.{IsBelow, IsThere, HasChildren};
+ghost use Rattle.sd_apply.specs.Elements.{IsPaired, AreListed, ArePartition, Ascend, turned};
+ghost use Rattle.sd_apply.specs.Calls.{Applies, Complements, Expands, Multiplies, AddsRow, Merges, Joins, Flips};
+
+use crate::known::{NEGATION, known, number, opposite};
+use crate::lists::{Pairs, below_left, below_right, by_sub, elements_of};
+use crate::places::{fork, own_fork, place_of};
+use sd_cache::Cache;
+use sd_manager::{Manager, NodeId};
+use sd_model::Operation;
+use sd_runs::TakeError;
+use sd_vtree::VNode;
+use smallvec::SmallVec;
+use std::alloc::Global;
+
+// A connective at two nodes below a vtree node.
+#[cycle(apply)]
+pub(crate) fn apply(
+    alloc: Global,
+    m: &mut Manager,
+    c: &mut Cache,
+    operation: Operation,
+    at: VNode,
+    a: NodeId,
+    b: NodeId,
+) -> Result<NodeId, TakeError>
+    requires at { IsThere m.old.vtree at }
+    requires a { IsBelow m.old at a }
+    requires b { IsBelow m.old at b }
+    requires serves { Serves c.old m.old }
+    ensures ok { IfOk result (λ r. Applies m.old m.new operation at a b r) }
+    ensures kept { Extends m.old m.new }
+    ensures serves { Serves c.new m.new }
+    ensures rule { IfErr result (λ e. KeepsRule m.new e) }
+    ensures table { IsTable m.new }
+{
+    let _ = m.vtree();
+    if let Some(code) = known(number(operation), a.0, b.0) {
+        return Ok(NodeId(code));
+    }
+    if a.0 == 1 {
+        return complement(alloc, m, c, at, b);
+    }
+    if b.0 == 1 {
+        return complement(alloc, m, c, at, a);
+    }
+    if a.0 < b.0 {
+        ask(alloc, m, c, operation, at, a, b)
+    } else {
+        ask(alloc, m, c, operation, at, b, a)
+    }
+}
+
+// The same at nodes that are neither constants nor of one leaf: the cache is asked first.
+#[cycle(apply)]
+fn ask(
+    alloc: Global,
+    m: &mut Manager,
+    c: &mut Cache,
+    operation: Operation,
+    at: VNode,
+    a: NodeId,
+    b: NodeId,
+) -> Result<NodeId, TakeError>
+    requires at { IsThere m.old.vtree at }
+    requires a { IsBelow m.old at a }
+    requires b { IsBelow m.old at b }
+    requires least_a { 2 ≤ a }
+    requires least_b { 2 ≤ b }
+    requires differ { a / 2 ≡ b / 2 → 2050 ≤ a }
+    requires serves { Serves c.old m.old }
+    ensures ok { IfOk result (λ r. Applies m.old m.new operation at a b r) }
+    ensures kept { Extends m.old m.new }
+    ensures serves { Serves c.new m.new }
+    ensures rule { IfErr result (λ e. KeepsRule m.new e) }
+    ensures table { IsTable m.new }
+{
+    let epoch = m.epoch();
+    let kind = number(operation);
+    if let Some(code) = c.look(epoch, kind, a.0, b.0) {
+        return Ok(NodeId(code));
+    }
+    let code = split(alloc, m, c, operation, at, a, b)?;
+    c.keep(epoch, kind, a.0, b.0, code.0);
+    Ok(code)
+}
+
+// The same from the elements of both nodes at the lowest vtree node below which both stand.
+#[cycle(apply)]
+fn split(
+    alloc: Global,
+    m: &mut Manager,
+    c: &mut Cache,
+    operation: Operation,
+    at: VNode,
+    a: NodeId,
+    b: NodeId,
+) -> Result<NodeId, TakeError>
+    requires at { IsThere m.old.vtree at }
+    requires a { IsBelow m.old at a }
+    requires b { IsBelow m.old at b }
+    requires least_a { 2 ≤ a }
+    requires least_b { 2 ≤ b }
+    requires differ { a / 2 ≡ b / 2 → 2050 ≤ a }
+    requires serves { Serves c.old m.old }
+    ensures ok { IfOk result (λ r. Applies m.old m.new operation at a b r) }
+    ensures kept { Extends m.old m.new }
+    ensures serves { Serves c.new m.new }
+    ensures rule { IfErr result (λ e. KeepsRule m.new e) }
+    ensures table { IsTable m.new }
+{
+    let (place, left, right) = fork(m, at, a, b);
+    let first = expand(alloc, m, c, place, left, right, a)?;
+    let second = expand(alloc, m, c, place, left, right, b)?;
+    let pairs = multiply(
+        alloc,
+        m,
+        c,
+        operation,
+        left,
+        right,
+        first.as_slice(),
+        second.as_slice(),
+    )?;
+    compress_at(alloc, m, c, place, left, right, pairs.as_slice())
+}
+
+// A node below a vtree node, as elements there: its own where it stands there, and else two or one made of it.
+#[cycle(apply)]
+fn expand(
+    alloc: Global,
+    m: &mut Manager,
+    c: &mut Cache,
+    place: VNode,
+    left: VNode,
+    right: VNode,
+    a: NodeId,
+) -> Result<Pairs, TakeError>
+    requires children { HasChildren m.old.vtree place left right }
+    requires node { place < length (numbers m.old.vtree) }
+    requires a { IsBelow m.old place a }
+    requires least { 2 ≤ a }
+    requires serves { Serves c.old m.old }
+    ensures ok { IfOk result (λ r. Expands m.old m.new place left right a r.items) }
+    ensures kept { Extends m.old m.new }
+    ensures serves { Serves c.new m.new }
+    ensures rule { IfErr result (λ e. KeepsRule m.new e) }
+    ensures table { IsTable m.new }
+{
+    let own = place_of(m, a);
+    if own.0 == place.0 {
+        return elements_of(alloc, m, a);
+    }
+    let middle = m.vtree().position(place);
+    let at = m.vtree().position(own);
+    if middle < at {
+        return below_right(alloc, a);
+    }
+    let other = complement(alloc, m, c, left, a)?;
+    below_left(alloc, a, other)
+}
+
+// The products of two lists of elements, without those that have a false prime.
+#[cycle(apply)]
+fn multiply(
+    alloc: Global,
+    m: &mut Manager,
+    c: &mut Cache,
+    operation: Operation,
+    left: VNode,
+    right: VNode,
+    first: &[(NodeId, NodeId)],
+    second: &[(NodeId, NodeId)],
+) -> Result<Pairs, TakeError>
+    requires left { IsThere m.old.vtree left }
+    requires right { IsThere m.old.vtree right }
+    requires first { AreListed m.old left right first.now }
+    requires second { ArePartition m.old left right second.now }
+    requires serves { Serves c.old m.old }
+    requires table { IsTable m.old }
+    ensures ok { IfOk result (λ r. Multiplies m.old m.new operation left right first.now second.now r.items) }
+    ensures kept { Extends m.old m.new }
+    ensures serves { Serves c.new m.new }
+    ensures rule { IfErr result (λ e. KeepsRule m.new e) }
+    ensures table { IsTable m.new }
+{
+    let mut pairs = SmallVec::new(alloc);
+    for i in 0..first.len() {
+        let (prime, sub) = first[i];
+        add_row(alloc, m, c, operation, left, right, prime, sub, second, &mut pairs)?;
+    }
+    Ok(pairs)
+}
+
+// Adds the products of one element with a list.
+#[cycle(apply)]
+fn add_row(
+    alloc: Global,
+    m: &mut Manager,
+    c: &mut Cache,
+    operation: Operation,
+    left: VNode,
+    right: VNode,
+    prime: NodeId,
+    sub: NodeId,
+    list: &[(NodeId, NodeId)],
+    pairs: &mut Pairs,
+) -> Result<(), TakeError>
+    requires left { IsThere m.old.vtree left }
+    requires right { IsThere m.old.vtree right }
+    requires one { IsPaired m.old left right (prime, sub) }
+    requires list { ArePartition m.old left right list.now }
+    requires serves { Serves c.old m.old }
+    requires table { IsTable m.old }
+    ensures ok { IfOk result (λ _. AddsRow m.old m.new operation left right (prime, sub) list.now
+        pairs.old.items pairs.new.items) }
+    ensures kept { Extends m.old m.new }
+    ensures serves { Serves c.new m.new }
+    ensures rule { IfErr result (λ e. KeepsRule m.new e) }
+    ensures table { IsTable m.new }
+{
+    for j in 0..list.len() {
+        let (other, value) = list[j];
+        let both = apply(alloc, m, c, Operation::And, left, prime, other)?;
+        if both.0 != 0 {
+            let result_sub = apply(alloc, m, c, operation, right, sub, value)?;
+            let Ok(()) = pairs.push((both, result_sub)) else {
+                return Err(TakeError::OutOfMemory);
+            };
+        }
+    }
+    Ok(())
+}
+
+// The node of a partition whose subs may be equal.
+#[cycle(apply)]
+pub(crate) fn compress_at(
+    alloc: Global,
+    m: &mut Manager,
+    c: &mut Cache,
+    place: VNode,
+    left: VNode,
+    right: VNode,
+    pairs: &[(NodeId, NodeId)],
+) -> Result<NodeId, TakeError>
+    requires children { HasChildren m.old.vtree place left right }
+    requires pairs { ArePartition m.old left right pairs.now }
+    requires serves { Serves c.old m.old }
+    requires table { IsTable m.old }
+    ensures ok { IfOk result (λ r. Joins m.old m.new left right pairs.now r) }
+    ensures kept { Extends m.old m.new }
+    ensures serves { Serves c.new m.new }
+    ensures rule { IfErr result (λ e. KeepsRule m.new e) }
+    ensures table { IsTable m.new }
+{
+    let sorted = by_sub(alloc, pairs)?;
+    let merged = merge(alloc, m, c, left, right, sorted.as_slice())?;
+    m.make(place, merged.as_slice())
+}
+
+// The elements with the primes of equal subs joined. They are sorted by the subs, which come first in each pair.
+#[cycle(apply)]
+fn merge(
+    alloc: Global,
+    m: &mut Manager,
+    c: &mut Cache,
+    left: VNode,
+    right: VNode,
+    sorted: &[(u32, u32)],
+) -> Result<Pairs, TakeError>
+    requires left { IsThere m.old.vtree left }
+    requires pairs { ArePartition m.old left right (map turned sorted.now) }
+    requires ascend { Ascend (map turned sorted.now) }
+    requires serves { Serves c.old m.old }
+    requires table { IsTable m.old }
+    ensures ok { IfOk result (λ r. Merges m.old m.new left right (map turned sorted.now) r.items) }
+    ensures differ { IfOk result (λ r. AreDistinct (map (λ e. e.1) r.items)) }
+    ensures kept { Extends m.old m.new }
+    ensures serves { Serves c.new m.new }
+    ensures rule { IfErr result (λ e. KeepsRule m.new e) }
+    ensures table { IsTable m.new }
+{
+    let mut merged = SmallVec::new(alloc);
+    let (mut sub, mut prime) = sorted[0];
+    for i in 1..sorted.len() {
+        let (next_sub, next_prime) = sorted[i];
+        if next_sub == sub {
+            let joined = apply(alloc, m, c, Operation::Or, left, NodeId(prime), NodeId(next_prime))?;
+            prime = joined.0;
+        } else {
+            let Ok(()) = merged.push((NodeId(prime), NodeId(sub))) else {
+                return Err(TakeError::OutOfMemory);
+            };
+            sub = next_sub;
+            prime = next_prime;
+        }
+    }
+    let Ok(()) = merged.push((NodeId(prime), NodeId(sub))) else {
+        return Err(TakeError::OutOfMemory);
+    };
+    Ok(merged)
+}
+
+// The negation of a node below a vtree node.
+#[cycle(apply)]
+pub(crate) fn complement(
+    alloc: Global,
+    m: &mut Manager,
+    c: &mut Cache,
+    at: VNode,
+    a: NodeId,
+) -> Result<NodeId, TakeError>
+    requires at { IsThere m.old.vtree at }
+    requires a { IsBelow m.old at a }
+    requires serves { Serves c.old m.old }
+    ensures ok { IfOk result (λ r. Complements m.old m.new at a r) }
+    ensures kept { Extends m.old m.new }
+    ensures serves { Serves c.new m.new }
+    ensures rule { IfErr result (λ e. KeepsRule m.new e) }
+    ensures table { IsTable m.new }
+{
+    let epoch = m.epoch();
+    if let Some(code) = opposite(a.0) {
+        return Ok(NodeId(code));
+    }
+    if let Some(code) = c.look(epoch, NEGATION, a.0, 0) {
+        return Ok(NodeId(code));
+    }
+    let (place, left, right) = own_fork(m, at, a);
+    let list = elements_of(alloc, m, a)?;
+    let pairs = flip(alloc, m, c, left, right, list.as_slice())?;
+    let code = compress_at(alloc, m, c, place, left, right, pairs.as_slice())?;
+    c.keep(epoch, NEGATION, a.0, 0, code.0);
+    Ok(code)
+}
+
+// The elements with their subs negated.
+#[cycle(apply)]
+fn flip(
+    alloc: Global,
+    m: &mut Manager,
+    c: &mut Cache,
+    left: VNode,
+    right: VNode,
+    list: &[(NodeId, NodeId)],
+) -> Result<Pairs, TakeError>
+    requires right { IsThere m.old.vtree right }
+    requires list { AreListed m.old left right list.now }
+    requires serves { Serves c.old m.old }
+    requires table { IsTable m.old }
+    ensures ok { IfOk result (λ r. Flips m.old m.new left right list.now r.items) }
+    ensures kept { Extends m.old m.new }
+    ensures serves { Serves c.new m.new }
+    ensures rule { IfErr result (λ e. KeepsRule m.new e) }
+    ensures table { IsTable m.new }
+{
+    let mut pairs = SmallVec::new(alloc);
+    for i in 0..list.len() {
+        let (prime, sub) = list[i];
+        let other = complement(alloc, m, c, right, sub)?;
+        let Ok(()) = pairs.push((prime, other)) else {
+            return Err(TakeError::OutOfMemory);
+        };
+    }
+    Ok(pairs)
+}

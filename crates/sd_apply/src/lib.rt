@@ -1,0 +1,10 @@
+//! Operations on the diagrams of a manager: conjunction, disjunction, exclusive or, negation and compression.
+#![tactic(auto)]
+
+mod calls;
+mod known;
+mod lists;
+mod operations;
+mod places;
+
+pub use operations::{and, compress, negate, or, xor};
