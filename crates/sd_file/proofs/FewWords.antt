@@ -1,12 +1,10 @@
 -- A text has no more words than bytes.
-use Rattle.std.proofs.Common.{◌≡◌, ℕ, zero, suc, ◌+◌, ◌≤◌, Bool, List, [], ◌∷◌, length, take}
-use Rattle.std.proofs.Common.{filter, refl, ap, ◌∙◌, arith, inl, inr, length-append}
-use Rattle.std.specs.List.{slice_split, onto_first, flat_map, prefix_len}
-use Rattle.std.specs.Prelude.{not}
+use Rattle.std.proofs.Common.{◌≡◌, ℕ, ◌+◌, ◌≤◌, Bool, List, [], ◌∷◌, length}
+use Rattle.std.proofs.Common.{filter, refl, ap, arith, inl, inr}
+use Rattle.std.specs.List.{slice_split, onto_first}
 use Rattle.std.proofs.lemmas.Bool.{cases_Bool}
-use Rattle.std.proofs.lemmas.List.{length-map}
 use Rattle.sd_base.specs.Words.{words_of, lines_of, is_filled, is_separator, is_line_end, without_empty_end}
-use Rattle.sd_base.specs.Lines.{TextLine, numbered_from, content_of, begins_with, is_content}
+use Rattle.sd_base.specs.Lines.{TextLine, numbered_from, content_of, is_content}
 use Rattle.sd_file.specs.Steps.{word_count}
 
 -- ---- pieces of a list

@@ -1,7 +1,7 @@
 -- The pairs of one more node, and one more node, behind the earlier ones.
 use Rattle.std.proofs.Common.{◌≡◌, ℕ, suc, ◌+◌, ◌-◌, ◌≤◌, List, [], ◌∷◌, ◌++◌, map, length, take, drop}
 use Rattle.std.proofs.Common.{length-drop, refl, sym, ap, ◌∙◌}
-use Rattle.std.proofs.Common.{arith, subst, Result, Ok, Err, ok_or, slice_index_or, append_assoc, length-append}
+use Rattle.std.proofs.Common.{arith, Result, Ok, Err, ok_or, slice_index_or, append_assoc, length-append}
 use Rattle.std.proofs.lemmas.List.{take-append-le, drop-append-le, take_all, map_push}
 use Rattle.std.proofs.Math.Seq.{drop-append_seam}
 use Rattle.std.specs.List.{AllByRecursion}

@@ -3,7 +3,7 @@ use Rattle.std.proofs.Common.{◌≡◌, [], ◌∷◌, refl, Ok, Err, pos, negs
 use Rattle.std.specs.Prelude.{codes}
 use Rattle.sd_file.specs.declared.fault.SddFault.TheVariants.{BadLine, IdTwice, ChildUnknown}
 use Rattle.sd_file.specs.declared.fault.SddFault.TheVariants.{LiteralRange, CountDiffers, Empty}
-use Rattle.sd_file.specs.Reads.{Constant, Literal, Decomposition, File, sdd_file}
+use Rattle.sd_file.specs.Reads.{Literal, Decomposition, sdd_file}
 
 -- not compressed, ids with a gap, and ids of another vtree
 elsewhere : sdd_file 2 (codes "c made elsewhere\nsdd 4\nL 0 9 1\nL 1 9 -1\nL 3 7 2\nD 2 8 2 0 3 1 3\n") ≡
