@@ -30,10 +30,7 @@ pub(crate) fn number_words<'a>(
 {
     match *phrase {
         Phrase::Input(n) => Ok(Phrase::Input(names.number(n)?)),
-        Phrase::Load(n, file) => {
-            let n = names.number(n)?;
-            Ok(Phrase::Load(n, files.number(file)?))
-        }
+        Phrase::Load(n, file) => Ok(Phrase::Load(names.number(n)?, files.number(file)?)),
         Phrase::Lit(n, literal) => Ok(Phrase::Lit(names.number(n)?, literal)),
         Phrase::Constant(n, value) => Ok(Phrase::Constant(names.number(n)?, value)),
         Phrase::Binary(operation, n, a, b) => {
@@ -62,10 +59,7 @@ pub(crate) fn number_words<'a>(
         }
         Phrase::Size(a) => Ok(Phrase::Size(names.number(a)?)),
         Phrase::Value(a, digits) => Ok(Phrase::Value(names.number(a)?, digits)),
-        Phrase::Write(a, file) => {
-            let a = names.number(a)?;
-            Ok(Phrase::Write(a, files.number(file)?))
-        }
+        Phrase::Write(a, file) => Ok(Phrase::Write(names.number(a)?, files.number(file)?)),
         Phrase::Vtree(file) => Ok(Phrase::Vtree(files.number(file)?)),
     }
 }
