@@ -26,6 +26,8 @@ use Rattle.std.specs.FinMap.{from_entries}
 use Rattle.sd_unique.specs.Record.{numbered_map, key_of, keys_of, counts_of, nodes_of, Stored}
 use Rattle.sd_unique.proofs.Entries.{slice_get_push, slice_get_before, option_map_some, numbered_push}
 use Rattle.sd_unique.proofs.Counts.{get-counts, count_is}
+use Rattle.sd_unique.specs.Chains.{IsLinked}
+use Rattle.sd_unique.proofs.Linked.{linked_same}
 use Rattle.sd_unique.proofs.Numbered.{linked_at}
 
 -- nothing for no run
@@ -111,6 +113,11 @@ module _ (arena new : Arena) (rs : List Record) (r : Record) (st : Stored arena 
   -- the old records keep their keys
   key_kept : (i : ℕ) (t : Record) → slice_get rs i ≡ Some t → key_of new t ≡ key_of arena t
   key_kept i t e j = (t.place, unwrap_or (old_live i t e j) [])
+
+  -- the old records stay in their chains
+  pub linked_kept : (heads : List ℕ) → IsLinked arena rs heads → IsLinked new rs heads
+  linked_kept heads old =
+      linked_same arena new rs rs heads refl (λ k. refl) (λ i t e. (t, e, key_kept i t e)) old
 
   new_list : get new.live r.start ≡ Some list
   new_list = ap (get new.live) at_start ∙ live

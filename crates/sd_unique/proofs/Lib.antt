@@ -2,4 +2,5 @@ mod Counts
 mod Entries
 mod Found
 mod Inserted
+mod Linked
 mod Numbered

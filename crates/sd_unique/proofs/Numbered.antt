@@ -1,7 +1,7 @@
 -- The nodes that the records stand for, and what holds of them.
 use Rattle.std.proofs.Common.{◌≡◌, ℕ, suc, zero, ◌<◌, ◌≤◌, List, [], ◌∷◌, length, map}
-use Rattle.std.proofs.Common.{get_or, slice_get, Option, Some, None, unwrap_or, refl, sym, ap, subst, ◌∙◌, arith, inl, inr}
-use Rattle.std.proofs.Common.{true}
+use Rattle.std.proofs.Common.{get_or, slice_get, Option, Some, None, unwrap_or, refl, sym, ap, subst, ◌∙◌, arith}
+use Rattle.std.proofs.Common.{inl, inr, true}
 use Rattle.std.proofs.Math.ListN.{set}
 use Rattle.std.proofs.Math.Seq.{map-set_same}
 use Rattle.std.proofs.lemmas.Bool.{cases_eq}
@@ -18,6 +18,8 @@ use Rattle.sd_runs.proofs.Places.{by_cases}
 use Rattle.sd_unique.specs.declared.record.Record.{Record}
 use Rattle.sd_unique.specs.Nodes.{IsNodes, key_at, or_else, total_length}
 use Rattle.sd_unique.specs.Inserting.{with_uses}
+use Rattle.sd_unique.specs.Chains.{IsLinked}
+use Rattle.sd_unique.proofs.Linked.{linked_same}
 use Rattle.sd_unique.proofs.Counts.{get-counts, count_is, free_total_is}
 use Rattle.sd_unique.specs.Record.{numbered_map, key_of, keys_of, counts_of, nodes_of, Stored}
 use Rattle.sd_unique.proofs.Entries.{slice_get-map, slice_get_at, slice_get_inside, slice_get_set}
@@ -207,7 +209,7 @@ module _ {arena : Arena} {rs : List Record} (st : Stored arena rs) where
     key_same i = (place i, unwrap_or (get arena.live (start i)) [])
 
     -- each record had its key and run before
-    before : (i : ℕ) (x : Record) → slice_get (set rs n t) i ≡ Some x
+    pub before : (i : ℕ) (x : Record) → slice_get (set rs n t) i ≡ Some x
         → (o : Record) × (slice_get rs i ≡ Some o) × (key_of arena x ≡ key_of arena o) × (x.start ≡ o.start)
         × (x.length ≡ o.length)
     before i x e =
@@ -240,6 +242,32 @@ module _ {arena : Arena} {rs : List Record} (st : Stored arena rs) where
           unique = λ i j x y p q same. let o = before i x p in let w = before j y q in
               st.unique i j o.0 w.0 o.1 w.1 (sym o.2 ∙ same ∙ w.2);
           bound_fits = st.bound_fits;
+        }
+
+    -- the chains are as before where the link is the same
+    pub linked_set : (heads : List ℕ) → t.next ≡ r.next → IsLinked arena rs heads → IsLinked arena (set rs n t) heads
+    linked_set heads next old =
+        linked_same arena arena rs (set rs n t) heads (sym (length-set rs n t))
+        (λ k. ap (λ l. get_or l k 0)
+        (sym (map-set_same (λ (r : Record). r.next) rs n t r (next ∙ ap (λ (r : Record). r.next) read))))
+        (λ i x e. let o = before i x e in (o.0, o.1, o.2)) old
+
+    -- the nodes are the same where the link alone was changed
+    pub nodes_same : t.uses ≡ r.uses → t.mark ≡ r.mark → nodes_of arena (set rs n t) ≡ nodes_of arena rs
+    nodes_same uses mark i =
+        record {
+          linked = ap numbered_map (map-set_same (λ r. key_of arena r) rs n t r (key_same ∙ ap (key_of arena) read))
+              i;
+          detached = empty;
+          loose = empty;
+          uses = ap numbered_map (map-set_same (λ (r : Record). r.uses) rs n t r
+              (uses ∙ ap (λ (r : Record). r.uses) read)) i;
+          marks = ap numbered_map (map-set_same (λ (r : Record). r.mark) rs n t r
+              (mark ∙ ap (λ (r : Record). r.mark) read)) i;
+          free = counts_of arena.free;
+          records = length-set rs n t i;
+          extent = arena.extent;
+          bound = arena.bound;
         }
 
     -- the nodes after the uses of one were changed

@@ -1,3 +1,4 @@
+pub mod Chains
 pub mod Inserting
 pub mod Nodes
 pub mod Record

@@ -2,6 +2,7 @@
 ghost use Rattle.std.specs.Prelude.{◌≡◌, ◌≢◌, ◌+◌, ◌-◌, ◌<◌, ◌≤◌, ◌^◌, length};
 ghost use Rattle.std.specs.Prelude.{OnOk, OnErr, IfOk, IfErr, IfSome, IfNone, Some, None, ℕ};
 
+use crate::chains::{bucket, empty_heads, link, link_all};
 use crate::record::Record;
 use sd_runs::{Runs, TakeError};
 use std::alloc::{AllocError, Global};
@@ -10,14 +11,18 @@ use std::marker::Model;
 /// Nodes with a number, a place and a list, in one arena.
 #[derive(Drop)]
 pub struct Nodes {
+    alloc: Global,
     runs: Runs,
     /// The records of the nodes, by number.
     records: Vec<Record>,
+    /// The first number of the chain of each bucket. There are about as many buckets as records, or more.
+    heads: Vec<u32>,
 }
 
 impl Model for Nodes {
     ghost use Rattle.sd_unique.specs.Nodes.{Nodes as NodesSeen, nodes_code};
-    ghost use Rattle.sd_unique.specs.Record.{nodes_of, Stored};
+    ghost use Rattle.sd_unique.specs.Record.{nodes_of};
+    ghost use Rattle.sd_unique.specs.Chains.{Kept};
 
     ghost Value = { NodesSeen };
 
@@ -25,7 +30,7 @@ impl Model for Nodes {
 
     ghost view = { λ a. nodes_of a.runs a.records.items };
 
-    ghost invariant = { λ a. Stored a.runs a.records.items };
+    ghost invariant = { λ a. Kept a.runs a.records.items a.heads.items };
 }
 
 impl Nodes {
@@ -43,8 +48,10 @@ impl Nodes {
         ensures nodes { IfOk result (λ nodes. IsNodes nodes) }
     {
         Ok(Nodes {
+            alloc,
             runs: Runs::new(alloc, bound),
             records: Vec::new(alloc),
+            heads: empty_heads(alloc, 16)?,
         })
     }
 
@@ -54,10 +61,16 @@ impl Nodes {
         ensures none { IfNone result ((n : ℕ) → get self.now.linked n ≢ Some (place, list.now)) }
         ensures nodes { IsNodes self.now }
     {
-        for (number, record) in self.records.iter().enumerate() {
-            if record.place == place && self.runs.get(record.start, record.length) == list {
-                return Some(number as u32);
+        let mut number = self.heads[bucket(place, list, self.heads.len())];
+        for step in 0..self.records.len() {
+            if number as usize >= self.records.len() {
+                return None;
             }
+            let record = self.records[number as usize];
+            if record.place == place && self.runs.get(record.start, record.length) == list {
+                return Some(number);
+            }
+            number = record.next;
         }
         None
     }
@@ -74,17 +87,41 @@ impl Nodes {
         ensures err { OnErr result (self.new ≡ self.old) }
         ensures full { IfErr result (λ e. IsRefusal self.old (length list.now) e) }
     {
+        self.widen();
+        self.add(place, list)
+    }
+
+    // Doubles the buckets where they are fewer than the records. Where there is no memory for that, they stay.
+    fn widen(&mut self)
+        ensures { self.new ≡ self.old }
+    {
+        if self.records.len() < self.heads.len() {
+            return;
+        }
+        if let Ok(mut heads) = empty_heads(self.alloc, 2 * self.heads.len()) {
+            link_all(&self.runs, &mut self.records, &mut heads);
+            self.heads = heads;
+        }
+    }
+
+    // Makes a linked node as `insert` does, among the buckets that there are.
+    fn add(&mut self, place: u32, list: &[(u32, u32)]) -> Result<u32, TakeError>
+        requires some { 0 < length list.now }
+        requires absent { (n : ℕ) → get self.old.linked n ≢ Some (place, list.now) }
+        ensures number { IfOk result (λ n. IsNewNumber self.old n) }
+        ensures ok { IfOk result (λ n. self.new ≡ inserted self.old n place list.now) }
+        ensures nodes { IsNodes self.new }
+        ensures room { OnOk result (¬ IsFull self.old (length list.now)) }
+        ensures err { OnErr result (self.new ≡ self.old) }
+        ensures full { IfErr result (λ e. IsRefusal self.old (length list.now) e) }
+    {
         self.records.reserve(1)?;
         let start = self.runs.take(list)?;
-        let number = self.records.len() as u32;
-        let _ = self.records.push(Record {
-            place,
-            start,
-            length: list.len() as u32,
-            uses: 0,
-            mark: 0,
-        });
-        Ok(number)
+        let number = self.records.len();
+        let record = Record::new(place, start, list.len() as u32);
+        let _ = self.records.push(record);
+        link(&self.runs, &mut self.records, &mut self.heads, number);
+        Ok(number as u32)
     }
 
     /// The place of a node.

@@ -14,7 +14,7 @@ pub get-requires : goal.get-requires
 get-requires c =
     let inside = node_inside c.self.inside.runs c.self.inside.records.items c.args.node
     (subst (λ a. IsSome (key_at a c.args.node)) (sym c.self.view_is) c.requires) in
-    c.self.invariant.live c.args.node c.index-record.result.now
+    c.self.invariant.stored.live c.args.node c.index-record.result.now
     (record_at c.self.inside.runs c.self.inside.records.items c.args.node c.index-record.result.now inside
     c.index-record.ensures)
 
