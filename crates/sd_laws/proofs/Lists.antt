@@ -1,5 +1,6 @@
 -- Lists in another order, two lists side by side, and lists that ascend strictly.
-use Rattle.std.proofs.Common.{◌≡◌, ◌⊎◌, inl, inr, ℕ, zero, suc, length, ◌<◌, arith, true, false, cond, List, [], ◌∷◌, map}
+use Rattle.std.proofs.Common.{◌≡◌, ◌⊎◌, inl, inr, ℕ, zero, suc, length}
+use Rattle.std.proofs.Common.{◌<◌, arith, true, false, cond, List, [], ◌∷◌, map}
 use Rattle.std.proofs.Common.{take, drop, ◌++◌, ◌≤◌, get_or, refl, sym, ◌∙◌, ap, subst}
 use Rattle.std.specs.Prelude.{swap, Contains}
 use Rattle.std.specs.List.{AllByRecursion, AllZip}

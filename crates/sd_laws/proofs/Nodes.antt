@@ -192,7 +192,8 @@ pub prime_codes-differ : (t : Numbered) (at : Lookup) → IsNumbered t → (u : 
     (ds : List (Diagram × Diagram)) → IsSplitAt t at u l ds → AreDistinct (map (λ e. e.0) l)
 prime_codes-differ t at v u l ds h =
     codes_differ t at v (λ e. e.0) (λ d. d.0) l ds
-    (zip_weaker (λ e d. Shows t at e.0 d.0 × Shows t at e.1 d.1) (λ e d. Shows t at e.0 d.0) (λ x y h. h.0) l ds h.shown)
+    (zip_weaker (λ e d. Shows t at e.0 d.0 × Shows t at e.1 d.1) (λ e d. Shows t at e.0 d.0) (λ x y h. h.0) l ds
+    h.shown)
     (primes-differ (leaves (forget t)) h.left h.right h.base ds (split_apart t at u l ds v h).1 h.split)
 
 -- neighbours in a list without copies differ
