@@ -7,4 +7,5 @@ pub mod Reading
 pub mod Same
 pub mod Evaluating
 pub mod Linking
+pub mod Needed
 pub mod OverTwo

@@ -448,6 +448,7 @@ module _ (v : Numbered) (a : Nodes) (m : FinMap nat_cmp ℕ) (e u : ℕ) (elemen
           absent = absent;
           order = h.order;
           linked = refl;
+          mark = get-insert_same a.marks n 0;
           room = λ full.
               let same = length_permutation elements l h.order in
               room (subst (λ k. IsFull (table_of v a m e) k) (sym same) full);

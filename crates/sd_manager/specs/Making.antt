@@ -10,7 +10,7 @@ use Rattle.sd_vtree.specs.Numbered.{forget}
 use Rattle.sd_laws.specs.Pairs.{HasValue}
 use Rattle.sd_laws.specs.Shown.{Keeps}
 use Rattle.sd_manager.specs.Table.{Table, free_count}
-use Rattle.sd_manager.specs.Shown.{IsShown}
+use Rattle.sd_manager.specs.Shown.{IsShown, IsPartitionAt}
 
 -- Every linked node stays as it was, and so do the vtree, the roots and all else but what new nodes take.
 pub record Extends (old new : Table) : Type 0 where
@@ -53,7 +53,13 @@ abbrev pub KeepsRule : Table → TakeError → Type 0
 KeepsRule t (ArenaFull elements) = IsPastBound t elements
 KeepsRule t OutOfMemory = Unit {0}
 
--- one new node was linked at the place, with the elements by ascending codes, and there was room for it
+-- no node has the value of the partition yet
+abbrev pub IsNeeded : Table → ℕ → List (ℕ × ℕ) → TakeError → Type 0
+IsNeeded t place pairs (ArenaFull elements) =
+    (c : ℕ) (ds : List (Diagram × Diagram)) → IsPartitionAt t place pairs ds → ¬ (IsMade t c ds)
+IsNeeded t place pairs OutOfMemory = Unit {0}
+
+-- one new node was linked at the place, with the elements by ascending codes and mark 0, and there was room for it
 pub record HasNewNode (old new : Table) (place : ℕ) (elements : List (ℕ × ℕ)) (c : ℕ) : Type 0 where
   pub number : ℕ
   pub list : List (ℕ × ℕ)
@@ -61,6 +67,7 @@ pub record HasNewNode (old new : Table) (place : ℕ) (elements : List (ℕ × �
   pub absent : get old.linked number ≡ None
   pub order : IsPermutation elements list
   pub linked : new.linked ≡ insert old.linked number (place, list)
+  pub mark : get new.marks number ≡ Some 0
   pub room : ¬ IsFull old (length elements)
 
 -- the table in which this root holds the node with this code

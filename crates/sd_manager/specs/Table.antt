@@ -9,8 +9,8 @@ use Rattle.sd_vtree.specs.NumberedCode.{numbered_code}
 
 -- A node has a place, which is the number of a vtree node, and a list of pairs of codes. The maps `linked` and
 -- `detached` have the nodes by number; a loose run is a list of no node. A root is a number that holds a code. Of the
--- arena the extent, the bound and the number of free runs of each length are seen. Outside a move `moving` is None,
--- and there are no detached nodes and no loose runs.
+-- arena the extent, the bound and the number of free runs of each length are seen. Outside a move `moving` is None and
+-- there are no detached nodes; a loose run may stay until it is given back.
 pub record Table : Type 0 where
   pub vtree : Numbered
   pub linked : FinMap nat_cmp (ℕ × List (ℕ × ℕ))

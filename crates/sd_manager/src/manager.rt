@@ -15,7 +15,7 @@ ghost use Rattle.sd_manager.specs.Shown.{Shows, IsShown, IsKnown, HoldsDiagram, 
 ghost use Rattle.sd_manager.specs.Shown.{ShowsElement, constant_diagram};
 ghost use Rattle.sd_manager.specs.Views.{view_of, pairs_at, IsViewOf};
 ghost use Rattle.sd_manager.specs.Valid.{IsTable};
-ghost use Rattle.sd_manager.specs.Making.{Extends, IsMade, IsFull, IsRefusal, KeepsRule, HasNewNode};
+ghost use Rattle.sd_manager.specs.Making.{Extends, IsMade, IsFull, IsRefusal, KeepsRule, IsNeeded, HasNewNode};
 ghost use Rattle.sd_manager.specs.Making.{with_root, without_root};
 
 use crate::node_id::NodeId;
@@ -281,6 +281,7 @@ impl Manager {
         ensures err { OnErr result (self.new ≡ self.old) }
         ensures full { IfErr result (λ e. IsRefusal self.old (length elements.now) e) }
         ensures rule { IfErr result (λ e. KeepsRule self.new e) }
+        ensures needed { IfErr result (λ e. IsNeeded self.old place elements.now e) }
         ensures table { IsTable self.new }
     {
         sort_into(&mut self.sorted, elements)?;

@@ -1,12 +1,13 @@
 use Rattle.std.proofs.Common.{◌≡◌, inr, ℕ, ◌+◌, ◌<◌, ◌^◌, Some, length, refl, sym, subst, ◌∙◌, arith}
 use Rattle.std.specs.FinMap.{get}
 use Rattle.sd_manager.specs.Table.{uses_in}
-use Rattle.sd_manager.specs.Making.{Extends, IsMade, IsRefusal, KeepsRule, HasNewNode}
+use Rattle.sd_manager.specs.Making.{Extends, IsMade, IsRefusal, KeepsRule, IsNeeded, HasNewNode}
 use Rattle.sd_manager.specs.Counting.{AreCounted}
 use Rattle.sd_manager.specs.Stored.{table_of, IsStored}
 use Rattle.sd_manager.proofs.Linking.{asked, partition_inside, made_trimmed, made_found, two_pairs, refused, kept_rule}
 use Rattle.sd_manager.proofs.Linking.{list_counted, list_room, new_short, at_new, stored_new, made_new, kept_new}
 use Rattle.sd_manager.proofs.Linking.{grown_new}
+use Rattle.sd_manager.proofs.Needed.{needed}
 use Rattle.sd_manager.proofs.manager.Manager.make.Goals as goal
 
 pub returns-in-Some-clause-ok : goal.returns-in-Some-clause-ok
@@ -71,6 +72,20 @@ returns-in-Err-clause-rule c =
     subst (λ x. KeepsRule (table_of s.vtree x s.roots s.epoch) c.in-Err.error) (sym c.in-Err.ensures.err)
     (kept_rule s.vtree s.nodes s.roots s.epoch c.place.inside.0 c.args.elements.now c.as_slice-list.result.now h none
     c.in-Err.error c.in-Err.ensures.full)
+
+pub returns-in-Err-clause-needed : goal.returns-in-Err-clause-needed
+returns-in-Err-clause-needed c =
+    let s = c.self.inside in
+    let h = asked s.vtree s.nodes s.roots s.epoch c.args.self.now c.place.inside.0 c.args.place c.args.elements.now
+    c.as_slice-list.result.now c.sort_into.new.list.items c.self.invariant c.self.view_is c.place.view_is
+    c.requires.partition c.requires.differ c.in_ok-sort_into.ensures.permutation c.in_ok-sort_into.ensures.sorted
+    c.as_slice-list.ensures.value in
+    let none = sym c.trimmed.ensures ∙ c.in_default.is in
+    subst (λ t. IsNeeded t c.args.place c.args.elements.now c.in-Err.error) c.self.view_is
+    (subst (λ p. IsNeeded (table_of s.vtree s.nodes s.roots s.epoch) p c.args.elements.now c.in-Err.error)
+    c.place.view_is
+    (needed s.vtree s.nodes s.roots s.epoch c.place.inside.0 c.args.elements.now c.as_slice-list.result.now h none
+    c.in_default-find.ensures.none c.in-Err.error))
 
 pub add_uses-requires-clause-counted : goal.add_uses-requires-clause-counted
 add_uses-requires-clause-counted c =
