@@ -1,6 +1,8 @@
 -- Nodes as elements at a vtree node, and what operations make of them.
-use Rattle.std.proofs.Common.{◌≡◌, ◌≢◌, ℕ, zero, suc, ◌+◌, ◌-◌, ◌*◌, ◌≤◌, ◌<◌, Bool, true, false, not, cond, List, []}
-use Rattle.std.proofs.Common.{◌∷◌, ◌++◌, length, map, Option, Some, None, slice_get, refl, sym, ◌∙◌, ap, subst, arith, length-append}
+use Rattle.std.proofs.Common.{◌≡◌, ◌≢◌, ℕ, ◌+◌, ◌-◌, ◌*◌, ◌≤◌, ◌<◌, Bool, true, false}
+use Rattle.std.proofs.Common.{not, cond, List, []}
+use Rattle.std.proofs.Common.{◌∷◌, length, map, Some, slice_get, refl, sym}
+use Rattle.std.proofs.Common.{◌∙◌, ap, subst, arith, length-append}
 use Rattle.std.proofs.Common.{unwrap_or, nat_lt, if◌then◌else◌}
 use Rattle.std.specs.List.{AllZip, AllByRecursion}
 use Rattle.std.specs.Option.{option_map}
@@ -8,97 +10,132 @@ use Rattle.std.specs.FinMap.{get}
 use Rattle.std.proofs.lemmas.Option.{same_Some}
 use Rattle.std.proofs.lemmas.Bool.Decides.{nat_tests}
 use Rattle.sd_model.specs.declared.trees.Operation.{Operation}
-use Rattle.sd_model.specs.Tree.{Tree, Leaf, Node, leaves, variables, position, right_base}
+use Rattle.sd_model.specs.Tree.{Tree, Node, leaves, variables, position, right_base}
 use Rattle.sd_model.specs.Diagram.{Diagram, Bottom, Top, Literal, Decomposition, Elements, meaning}
 use Rattle.sd_model.specs.Canonical.{IsCanonical, canonical_top}
 use Rattle.sd_model.specs.Expression.{combine}
-use Rattle.sd_vtree.specs.Numbered.{Numbered, forget, numbers, subtree, children_at, IsNumbered, or_else}
-use Rattle.sd_vtree.specs.Numbered.{IsUnder as StandsUnder}
+use Rattle.sd_vtree.specs.Numbered.{forget, numbers}
+use Rattle.sd_vtree.specs.Numbered.{or_else}
 use Rattle.sd_vtree.proofs.Times.{one_place}
 use Rattle.sd_vtree.proofs.Subtrees.{once_numbered}
-use Rattle.sd_laws.specs.Pairs.{answers, IsOneTrue, AreElements}
+use Rattle.sd_laws.specs.Pairs.{answers}
 use Rattle.sd_laws.specs.Parts.{here, IsInner, HasPosition}
-use Rattle.sd_laws.specs.Shown.{ShowPairs, HasPairs, Lookup, IsNode}
-use Rattle.sd_laws.proofs.Codes.{one-diagram, literal-range}
-use Rattle.sd_laws.proofs.Expanded.{Stored, stored-split}
+use Rattle.sd_laws.specs.Shown.{ShowPairs, HasPairs, IsNode}
+use Rattle.sd_laws.proofs.Codes.{literal-range}
+use Rattle.sd_laws.proofs.Expanded.{stored-split}
 use Rattle.sd_laws.proofs.Places.{same-diagram, canonical-in, position-within, leaves-positive}
 use Rattle.sd_manager.specs.Table.{Table, key_at}
 use Rattle.sd_manager.specs.Shown.{Shows, IsShown}
 use Rattle.sd_manager.specs.Views.{pairs_at}
 use Rattle.sd_manager.specs.Making.{Extends}
 use Rattle.sd_manager.specs.Valid.{IsTable}
-use Rattle.sd_apply.specs.Answers.{HasAnswer}
-use Rattle.sd_apply.specs.Places.{tree_at, width, IsUnder, IsNodeUnder, IsBelow, IsThere, HasPlace, HasChildren}
-use Rattle.sd_apply.specs.Elements.{IsPair, Lists, IsSplit, HasList, IsPaired, AreListed, ArePartition, products}
+use Rattle.sd_apply.specs.Places.{IsUnder, IsNodeUnder, IsBelow}
+use Rattle.sd_apply.specs.Places.{HasPlace, HasChildren}
+use Rattle.sd_apply.specs.Elements.{IsPair, Lists, IsSplit, HasList, AreListed}
+use Rattle.sd_apply.specs.Elements.{ArePartition, products}
 use Rattle.sd_apply.specs.Calls.{Applies, Complements, Expands, Multiplies, Joins, Flips}
-use Rattle.sd_apply.proofs.Trees.{Fork, fork, apart, answer-under, not-under, canonical-below, below-canonical, left_tree, right_tree}
+use Rattle.sd_apply.proofs.Trees.{Fork, fork, apart, not-under, canonical-below}
+use Rattle.sd_apply.proofs.Trees.{below-canonical, left_tree, right_tree}
 use Rattle.sd_apply.proofs.Trees.{left_part, right_part, bottom-under, top-under}
-use Rattle.sd_apply.proofs.Listed.{extends-self, extends-on, node-on, lists-on, under-on, shows-on, split-on}
+use Rattle.sd_apply.proofs.Listed.{node-on, lists-on}
 use Rattle.sd_apply.proofs.Rows.{not-bottom}
 
 -- the list of a node
-pairs-of_key : (t : Table) (c n place : ℕ) (list : List (ℕ × ℕ)) → c ≡ 2050 + n → get t.linked n ≡ Some (place, list) →
+pairs-of_key : (t : Table) (c n place : ℕ) (list : List (ℕ × ℕ)) → c ≡ 2050 + n →
+    get t.linked n ≡ Some (place, list) →
     pairs_at t c ≡ list
 pairs-of_key t c n place list e k =
     let low : nat_lt c 2050 ≡ false = grind (arith, nat_tests) in
     let at : c - 2050 ≡ n = omega (arith, e) in
-    let found : key_at t (c - 2050) ≡ Some (place, list) = ap (key_at t) at ∙ ap (λ o. or_else o (get t.detached n)) k in
-    ap (λ b. if b then [] else unwrap_or (option_map (λ (k : ℕ × List (ℕ × ℕ)). k.1) (key_at t (c - 2050))) []) low
+    let found : key_at t (c - 2050) ≡ Some (place, list) = ap (key_at t) at
+    ∙ ap (λ o. or_else o (get t.detached n)) k in
+    ap (λ b. if b then [] else unwrap_or (option_map (λ (k : ℕ × List (ℕ × ℕ)). k.1)
+    (key_at t (c - 2050))) []) low
     ∙ ap (λ o. unwrap_or (option_map (λ (k : ℕ × List (ℕ × ℕ)). k.1) o) []) found
 
 -- what is shown with the elements' conditions is a list of elements
-pub listed : (t : Table) (u w : ℕ) (P Q R : Diagram × Diagram → Type 0) → ((d : Diagram × Diagram) → P d → IsUnder t.vtree u d.0) →
-    ((d : Diagram × Diagram) → Q d → IsUnder t.vtree w d.1) → ((d : Diagram × Diagram) → R d → d.0 ≢ Bottom) →
-    (l : List (ℕ × ℕ)) (ds : List (Diagram × Diagram)) → ShowPairs t.vtree (get t.linked) l ds → AllByRecursion P ds →
+pub listed : (t : Table) (u w : ℕ) (P Q R : Diagram × Diagram → Type 0) →
+    ((d : Diagram × Diagram) → P d → IsUnder t.vtree u d.0) →
+    ((d : Diagram × Diagram) → Q d → IsUnder t.vtree w d.1) → ((d : Diagram × Diagram) → R d →
+    d.0 ≢ Bottom) →
+    (l : List (ℕ × ℕ)) (ds : List (Diagram × Diagram)) → ShowPairs t.vtree (get t.linked) l ds →
+    AllByRecursion P ds →
     AllByRecursion Q ds → AllByRecursion R ds → AllZip (IsPair t u w) l ds
 listed t u w P Q R p q r [] [] h a b c = tt
 listed t u w P Q R p q r [] (d ∷ ds) h a b c = absurd h
 listed t u w P Q R p q r (e ∷ l) [] h a b c = absurd h
-listed t u w P Q R p q r (e ∷ l) (d ∷ ds) h a b c =
-    (record { prime_shows = h.0.0; sub_shows = h.0.1; prime = p d a.0; sub = q d b.0; possible = r d c.0 },
-    listed t u w P Q R p q r l ds h.1 a.1 b.1 c.1)
+listed t u w P Q R p q r (e ∷ l) (d ∷ ds) h a b c = (
+  record {
+    prime_shows = h.0.0;
+    sub_shows = h.0.1;
+    prime = p d a.0;
+    sub = q d b.0;
+    possible = r d c.0;
+  },
+  listed t u w P Q R p q r l ds h.1 a.1 b.1 c.1,
+)
 
 -- the elements of a node at its own place
-own-shows : (t : Table) → IsTable t → (p u w c : ℕ) → HasChildren t.vtree p u w → (q : ℕ) (es : Elements) →
+own-shows : (t : Table) → IsTable t → (p u w c : ℕ) → HasChildren t.vtree p u w →
+    (q : ℕ) (es : Elements) →
     IsShown t c (Decomposition q es) → HasPlace t.vtree p (Decomposition q es) →
     HasList t u w (pairs_at t c) (λ g. meaning (Decomposition q es) g ∷ [])
 own-shows t i p u w c e q es h place =
     let v = i.numbered in
     let k : HasPairs t.vtree (get t.linked) c q h.shows.0 = h.shows.1 in
     let f = fork t.vtree v p u w e in
-    let at : slice_get (numbers t.vtree) q ≡ Some p = ap (slice_get (numbers t.vtree)) place.stands ∙ place.number in
+    let at : slice_get (numbers t.vtree) q ≡ Some p = ap (slice_get (numbers t.vtree))
+    place.stands ∙ place.number in
     let same : k.place ≡ p = same_Some k.place p (sym k.position ∙ at) in
     let inner : IsInner t.vtree k.place (forget f.left) (forget f.right) f.base =
     subst (λ x. IsInner t.vtree x (forget f.left) (forget f.right) f.base) (sym same) f.inner in
-    let node : IsNode t.vtree (get t.linked) c (Decomposition q es) = record { shows = h.shows; canonical = h.canonical } in
-    let s = stored-split t.vtree (get t.linked) v c q es node k.number k.place k.list k.code k.stored
-        (forget f.left) (forget f.right) f.base inner in
+    let node : IsNode t.vtree (get t.linked) c (Decomposition q es) = record {
+      shows = h.shows;
+      canonical = h.canonical;
+    } in
+    let s = stored-split t.vtree (get t.linked) v c q es node k.number k.place k.list k.code
+    k.stored
+    (forget f.left) (forget f.right) f.base inner in
     let list = pairs-of_key t c k.number k.place k.list k.code k.stored in
     let lists : Lists t u w k.list s.pairs = record {
       pairs = listed t u w _ _ _
-          (λ d a. below-canonical t.vtree u (forget f.left) f.base d.0 (left_tree t.vtree p u w f) (left_part t.vtree p u w f) a)
-          (λ d a. below-canonical t.vtree w (forget f.right) _ d.1 (right_tree t.vtree p u w f) (right_part t.vtree p u w f) a)
-          (λ d a. a) k.list s.pairs s.shown s.split.elements.primes s.split.elements.subs s.split.elements.possible;
+          (λ d a. below-canonical t.vtree u (forget f.left) f.base d.0 (left_tree t.vtree p u w f)
+          (left_part t.vtree p u w f) a)
+          (λ d a. below-canonical t.vtree w (forget f.right) _ d.1 (right_tree t.vtree p u w f)
+          (right_part t.vtree p u w f) a)
+          (λ d a. a) k.list s.pairs s.shown s.split.elements.primes s.split.elements.subs
+          s.split.elements.possible;
     } in
-    record { shown = s.pairs; lists = subst (λ l. Lists t u w l s.pairs) (sym list) lists; value = s.value }
+    record {
+      shown = s.pairs;
+      lists = subst (λ l. Lists t u w l s.pairs) (sym list) lists;
+      value = s.value;
+    }
 
-pub own-list : (t : Table) → IsTable t → (p u w c : ℕ) → HasChildren t.vtree p u w → (x : Diagram) → IsShown t c x →
+pub own-list : (t : Table) → IsTable t → (p u w c : ℕ) → HasChildren t.vtree p u w →
+    (x : Diagram) → IsShown t c x →
     HasPlace t.vtree p x → 2050 ≤ c → HasList t u w (pairs_at t c) (λ g. meaning x g ∷ [])
 own-list t i p u w c e Bottom h place code = absurd place.stands
 own-list t i p u w c e Top h place code = absurd place.stands
 own-list t i p u w c e (Literal q y s) h place code =
-    absurd (omega (arith, (literal-range t.vtree (get t.linked) i.numbered c q y s h.shows).2, code))
+    absurd (omega (
+      arith,
+      (literal-range t.vtree (get t.linked) i.numbered c q y s h.shows).2,
+      code,
+    ))
 own-list t i p u w c e (Decomposition q es) h place code = own-shows t i p u w c e q es h place
 
 -- a node at an inner place is no literal
-pub own-code : (t : Table) → IsTable t → (p u w c : ℕ) → HasChildren t.vtree p u w → (x : Diagram) → IsShown t c x →
+pub own-code : (t : Table) → IsTable t → (p u w c : ℕ) → HasChildren t.vtree p u w →
+    (x : Diagram) → IsShown t c x →
     HasPlace t.vtree p x → 2050 ≤ c
 own-code t i p u w c e Bottom h place = absurd place.stands
 own-code t i p u w c e Top h place = absurd place.stands
 own-code t i p u w c e (Decomposition q es) h place = omega (arith, h.shows.1.code)
 own-code t i p u w c e (Literal q y s) h place =
     let f = fork t.vtree i.numbered p u w e in
-    let at : slice_get (numbers t.vtree) q ≡ Some p = ap (slice_get (numbers t.vtree)) place.stands ∙ place.number in
+    let at : slice_get (numbers t.vtree) q ≡ Some p = ap (slice_get (numbers t.vtree))
+    place.stands ∙ place.number in
     let same : q ≡ position (Node (forget f.left) (forget f.right)) f.base =
     one_place (numbers t.vtree) p q (position (Node (forget f.left) (forget f.right)) f.base)
     (once_numbered t.vtree i.numbered p) at f.inner.number in
@@ -112,81 +149,101 @@ own-code t i p u w c e (Literal q y s) h place =
       length-append (variables (forget f.left)) (variables (forget f.right)),
     ))) same)
   where
-    no_literal : {l r : Tree} {b q y : ℕ} {s : Bool} → IsCanonical (Node l r) b (Literal q y s) → q ≡ position (Node l r) b → ⊥
+    no_literal : {l r : Tree} {b q y : ℕ} {s : Bool} → IsCanonical (Node l r) b (Literal q y s) →
+        q ≡ position (Node l r) b → ⊥
     no_literal (Rattle.sd_model.specs.Canonical.canonical_in_left {l = l} n k) e =
         omega (arith, (position-within k refl).1, e, leaves-positive l)
     no_literal (Rattle.sd_model.specs.Canonical.canonical_in_right {l = l} n k) e =
         omega (arith, (position-within k refl).0, e, leaves-positive l)
 
 -- where a diagram below a vtree node stands
-record StandsAt (t : Table) (p u w own po pp : ℕ) (x : Diagram) (f : Fork t.vtree p u w) : Type 0 where
-  stands : HasPosition x po
-  middle : pp ≡ position (Node (forget f.left) (forget f.right)) f.base
-  low : f.base ≤ po
-  high : po + 1 < f.base + 2 * leaves (Node (forget f.left) (forget f.right))
+record StandsAt (t : Table) (p u w own po pp : ℕ) (x : Diagram) (f : Fork t.vtree p u w) : Type 0
+  where
+    stands : HasPosition x po
+    middle : pp ≡ position (Node (forget f.left) (forget f.right)) f.base
+    low : f.base ≤ po
+    high : po + 1 < f.base + 2 * leaves (Node (forget f.left) (forget f.right))
 
 -- positions of a diagram and of the vtree node below which it stands
-stands_at : (t : Table) → IsTable t → (p u w own po pp : ℕ) (f : Fork t.vtree p u w) (x : Diagram) → IsUnder t.vtree p x →
-    HasPlace t.vtree own x → slice_get (numbers t.vtree) pp ≡ Some p → slice_get (numbers t.vtree) po ≡ Some own →
+stands_at : (t : Table) → IsTable t → (p u w own po pp : ℕ) (f : Fork t.vtree p u w) (x : Diagram)
+    → IsUnder t.vtree p x →
+    HasPlace t.vtree own x → slice_get (numbers t.vtree) pp ≡ Some p → slice_get (numbers t.vtree)
+    po ≡ Some own →
     StandsAt t p u w own po pp x f
 stands_at t i p u w own po pp f x h k np ao =
     let v = i.numbered in
     let whole = Node (forget f.left) (forget f.right) in
     let c = canonical-below t.vtree v p whole f.base x f.whole f.inner.part h in
-    let same : k.position ≡ po = one_place (numbers t.vtree) own k.position po (once_numbered t.vtree v own) k.number ao in
+    let same : k.position ≡ po = one_place (numbers t.vtree) own k.position po (once_numbered
+    t.vtree v own) k.number ao in
     let stands : HasPosition x po = subst (HasPosition x) same k.stands in
     let r = position-within c stands in
     record {
       stands = stands;
-      middle = one_place (numbers t.vtree) p pp (position whole f.base) (once_numbered t.vtree v p) np f.inner.number;
+      middle = one_place (numbers t.vtree) p pp (position whole f.base) (once_numbered t.vtree v
+          p) np f.inner.number;
       low = r.0;
       high = r.1;
     }
 
 -- a diagram that stands behind a vtree node below which it is, is below the right child
-pub right-under : (t : Table) → IsTable t → (p u w own pp po : ℕ) → HasChildren t.vtree p u w → (x : Diagram) →
+pub right-under : (t : Table) → IsTable t → (p u w own pp po : ℕ) → HasChildren t.vtree p u w →
+    (x : Diagram) →
     IsUnder t.vtree p x → HasPlace t.vtree own x → slice_get (numbers t.vtree) pp ≡ Some p →
     slice_get (numbers t.vtree) po ≡ Some own → pp < po → IsUnder t.vtree w x
 right-under t i p u w own pp po e x h k np ao lt =
     let f = fork t.vtree i.numbered p u w e in
     let s = stands_at t i p u w own po pp f x h k np ao in
     let c = canonical-in (right_part t.vtree p u w f) h.canonical s.stands
-        (omega (arith, s.middle, leaves-positive (forget f.left)))
-        (omega (arith, s.high, length-append (variables (forget f.left)) (variables (forget f.right)))) in
-    below-canonical t.vtree w (forget f.right) (right_base (forget f.left) f.base) x (right_tree t.vtree p u w f)
+    (omega (arith, s.middle, leaves-positive (forget f.left)))
+    (omega (
+      arith,
+      s.high,
+      length-append (variables (forget f.left))
+          (variables (forget f.right)),
+    )) in
+    below-canonical t.vtree w (forget f.right) (right_base (forget f.left) f.base) x
+    (right_tree t.vtree p u w f)
     (right_part t.vtree p u w f) c
 
 -- and one that stands before it is below the left child
-pub left-under : (t : Table) → IsTable t → (p u w own pp po : ℕ) → HasChildren t.vtree p u w → (x : Diagram) →
+pub left-under : (t : Table) → IsTable t → (p u w own pp po : ℕ) → HasChildren t.vtree p u w →
+    (x : Diagram) →
     IsUnder t.vtree p x → HasPlace t.vtree own x → slice_get (numbers t.vtree) pp ≡ Some p →
     slice_get (numbers t.vtree) po ≡ Some own → po < pp → IsUnder t.vtree u x
 left-under t i p u w own pp po e x h k np ao lt =
     let f = fork t.vtree i.numbered p u w e in
     let s = stands_at t i p u w own po pp f x h k np ao in
     let c = canonical-in (left_part t.vtree p u w f) h.canonical s.stands s.low
-        (omega (arith, s.middle, leaves-positive (forget f.left))) in
-    below-canonical t.vtree u (forget f.left) f.base x (left_tree t.vtree p u w f) (left_part t.vtree p u w f) c
+    (omega (arith, s.middle, leaves-positive (forget f.left))) in
+    below-canonical t.vtree u (forget f.left) f.base x (left_tree t.vtree p u w f)
+    (left_part t.vtree p u w f) c
 
 -- a node below the right child beside the prime true
-pub expand-right : (t : Table) → IsTable t → (v u w a : ℕ) → ((x : Diagram) → IsNodeUnder t v a x → IsUnder t.vtree w x) →
+pub expand-right : (t : Table) → IsTable t → (v u w a : ℕ) → ((x : Diagram) →
+    IsNodeUnder t v a x → IsUnder t.vtree w x) →
     Expands t t v u w a ((1, a) ∷ [])
 expand-right t i v u w a under = record {
   each = λ x h. record {
     shown = (Top, x) ∷ [];
     lists = record {
-      pairs = (record {
-        prime_shows = refl;
-        sub_shows = h.shows;
-        prime = top-under t.vtree u;
-        sub = under x h;
-        possible = λ e. cc;
-      }, tt);
+      pairs = (
+        record {
+          prime_shows = refl;
+          sub_shows = h.shows;
+          prime = top-under t.vtree u;
+          sub = under x h;
+          possible = λ e. cc;
+        },
+        tt,
+      );
     };
     value = λ g. refl;
   };
 }
 
-two_answers : (x z : Bool) → z ≡ not x → cond x (true ∷ cond z (false ∷ []) []) (cond z (false ∷ []) []) ≡ x ∷ []
+two_answers : (x z : Bool) → z ≡ not x → cond x (true ∷ cond z (false ∷ []) [])
+    (cond z (false ∷ []) []) ≡ x ∷ []
 two_answers true true e = absurd (cc)
 two_answers true false e = refl
 two_answers false true e = refl
@@ -200,8 +257,10 @@ not_false false e = absurd (cc)
 not_top : (t : Table) → IsTable t → (a : ℕ) (x z : Diagram) → IsShown t a x → 2 ≤ a →
     ((g : List Bool) → meaning z g ≡ not (meaning x g)) → z ≢ Bottom
 not_top t i a x z h two value e =
-    let always : (g : List Bool) → meaning x g ≡ true = λ g. not_false (meaning x g) (sym (value g) ∙ ap (λ d. meaning d g) e) in
-    let top : x ≡ Top = same-diagram (leaves (forget t.vtree)) (apart t.vtree i.numbered) here x Top h.canonical canonical_top always in
+    let always : (g : List Bool) → meaning x g ≡ true = λ g. not_false (meaning x g)
+    (sym (value g) ∙ ap (λ d. meaning d g) e) in
+    let top : x ≡ Top = same-diagram (leaves (forget t.vtree)) (apart t.vtree i.numbered) here x
+    Top h.canonical canonical_top always in
     let one : a ≡ 1 = subst (λ d. Shows t a d) top h.shows in
     omega (arith, one, two)
 
@@ -231,7 +290,10 @@ expand-left t t1 i x v u w a other two under k = record {
                 sub_shows = refl;
                 prime = not-under t1.vtree u d z.diagram next.under z.is.canonical z.value;
                 sub = bottom-under t1.vtree w;
-                possible = not_top t i a d z.diagram (record { shows = h.shows; canonical = h.under.canonical }) two z.value;
+                possible = not_top t i a d z.diagram (record {
+                  shows = h.shows;
+                  canonical = h.under.canonical;
+                }) two z.value;
               },
               tt,
             ),
@@ -247,68 +309,99 @@ pub expand-own : (t : Table) → IsTable t → (p u w c : ℕ) → HasChildren t
 expand-own t i p u w c e place = record {
   each = λ x h.
       let shown : IsShown t c x = record { shows = h.shows; canonical = h.under.canonical } in
-      own-list t i p u w c e x shown (place x shown) (own-code t i p u w c e x shown (place x shown));
+      own-list t i p u w c e x shown (place x shown) (own-code t i p u w c e x shown
+      (place x shown));
 }
 
 -- expansions are partitions, also later
-pub expanded-partition : (m0 m1 m2 : Table) (p u w a : ℕ) (l : List (ℕ × ℕ)) → Expands m0 m1 p u w a l → Extends m1 m2 →
+pub expanded-partition : (m0 m1 m2 : Table) (p u w a : ℕ) (l : List (ℕ × ℕ)) →
+    Expands m0 m1 p u w a l → Extends m1 m2 →
     (x : Diagram) → IsNodeUnder m0 p a x → ArePartition m2 u w l
 expanded-partition m0 m1 m2 p u w a l h x d k =
     let e = h.each d k in
     record {
       shown = e.shown;
-      is = record { lists = lists-on m1 m2 x u w l e.shown e.lists; one_true = λ g. ap length (e.value g) };
+      is = record {
+        lists = lists-on m1 m2 x u w l e.shown e.lists;
+        one_true = λ g. ap length (e.value g);
+      };
     }
 
-pub partition-listed : (t : Table) (u w : ℕ) (l : List (ℕ × ℕ)) → ArePartition t u w l → AreListed t u w l
+pub partition-listed : (t : Table) (u w : ℕ) (l : List (ℕ × ℕ)) → ArePartition t u w l →
+    AreListed t u w l
 partition-listed t u w l h = record { shown = h.shown; is = h.is.lists }
 
 -- the products of two expansions
-record HasProducts (t : Table) (o : Operation) (u w : ℕ) (q : List (ℕ × ℕ)) (x y : Diagram) : Type 0 where
+record HasProducts (t : Table) (o : Operation) (u w : ℕ) (q : List (ℕ × ℕ)) (x y : Diagram) : Type
+    0 where
   shown : List (Diagram × Diagram)
   is : IsSplit t u w q shown
   value : (g : List Bool) → answers g shown ≡ combine o (meaning x g) (meaning y g) ∷ []
 
-has_products : (m0 m1 m2 m3 : Table) (o : Operation) (p u w a b : ℕ) (l k q : List (ℕ × ℕ)) → Extends m0 m1 → Extends m1 m2 →
-    (x y : Diagram) → IsNodeUnder m0 p a x → IsNodeUnder m0 p b y → Expands m0 m1 p u w a l → Expands m1 m2 p u w b k →
+has_products : (m0 m1 m2 m3 : Table) (o : Operation) (p u w a b : ℕ) (l k q : List (ℕ × ℕ)) →
+    Extends m0 m1 → Extends m1 m2 →
+    (x y : Diagram) → IsNodeUnder m0 p a x → IsNodeUnder m0 p b y → Expands m0 m1 p u w a l →
+    Expands m1 m2 p u w b k →
     Multiplies m2 m3 o u w l k q → HasProducts m3 o u w q x y
 has_products m0 m1 m2 m3 o p u w a b l k q e1 e2 x y px py first second product =
     let ds = first.each x px in
     let fs = second.each y (node-on m0 m1 e1 p b y py) in
     let gs = product.each ds.shown fs.shown (lists-on m1 m2 e2 u w l ds.shown ds.lists)
-        (record { lists = fs.lists; one_true = λ g. ap length (fs.value g) }) in
-    let value : (g : List Bool) → answers g gs.shown ≡ combine o (meaning x g) (meaning y g) ∷ [] = λ g.
+    (record { lists = fs.lists; one_true = λ g. ap length (fs.value g) }) in
+    let value : (g : List Bool) → answers g gs.shown ≡ combine o (meaning x g) (meaning y g) ∷
+    [] = λ g.
     gs.value g ∙ ap (λ z. products o z (answers g fs.shown)) (ds.value g)
     ∙ ap (λ z. products o (meaning x g ∷ []) z) (fs.value g) in
-    record { shown = gs.shown; is = record { lists = gs.lists; one_true = λ g. ap length (value g) }; value = value }
+    record {
+      shown = gs.shown;
+      is = record {
+        lists = gs.lists;
+        one_true = λ g. ap length (value g);
+      };
+      value = value;
+    }
 
-pub products-partition : (m0 m1 m2 m3 : Table) (o : Operation) (p u w a b : ℕ) (l k q : List (ℕ × ℕ)) → Extends m0 m1 →
-    Extends m1 m2 → (x y : Diagram) → IsNodeUnder m0 p a x → IsNodeUnder m0 p b y → Expands m0 m1 p u w a l →
+pub products-partition : (m0 m1 m2 m3 : Table) (o : Operation) (p u w a b : ℕ)
+    (l k q : List (ℕ × ℕ)) → Extends m0 m1 →
+    Extends m1 m2 → (x y : Diagram) → IsNodeUnder m0 p a x → IsNodeUnder m0 p b y →
+    Expands m0 m1 p u w a l →
     Expands m1 m2 p u w b k → Multiplies m2 m3 o u w l k q → ArePartition m3 u w q
 products-partition m0 m1 m2 m3 o p u w a b l k q e1 e2 x y px py first second product =
     let h = has_products m0 m1 m2 m3 o p u w a b l k q e1 e2 x y px py first second product in
     record { shown = h.shown; is = h.is }
 
 -- a node below a vtree node v is below the node p that was chosen for it
-pub node-at : (t : Table) (v p a : ℕ) (x : Diagram) → ((d : Diagram) → IsShown t a d → IsUnder t.vtree p d) →
+pub node-at : (t : Table) (v p a : ℕ) (x : Diagram) → ((d : Diagram) → IsShown t a d →
+    IsUnder t.vtree p d) →
     IsNodeUnder t v a x → IsNodeUnder t p a x
 node-at t v p a x under h =
-    record { shows = h.shows; under = under x (record { shows = h.shows; canonical = h.under.canonical }) }
+    record {
+      shows = h.shows;
+      under = under x (record {
+        shows = h.shows;
+        canonical = h.under.canonical;
+      });
+    }
 
-pub below-at : (t : Table) (v p a : ℕ) → ((d : Diagram) → IsShown t a d → IsUnder t.vtree p d) → IsBelow t v a → IsBelow t p a
+pub below-at : (t : Table) (v p a : ℕ) → ((d : Diagram) → IsShown t a d → IsUnder t.vtree p d) →
+    IsBelow t v a → IsBelow t p a
 below-at t v p a under h = record { diagram = h.diagram; is = node-at t v p a h.diagram under h.is }
 
 -- the answer of an operation at two expansions
-pub split-applies : (m0 m1 m2 m3 m4 : Table) (o : Operation) (v p u w a b r : ℕ) (l k q : List (ℕ × ℕ)) → Extends m0 m1 →
+pub split-applies : (m0 m1 m2 m3 m4 : Table) (o : Operation) (v p u w a b r : ℕ)
+    (l k q : List (ℕ × ℕ)) → Extends m0 m1 →
     Extends m1 m2 → ((d : Diagram) → IsShown m0 a d → IsUnder m0.vtree p d) →
-    ((d : Diagram) → IsShown m0 b d → IsUnder m0.vtree p d) → Expands m0 m1 p u w a l → Expands m1 m2 p u w b k →
+    ((d : Diagram) → IsShown m0 b d → IsUnder m0.vtree p d) → Expands m0 m1 p u w a l →
+    Expands m1 m2 p u w b k →
     Multiplies m2 m3 o u w l k q → Joins m3 m4 u w q r → Applies m0 m4 o v a b r
-split-applies m0 m1 m2 m3 m4 o v p u w a b r l k q e1 e2 under_a under_b first second product join = record {
-  each = λ x y px py.
-      let h = has_products m0 m1 m2 m3 o p u w a b l k q e1 e2 x y (node-at m0 v p a x under_a px)
+split-applies m0 m1 m2 m3 m4 o v p u w a b r l k q e1 e2 under_a under_b first second product
+    join = record {
+      each = λ x y px py.
+          let h = has_products m0 m1 m2 m3 o p u w a b l k q e1 e2 x y (node-at m0 v p a x under_a
+          px)
           (node-at m0 v p b y under_b py) first second product in
-      join.each h.shown h.is (λ g. combine o (meaning x g) (meaning y g)) h.value;
-}
+          join.each h.shown h.is (λ g. combine o (meaning x g) (meaning y g)) h.value;
+    }
 
 -- the negated elements of a decomposition
 record HasFlips (t : Table) (u w : ℕ) (k : List (ℕ × ℕ)) (x : Diagram) : Type 0 where
@@ -316,30 +409,45 @@ record HasFlips (t : Table) (u w : ℕ) (k : List (ℕ × ℕ)) (x : Diagram) : 
   is : IsSplit t u w k shown
   value : (g : List Bool) → answers g shown ≡ not (meaning x g) ∷ []
 
-has_flips : (m0 m1 : Table) → IsTable m0 → (p u w c : ℕ) (k : List (ℕ × ℕ)) → HasChildren m0.vtree p u w → (x : Diagram) →
-    IsShown m0 c x → HasPlace m0.vtree p x → 2050 ≤ c → Flips m0 m1 u w (pairs_at m0 c) k → HasFlips m1 u w k x
+has_flips : (m0 m1 : Table) → IsTable m0 → (p u w c : ℕ) (k : List (ℕ × ℕ)) →
+    HasChildren m0.vtree p u w → (x : Diagram) →
+    IsShown m0 c x → HasPlace m0.vtree p x → 2050 ≤ c → Flips m0 m1 u w (pairs_at m0 c) k →
+    HasFlips m1 u w k x
 has_flips m0 m1 i p u w c k e x h place code flip =
     let ds = own-list m0 i p u w c e x h place code in
     let gs = flip.each ds.shown ds.lists in
-    let value : (g : List Bool) → answers g gs.shown ≡ not (meaning x g) ∷ [] = λ g. gs.value g ∙ ap (map not) (ds.value g) in
-    record { shown = gs.shown; is = record { lists = gs.lists; one_true = λ g. ap length (value g) }; value = value }
+    let value : (g : List Bool) → answers g gs.shown ≡ not (meaning x g) ∷ [] = λ g. gs.value g
+    ∙ ap (map not) (ds.value g) in
+    record {
+      shown = gs.shown;
+      is = record {
+        lists = gs.lists;
+        one_true = λ g. ap length (value g);
+      };
+      value = value;
+    }
 
-pub flips-partition : (m0 m1 : Table) → IsTable m0 → (p u w c : ℕ) (k : List (ℕ × ℕ)) → HasChildren m0.vtree p u w →
-    (x : Diagram) → IsShown m0 c x → HasPlace m0.vtree p x → 2050 ≤ c → Flips m0 m1 u w (pairs_at m0 c) k →
+pub flips-partition : (m0 m1 : Table) → IsTable m0 → (p u w c : ℕ) (k : List (ℕ × ℕ)) →
+    HasChildren m0.vtree p u w →
+    (x : Diagram) → IsShown m0 c x → HasPlace m0.vtree p x → 2050 ≤ c →
+    Flips m0 m1 u w (pairs_at m0 c) k →
     ArePartition m1 u w k
 flips-partition m0 m1 i p u w c k e x h place code flip =
     let q = has_flips m0 m1 i p u w c k e x h place code flip in
     record { shown = q.shown; is = q.is }
 
-pub own-listed : (t : Table) → IsTable t → (p u w c : ℕ) → HasChildren t.vtree p u w → (x : Diagram) → IsShown t c x →
+pub own-listed : (t : Table) → IsTable t → (p u w c : ℕ) → HasChildren t.vtree p u w →
+    (x : Diagram) → IsShown t c x →
     HasPlace t.vtree p x → 2050 ≤ c → AreListed t u w (pairs_at t c)
 own-listed t i p u w c e x h place code =
     let q = own-list t i p u w c e x h place code in
     record { shown = q.shown; is = q.lists }
 
 -- the answer of negation at a decomposition
-pub flip-complements : (m0 m1 m2 : Table) → IsTable m0 → (v p u w c r : ℕ) (k : List (ℕ × ℕ)) → HasChildren m0.vtree p u w →
-    ((d : Diagram) → IsShown m0 c d → HasPlace m0.vtree p d) → 2050 ≤ c → Flips m0 m1 u w (pairs_at m0 c) k →
+pub flip-complements : (m0 m1 m2 : Table) → IsTable m0 → (v p u w c r : ℕ) (k : List (ℕ × ℕ)) →
+    HasChildren m0.vtree p u w →
+    ((d : Diagram) → IsShown m0 c d → HasPlace m0.vtree p d) → 2050 ≤ c →
+    Flips m0 m1 u w (pairs_at m0 c) k →
     Joins m1 m2 u w k r → Complements m0 m2 v c r
 flip-complements m0 m1 m2 i v p u w c r k e place code flip join = record {
   each = λ x h.

@@ -1,6 +1,8 @@
 -- The answers that need no node are right.
-use Rattle.std.proofs.Common.{◌≡◌, ◌∙◌, sym, ap, subst, refl, ℕ, ◌+◌, ◌-◌, ◌*◌, ◌/◌, ◌%◌, ◌≤◌, ◌<◌, Bool, true, false, not}
-use Rattle.std.proofs.Common.{◌&&◌, ◌||◌, ◌==◌, nat_lt, if◌then◌else◌, ◌⊎◌, inl, inr, Option, Some, None, arith, List}
+use Rattle.std.proofs.Common.{◌≡◌, ◌∙◌, sym, ap, subst, refl, ℕ, ◌+◌, ◌-◌, ◌/◌, ◌%◌, ◌≤◌}
+use Rattle.std.proofs.Common.{◌<◌, Bool, true, false, not}
+use Rattle.std.proofs.Common.{◌==◌, if◌then◌else◌, ◌⊎◌, inl, inr, Option}
+use Rattle.std.proofs.Common.{Some, None, arith, List}
 use Rattle.std.specs.FinMap.{get}
 use Rattle.std.proofs.lemmas.Bool.Decides.{nat_tests}
 use Rattle.std.proofs.lemmas.Bool.{cases_lt}
@@ -10,32 +12,50 @@ use Rattle.sd_model.specs.Assignment.{value_in}
 use Rattle.sd_model.specs.Diagram.{Diagram, Bottom, Top, Literal, Decomposition, meaning}
 use Rattle.sd_model.specs.Canonical.{canonical_bottom, canonical_top}
 use Rattle.sd_model.specs.Expression.{combine}
-use Rattle.sd_vtree.specs.Numbered.{IsNumbered, forget}
+use Rattle.sd_vtree.specs.Numbered.{forget}
 use Rattle.sd_laws.specs.Shown.{literal_code}
 use Rattle.sd_laws.specs.Parts.{leaf_position}
-use Rattle.sd_laws.proofs.Codes.{one-diagram, bottom-from_code, top-from_code, literal-range, node-range}
+use Rattle.sd_laws.proofs.Codes.{one-diagram, bottom-from_code, top-from_code, literal-range}
+use Rattle.sd_laws.proofs.Codes.{node-range}
 use Rattle.sd_laws.proofs.Numbers.{literal-canonical}
 use Rattle.sd_manager.specs.Table.{Table}
-use Rattle.sd_manager.specs.Shown.{Shows, IsShown}
+use Rattle.sd_manager.specs.Shown.{Shows}
 use Rattle.sd_manager.specs.Valid.{IsTable}
 use Rattle.sd_apply.specs.Operations.{number_of}
 use Rattle.sd_apply.specs.Answers.{HasAnswer}
 use Rattle.sd_apply.specs.Known.{known_of, opposite_of}
-use Rattle.sd_apply.specs.Places.{IsUnder, IsNodeUnder, IsBelow}
+use Rattle.sd_apply.specs.Places.{IsNodeUnder}
 use Rattle.sd_apply.specs.Calls.{Applies, Complements}
 
 -- an answer that is an argument or a constant
 answer-node : (t : Table) (v c : ℕ) (f : List Bool → Bool) (x : Diagram) → IsNodeUnder t v c x →
     ((a : List Bool) → meaning x a ≡ f a) → HasAnswer t f c
 answer-node t v c f x h e =
-    record { diagram = x; is = record { shows = h.shows; canonical = h.under.canonical }; value = e }
+    record {
+      diagram = x;
+      is = record { shows = h.shows; canonical = h.under.canonical };
+      value = e;
+    }
 
-pub answer-false : (t : Table) (f : List Bool → Bool) → ((a : List Bool) → false ≡ f a) → HasAnswer t f 0
+pub answer-false : (t : Table) (f : List Bool → Bool) → ((a : List Bool) → false ≡ f a) →
+    HasAnswer t f 0
 answer-false t f e =
-    record { diagram = Bottom; is = record { shows = refl; canonical = canonical_bottom }; value = e }
+    record {
+      diagram = Bottom;
+      is = record { shows = refl; canonical = canonical_bottom };
+      value = e;
+    }
 
-pub answer-true : (t : Table) (f : List Bool → Bool) → ((a : List Bool) → true ≡ f a) → HasAnswer t f 1
-answer-true t f e = record { diagram = Top; is = record { shows = refl; canonical = canonical_top }; value = e }
+pub answer-true : (t : Table) (f : List Bool → Bool) → ((a : List Bool) → true ≡ f a) →
+    HasAnswer t f 1
+answer-true t f e = record {
+  diagram = Top;
+  is = record {
+    shows = refl;
+    canonical = canonical_top;
+  };
+  value = e;
+}
 
 -- two literals of one variable that differ
 abbrev pub AreOpposite : ℕ → ℕ → Type 0
@@ -44,11 +64,13 @@ AreOpposite a b = (2 ≤ a) × (2 ≤ b) × (a ≡ b → ⊥) × (a / 2 ≡ b / 
 -- the cases in which an answer is known
 
 and_cases : (a b r : ℕ) → known_of 0 a b ≡ Some r → ((a ≡ b) × (r ≡ a))
-    ⊎ (((a ≡ 0) × (r ≡ 0)) ⊎ (((b ≡ 0) × (r ≡ 0)) ⊎ (((a ≡ 1) × (r ≡ b)) ⊎ (((b ≡ 1) × (r ≡ a)) ⊎ (AreOpposite a b × (r ≡ 0))))))
+    ⊎ (((a ≡ 0) × (r ≡ 0)) ⊎ (((b ≡ 0) × (r ≡ 0)) ⊎ (((a ≡ 1) × (r ≡ b)) ⊎ (((b ≡ 1) × (r ≡ a)) ⊎
+    (AreOpposite a b × (r ≡ 0))))))
 and_cases a b r e = grind (arith, nat_tests)
 
 or_cases : (a b r : ℕ) → known_of 1 a b ≡ Some r → ((a ≡ b) × (r ≡ a))
-    ⊎ (((a ≡ 0) × (r ≡ b)) ⊎ (((b ≡ 0) × (r ≡ a)) ⊎ (((a ≡ 1) × (r ≡ 1)) ⊎ (((b ≡ 1) × (r ≡ 1)) ⊎ (AreOpposite a b × (r ≡ 1))))))
+    ⊎ (((a ≡ 0) × (r ≡ b)) ⊎ (((b ≡ 0) × (r ≡ a)) ⊎ (((a ≡ 1) × (r ≡ 1)) ⊎ (((b ≡ 1) × (r ≡ 1)) ⊎
+    (AreOpposite a b × (r ≡ 1))))))
 or_cases a b r e = grind (arith, nat_tests)
 
 xor_cases : (a b r : ℕ) → known_of 2 a b ≡ Some r → ((a ≡ b) × (r ≡ 0))
@@ -114,18 +136,23 @@ not_not false = refl
 code-at : (t : Table) (a b : ℕ) (x : Diagram) → Shows t a x → a ≡ b → Shows t b x
 code-at t a b x h e = let S : ℕ → Type 0 = λ c. Shows t c x in subst S e h
 
-shows-false : (t : Table) → IsTable t → (a : ℕ) (x : Diagram) → Shows t a x → a ≡ 0 → (g : List Bool) → meaning x g ≡ false
+shows-false : (t : Table) → IsTable t → (a : ℕ) (x : Diagram) → Shows t a x → a ≡ 0 →
+    (g : List Bool) → meaning x g ≡ false
 shows-false t i a x h e g =
-    ap (λ d. meaning d g) (bottom-from_code t.vtree (get t.linked) i.numbered x (code-at t a 0 x h e))
+    ap (λ d. meaning d g) (bottom-from_code t.vtree (get t.linked) i.numbered x (code-at t a 0 x h
+    e))
 
-shows-true : (t : Table) → IsTable t → (a : ℕ) (x : Diagram) → Shows t a x → a ≡ 1 → (g : List Bool) → meaning x g ≡ true
+shows-true : (t : Table) → IsTable t → (a : ℕ) (x : Diagram) → Shows t a x → a ≡ 1 →
+    (g : List Bool) → meaning x g ≡ true
 shows-true t i a x h e g =
     ap (λ d. meaning d g) (top-from_code t.vtree (get t.linked) i.numbered x (code-at t a 1 x h e))
 
-shows-same : (t : Table) → IsTable t → (a b : ℕ) (x y : Diagram) → Shows t a x → Shows t b y → a ≡ b → (g : List Bool) →
+shows-same : (t : Table) → IsTable t → (a b : ℕ) (x y : Diagram) → Shows t a x → Shows t b y →
+    a ≡ b → (g : List Bool) →
     meaning y g ≡ meaning x g
 shows-same t i a b x y h k e g =
-    ap (λ d. meaning d g) (one-diagram t.vtree (get t.linked) i.numbered y b x k (code-at t a b x h e))
+    ap (λ d. meaning d g) (one-diagram t.vtree (get t.linked) i.numbered y b x k (code-at t a b x
+    h e))
 
 half-literal : (v w : ℕ) (s r : Bool) → literal_code v s / 2 ≡ literal_code w r / 2 → v ≡ w
 half-literal v w true true e = omega arith
@@ -133,14 +160,16 @@ half-literal v w true false e = omega arith
 half-literal v w false true e = omega arith
 half-literal v w false false e = omega arith
 
-literal-opposite : (p q v : ℕ) (s r : Bool) (g : List Bool) → (literal_code v s ≡ literal_code v r → ⊥) →
+literal-opposite : (p q v : ℕ) (s r : Bool) (g : List Bool) →
+    (literal_code v s ≡ literal_code v r → ⊥) →
     meaning (Literal q v r) g ≡ not (meaning (Literal p v s) g)
 literal-opposite p q v true true g n = absurd (n refl)
 literal-opposite p q v true false g n = refl
 literal-opposite p q v false true g n = not_not (value_in g v)
 literal-opposite p q v false false g n = absurd (n refl)
 
-pub opposite-value : (t : Table) → IsTable t → (a b : ℕ) (x y : Diagram) → Shows t a x → Shows t b y → AreOpposite a b →
+pub opposite-value : (t : Table) → IsTable t → (a b : ℕ) (x y : Diagram) → Shows t a x →
+    Shows t b y → AreOpposite a b →
     (g : List Bool) → meaning y g ≡ not (meaning x g)
 opposite-value t i a b Bottom y h k o g = absurd (omega (arith, h, o.0))
 opposite-value t i a b Top y h k o g = absurd (omega (arith, h, o.0))
@@ -151,11 +180,14 @@ opposite-value t i a b (Literal p v s) Top h k o g = absurd (omega (arith, k, o.
 opposite-value t i a b (Literal p v s) (Decomposition q es) h k o g =
     absurd (omega (arith, node-range t.vtree (get t.linked) b q es k, o.3, o.4))
 opposite-value t i a b (Literal p v s) (Literal q w r) h k o g =
-    let same : v ≡ w = half-literal v w s r (ap (λ c. c / 2) (sym h.0) ∙ o.3 ∙ ap (λ c. c / 2) k.0) in
-    let apart : literal_code v s ≡ literal_code v r → ⊥ = λ e. o.2 (h.0 ∙ e ∙ ap (λ c. literal_code c r) same ∙ sym k.0) in
+    let same : v ≡ w = half-literal v w s r (ap (λ c. c / 2) (sym h.0) ∙ o.3
+    ∙ ap (λ c. c / 2) k.0) in
+    let apart : literal_code v s ≡ literal_code v r → ⊥ = λ e. o.2 (h.0 ∙ e
+    ∙ ap (λ c. literal_code c r) same ∙ sym k.0) in
     ap (λ c. meaning (Literal q c r) g) (sym same) ∙ literal-opposite p q v s r g apart
 
-and-known : (t : Table) → IsTable t → (v a b r : ℕ) → known_of 0 a b ≡ Some r → Applies t t And v a b r
+and-known : (t : Table) → IsTable t → (v a b r : ℕ) → known_of 0 a b ≡ Some r →
+    Applies t t And v a b r
 and-known t i v a b r e = record {
   each = λ x y p q.
       let f : List Bool → Bool = λ g. combine And (meaning x g) (meaning y g) in
@@ -163,20 +195,26 @@ and-known t i v a b r e = record {
       elim (and_cases a b r e) [
         | inl w ↦ subst A (sym w.1) (answer-node t v a f x p (λ g. same_and (meaning x g)
             ∙ ap (combine And (meaning x g)) (sym (shows-same t i a b x y p.shows q.shows w.0 g))))
-        | inr (inl w) ↦ subst A (sym w.1) (answer-false t f (λ g. ap (λ u. combine And u (meaning y g))
+        | inr (inl w) ↦ subst A (sym w.1) (answer-false t f (λ g. ap (λ u. combine And u
+            (meaning y g))
             (sym (shows-false t i a x p.shows w.0 g))))
         | inr (inr (inl w)) ↦ subst A (sym w.1) (answer-false t f (λ g. and_false (meaning x g)
             ∙ ap (combine And (meaning x g)) (sym (shows-false t i b y q.shows w.0 g))))
-        | inr (inr (inr (inl w))) ↦ subst A (sym w.1) (answer-node t v b f y q (λ g. ap (λ u. combine And u (meaning y g))
+        | inr (inr (inr (inl w))) ↦ subst A (sym w.1) (answer-node t v b f y q
+            (λ g. ap (λ u. combine And u (meaning y g))
             (sym (shows-true t i a x p.shows w.0 g))))
-        | inr (inr (inr (inr (inl w)))) ↦ subst A (sym w.1) (answer-node t v a f x p (λ g. and_true (meaning x g)
+        | inr (inr (inr (inr (inl w)))) ↦ subst A (sym w.1) (answer-node t v a f x p
+            (λ g. and_true (meaning x g)
             ∙ ap (combine And (meaning x g)) (sym (shows-true t i b y q.shows w.0 g))))
-        | inr (inr (inr (inr (inr w)))) ↦ subst A (sym w.1) (answer-false t f (λ g. opposite_and (meaning x g)
-            ∙ ap (combine And (meaning x g)) (sym (opposite-value t i a b x y p.shows q.shows w.0 g))))
+        | inr (inr (inr (inr (inr w)))) ↦ subst A (sym w.1) (answer-false t f (λ g. opposite_and
+            (meaning x g)
+            ∙ ap (combine And (meaning x g)) (sym (opposite-value t i a b x y p.shows q.shows w.0
+            g))))
       ];
 }
 
-or-known : (t : Table) → IsTable t → (v a b r : ℕ) → known_of 1 a b ≡ Some r → Applies t t Or v a b r
+or-known : (t : Table) → IsTable t → (v a b r : ℕ) → known_of 1 a b ≡ Some r →
+    Applies t t Or v a b r
 or-known t i v a b r e = record {
   each = λ x y p q.
       let f : List Bool → Bool = λ g. combine Or (meaning x g) (meaning y g) in
@@ -184,20 +222,27 @@ or-known t i v a b r e = record {
       elim (or_cases a b r e) [
         | inl w ↦ subst A (sym w.1) (answer-node t v a f x p (λ g. same_or (meaning x g)
             ∙ ap (combine Or (meaning x g)) (sym (shows-same t i a b x y p.shows q.shows w.0 g))))
-        | inr (inl w) ↦ subst A (sym w.1) (answer-node t v b f y q (λ g. ap (λ u. combine Or u (meaning y g))
+        | inr (inl w) ↦ subst A (sym w.1) (answer-node t v b f y q
+            (λ g. ap (λ u. combine Or u (meaning y g))
             (sym (shows-false t i a x p.shows w.0 g))))
-        | inr (inr (inl w)) ↦ subst A (sym w.1) (answer-node t v a f x p (λ g. or_false (meaning x g)
+        | inr (inr (inl w)) ↦ subst A (sym w.1) (answer-node t v a f x p (λ g. or_false
+            (meaning x g)
             ∙ ap (combine Or (meaning x g)) (sym (shows-false t i b y q.shows w.0 g))))
-        | inr (inr (inr (inl w))) ↦ subst A (sym w.1) (answer-true t f (λ g. ap (λ u. combine Or u (meaning y g))
+        | inr (inr (inr (inl w))) ↦ subst A (sym w.1) (answer-true t f
+            (λ g. ap (λ u. combine Or u (meaning y g))
             (sym (shows-true t i a x p.shows w.0 g))))
-        | inr (inr (inr (inr (inl w)))) ↦ subst A (sym w.1) (answer-true t f (λ g. or_true (meaning x g)
+        | inr (inr (inr (inr (inl w)))) ↦ subst A (sym w.1) (answer-true t f
+            (λ g. or_true (meaning x g)
             ∙ ap (combine Or (meaning x g)) (sym (shows-true t i b y q.shows w.0 g))))
-        | inr (inr (inr (inr (inr w)))) ↦ subst A (sym w.1) (answer-true t f (λ g. opposite_or (meaning x g)
-            ∙ ap (combine Or (meaning x g)) (sym (opposite-value t i a b x y p.shows q.shows w.0 g))))
+        | inr (inr (inr (inr (inr w)))) ↦ subst A (sym w.1) (answer-true t f (λ g. opposite_or
+            (meaning x g)
+            ∙ ap (combine Or (meaning x g)) (sym (opposite-value t i a b x y p.shows q.shows w.0
+            g))))
       ];
 }
 
-xor-known : (t : Table) → IsTable t → (v a b r : ℕ) → known_of 2 a b ≡ Some r → Applies t t Xor v a b r
+xor-known : (t : Table) → IsTable t → (v a b r : ℕ) → known_of 2 a b ≡ Some r →
+    Applies t t Xor v a b r
 xor-known t i v a b r e = record {
   each = λ x y p q.
       let f : List Bool → Bool = λ g. combine Xor (meaning x g) (meaning y g) in
@@ -205,17 +250,21 @@ xor-known t i v a b r e = record {
       elim (xor_cases a b r e) [
         | inl w ↦ subst A (sym w.1) (answer-false t f (λ g. same_xor (meaning x g)
             ∙ ap (combine Xor (meaning x g)) (sym (shows-same t i a b x y p.shows q.shows w.0 g))))
-        | inr (inl w) ↦ subst A (sym w.1) (answer-node t v b f y q (λ g. ap (λ u. combine Xor u (meaning y g))
+        | inr (inl w) ↦ subst A (sym w.1) (answer-node t v b f y q (λ g. ap (λ u. combine Xor u
+            (meaning y g))
             (sym (shows-false t i a x p.shows w.0 g))))
-        | inr (inr (inl w)) ↦ subst A (sym w.1) (answer-node t v a f x p (λ g. xor_false (meaning x g)
+        | inr (inr (inl w)) ↦ subst A (sym w.1) (answer-node t v a f x p (λ g. xor_false
+            (meaning x g)
             ∙ ap (combine Xor (meaning x g)) (sym (shows-false t i b y q.shows w.0 g))))
         | inr (inr (inr w)) ↦ subst A (sym w.1) (answer-true t f (λ g. opposite_xor (meaning x g)
-            ∙ ap (combine Xor (meaning x g)) (sym (opposite-value t i a b x y p.shows q.shows w.0 g))))
+            ∙ ap (combine Xor (meaning x g)) (sym (opposite-value t i a b x y p.shows q.shows w.0
+            g))))
       ];
 }
 
 -- what is known without a node is right
-pub known-applies : (t : Table) → IsTable t → (o : Operation) (v a b r : ℕ) → known_of (number_of o) a b ≡ Some r →
+pub known-applies : (t : Table) → IsTable t → (o : Operation) (v a b r : ℕ) →
+    known_of (number_of o) a b ≡ Some r →
     Applies t t o v a b r
 known-applies t i And v a b r e = and-known t i v a b r e
 known-applies t i Or v a b r e = or-known t i v a b r e
@@ -229,10 +278,18 @@ pub record IsUnknown (o : Operation) (a b : ℕ) : Type 0 where
   pub other : b ≡ 1 → o ≡ Xor
   pub apart : 2 ≤ a → 2 ≤ b → a / 2 ≡ b / 2 → a < 2050 → ⊥
 
-unknown_at : (n a b : ℕ) → n < 3 → known_of n a b ≡ None → (1 ≤ a) × (1 ≤ b) × (a ≡ 1 → n ≡ 2) × (b ≡ 1 → n ≡ 2)
-unknown_at n a b lt e = (grind (arith, nat_tests), grind (arith, nat_tests), λ h. grind (arith, nat_tests), λ h. grind (arith, nat_tests))
+unknown_at : (n a b : ℕ) → n < 3 → known_of n a b ≡ None → (1 ≤ a) × (1 ≤ b) × (a ≡ 1 →
+    n ≡ 2) × (b ≡ 1 → n ≡ 2)
+unknown_at n a b lt e = (
+  grind (arith, nat_tests),
+  grind (arith, nat_tests),
+  λ h. grind
+      (arith, nat_tests),
+  λ h. grind (arith, nat_tests),
+)
 
-unknown_apart : (n a b : ℕ) → n < 3 → known_of n a b ≡ None → 2 ≤ a → 2 ≤ b → a / 2 ≡ b / 2 → a < 2050 → ⊥
+unknown_apart : (n a b : ℕ) → n < 3 → known_of n a b ≡ None → 2 ≤ a → 2 ≤ b → a / 2 ≡ b / 2 →
+    a < 2050 → ⊥
 unknown_apart n a b lt e p q h k = grind (arith, nat_tests)
 
 number-small : (o : Operation) → number_of o < 3
@@ -257,7 +314,8 @@ unknown o a b e =
     }
 
 -- exclusive or with true is negation
-pub xor-negation : (old new : Table) → IsTable old → (o : Operation) (v a b r : ℕ) → o ≡ Xor → a ≡ 1 →
+pub xor-negation : (old new : Table) → IsTable old → (o : Operation) (v a b r : ℕ) → o ≡ Xor →
+    a ≡ 1 →
     Complements old new v b r → Applies old new o v a b r
 xor-negation old new i o v a b r e one h = record {
   each = λ x y p q.
@@ -265,12 +323,14 @@ xor-negation old new i o v a b r e one h = record {
       record {
         diagram = k.diagram;
         is = k.is;
-        value = λ g. k.value g ∙ ap (λ u. combine Xor u (meaning y g)) (sym (shows-true old i a x p.shows one g))
+        value = λ g. k.value g ∙ ap (λ u. combine Xor u (meaning y g))
+            (sym (shows-true old i a x p.shows one g))
             ∙ ap (λ o. combine o (meaning x g) (meaning y g)) (sym e);
       };
 }
 
-pub xor-negation-second : (old new : Table) → IsTable old → (o : Operation) (v a b r : ℕ) → o ≡ Xor → b ≡ 1 →
+pub xor-negation-second : (old new : Table) → IsTable old → (o : Operation) (v a b r : ℕ) →
+    o ≡ Xor → b ≡ 1 →
     Complements old new v a r → Applies old new o v a b r
 xor-negation-second old new i o v a b r e one h = record {
   each = λ x y p q.
@@ -299,11 +359,17 @@ combine-turned Xor true false = refl
 combine-turned Xor false true = refl
 combine-turned Xor false false = refl
 
-pub applies-turned : (old new : Table) (o : Operation) (v a b r : ℕ) → Applies old new o v b a r → Applies old new o v a b r
+pub applies-turned : (old new : Table) (o : Operation) (v a b r : ℕ) → Applies old new o v b a r →
+    Applies old new o v a b r
 applies-turned old new o v a b r h = record {
   each = λ x y p q.
       let k = h.each y x q p in
-      record { diagram = k.diagram; is = k.is; value = λ g. k.value g ∙ combine-turned o (meaning y g) (meaning x g) };
+      record {
+        diagram = k.diagram;
+        is = k.is;
+        value = λ g. k.value g
+            ∙ combine-turned o (meaning y g) (meaning x g);
+      };
 }
 
 -- negation of constants and literals
@@ -320,7 +386,11 @@ constant-answer t i a lt Top h =
     subst S e (answer-false t (λ g. not (meaning Top g)) (λ g. refl))
 constant-answer t i a lt (Literal p v s) h =
     absurd (omega (arith, (literal-range t.vtree (get t.linked) i.numbered a p v s h).0))
-constant-answer t i a lt (Decomposition p es) h = absurd (omega (arith, node-range t.vtree (get t.linked) a p es h))
+constant-answer t i a lt (Decomposition p es) h = absurd (omega (
+  arith,
+  node-range t.vtree
+      (get t.linked) a p es h,
+))
 
 pub negate-constant : (t : Table) → IsTable t → (v a : ℕ) → a < 2 → Complements t t v a (1 - a)
 negate-constant t i v a lt = record { each = λ x h. constant-answer t i a lt x h.shows }
@@ -330,16 +400,22 @@ abbrev other_sign : Bool → Bool
 other_sign true = false
 other_sign false = true
 
-other-value : (p v : ℕ) (s : Bool) (g : List Bool) → meaning (Literal p v (other_sign s)) g ≡ not (meaning (Literal p v s) g)
+other-value : (p v : ℕ) (s : Bool) (g : List Bool) → meaning (Literal p v (other_sign s)) g ≡ not
+    (meaning (Literal p v s) g)
 other-value p v true g = refl
 other-value p v false g = not_not (value_in g v)
 
 other-answer : (t : Table) (p v : ℕ) (s : Bool) (c : ℕ) → c ≡ literal_code v (other_sign s) →
-    leaf_position (forget t.vtree) 0 v ≡ Some p → HasAnswer t (λ g. not (meaning (Literal p v s) g)) c
+    leaf_position (forget t.vtree) 0 v ≡ Some p →
+    HasAnswer t (λ g. not (meaning (Literal p v s) g)) c
 other-answer t p v s c e at =
     record {
       diagram = Literal p v (other_sign s);
-      is = record { shows = (e, at); canonical = literal-canonical (forget t.vtree) 0 v p (other_sign s) at };
+      is = record {
+        shows = (e, at);
+        canonical = literal-canonical (forget t.vtree) 0 v p
+            (other_sign s) at;
+      };
       value = λ g. other-value p v s g;
     }
 
@@ -347,32 +423,43 @@ other-answer t p v s c e at =
 abbrev pub other_code : ℕ → ℕ
 other_code a = if a % 2 == 0 then a + 1 else a - 1
 
-other-code : (v : ℕ) (s : Bool) (a : ℕ) → a ≡ literal_code v s → other_code a ≡ literal_code v (other_sign s)
+other-code : (v : ℕ) (s : Bool) (a : ℕ) → a ≡ literal_code v s → other_code a ≡ literal_code v
+    (other_sign s)
 other-code v true a e = grind (arith, nat_tests)
 other-code v false a e = grind (arith, nat_tests)
 
-literal-answer : (t : Table) → IsTable t → (a : ℕ) → 2 ≤ a → a < 2050 → (x : Diagram) → Shows t a x →
+literal-answer : (t : Table) → IsTable t → (a : ℕ) → 2 ≤ a → a < 2050 → (x : Diagram) →
+    Shows t a x →
     HasAnswer t (λ g. not (meaning x g)) (other_code a)
 literal-answer t i a two lt Bottom h = absurd (omega (arith, h))
 literal-answer t i a two lt Top h = absurd (omega (arith, h))
-literal-answer t i a two lt (Decomposition p es) h = absurd (omega (arith, node-range t.vtree (get t.linked) a p es h))
-literal-answer t i a two lt (Literal p v s) h = other-answer t p v s (other_code a) (other-code v s a h.0) h.1
+literal-answer t i a two lt (Decomposition p es) h = absurd (omega (
+  arith,
+  node-range t.vtree
+      (get t.linked) a p es h,
+))
+literal-answer t i a two lt (Literal p v s) h = other-answer t p v s (other_code a)
+    (other-code v s a h.0) h.1
 
-pub negate-literal : (t : Table) → IsTable t → (v a : ℕ) → 2 ≤ a → a < 2050 → Complements t t v a (other_code a)
+pub negate-literal : (t : Table) → IsTable t → (v a : ℕ) → 2 ≤ a → a < 2050 →
+    Complements t t v a (other_code a)
 negate-literal t i v a two lt = record { each = λ x h. literal-answer t i a two lt x h.shows }
 
 -- an answer that was asked for is that of the connective
-pub known-at : (o : Operation) (n a b x y : ℕ) (r : Option ℕ) → n ≡ number_of o → x ≡ a → y ≡ b → r ≡ known_of n x y →
+pub known-at : (o : Operation) (n a b x y : ℕ) (r : Option ℕ) → n ≡ number_of o → x ≡ a → y ≡ b →
+    r ≡ known_of n x y →
     known_of (number_of o) a b ≡ r
 known-at o n a b x y r e p q h =
-    sym (h ∙ ap (λ n. known_of n x y) e ∙ ap (λ x. known_of (number_of o) x y) p ∙ ap (known_of (number_of o) a) q)
+    sym (h ∙ ap (λ n. known_of n x y) e ∙ ap (λ x. known_of (number_of o) x y) p
+    ∙ ap (known_of (number_of o) a) q)
 
 opposite_cases : (a r : ℕ) → opposite_of a ≡ Some r →
     ((a < 2) × (r ≡ 1 - a)) ⊎ ((2 ≤ a) × (a < 2050) × (r ≡ other_code a))
 opposite_cases a r e = grind (arith, nat_tests)
 
 -- the negation that needs no node is right
-pub opposite-complements : (t : Table) → IsTable t → (v a r : ℕ) → opposite_of a ≡ Some r → Complements t t v a r
+pub opposite-complements : (t : Table) → IsTable t → (v a r : ℕ) → opposite_of a ≡ Some r →
+    Complements t t v a r
 opposite-complements t i v a r e = elim (opposite_cases a r e) [
   | inl h ↦ subst (Complements t t v a) (sym h.1) (negate-constant t i v a h.0)
   | inr h ↦ subst (Complements t t v a) (sym h.2) (negate-literal t i v a h.0 h.1)
@@ -383,11 +470,13 @@ pub opposite-none : (a : ℕ) → opposite_of a ≡ None → 2050 ≤ a
 opposite-none a e = grind (arith, nat_tests)
 
 -- two nodes at which nothing is known are not the literals of one variable
-pub unknown-differ : (o : Operation) (a b : ℕ) → IsUnknown o a b → 2 ≤ a → 2 ≤ b → a / 2 ≡ b / 2 → 2050 ≤ a
+pub unknown-differ : (o : Operation) (a b : ℕ) → IsUnknown o a b → 2 ≤ a → 2 ≤ b → a / 2 ≡ b / 2 →
+    2050 ≤ a
 unknown-differ o a b h la lb e = elim (cases_lt a 2050) [
   | inl lt ↦ absurd (h.apart la lb e lt)
   | inr ge ↦ ge
 ]
 
-pub unknown-turned : (o : Operation) (a b : ℕ) → IsUnknown o a b → 2 ≤ a → 2 ≤ b → b / 2 ≡ a / 2 → 2050 ≤ b
+pub unknown-turned : (o : Operation) (a b : ℕ) → IsUnknown o a b → 2 ≤ a → 2 ≤ b → b / 2 ≡ a / 2 →
+    2050 ≤ b
 unknown-turned o a b h la lb e = let k = unknown-differ o a b h la lb (sym e) in omega (arith, k, e)

@@ -9,3 +9,4 @@ pub mod Standing
 pub mod Served
 pub mod Expanding
 pub mod Whole
+pub mod Tried

@@ -1,14 +1,15 @@
 -- Lists of elements: read, pushed, put in another order, and seen in a larger table.
-use Rattle.std.proofs.Common.{◌≡◌, ◌≢◌, ℕ, zero, suc, ◌+◌, ◌-◌, ◌*◌, ◌≤◌, ◌<◌, Bool, true, false, cond, List, [], ◌∷◌, ◌++◌}
-use Rattle.std.proofs.Common.{length, take, map, get_or, slice_get, Some, refl, sym, ◌∙◌, ap, subst, arith, append_assoc, append-nil}
+use Rattle.std.proofs.Common.{◌≡◌, ℕ, zero, suc, ◌+◌, ◌≤◌, ◌<◌, Bool, true, false}
+use Rattle.std.proofs.Common.{cond, List, [], ◌∷◌, ◌++◌}
+use Rattle.std.proofs.Common.{length, take, get_or, slice_get, Some, refl, sym, ◌∙◌, ap}
+use Rattle.std.proofs.Common.{subst, arith, append_assoc, append-nil}
 use Rattle.std.specs.List.{AllZip}
 use Rattle.std.specs.FinMap.{get}
 use Rattle.std.specs.List.Sorted.{IsPermutation}
 use Rattle.std.proofs.Math.Seq.{take-length, take-suc}
 use Rattle.std.proofs.lemmas.Option.{slice_get_within, get_or_from_slice_get}
-use Rattle.sd_model.specs.Diagram.{Diagram, Bottom, meaning}
-use Rattle.sd_vtree.specs.Numbered.{Numbered}
-use Rattle.sd_laws.specs.Pairs.{answers, IsOneTrue}
+use Rattle.sd_model.specs.Diagram.{Diagram, meaning}
+use Rattle.sd_laws.specs.Pairs.{answers}
 use Rattle.sd_laws.proofs.Codes.{shows-kept}
 use Rattle.sd_laws.proofs.Lists.{first-permuted}
 use Rattle.sd_manager.specs.Table.{Table}
@@ -16,7 +17,8 @@ use Rattle.sd_manager.specs.Shown.{Shows, IsShown}
 use Rattle.sd_manager.specs.Making.{Extends}
 use Rattle.sd_apply.specs.Answers.{HasAnswer}
 use Rattle.sd_apply.specs.Places.{width, IsUnder, IsNodeUnder, IsBelow, IsThere, HasChildren}
-use Rattle.sd_apply.specs.Elements.{IsPair, Lists, IsSplit, HasList, IsPaired, AreListed, ArePartition}
+use Rattle.sd_apply.specs.Elements.{IsPair, Lists, IsSplit, IsPaired, AreListed}
+use Rattle.sd_apply.specs.Elements.{ArePartition}
 
 -- tables that grow
 
@@ -52,25 +54,43 @@ extends-on a b c h k =
       extent = omega (arith, h.extent, k.extent);
     }
 
-pub shows-on : (old new : Table) → Extends old new → (c : ℕ) (d : Diagram) → Shows old c d → Shows new c d
-shows-on old new x c d h = rw x.vtree (shows-kept old.vtree (get old.linked) (get new.linked) x.nodes d c h)
+pub shows-on : (old new : Table) → Extends old new → (c : ℕ) (d : Diagram) → Shows old c d →
+    Shows new c d
+shows-on old new x c d h = rw x.vtree (shows-kept old.vtree (get old.linked) (get new.linked)
+    x.nodes d c h)
 
-pub under-on : (old new : Table) → Extends old new → (u : ℕ) (d : Diagram) → IsUnder old.vtree u d → IsUnder new.vtree u d
+pub under-on : (old new : Table) → Extends old new → (u : ℕ) (d : Diagram) →
+    IsUnder old.vtree u d → IsUnder new.vtree u d
 under-on old new x u d h = rw x.vtree h
 
-pub shown-on : (old new : Table) → Extends old new → (c : ℕ) (d : Diagram) → IsShown old c d → IsShown new c d
-shown-on old new x c d h = record { shows = shows-on old new x c d h.shows; canonical = rw x.vtree h.canonical }
+pub shown-on : (old new : Table) → Extends old new → (c : ℕ) (d : Diagram) → IsShown old c d →
+    IsShown new c d
+shown-on old new x c d h = record {
+  shows = shows-on old new x c d h.shows;
+  canonical = rw x.vtree h.canonical;
+}
 
-pub answer-on : (old new : Table) → Extends old new → (f : List Bool → Bool) (c : ℕ) → HasAnswer old f c → HasAnswer new f c
-answer-on old new x f c h = record { diagram = h.diagram; is = shown-on old new x c h.diagram h.is; value = h.value }
+pub answer-on : (old new : Table) → Extends old new → (f : List Bool → Bool) (c : ℕ) →
+    HasAnswer old f c → HasAnswer new f c
+answer-on old new x f c h = record {
+  diagram = h.diagram;
+  is = shown-on old new x c h.diagram
+      h.is;
+  value = h.value;
+}
 
-pub node-on : (old new : Table) → Extends old new → (u c : ℕ) (d : Diagram) → IsNodeUnder old u c d → IsNodeUnder new u c d
-node-on old new x u c d h = record { shows = shows-on old new x c d h.shows; under = under-on old new x u d h.under }
+pub node-on : (old new : Table) → Extends old new → (u c : ℕ) (d : Diagram) →
+    IsNodeUnder old u c d → IsNodeUnder new u c d
+node-on old new x u c d h = record {
+  shows = shows-on old new x c d h.shows;
+  under = under-on old new x u d h.under;
+}
 
 pub below-on : (old new : Table) → Extends old new → (u c : ℕ) → IsBelow old u c → IsBelow new u c
 below-on old new x u c h = record { diagram = h.diagram; is = node-on old new x u c h.diagram h.is }
 
-pub pair-on : (old new : Table) → Extends old new → (u w : ℕ) (e : ℕ × ℕ) (d : Diagram × Diagram) → IsPair old u w e d →
+pub pair-on : (old new : Table) → Extends old new → (u w : ℕ) (e : ℕ × ℕ) (d : Diagram × Diagram)
+    → IsPair old u w e d →
     IsPair new u w e d
 pair-on old new x u w e d h =
     record {
@@ -81,29 +101,46 @@ pair-on old new x u w e d h =
       possible = h.possible;
     }
 
-zip-on : (old new : Table) → Extends old new → (u w : ℕ) (l : List (ℕ × ℕ)) (ds : List (Diagram × Diagram)) →
+zip-on : (old new : Table) → Extends old new → (u w : ℕ) (l : List (ℕ × ℕ))
+    (ds : List (Diagram × Diagram)) →
     AllZip (IsPair old u w) l ds → AllZip (IsPair new u w) l ds
 zip-on old new x u w [] [] h = h
 zip-on old new x u w [] (d ∷ ds) h = h
 zip-on old new x u w (e ∷ l) [] h = h
-zip-on old new x u w (e ∷ l) (d ∷ ds) h = (pair-on old new x u w e d h.0, zip-on old new x u w l ds h.1)
+zip-on old new x u w (e ∷ l) (d ∷ ds) h = (
+  pair-on old new x u w e d h.0,
+  zip-on old new x u w l
+      ds h.1,
+)
 
-pub lists-on : (old new : Table) → Extends old new → (u w : ℕ) (l : List (ℕ × ℕ)) (ds : List (Diagram × Diagram)) →
+pub lists-on : (old new : Table) → Extends old new → (u w : ℕ) (l : List (ℕ × ℕ))
+    (ds : List (Diagram × Diagram)) →
     Lists old u w l ds → Lists new u w l ds
 lists-on old new x u w l ds h = record { pairs = zip-on old new x u w l ds h.pairs }
 
-pub split-on : (old new : Table) → Extends old new → (u w : ℕ) (l : List (ℕ × ℕ)) (ds : List (Diagram × Diagram)) →
+pub split-on : (old new : Table) → Extends old new → (u w : ℕ) (l : List (ℕ × ℕ))
+    (ds : List (Diagram × Diagram)) →
     IsSplit old u w l ds → IsSplit new u w l ds
-split-on old new x u w l ds h = record { lists = lists-on old new x u w l ds h.lists; one_true = h.one_true }
+split-on old new x u w l ds h = record {
+  lists = lists-on old new x u w l ds h.lists;
+  one_true = h.one_true;
+}
 
-pub listed-on : (old new : Table) → Extends old new → (u w : ℕ) (l : List (ℕ × ℕ)) → AreListed old u w l → AreListed new u w l
+pub listed-on : (old new : Table) → Extends old new → (u w : ℕ) (l : List (ℕ × ℕ)) →
+    AreListed old u w l → AreListed new u w l
 listed-on old new x u w l h = record { shown = h.shown; is = lists-on old new x u w l h.shown h.is }
 
-pub partition-on : (old new : Table) → Extends old new → (u w : ℕ) (l : List (ℕ × ℕ)) → ArePartition old u w l →
+pub partition-on : (old new : Table) → Extends old new → (u w : ℕ) (l : List (ℕ × ℕ)) →
+    ArePartition old u w l →
     ArePartition new u w l
-partition-on old new x u w l h = record { shown = h.shown; is = split-on old new x u w l h.shown h.is }
+partition-on old new x u w l h = record {
+  shown = h.shown;
+  is = split-on old new x u w l h.shown
+      h.is;
+}
 
-pub paired-on : (old new : Table) → Extends old new → (u w : ℕ) (e : ℕ × ℕ) → IsPaired old u w e → IsPaired new u w e
+pub paired-on : (old new : Table) → Extends old new → (u w : ℕ) (e : ℕ × ℕ) → IsPaired old u w e →
+    IsPaired new u w e
 paired-on old new x u w e h = record { shown = h.shown; is = pair-on old new x u w e h.shown h.is }
 
 -- the answer of one element
@@ -114,12 +151,14 @@ pub answers-cons : (a : List Bool) (d : Diagram × Diagram) (ds : List (Diagram 
     answers a (d ∷ ds) ≡ one_answer a d ++ answers a ds
 answers-cons a d ds =
     elim (meaning d.0 a)
-    as (λ v. cond v (meaning d.1 a ∷ answers a ds) (answers a ds) ≡ cond v (meaning d.1 a ∷ []) [] ++ answers a ds) [
+    as (λ v. cond v (meaning d.1 a ∷ answers a ds) (answers a ds) ≡ cond v (meaning d.1 a ∷ [])
+    [] ++ answers a ds) [
       | true ↦ refl
       | false ↦ refl
     ]
 
-pub answers-append : (a : List Bool) (ds fs : List (Diagram × Diagram)) → answers a (ds ++ fs) ≡ answers a ds ++ answers a fs
+pub answers-append : (a : List Bool) (ds fs : List (Diagram × Diagram)) →
+    answers a (ds ++ fs) ≡ answers a ds ++ answers a fs
 answers-append a [] fs = refl
 answers-append a (d ∷ ds) fs =
     answers-cons a d (ds ++ fs) ∙ ap (λ l. one_answer a d ++ l) (answers-append a ds fs)
@@ -128,18 +167,23 @@ answers-append a (d ∷ ds) fs =
 
 pub answers-push : (a : List Bool) (ds : List (Diagram × Diagram)) (d : Diagram × Diagram) →
     answers a (ds ++ d ∷ []) ≡ answers a ds ++ one_answer a d
-answers-push a ds d = answers-append a ds (d ∷ []) ∙ ap (λ l. answers a ds ++ l) (answers-cons a d [] ∙ append-nil (one_answer a d))
+answers-push a ds d = answers-append a ds (d ∷ []) ∙ ap (λ l. answers a ds ++ l) (answers-cons a d
+    [] ∙ append-nil (one_answer a d))
 
 -- one more element behind a list
-zip-push : (t : Table) (u w : ℕ) (l : List (ℕ × ℕ)) (ds : List (Diagram × Diagram)) (e : ℕ × ℕ) (d : Diagram × Diagram) →
-    AllZip (IsPair t u w) l ds → IsPair t u w e d → AllZip (IsPair t u w) (l ++ e ∷ []) (ds ++ d ∷ [])
+zip-push : (t : Table) (u w : ℕ) (l : List (ℕ × ℕ)) (ds : List (Diagram × Diagram)) (e : ℕ × ℕ)
+    (d : Diagram × Diagram) →
+    AllZip (IsPair t u w) l ds → IsPair t u w e d → AllZip (IsPair t u w) (l ++ e ∷ [])
+    (ds ++ d ∷ [])
 zip-push t u w [] [] e d h k = (k, tt)
 zip-push t u w [] (f ∷ ds) e d h k = absurd h
 zip-push t u w (g ∷ l) [] e d h k = absurd h
 zip-push t u w (g ∷ l) (f ∷ ds) e d h k = (h.0, zip-push t u w l ds e d h.1 k)
 
-pub lists-push : (t : Table) (u w : ℕ) (l : List (ℕ × ℕ)) (ds : List (Diagram × Diagram)) (e : ℕ × ℕ)
-    (d : Diagram × Diagram) → Lists t u w l ds → IsPair t u w e d → Lists t u w (l ++ e ∷ []) (ds ++ d ∷ [])
+pub lists-push : (t : Table) (u w : ℕ) (l : List (ℕ × ℕ)) (ds : List (Diagram × Diagram))
+    (e : ℕ × ℕ)
+    (d : Diagram × Diagram) → Lists t u w l ds → IsPair t u w e d → Lists t u w (l ++ e ∷ [])
+    (ds ++ d ∷ [])
 lists-push t u w l ds e d h k = record { pairs = zip-push t u w l ds e d h.pairs k }
 
 -- no elements
@@ -147,12 +191,15 @@ pub lists-none : (t : Table) (u w : ℕ) → Lists t u w [] []
 lists-none t u w = record { pairs = tt }
 
 -- the element at an index
-pub record IsAt (t : Table) (u w : ℕ) (e : ℕ × ℕ) (ds : List (Diagram × Diagram)) (i : ℕ) (d : Diagram × Diagram) : Type 0 where
+pub record IsAt (t : Table) (u w : ℕ) (e : ℕ × ℕ) (ds : List (Diagram × Diagram)) (i : ℕ)
+    (d : Diagram × Diagram) : Type 0 where
   pub pair : IsPair t u w e d
   pub more : take (suc i) ds ≡ take i ds ++ d ∷ []
 
-zip-at : (t : Table) (u w : ℕ) (l : List (ℕ × ℕ)) (ds : List (Diagram × Diagram)) → AllZip (IsPair t u w) l ds → (i : ℕ) →
-    i < length l → (e : ℕ × ℕ) → e ≡ get_or l i (0, 0) → (d : Diagram × Diagram) × IsAt t u w e ds i d
+zip-at : (t : Table) (u w : ℕ) (l : List (ℕ × ℕ)) (ds : List (Diagram × Diagram)) →
+    AllZip (IsPair t u w) l ds → (i : ℕ) →
+    i < length l → (e : ℕ × ℕ) → e ≡ get_or l i (0, 0) → (d : Diagram × Diagram) × IsAt t u w e ds
+    i d
 zip-at t u w [] ds h i lt e same = absurd (omega arith)
 zip-at t u w (x ∷ l) [] h i lt e same = absurd h
 zip-at t u w (x ∷ l) (d ∷ ds) h zero lt e same =
@@ -162,45 +209,54 @@ zip-at t u w (x ∷ l) (d ∷ ds) h (suc i) lt e same =
     let r = zip-at t u w l ds h.1 i (omega arith) e same in
     (r.0, record { pair = r.1.pair; more = ap (λ m. d ∷ m) r.1.more })
 
-pub lists-at : (t : Table) (u w : ℕ) (l : List (ℕ × ℕ)) (ds : List (Diagram × Diagram)) → Lists t u w l ds → (i : ℕ) →
-    i < length l → (e : ℕ × ℕ) → e ≡ get_or l i (0, 0) → (d : Diagram × Diagram) × IsAt t u w e ds i d
+pub lists-at : (t : Table) (u w : ℕ) (l : List (ℕ × ℕ)) (ds : List (Diagram × Diagram)) →
+    Lists t u w l ds → (i : ℕ) →
+    i < length l → (e : ℕ × ℕ) → e ≡ get_or l i (0, 0) → (d : Diagram × Diagram) × IsAt t u w e ds
+    i d
 lists-at t u w l ds h i lt e same = zip-at t u w l ds h.pairs i lt e same
 
 -- as many elements as pairs
-zip-length : (t : Table) (u w : ℕ) (l : List (ℕ × ℕ)) (ds : List (Diagram × Diagram)) → AllZip (IsPair t u w) l ds →
+zip-length : (t : Table) (u w : ℕ) (l : List (ℕ × ℕ)) (ds : List (Diagram × Diagram)) →
+    AllZip (IsPair t u w) l ds →
     length l ≡ length ds
 zip-length t u w [] [] h = refl
 zip-length t u w [] (d ∷ ds) h = absurd h
 zip-length t u w (e ∷ l) [] h = absurd h
 zip-length t u w (e ∷ l) (d ∷ ds) h = ap suc (zip-length t u w l ds h.1)
 
-pub lists-length : (t : Table) (u w : ℕ) (l : List (ℕ × ℕ)) (ds : List (Diagram × Diagram)) → Lists t u w l ds →
+pub lists-length : (t : Table) (u w : ℕ) (l : List (ℕ × ℕ)) (ds : List (Diagram × Diagram)) →
+    Lists t u w l ds →
     length l ≡ length ds
 lists-length t u w l ds h = zip-length t u w l ds h.pairs
 
 -- all elements
-pub take-all : (t : Table) (u w : ℕ) (l : List (ℕ × ℕ)) (ds : List (Diagram × Diagram)) (i : ℕ) → Lists t u w l ds →
+pub take-all : (t : Table) (u w : ℕ) (l : List (ℕ × ℕ)) (ds : List (Diagram × Diagram)) (i : ℕ) →
+    Lists t u w l ds →
     length l ≤ i → i ≤ length l → take i ds ≡ ds
 take-all t u w l ds i h a b =
     let n : i ≡ length ds = omega (arith, lists-length t u w l ds h) in
     ap (λ k. take k ds) n ∙ take-length ds
 
 -- the answers up to the next index
-pub take-answers : (a : List Bool) (t : Table) (u w : ℕ) (e : ℕ × ℕ) (ds : List (Diagram × Diagram)) (i : ℕ)
-    (d : Diagram × Diagram) → IsAt t u w e ds i d → answers a (take (i + 1) ds) ≡ answers a (take i ds) ++ one_answer a d
+pub take-answers : (a : List Bool) (t : Table) (u w : ℕ) (e : ℕ × ℕ)
+    (ds : List (Diagram × Diagram)) (i : ℕ)
+    (d : Diagram × Diagram) → IsAt t u w e ds i d → answers a (take (i + 1) ds) ≡ answers a
+    (take i ds) ++ one_answer a d
 take-answers a t u w e ds i d h =
     let next : i + 1 ≡ suc i = omega arith in
     ap (λ k. answers a (take k ds)) next ∙ ap (answers a) h.more ∙ answers-push a (take i ds) d
 
 -- the pairs in another order
-pub lists-permuted : (t : Table) (u w : ℕ) (l k : List (ℕ × ℕ)) (ds : List (Diagram × Diagram)) → Lists t u w l ds →
+pub lists-permuted : (t : Table) (u w : ℕ) (l k : List (ℕ × ℕ)) (ds : List (Diagram × Diagram)) →
+    Lists t u w l ds →
     IsPermutation l k → (fs : List (Diagram × Diagram)) × IsPermutation ds fs × Lists t u w k fs
 lists-permuted t u w l k ds h p =
     let r = first-permuted (IsPair t u w) l ds k h.pairs p in
     (r.0, r.1, record { pairs = r.2 })
 
 -- one more element of a list, as it is read
-pub take-next : (l : List (ℕ × ℕ)) (i : ℕ) (x : ℕ × ℕ) → slice_get l i ≡ Some x → take (i + 1) l ≡ take i l ++ x ∷ []
+pub take-next : (l : List (ℕ × ℕ)) (i : ℕ) (x : ℕ × ℕ) → slice_get l i ≡ Some x →
+    take (i + 1) l ≡ take i l ++ x ∷ []
 take-next l i x e =
     let next : i + 1 ≡ suc i = omega arith in
     ap (λ k. take k l) next ∙ take-suc l i (0, 0) (slice_get_within l i x e)
@@ -211,10 +267,12 @@ take-next l i x e =
 pub width-on : (old new : Table) → Extends old new → (u : ℕ) → width new.vtree u ≡ width old.vtree u
 width-on old new x u = ap (λ t. width t u) x.vtree
 
-pub there-on : (old new : Table) → Extends old new → (u : ℕ) → IsThere old.vtree u → IsThere new.vtree u
+pub there-on : (old new : Table) → Extends old new → (u : ℕ) → IsThere old.vtree u →
+    IsThere new.vtree u
 there-on old new x u h = rw x.vtree h
 
-pub children-on : (old new : Table) → Extends old new → (p u w : ℕ) → HasChildren old.vtree p u w → HasChildren new.vtree p u w
+pub children-on : (old new : Table) → Extends old new → (p u w : ℕ) → HasChildren old.vtree p u w
+    → HasChildren new.vtree p u w
 children-on old new x p u w h = rw x.vtree h
 
 -- an element of a list, whatever would stand for one past its end

@@ -1,5 +1,6 @@
 -- The cache serves: after a look-up, after an answer was kept, and for a table that has grown.
-use Rattle.std.proofs.Common.{◌≡◌, ◌∙◌, sym, ap, subst, refl, ℕ, ◌≤◌, ◌<◌, Bool, true, not, List, ◌⊎◌, inl, inr, Some, Contains, arith}
+use Rattle.std.proofs.Common.{◌≡◌, ◌∙◌, sym, ap, subst, refl, ℕ, ◌≤◌, ◌<◌, Bool, not, List}
+use Rattle.std.proofs.Common.{◌⊎◌, inl, inr, Some, arith}
 use Rattle.std.specs.FinMap.{get}
 use Rattle.std.specs.Map.{lookup}
 use Rattle.sd_model.specs.declared.trees.Operation.{Operation}
@@ -8,7 +9,7 @@ use Rattle.sd_model.specs.Diagram.{Diagram, Bottom, meaning}
 use Rattle.sd_model.specs.Canonical.{canonical_bottom}
 use Rattle.sd_model.specs.Expression.{combine}
 use Rattle.sd_cache.specs.Entries.{Call, Entries, call, is_call, kept, looked}
-use Rattle.sd_cache.proofs.Callers.{AreOne, found-entry, looked-entry, kept-entry}
+use Rattle.sd_cache.proofs.Callers.{found-entry, looked-entry, kept-entry}
 use Rattle.sd_laws.proofs.Codes.{one-diagram}
 use Rattle.sd_manager.specs.Table.{Table}
 use Rattle.sd_manager.specs.Shown.{IsShown}
@@ -16,8 +17,8 @@ use Rattle.sd_manager.specs.Making.{Extends}
 use Rattle.sd_manager.specs.Valid.{IsTable}
 use Rattle.sd_apply.specs.Operations.{number_of, operation_value}
 use Rattle.sd_apply.specs.Answers.{HasAnswer}
-use Rattle.sd_apply.specs.Serving.{IsRight, Serves, last_epoch}
-use Rattle.sd_apply.specs.Places.{IsNodeUnder, IsBelow}
+use Rattle.sd_apply.specs.Serving.{IsRight, Serves}
+use Rattle.sd_apply.specs.Places.{IsBelow}
 use Rattle.sd_apply.specs.Calls.{Applies, Complements}
 use Rattle.sd_apply.proofs.Listed.{shown-on, answer-on}
 use Rattle.sd_apply.proofs.Standing.{shown}
@@ -42,7 +43,8 @@ serves-on c old new x h =
     }
 
 -- after a look-up
-pub serves-look : (c c1 : Entries) (t : Table) (k : Call) → c1 ≡ looked c k → Serves c t → Serves c1 t
+pub serves-look : (c c1 : Entries) (t : Table) (k : Call) → c1 ≡ looked c k → Serves c t →
+    Serves c1 t
 serves-look c c1 t k e h =
     subst (λ es. Serves es t) (sym e)
     (record {
@@ -50,7 +52,8 @@ serves-look c c1 t k e h =
       right = λ n x m. h.right n x (looked-entry c k x m);
     })
 
-right-same : (t : Table) (e f : Call) (r s : ℕ) → e.operation ≡ f.operation → e.a ≡ f.a → e.b ≡ f.b → r ≡ s →
+right-same : (t : Table) (e f : Call) (r s : ℕ) → e.operation ≡ f.operation → e.a ≡ f.a →
+    e.b ≡ f.b → r ≡ s →
     IsRight t (f, s) → IsRight t (e, r)
 right-same t e f r s o a b n h =
     record {
@@ -85,12 +88,14 @@ number-known And = omega arith
 number-known Or = omega arith
 number-known Xor = omega arith
 
-pub looked-applies : (c : Entries) (t : Table) (o : Operation) (n v a b epoch x y r : ℕ) → IsTable t → Serves c t →
+pub looked-applies : (c : Entries) (t : Table) (o : Operation) (n v a b epoch x y r : ℕ) →
+    IsTable t → Serves c t →
     n ≡ number_of o → epoch ≡ t.epoch → x ≡ a → y ≡ b → epoch < 72057594037927936 →
     Some r ≡ lookup (is_call (call epoch n x y)) c → Applies t t o v a b r
 looked-applies c t o n v a b epoch x y r i h same ee ex ey early e =
     let found : lookup (is_call (call t.epoch n a b)) c ≡ Some r =
-    sym (e ∙ ap (λ z. lookup (is_call (call z n x y)) c) ee ∙ ap (λ z. lookup (is_call (call t.epoch n z y)) c) ex
+    sym (e ∙ ap (λ z. lookup (is_call (call z n x y)) c) ee
+    ∙ ap (λ z. lookup (is_call (call t.epoch n z y)) c) ex
     ∙ ap (λ z. lookup (is_call (call t.epoch n a z)) c) ey) in
     let w = looked-right c t n a b r h (omega (arith, early, ee)) found in
     record {
@@ -103,16 +108,20 @@ looked-applies c t o n v a b epoch x y r i h same ee ex ey early e =
             diagram = w.answer.diagram;
             is = w.answer.is;
             value = λ g. w.answer.value g ∙ ap (λ n. operation_value n w.first w.second g) same
-                ∙ value-number o w.first w.second g ∙ ap (λ d. combine o (meaning d g) (meaning w.second g)) one
+                ∙ value-number o w.first w.second g
+                ∙ ap (λ d. combine o (meaning d g) (meaning w.second g)) one
                 ∙ ap (λ f. combine o (meaning d g) (meaning f g)) two;
           };
     }
 
-pub looked-complements : (c : Entries) (t : Table) (v a epoch x r : ℕ) → IsTable t → Serves c t → epoch ≡ t.epoch → x ≡ a →
-    epoch < 72057594037927936 → Some r ≡ lookup (is_call (call epoch 3 x 0)) c → Complements t t v a r
+pub looked-complements : (c : Entries) (t : Table) (v a epoch x r : ℕ) → IsTable t → Serves c t →
+    epoch ≡ t.epoch → x ≡ a →
+    epoch < 72057594037927936 → Some r ≡ lookup (is_call (call epoch 3 x 0)) c →
+    Complements t t v a r
 looked-complements c t v a epoch x r i h ee ex early e =
     let found : lookup (is_call (call t.epoch 3 a 0)) c ≡ Some r =
-    sym (e ∙ ap (λ z. lookup (is_call (call z 3 x 0)) c) ee ∙ ap (λ z. lookup (is_call (call t.epoch 3 z 0)) c) ex) in
+    sym (e ∙ ap (λ z. lookup (is_call (call z 3 x 0)) c) ee
+    ∙ ap (λ z. lookup (is_call (call t.epoch 3 z 0)) c) ex) in
     let w = looked-right c t 3 a 0 r h (omega (arith, early, ee)) found in
     record {
       each = λ d p.
@@ -126,7 +135,8 @@ looked-complements c t v a epoch x r i h ee ex early e =
     }
 
 -- after a right answer was kept
-pub serves-keep : (c c1 : Entries) (t : Table) (k : Call) (r : ℕ) → (c1 ≡ kept c k r) ⊎ (c1 ≡ c) → k.epoch ≡ t.epoch →
+pub serves-keep : (c c1 : Entries) (t : Table) (k : Call) (r : ℕ) → (c1 ≡ kept c k r) ⊎ (c1 ≡ c) →
+    k.epoch ≡ t.epoch →
     Serves c t → IsRight t (k, r) → Serves c1 t
 serves-keep c c1 t k r (inr e) at h right = subst (λ es. Serves es t) (sym e) h
 serves-keep c c1 t k r (inl e) at h right =
@@ -143,7 +153,8 @@ serves-keep c c1 t k r (inl e) at h right =
     })
 
 -- what an operation answered is right to keep
-pub applies-right : (old new : Table) (o : Operation) (n epoch v a b r x y z : ℕ) → Extends old new → n ≡ number_of o →
+pub applies-right : (old new : Table) (o : Operation) (n epoch v a b r x y z : ℕ) →
+    Extends old new → n ≡ number_of o →
     x ≡ a → y ≡ b → z ≡ r → IsBelow old v a → IsBelow old v b → Applies old new o v a b r →
     IsRight new (call epoch n x y, z)
 applies-right old new o n epoch v a b r x y z e same ex ey ez p q h =
@@ -163,7 +174,8 @@ applies-right old new o n epoch v a b r x y z e same ex ey ez p q h =
       };
     })
 
-pub complements-right : (old new : Table) (epoch v a r x z : ℕ) → Extends old new → x ≡ a → z ≡ r → IsBelow old v a →
+pub complements-right : (old new : Table) (epoch v a r x z : ℕ) → Extends old new → x ≡ a →
+    z ≡ r → IsBelow old v a →
     Complements old new v a r → IsRight new (call epoch 3 x 0, z)
 complements-right old new epoch v a r x z e ex ez p h =
     let k = h.each p.diagram p.is in

@@ -1,5 +1,6 @@
 -- The pairs turned round and sorted.
-use Rattle.std.proofs.Common.{◌≡◌, ℕ, ◌+◌, ◌≤◌, ◌<◌, Bool, true, false, List, ◌++◌, length, take, drop, map, get_or, refl, sym, ◌∙◌, ap, subst, arith}
+use Rattle.std.proofs.Common.{◌≡◌, ℕ, ◌+◌, ◌≤◌, false, List, ◌++◌, length, take}
+use Rattle.std.proofs.Common.{drop, map, get_or, refl, sym, ◌∙◌, ap, subst, arith}
 use Rattle.std.specs.Ordering.{nat_cmp, ordering_then, is_lt}
 use Rattle.std.specs.List.Sorted.{IsPermutation, IsSorted}
 use Rattle.std.specs.declared.cmp.Ordering.{Ordering}
@@ -12,12 +13,16 @@ use Rattle.sd_laws.proofs.Nodes.{pair_cmp}
 use Rattle.sd_apply.specs.Elements.{turned, Ascend}
 
 -- what is written back over a list of the same length
-pub refilled : (s l : List (ℕ × ℕ)) → length s ≡ length l → take (length l) (s ++ drop (length s) l) ≡ s
-refilled s l e = ap (λ n. take n (s ++ drop (length s) l)) (sym e) ∙ take-append_seam s (drop (length s) l)
+pub refilled : (s l : List (ℕ × ℕ)) → length s ≡ length l →
+    take (length l) (s ++ drop (length s) l) ≡ s
+refilled s l e = ap (λ n. take n (s ++ drop (length s) l)) (sym e)
+    ∙ take-append_seam s (drop (length s) l)
 
 -- the sorted list has the pairs, turned round
-pub sorted-order : (pairs l s : List (ℕ × ℕ)) → map turned l ≡ pairs → IsPermutation l s → IsPermutation pairs (map turned s)
-sorted-order pairs l s e h = subst (λ x. IsPermutation x (map turned s)) e (IsPermutation-map turned l s h)
+pub sorted-order : (pairs l s : List (ℕ × ℕ)) → map turned l ≡ pairs → IsPermutation l s →
+    IsPermutation pairs (map turned s)
+sorted-order pairs l s e h = subst (λ x. IsPermutation x (map turned s)) e (IsPermutation-map
+    turned l s h)
 
 -- a pair that is not less has a first part that is not less
 first_least : (x y : ℕ × ℕ) → is_lt (pair_cmp y x) ≡ false → x.0 ≤ y.0
@@ -33,16 +38,19 @@ pub sorted-ascend : (s : List (ℕ × ℕ)) → IsSorted pair_cmp s → Ascend (
 sorted-ascend s up = record {
   next = λ k lt.
       let d : ℕ × ℕ = (0, 0) in
-      let one : (get_or (map turned s) k (0, 0)).1 ≡ (get_or s k d).0 = ap (λ (e : ℕ × ℕ). e.1) (get_or-map turned s k d) in
+      let one : (get_or (map turned s) k (0, 0)).1 ≡ (get_or s k d).0 = ap (λ (e : ℕ × ℕ). e.1)
+      (get_or-map turned s k d) in
       let two : (get_or (map turned s) (k + 1) (0, 0)).1 ≡ (get_or s (k + 1) d).0 =
       ap (λ (e : ℕ × ℕ). e.1) (get_or-map turned s (k + 1) d) in
       let long = length-map s turned in
-      let most = first_least (get_or s k d) (get_or s (k + 1) d) (up k d (omega arith) (omega arith)) in
+      let most = first_least (get_or s k d) (get_or s (k + 1) d) (up k d (omega arith)
+      (omega arith)) in
       omega (arith, one, two, most);
 }
 
 -- a turned pair of the list
-pub turned-at : (s : List (ℕ × ℕ)) (i : ℕ) → turned (get_or s i (0, 0)) ≡ get_or (map turned s) i (0, 0)
+pub turned-at : (s : List (ℕ × ℕ)) (i : ℕ) → turned (get_or s i (0, 0)) ≡ get_or (map turned s) i
+    (0, 0)
 turned-at s i = sym (get_or-map turned s i (0, 0))
 
 pub length-turned : (s : List (ℕ × ℕ)) → length (map turned s) ≡ length s

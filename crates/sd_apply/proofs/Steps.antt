@@ -1,5 +1,6 @@
 -- What the loops of the operations know.
-use Rattle.std.proofs.Common.{◌≡◌, ℕ, ◌≤◌, ◌<◌, Bool, not, List, [], ◌∷◌, ◌++◌, ◌+◌, take, map, get_or}
+use Rattle.std.proofs.Common.{◌≡◌, ℕ, ◌<◌, not, List, [], ◌∷◌, ◌++◌, ◌+◌, take, map}
+use Rattle.std.proofs.Common.{get_or}
 use Rattle.std.specs.List.{AllByRecursion}
 use Rattle.sd_model.specs.declared.trees.Operation.{Operation}
 use Rattle.sd_model.specs.Diagram.{Diagram, meaning}
@@ -19,28 +20,35 @@ pub record IsStep (old new : Table) (c : Entries) : Type 0 where
   pub table : IsTable new
 
 -- the first j products of an element with a list stand behind those that were there
-pub record InRow (old new : Table) (c : Entries) (o : Operation) (u w : ℕ) (e : ℕ × ℕ) (m l r : List (ℕ × ℕ))
+pub record InRow (old new : Table) (c : Entries) (o : Operation) (u w : ℕ) (e : ℕ × ℕ)
+    (m l r : List (ℕ × ℕ))
     (j : ℕ) : Type 0 where
   pub step : IsStep old new c
-  pub row : (d : Diagram × Diagram) (fs gs : List (Diagram × Diagram)) → IsPair old u w e d → IsSplit old u w m fs →
+  pub row : (d : Diagram × Diagram) (fs gs : List (Diagram × Diagram)) → IsPair old u w e d →
+      IsSplit old u w m fs →
       Lists old u w l gs →
-      HasList new u w r (λ a. answers a gs ++ row o (meaning d.0 a) (meaning d.1 a) (answers a (take j fs)))
+      HasList new u w r (λ a. answers a gs ++ row o (meaning d.0 a) (meaning d.1 a)
+      (answers a (take j fs)))
 
 -- the products of the first i elements with a list
-pub record InProduct (old new : Table) (c : Entries) (o : Operation) (u w : ℕ) (l m r : List (ℕ × ℕ)) (i : ℕ) : Type 0 where
+pub record InProduct (old new : Table) (c : Entries) (o : Operation) (u w : ℕ)
+    (l m r : List (ℕ × ℕ)) (i : ℕ) : Type 0 where
   pub step : IsStep old new c
   pub rows : (ds fs : List (Diagram × Diagram)) → Lists old u w l ds → IsSplit old u w m fs →
       HasList new u w r (λ a. products o (answers a (take i ds)) (answers a fs))
 
 -- the first i elements with their subs negated
-pub record InFlip (old new : Table) (c : Entries) (u w : ℕ) (l r : List (ℕ × ℕ)) (i : ℕ) : Type 0 where
-  pub step : IsStep old new c
-  pub flipped : (ds : List (Diagram × Diagram)) → Lists old u w l ds →
-      HasList new u w r (λ a. map not (answers a (take i ds)))
+pub record InFlip (old new : Table) (c : Entries) (u w : ℕ) (l r : List (ℕ × ℕ)) (i : ℕ) : Type 0
+  where
+    pub step : IsStep old new c
+    pub flipped : (ds : List (Diagram × Diagram)) → Lists old u w l ds →
+        HasList new u w r (λ a. map not (answers a (take i ds)))
 
--- The first i elements with equal subs joined: the last of them, which is still to be pushed, has the prime and the
+-- The first i elements with equal subs joined: the last of them, which is still to be pushed, has
+-- the prime and the
 -- sub, and those before have smaller subs.
-pub record InMerge (old new : Table) (c : Entries) (u w : ℕ) (l r : List (ℕ × ℕ)) (prime sub i : ℕ) : Type 0 where
+pub record InMerge (old new : Table) (c : Entries) (u w : ℕ) (l r : List (ℕ × ℕ)) (prime sub i :
+    ℕ) : Type 0 where
   pub step : IsStep old new c
   pub last : (k : ℕ) → k + 1 ≡ i → sub ≡ (get_or l k (0, 0)).1
   pub smaller : AllByRecursion (λ (e : ℕ × ℕ). e.1 < sub) r

@@ -1,24 +1,28 @@
 -- Diagrams below the nodes of a vtree.
-use Rattle.std.proofs.Common.{◌≡◌, ℕ, zero, suc, ◌+◌, ◌-◌, ◌*◌, ◌≤◌, ◌<◌, Bool, false, not, List, [], ◌∷◌, ◌++◌, length, Some, None}
-use Rattle.std.proofs.Common.{Option, slice_get, inl, inr, refl, sym, ◌∙◌, ap, subst, arith, length-append, ◌==◌, if◌then◌else◌}
+use Rattle.std.proofs.Common.{◌≡◌, ℕ, zero, suc, ◌+◌, ◌-◌, ◌*◌, ◌≤◌, ◌<◌, Bool, not, List}
+use Rattle.std.proofs.Common.{[], ◌∷◌, ◌++◌, length, Some}
+use Rattle.std.proofs.Common.{slice_get, inl, inr, refl, sym, ◌∙◌, ap, subst, arith}
+use Rattle.std.proofs.Common.{length-append}
 use Rattle.std.proofs.lemmas.Option.{same_Some, none-some}
 use Rattle.std.proofs.lemmas.Bool.{cases_lt}
 use Rattle.sd_model.specs.declared.trees.Operation.{Operation}
 use Rattle.sd_model.specs.Tree.{Tree, Leaf, Node, leaves, variables, position, right_base}
-use Rattle.sd_model.specs.Diagram.{Diagram, Bottom, Top, Literal, Decomposition, meaning}
+use Rattle.sd_model.specs.Diagram.{Diagram, Bottom, Top, meaning}
 use Rattle.sd_model.specs.Canonical.{IsCanonical, canonical_bottom, canonical_top}
 use Rattle.sd_model.specs.Expression.{combine}
 use Rattle.sd_model.proofs.Blend.{IsApart, depends}
 use Rattle.sd_model.proofs.OverVtree.{vtree_apart}
-use Rattle.sd_vtree.specs.Numbered.{Numbered, forget, numbers, subtree, children_at, times, IsNumbered}
+use Rattle.sd_vtree.specs.Numbered.{Numbered, forget, numbers, subtree, times}
+use Rattle.sd_vtree.specs.Numbered.{IsNumbered}
 use Rattle.sd_vtree.specs.Numbered.{IsUnder as StandsUnder}
 use Rattle.sd_vtree.proofs.Subtrees.{InnerPart, inner_part}
 use Rattle.sd_vtree.proofs.Times.{slice_get-append, slice_get-left, times-same}
-use Rattle.sd_laws.specs.Parts.{IsPart, here, in_left, in_right, IsInner, HasPosition}
-use Rattle.sd_laws.proofs.Places.{canonical-lifts, part_trans, narrowed, leaves-positive, part_range}
+use Rattle.sd_laws.specs.Parts.{IsPart, here, in_left, in_right, IsInner}
+use Rattle.sd_laws.proofs.Places.{canonical-lifts, part_trans, narrowed, leaves-positive}
+use Rattle.sd_laws.proofs.Places.{part_range}
 use Rattle.sd_laws.proofs.Places.{position-within, position-from}
 use Rattle.sd_laws.specs.Depends.{DependsOn}
-use Rattle.sd_laws.proofs.Numbers.{PartAt, part-of_subtree, part_within, length-numbers, inner-at}
+use Rattle.sd_laws.proofs.Numbers.{part-of_subtree, part_within, length-numbers, inner-at}
 use Rattle.sd_laws.proofs.Numbers.{under-canonical}
 use Rattle.sd_apply.specs.Places.{tree_at, plain, width, IsUnder, HasPlace, HasChildren, IsThere}
 
@@ -53,7 +57,8 @@ left_tree t p u w f = ap plain f.left_is
 pub right_tree : (t : Numbered) (p u w : ℕ) (f : Fork t p u w) → tree_at t w ≡ forget f.right
 right_tree t p u w f = ap plain f.right_is
 
-pub left_part : (t : Numbered) (p u w : ℕ) (f : Fork t p u w) → IsPart (forget f.left) f.base (forget t) 0
+pub left_part : (t : Numbered) (p u w : ℕ) (f : Fork t p u w) → IsPart (forget f.left) f.base
+    (forget t) 0
 left_part t p u w f = part_trans (in_left here) f.inner.part
 
 pub right_part : (t : Numbered) (p u w : ℕ) (f : Fork t p u w) →
@@ -65,16 +70,22 @@ pub apart : (t : Numbered) → IsNumbered t → IsApart (leaves (forget t)) (for
 apart t v = vtree_apart (forget t) v.vtree
 
 -- a diagram below a part that is the tree of a number is canonical for the part
-pub canonical-below : (t : Numbered) → IsNumbered t → (u : ℕ) (s : Tree) (c : ℕ) (d : Diagram) → tree_at t u ≡ s →
+pub canonical-below : (t : Numbered) → IsNumbered t → (u : ℕ) (s : Tree) (c : ℕ) (d : Diagram) →
+    tree_at t u ≡ s →
     IsPart s c (forget t) 0 → IsUnder t u d → IsCanonical s c d
 canonical-below t v u s c d e part h =
-    narrowed (leaves (forget t)) part (apart t v) h.canonical (subst (λ s. DependsOn s (meaning d)) e h.depends)
+    narrowed (leaves (forget t)) part (apart t v) h.canonical
+    (subst (λ s. DependsOn s (meaning d)) e h.depends)
 
 -- and the other way round
 pub below-canonical : (t : Numbered) (u : ℕ) (s : Tree) (c : ℕ) (d : Diagram) → tree_at t u ≡ s →
     IsPart s c (forget t) 0 → IsCanonical s c d → IsUnder t u d
 below-canonical t u s c d e part k =
-    record { canonical = canonical-lifts part d k; depends = subst (λ s. DependsOn s (meaning d)) (sym e) (depends k) }
+    record {
+      canonical = canonical-lifts part d k;
+      depends = subst (λ s. DependsOn s (meaning d))
+          (sym e) (depends k);
+    }
 
 -- constants are below each node
 pub bottom-under : (t : Numbered) (u : ℕ) → IsUnder t u Bottom
@@ -84,8 +95,10 @@ pub top-under : (t : Numbered) (u : ℕ) → IsUnder t u Top
 top-under t u = record { canonical = canonical_top; depends = λ a b h. refl }
 
 -- the answer of a connective at diagrams below a node is below it
-pub answer-under : (t : Numbered) (u : ℕ) (o : Operation) (x y z : Diagram) → IsUnder t u x → IsUnder t u y →
-    IsCanonical (forget t) 0 z → ((a : List Bool) → meaning z a ≡ combine o (meaning x a) (meaning y a)) → IsUnder t u z
+pub answer-under : (t : Numbered) (u : ℕ) (o : Operation) (x y z : Diagram) → IsUnder t u x →
+    IsUnder t u y →
+    IsCanonical (forget t) 0 z → ((a : List Bool) → meaning z a ≡ combine o (meaning x a)
+    (meaning y a)) → IsUnder t u z
 answer-under t u o x y z h k c e =
     record {
       canonical = c;
@@ -94,7 +107,8 @@ answer-under t u o x y z h k c e =
     }
 
 -- and so is that of negation
-pub not-under : (t : Numbered) (u : ℕ) (x z : Diagram) → IsUnder t u x → IsCanonical (forget t) 0 z →
+pub not-under : (t : Numbered) (u : ℕ) (x z : Diagram) → IsUnder t u x →
+    IsCanonical (forget t) 0 z →
     ((a : List Bool) → meaning z a ≡ not (meaning x a)) → IsUnder t u z
 not-under t u x z h c e =
     record { canonical = c; depends = λ a b g. e a ∙ ap not (h.depends a b g) ∙ sym (e b) }
@@ -121,7 +135,13 @@ nested {s} {c = c} (in_left {l = l} p) (in_right q) low high =
   where
     position-last : (s : Tree) → position s 0 + 1 < 2 * leaves s + 1
     position-last (Leaf x) = omega arith
-    position-last (Node l r) = omega (arith, leaves-positive l, leaves-positive r, length-append (variables l) (variables r))
+    position-last (Node l r) = omega (
+      arith,
+      leaves-positive l,
+      leaves-positive r,
+      length-append
+          (variables l) (variables r),
+    )
 nested (in_right p) (in_right q) low high = nested p q low high
 
 -- a number that stands in a list occurs in it
@@ -131,7 +151,8 @@ times-at (x ∷ xs) zero n e = omega (arith, times-same n x xs (same_Some x n e)
 times-at (x ∷ xs) (suc i) n e = omega (arith, times-at xs i n e)
 
 -- what is below a node stands at a number of its subtree
-pub stands-under : (t : Numbered) → IsNumbered t → (v f : ℕ) (x : Diagram) → IsThere t v → IsUnder t v x →
+pub stands-under : (t : Numbered) → IsNumbered t → (v f : ℕ) (x : Diagram) → IsThere t v →
+    IsUnder t v x →
     HasPlace t f x → StandsUnder t f v
 stands-under t n v f x w h k =
     let p = part-of_subtree t v w.part 0 w.is in
@@ -157,12 +178,14 @@ under-number t n v f x h c k =
     (under-canonical t n v f k.position h.part x p h.has k.number k.stands c)
 
 -- the children of a node that stands under another have together no more variables
-pub fork-width : (t : Numbered) → IsNumbered t → (p u w v : ℕ) → HasChildren t p u w → StandsUnder t p v →
+pub fork-width : (t : Numbered) → IsNumbered t → (p u w v : ℕ) → HasChildren t p u w →
+    StandsUnder t p v →
     width t u + width t w ≤ width t v
 fork-width t n p u w v e h =
     let f = fork t n p u w e in
     let q = part-of_subtree t v h.part 0 h.is in
-    let at = part_within t n v p h.part q (position (Node (forget f.left) (forget f.right)) f.base) h.has f.inner.number in
+    let at = part_within t n v p h.part q (position (Node (forget f.left) (forget f.right))
+    f.base) h.has f.inner.number in
     let inside = nested f.inner.part q.part at.0 at.1 in
     let r = part_range inside in
     omega (

@@ -1,32 +1,36 @@
 -- The operations at the whole vtree, and the partitions that callers hand in.
-use Rattle.std.proofs.Common.{◌≡◌, ◌≢◌, ℕ, ◌+◌, ◌*◌, ◌≤◌, ◌<◌, Bool, true, false, not, cond, List, [], ◌∷◌, length}
-use Rattle.std.proofs.Common.{Some, None, slice_get, refl, sym, ◌∙◌, ap, subst, arith, length-append}
+use Rattle.std.proofs.Common.{◌≡◌, ℕ, ◌+◌, ◌*◌, ◌≤◌, ◌<◌, Bool, not, cond, List}
+use Rattle.std.proofs.Common.{[], ◌∷◌, length}
+use Rattle.std.proofs.Common.{Some, None, refl, sym, ◌∙◌, ap, subst, arith}
+use Rattle.std.proofs.Common.{length-append}
 use Rattle.std.specs.List.{AllZip}
-use Rattle.std.specs.FinMap.{get}
 use Rattle.sd_model.specs.declared.trees.Operation.{Operation}
-use Rattle.sd_model.specs.Tree.{Tree, Leaf, Node, leaves, variables, position}
+use Rattle.sd_model.specs.Tree.{Tree, Node, leaves, variables, position}
 use Rattle.sd_model.specs.Diagram.{Diagram, Bottom, meaning}
-use Rattle.sd_model.specs.Canonical.{IsCanonical}
 use Rattle.sd_model.specs.Expression.{combine}
-use Rattle.sd_model.proofs.Blend.{AgreeOn, agree_left, agree_right, depends}
-use Rattle.sd_vtree.specs.Numbered.{Numbered, NumberedLeaf, number_of, forget, numbers, subtree, children_at, times, IsNumbered}
+use Rattle.sd_model.proofs.Blend.{AgreeOn, agree_left, agree_right}
+use Rattle.sd_vtree.specs.Numbered.{Numbered, NumberedLeaf, number_of, forget, numbers, subtree}
+use Rattle.sd_vtree.specs.Numbered.{children_at, IsNumbered}
 use Rattle.sd_vtree.proofs.Subtrees.{subtree_root, subtree_some, once_numbered}
 use Rattle.sd_vtree.proofs.Times.{one_place}
-use Rattle.sd_laws.specs.Pairs.{answers, IsOneTrue, HasValue, join, AreElements}
+use Rattle.sd_laws.specs.Pairs.{answers, join}
 use Rattle.sd_laws.specs.Parts.{IsPart, here, in_left, in_right, IsInner}
 use Rattle.sd_laws.specs.Depends.{DependsOn}
 use Rattle.sd_laws.proofs.Joining.{join-value}
-use Rattle.sd_laws.proofs.Numbers.{PartAt, part-of_subtree, part_number, length-numbers}
-use Rattle.sd_laws.proofs.Places.{narrowed, narrowed-by, canonical-lifts, part_trans, part_range, leaves-positive}
+use Rattle.sd_laws.proofs.Numbers.{part-of_subtree, part_number}
+use Rattle.sd_laws.proofs.Places.{narrowed, narrowed-by, part_trans, part_range}
+use Rattle.sd_laws.proofs.Places.{leaves-positive}
 use Rattle.sd_manager.specs.Table.{Table}
-use Rattle.sd_manager.specs.Shown.{Shows, IsShown, IsKnown, IsPartitionAt}
+use Rattle.sd_manager.specs.Shown.{IsShown, IsKnown, IsPartitionAt}
 use Rattle.sd_manager.specs.Making.{Extends}
 use Rattle.sd_manager.specs.Valid.{IsTable}
 use Rattle.sd_apply.specs.Answers.{Combines, Negates, Compresses}
-use Rattle.sd_apply.specs.Places.{plain, tree_at, IsUnder, IsNodeUnder, IsBelow, IsThere, HasChildren}
-use Rattle.sd_apply.specs.Elements.{IsPair, Lists, IsSplit, ArePartition}
+use Rattle.sd_apply.specs.Places.{plain, tree_at, IsNodeUnder, IsBelow, IsThere}
+use Rattle.sd_apply.specs.Places.{HasChildren}
+use Rattle.sd_apply.specs.Elements.{IsPair, IsSplit}
 use Rattle.sd_apply.specs.Calls.{Applies, Complements, Joins}
-use Rattle.sd_apply.proofs.Trees.{Fork, fork, apart, nested, below-canonical, left_tree, right_tree, times-at}
+use Rattle.sd_apply.proofs.Trees.{Fork, fork, apart, nested, below-canonical, left_tree}
+use Rattle.sd_apply.proofs.Trees.{right_tree, times-at}
 use Rattle.sd_apply.proofs.Standing.{leaf-of_none, shown-there}
 use Rattle.sd_apply.proofs.Expanding.{listed}
 
@@ -34,17 +38,23 @@ use Rattle.sd_apply.proofs.Expanding.{listed}
 pub root-there : (t : Numbered) (u : ℕ) → u ≡ number_of t → IsThere t u
 root-there t u e = record { part = t; is = ap (subtree t) e ∙ subtree_root t }
 
-pub root-under : (t : Table) (u c : ℕ) (d : Diagram) → u ≡ number_of t.vtree → IsShown t c d → IsNodeUnder t u c d
+pub root-under : (t : Table) (u c : ℕ) (d : Diagram) → u ≡ number_of t.vtree → IsShown t c d →
+    IsNodeUnder t u c d
 unfolding root-there
 root-under t u c d e h =
     let w = root-there t.vtree u e in
-    record { shows = h.shows; under = below-canonical t.vtree u (forget t.vtree) 0 d (ap plain w.is) here h.canonical }
+    record {
+      shows = h.shows;
+      under = below-canonical t.vtree u (forget t.vtree) 0 d
+          (ap plain w.is) here h.canonical;
+    }
 
 pub root-below : (t : Table) (u c : ℕ) → u ≡ number_of t.vtree → IsKnown t c → IsBelow t u c
 root-below t u c e h = record { diagram = h.diagram; is = root-under t u c h.diagram e h.is }
 
 -- what a connective answers at the root
-pub combines : (old new : Table) → IsTable new → (o : Operation) (u a b c : ℕ) → u ≡ number_of old.vtree →
+pub combines : (old new : Table) → IsTable new → (o : Operation) (u a b c : ℕ) →
+    u ≡ number_of old.vtree →
     Applies old new o u a b c → Combines old new o a b c
 combines old new i o u a b c e h = record {
   each = λ x y p q.
@@ -54,13 +64,15 @@ combines old new i o u a b c e h = record {
         is = z.is;
         value = z.value;
         below = λ s base part k j.
-            narrowed-by (leaves (forget new.vtree)) z.diagram x y (combine o) part (apart new.vtree i.numbered)
+            narrowed-by (leaves (forget new.vtree)) z.diagram x y (combine o) part
+            (apart new.vtree i.numbered)
             z.is.canonical k j z.value;
       };
 }
 
 -- and negation
-pub negates : (old new : Table) → IsTable new → (u a c : ℕ) → u ≡ number_of old.vtree → Complements old new u a c →
+pub negates : (old new : Table) → IsTable new → (u a c : ℕ) → u ≡ number_of old.vtree →
+    Complements old new u a c →
     Negates old new a c
 negates old new i u a c e h = record {
   each = λ x p.
@@ -70,7 +82,8 @@ negates old new i u a c e h = record {
         is = z.is;
         value = z.value;
         below = λ s base part k.
-            narrowed-by (leaves (forget new.vtree)) z.diagram x x (λ v w. not v) part (apart new.vtree i.numbered)
+            narrowed-by (leaves (forget new.vtree)) z.diagram x x (λ v w. not v) part
+            (apart new.vtree i.numbered)
             z.is.canonical k k z.value;
       };
 }
@@ -79,22 +92,46 @@ negates old new i u a c e h = record {
 part-whole : {s t : Tree} {c b : ℕ} → IsPart s c t b → leaves t ≤ leaves s → s ≡ t
 part-whole here h = refl
 part-whole (in_left {l = l} {r = r} p) h =
-    absurd (omega (arith, part_range p, h, leaves-positive r, length-append (variables l) (variables r)))
+    absurd (omega (
+      arith,
+      part_range p,
+      h,
+      leaves-positive r,
+      length-append (variables l)
+          (variables r),
+    ))
 part-whole (in_right {l = l} {r = r} p) h =
-    absurd (omega (arith, part_range p, h, leaves-positive l, length-append (variables l) (variables r)))
+    absurd (omega (
+      arith,
+      part_range p,
+      h,
+      leaves-positive l,
+      length-append (variables l)
+          (variables r),
+    ))
 
 -- the positions of a node are around its own
-around : (l r : Tree) (b : ℕ) → (b ≤ position (Node l r) b) × (position (Node l r) b + 1 < b + 2 * leaves (Node l r))
-around l r b =
-    (omega (arith, leaves-positive l), omega (arith, leaves-positive l, leaves-positive r, length-append (variables l) (variables r)))
+around : (l r : Tree) (b : ℕ) → (b ≤ position (Node l r) b) × (position (Node l r) b + 1 < b + 2 *
+    leaves (Node l r))
+around l r b = (
+  omega (arith, leaves-positive l),
+  omega (
+    arith,
+    leaves-positive l,
+    leaves-positive r,
+    length-append (variables l) (variables r),
+  ),
+)
 
 -- the children's trees of a node are determined by its number
-same-node : (t : Numbered) → IsNumbered t → (p u w : ℕ) (f : Fork t p u w) (left right : Tree) (base : ℕ) →
+same-node : (t : Numbered) → IsNumbered t → (p u w : ℕ) (f : Fork t p u w) (left right : Tree)
+    (base : ℕ) →
     IsInner t p left right base → Node left right ≡ Node (forget f.left) (forget f.right)
 same-node t v p u w f left right base h =
     let one = position (Node left right) base in
     let two = position (Node (forget f.left) (forget f.right)) f.base in
-    let same : one ≡ two = one_place (numbers t) p one two (once_numbered t v p) h.number f.inner.number in
+    let same : one ≡ two = one_place (numbers t) p one two (once_numbered t v p) h.number
+    f.inner.number in
     let a = around left right base in
     let b = around (forget f.left) (forget f.right) f.base in
     let there = nested h.part f.inner.part (omega (arith, b.0, same)) (omega (arith, b.1, same)) in
@@ -102,7 +139,8 @@ same-node t v p u w f left right base h =
     part-whole there (omega (arith, part_range there, part_range back))
 
 -- a partition that a caller hands in
-pub split-from : (t : Table) → IsTable t → (p u w : ℕ) → HasChildren t.vtree p u w → (l : List (ℕ × ℕ))
+pub split-from : (t : Table) → IsTable t → (p u w : ℕ) → HasChildren t.vtree p u w →
+    (l : List (ℕ × ℕ))
     (ds : List (Diagram × Diagram)) → IsPartitionAt t p l ds → IsSplit t u w l ds
 split-from t i p u w e l ds h =
     let f = fork t.vtree i.numbered p u w e in
@@ -112,15 +150,19 @@ split-from t i p u w e l ds h =
     record {
       lists = record {
         pairs = listed t u w _ _ _
-            (λ d a. below-canonical t.vtree u h.left h.base d.0 left (part_trans (in_left here) h.inner.part) a)
-            (λ d a. below-canonical t.vtree w h.right _ d.1 right (part_trans (in_right here) h.inner.part) a)
-            (λ d a. a) l ds h.shown h.split.elements.primes h.split.elements.subs h.split.elements.possible;
+            (λ d a. below-canonical t.vtree u h.left h.base d.0 left (part_trans (in_left here)
+            h.inner.part) a)
+            (λ d a. below-canonical t.vtree w h.right _ d.1 right (part_trans (in_right here)
+            h.inner.part) a)
+            (λ d a. a) l ds h.shown h.split.elements.primes h.split.elements.subs
+            h.split.elements.possible;
       };
       one_true = h.split.one_true;
     }
 
 -- the vtree node of a partition has children
-pub inner-children : (t : Table) → IsTable t → (p : ℕ) (l : List (ℕ × ℕ)) (ds : List (Diagram × Diagram)) →
+pub inner-children : (t : Table) → IsTable t → (p : ℕ) (l : List (ℕ × ℕ))
+    (ds : List (Diagram × Diagram)) →
     IsPartitionAt t p l ds → children_at t.vtree p ≡ None → ⊥
 inner-children t i p l ds h none =
     let v = i.numbered in
@@ -129,8 +171,10 @@ inner-children t i p l ds h none =
     let k = leaf-of_none t.vtree p s.0 s.1 none in
     let q = part-of_subtree t.vtree p (NumberedLeaf k.0 k.1) 0 k.2 in
     let number = part_number t.vtree p (NumberedLeaf k.0 k.1) q in
-    let root : k.0 ≡ p = Rattle.sd_vtree.proofs.Subtrees.subtree_number t.vtree p (NumberedLeaf k.0 k.1) k.2 in
-    let same : at ≡ 0 + q.skip = one_place (numbers t.vtree) p at (0 + q.skip) (once_numbered t.vtree v p) h.inner.number (number ∙ ap Some root) in
+    let root : k.0 ≡ p = Rattle.sd_vtree.proofs.Subtrees.subtree_number t.vtree p
+    (NumberedLeaf k.0 k.1) k.2 in
+    let same : at ≡ 0 + q.skip = one_place (numbers t.vtree) p at (0 + q.skip) (once_numbered
+    t.vtree v p) h.inner.number (number ∙ ap Some root) in
     let inside = nested h.inner.part q.part (omega (arith, same)) (omega (arith, same)) in
     omega (
       arith,
@@ -140,13 +184,17 @@ inner-children t i p l ds h none =
       length-append (variables h.left) (variables h.right),
     )
 
-pub inner-there : (t : Table) → IsTable t → (p : ℕ) (l : List (ℕ × ℕ)) (ds : List (Diagram × Diagram)) →
+pub inner-there : (t : Table) → IsTable t → (p : ℕ) (l : List (ℕ × ℕ))
+    (ds : List (Diagram × Diagram)) →
     IsPartitionAt t p l ds → p < length (numbers t.vtree)
-inner-there t i p l ds h = shown-there t i p (position (Node h.left h.right) h.base) Bottom h.inner.number
+inner-there t i p l ds h = shown-there t i p (position (Node h.left h.right) h.base) Bottom
+    h.inner.number
 
 -- answers look at the variables below the node alone
-answers_agree : (t : Table) (u w : ℕ) (a b : List Bool) → AgreeOn (tree_at t.vtree u) a b → AgreeOn (tree_at t.vtree w) a b →
-    (l : List (ℕ × ℕ)) (ds : List (Diagram × Diagram)) → AllZip (IsPair t u w) l ds → answers a ds ≡ answers b ds
+answers_agree : (t : Table) (u w : ℕ) (a b : List Bool) → AgreeOn (tree_at t.vtree u) a b →
+    AgreeOn (tree_at t.vtree w) a b →
+    (l : List (ℕ × ℕ)) (ds : List (Diagram × Diagram)) → AllZip (IsPair t u w) l ds →
+    answers a ds ≡ answers b ds
 answers_agree t u w a b p q [] [] h = refl
 answers_agree t u w a b p q [] (d ∷ ds) h = absurd h
 answers_agree t u w a b p q (e ∷ l) [] h = absurd h
@@ -161,7 +209,8 @@ head_same x y e = cc
 
 -- the node of a partition
 pub compresses : (old new : Table) → IsTable old → IsTable new → Extends old new → (p u w : ℕ) →
-    HasChildren old.vtree p u w → (l : List (ℕ × ℕ)) (c : ℕ) → Joins old new u w l c → Compresses old new p l c
+    HasChildren old.vtree p u w → (l : List (ℕ × ℕ)) (c : ℕ) → Joins old new u w l c →
+    Compresses old new p l c
 compresses old new i j x p u w e l c h = record {
   each = λ ds part.
       let s = split-from old i p u w e l ds part in
@@ -174,16 +223,21 @@ compresses old new i j x p u w e l c h = record {
         value = value;
         below = λ left right base inner.
             let f = fork old.vtree i.numbered p u w e in
-            let at : IsInner old.vtree p left right base = subst (λ t. IsInner t p left right base) x.vtree inner in
+            let at : IsInner old.vtree p left right base = subst (λ t. IsInner t p left right
+            base) x.vtree inner in
             let same = same-node old.vtree i.numbered p u w f left right base at in
-            let lt : left ≡ tree_at old.vtree u = (let q : left ≡ forget f.left = cc in q) ∙ sym (left_tree old.vtree p u w f) in
-            let rt : right ≡ tree_at old.vtree w = (let q : right ≡ forget f.right = cc in q) ∙ sym (right_tree old.vtree p u w f) in
+            let lt : left ≡ tree_at old.vtree u = (let q : left ≡ forget f.left = cc in q)
+            ∙ sym (left_tree old.vtree p u w f) in
+            let rt : right ≡ tree_at old.vtree w = (let q : right ≡ forget f.right = cc in q)
+            ∙ sym (right_tree old.vtree p u w f) in
             let look : DependsOn (Node left right) (meaning z.diagram) = λ a b g.
             head_same (meaning z.diagram a) (meaning z.diagram b)
             (sym (value a)
-            ∙ answers_agree old u w a b (subst (λ t. AgreeOn t a b) lt (agree_left left right a b g))
+            ∙ answers_agree old u w a b (subst (λ t. AgreeOn t a b) lt (agree_left left right a b
+            g))
             (subst (λ t. AgreeOn t a b) rt (agree_right left right a b g)) l ds s.lists.pairs
             ∙ value b) in
-            narrowed (leaves (forget new.vtree)) inner.part (apart new.vtree j.numbered) z.is.canonical look;
+            narrowed (leaves (forget new.vtree)) inner.part (apart new.vtree j.numbered)
+            z.is.canonical look;
       };
 }

@@ -17,7 +17,8 @@ pub record HasAnswer (t : Table) (f : List Bool → Bool) (c : ℕ) : Type 0 whe
   pub is : IsShown t c diagram
   pub value : (a : List Bool) → meaning diagram a ≡ f a
 
--- The code shows a canonical diagram that has the value of the connective at x and y, and that stands below each vtree
+-- The code shows a canonical diagram that has the value of the connective at x and y, and that
+-- stands below each vtree
 -- node below which both x and y stand.
 pub record IsCombination (t : Table) (o : Operation) (x y : Diagram) (c : ℕ) : Type 0 where
   pub diagram : Diagram
@@ -30,7 +31,8 @@ pub record IsCombination (t : Table) (o : Operation) (x y : Diagram) (c : ℕ) :
 pub record Combines (old new : Table) (o : Operation) (a b c : ℕ) : Type 0 where
   pub each : (x y : Diagram) → IsShown old a x → IsShown old b y → IsCombination new o x y c
 
--- the code shows a canonical diagram that has the opposite value of x, and that stands below each vtree node below
+-- the code shows a canonical diagram that has the opposite value of x, and that stands below each
+-- vtree node below
 -- which x stands
 pub record IsNegation (t : Table) (x : Diagram) (c : ℕ) : Type 0 where
   pub diagram : Diagram
@@ -43,14 +45,17 @@ pub record IsNegation (t : Table) (x : Diagram) (c : ℕ) : Type 0 where
 pub record Negates (old new : Table) (a c : ℕ) : Type 0 where
   pub each : (x : Diagram) → IsShown old a x → IsNegation new x c
 
--- The code shows a canonical diagram that has the value of the partition, and that stands below the vtree node.
-pub record IsCompression (t : Table) (place : ℕ) (ds : List (Diagram × Diagram)) (c : ℕ) : Type 0 where
-  pub diagram : Diagram
-  pub is : IsShown t c diagram
-  pub value : HasValue ds (meaning diagram)
-  pub below : (left right : Tree) (base : ℕ) → IsInner t.vtree place left right base →
-      IsCanonical (Node left right) base diagram
+-- The code shows a canonical diagram that has the value of the partition, and that stands below
+-- the vtree node.
+pub record IsCompression (t : Table) (place : ℕ) (ds : List (Diagram × Diagram)) (c : ℕ) : Type 0
+  where
+    pub diagram : Diagram
+    pub is : IsShown t c diagram
+    pub value : HasValue ds (meaning diagram)
+    pub below : (left right : Tree) (base : ℕ) → IsInner t.vtree place left right base →
+        IsCanonical (Node left right) base diagram
 
 -- the node of a partition of the old table, whose subs may be equal
 pub record Compresses (old new : Table) (place : ℕ) (pairs : List (ℕ × ℕ)) (c : ℕ) : Type 0 where
-  pub each : (ds : List (Diagram × Diagram)) → IsPartitionAt old place pairs ds → IsCompression new place ds c
+  pub each : (ds : List (Diagram × Diagram)) → IsPartitionAt old place pairs ds →
+      IsCompression new place ds c

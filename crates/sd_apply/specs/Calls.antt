@@ -23,19 +23,22 @@ pub record Expands (old new : Table) (v u w a : ℕ) (l : List (ℕ × ℕ)) : T
   pub each : (x : Diagram) → IsNodeUnder old v a x → HasList new u w l (λ g. meaning x g ∷ [])
 
 -- the products of two lists
-pub record Multiplies (old new : Table) (o : Operation) (u w : ℕ) (l m r : List (ℕ × ℕ)) : Type 0 where
-  pub each : (ds fs : List (Diagram × Diagram)) → Lists old u w l ds → IsSplit old u w m fs →
-      HasList new u w r (λ g. products o (answers g ds) (answers g fs))
+pub record Multiplies (old new : Table) (o : Operation) (u w : ℕ) (l m r : List (ℕ × ℕ)) : Type 0
+  where
+    pub each : (ds fs : List (Diagram × Diagram)) → Lists old u w l ds → IsSplit old u w m fs →
+        HasList new u w r (λ g. products o (answers g ds) (answers g fs))
 
 -- the products of one element with a list, behind those that are there
-pub record AddsRow (old new : Table) (o : Operation) (u w : ℕ) (e : ℕ × ℕ) (m l r : List (ℕ × ℕ)) : Type 0 where
+pub record AddsRow (old new : Table) (o : Operation) (u w : ℕ) (e : ℕ × ℕ) (m l r : List (ℕ × ℕ))
+    : Type 0 where
   pub each : (d : Diagram × Diagram) (fs gs : List (Diagram × Diagram)) → IsPair old u w e d →
       IsSplit old u w m fs → Lists old u w l gs →
       HasList new u w r (λ g. answers g gs ++ row o (meaning d.0 g) (meaning d.1 g) (answers g fs))
 
 -- the elements of a partition with equal subs joined
 pub record Merges (old new : Table) (u w : ℕ) (l r : List (ℕ × ℕ)) : Type 0 where
-  pub each : (ds : List (Diagram × Diagram)) → IsSplit old u w l ds → HasList new u w r (λ g. answers g ds)
+  pub each : (ds : List (Diagram × Diagram)) → IsSplit old u w l ds →
+      HasList new u w r (λ g. answers g ds)
 
 -- the node of a partition
 pub record Joins (old new : Table) (u w : ℕ) (l : List (ℕ × ℕ)) (c : ℕ) : Type 0 where

@@ -1,11 +1,12 @@
 -- Elements at a vtree node with the children u and w, as lists of pairs of codes.
-use Rattle.std.specs.Prelude.{◌≡◌, ◌≢◌, ℕ, ◌≤◌, ◌<◌, ◌+◌, Bool, not, List, [], ◌∷◌, ◌++◌, length, map, cond}
+use Rattle.std.specs.Prelude.{◌≡◌, ◌≢◌, ℕ, ◌≤◌, ◌<◌, ◌+◌, Bool, List, [], ◌∷◌, ◌++◌, length}
+use Rattle.std.specs.Prelude.{map, cond}
 use Rattle.std.proofs.Common.{get_or}
 use Rattle.std.specs.List.{AllZip}
 use Rattle.sd_model.specs.declared.trees.Operation.{Operation}
-use Rattle.sd_model.specs.Diagram.{Diagram, Bottom, meaning}
+use Rattle.sd_model.specs.Diagram.{Diagram, Bottom}
 use Rattle.sd_model.specs.Expression.{combine}
-use Rattle.sd_laws.specs.Pairs.{answers, IsOneTrue, HasValue}
+use Rattle.sd_laws.specs.Pairs.{answers, IsOneTrue}
 use Rattle.sd_manager.specs.Table.{Table}
 use Rattle.sd_manager.specs.Shown.{Shows}
 use Rattle.sd_apply.specs.Places.{IsUnder}
@@ -19,11 +20,13 @@ pub record IsPair (t : Table) (u w : ℕ) (e : ℕ × ℕ) (d : Diagram × Diagr
   pub possible : d.0 ≢ Bottom
 
 -- each pair of codes shows its pair of diagrams
-pub record Lists (t : Table) (u w : ℕ) (l : List (ℕ × ℕ)) (ds : List (Diagram × Diagram)) : Type 0 where
-  pub pairs : AllZip (IsPair t u w) l ds
+pub record Lists (t : Table) (u w : ℕ) (l : List (ℕ × ℕ)) (ds : List (Diagram × Diagram)) : Type 0
+  where
+    pub pairs : AllZip (IsPair t u w) l ds
 
 -- the same, with one true prime under each assignment
-pub record IsSplit (t : Table) (u w : ℕ) (l : List (ℕ × ℕ)) (ds : List (Diagram × Diagram)) : Type 0 where
+pub record IsSplit (t : Table) (u w : ℕ) (l : List (ℕ × ℕ)) (ds : List (Diagram × Diagram)) : Type
+    0 where
   pub lists : Lists t u w l ds
   pub one_true : IsOneTrue ds
 
@@ -43,7 +46,8 @@ pub record ArePartition (t : Table) (u w : ℕ) (l : List (ℕ × ℕ)) : Type 0
   pub is : IsSplit t u w l shown
 
 -- the pairs are elements with these answers
-pub record HasList (t : Table) (u w : ℕ) (l : List (ℕ × ℕ)) (values : List Bool → List Bool) : Type 0 where
+pub record HasList (t : Table) (u w : ℕ) (l : List (ℕ × ℕ)) (values : List Bool → List Bool) :
+    Type 0 where
   pub shown : List (Diagram × Diagram)
   pub lists : Lists t u w l shown
   pub value : (a : List Bool) → answers a shown ≡ values a

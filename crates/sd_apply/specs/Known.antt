@@ -1,9 +1,9 @@
 -- Answers that need no node.
-use Rattle.std.specs.Prelude.{ℕ, ◌+◌, ◌-◌, ◌/◌, ◌%◌, Bool, ◌&&◌, ◌==◌, nat_lt, Option, Some, None, if◌then◌else◌}
-use Rattle.sd_model.specs.declared.trees.Operation.{Operation}
-use Rattle.sd_apply.specs.Operations.{number_of}
+use Rattle.std.specs.Prelude.{ℕ, ◌+◌, ◌-◌, ◌/◌, ◌%◌, ◌&&◌, ◌==◌, nat_lt, Option, Some, None}
+use Rattle.std.specs.Prelude.{if◌then◌else◌}
 
--- the answer of the connective with this number where the codes are equal, where one is constant, and where they are
+-- the answer of the connective with this number where the codes are equal, where one is constant,
+-- and where they are
 -- the two literals of a variable
 abbrev pub known_of : ℕ → ℕ → ℕ → Option ℕ
 known_of n a b =
@@ -12,7 +12,8 @@ known_of n a b =
     else (if b == 0 then (if n == 0 then Some 0 else Some a)
     else (if a == 1 then (if n == 0 then Some b else (if n == 1 then Some 1 else None))
     else (if b == 1 then (if n == 0 then Some a else (if n == 1 then Some 1 else None))
-    else (if (a / 2 == b / 2) && nat_lt a 2050 then (if n == 0 then Some 0 else Some 1) else None)))))
+    else (if (a / 2 == b / 2) && nat_lt a 2050 then (if n == 0 then Some 0 else Some 1) else
+    None)))))
 
 -- the negation of a constant or a literal
 abbrev pub opposite_of : ℕ → Option ℕ

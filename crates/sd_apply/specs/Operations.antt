@@ -1,4 +1,5 @@
--- The operations by their numbers, and the value of each: 0 to 5 are and, or, exclusive or, negation, given and forget.
+-- The operations by their numbers, and the value of each: 0 to 5 are and, or, exclusive or,
+-- negation, given and forget.
 use Rattle.std.specs.Prelude.{ℕ, Bool, true, false, not, ◌||◌, List, ◌==◌, if◌then◌else◌}
 use Rattle.sd_model.specs.declared.trees.Operation.{Operation}
 use Rattle.sd_model.specs.declared.trees.Operation.TheVariants.{And, Or, Xor}
@@ -19,7 +20,8 @@ given_value x _ a = meaning x a
 
 -- the value of x under one of the two values of the variable of y
 abbrev pub forgotten_value : Diagram → Diagram → List Bool → Bool
-forgotten_value x (Literal p v positive) a = meaning x (with_value a v true) || meaning x (with_value a v false)
+forgotten_value x (Literal p v positive) a = meaning x (with_value a v true) || meaning x
+    (with_value a v false)
 forgotten_value x _ a = meaning x a
 
 -- the value of the operation with this number at two diagrams; negation does not look at the second

@@ -1,5 +1,5 @@
 -- Diagrams below a vtree node.
-use Rattle.std.specs.Prelude.{◌≡◌, ℕ, ◌+◌, Bool, List, Option, Some, None, slice_get}
+use Rattle.std.specs.Prelude.{◌≡◌, ℕ, Option, Some, None, slice_get}
 use Rattle.sd_model.specs.Tree.{Tree, Leaf, leaves}
 use Rattle.sd_model.specs.Diagram.{Diagram, meaning}
 use Rattle.sd_model.specs.Canonical.{IsCanonical}

@@ -7,7 +7,8 @@ use Rattle.sd_manager.specs.Shown.{IsShown}
 use Rattle.sd_apply.specs.Operations.{operation_value}
 use Rattle.sd_apply.specs.Answers.{HasAnswer}
 
--- an entry is of one of the six operations, and names nodes that show canonical diagrams, and an answer with the value
+-- an entry is of one of the six operations, and names nodes that show canonical diagrams, and an
+-- answer with the value
 -- of the operation at them
 pub record IsRight (t : Table) (e : Call × ℕ) : Type 0 where
   pub known : e.0.operation ≤ 5
@@ -21,7 +22,9 @@ pub record IsRight (t : Table) (e : Call × ℕ) : Type 0 where
 abbrev pub last_epoch : ℕ
 last_epoch = 18446744073709551615
 
--- No entry has a later epoch than the manager; before the last epoch each entry of the manager's own is right.
+-- No entry has a later epoch than the manager; before the last epoch each entry of the manager's
+-- own is right.
 pub record Serves (c : Entries) (t : Table) : Type 0 where
   pub early : (e : Call × ℕ) → Contains c e → e.0.epoch ≤ t.epoch
-  pub right : ¬ (t.epoch ≡ last_epoch) → (e : Call × ℕ) → Contains c e → e.0.epoch ≡ t.epoch → IsRight t e
+  pub right : ¬ (t.epoch ≡ last_epoch) → (e : Call × ℕ) → Contains c e → e.0.epoch ≡ t.epoch →
+      IsRight t e

@@ -1,5 +1,6 @@
 // The operations, which call one another below the vtree node of their operands.
-ghost use Rattle.std.specs.Prelude.{◌≡◌, ◌≤◌, ◌<◌, ◌/◌, ℕ, List, [], ◌∷◌, map, length, None, IfOk, IfErr};
+ghost use Rattle.std.specs.Prelude.{◌≡◌, ◌≤◌, ◌<◌, ◌/◌, ℕ, List, [], ◌∷◌, map, length, None};
+ghost use Rattle.std.specs.Prelude.{IfOk, IfErr};
 ghost use Rattle.sd_model.specs.Tree.{AreDistinct};
 ghost use Rattle.sd_model.specs.declared.trees.Operation.TheVariants.{And, Or, Xor};
 ghost use Rattle.sd_vtree.specs.Numbered.{numbers};
@@ -10,7 +11,8 @@ ghost use Rattle.sd_apply.specs.Serving.{Serves};
 ghost use Rattle.sd_apply.specs.Known.{known_of};
 ghost use Rattle.sd_apply.specs.Places.{IsBelow, IsThere, HasChildren};
 ghost use Rattle.sd_apply.specs.Elements.{IsPaired, AreListed, ArePartition, Ascend, turned};
-ghost use Rattle.sd_apply.specs.Calls.{Applies, Complements, Expands, Multiplies, AddsRow, Merges, Joins, Flips};
+ghost use Rattle.sd_apply.specs.Calls.{Applies, Complements, Expands, Multiplies, AddsRow};
+ghost use Rattle.sd_apply.specs.Calls.{Merges, Joins, Flips};
 
 use crate::known::{NEGATION, known, number, opposite};
 use crate::lists::{Pairs, below_left, below_right, by_sub, elements_of};
@@ -135,7 +137,8 @@ fn split(
     compress_at(alloc, m, c, place, left, right, pairs.as_slice())
 }
 
-// A node below a vtree node, as elements there: its own where it stands there, and else two or one made of it.
+// A node below a vtree node, as elements there: its own where it stands there, and else two or
+// one made of it.
 #[cycle(apply)]
 fn expand(
     alloc: Global,
@@ -188,7 +191,8 @@ fn multiply(
     requires second { ArePartition m.old left right second.now }
     requires serves { Serves c.old m.old }
     requires table { IsTable m.old }
-    ensures ok { IfOk result (λ r. Multiplies m.old m.new operation left right first.now second.now r.items) }
+    ensures ok { IfOk result (λ r. Multiplies m.old m.new operation left right first.now
+        second.now r.items) }
     ensures kept { Extends m.old m.new }
     ensures serves { Serves c.new m.new }
     ensures rule { IfErr result (λ e. KeepsRule m.new e) }
@@ -197,7 +201,9 @@ fn multiply(
     let mut pairs = SmallVec::new(alloc);
     for i in 0..first.len() {
         let (prime, sub) = first[i];
-        add_row(alloc, m, c, operation, left, right, prime, sub, second, &mut pairs)?;
+        add_row(
+            alloc, m, c, operation, left, right, prime, sub, second, &mut pairs,
+        )?;
     }
     Ok(pairs)
 }
@@ -268,7 +274,8 @@ pub(crate) fn compress_at(
     m.make(place, merged.as_slice())
 }
 
-// The elements with the primes of equal subs joined. They are sorted by the subs, which come first in each pair.
+// The elements with the primes of equal subs joined. They are sorted by the subs, which come
+// first in each pair.
 #[cycle(apply)]
 fn merge(
     alloc: Global,
@@ -295,7 +302,15 @@ fn merge(
     for i in 1..sorted.len() {
         let (next_sub, next_prime) = sorted[i];
         if next_sub == sub {
-            let joined = apply(alloc, m, c, Operation::Or, left, NodeId(prime), NodeId(next_prime))?;
+            let joined = apply(
+                alloc,
+                m,
+                c,
+                Operation::Or,
+                left,
+                NodeId(prime),
+                NodeId(next_prime),
+            )?;
             prime = joined.0;
         } else {
             let Ok(()) = merged.push((NodeId(prime), NodeId(sub))) else {

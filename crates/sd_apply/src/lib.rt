@@ -1,4 +1,5 @@
-//! Operations on the diagrams of a manager: conjunction, disjunction, exclusive or, negation and compression.
+//! Operations on the diagrams of a manager: conjunction, disjunction, exclusive or, negation and
+//! compression.
 #![tactic(auto)]
 
 mod calls;
@@ -8,3 +9,6 @@ mod operations;
 mod places;
 
 pub use operations::{and, compress, negate, or, xor};
+
+#[cfg(test)]
+mod tests;

@@ -44,11 +44,7 @@ pub(crate) fn below_left(alloc: Global, a: NodeId, negation: NodeId) -> Result<P
 }
 
 /// The elements of a decomposition.
-pub(crate) fn elements_of(
-    alloc: Global,
-    m: &Manager,
-    node: NodeId,
-) -> Result<Pairs, TakeError>
+pub(crate) fn elements_of(alloc: Global, m: &Manager, node: NodeId) -> Result<Pairs, TakeError>
     requires known { IsKnown m.now node }
     requires code { 2050 ≤ node }
     ensures ok { IfOk result (λ r. r.items ≡ pairs_at m.now node) }
@@ -69,10 +65,7 @@ pub(crate) fn elements_of(
 }
 
 /// The pairs, turned round, by ascending subs.
-pub(crate) fn by_sub(
-    alloc: Global,
-    pairs: &[(NodeId, NodeId)],
-) -> Result<Turned, TakeError>
+pub(crate) fn by_sub(alloc: Global, pairs: &[(NodeId, NodeId)]) -> Result<Turned, TakeError>
     ensures order { IfOk result (λ r. IsPermutation pairs.now (map turned r.items)) }
     ensures ascending { IfOk result (λ r. Ascend (map turned r.items)) }
     ensures err { IfErr result (λ e. e ≡ TakeError.OutOfMemory) }

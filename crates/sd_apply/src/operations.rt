@@ -16,7 +16,8 @@ use sd_runs::TakeError;
 use sd_vtree::VNode;
 use std::alloc::Global;
 
-/// The conjunction of two nodes. ArenaFull where the elements of a node find no room in the arena, and OutOfMemory for want of
+/// The conjunction of two nodes. ArenaFull where the elements of a node find no room in the
+/// arena, and OutOfMemory for want of
 /// memory; then each node shows what it showed.
 pub fn and(
     alloc: Global,
@@ -38,7 +39,8 @@ pub fn and(
     apply(alloc, m, c, Operation::And, root, a, b)
 }
 
-/// The disjunction of two nodes. ArenaFull where the elements of a node find no room in the arena, and OutOfMemory for want of
+/// The disjunction of two nodes. ArenaFull where the elements of a node find no room in the
+/// arena, and OutOfMemory for want of
 /// memory; then each node shows what it showed.
 pub fn or(
     alloc: Global,
@@ -60,7 +62,8 @@ pub fn or(
     apply(alloc, m, c, Operation::Or, root, a, b)
 }
 
-/// The exclusive or of two nodes. ArenaFull where the elements of a node find no room in the arena, and OutOfMemory for want of
+/// The exclusive or of two nodes. ArenaFull where the elements of a node find no room in the
+/// arena, and OutOfMemory for want of
 /// memory; then each node shows what it showed.
 pub fn xor(
     alloc: Global,
@@ -83,12 +86,7 @@ pub fn xor(
 }
 
 /// The negation of a node. It refuses as `and`.
-pub fn negate(
-    alloc: Global,
-    m: &mut Manager,
-    c: &mut Cache,
-    a: NodeId,
-) -> Result<NodeId, TakeError>
+pub fn negate(alloc: Global, m: &mut Manager, c: &mut Cache, a: NodeId) -> Result<NodeId, TakeError>
     requires known { IsKnown m.old a }
     requires serves { Serves c.old m.old }
     ensures ok { IfOk result (λ r. Negates m.old m.new a r) }
@@ -101,7 +99,8 @@ pub fn negate(
     complement(alloc, m, c, root, a)
 }
 
-/// The node of a partition of a vtree node, whose subs may be equal: the elements with equal subs are joined.
+/// The node of a partition of a vtree node, whose subs may be equal: the elements with equal subs
+/// are joined.
 /// It refuses as `and`.
 pub fn compress(
     alloc: Global,

@@ -4,7 +4,8 @@ ghost use Rattle.sd_model.specs.Diagram.{Diagram};
 ghost use Rattle.sd_vtree.specs.Numbered.{numbers, children_at};
 ghost use Rattle.sd_manager.specs.Shown.{IsShown, IsKnown};
 ghost use Rattle.sd_manager.specs.Valid.{IsTable};
-ghost use Rattle.sd_apply.specs.Places.{width, IsUnder, IsNodeUnder, IsBelow, IsThere, HasPlace, HasChildren};
+ghost use Rattle.sd_apply.specs.Places.{width, IsUnder, IsNodeUnder, IsBelow, IsThere, HasPlace};
+ghost use Rattle.sd_apply.specs.Places.{HasChildren};
 
 use sd_manager::{Manager, NodeId, View};
 use sd_vtree::VNode;
@@ -36,7 +37,8 @@ pub(crate) fn fork(m: &Manager, at: VNode, a: NodeId, b: NodeId) -> (VNode, VNod
     requires least_second { 2 ≤ b }
     requires differ { a / 2 ≡ b / 2 → 2050 ≤ a }
     ensures children { HasChildren m.now.vtree result.0 result.1 result.2 }
-    ensures narrow { width m.now.vtree result.1 + width m.now.vtree result.2 ≤ width m.now.vtree at }
+    ensures narrow { width m.now.vtree result.1 + width m.now.vtree result.2 ≤ width m.now.vtree
+        at }
     ensures first { (d : Diagram) → IsShown m.now a d → IsUnder m.now.vtree result.0 d }
     ensures second { (d : Diagram) → IsShown m.now b d → IsUnder m.now.vtree result.0 d }
     ensures node { result.0 < length (numbers m.now.vtree) }
@@ -57,7 +59,8 @@ pub(crate) fn own_fork(m: &Manager, at: VNode, a: NodeId) -> (VNode, VNode, VNod
     requires known { IsBelow m.now at a }
     requires code { 2050 ≤ a }
     ensures children { HasChildren m.now.vtree result.0 result.1 result.2 }
-    ensures narrow { width m.now.vtree result.1 + width m.now.vtree result.2 ≤ width m.now.vtree at }
+    ensures narrow { width m.now.vtree result.1 + width m.now.vtree result.2 ≤ width m.now.vtree
+        at }
     ensures place { (d : Diagram) → IsShown m.now a d → HasPlace m.now.vtree result.0 d }
     ensures table { IsTable m.now }
 {

@@ -1,4 +1,5 @@
--- How the calls get smaller: the vtree node gets narrower, or the call's rank falls. And what their loops keep.
+-- How the calls get smaller: the vtree node gets narrower, or the call's rank falls. And what
+-- their loops keep.
 use Rattle.std.proofs.Common.{◌+◌, ◌*◌, map}
 use Rattle.sd_apply.specs.Places.{width}
 use Rattle.sd_apply.specs.Elements.{turned}
@@ -37,10 +38,12 @@ decreases-merge l = 8 * (width l.m.now.vtree l.left + width l.m.now.vtree l.righ
 
 abbrev pub invariant-add_row-loop-j : goal.invariant-add_row-loop-j
 invariant-add_row-loop-j l =
-    InRow l.fn.m l.m l.c l.operation l.left l.right (l.prime, l.sub) l.list l.fn.pairs.items l.pairs.items l.j
+    InRow l.fn.m l.m l.c l.operation l.left l.right (l.prime, l.sub) l.list l.fn.pairs.items
+    l.pairs.items l.j
 
 abbrev pub invariant-multiply-loop-i : goal.invariant-multiply-loop-i
-invariant-multiply-loop-i l = InProduct l.fn.m l.m l.c l.operation l.left l.right l.first l.second l.pairs.items l.i
+invariant-multiply-loop-i l = InProduct l.fn.m l.m l.c l.operation l.left l.right l.first l.second
+    l.pairs.items l.i
 
 abbrev pub invariant-merge-loop-i : goal.invariant-merge-loop-i
 invariant-merge-loop-i l =

@@ -1,4 +1,4 @@
-use Rattle.std.proofs.Common.{◌≡◌, ℕ, List, map, take}
+use Rattle.std.proofs.Common.{◌≡◌, map, take}
 use Rattle.sd_apply.specs.Elements.{turned}
 use Rattle.sd_apply.proofs.lists.by_sub.Given as goal
 

@@ -1,4 +1,4 @@
-use Rattle.std.proofs.Common.{◌≡◌, ◌∙◌, sym, ap, ◌∷◌, [], ◌++◌}
+use Rattle.std.proofs.Common.{◌∙◌, sym, ap, ◌∷◌, [], ◌++◌}
 use Rattle.sd_manager.specs.Views.{pairs_at}
 use Rattle.sd_apply.proofs.Standing.{has-node}
 use Rattle.sd_apply.proofs.Listed.{take-next}
@@ -6,10 +6,12 @@ use Rattle.sd_apply.proofs.lists.elements_of.Goals as goal
 
 pub view-requires : goal.view-requires
 view-requires c =
-    has-node c.args.m.now c.vtree.ensures.table c.args.node c.requires.known.diagram c.requires.known.is.shows
+    has-node c.args.m.now c.vtree.ensures.table c.args.node c.requires.known.diagram
+    c.requires.known.is.shows
 
 -- one more pair is there
 pub loop-index-preserved : goal.loop-index-preserved
 loop-index-preserved c =
     c.in-Ok.ensures.ok ∙ ap (λ l. l ++ c.element-pair.result ∷ []) c.loop-index.invariant
-    ∙ sym (take-next (pairs_at c.args.m.now c.args.node) c.loop-index.index c.element-pair.result c.element-pair.ensures.pair)
+    ∙ sym (take-next (pairs_at c.args.m.now c.args.node) c.loop-index.index c.element-pair.result
+    c.element-pair.ensures.pair)

@@ -1,4 +1,4 @@
-use Rattle.std.proofs.Common.{◌≡◌, ◌∙◌, ap}
+use Rattle.std.proofs.Common.{◌∙◌, ap}
 use Rattle.std.proofs.lemmas.Result.{IfOk-weaker}
 use Rattle.sd_model.specs.declared.trees.Operation.TheVariants.{Or}
 use Rattle.sd_vtree.specs.Numbered.{number_of}
@@ -10,16 +10,19 @@ use Rattle.sd_apply.proofs.operations.or.Goals as goal
 -- the root is there, and both operands are below it
 pub apply-requires-clause-at : goal.apply-requires-clause-at
 apply-requires-clause-at c =
-    root-there c.args.m.now.vtree c.root-root.result (c.root-root.ensures.root ∙ ap number_of c.vtree.ensures.vtree)
+    root-there c.args.m.now.vtree c.root-root.result (c.root-root.ensures.root
+    ∙ ap number_of c.vtree.ensures.vtree)
 
 pub apply-requires-clause-a : goal.apply-requires-clause-a
 apply-requires-clause-a c =
-    root-below c.args.m.now c.root-root.result c.args.a (c.root-root.ensures.root ∙ ap number_of c.vtree.ensures.vtree)
+    root-below c.args.m.now c.root-root.result c.args.a (c.root-root.ensures.root
+    ∙ ap number_of c.vtree.ensures.vtree)
     c.requires.first
 
 pub apply-requires-clause-b : goal.apply-requires-clause-b
 apply-requires-clause-b c =
-    root-below c.args.m.now c.root-root.result c.args.b (c.root-root.ensures.root ∙ ap number_of c.vtree.ensures.vtree)
+    root-below c.args.m.now c.root-root.result c.args.b (c.root-root.ensures.root
+    ∙ ap number_of c.vtree.ensures.vtree)
     c.requires.second
 
 pub returns-clause-ok : goal.returns-clause-ok
@@ -30,5 +33,5 @@ returns-clause-ok c =
     IfOk-weaker c.apply.result (λ r. Applies old new Or root c.args.a c.args.b r)
     (λ r. Combines old new Or c.args.a c.args.b r)
     (λ r h. combines old new c.apply.ensures.table Or root c.args.a c.args.b r
-        (c.root-root.ensures.root ∙ ap number_of c.vtree.ensures.vtree) h)
+    (c.root-root.ensures.root ∙ ap number_of c.vtree.ensures.vtree) h)
     c.apply.ensures.ok

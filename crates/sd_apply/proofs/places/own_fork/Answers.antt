@@ -1,4 +1,4 @@
-use Rattle.std.proofs.Common.{ap, ◌∙◌, ◌≡◌, subst, sym, None, ◌≤◌, arith}
+use Rattle.std.proofs.Common.{◌∙◌, ◌≡◌, subst, sym, None}
 use Rattle.sd_vtree.specs.Numbered.{children_at}
 use Rattle.sd_apply.specs.Places.{HasChildren}
 use Rattle.sd_apply.proofs.Standing.{own-inner, shown}
@@ -12,8 +12,10 @@ unreachable-requires c =
     let x = c.requires.known in
     let sx = shown m c.args.at c.args.a x.diagram x.is in
     let q = c.place_of-place.result in
-    let none = subst (λ t. children_at t q ≡ None) c.vtree.ensures.vtree (sym c.children.ensures.children ∙ c.in_default.is) in
-    own-inner m c.place_of-place.ensures.table q c.args.a x.diagram sx (c.place_of-place.ensures.place x.diagram sx)
+    let none = subst (λ t. children_at t q ≡ None) c.vtree.ensures.vtree
+    (sym c.children.ensures.children ∙ c.in_default.is) in
+    own-inner m c.place_of-place.ensures.table q c.args.a x.diagram sx
+    (c.place_of-place.ensures.place x.diagram sx)
     c.requires.code none
 
 pub returns-clause-narrow : goal.returns-clause-narrow
@@ -26,4 +28,5 @@ returns-clause-narrow c =
     fork-width m.vtree v q c.in-Some.children.0 c.in-Some.children.1 c.args.at
     (subst (λ t. HasChildren t q c.in-Some.children.0 c.in-Some.children.1) c.vtree.ensures.vtree
     (sym c.in-Some.is ∙ c.children.ensures.children))
-    (stands-under m.vtree v c.args.at q x.diagram c.requires.at x.is.under (c.place_of-place.ensures.place x.diagram sx))
+    (stands-under m.vtree v c.args.at q x.diagram c.requires.at x.is.under
+    (c.place_of-place.ensures.place x.diagram sx))

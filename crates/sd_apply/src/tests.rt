@@ -1,0 +1,80 @@
+ghost use Rattle.std.specs.Prelude.{◌^◌, ◌<◌, IfOk};
+ghost use Rattle.sd_manager.specs.OverTwo.{IsOverTwo};
+ghost use Rattle.sd_apply.specs.Serving.{Serves};
+
+use super::*;
+use sd_cache::Cache;
+use sd_manager::{Manager, NodeId};
+use sd_model::Operation;
+use sd_runs::TakeError;
+use sd_vtree::{VNode, Vtree};
+use std::alloc::{AllocError, Global};
+use std::test::Fail;
+
+// A manager over the vtree (1 2), whose arena has at most `bound` elements, a new cache, the root.
+fn over_two(alloc: Global, bound: u32) -> Result<(Manager, Cache, VNode), AllocError>
+    requires { bound < 2 ^ 31 }
+    ensures over { IfOk result (λ r. IsOverTwo r.0 r.2) }
+    ensures serves { IfOk result (λ r. Serves r.1 r.0) }
+{
+    let vtree = Vtree::balanced(alloc, 2)?;
+    let root = vtree.root();
+    let m = Manager::new(alloc, vtree, bound)?;
+    let c = Cache::new(alloc)?;
+    Ok((m, c, root))
+}
+
+// A connective at the literals 1 and 2 of a new manager.
+fn at_literals(alloc: Global, bound: u32, operation: Operation) -> Result<NodeId, TakeError>
+    requires { bound < 2 ^ 31 }
+{
+    let Ok((mut m, mut c, _)) = over_two(alloc, bound) else {
+        return Err(TakeError::OutOfMemory);
+    };
+    let one = m.literal(1);
+    let two = m.literal(2);
+    match operation {
+        Operation::And => and(alloc, &mut m, &mut c, one, two),
+        Operation::Or => or(alloc, &mut m, &mut c, one, two),
+        Operation::Xor => xor(alloc, &mut m, &mut c, one, two),
+    }
+}
+
+/// Each connective makes the first node of a new manager, and refuses where it finds no room.
+#[test]
+fn connectives_at_two_literals(rt: HostRuntime) -> Result<(), Fail> {
+    let first = Ok(NodeId(2050));
+    assert_eq!(rt; at_literals(rt.alloc(), 4, Operation::And), first);
+    assert_eq!(rt; at_literals(rt.alloc(), 4, Operation::Or), first);
+    assert_eq!(rt; at_literals(rt.alloc(), 4, Operation::Xor), first);
+    let full = Err(TakeError::ArenaFull { elements: 2 });
+    assert_eq!(rt; at_literals(rt.alloc(), 1, Operation::And), full);
+    Ok(())
+}
+
+/// The negation of the literal 1 is the literal -1.
+#[test]
+fn negation_of_a_literal(rt: HostRuntime) -> Result<(), Fail> {
+    let (mut m, mut c, _) = over_two(rt.alloc(), 0)?;
+    let one = m.literal(1);
+    let other = negate(rt.alloc(), &mut m, &mut c, one)?;
+    assert_eq!(rt; other, m.literal(-1));
+    Ok(())
+}
+
+/// Two elements with the sub 2 are the literal 2.
+#[test]
+fn equal_subs_are_joined(rt: HostRuntime) -> Result<(), Fail> {
+    let (mut m, mut c, root) = over_two(rt.alloc(), 1)?;
+    let (one, other) = (m.literal(1), m.literal(-1));
+    let two = m.literal(2);
+    let joined = compress(
+        rt.alloc(),
+        &mut m,
+        &mut c,
+        root,
+        &[(other, two), (one, two)],
+    )?;
+    assert_eq!(rt; joined, NodeId(4));
+    Ok(())
+}
