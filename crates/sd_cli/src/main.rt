@@ -43,6 +43,14 @@ fn main(rt: HostRuntime) -> ExitCode {
     let mut shelf = FileShelf::new(&rt, rt.alloc());
     let mut out = WriterSink::new(rt.stdout());
     let mut err = WriterSink::new(rt.stderr());
-    let status = sd_tool::run(&rt, rt.alloc(), &words, &mut shelf, &mut out, &mut err);
+    let status = sd_tool::run(
+        &rt,
+        rt.alloc(),
+        &words,
+        &mut shelf,
+        &mut out,
+        &mut err,
+        &mut None,
+    );
     ExitCode::from(status)
 }

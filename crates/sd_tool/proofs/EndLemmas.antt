@@ -1,5 +1,6 @@
 -- How a run ends: at its readings, among its commands, or at the end of them.
-use Rattle.std.proofs.Common.{◌≡◌, ℕ, List, [], Option, Result, Err, inl, inr, refl, subst, ◌∙◌}
+use Rattle.std.proofs.Common.{◌≡◌, ◌≢◌, ℕ, List, [], Option, Some, None, Result, Ok, Err}
+use Rattle.std.proofs.Common.{inl, inr, cond, refl, sym, ap, subst, ◌∙◌}
 use Rattle.sd_base.specs.Files.{Files}
 use Rattle.sd_tool.specs.Effects.{Effect, Contents}
 use Rattle.sd_tool.specs.Commands.{State}
@@ -7,65 +8,78 @@ use Rattle.sd_tool.specs.Readings.{Plan, Begins, ReadsTo, reading_of}
 use Rattle.sd_tool.specs.Course.{EndsAmong, Leaves}
 use Rattle.sd_tool.specs.Headline.{Went}
 use Rattle.sd_tool.specs.Refusals as refusals
-use Rattle.sd_tool.specs.Ends.{End, Finished, Refused, Unreadable, Unwritable, OutOfMemory as NoMemory, line_of}
+use Rattle.sd_tool.specs.Ends.{End, Finished, Refused, Unreadable, Unwritable, OutOfMemory as NoMemory}
+use Rattle.sd_tool.specs.Ends.{ArenaFull as NoRoom, line_of, status_of}
+use Rattle.sd_tool.specs.Refusals.{Refusal, refusal_status}
+use Rattle.sd_tool.specs.Kept.{Keeps}
+use Rattle.sd_manager.specs.Table.{Table}
 use Rattle.sd_tool.specs.Devices.{Moment, Faults, NotFewer, HasCause, Says, SaysLine}
-use Rattle.sd_tool.specs.Stops.{stop_status, stop_text, StandsFor, StopsReading, GoesOn, Attempts}
+use Rattle.sd_tool.specs.Stops.{stop_status, stop_text, StandsFor, StopsReading, GoesOn, CarriesOut, Attempts}
+use Rattle.sd_tool.specs.Stops.{Fills, is_full}
 use Rattle.sd_tool.proofs.StepLemmas.{cause_since}
 use Rattle.sd_tool.specs.declared.commands.Command.{Command}
 use Rattle.sd_tool.specs.declared.stop.Stop.{Stop}
 use Rattle.sd_tool.specs.declared.stop.Stop.TheVariants.{NotYet, TooLong, BadFormula, BadVtree, ReadFault}
-use Rattle.sd_tool.specs.declared.stop.Stop.TheVariants.{WriteFault, OutputFault, OutOfMemory}
+use Rattle.sd_tool.specs.declared.stop.Stop.TheVariants.{WriteFault, OutputFault, OutOfMemory, ArenaFull}
 
 -- the readings stop, and nothing was done
-pub reading_stops : (words : List (List ℕ)) (stop : Stop) (old new : Contents) (before now : Faults) → new ≡ old
-    → StopsReading stop old.files (reading_of words) before.read now.read → Attempts words (Err stop) old new before now
-reading_stops words NotYet old new before now same stops = record {
+pub reading_stops : (words : List (List ℕ)) (stop : Stop) (kept : Option Table) (old new : Contents)
+    (before now : Faults) → kept ≡ None → new ≡ old → StopsReading stop old.files (reading_of words) before.read now.read →
+    Attempts words kept (Err stop) old new before now
+reading_stops words NotYet kept old new before now none same stops = record {
   end = Refused refusals.NotYet;
   at = record { status = refl; text = refl; stopped = λ e. cc };
   effects = [];
   comes = inl (stops, refl);
+  keeps = none;
   leaves = same;
   cause = tt;
 }
-reading_stops words (TooLong file) old new before now same stops = record {
+reading_stops words (TooLong file) kept old new before now none same stops = record {
   end = Refused (refusals.TooLong file);
   at = record { status = refl; text = refl; stopped = λ e. cc };
   effects = [];
   comes = inl (stops, refl);
+  keeps = none;
   leaves = same;
   cause = tt;
 }
-reading_stops words (BadFormula file fault) old new before now same stops = record {
+reading_stops words (BadFormula file fault) kept old new before now none same stops = record {
   end = Refused (refusals.BadFormula file fault);
   at = record { status = refl; text = refl; stopped = λ e. cc };
   effects = [];
   comes = inl (stops, refl);
+  keeps = none;
   leaves = same;
   cause = tt;
 }
-reading_stops words (BadVtree file fault) old new before now same stops = record {
+reading_stops words (BadVtree file fault) kept old new before now none same stops = record {
   end = Refused (refusals.BadVtree file fault);
   at = record { status = refl; text = refl; stopped = λ e. cc };
   effects = [];
   comes = inl (stops, refl);
+  keeps = none;
   leaves = same;
   cause = tt;
 }
-reading_stops words (ReadFault file) old new before now same stops = record {
+reading_stops words (ReadFault file) kept old new before now none same stops = record {
   end = Unreadable file;
   at = record { status = refl; text = refl; stopped = λ e. cc };
   effects = [];
   comes = inl (stops.0, refl);
+  keeps = none;
   leaves = same;
   cause = stops.1;
 }
-reading_stops words (WriteFault file) old new before now same stops = absurd stops
-reading_stops words OutputFault old new before now same stops = absurd stops
-reading_stops words OutOfMemory old new before now same stops = record {
+reading_stops words (WriteFault file) kept old new before now none same stops = absurd stops
+reading_stops words OutputFault kept old new before now none same stops = absurd stops
+reading_stops words (ArenaFull n) kept old new before now none same stops = absurd stops
+reading_stops words OutOfMemory kept old new before now none same stops = record {
   end = NoMemory;
   at = record { status = refl; text = refl; stopped = λ e. cc };
   effects = [];
   comes = inl (tt, refl);
+  keeps = none;
   leaves = same;
   cause = tt;
 }
@@ -80,17 +94,112 @@ cause_from start commands effects (Unreadable file) files others first mid last 
 cause_from start commands effects (Unwritable effect) files others first mid last ends fewer cause =
     cause_since effect files others first mid last fewer cause
 cause_from start commands effects NoMemory files others first mid last ends fewer cause = tt
+cause_from start commands effects (NoRoom n) files others first mid last ends fewer cause = tt
+
+-- a refusal has not the status of a full arena
+no_refusal : (refusal : Refusal) → 8 ≡ refusal_status refusal → ⊥
+no_refusal refusals.NotYet e = let bad : ⊥ = cc in bad
+no_refusal (refusals.TooLong file) e = let bad : ⊥ = cc in bad
+no_refusal (refusals.BadFormula file fault) e = let bad : ⊥ = cc in bad
+no_refusal (refusals.BadVtree file fault) e = let bad : ⊥ = cc in bad
+
+-- the manager of a full arena is kept
+kept_full : (end : End) (t : Table) → 8 ≡ status_of end → Fills end t → Keeps end (Some t)
+kept_full Finished t is fills = cc
+kept_full (Refused refusal) t is fills = absurd (no_refusal refusal is)
+kept_full (Unreadable file) t is fills = cc
+kept_full (Unwritable effect) t is fills = cc
+kept_full NoMemory t is fills = cc
+kept_full (NoRoom n) t is fills = fills
+
+-- at each other end nothing is kept
+kept_none : (end : End) → (status_of end ≡ 8 → ⊥) → Keeps end None
+kept_none Finished other = refl
+kept_none (Refused refusal) other = refl
+kept_none (Unreadable file) other = refl
+kept_none (Unwritable effect) other = refl
+kept_none NoMemory other = refl
+kept_none (NoRoom n) other = absurd (other refl)
+
+-- no other stop has the status of a full arena
+not_full : (stop : Stop) → ((n : ℕ) → stop ≢ ArenaFull n) → stop_status stop ≡ 8 → ⊥
+not_full NotYet other e = let bad : ⊥ = cc in bad
+not_full (TooLong file) other e = let bad : ⊥ = cc in bad
+not_full (BadFormula file fault) other e = let bad : ⊥ = cc in bad
+not_full (BadVtree file fault) other e = let bad : ⊥ = cc in bad
+not_full (ReadFault file) other e = let bad : ⊥ = cc in bad
+not_full (WriteFault file) other e = let bad : ⊥ = cc in bad
+not_full OutputFault other e = let bad : ⊥ = cc in bad
+not_full OutOfMemory other e = let bad : ⊥ = cc in bad
+not_full (ArenaFull n) other e = other n refl
+
+-- the commands came to an end, and what is kept is that of the end
+carried : (start : State) (commands : List Command) (t : Table) (kept : Option Table) (result : Result (Unit {0}) Stop)
+    (old new : Contents) (before now : Faults) → (goes : GoesOn start commands t result old new before now)
+    → Keeps goes.end kept → CarriesOut start commands kept result old new before now
+carried start commands t kept result old new before now goes keeps = record {
+  end = goes.end;
+  at = goes.at;
+  effects = goes.effects;
+  ends = goes.ends;
+  keeps = keeps;
+  leaves = goes.leaves;
+  cause = goes.cause;
+}
+
+pub carried_done : (start : State) (commands : List Command) (t : Table) (kept : Option Table) (old new : Contents)
+    (before now : Faults) → kept ≡ None → GoesOn start commands t (Ok tt) old new before now
+    → CarriesOut start commands kept (Ok tt) old new before now
+carried_done start commands t kept old new before now none goes =
+    carried start commands t kept (Ok tt) old new before now goes
+    (subst (Keeps goes.end) (sym none) (kept_none goes.end (λ e. other goes.at e)))
+  where
+    other : goes.end ≡ Finished → status_of goes.end ≡ 8 → ⊥
+    other is e = let zero_ = ap status_of is in let bad : ⊥ = cc in bad
+
+-- what is kept after a stop is what its end keeps
+keeps_at : (stop : Stop) (end : End) (t : Table) (kept was : Option Table) → was ≡ None
+    → kept ≡ cond (is_full stop) (Some t) was → stop_status stop ≡ status_of end → Fills end t → Keeps end kept
+keeps_at (ArenaFull n) end t kept was none is status fills = subst (Keeps end) (sym is) (kept_full end t status fills)
+keeps_at NotYet end t kept was none is status fills =
+    subst (Keeps end) (sym (is ∙ none)) (kept_none end (λ e. not_full NotYet (λ n. λ same. cc) (status ∙ e)))
+keeps_at (TooLong file) end t kept was none is status fills =
+    subst (Keeps end) (sym (is ∙ none)) (kept_none end (λ e. not_full (TooLong file) (λ n. λ same. cc) (status ∙ e)))
+keeps_at (BadFormula file fault) end t kept was none is status fills =
+    subst (Keeps end) (sym (is ∙ none)) (kept_none end (λ e. not_full (BadFormula file fault) (λ n. λ same. cc) (status ∙ e)))
+keeps_at (BadVtree file fault) end t kept was none is status fills =
+    subst (Keeps end) (sym (is ∙ none)) (kept_none end (λ e. not_full (BadVtree file fault) (λ n. λ same. cc) (status ∙ e)))
+keeps_at (ReadFault file) end t kept was none is status fills =
+    subst (Keeps end) (sym (is ∙ none)) (kept_none end (λ e. not_full (ReadFault file) (λ n. λ same. cc) (status ∙ e)))
+keeps_at (WriteFault file) end t kept was none is status fills =
+    subst (Keeps end) (sym (is ∙ none)) (kept_none end (λ e. not_full (WriteFault file) (λ n. λ same. cc) (status ∙ e)))
+keeps_at OutputFault end t kept was none is status fills =
+    subst (Keeps end) (sym (is ∙ none)) (kept_none end (λ e. not_full OutputFault (λ n. λ same. cc) (status ∙ e)))
+keeps_at OutOfMemory end t kept was none is status fills =
+    subst (Keeps end) (sym (is ∙ none)) (kept_none end (λ e. not_full OutOfMemory (λ n. λ same. cc) (status ∙ e)))
+
+-- the commands stopped, and the manager of a full arena is kept
+pub carried_stop : (start : State) (done commands : List Command) (t : Table) (kept was : Option Table) (stop : Stop)
+    (old new : Contents) (before now : Faults) → done ≡ commands → was ≡ None
+    → kept ≡ cond (is_full stop) (Some t) was → GoesOn start done t (Err stop) old new before now
+    → CarriesOut start commands kept (Err stop) old new before now
+carried_stop start done commands t kept was stop old new before now all none is goes =
+    subst (λ l. CarriesOut start l kept (Err stop) old new before now) all
+    (carried start done t kept (Err stop) old new before now goes
+    (keeps_at stop goes.end t kept was none is goes.at.status goes.fills))
 
 -- the commands go on from where the readings led
-pub commands_go : (words : List (List ℕ)) (plan : Plan) (commands : List Command) (result : Result (Unit {0}) Stop)
+pub commands_go : (words : List (List ℕ)) (plan : Plan) (commands : List Command) (kept : Option Table)
+    (result : Result (Unit {0}) Stop)
     (old mid new : Contents) (first before last : Faults) → ReadsTo old.files (reading_of words) (Begins plan)
     → mid ≡ old → NotFewer first before → commands ≡ plan.commands
-    → GoesOn plan.start commands result mid new before last → Attempts words result old new first last
-commands_go words plan commands result old mid new first before last led same fewer all goes = record {
+    → CarriesOut plan.start commands kept result mid new before last → Attempts words kept result old new first last
+commands_go words plan commands kept result old mid new first before last led same fewer all goes = record {
   end = goes.end;
   at = goes.at;
   effects = goes.effects;
   comes = inr (plan, led, subst (λ l. EndsAmong plan.start l goes.effects goes.end) all goes.ends);
+  keeps = goes.keeps;
   leaves = subst (λ (o : Contents). Leaves goes.effects goes.end o new) same goes.leaves;
   cause = cause_from plan.start commands goes.effects goes.end mid.files old.files first before last
       goes.ends fewer goes.cause;
@@ -107,19 +216,23 @@ says_end stop (Unwritable effect) old new at says =
     subst (λ t. Says (line_of t) old.errors new.errors old.err_faults new.err_faults) at.text says
 says_end stop NoMemory old new at says =
     subst (λ t. Says (line_of t) old.errors new.errors old.err_faults new.err_faults) at.text says
+says_end stop (NoRoom n) old new at says =
+    subst (λ t. Says (line_of t) old.errors new.errors old.err_faults new.err_faults) at.text says
 
 -- a run that stopped and said so went to that end
-pub went_to_stop : (words : List (List ℕ)) (stop : Stop) (status : ℕ) (text : List ℕ) (old new : Moment)
-    → Attempts words (Err stop) old.contents new.contents old.faults new.faults → status ≡ stop_status stop
+pub went_to_stop : (words : List (List ℕ)) (stop : Stop) (status : ℕ) (text : List ℕ) (kept : Option Table)
+    (old new : Moment)
+    → Attempts words kept (Err stop) old.contents new.contents old.faults new.faults → status ≡ stop_status stop
     → text ≡ stop_text stop → Says (line_of text) old.errors new.errors old.err_faults new.err_faults
-    → Went words status old new
-went_to_stop words stop status text old new attempt is text_is says = record {
+    → Went words status kept old new
+went_to_stop words stop status text kept old new attempt is text_is says = record {
   effects = attempt.effects;
   end = attempt.end;
   comes = attempt.comes;
   status_is = is ∙ attempt.at.status;
   leaves = attempt.leaves;
   cause = attempt.cause;
+  keeps = attempt.keeps;
   line = says_end stop attempt.end old new attempt.at
       (subst (λ t. Says (line_of t) old.errors new.errors old.err_faults new.err_faults) text_is says);
 }

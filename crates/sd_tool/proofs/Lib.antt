@@ -1,8 +1,7 @@
 pub mod ByStatus
 pub mod EndLemmas
-pub mod Expanding
 pub mod FormulaFaults
-pub mod Fronts
+pub mod Joining
 pub mod NoWant
 pub mod OneCourse
 pub mod OneOutcome
@@ -10,7 +9,8 @@ pub mod OnePoint
 pub mod OneRun
 pub mod PartLemmas
 pub mod ReadingLemmas
-pub mod RightTree
+pub mod Standing
+pub mod Starts
 pub mod StepLemmas
-pub mod TreeLemmas
+pub mod Unfolding
 pub mod WrittenLemmas

@@ -1,10 +1,8 @@
 -- What a run is refused for is never want of memory.
-use Rattle.std.proofs.Common.{◌≡◌, ℕ, Bool, true, false, cond, List, Option, Some, None, Result, Ok, Err, inl, inr}
+use Rattle.std.proofs.Common.{◌≡◌, ℕ, List, Option, Some, None, Result, Ok, Err, inl, inr}
 use Rattle.std.proofs.Common.{refl, sym, ap, subst}
-use Rattle.std.specs.Prelude.{nat_lt}
 use Rattle.sd_base.specs.Files.{Files}
 use Rattle.sd_model.specs.Tree.{Tree}
-use Rattle.sd_model.specs.StartTrees.{right_tree}
 use Rattle.sd_formula.specs.declared.error.FormulaError.{FormulaError}
 use Rattle.sd_formula.specs.declared.error.FormulaError.TheVariants as formula
 use Rattle.sd_formula.specs.Dimacs.{Groups, dimacs}
@@ -12,9 +10,9 @@ use Rattle.sd_vfile.specs.Reads.{vtree_file}
 use Rattle.sd_vfile.specs.declared.fault.VtreeFault.{VtreeFault}
 use Rattle.sd_vfile.specs.declared.fault.VtreeFault.TheVariants as vtree
 use Rattle.sd_tool.specs.Job.{Job, TreeWord, StartOf, VtreeIn, job_of}
-use Rattle.sd_tool.specs.Readings.{Refuses, Begins, Text, Whole, TooLong, ReadsTo, reading_of, with_job, with_input}
-use Rattle.sd_tool.specs.Readings.{with_formula, with_tree_word, with_tree, with_vtree_reading, plan_for}
-use Rattle.sd_tool.specs.Readings.{is_same_tree, start_tree}
+use Rattle.sd_tool.specs.Readings.{Refuses, Text, Whole, TooLong, ReadsTo, reading_of, with_job, with_input}
+use Rattle.sd_tool.specs.Readings.{with_formula, with_tree_word, with_tree, with_vtree_reading}
+use Rattle.sd_tool.specs.Readings.{start_tree}
 use Rattle.sd_tool.specs.Refusals.{Refusal, NotYet, BadFormula, BadVtree, TooLong as LongFile, IsOfText}
 use Rattle.sd_tool.proofs.FormulaFaults.{no_want_dimacs}
 use Rattle.sd_vfile.proofs.OwnFaults.{Never, no_want_vtree}
@@ -32,12 +30,7 @@ other_vtree_fault file fault differs = tt
 -- the readings from a tree on, and from the word for a tree on
 at_tree : (told : Option Files) (job : Job) (f : Groups) (tree : Tree) (refusal : Refusal)
     → ReadsTo told (with_tree job f tree) (Refuses refusal) → IsOfText refusal
-at_tree told job f tree refusal p = go (is_same_tree tree (right_tree f.variables)) p
-  where
-    go : (same : Bool) → ReadsTo told (cond same (Begins (plan_for job f tree)) (Refuses NotYet)) (Refuses refusal)
-        → IsOfText refusal
-    go true p = let bad : ⊥ = cc in absurd bad
-    go false p = let is : refusal ≡ NotYet = cc in subst IsOfText (sym is) tt
+at_tree told job f tree refusal p = let bad : ⊥ = cc in absurd bad
 
 at_tree_word : (told : Option Files) (job : Job) (f : Groups) (word : TreeWord) (refusal : Refusal)
     → ReadsTo told (with_tree_word job f word) (Refuses refusal) → IsOfText refusal
@@ -61,12 +54,7 @@ at_formula : (told : Option Files) (job : Job) (reading : Result Groups FormulaE
 at_formula told job (Err fault) refusal never p =
     let is : refusal ≡ BadFormula job.input.file fault = cc in
     subst IsOfText (sym is) (other_formula_fault job.input.file fault (λ same. never (ap Err same)))
-at_formula told job (Ok f) refusal never p = go (nat_lt 16 f.variables) p
-  where
-    go : (many : Bool) → ReadsTo told (cond many (Refuses NotYet) (with_tree_word job f job.tree)) (Refuses refusal)
-        → IsOfText refusal
-    go true p = let is : refusal ≡ NotYet = cc in subst IsOfText (sym is) tt
-    go false p = at_tree_word told job f job.tree refusal p
+at_formula told job (Ok f) refusal never p = at_tree_word told job f job.tree refusal p
 
 -- what a run is refused for is no want of memory
 pub refused_of_text : (told : Option Files) (words : List (List ℕ)) (refusal : Refusal)

@@ -3,7 +3,7 @@ use Rattle.std.proofs.Common.{◌≡◌, List, [], ◌∷◌, ◌++◌, refl, sy
 use Rattle.std.proofs.lemmas.List.{append-nil}
 use Rattle.sd_tool.specs.Effects.{Effect}
 use Rattle.sd_tool.specs.Commands.{State, Done, Steps}
-use Rattle.sd_tool.specs.Ends.{End, Finished, Refused, Unreadable, Unwritable, OutOfMemory}
+use Rattle.sd_tool.specs.Ends.{End, Finished, Refused, Unreadable, Unwritable, OutOfMemory, ArenaFull}
 use Rattle.sd_tool.specs.Course.{Reaches, EndsAmong}
 use Rattle.sd_tool.specs.Headline.{IsOwn}
 use Rattle.sd_tool.proofs.OneOutcome.{IsValid, one_outcome, none_refused, valid_after}
@@ -42,6 +42,8 @@ one_end_among start commands effects done (Refused r) end valid a b p q = absurd
 one_end_among start commands effects done (Unreadable file) end valid a b p q = absurd a
 one_end_among start commands effects done (Unwritable effect) end valid a b p q = absurd a
 one_end_among start commands effects done OutOfMemory end valid a b p q = absurd a
+one_end_among start commands effects done (ArenaFull n) end valid a b p q = absurd a
 one_end_among start commands effects done Finished (Unreadable file) valid a b p q = absurd b
 one_end_among start commands effects done Finished (Unwritable effect) valid a b p q = absurd b
 one_end_among start commands effects done Finished OutOfMemory valid a b p q = absurd b
+one_end_among start commands effects done Finished (ArenaFull n) valid a b p q = absurd b

@@ -1,17 +1,18 @@
 -- Over told files there is one course: where the words and the files lead to an end of their own, a run in which no
 -- device fails comes to that end, or memory ran out.
-use Rattle.std.proofs.Common.{◌≡◌, ◌⊎◌, ◌≤◌, ℕ, List, Some, Ok, cond, inl, inr, refl, sym}
+use Rattle.std.proofs.Common.{◌≡◌, ◌⊎◌, ℕ, List, Option, Some, inl, inr, refl, sym}
 use Rattle.std.proofs.Common.{ap, subst, ◌∙◌}
-use Rattle.std.proofs.lemmas.Bool.{le-ltb}
 use Rattle.sd_base.specs.Files.{Files, Lacks}
-use Rattle.sd_model.specs.StartTrees.{right_tree}
+use Rattle.sd_model.specs.Tree.{Tree}
+use Rattle.sd_manager.specs.Table.{Table}
 use Rattle.sd_formula.specs.Dimacs.{Groups}
 use Rattle.sd_tool.specs.Job.{Job, TreeWord, StartOf, VtreeIn}
 use Rattle.sd_tool.specs.Effects.{Effect, Write, Print, after}
 use Rattle.sd_tool.specs.Readings.{Plan, Reading, Refuses, Begins, Reads, Text, Whole, reading_of, ReadsTo}
 use Rattle.sd_tool.specs.Readings.{with_input, with_formula, with_tree_word, with_tree, with_vtree_reading, plan_for}
-use Rattle.sd_tool.specs.Refusals.{Refusal, NotYet}
-use Rattle.sd_tool.specs.Ends.{End, Finished, Refused, Unreadable, Unwritable, OutOfMemory, status_of}
+use Rattle.sd_tool.specs.Refusals.{Refusal}
+use Rattle.sd_tool.specs.Ends.{End, Finished, Refused, Unreadable, Unwritable, OutOfMemory, ArenaFull}
+use Rattle.sd_tool.specs.Ends.{status_of}
 use Rattle.sd_tool.specs.Devices.{Moment, Faults, NoneRose, HasCause}
 use Rattle.sd_tool.specs.Course.{EndsAmong, Comes, Leaves}
 use Rattle.sd_tool.specs.Headline.{Went, IsOwn, IsComplete}
@@ -20,7 +21,6 @@ use Rattle.sd_tool.proofs.OneCourse.{one_end_among}
 use Rattle.sd_tool.proofs.OneOutcome.{none_refused}
 use Rattle.sd_tool.proofs.OnePoint.{one_point, valid_start}
 use Rattle.sd_tool.proofs.ReadingLemmas.{reads_on, reads_same, job_follows}
-use Rattle.sd_tool.proofs.TreeLemmas.{same_itself}
 
 -- the readings come to one plan
 same_plan : (files : Files) (reading : Reading) (a b : Plan) → ReadsTo (Some files) reading (Begins a)
@@ -64,9 +64,11 @@ one_own words files effects done own (Refused s) a b (inr p) (inl q) =
 one_own words files effects done (Unreadable file) end a b p q = absurd a
 one_own words files effects done (Unwritable effect) end a b p q = absurd a
 one_own words files effects done OutOfMemory end a b p q = absurd a
+one_own words files effects done (ArenaFull n) end a b p q = absurd a
 one_own words files effects done own (Unreadable file) a b p q = absurd b
 one_own words files effects done own (Unwritable effect) a b p q = absurd b
 one_own words files effects done own OutOfMemory a b p q = absurd b
+one_own words files effects done own (ArenaFull n) a b p q = absurd b
 
 -- readings that come to a plan ask for no file that is not there
 asked_before : (plan : Plan) (files : Files) (reading : Reading) (file : List ℕ) (next : Text → Reading)
@@ -99,12 +101,13 @@ none_missing words files effects (Refused r) file next a (inl p) q lacks =
 none_missing words files effects (Unreadable name) file next a (inl p) q lacks = absurd a
 none_missing words files effects (Unwritable effect) file next a (inl p) q lacks = absurd a
 none_missing words files effects OutOfMemory file next a (inl p) q lacks = absurd a
+none_missing words files effects (ArenaFull n) file next a (inl p) q lacks = absurd a
 
 -- the end of a run is determined, but for devices and memory
 no_other_end : (words : List (List ℕ)) (files : Files) (effects done : List Effect) (own end : End)
     (before now : Faults) → IsOwn own → Comes words (Some files) effects own → Comes words (Some files) done end
     → HasCause end (Some files) before now → NoneRose before now
-    → ((end ≡ own) × (done ≡ effects)) ⊎ (end ≡ OutOfMemory)
+    → ((end ≡ own) × (done ≡ effects)) ⊎ (end ≡ OutOfMemory) ⊎ ((n : ℕ) × (end ≡ ArenaFull n))
 no_other_end words files effects done own Finished before now a all comes cause calm =
     inl (one_own words files effects done own Finished a tt all comes)
 no_other_end words files effects done own (Refused r) before now a all comes cause calm =
@@ -118,14 +121,15 @@ no_other_end words files effects done own (Unwritable (Write file bytes)) before
     absurd (calm.write cause)
 no_other_end words files effects done own (Unwritable (Print line)) before now a all comes cause calm =
     absurd (calm.print cause)
-no_other_end words files effects done own OutOfMemory before now a all comes cause calm = inr refl
+no_other_end words files effects done own OutOfMemory before now a all comes cause calm = inr (inl refl)
+no_other_end words files effects done own (ArenaFull n) before now a all comes cause calm = inr (inr (n, refl))
 
 -- where the words and the files lead to an end of their own, the run came to it, or there was no memory
-comes_to_own : (words : List (List ℕ)) (status : ℕ) (old new : Moment) → Went words status old new
+comes_to_own : (words : List (List ℕ)) (status : ℕ) (kept : Option Table) (old new : Moment) → Went words status kept old new
     → (files : Files) (effects : List Effect) (own : End) → old.contents.files ≡ Some files
     → NoneRose old.faults new.faults → IsOwn own → Comes words (Some files) effects own
-    → ((status ≡ status_of own) × (new.contents ≡ after effects old.contents)) ⊎ (status ≡ 7)
-comes_to_own words status old new went files effects own told calm is all =
+    → ((status ≡ status_of own) × (new.contents ≡ after effects old.contents)) ⊎ (status ≡ 7) ⊎ (status ≡ 8)
+comes_to_own words status kept old new went files effects own told calm is all =
     let comes = subst (λ f. Comes words f went.effects went.end) told went.comes in
     let cause = subst (λ f. HasCause went.end f old.faults new.faults) told went.cause in
     elim (no_other_end words files effects went.effects own went.end old.faults new.faults is all comes cause calm) [
@@ -134,7 +138,8 @@ comes_to_own words status old new went files effects own told calm is all =
         all_done own is (subst (λ e. Leaves went.effects e old.contents new.contents) whole.0 went.leaves)
             ∙ ap (λ l. after l old.contents) whole.1,
       )
-      | inr memory ↦ inr (went.status_is ∙ ap status_of memory)
+      | inr (inl memory) ↦ inr (inl (went.status_is ∙ ap status_of memory))
+      | inr (inr full) ↦ inr (inr (went.status_is ∙ ap status_of full.1))
     ]
   where
     all_done : (end : End) → IsOwn end → Leaves went.effects end old.contents new.contents
@@ -144,45 +149,36 @@ comes_to_own words status old new went files effects own told calm is all =
     all_done (Unreadable file) is leaves = absurd is
     all_done (Unwritable effect) is leaves = absurd is
     all_done OutOfMemory is leaves = absurd is
+    all_done (ArenaFull n) is leaves = absurd is
 
--- a start tree of the words that is the right one leads to its plan
-leads_with_tree : (files : Files) (job : Job) (f : Groups) (word : TreeWord)
-    → IsStartTree files word f.variables (right_tree f.variables)
-    → ReadsTo (Some files) (with_tree_word job f word) (with_tree job f (right_tree f.variables))
-leads_with_tree files job f (StartOf shape) is = reads_same (Some files) _ _ (ap (with_tree job f) (sym is))
-leads_with_tree files job f (VtreeIn file) (bytes, there, short, reads) =
+-- a start tree of the words leads to its plan
+leads_with_tree : (files : Files) (job : Job) (f : Groups) (tree : Tree) (word : TreeWord)
+    → IsStartTree files word f.variables tree
+    → ReadsTo (Some files) (with_tree_word job f word) (Begins (plan_for job f tree))
+leads_with_tree files job f tree (StartOf shape) is = reads_same (Some files) _ _ (ap (with_tree job f) (sym is))
+leads_with_tree files job f tree (VtreeIn file) (bytes, there, short, reads) =
     inr (Whole bytes, (there, short), reads_same (Some files) _ _ (ap (with_vtree_reading job f file) reads))
 
-plan_of_right : (files : Files) (job : Job) (f : Groups)
-    → ReadsTo (Some files) (with_tree job f (right_tree f.variables)) (Begins (plan_for job f (right_tree f.variables)))
-plan_of_right files job f =
-    reads_same (Some files) _ _
-    (ap (λ b. cond b (Begins (plan_for job f (right_tree f.variables))) (Refuses NotYet))
-    (same_itself (right_tree f.variables)))
-
--- an input that is served leads to its plan
-leads_to_plan : (words : List (List ℕ)) (files : Files) (job : Job) (f : Groups) → IsInput words files job f
-    → f.variables ≤ 16 → IsStartTree files job.tree f.variables (right_tree f.variables)
-    → ReadsTo (Some files) (reading_of words) (Begins (plan_for job f (right_tree f.variables)))
-leads_to_plan words files job f input few tree =
+-- an input with a start tree leads to its plan
+leads_to_plan : (words : List (List ℕ)) (files : Files) (job : Job) (f : Groups) (tree : Tree)
+    → IsInput words files job f → IsStartTree files job.tree f.variables tree
+    → ReadsTo (Some files) (reading_of words) (Begins (plan_for job f tree))
+leads_to_plan words files job f tree input start =
     let told = Some files in
-    let served : with_formula job (Ok f) ≡ with_tree_word job f job.tree =
-    ap (λ b. cond b (Refuses NotYet) (with_tree_word job f job.tree)) (le-ltb 16 f.variables few) in
     let read : ReadsTo told (Reads job.input.file (with_input job)) (with_tree_word job f job.tree) =
     inr (
       Whole input.bytes,
       (input.there, input.short),
-      reads_same told _ _ (ap (with_formula job) input.reads ∙ served),
+      reads_same told _ _ (ap (with_formula job) input.reads),
     ) in
     reads_on told (reading_of words) (Reads job.input.file (with_input job)) _ (job_follows told words job input.named)
     (reads_on told (Reads job.input.file (with_input job)) (with_tree_word job f job.tree) _ read
-    (reads_on told (with_tree_word job f job.tree) (with_tree job f (right_tree f.variables)) _
-    (leads_with_tree files job f job.tree tree) (plan_of_right files job f)))
+    (leads_with_tree files job f tree job.tree start))
 
 -- where the readings lead to a plan and no device fails, all is done, or there was no memory
 done_or_none : (words : List (List ℕ)) (files : Files) (plan : Plan) (effects : List Effect) (end : End)
     (before now : Faults) → ReadsTo (Some files) (reading_of words) (Begins plan) → Comes words (Some files) effects end
-    → HasCause end (Some files) before now → NoneRose before now → (status_of end ≡ 0) ⊎ (status_of end ≡ 7)
+    → HasCause end (Some files) before now → NoneRose before now → (status_of end ≡ 0) ⊎ (status_of end ≡ 7) ⊎ (status_of end ≡ 8)
 done_or_none words files plan effects Finished before now leads comes cause calm = inl refl
 done_or_none words files plan effects (Refused r) before now leads (inl p) cause calm =
     absurd (no_plan files (reading_of words) r plan p.0 leads)
@@ -197,21 +193,22 @@ done_or_none words files plan effects (Unwritable (Write file bytes)) before now
     absurd (calm.write cause)
 done_or_none words files plan effects (Unwritable (Print line)) before now leads comes cause calm =
     absurd (calm.print cause)
-done_or_none words files plan effects OutOfMemory before now leads comes cause calm = inr refl
+done_or_none words files plan effects OutOfMemory before now leads comes cause calm = inr (inl refl)
+done_or_none words files plan effects (ArenaFull n) before now leads comes cause calm = inr (inr refl)
 
 -- a run that went somewhere is complete
-pub completes : (words : List (List ℕ)) (status : ℕ) (old new : Moment) → Went words status old new
+pub completes : (words : List (List ℕ)) (status : ℕ) (kept : Option Table) (old new : Moment) → Went words status kept old new
     → IsComplete words status old new
-completes words status old new went = record {
-  served = λ files job formula told calm input few tree.
+completes words status kept old new went = record {
+  served = λ files job formula tree told calm input start.
       let comes = subst (λ f. Comes words f went.effects went.end) told went.comes in
       let cause = subst (λ f. HasCause went.end f old.faults new.faults) told went.cause in
-      let plan = plan_for job formula (right_tree formula.variables) in
-      let leads = leads_to_plan words files job formula input few tree in
-      elim (done_or_none words files plan went.effects went.end old.faults new.faults
+      let leads = leads_to_plan words files job formula tree input start in
+      elim (done_or_none words files (plan_for job formula tree) went.effects went.end old.faults new.faults
       leads comes cause calm) [
         | inl done ↦ inl (went.status_is ∙ done)
-        | inr memory ↦ inr (went.status_is ∙ memory)
+        | inr (inl memory) ↦ inr (inl (went.status_is ∙ memory))
+        | inr (inr full) ↦ inr (inr (went.status_is ∙ full))
       ];
-  own = comes_to_own words status old new went;
+  own = comes_to_own words status kept old new went;
 }

@@ -1,12 +1,10 @@
 -- The readings of a run, one after another.
-use Rattle.std.proofs.Common.{◌≡◌, ◌⊎◌, ℕ, ◌≤◌, cond, List, length, Option, Some, None, Result, Ok}
+use Rattle.std.proofs.Common.{◌≡◌, ◌⊎◌, ℕ, ◌≤◌, List, length, Option, Some, None, Result, Ok}
 use Rattle.std.proofs.Common.{Err}
 use Rattle.std.proofs.Common.{IfOk, IfErr, inl, inr, refl, sym, ap, subst, ◌∙◌, arith}
-use Rattle.std.specs.Prelude.{nat_lt}
-use Rattle.std.proofs.lemmas.Bool.{le-ltb}
 use Rattle.sd_base.specs.Faults.{Rose}
 use Rattle.sd_base.specs.Files.{Files, HasBytes, HasLonger, Lacks}
-use Rattle.sd_model.specs.Tree.{Tree}
+use Rattle.sd_model.specs.Tree.{Tree, leaves}
 use Rattle.sd_formula.specs.Dimacs.{Groups, dimacs}
 use Rattle.sd_tool.specs.Job.{Job, VtreeIn, job_of}
 use Rattle.sd_tool.specs.Readings.{Reading, Refuses, Begins, Reads, Whole, TooLong, IsText, ReadsTo}
@@ -19,7 +17,8 @@ use Rattle.sd_tool.specs.Stops.{StopsReading, StopsTree, ReadsTree, GivesFormula
 use Rattle.sd_tool.specs.declared.stop.Stop.{Stop}
 use Rattle.sd_tool.specs.declared.stop.Stop.TheVariants as stops
 use Rattle.sd_tool.specs.declared.stop.Stop.TheVariants.{NotYet, BadFormula, BadVtree, ReadFault}
-use Rattle.sd_tool.specs.declared.stop.Stop.TheVariants.{WriteFault, OutputFault, OutOfMemory}
+use Rattle.sd_tool.specs.declared.stop.Stop.TheVariants.{WriteFault, OutputFault, OutOfMemory, ArenaFull}
+use Rattle.sd_vfile.proofs.Accepted.{accepted}
 use Rattle.sd_tool.specs.declared.plan.Plan.{Plan as CodePlan}
 
 -- what was read of a told file is its text
@@ -66,19 +65,17 @@ stops_on (ReadFault file) told reading mid first before now a later ((next, b), 
 stops_on (WriteFault file) told reading mid first before now a later b = absurd b
 stops_on OutputFault told reading mid first before now a later b = absurd b
 stops_on OutOfMemory told reading mid first before now a later b = tt
+stops_on (ArenaFull n) told reading mid first before now a later b = absurd b
 
 -- ---- the formula
 
-few_enough : (v : ℕ) (a b : Reading) → v ≤ 16 → cond (nat_lt 16 v) a b ≡ b
-few_enough v a b few = ap (λ t. cond t a b) (le-ltb 16 v few)
-
--- a formula that is served leads to its vtree
+-- a formula leads to its vtree
 pub formula_follows : (told : Option Files) (job : Job) (bytes : List ℕ) (result : Result Groups Stop)
     → IsText told job.input.file (Whole bytes)
     → GivesFormula job.input.file (dimacs job.input.kind bytes) result
     → IfOk result (λ f. ReadsTo told (Reads job.input.file (with_input job)) (with_tree_word job f job.tree))
-formula_follows told job bytes (Ok f) has (reads, few) =
-    inr (Whole bytes, has, reads_same told _ _ (ap (with_formula job) reads ∙ few_enough f.variables _ _ few))
+formula_follows told job bytes (Ok f) has reads =
+    inr (Whole bytes, has, reads_same told _ _ (ap (with_formula job) reads))
 formula_follows told job bytes (Err stop) has gives = tt
 
 pub formula_stops : (told : Option Files) (job : Job) (bytes : List ℕ) (result : Result Groups Stop) (before now : ℕ)
@@ -86,8 +83,7 @@ pub formula_stops : (told : Option Files) (job : Job) (bytes : List ℕ) (result
     → GivesFormula job.input.file (dimacs job.input.kind bytes) result
     → IfErr result (λ stop. StopsReading stop told (Reads job.input.file (with_input job)) before now)
 formula_stops told job bytes (Ok f) before now has gives = tt
-formula_stops told job bytes (Err NotYet) before now has gives =
-    inr (Whole bytes, has, reads_same told _ _ (gives job))
+formula_stops told job bytes (Err NotYet) before now has gives = absurd gives
 formula_stops told job bytes (Err (stops.TooLong file)) before now has gives = absurd gives
 formula_stops told job bytes (Err (BadFormula name fault)) before now has (same, reads) =
     inr (
@@ -101,6 +97,7 @@ formula_stops told job bytes (Err (ReadFault file)) before now has gives = absur
 formula_stops told job bytes (Err (WriteFault file)) before now has gives = absurd gives
 formula_stops told job bytes (Err OutputFault) before now has gives = absurd gives
 formula_stops told job bytes (Err OutOfMemory) before now has gives = tt
+formula_stops told job bytes (Err (ArenaFull n)) before now has gives = absurd gives
 
 -- an input that is too long
 pub long_stops : (told : Option Files) (job : Job) (name : List ℕ) → name ≡ job.input.file
@@ -145,6 +142,7 @@ tree_stops NotYet told job f file before now b = absurd b
 tree_stops (BadFormula name fault) told job f file before now b = absurd b
 tree_stops (WriteFault name) told job f file before now b = absurd b
 tree_stops OutputFault told job f file before now b = absurd b
+tree_stops (ArenaFull n) told job f file before now b = absurd b
 
 -- ---- the plan
 
@@ -156,7 +154,7 @@ plan_follows told point (Err stop) is = tt
 pub plan_stops : (told : Option Files) (point : Reading) (result : Result CodePlan Stop) (before now : ℕ)
     → PlansAt point result → IfErr result (λ stop. StopsReading stop told point before now)
 plan_stops told point (Ok plan) before now is = tt
-plan_stops told point (Err NotYet) before now is = reads_same told point _ is
+plan_stops told point (Err NotYet) before now is = absurd is
 plan_stops told point (Err (stops.TooLong file)) before now is = absurd is
 plan_stops told point (Err (BadFormula file fault)) before now is = absurd is
 plan_stops told point (Err (BadVtree file fault)) before now is = absurd is
@@ -164,6 +162,7 @@ plan_stops told point (Err (ReadFault file)) before now is = absurd is
 plan_stops told point (Err (WriteFault file)) before now is = absurd is
 plan_stops told point (Err OutputFault) before now is = absurd is
 plan_stops told point (Err OutOfMemory) before now is = tt
+plan_stops told point (Err (ArenaFull n)) before now is = absurd is
 
 -- ---- the whole
 
@@ -188,3 +187,8 @@ pub stop_on : (told now : Option Files) (reading mid : Reading) (result : Result
 stop_on told now reading mid (Ok plan) first before last same later a b = tt
 stop_on told now reading mid (Err stop) first before last same later a b =
     stops_on stop told reading mid first before last a later (subst (λ t. StopsReading stop t mid before last) same b)
+
+-- a tree that was read is one over the variables
+pub read_fits : (told : Option Files) (file : List ℕ) (v : ℕ) (tree : Tree) → ReadsTree told file v tree
+    → leaves tree ≡ v
+read_fits told file v tree r = (accepted v r.bytes tree r.reads).count

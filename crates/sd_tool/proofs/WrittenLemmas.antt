@@ -1,18 +1,16 @@
 -- At status 0 the course of a run writes the texts of the input's diagram and of its vtree.
 -- Equal texts of diagrams are one function.
-use Rattle.std.proofs.Common.{◌≡◌, ◌↔◌, ℕ, ◌≤◌, List, [], ◌∷◌, ◌++◌, Option, Some, None, Result, Ok, Err}
-use Rattle.std.proofs.Common.{Bool, true, false, cond, inl, inr, refl, sym, ap, subst, ◌∙◌}
-use Rattle.std.specs.Prelude.{nat_lt}
+use Rattle.std.proofs.Common.{◌≡◌, ◌↔◌, ℕ, List, [], ◌∷◌, ◌++◌, Option, Some, None, Result, Ok, Err}
+use Rattle.std.proofs.Common.{inl, inr, refl, sym, ap, subst, ◌∙◌}
 use Rattle.std.specs.List.{AllZip}
 use Rattle.std.proofs.lemmas.List.{append-nil}
 use Rattle.sd_base.specs.Files.{Files, bytes_at, told_with}
 use Rattle.sd_base.specs.Sink.{told_then}
 use Rattle.sd_base.proofs.FileLemmas.{bytes_at-with_file}
 use Rattle.sd_model.specs.Expression.{Expression, AreOneFunction}
-use Rattle.sd_model.specs.Tree.{Tree, IsVtree, leaves}
+use Rattle.sd_model.specs.Tree.{Tree}
 use Rattle.sd_model.specs.Diagram.{Diagram}
 use Rattle.sd_model.specs.Size.{IsDiagramOf, size_of}
-use Rattle.sd_model.specs.StartTrees.{right_tree}
 use Rattle.sd_model.specs.Text.{sdd_text, vtree_text}
 use Rattle.sd_model.proofs.Determined.{diagram_determined, texts_equal}
 use Rattle.sd_formula.specs.declared.error.FormulaError.{FormulaError}
@@ -20,26 +18,27 @@ use Rattle.sd_formula.specs.Dimacs.{Groups, dimacs}
 use Rattle.sd_formula.specs.Formulas.{expression_of}
 use Rattle.sd_formula.proofs.RangeLaws.{accepted_fits}
 use Rattle.sd_vfile.specs.Reads.{vtree_file}
+use Rattle.sd_manager.specs.Table.{Table}
 use Rattle.sd_vfile.specs.declared.fault.VtreeFault.{VtreeFault}
 use Rattle.sd_tool.specs.Job.{Job, TreeWord, StartOf, VtreeIn, job_of}
 use Rattle.sd_tool.specs.Effects.{Effect, Write, Print, Contents, after}
 use Rattle.sd_tool.specs.Commands.{State, Done, Steps, IsTextOf, size_line}
-use Rattle.sd_tool.specs.Readings.{Plan, Refuses, Begins, Text, Whole, TooLong, ReadsTo, IsText}
+use Rattle.sd_tool.specs.Readings.{Plan, Begins, Text, Whole, TooLong, ReadsTo, IsText}
 use Rattle.sd_tool.specs.Readings.{reading_of, with_job, with_input, with_formula, with_tree_word, with_tree}
-use Rattle.sd_tool.specs.Readings.{with_vtree_reading, plan_for, for_file, is_same_tree, start_tree}
-use Rattle.sd_tool.specs.Refusals.{NotYet}
+use Rattle.sd_tool.specs.Readings.{with_vtree_reading, plan_for, for_file, start_tree}
 use Rattle.sd_tool.specs.Ends.{Finished}
 use Rattle.sd_tool.specs.Devices.{Moment}
 use Rattle.sd_tool.specs.Course.{Comes, Reaches}
 use Rattle.sd_tool.specs.Headline.{Went}
 use Rattle.sd_tool.specs.Written.{IsInput, IsStartTree, IsWritten, HasWritten, HasEqualTexts, with_output}
 use Rattle.sd_tool.specs.declared.commands.Command.{Command}
-use Rattle.sd_tool.specs.declared.commands.Command.TheVariants.{WriteVtree, WriteDiagram, PrintSize}
+use Rattle.sd_tool.specs.declared.commands.Command.TheVariants.{Input, WriteVtree, WriteDiagram}
+use Rattle.sd_tool.specs.declared.commands.Command.TheVariants.{PrintSize}
 use Rattle.sd_tool.proofs.ByStatus.{effects_at}
 use Rattle.sd_tool.proofs.OneOutcome.{IsValid}
 use Rattle.sd_tool.proofs.OnePoint.{valid_start}
-use Rattle.sd_tool.proofs.RightTree.{right_tree_is_vtree, leaves-right_tree}
-use Rattle.sd_tool.proofs.TreeLemmas.{same_trees}
+use Rattle.sd_tool.proofs.Starts.{start_tree_fits}
+use Rattle.sd_vfile.proofs.Accepted.{IsVtreeOver}
 
 -- a plan is that of an input and its tree
 record FromInput (words : List (List ℕ)) (files : Files) (plan : Plan) : Type 0 where
@@ -48,26 +47,17 @@ record FromInput (words : List (List ℕ)) (files : Files) (plan : Plan) : Type 
   tree : Tree
   input : IsInput words files job formula
   start : IsStartTree files job.tree formula.variables tree
-  right : tree ≡ right_tree formula.variables
   is : plan ≡ plan_for job formula tree
 
--- a plan over a tree is that of the right start tree
+-- a plan over a tree is that of this tree
 from_tree : (told : Option Files) (job : Job) (f : Groups) (tree : Tree) (plan : Plan)
-    → ReadsTo told (with_tree job f tree) (Begins plan) → (tree ≡ right_tree f.variables) × (plan ≡ plan_for job f tree)
-from_tree told job f tree plan p = go (is_same_tree tree (right_tree f.variables)) refl p
-  where
-    go : (same : Bool) → is_same_tree tree (right_tree f.variables) ≡ same
-        → ReadsTo told (cond same (Begins (plan_for job f tree)) (Refuses NotYet)) (Begins plan)
-        → (tree ≡ right_tree f.variables) × (plan ≡ plan_for job f tree)
-    go false e p = let bad : ⊥ = cc in absurd bad
-    go true e p =
-        let is : plan ≡ plan_for job f tree = cc in (same_trees tree (right_tree f.variables) e, is)
+    → ReadsTo told (with_tree job f tree) (Begins plan) → plan ≡ plan_for job f tree
+from_tree told job f tree plan p = cc
 
 -- a plan after a formula, with its tree
 record FromTree (files : Files) (job : Job) (f : Groups) (plan : Plan) : Type 0 where
   tree : Tree
   start : IsStartTree files job.tree f.variables tree
-  right : tree ≡ right_tree f.variables
   is : plan ≡ plan_for job f tree
 
 from_word : (files : Files) (job : Job) (f : Groups) (plan : Plan) (word : TreeWord) → job.tree ≡ word
@@ -77,8 +67,7 @@ from_word files job f plan (StartOf shape) e p =
     let found = from_tree (Some files) job f tree plan p in record {
       tree = tree;
       start = subst (λ w. IsStartTree files w f.variables tree) (sym e) refl;
-      right = found.0;
-      is = found.1;
+      is = found;
     }
 from_word files job f plan (VtreeIn file) e (inl p) = let bad : ⊥ = cc in absurd bad
 from_word files job f plan (VtreeIn file) e (inr (TooLong, has, p)) = let bad : ⊥ = cc in absurd bad
@@ -91,8 +80,7 @@ from_word files job f plan (VtreeIn file) e (inr (Whole bytes, has, p)) = go (vt
         let found = from_tree (Some files) job f tree plan p in record {
           tree = tree;
           start = subst (λ w. IsStartTree files w f.variables tree) (sym e) (bytes, has.0, has.1, is);
-          right = found.0;
-          is = found.1;
+          is = found;
         }
 
 -- a formula that was read
@@ -104,13 +92,7 @@ from_formula : (files : Files) (job : Job) (formula : Result Groups FormulaError
     → ReadsTo (Some files) (with_formula job formula) (Begins plan)
     → (f : Groups) × (formula ≡ Ok f) × FromTree files job f plan
 from_formula files job (Err fault) plan p = let bad : ⊥ = cc in absurd bad
-from_formula files job (Ok formula) plan p = go (nat_lt 16 formula.variables) p
-  where
-    go : (many : Bool)
-        → ReadsTo (Some files) (cond many (Refuses NotYet) (with_tree_word job formula job.tree)) (Begins plan)
-        → (f : Groups) × (ok formula ≡ Ok f) × FromTree files job f plan
-    go true p = let bad : ⊥ = cc in absurd bad
-    go false p = (formula, refl, from_word files job formula plan job.tree refl p)
+from_formula files job (Ok formula) plan p = (formula, refl, from_word files job formula plan job.tree refl p)
 
 -- the plan of the readings comes from the input files
 from_input : (words : List (List ℕ)) (files : Files) (plan : Plan)
@@ -127,7 +109,6 @@ from_input words files plan p = go (job_of words) refl p
           tree = found.2.tree;
           input = record { named = named; bytes = bytes; there = has.0; short = has.1; reads = found.1 };
           start = found.2.start;
-          right = found.2.right;
           is = found.2.is;
         }
 
@@ -147,7 +128,7 @@ writes_to (Some file) bytes = Write file bytes ∷ []
 -- what the commands of a plan do
 record AllDone (state : State) (out_vtree out_sdd : Option (List ℕ)) (effects : List Effect) : Type 0 where
   diagram : Diagram
-  of_formula : IsDiagramOf state.tree state.formula diagram
+  of_value : IsDiagramOf state.tree state.value diagram
   are : effects ≡ writes_to out_vtree (vtree_text state.tree) ++ writes_to out_sdd (sdd_text diagram)
       ++ Print (size_line (size_of (diagram ∷ []))) ∷ []
 
@@ -188,10 +169,10 @@ one_diagram t f (d ∷ e ∷ ds) p = absurd p.1
 
 -- the size is printed last
 size_done : (state last : State) (effects : List Effect) → Steps state (PrintSize ∷ []) effects last
-    → (d : Diagram) × IsDiagramOf state.tree state.formula d × (effects ≡ Print (size_line (size_of (d ∷ []))) ∷ [])
+    → (d : Diagram) × IsDiagramOf state.tree state.value d × (effects ≡ Print (size_line (size_of (d ∷ []))) ∷ [])
 size_done state last effects (mid, first, others, step, steps, is) =
     let before = first_done state mid last [] _ first others effects step.2 steps is in
-    let found = one_diagram state.tree state.formula step.1.diagrams step.1.each in
+    let found = one_diagram state.tree state.value step.1.diagrams step.1.each in
     let size : step.0 ≡ size_of (found.0 ∷ []) = sym step.1.size ∙ ap size_of found.2 in (
       found.0,
       found.1,
@@ -202,9 +183,9 @@ size_done state last effects (mid, first, others, step, steps, is) =
 
 -- the written text is that of the diagram whose size was printed
 same_text : (state : State) (d : Diagram) (text : List ℕ) → IsValid state → IsTextOf state text
-    → IsDiagramOf state.tree state.formula d → text ≡ sdd_text d
-same_text state d text valid is of_formula =
-    is.is ∙ ap sdd_text (diagram_determined state.tree state.formula is.diagram d valid is.of_formula of_formula)
+    → IsDiagramOf state.tree state.value d → text ≡ sdd_text d
+same_text state d text valid is of_value =
+    is.is ∙ ap sdd_text (diagram_determined state.tree state.value is.diagram d valid is.of_value of_value)
 
 diagram_and_size : (state last : State) (file : List ℕ) (effects : List Effect) → IsValid state
     → Steps state (WriteDiagram file ∷ PrintSize ∷ []) effects last → AllDone state None (Some file) effects
@@ -212,7 +193,7 @@ diagram_and_size state last file effects valid p =
     let one = diagram_done state last file (PrintSize ∷ []) effects p in
     let two = size_done state last one.2.others one.2.steps in record {
       diagram = two.0;
-      of_formula = two.1;
+      of_value = two.1;
       are = one.2.are ∙ ap (λ (l : List Effect). Write file one.0 ∷ l) two.2
           ∙ ap (λ text. Write file text ∷ Print (size_line (size_of (two.0 ∷ []))) ∷ [])
           (same_text state two.0 one.0 valid one.1 two.1);
@@ -221,9 +202,9 @@ diagram_and_size state last file effects valid p =
 size_alone : (state last : State) (effects : List Effect) → Steps state (PrintSize ∷ []) effects last
     → AllDone state None None effects
 size_alone state last effects p =
-    let two = size_done state last effects p in record { diagram = two.0; of_formula = two.1; are = two.2 }
+    let two = size_done state last effects p in record { diagram = two.0; of_value = two.1; are = two.2 }
 
--- all commands of a plan, one after another
+-- the commands of a plan after the first, one after another
 all_done : (state last : State) (out_vtree out_sdd : Option (List ℕ)) (effects : List Effect) → IsValid state
     → Steps state (for_file WriteVtree out_vtree ++ for_file WriteDiagram out_sdd ++ PrintSize ∷ []) effects last
     → AllDone state out_vtree out_sdd effects
@@ -233,15 +214,31 @@ all_done state last (Some file) None effects valid p =
     let one = vtree_done state last file (PrintSize ∷ []) effects p in
     let rest = size_alone state last one.others one.steps in record {
       diagram = rest.diagram;
-      of_formula = rest.of_formula;
+      of_value = rest.of_value;
       are = one.are ∙ ap (λ (l : List Effect). Write file (vtree_text state.tree) ∷ l) rest.are;
     }
 all_done state last (Some file) (Some other) effects valid p =
     let one = vtree_done state last file (WriteDiagram other ∷ PrintSize ∷ []) effects p in
     let rest = diagram_and_size state last other one.others valid one.steps in record {
       diagram = rest.diagram;
-      of_formula = rest.of_formula;
+      of_value = rest.of_value;
       are = one.are ∙ ap (λ (l : List Effect). Write file (vtree_text state.tree) ∷ l) rest.are;
+    }
+
+-- the formula is compiled first, without an effect
+record AfterInput (state last : State) (rest : List Command) (effects : List Effect) : Type 0 where
+  steps : Steps (record state { value = state.input }) rest effects last
+
+input_done : (state last : State) (rest : List Command) (effects : List Effect)
+    → Steps state (Input ∷ rest) effects last → AfterInput state last rest effects
+input_done state last rest effects (mid, first, others, step, steps, is) =
+    let done : Done mid first ≡ Done (record state { value = state.input }) [] = step in
+    let same : mid ≡ record state { value = state.input } = cc in
+    let none : first ≡ [] = cc in
+    let all : effects ≡ others = is ∙ ap (λ (l : List Effect). l ++ others) none in
+    record {
+      steps = subst (λ l. Steps (record state { value = state.input }) rest l last) (sym all)
+          (subst (λ s. Steps s rest others last) same steps);
     }
 
 -- all commands of the plan were done
@@ -270,14 +267,19 @@ printed_after None (Some file) vtree diagram line old = refl
 printed_after (Some file) None vtree diagram line old = refl
 printed_after (Some file) (Some other) vtree diagram line old = refl
 
+-- the state of a plan once its formula is compiled
+abbrev compiled : Job → Groups → Tree → State
+compiled job formula tree =
+    let start = (plan_for job formula tree).start in record start { value = start.input }
+
 -- these effects write the formula's texts
 writes : (files : Files) (job : Job) (formula : Groups) (tree : Tree) (effects : List Effect) (old new : Contents)
-    → old.files ≡ Some files → AllDone (plan_for job formula tree).start job.out_vtree job.out_sdd effects
+    → old.files ≡ Some files → AllDone (compiled job formula tree) job.out_vtree job.out_sdd effects
     → new ≡ after effects old → IsWritten files job formula tree old new
 writes files job formula tree effects old new told done is =
     let now = is ∙ ap (λ l. after l old) done.are in record {
       diagram = done.diagram;
-      of_formula = done.of_formula;
+      of_formula = done.of_value;
       files_are = ap (λ (o : Contents). o.files) now
           ∙ files_after job.out_vtree job.out_sdd (vtree_text tree) (sdd_text done.diagram) _ old files told;
       printed_is = ap (λ (o : Contents). o.printed) now
@@ -291,13 +293,13 @@ record Found (words : List (List ℕ)) (files : Files) (old new : Contents) : Ty
   tree : Tree
   input : IsInput words files job formula
   start : IsStartTree files job.tree formula.variables tree
-  right : tree ≡ right_tree formula.variables
   written : IsWritten files job formula tree old new
 
-found_at : (words : List (List ℕ)) (status : ℕ) (old new : Moment) → Went words status old new → (files : Files)
+found_at : (words : List (List ℕ)) (status : ℕ) (kept : Option Table) (old new : Moment)
+    → Went words status kept old new → (files : Files)
     → status ≡ 0 → old.contents.files ≡ Some files → Found words files old.contents new.contents
-found_at words status old new went files zero_ told =
-    let all = (effects_at words status old new went).all zero_ in
+found_at words status kept old new went files zero_ told =
+    let all = (effects_at words status kept old new went).all zero_ in
     go all.0 (subst (λ f. Comes words f all.0 Finished) told all.1) all.2
   where
     go : (effects : List Effect) → Comes words (Some files) effects Finished
@@ -307,7 +309,8 @@ found_at words status old new went files zero_ told =
         let from = from_input words files p.0 p.1 in
         let steps = whole_plan p.0.start p.2.0 p.0.commands effects p.2.1 in
         let steps' = subst (λ (plan : Plan). Steps plan.start plan.commands effects p.2.0) from.is steps in
-        let start = (plan_for from.job from.formula from.tree).start in
+        let start = compiled from.job from.formula from.tree in
+        let after_input = input_done (plan_for from.job from.formula from.tree).start p.2.0 _ effects steps' in
         let valid = subst (λ (plan : Plan). IsValid plan.start) from.is (valid_start (Some files) words p.0 p.1) in
         record {
           job = from.job;
@@ -315,16 +318,16 @@ found_at words status old new went files zero_ told =
           tree = from.tree;
           input = from.input;
           start = from.start;
-          right = from.right;
           written = writes files from.job from.formula from.tree effects old.contents new.contents told
-              (all_done start p.2.0 from.job.out_vtree from.job.out_sdd effects valid steps') is;
+              (all_done start p.2.0 from.job.out_vtree from.job.out_sdd effects valid after_input.steps) is;
         }
 
 -- at status 0 the formula of the input was written
-pub written_at : (words : List (List ℕ)) (status : ℕ) (old new : Moment) → Went words status old new
+pub written_at : (words : List (List ℕ)) (status : ℕ) (kept : Option Table) (old new : Moment)
+    → Went words status kept old new
     → HasWritten words status old new
-written_at words status old new went = λ files zero_ told.
-    let found = found_at words status old new went files zero_ told in
+written_at words status kept old new went = λ files zero_ told.
+    let found = found_at words status kept old new went files zero_ told in
     (found.job, found.formula, found.tree, found.input, found.start, found.written)
 
 -- ---- equal texts
@@ -365,32 +368,31 @@ text_is before now out name written text named is found =
     cc
 
 -- two texts are equal exactly if the formulas are one function
-equal_to : (formula : Groups) (tree : Tree) (d e : Diagram) (g : Expression) → 1 ≤ formula.variables
-    → tree ≡ right_tree formula.variables → IsDiagramOf tree (expression_of formula) d → IsDiagramOf tree g e
+equal_to : (formula : Groups) (tree : Tree) (d e : Diagram) (g : Expression) → IsVtreeOver formula.variables tree
+    → IsDiagramOf tree (expression_of formula) d → IsDiagramOf tree g e
     → (sdd_text e ≡ sdd_text d) ↔ AreOneFunction formula.variables g (expression_of formula)
-equal_to formula tree d e g some right of_formula of_other =
-    let valid = subst IsVtree (sym right) (right_tree_is_vtree formula.variables) in
-    subst (λ (n : ℕ). (sdd_text e ≡ sdd_text d) ↔ AreOneFunction n g (expression_of formula))
-    (ap leaves right ∙ leaves-right_tree formula.variables some)
-    (texts_equal tree g (expression_of formula) e d valid of_other of_formula)
+equal_to formula tree d e g fits of_formula of_other =
+    subst (λ (n : ℕ). (sdd_text e ≡ sdd_text d) ↔ AreOneFunction n g (expression_of formula)) fits.count
+    (texts_equal tree g (expression_of formula) e d fits.vtree of_other of_formula)
 
 -- and so for the text that the run wrote
-pub equal_texts_at : (words : List (List ℕ)) (status : ℕ) (old new : Moment) → Went words status old new
+pub equal_texts_at : (words : List (List ℕ)) (status : ℕ) (kept : Option Table) (old new : Moment)
+    → Went words status kept old new
     → HasEqualTexts words status old new
-equal_texts_at words status old new went =
+equal_texts_at words status kept old new went =
     λ files now job formula tree output text zero_ told told_now input start named found g e of_other.
-    let run = found_at words status old new went files zero_ told in
+    let run = found_at words status kept old new went files zero_ told in
     let job_is = same_job words files run.job job run.formula formula run.input input in
     let formula_is = same_formula words files run.job job run.formula formula run.input input in
     let run_start = subst (λ (j : Job). IsStartTree files j.tree formula.variables run.tree) job_is
     (subst (λ (f : Groups). IsStartTree files run.job.tree f.variables run.tree) formula_is run.start) in
     let tree_is = same_tree files job.tree formula.variables run.tree tree run_start start in
-    let right = sym tree_is ∙ run.right ∙ ap (λ (f : Groups). right_tree f.variables) formula_is in
+    let fits = start_tree_fits files job.tree formula.variables tree
+    (accepted_fits job.input.kind input.bytes formula input.reads).some start in
     let written = subst (λ t. IsWritten files job formula t old.contents new.contents) tree_is
     (subst (λ j. IsWritten files j formula run.tree old.contents new.contents) job_is
     (subst (λ f. IsWritten files run.job f run.tree old.contents new.contents) formula_is run.written)) in
     let is = text_is (with_output job.out_vtree (vtree_text tree) files) now job.out_sdd output
     (sdd_text written.diagram) text named (sym told_now ∙ written.files_are) found in
     subst (λ t. (sdd_text e ≡ t) ↔ AreOneFunction formula.variables g (expression_of formula)) (sym is)
-    (equal_to formula tree written.diagram e g (accepted_fits job.input.kind input.bytes formula input.reads).some right
-    written.of_formula of_other)
+    (equal_to formula tree written.diagram e g fits written.of_formula of_other)

@@ -8,11 +8,13 @@ use Rattle.sd_model.specs.Text.{number_text, sdd_text, vtree_text}
 use Rattle.sd_tool.specs.Effects.{Effect, Write, Print}
 use Rattle.sd_tool.specs.Refusals.{Refusal}
 use Rattle.sd_tool.specs.declared.commands.Command.{Command}
-use Rattle.sd_tool.specs.declared.commands.Command.TheVariants.{WriteVtree, WriteDiagram, PrintSize}
+use Rattle.sd_tool.specs.declared.commands.Command.TheVariants.{Input, WriteVtree, WriteDiagram}
+use Rattle.sd_tool.specs.declared.commands.Command.TheVariants.{PrintSize}
 
--- what a run holds between two commands
+-- what a run holds between two commands: the formula that was read, the one whose diagram is held, and the tree
 pub record State : Type 0 where
-  pub formula : Expression
+  pub input : Expression
+  pub value : Expression
   pub tree : Tree
 
 -- a command is done, with a new state and at most one effect, or it is refused
@@ -20,23 +22,29 @@ pub data Outcome : Type 0 where
   Done : (state : State) (effects : List Effect) → Outcome
   Stops : Refusal → Outcome
 
--- the text of the formula's canonical diagram
+-- the text of the canonical diagram that is held
 pub record IsTextOf (state : State) (text : List ℕ) : Type 0 where
   pub diagram : Diagram
-  pub of_formula : IsDiagramOf state.tree state.formula diagram
+  pub of_value : IsDiagramOf state.tree state.value diagram
   pub is : text ≡ sdd_text diagram
 
--- the line with the size of the formula's canonical diagram
+-- the line with the size of the canonical diagram that is held
 abbrev pub size_line : ℕ → List ℕ
 size_line n = codes "size " ++ number_text n ++ 10 ∷ []
 
 -- what a command comes to in a state
 abbrev pub Step : State → Command → Outcome → Type 0
+Step state Input outcome = outcome ≡ Done (record state { value = state.input }) []
 Step state (WriteVtree file) outcome = outcome ≡ Done state (Write file (vtree_text state.tree) ∷ [])
 Step state (WriteDiagram file) outcome =
     (text : List ℕ) × IsTextOf state text × (outcome ≡ Done state (Write file text ∷ []))
 Step state PrintSize outcome =
-    (n : ℕ) × HasSize (state.formula ∷ []) state.tree n × (outcome ≡ Done state (Print (size_line n) ∷ []))
+    (n : ℕ) × HasSize (state.value ∷ []) state.tree n × (outcome ≡ Done state (Print (size_line n) ∷ []))
+
+-- the command may need the arena of the diagrams
+abbrev pub MayFill : Command → Type 0
+MayFill Input = Unit {0}
+MayFill command = ⊥
 
 -- these commands are all done, one after another, with these effects
 abbrev pub Steps : State → List Command → List Effect → State → Type 0

@@ -2,9 +2,9 @@
 use Rattle.std.specs.Prelude.{◌≡◌, ◌⊎◌, ℕ, List, [], ◌∷◌, ◌++◌, Option}
 use Rattle.sd_base.specs.Files.{Files}
 use Rattle.sd_tool.specs.Effects.{Effect, Contents, after, DoesPart}
-use Rattle.sd_tool.specs.Commands.{State, Done, Stops, Step, Steps}
+use Rattle.sd_tool.specs.Commands.{State, Done, Stops, Step, Steps, MayFill}
 use Rattle.sd_tool.specs.Readings.{Plan, Reading, Refuses, Begins, Reads, reading_of, ReadsTo}
-use Rattle.sd_tool.specs.Ends.{End, Finished, Refused, Unreadable, Unwritable, OutOfMemory}
+use Rattle.sd_tool.specs.Ends.{End, Finished, Refused, Unreadable, Unwritable, OutOfMemory, ArenaFull}
 use Rattle.sd_tool.specs.declared.commands.Command.{Command}
 
 -- The run ends at its readings, before any command: refused, at a file that it asks for, or for want of memory.
@@ -14,6 +14,7 @@ EndsReading files reading (Refused refusal) = ReadsTo files reading (Refuses ref
 EndsReading files reading (Unreadable file) = (next : _) × ReadsTo files reading (Reads file next)
 EndsReading files reading (Unwritable effect) = ⊥
 EndsReading files reading OutOfMemory = Unit {0}
+EndsReading files reading (ArenaFull elements) = ⊥
 
 -- The first commands of a list are done with these effects, and the others are left.
 pub record Reaches (start : State) (commands : List Command) (effects : List Effect)
@@ -29,7 +30,7 @@ pub record IsAt (start : State) (commands : List Command) (effects : List Effect
   pub reaches : Reaches start commands effects state (next ∷ left)
 
 -- The run ends among its commands, after these effects: all are done, the next is refused, its effect fails,
--- or for want of memory.
+-- for want of memory, or at a full arena, which the next may need.
 abbrev pub EndsAmong : State → List Command → List Effect → End → Type 0
 EndsAmong start commands effects Finished = (state : State) × Reaches start commands effects state []
 EndsAmong start commands effects (Refused refusal) =
@@ -40,6 +41,8 @@ EndsAmong start commands effects (Unwritable effect) =
     × ((then_on : State) × Step state next (Done then_on (effect ∷ [])))
 EndsAmong start commands effects OutOfMemory =
     (state : State) × (left : List Command) × Reaches start commands effects state left
+EndsAmong start commands effects (ArenaFull elements) =
+    (state : State) × (next : Command) × IsAt start commands effects state next × MayFill next
 
 -- After these effects, a run with these words over these files may come to this end.
 abbrev pub Comes : List (List ℕ) → Option Files → List Effect → End → Type 0

@@ -1,5 +1,6 @@
 -- How a run ends: its status, and its line on `err`.
 use Rattle.std.specs.Prelude.{ℕ, List, [], ◌∷◌, ◌++◌, codes}
+use Rattle.sd_model.specs.Text.{number_text}
 use Rattle.sd_tool.specs.Effects.{Effect, Write, Print}
 use Rattle.sd_tool.specs.Refusals.{Refusal, refusal_status, refusal_text}
 
@@ -14,6 +15,8 @@ pub data End : Type 0 where
   Unwritable : Effect → End
   -- no memory was left
   OutOfMemory : End
+  -- the arena of the diagrams would have to hold so many elements
+  ArenaFull : (elements : ℕ) → End
 
 abbrev pub status_of : End → ℕ
 status_of Finished = 0
@@ -21,6 +24,7 @@ status_of (Refused refusal) = refusal_status refusal
 status_of (Unreadable file) = 5
 status_of (Unwritable effect) = 6
 status_of OutOfMemory = 7
+status_of (ArenaFull elements) = 8
 
 -- the text of the line, after the name of the program
 abbrev pub text_of : End → List ℕ
@@ -30,6 +34,7 @@ text_of (Unreadable file) = file ++ codes ": read fault"
 text_of (Unwritable (Write file bytes)) = file ++ codes ": write fault"
 text_of (Unwritable (Print line)) = codes "output: write fault"
 text_of OutOfMemory = codes "out of memory"
+text_of (ArenaFull elements) = codes "arena full: " ++ number_text elements
 
 -- a line on `err`
 abbrev pub line_of : List ℕ → List ℕ

@@ -1,9 +1,15 @@
 -- What contracts see of a job, a state and a plan of the code.
+use Rattle.std.specs.Prelude.{◌≡◌, ℕ, true, None}
 use Rattle.std.specs.Option.{option_map}
-use Rattle.sd_model.specs.Seen.{diagram_of}
+use Rattle.sd_model.specs.Tree.{leaves}
+use Rattle.sd_model.specs.Diagram.{Diagram}
+use Rattle.sd_model.specs.Expression.{Expression, Constant}
 use Rattle.sd_model.specs.Size.{IsDiagramOf}
 use Rattle.sd_formula.specs.Formulas.{expression_of}
 use Rattle.sd_vtree.specs.Numbered.{forget}
+use Rattle.sd_manager.specs.Table.{Table}
+use Rattle.sd_manager.specs.Shown.{HoldsDiagram}
+use Rattle.sd_apply.specs.Serving.{Serves}
 use Rattle.sd_tool.specs.Job.{Job, Input, TreeWord, StartOf, VtreeIn}
 use Rattle.sd_tool.specs.Commands.{State}
 use Rattle.sd_tool.specs.Readings.{Plan}
@@ -29,13 +35,26 @@ job_seen job = record {
   out_sdd = option_map (λ file. file.now) job.out_sdd;
 }
 
--- the formula and its tree
-abbrev pub state_seen : CodeState → State
-state_seen state = record { formula = expression_of state.formula; tree = forget state.vtree }
+-- what a run begins with: the formula that was read, and the diagram of true
+abbrev pub start_of : CodeState → State
+start_of code = record { input = expression_of code.formula; value = Constant true; tree = forget code.manager.vtree }
 
--- the diagram is the formula's canonical one for the tree
-abbrev pub IsCompiled : CodeState → Type 0
-IsCompiled state = IsDiagramOf (forget state.vtree) (expression_of state.formula) (diagram_of state.diagram)
+-- the root holds the canonical diagram of a formula
+pub record HoldsValue (t : Table) (root : ℕ) (value : Expression) : Type 0 where
+  pub diagram : Diagram
+  pub is : HoldsDiagram t root diagram
+  pub of_value : IsDiagramOf (forget t.vtree) value diagram
+
+-- The code holds this state: the diagrams are those of a manager with the whole bound and outside a move, over the
+-- variables of the formula, and the cache serves it.
+pub record Stands (code : CodeState) (state : State) : Type 0 where
+  pub input : state.input ≡ expression_of code.formula
+  pub tree : state.tree ≡ forget code.manager.vtree
+  pub holds : HoldsValue code.manager code.root state.value
+  pub serves : Serves code.cache code.manager
+  pub variables : leaves (forget code.manager.vtree) ≡ code.formula.variables
+  pub bound : code.manager.bound ≡ 2147483647
+  pub still : code.manager.moving ≡ None
 
 abbrev pub plan_of : CodePlan → Plan
-plan_of plan = record { start = state_seen plan.start; commands = plan.commands.items }
+plan_of plan = record { start = start_of plan.start; commands = plan.commands.items }

@@ -1,29 +1,33 @@
 -- What the top call promises of a run with these words that answers this status, between two moments.
-use Rattle.std.specs.Prelude.{◌≡◌, ◌⊎◌, ℕ, ◌≤◌, List, Some}
+use Rattle.std.specs.Prelude.{◌≡◌, ◌⊎◌, ℕ, List, Option, Some, None}
 use Rattle.sd_base.specs.Files.{Files}
-use Rattle.sd_model.specs.StartTrees.{right_tree}
+use Rattle.sd_model.specs.Tree.{Tree}
+use Rattle.sd_manager.specs.Table.{Table}
 use Rattle.sd_formula.specs.Dimacs.{Groups}
 use Rattle.sd_tool.specs.Job.{Job}
 use Rattle.sd_tool.specs.Effects.{Effect, after, DoesPart}
 use Rattle.sd_tool.specs.Readings.{Refuses, Reads, reading_of, ReadsTo}
 use Rattle.sd_tool.specs.Refusals.{Refusal, IsOfText, refusal_status}
-use Rattle.sd_tool.specs.Ends.{End, Finished, Refused, Unreadable, Unwritable, OutOfMemory, status_of}
+use Rattle.sd_tool.specs.Ends.{End, Finished, Refused, Unreadable, Unwritable, OutOfMemory, ArenaFull}
+use Rattle.sd_tool.specs.Ends.{status_of}
 use Rattle.sd_tool.specs.Devices.{Moment, NoneRose, HasCause, SaysLine}
 use Rattle.sd_tool.specs.Course.{Comes, Leaves}
+use Rattle.sd_tool.specs.Kept.{Keeps, IsFilled}
 use Rattle.sd_tool.specs.Written.{IsInput, IsStartTree}
 
 -- How the run went: what it did and how it ended, where the words and the files lead; the status, the files and
--- what was printed, the cause and the line are those of this one course.
-pub record Went (words : List (List ℕ)) (status : ℕ) (old new : Moment) : Type 0 where
+-- what was printed, the cause, what is kept and the line are those of this one course.
+pub record Went (words : List (List ℕ)) (status : ℕ) (kept : Option Table) (old new : Moment) : Type 0 where
   pub effects : List Effect
   pub end : End
   pub comes : Comes words old.contents.files effects end
   pub status_is : status ≡ status_of end
   pub leaves : Leaves effects end old.contents new.contents
   pub cause : HasCause end old.contents.files old.faults new.faults
+  pub keeps : Keeps end kept
   pub line : SaysLine end old new
 
--- What was done outside: at status 0 all effects of the run, at 2, 5 and 9 none, at 7 those of the first commands,
+-- What was done outside: at status 0 all effects of the run, at 2, 5 and 9 none, at 7 and 8 those of the first commands,
 -- at 6 those before the effect in hand, and a part of that one.
 pub record HasEffects (words : List (List ℕ)) (status : ℕ) (old new : Moment) : Type 0 where
   pub all : status ≡ 0 → (effects : List Effect)
@@ -31,6 +35,8 @@ pub record HasEffects (words : List (List ℕ)) (status : ℕ) (old new : Moment
   pub none : (status ≡ 2) ⊎ (status ≡ 5) ⊎ (status ≡ 9) → new.contents ≡ old.contents
   pub first : status ≡ 7 → (effects : List Effect)
       × Comes words old.contents.files effects OutOfMemory × (new.contents ≡ after effects old.contents)
+  pub full : status ≡ 8 → (effects : List Effect) × (elements : ℕ)
+      × Comes words old.contents.files effects (ArenaFull elements) × (new.contents ≡ after effects old.contents)
   pub in_hand : status ≡ 6 → (effects : List Effect) × (effect : Effect)
       × Comes words old.contents.files effects (Unwritable effect)
       × DoesPart effect (after effects old.contents) new.contents
@@ -62,12 +68,26 @@ pub record CouldNotWrite (words : List (List ℕ)) (old new : Moment) : Type 0 w
   pub cause : HasCause (Unwritable effect) old.contents.files old.faults new.faults
   pub line : SaysLine (Unwritable effect) old new
 
--- When each status comes. That 9 comes wherever it may is the other half, in `IsComplete` and `Went`.
-pub record HasEnd (words : List (List ℕ)) (status : ℕ) (old new : Moment) : Type 0 where
-  pub one_of : (status ≡ 0) ⊎ (status ≡ 2) ⊎ (status ≡ 5) ⊎ (status ≡ 6) ⊎ (status ≡ 7) ⊎ (status ≡ 9)
+-- The arena was full: all readings were accepted, the command in hand is one that may need the arena, and the manager
+-- that refused is kept, whose bound the number passes; the line has that number.
+pub record WasFull (words : List (List ℕ)) (kept : Option Table) (old new : Moment) : Type 0 where
+  pub elements : ℕ
+  pub effects : List Effect
+  pub in_hand : Comes words old.contents.files effects (ArenaFull elements)
+  pub manager : Table
+  pub is_kept : kept ≡ Some manager
+  pub filled : IsFilled elements manager
+  pub line : SaysLine (ArenaFull elements) old new
+
+-- When each status comes, and that a manager is kept at 8 alone. That 9 comes wherever it may is the other half, in `IsComplete` and `Went`.
+pub record HasEnd (words : List (List ℕ)) (status : ℕ) (kept : Option Table) (old new : Moment) : Type 0 where
+  pub one_of : (status ≡ 0) ⊎ (status ≡ 2) ⊎ (status ≡ 5) ⊎ (status ≡ 6) ⊎ (status ≡ 7) ⊎ (status ≡ 8)
+      ⊎ (status ≡ 9)
   pub refused : (status ≡ 2) ⊎ (status ≡ 9) → IsRefused words status old new
   pub read_fault : status ≡ 5 → CouldNotRead words old new
   pub write_fault : status ≡ 6 → CouldNotWrite words old new
+  pub arena_full : status ≡ 8 → WasFull words kept old new
+  pub none_kept : ¬ (status ≡ 8) → kept ≡ None
 
 -- the ends to which the words and the files alone lead
 abbrev pub IsOwn : End → Type 0
@@ -75,14 +95,14 @@ IsOwn Finished = Unit {0}
 IsOwn (Refused refusal) = Unit {0}
 IsOwn end = ⊥
 
--- Over told files, where neither the shelf nor `out` fails: an input that is served is written, or there was no memory;
--- and where the words and the files lead to an end of their own, the run comes to it with all its effects, or there
--- was no memory.
+-- Over told files, where neither the shelf nor `out` fails: an input with a start tree is written, or there was no
+-- memory or no room; and where the words and the files lead to an end of their own, the run comes to it with all its
+-- effects, or there was no memory or no room.
 pub record IsComplete (words : List (List ℕ)) (status : ℕ) (old new : Moment) : Type 0 where
-  pub served : (files : Files) (job : Job) (formula : Groups) → old.contents.files ≡ Some files
-      → NoneRose old.faults new.faults → IsInput words files job formula → formula.variables ≤ 16
-      → IsStartTree files job.tree formula.variables (right_tree formula.variables)
-      → (status ≡ 0) ⊎ (status ≡ 7)
+  pub served : (files : Files) (job : Job) (formula : Groups) (tree : Tree) → old.contents.files ≡ Some files
+      → NoneRose old.faults new.faults → IsInput words files job formula
+      → IsStartTree files job.tree formula.variables tree
+      → (status ≡ 0) ⊎ (status ≡ 7) ⊎ (status ≡ 8)
   pub own : (files : Files) (effects : List Effect) (end : End) → old.contents.files ≡ Some files
       → NoneRose old.faults new.faults → IsOwn end → Comes words (Some files) effects end
-      → ((status ≡ status_of end) × (new.contents ≡ after effects old.contents)) ⊎ (status ≡ 7)
+      → ((status ≡ status_of end) × (new.contents ≡ after effects old.contents)) ⊎ (status ≡ 7) ⊎ (status ≡ 8)

@@ -1,8 +1,9 @@
 -- What a run reads before its first command, and when that is refused. A later reading is one more `Reads`.
-use Rattle.std.specs.Prelude.{◌≡◌, ◌⊎◌, ℕ, ◌<◌, ◌≤◌, nat_lt, if◌then◌else◌, Bool, false, ◌==◌, ◌&&◌}
+use Rattle.std.specs.Prelude.{◌≡◌, ◌⊎◌, ℕ, ◌<◌, ◌≤◌, true}
 use Rattle.std.specs.Prelude.{List, [], ◌∷◌, ◌++◌, length, Option, Some, None, Result, Ok, Err}
 use Rattle.sd_base.specs.Files.{Files, bytes_at}
-use Rattle.sd_model.specs.Tree.{Tree, Leaf, Node}
+use Rattle.sd_model.specs.Expression.{Constant}
+use Rattle.sd_model.specs.Tree.{Tree}
 use Rattle.sd_model.specs.StartTrees.{balanced_tree, right_tree, left_tree}
 use Rattle.sd_formula.specs.declared.error.FormulaError.{FormulaError}
 use Rattle.sd_formula.specs.Dimacs.{Groups, dimacs}
@@ -13,7 +14,8 @@ use Rattle.sd_tool.specs.Job.{Job, TreeWord, StartOf, VtreeIn, job_of}
 use Rattle.sd_tool.specs.Commands.{State}
 use Rattle.sd_tool.specs.Refusals.{Refusal, NotYet, BadFormula, BadVtree, TooLong as LongFile}
 use Rattle.sd_tool.specs.declared.commands.Command.{Command}
-use Rattle.sd_tool.specs.declared.commands.Command.TheVariants.{WriteVtree, WriteDiagram, PrintSize}
+use Rattle.sd_tool.specs.declared.commands.Command.TheVariants.{Input, WriteVtree, WriteDiagram}
+use Rattle.sd_tool.specs.declared.commands.Command.TheVariants.{PrintSize}
 use Rattle.sd_tool.specs.declared.words.Shape.{Shape}
 use Rattle.sd_tool.specs.declared.words.Shape.TheVariants.{Balanced, Right, Left}
 
@@ -38,23 +40,16 @@ abbrev pub for_file : (List ℕ → Command) → Option (List ℕ) → List Comm
 for_file command None = []
 for_file command (Some file) = command file ∷ []
 
--- the formula under this tree: the vtree and the diagram are written, and then the size is printed
+-- The formula under this tree: it is compiled, its vtree and its diagram are written, and then the size is printed.
+-- At the start the diagram of true is held.
 abbrev pub plan_for : Job → Groups → Tree → Plan
 plan_for job formula tree = record {
-  start = record { formula = expression_of formula; tree = tree };
-  commands = for_file WriteVtree job.out_vtree ++ for_file WriteDiagram job.out_sdd ++ PrintSize ∷ [];
+  start = record { input = expression_of formula; value = Constant true; tree = tree };
+  commands = Input ∷ for_file WriteVtree job.out_vtree ++ for_file WriteDiagram job.out_sdd ++ PrintSize ∷ [];
 }
 
--- whether two trees are one
-abbrev pub is_same_tree : Tree → Tree → Bool
-is_same_tree (Leaf x) (Leaf y) = x == y
-is_same_tree (Node l r) (Node m s) = is_same_tree l m && is_same_tree r s
-is_same_tree t u = false
-
--- the right start tree is served
 abbrev pub with_tree : Job → Groups → Tree → Reading
-with_tree job formula tree =
-    if is_same_tree tree (right_tree formula.variables) then Begins (plan_for job formula tree) else Refuses NotYet
+with_tree job formula tree = Begins (plan_for job formula tree)
 
 abbrev pub start_tree : Shape → ℕ → Tree
 start_tree Balanced v = balanced_tree v
@@ -75,11 +70,10 @@ abbrev pub with_tree_word : Job → Groups → TreeWord → Reading
 with_tree_word job formula (StartOf shape) = with_tree job formula (start_tree shape formula.variables)
 with_tree_word job formula (VtreeIn file) = Reads file (with_vtree_text job formula file)
 
--- a formula of at most 16 variables is served; a text that is none has a fault
+-- a text that is no formula has a fault
 abbrev pub with_formula : Job → Result Groups FormulaError → Reading
 with_formula job (Err fault) = Refuses (BadFormula job.input.file fault)
-with_formula job (Ok formula) =
-    if nat_lt 16 formula.variables then Refuses NotYet else with_tree_word job formula job.tree
+with_formula job (Ok formula) = with_tree_word job formula job.tree
 
 -- the input is a formula file of its kind
 abbrev pub with_input : Job → Text → Reading

@@ -1,27 +1,29 @@
 -- What the stops and the acts of the code say, for the contracts of its private functions.
-use Rattle.std.specs.Prelude.{◌≤◌, ◌≡◌, ◌≢◌, ◌⊎◌, ℕ, List, [], ◌∷◌, Option, Some, None, Result, Ok, Err}
+use Rattle.std.specs.Prelude.{Bool, true, false, ◌≡◌, ◌≢◌, ◌⊎◌, ℕ, List, [], ◌∷◌, Option, Some, None, Result, Ok, Err}
 use Rattle.sd_base.specs.Faults.{Rose}
 use Rattle.sd_base.specs.Files.{Files, Lacks}
 use Rattle.sd_tool.specs.Effects.{Effect, Write, Print, Contents, DoesPart}
-use Rattle.sd_tool.specs.Commands.{State, Stops, Step}
+use Rattle.sd_tool.specs.Commands.{State, Done, Stops, Step, MayFill}
 use Rattle.sd_model.specs.Tree.{Tree}
 use Rattle.sd_formula.specs.Dimacs.{Groups}
 use Rattle.sd_formula.specs.declared.error.FormulaError.{FormulaError}
 use Rattle.sd_vfile.specs.Reads.{vtree_file}
 use Rattle.sd_vfile.specs.declared.fault.VtreeFault.{VtreeFault}
-use Rattle.sd_tool.specs.Job.{Job}
 use Rattle.sd_tool.specs.Readings.{Reading, Refuses, Begins, Reads, ReadsTo, Whole, TooLong as LongText, IsText}
-use Rattle.sd_tool.specs.Readings.{with_formula}
-use Rattle.sd_tool.specs.Given.{plan_of}
+use Rattle.sd_tool.specs.Given.{Stands, plan_of}
+use Rattle.sd_tool.specs.declared.state.State.{State as CodeState}
 use Rattle.sd_tool.specs.declared.plan.Plan.{Plan as CodePlan}
 use Rattle.sd_tool.specs.Refusals as refusals
-use Rattle.sd_tool.specs.Ends.{End, Finished, Refused, Unreadable, Unwritable, OutOfMemory as NoMemory, status_of}
+use Rattle.sd_tool.specs.Ends.{End, Finished, Refused, Unreadable, Unwritable, OutOfMemory as NoMemory}
+use Rattle.sd_tool.specs.Ends.{ArenaFull as NoRoom, status_of}
 use Rattle.sd_tool.specs.Ends.{text_of}
+use Rattle.sd_manager.specs.Table.{Table}
+use Rattle.sd_tool.specs.Kept.{Keeps, IsFilled}
 use Rattle.sd_tool.specs.Devices.{HasCause, Faults}
 use Rattle.sd_tool.specs.Course.{EndsAmong, Comes, Leaves}
 use Rattle.sd_tool.specs.declared.stop.Stop.{Stop}
 use Rattle.sd_tool.specs.declared.stop.Stop.TheVariants.{NotYet, TooLong, BadFormula, BadVtree, ReadFault}
-use Rattle.sd_tool.specs.declared.stop.Stop.TheVariants.{WriteFault, OutputFault, OutOfMemory}
+use Rattle.sd_tool.specs.declared.stop.Stop.TheVariants.{WriteFault, OutputFault, OutOfMemory, ArenaFull}
 use Rattle.sd_tool.specs.declared.commands.Command.{Command}
 use Rattle.sd_tool.specs.declared.commands.Act.{Act}
 use Rattle.sd_tool.specs.declared.commands.Act.TheVariants.{WriteFile, PrintLine}
@@ -36,6 +38,7 @@ end_of (ReadFault file) = Unreadable file
 end_of (WriteFault file) = Unwritable (Write file [])
 end_of OutputFault = Unwritable (Print [])
 end_of OutOfMemory = NoMemory
+end_of (ArenaFull elements) = NoRoom elements
 
 abbrev pub stop_status : Stop → ℕ
 stop_status stop = status_of (end_of stop)
@@ -63,6 +66,22 @@ RefusesAt state command (BadFormula file fault) = Step state command (Stops (ref
 RefusesAt state command (BadVtree file fault) = Step state command (Stops (refusals.BadVtree file fault))
 RefusesAt state command stop = ⊥
 
+-- the command stops: there was no memory, the arena of this manager was full and the command may need it, or it is refused
+abbrev pub StopsAt : State → Command → Table → Stop → Type 0
+StopsAt state command t OutOfMemory = Unit {0}
+StopsAt state command t (ArenaFull elements) = MayFill command × IsFilled elements t
+StopsAt state command t stop = RefusesAt state command stop
+
+-- the arena was full
+abbrev pub is_full : Stop → Bool
+is_full (ArenaFull elements) = true
+is_full stop = false
+
+-- at a full arena the manager is the one that refused
+abbrev pub Fills : End → Table → Type 0
+Fills (NoRoom elements) t = IsFilled elements t
+Fills end t = Unit {0}
+
 -- the readings stop so
 abbrev pub StopsReading : Stop → Option Files → Reading → ℕ → ℕ → Type 0
 StopsReading NotYet files reading before now = ReadsTo files reading (Refuses refusals.NotYet)
@@ -76,13 +95,25 @@ StopsReading (ReadFault file) files reading before now =
 StopsReading OutOfMemory files reading before now = Unit {0}
 StopsReading stop files reading before now = ⊥
 
--- the commands come to an end, with the result of the code
-pub record GoesOn (start : State) (commands : List Command) (result : Result (Unit {0}) Stop)
+-- the commands come to an end, with the result of the code and this manager
+pub record GoesOn (start : State) (commands : List Command) (t : Table) (result : Result (Unit {0}) Stop)
     (old new : Contents) (before now : Faults) : Type 0 where
   pub end : End
   pub at : IsEnd result end
   pub effects : List Effect
   pub ends : EndsAmong start commands effects end
+  pub fills : Fills end t
+  pub leaves : Leaves effects end old new
+  pub cause : HasCause end old.files before now
+
+-- the same, with what is kept
+pub record CarriesOut (start : State) (commands : List Command) (kept : Option Table)
+    (result : Result (Unit {0}) Stop) (old new : Contents) (before now : Faults) : Type 0 where
+  pub end : End
+  pub at : IsEnd result end
+  pub effects : List Effect
+  pub ends : EndsAmong start commands effects end
+  pub keeps : Keeps end kept
   pub leaves : Leaves effects end old new
   pub cause : HasCause end old.files before now
 
@@ -94,6 +125,12 @@ effect_of (PrintLine line) = Print line
 abbrev pub effects_of : Option Act → List Effect
 effects_of None = []
 effects_of (Some act) = effect_of act ∷ []
+
+-- the command is done with the effect of the act, and the code holds the new state
+pub record StepsTo (seen : State) (command : Command) (code : CodeState) (act : Option Act) : Type 0 where
+  pub next : State
+  pub step : Step seen command (Done next (effects_of act))
+  pub stands : Stands code next
 
 -- an act is handed out, where there was memory for it
 abbrev pub HandsOut : {E : Type 0} → Result Act E → Result (Option Act) Stop → Type 0
@@ -108,22 +145,22 @@ pub record FailsAt (stop : Stop) (effects : List Effect) (old new : Contents) (b
   pub part : DoesPart effect old new
   pub cause : HasCause (Unwritable effect) old.files before now
 
--- the readings and the commands come to an end, with the result of the code
-pub record Attempts (words : List (List ℕ)) (result : Result (Unit {0}) Stop)
+-- the readings and the commands come to an end, with the result of the code and what is kept
+pub record Attempts (words : List (List ℕ)) (kept : Option Table) (result : Result (Unit {0}) Stop)
     (old new : Contents) (before now : Faults) : Type 0 where
   pub end : End
   pub at : IsEnd result end
   pub effects : List Effect
   pub comes : Comes words old.files effects end
+  pub keeps : Keeps end kept
   pub leaves : Leaves effects end old new
   pub cause : HasCause end old.files before now
 
 -- ---- the readings, step by step
 
--- a formula that is served, or the stop at the text of its file
+-- the formula of a text, or the stop at the text of its file
 abbrev pub GivesFormula : List ℕ → Result Groups FormulaError → Result Groups Stop → Type 0
-GivesFormula file reading (Ok formula) = (reading ≡ Ok formula) × (formula.variables ≤ 16)
-GivesFormula file reading (Err NotYet) = (job : Job) → with_formula job reading ≡ Refuses refusals.NotYet
+GivesFormula file reading (Ok formula) = reading ≡ Ok formula
 GivesFormula file reading (Err (BadFormula name fault)) = (name ≡ file) × (reading ≡ Err fault)
 GivesFormula file reading (Err OutOfMemory) = Unit {0}
 GivesFormula file reading (Err stop) = ⊥
@@ -151,6 +188,5 @@ StopsTree stop told file v before now = ⊥
 -- the readings are over at this point: the plan, or the stop there
 abbrev pub PlansAt : Reading → Result CodePlan Stop → Type 0
 PlansAt point (Ok plan) = point ≡ Begins (plan_of plan)
-PlansAt point (Err NotYet) = point ≡ Refuses refusals.NotYet
 PlansAt point (Err OutOfMemory) = Unit {0}
 PlansAt point (Err stop) = ⊥

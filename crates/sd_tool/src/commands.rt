@@ -1,24 +1,31 @@
 // The commands of a run, and what each does.
-ghost use Rattle.std.specs.Prelude.{◌≡◌, ◌⊎◌, ◌∷◌, [], IfOk, IfErr};
+ghost use Rattle.std.specs.Prelude.{◌≡◌, ◌∷◌, [], IfOk, IfErr};
+ghost use Rattle.sd_model.specs.Diagram.{Diagram as Shown};
 ghost use Rattle.sd_model.specs.Seen.{diagram_of};
 ghost use Rattle.sd_model.specs.Size.{size_of};
 ghost use Rattle.sd_model.specs.Text.{sdd_text, vtree_text};
 ghost use Rattle.sd_vtree.specs.Numbered.{forget};
-ghost use Rattle.sd_tool.specs.Commands.{Step, Done, size_line};
-ghost use Rattle.sd_tool.specs.Given.{state_seen, IsCompiled};
-ghost use Rattle.sd_tool.specs.Stops.{effects_of, RefusesAt, HandsOut};
+ghost use Rattle.sd_manager.specs.Shown.{HoldsDiagram};
+ghost use Rattle.sd_tool.specs.Commands.{State as Seen, size_line};
+ghost use Rattle.sd_tool.specs.Given.{Stands};
+ghost use Rattle.sd_tool.specs.Stops.{StepsTo, StopsAt, HandsOut};
 
+use crate::compile::formula_node;
 use crate::state::State;
 use crate::stop::Stop;
+use crate::unfold::owned;
 use itoa::Buffer;
 use sd_base::{Bytes, Name};
-use sd_model::{size_of, text_of};
+use sd_model::{Diagram, size_of, text_of};
+use sd_runs::TakeError;
 use sd_vfile::write_vtree;
 use std::alloc::{AllocError, Global};
 
 /// A command of a run.
 #[derive(Drop)]
 pub enum Command {
+    /// Compiles the formula that was read, and holds its diagram.
+    Input,
     /// Writes the text of the vtree to the named file.
     WriteVtree(Name),
     /// Writes the text of the formula's diagram to the named file.
@@ -37,17 +44,36 @@ pub enum Act {
 }
 
 /// Does one command, up to its effect, which is handed out.
-pub fn step(alloc: Global, state: &State, command: &Command) -> Result<Option<Act>, Stop>
-    requires { IsCompiled state.now }
-    ensures done { IfOk result (λ act.
-        Step (state_seen state.now) command.now (Done (state_seen state.now) (effects_of act))) }
-    ensures stops { IfErr result (λ stop.
-        (stop ≡ Stop.OutOfMemory) ⊎ RefusesAt (state_seen state.now) command.now stop) }
+pub fn step(alloc: Global, state: &mut State, command: &Command) -> Result<Option<Act>, Stop>
+    requires stands { (seen : Seen) × Stands state.old seen }
+    ensures done { (seen : Seen) → Stands state.old seen →
+        IfOk result (λ act. StepsTo seen command.now state.new act) }
+    ensures stops { (seen : Seen) → Stands state.old seen →
+        IfErr result (λ stop. StopsAt seen command.now state.new.manager stop) }
 {
     match command {
+        Command::Input => input_compiled(alloc, state),
         Command::WriteVtree(file) => or_no_memory(vtree_written(alloc, state, file.as_str())),
         Command::WriteDiagram(file) => or_no_memory(diagram_written(alloc, state, file.as_str())),
         Command::PrintSize => or_no_memory(size_printed(alloc, state)),
+    }
+}
+
+// Compiles the formula that was read, and holds its diagram in place of the one before.
+fn input_compiled(alloc: Global, state: &mut State) -> Result<Option<Act>, Stop>
+    requires stands { (seen : Seen) × Stands state.old seen }
+    ensures done { (seen : Seen) → Stands state.old seen →
+        IfOk result (λ act. StepsTo seen Command.Input state.new act) }
+    ensures stops { (seen : Seen) → Stands state.old seen →
+        IfErr result (λ stop. StopsAt seen Command.Input state.new.manager stop) }
+{
+    match formula_node(alloc, &mut state.manager, &mut state.cache, &state.formula) {
+        Ok(node) => {
+            state.manager.rebind(&mut state.root, node);
+            Ok(None)
+        }
+        Err(TakeError::ArenaFull { elements }) => Err(Stop::ArenaFull(elements)),
+        Err(TakeError::OutOfMemory) => Err(Stop::OutOfMemory),
     }
 }
 
@@ -62,26 +88,41 @@ fn or_no_memory(act: Result<Act, AllocError>) -> Result<Option<Act>, Stop>
 }
 
 fn vtree_written(alloc: Global, state: &State, file: &str) -> Result<Act, AllocError>
-    ensures { IfOk result (λ act. act ≡ Act.WriteFile file.now (vtree_text (forget state.now.vtree))) }
+    ensures { IfOk result (λ act. act ≡ Act.WriteFile file.now (vtree_text (forget state.now.manager.vtree))) }
 {
     let name = Name::copy_of(alloc, file)?;
-    let text = write_vtree(alloc, &state.vtree)?;
+    let text = write_vtree(alloc, state.manager.vtree())?;
     Ok(Act::WriteFile(name, text))
 }
 
 fn diagram_written(alloc: Global, state: &State, file: &str) -> Result<Act, AllocError>
-    ensures { IfOk result (λ act. act ≡ Act.WriteFile file.now (sdd_text (diagram_of state.now.diagram))) }
+    requires { (d : Shown) × HoldsDiagram state.now.manager state.now.root d }
+    ensures { IfOk result (λ act. (d : Shown) → HoldsDiagram state.now.manager state.now.root d →
+        act ≡ Act.WriteFile file.now (sdd_text d)) }
 {
     let name = Name::copy_of(alloc, file)?;
-    let text = text_of(alloc, &state.diagram)?;
+    let diagram = held(alloc, state)?;
+    let text = text_of(alloc, &diagram)?;
     Ok(Act::WriteFile(name, Bytes::new(text)))
 }
 
 fn size_printed(alloc: Global, state: &State) -> Result<Act, AllocError>
-    ensures { IfOk result (λ act. act ≡ Act.PrintLine (size_line (size_of (diagram_of state.now.diagram ∷ [])))) }
+    requires { (d : Shown) × HoldsDiagram state.now.manager state.now.root d }
+    ensures { IfOk result (λ act. (d : Shown) → HoldsDiagram state.now.manager state.now.root d →
+        act ≡ Act.PrintLine (size_line (size_of (d ∷ [])))) }
 {
-    let size = size_of(alloc, &state.diagram)?;
+    let diagram = held(alloc, state)?;
+    let size = size_of(alloc, &diagram)?;
     Ok(Act::PrintLine(size_text(alloc, size)?))
+}
+
+// The diagram that is held.
+fn held(alloc: Global, state: &State) -> Result<Diagram, AllocError>
+    requires { (d : Shown) × HoldsDiagram state.now.manager state.now.root d }
+    ensures { IfOk result (λ diagram. (d : Shown) → HoldsDiagram state.now.manager state.now.root d →
+        diagram_of diagram ≡ d) }
+{
+    owned(alloc, &state.manager, state.manager.node_of(&state.root))
 }
 
 fn size_text(alloc: Global, size: u64) -> Result<Bytes, AllocError>

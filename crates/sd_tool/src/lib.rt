@@ -3,14 +3,15 @@
 #![tactic(auto)]
 
 mod commands;
+mod compile;
 mod devices;
-mod expansion;
 mod parts;
 mod plan;
 mod reading;
 mod state;
 mod stop;
 mod trees;
+mod unfold;
 mod whole_run;
 mod words;
 

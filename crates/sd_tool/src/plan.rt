@@ -1,11 +1,11 @@
 // What the commands of a run begin with.
-ghost use Rattle.std.specs.Prelude.{◌≡◌, ◌≤◌, ◌++◌, ◌∷◌, [], OnOk, IfOk};
+ghost use Rattle.std.specs.Prelude.{◌≡◌, ◌++◌, ◌∷◌, [], OnOk, IfOk};
 ghost use Rattle.std.specs.Option.{option_map};
-ghost use Rattle.sd_model.specs.StartTrees.{right_tree};
+ghost use Rattle.sd_model.specs.Tree.{leaves};
 ghost use Rattle.sd_vtree.specs.Numbered.{forget};
-ghost use Rattle.sd_tool.specs.Given.{job_seen, plan_of, IsCompiled};
+ghost use Rattle.sd_tool.specs.Given.{job_seen, plan_of, start_of, Stands};
 ghost use Rattle.sd_tool.specs.Readings.{for_file, plan_for};
-ghost use Rattle.sd_tool.specs.declared.commands.Command.TheVariants.{WriteVtree, WriteDiagram, PrintSize};
+ghost use Rattle.sd_tool.specs.declared.commands.Command.TheVariants.{Input, WriteVtree, WriteDiagram, PrintSize};
 
 use crate::commands::Command;
 use crate::state::State;
@@ -22,17 +22,16 @@ pub struct Plan {
     pub commands: Vec<Command>,
 }
 
-/// The plan of a job for its formula and the right start tree.
+/// The plan of a job for its formula and its start tree.
 pub fn plan_for(
     alloc: Global,
     job: &Job<'_>,
     formula: Formula,
     vtree: Vtree,
 ) -> Result<Plan, AllocError>
-    requires few { formula.variables ≤ 16 }
-    requires right { forget vtree ≡ right_tree formula.variables }
+    requires { leaves (forget vtree) ≡ formula.variables }
     ensures plan { IfOk result (λ plan. plan_of plan ≡ plan_for (job_seen job.now) formula (forget vtree)) }
-    ensures compiled { IfOk result (λ plan. IsCompiled plan.start) }
+    ensures stands { IfOk result (λ plan. Stands plan.start (start_of plan.start)) }
 {
     let commands = commands_for(alloc, job)?;
     let start = State::new(alloc, formula, vtree)?;
@@ -41,10 +40,11 @@ pub fn plan_for(
 
 fn commands_for(alloc: Global, job: &Job<'_>) -> Result<Vec<Command>, AllocError>
     ensures { IfOk result (λ commands. commands.items
-        ≡ for_file WriteVtree (job_seen job.now).out_vtree
+        ≡ Input ∷ for_file WriteVtree (job_seen job.now).out_vtree
         ++ for_file WriteDiagram (job_seen job.now).out_sdd ++ PrintSize ∷ []) }
 {
     let mut commands = Vec::new(alloc);
+    commands.push(Command::Input)?;
     push_vtree(alloc, &mut commands, job.out_vtree)?;
     push_diagram(alloc, &mut commands, job.out_sdd)?;
     commands.push(Command::PrintSize)?;

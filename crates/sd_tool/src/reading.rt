@@ -4,14 +4,13 @@ ghost use Rattle.sd_base.specs.Shelf.{NoFile};
 ghost use Rattle.sd_formula.specs.Dimacs.{dimacs};
 ghost use Rattle.sd_vtree.specs.Numbered.{forget};
 ghost use Rattle.sd_model.specs.Tree.{leaves};
-ghost use Rattle.sd_tool.specs.Given.{job_seen, plan_of, IsCompiled};
+ghost use Rattle.sd_tool.specs.Given.{job_seen, plan_of, start_of, Stands};
 ghost use Rattle.sd_tool.specs.Readings.{reading_of, ReadsTo, Reads, Begins, with_input, with_tree_word, with_tree};
 ghost use Rattle.sd_tool.specs.Stops.{StopsReading, StopsTree, ReadsTree, GivesFormula, PlansAt};
 
-use crate::expansion::MAX_VARIABLES;
 use crate::plan::{Plan, plan_for};
 use crate::stop::Stop;
-use crate::trees::{is_right, start_vtree};
+use crate::trees::start_vtree;
 use crate::words::{Job, TreeWord, read_words};
 use sd_base::{Name, ReadError, Shelf, read_all};
 use sd_formula::{Formula, FormulaError, Kind, read_dimacs};
@@ -28,7 +27,7 @@ pub fn prepare<F: Shelf>(alloc: Global, words: &[String], shelf: &mut F) -> Resu
     ensures write_faults { F.write_faults shelf.new ≡ F.write_faults shelf.old }
     ensures ok { IfOk result (λ plan.
         ReadsTo (F.files shelf.old) (reading_of (map string_bytes words.now)) (Begins (plan_of plan))) }
-    ensures compiled { IfOk result (λ plan. IsCompiled plan.start) }
+    ensures stands { IfOk result (λ plan. Stands plan.start (start_of plan.start)) }
     ensures stop { IfErr result (λ stop. StopsReading stop (F.files shelf.old)
         (reading_of (map string_bytes words.now)) (F.read_faults shelf.old) (F.read_faults shelf.new)) }
 {
@@ -51,7 +50,6 @@ fn read_formula<F: Shelf>(alloc: Global, job: &Job<'_>, shelf: &mut F) -> Result
     ensures ok { IfOk result (λ formula. ReadsTo (F.files shelf.old)
         (Reads (job_seen job.now).input.file (with_input (job_seen job.now)))
         (with_tree_word (job_seen job.now) formula (job_seen job.now).tree)) }
-    ensures few { IfOk result (λ formula. formula.variables ≤ 16) }
     ensures stop { IfErr result (λ stop. StopsReading stop (F.files shelf.old)
         (Reads (job_seen job.now).input.file (with_input (job_seen job.now)))
         (F.read_faults shelf.old) (F.read_faults shelf.new)) }
@@ -73,7 +71,6 @@ fn formula_of(alloc: Global, file: Name, kind: Kind, bytes: &[u8]) -> Result<For
     ensures { GivesFormula file (dimacs kind bytes.now) result }
 {
     match read_dimacs(alloc, bytes, kind) {
-        Ok(formula) if formula.variables() as usize > MAX_VARIABLES => Err(Stop::NotYet),
         Ok(formula) => Ok(formula),
         Err(FormulaError::OutOfMemory) => Err(Stop::OutOfMemory),
         Err(fault) => Err(Stop::BadFormula(file, fault)),
@@ -87,15 +84,14 @@ fn plan_with<F: Shelf>(
     formula: Formula,
     shelf: &mut F,
 ) -> Result<Plan, Stop>
-    requires hand { F.hand shelf.old ≡ NoFile }
-    requires few { formula.variables ≤ 16 }
+    requires { F.hand shelf.old ≡ NoFile }
     ensures hand { F.hand shelf.new ≡ NoFile }
     ensures files { F.files shelf.new ≡ F.files shelf.old }
     ensures read_faults { F.read_faults shelf.old ≤ F.read_faults shelf.new }
     ensures write_faults { F.write_faults shelf.new ≡ F.write_faults shelf.old }
     ensures ok { IfOk result (λ plan. ReadsTo (F.files shelf.old)
         (with_tree_word (job_seen job.now) formula (job_seen job.now).tree) (Begins (plan_of plan))) }
-    ensures compiled { IfOk result (λ plan. IsCompiled plan.start) }
+    ensures stands { IfOk result (λ plan. Stands plan.start (start_of plan.start)) }
     ensures stop { IfErr result (λ stop. StopsReading stop (F.files shelf.old)
         (with_tree_word (job_seen job.now) formula (job_seen job.now).tree)
         (F.read_faults shelf.old) (F.read_faults shelf.new)) }
@@ -112,18 +108,14 @@ fn plan_with<F: Shelf>(
     }
 }
 
-// The plan for a formula and a vtree, where the vtree is served.
+// The plan for a formula and a vtree over its variables.
 fn plan_over(alloc: Global, job: &Job<'_>, formula: Formula, vtree: Vtree) -> Result<Plan, Stop>
-    requires { formula.variables ≤ 16 }
+    requires { leaves (forget vtree) ≡ formula.variables }
     ensures plan { PlansAt (with_tree (job_seen job.now) formula (forget vtree)) result }
-    ensures compiled { IfOk result (λ plan. IsCompiled plan.start) }
+    ensures stands { IfOk result (λ plan. Stands plan.start (start_of plan.start)) }
 {
-    match is_right(alloc, &vtree, formula.variables()) {
-        Ok(true) => match plan_for(alloc, job, formula, vtree) {
-            Ok(plan) => Ok(plan),
-            Err(_) => Err(Stop::OutOfMemory),
-        },
-        Ok(false) => Err(Stop::NotYet),
+    match plan_for(alloc, job, formula, vtree) {
+        Ok(plan) => Ok(plan),
         Err(_) => Err(Stop::OutOfMemory),
     }
 }

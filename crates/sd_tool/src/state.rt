@@ -1,37 +1,44 @@
 // What a run holds between two commands.
-ghost use Rattle.std.specs.Prelude.{◌≡◌, ◌≤◌, IfOk};
-ghost use Rattle.sd_model.specs.StartTrees.{right_tree};
+ghost use Rattle.std.specs.Prelude.{◌≡◌, IfOk};
+ghost use Rattle.sd_model.specs.Tree.{leaves};
 ghost use Rattle.sd_vtree.specs.Numbered.{forget};
-ghost use Rattle.sd_tool.specs.Given.{IsCompiled};
+ghost use Rattle.sd_formula.specs.Formulas.{expression_of};
+ghost use Rattle.sd_tool.specs.Given.{Stands, start_of};
 
-use crate::expansion::expanded;
+use sd_cache::Cache;
 use sd_formula::Formula;
-use sd_model::Diagram;
+use sd_manager::{Manager, Root};
 use sd_vtree::Vtree;
 use std::alloc::{AllocError, Global};
 
-/// The formula of a run, its vtree, and its canonical diagram for that vtree.
+/// The most elements that the arena of the diagrams may hold.
+const BOUND: u32 = 2_147_483_647;
+
+/// The formula of a run, its diagrams, and the root of the one that is held.
 #[derive(Drop)]
 pub struct State {
     pub formula: Formula,
-    pub vtree: Vtree,
-    pub diagram: Diagram,
+    pub manager: Manager,
+    pub cache: Cache,
+    pub root: Root,
 }
 
 impl State {
-    /// Compiles a formula of at most 16 variables for the right start tree.
+    /// Holds the diagram of true, over the variables of the formula.
     pub fn new(alloc: Global, formula: Formula, vtree: Vtree) -> Result<State, AllocError>
-        requires few { formula.variables ≤ 16 }
-        requires right { forget vtree ≡ right_tree formula.variables }
+        requires { leaves (forget vtree) ≡ formula.variables }
         ensures formula { IfOk result (λ state. state.formula ≡ formula) }
-        ensures vtree { IfOk result (λ state. state.vtree ≡ vtree) }
-        ensures compiled { IfOk result IsCompiled }
+        ensures vtree { IfOk result (λ state. state.manager.vtree ≡ vtree) }
+        ensures stands { IfOk result (λ state. Stands state (start_of state)) }
     {
-        let diagram = expanded(alloc, &formula)?;
+        let mut manager = Manager::new(alloc, vtree, BOUND)?;
+        let cache = Cache::new(alloc)?;
+        let root = manager.hold(manager.constant(true))?;
         Ok(State {
             formula,
-            vtree,
-            diagram,
+            manager,
+            cache,
+            root,
         })
     }
 }

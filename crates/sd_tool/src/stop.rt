@@ -2,7 +2,7 @@
 ghost use Rattle.std.specs.Prelude.{◌≡◌, ◌++◌};
 ghost use Rattle.sd_tool.specs.Parts.{parts_text};
 ghost use Rattle.sd_tool.specs.Refusals.{formula_fault_text, vtree_fault_text};
-ghost use Rattle.sd_tool.specs.Stops.{stop_status, stop_text};
+ghost use Rattle.sd_tool.specs.Stops.{stop_status, stop_text, is_full};
 
 use crate::parts::{Parts, at_line, counts, literal_at_line, numbered, plain};
 use sd_base::Name;
@@ -12,7 +12,7 @@ use sd_vfile::VtreeFault;
 /// Why a run stops before its end.
 #[derive(Drop)]
 pub enum Stop {
-    /// The words, the number of variables or the vtree are not served yet.
+    /// The words are not served yet.
     NotYet,
     /// The named input file is too long.
     TooLong(Name),
@@ -28,6 +28,8 @@ pub enum Stop {
     OutputFault,
     /// Memory ran out.
     OutOfMemory,
+    /// The arena of the diagrams would have to hold so many elements.
+    ArenaFull(u64),
 }
 
 impl Stop {
@@ -41,7 +43,15 @@ impl Stop {
             Stop::ReadFault(_) => 5,
             Stop::WriteFault(_) | Stop::OutputFault => 6,
             Stop::OutOfMemory => 7,
+            Stop::ArenaFull(_) => 8,
         }
+    }
+
+    /// Whether the arena of the diagrams was full.
+    pub fn is_full(&self) -> bool
+        ensures { result ≡ is_full self.now }
+    {
+        matches!(self, Stop::ArenaFull(_))
     }
 
     /// The text of the line.
@@ -57,6 +67,7 @@ impl Stop {
             Stop::WriteFault(file) => plain(file.as_str().as_bytes(), b": write fault"),
             Stop::OutputFault => plain(b"output", b": write fault"),
             Stop::OutOfMemory => plain(b"out of memory", b""),
+            Stop::ArenaFull(elements) => numbered(b"arena full: ", b"", *elements, b""),
         }
     }
 }

@@ -9,6 +9,7 @@ use std::alloc::{AllocError, Global};
 use std::test::Fail;
 use std::thread::Threads;
 
+mod compiled;
 mod formulas;
 mod vtrees;
 
@@ -59,30 +60,14 @@ fn formulas_become_diagrams(rt: HostRuntime) -> Result<(), Fail> {
         let mut files = shelf_of(alloc, text, Vec::new(alloc))?;
         let mut out = MemorySink::new(alloc, Vec::new(alloc));
         let mut err = MemorySink::new(alloc, Vec::new(alloc));
-        let status = run(&rt, alloc, &words, &mut files, &mut out, &mut err);
+        let status = run(
+            &rt, alloc, &words, &mut files, &mut out, &mut err, &mut None,
+        );
         assert_eq!(rt; status, 0, "{text}");
         assert!(rt; files.bytes_of("out") == Some(diagram.as_bytes()), "{text}");
         assert!(rt; files.bytes_of("in") == Some(text.as_bytes()), "{text}");
         assert_eq!(rt; out.bytes(), size.as_bytes(), "{text}");
         assert_eq!(rt; err.bytes(), b"".as_slice(), "{text}");
-    }
-    Ok(())
-}
-
-#[test]
-fn many_variables_are_not_served_yet(rt: HostRuntime) -> Result<(), Fail> {
-    let alloc = rt.alloc();
-    let table = ["p cnf 17 0\n", "p cnf 1024 0\n"];
-    for text in table {
-        let words = words_of(alloc, &SIX)?;
-        let mut files = shelf_of(alloc, text, Vec::new(alloc))?;
-        let mut out = MemorySink::new(alloc, Vec::new(alloc));
-        let mut err = MemorySink::new(alloc, Vec::new(alloc));
-        let status = run(&rt, alloc, &words, &mut files, &mut out, &mut err);
-        assert_eq!(rt; status, 9, "{text}");
-        assert!(rt; files.bytes_of("out").is_none(), "{text}");
-        assert_eq!(rt; out.bytes(), b"".as_slice(), "{text}");
-        assert_eq!(rt; err.bytes(), b"sddc: not yet\n".as_slice(), "{text}");
     }
     Ok(())
 }
@@ -97,7 +82,7 @@ fn is_not_served(
     let mut files = shelf_of(alloc, A_CLAUSE, Vec::new(alloc))?;
     let mut out = MemorySink::new(alloc, Vec::new(alloc));
     let mut err = MemorySink::new(alloc, Vec::new(alloc));
-    let status = run(rt, alloc, &words, &mut files, &mut out, &mut err);
+    let status = run(rt, alloc, &words, &mut files, &mut out, &mut err, &mut None);
     Ok(
         status == 9
             && files.bytes_of("out").is_none()
@@ -144,7 +129,9 @@ fn a_missing_input_is_a_read_fault(rt: HostRuntime) -> Result<(), Fail> {
     let mut files = shelf_of(alloc, A_CLAUSE, Vec::new(alloc))?;
     let mut out = MemorySink::new(alloc, Vec::new(alloc));
     let mut err = MemorySink::new(alloc, Vec::new(alloc));
-    let status = run(&rt, alloc, &words, &mut files, &mut out, &mut err);
+    let status = run(
+        &rt, alloc, &words, &mut files, &mut out, &mut err, &mut None,
+    );
     assert_eq!(rt; status, 5);
     assert!(rt; files.bytes_of("out").is_none());
     assert_eq!(rt; err.bytes(), b"sddc: gone: read fault\n".as_slice());
@@ -173,7 +160,9 @@ fn each_device_fault_ends_the_run(rt: HostRuntime) -> Result<(), Fail> {
         let mut files = shelf_of(alloc, A_CLAUSE, planned)?;
         let mut out = MemorySink::new(alloc, Vec::new(alloc));
         let mut err = MemorySink::new(alloc, Vec::new(alloc));
-        let answer = run(&rt, alloc, &words, &mut files, &mut out, &mut err);
+        let answer = run(
+            &rt, alloc, &words, &mut files, &mut out, &mut err, &mut None,
+        );
         assert_eq!(rt; answer, status, "{call:?} {nth}");
         assert_eq!(rt; err.bytes(), line.as_bytes(), "{call:?} {nth}");
         assert_eq!(rt; out.bytes(), b"".as_slice(), "{call:?} {nth}");
@@ -190,7 +179,9 @@ fn an_output_that_fails_keeps_the_file(rt: HostRuntime) -> Result<(), Fail> {
     let mut files = shelf_of(alloc, A_CLAUSE, Vec::new(alloc))?;
     let mut out = MemorySink::new(alloc, vec![in alloc; 1]?);
     let mut err = MemorySink::new(alloc, Vec::new(alloc));
-    let status = run(&rt, alloc, &words, &mut files, &mut out, &mut err);
+    let status = run(
+        &rt, alloc, &words, &mut files, &mut out, &mut err, &mut None,
+    );
     assert_eq!(rt; status, 6);
     assert!(rt; files.bytes_of("out") == Some(A_CLAUSE_AS_SDD.as_bytes()));
     assert_eq!(rt; err.bytes(), b"sddc: output: write fault\n".as_slice());
@@ -204,7 +195,9 @@ fn a_failure_of_err_changes_no_status(rt: HostRuntime) -> Result<(), Fail> {
     let mut files = shelf_of(alloc, A_CLAUSE, Vec::new(alloc))?;
     let mut out = MemorySink::new(alloc, Vec::new(alloc));
     let mut err = MemorySink::new(alloc, vec![in alloc; 2]?);
-    let status = run(&rt, alloc, &words, &mut files, &mut out, &mut err);
+    let status = run(
+        &rt, alloc, &words, &mut files, &mut out, &mut err, &mut None,
+    );
     assert_eq!(rt; status, 9);
     assert_eq!(rt; err.bytes(), b"sddc: ".as_slice());
     Ok(())
@@ -221,7 +214,9 @@ fn a_long_input_is_refused(rt: HostRuntime) -> Result<(), Fail> {
     let mut files = MemoryShelf::new(alloc, vec![in alloc; file]?, 4096, Vec::new(alloc));
     let mut out = MemorySink::new(alloc, Vec::new(alloc));
     let mut err = MemorySink::new(alloc, Vec::new(alloc));
-    let status = run(&rt, alloc, &words, &mut files, &mut out, &mut err);
+    let status = run(
+        &rt, alloc, &words, &mut files, &mut out, &mut err, &mut None,
+    );
     assert_eq!(rt; status, 2);
     assert_eq!(rt; err.bytes(), b"sddc: in: too long\n".as_slice());
     Ok(())

@@ -1,27 +1,30 @@
 // The whole run: its readings, its commands, and the line of its end.
-ghost use Rattle.std.specs.Prelude.{◌≡◌, map, string_bytes};
+ghost use Rattle.std.specs.Prelude.{◌≡◌, Some, None, cond, map, string_bytes};
 ghost use Rattle.sd_base.specs.Shelf.{NoFile};
 ghost use Rattle.sd_tool.specs.Devices.{contents, faults, between, NotFewer};
-ghost use Rattle.sd_tool.specs.Given.{state_seen, IsCompiled};
+ghost use Rattle.sd_tool.specs.Given.{Stands, start_of};
 ghost use Rattle.sd_tool.specs.Headline.{Went, HasEffects, HasLine, HasEnd, IsComplete};
-ghost use Rattle.sd_tool.specs.Stops.{GoesOn, Attempts};
+ghost use Rattle.sd_tool.specs.Stops.{GoesOn, CarriesOut, Attempts, is_full};
 ghost use Rattle.sd_tool.specs.Written.{HasWritten, HasEqualTexts};
 
 use crate::commands::{Command, step};
 use crate::devices::perform_any;
 use crate::parts::write_line;
+use crate::plan::Plan;
 use crate::reading::prepare;
 use crate::state::State;
 use crate::stop::Stop;
 use sd_base::{Shelf, Sink};
+use sd_manager::Manager;
 use std::alloc::Global;
 use std::thread::Threads;
 
 /// Runs the program with these words over a shelf of files, and answers its status:
 /// 0 where all was done, 2 where the formula file or the vtree file is too long or has a fault, 5 where an input was
-/// not read, 6 where an output or the printed line was not written, 7 where memory ran out, and 9 where the words, the
-/// number of variables or the vtree are not served yet. The formula file is read first.
-/// At every status but 0 the one line that says so is written to `err`.
+/// not read, 6 where an output or the printed line was not written, 7 where memory ran out, 8 where the arena of the
+/// diagrams was full, and 9 where the words are not served yet. The formula file is read first.
+/// At every status but 0 the one line that says so is written to `err`. At 8 the manager that refused is put into
+/// `kept`, which is empty before.
 pub fn run<R: Threads + Sync, F: Shelf, O: Sink, E: Sink>(
     _rt: &R,
     alloc: Global,
@@ -29,17 +32,19 @@ pub fn run<R: Threads + Sync, F: Shelf, O: Sink, E: Sink>(
     shelf: &mut F,
     out: &mut O,
     err: &mut E,
+    kept: &mut Option<Manager>,
 ) -> u8
-    requires { F.hand shelf.old ≡ NoFile }
+    requires hand { F.hand shelf.old ≡ NoFile }
+    requires none { kept.old ≡ None }
     ensures hand { F.hand shelf.new ≡ NoFile }
     ensures course { between F.files F.read_faults F.write_faults O.written O.faults E.written E.faults
-        shelf.old out.old err.old shelf.new out.new err.new (Went (map string_bytes words.now) result) }
+        shelf.old out.old err.old shelf.new out.new err.new (Went (map string_bytes words.now) result kept.new) }
     ensures effects { between F.files F.read_faults F.write_faults O.written O.faults E.written E.faults
         shelf.old out.old err.old shelf.new out.new err.new (HasEffects (map string_bytes words.now) result) }
     ensures line { between F.files F.read_faults F.write_faults O.written O.faults E.written E.faults
         shelf.old out.old err.old shelf.new out.new err.new (HasLine result) }
     ensures ends { between F.files F.read_faults F.write_faults O.written O.faults E.written E.faults
-        shelf.old out.old err.old shelf.new out.new err.new (HasEnd (map string_bytes words.now) result) }
+        shelf.old out.old err.old shelf.new out.new err.new (HasEnd (map string_bytes words.now) result kept.new) }
     ensures complete { between F.files F.read_faults F.write_faults O.written O.faults E.written E.faults
         shelf.old out.old err.old shelf.new out.new err.new (IsComplete (map string_bytes words.now) result) }
     ensures written { between F.files F.read_faults F.write_faults O.written O.faults E.written E.faults
@@ -47,7 +52,7 @@ pub fn run<R: Threads + Sync, F: Shelf, O: Sink, E: Sink>(
     ensures equal_texts { between F.files F.read_faults F.write_faults O.written O.faults E.written E.faults
         shelf.old out.old err.old shelf.new out.new err.new (HasEqualTexts (map string_bytes words.now) result) }
 {
-    conduct(alloc, words, shelf, out, err)
+    conduct(alloc, words, shelf, out, err, kept)
 }
 
 // The run to its end, with the line of that end.
@@ -57,13 +62,15 @@ fn conduct<F: Shelf, O: Sink, E: Sink>(
     shelf: &mut F,
     out: &mut O,
     err: &mut E,
+    kept: &mut Option<Manager>,
 ) -> u8
-    requires { F.hand shelf.old ≡ NoFile }
+    requires hand { F.hand shelf.old ≡ NoFile }
+    requires none { kept.old ≡ None }
     ensures hand { F.hand shelf.new ≡ NoFile }
     ensures course { between F.files F.read_faults F.write_faults O.written O.faults E.written E.faults
-        shelf.old out.old err.old shelf.new out.new err.new (Went (map string_bytes words.now) result) }
+        shelf.old out.old err.old shelf.new out.new err.new (Went (map string_bytes words.now) result kept.new) }
 {
-    match attempt(alloc, words, shelf, out) {
+    match attempt(alloc, words, shelf, out, kept) {
         Ok(()) => 0,
         Err(stop) => {
             write_line(err, &stop.parts());
@@ -78,17 +85,58 @@ fn attempt<F: Shelf, O: Sink>(
     words: &[String],
     shelf: &mut F,
     out: &mut O,
+    kept: &mut Option<Manager>,
 ) -> Result<(), Stop>
-    requires { F.hand shelf.old ≡ NoFile }
+    requires hand { F.hand shelf.old ≡ NoFile }
+    requires none { kept.old ≡ None }
     ensures hand { F.hand shelf.new ≡ NoFile }
-    ensures ends { Attempts (map string_bytes words.now) result
+    ensures ends { Attempts (map string_bytes words.now) kept.new result
         (contents F.files O.written shelf.old out.old) (contents F.files O.written shelf.new out.new)
         (faults F.read_faults F.write_faults O.faults shelf.old out.old)
         (faults F.read_faults F.write_faults O.faults shelf.new out.new) }
 {
     match prepare(alloc, words, shelf) {
-        Ok(plan) => do_all(alloc, shelf, out, &plan.start, &plan.commands),
+        Ok(plan) => carry_out(alloc, shelf, out, plan, kept),
         Err(stop) => Err(stop),
+    }
+}
+
+// Does all commands of the plan, and keeps the manager whose arena was full.
+fn carry_out<F: Shelf, O: Sink>(
+    alloc: Global,
+    shelf: &mut F,
+    out: &mut O,
+    plan: Plan,
+    kept: &mut Option<Manager>,
+) -> Result<(), Stop>
+    requires hand { F.hand shelf.old ≡ NoFile }
+    requires none { kept.old ≡ None }
+    requires stands { Stands plan.start (start_of plan.start) }
+    ensures hand { F.hand shelf.new ≡ NoFile }
+    ensures goes { CarriesOut (start_of plan.start) plan.commands.items kept.new result
+        (contents F.files O.written shelf.old out.old) (contents F.files O.written shelf.new out.new)
+        (faults F.read_faults F.write_faults O.faults shelf.old out.old)
+        (faults F.read_faults F.write_faults O.faults shelf.new out.new) }
+{
+    let Plan {
+        mut start,
+        commands,
+    } = plan;
+    match do_all(alloc, shelf, out, &mut start, &commands) {
+        Ok(()) => Ok(()),
+        Err(stop) => {
+            keep(kept, &stop, start.manager);
+            Err(stop)
+        }
+    }
+}
+
+// Keeps the manager if its arena was full.
+fn keep(kept: &mut Option<Manager>, stop: &Stop, manager: Manager)
+    ensures { kept.new ≡ cond (is_full stop.now) (Some manager) kept.old }
+{
+    if stop.is_full() {
+        *kept = Some(manager);
     }
 }
 
@@ -97,15 +145,15 @@ fn do_all<F: Shelf, O: Sink>(
     alloc: Global,
     shelf: &mut F,
     out: &mut O,
-    state: &State,
+    state: &mut State,
     commands: &[Command],
 ) -> Result<(), Stop>
     requires hand { F.hand shelf.old ≡ NoFile }
-    requires compiled { IsCompiled state.now }
+    requires stands { Stands state.old (start_of state.old) }
     ensures hand { F.hand shelf.new ≡ NoFile }
     ensures fewer { NotFewer (faults F.read_faults F.write_faults O.faults shelf.old out.old)
         (faults F.read_faults F.write_faults O.faults shelf.new out.new) }
-    ensures goes { GoesOn (state_seen state.now) commands.now result
+    ensures goes { GoesOn (start_of state.old) commands.now state.new.manager result
         (contents F.files O.written shelf.old out.old) (contents F.files O.written shelf.new out.new)
         (faults F.read_faults F.write_faults O.faults shelf.old out.old)
         (faults F.read_faults F.write_faults O.faults shelf.new out.new) }

@@ -41,7 +41,9 @@ fn formula_files_are_accepted(rt: HostRuntime) -> Result<(), Fail> {
         let mut files = shelf_of(alloc, text)?;
         let mut out = MemorySink::new(alloc, Vec::new(alloc));
         let mut err = MemorySink::new(alloc, Vec::new(alloc));
-        let status = run(&rt, alloc, &words, &mut files, &mut out, &mut err);
+        let status = run(
+            &rt, alloc, &words, &mut files, &mut out, &mut err, &mut None,
+        );
         assert_eq!(rt; status, 0, "{text:?}");
         assert!(rt;
             files.bytes_of("out") == Some(diagram.as_bytes()),
@@ -96,7 +98,9 @@ fn formula_files_are_refused(rt: HostRuntime) -> Result<(), Fail> {
         let mut files = shelf_of(alloc, text)?;
         let mut out = MemorySink::new(alloc, Vec::new(alloc));
         let mut err = MemorySink::new(alloc, Vec::new(alloc));
-        let status = run(&rt, alloc, &words, &mut files, &mut out, &mut err);
+        let status = run(
+            &rt, alloc, &words, &mut files, &mut out, &mut err, &mut None,
+        );
         let line = format!(in alloc; "sddc: bad: {fault}\n")?;
         assert_eq!(rt; status, 2, "{text:?}");
         assert_eq!(rt; err.bytes(), line.as_bytes(), "{text:?}");

@@ -50,7 +50,9 @@ fn vtree_files_are_read_and_written(rt: HostRuntime) -> Result<(), Fail> {
         let mut files = shelf_of(alloc, NO_CLAUSES, tree, Vec::new(alloc))?;
         let mut out = MemorySink::new(alloc, Vec::new(alloc));
         let mut err = MemorySink::new(alloc, Vec::new(alloc));
-        let answer = run(&rt, alloc, &words, &mut files, &mut out, &mut err);
+        let answer = run(
+            &rt, alloc, &words, &mut files, &mut out, &mut err, &mut None,
+        );
         assert_eq!(rt; answer, 0, "{tree}");
         assert_eq!(rt; err.bytes(), b"".as_slice(), "{tree}");
         assert!(rt; files.bytes_of("shape") == Some(SHAPE.as_bytes()), "{tree}");
@@ -65,49 +67,26 @@ fn vtree_files_are_refused(rt: HostRuntime) -> Result<(), Fail> {
     let table = [
         (
             "vtree 3\nL 0 1\nL 1 1\nI 2 0 1\n",
-            2,
             "tree: line 3: variable wrong",
         ),
-        ("vtree 0\n", 2, "tree: 0 roots"),
-        ("", 2, "tree: no header"),
-        ("vtree 4\nL 0 1\n", 2, "tree: 4 stated, 1 found"),
-        ("vtree 1\nL 0 2\n", 2, "tree: variable missing: 1"),
-        ("vtree 3\nL 0 2\nL 1 1\nI 2 0 1\n", 9, "not yet"),
+        ("vtree 0\n", "tree: 0 roots"),
+        ("", "tree: no header"),
+        ("vtree 4\nL 0 1\n", "tree: 4 stated, 1 found"),
+        ("vtree 1\nL 0 2\n", "tree: variable missing: 1"),
     ];
-    for (tree, status, fault) in table {
+    for (tree, fault) in table {
         let words = words_of(alloc, &TREE_WORDS)?;
         let mut files = shelf_of(alloc, NO_CLAUSES, tree, Vec::new(alloc))?;
         let mut out = MemorySink::new(alloc, Vec::new(alloc));
         let mut err = MemorySink::new(alloc, Vec::new(alloc));
-        let answer = run(&rt, alloc, &words, &mut files, &mut out, &mut err);
+        let answer = run(
+            &rt, alloc, &words, &mut files, &mut out, &mut err, &mut None,
+        );
         let line = format!(in alloc; "sddc: {fault}\n")?;
-        assert_eq!(rt; answer, status, "{tree}");
+        assert_eq!(rt; answer, 2, "{tree}");
         assert_eq!(rt; err.bytes(), line.as_bytes(), "{tree}");
         assert!(rt; files.bytes_of("shape").is_none(), "{tree}");
         assert_eq!(rt; out.bytes(), b"".as_slice(), "{tree}");
-    }
-    Ok(())
-}
-
-#[test]
-fn shapes_that_are_the_right_tree_are_served(rt: HostRuntime) -> Result<(), Fail> {
-    let alloc = rt.alloc();
-    let three = "p cnf 3 0\n";
-    let table = [
-        (NO_CLAUSES, "balanced", 0),
-        (three, "balanced", 0),
-        ("p cnf 4 0\n", "balanced", 9),
-        (NO_CLAUSES, "left", 0),
-        (three, "left", 9),
-        (three, "right", 0),
-    ];
-    for (text, shape, status) in table {
-        let words = words_of(alloc, &["--cnf", "in", "--start", shape])?;
-        let mut files = shelf_of(alloc, text, "", Vec::new(alloc))?;
-        let mut out = MemorySink::new(alloc, Vec::new(alloc));
-        let mut err = MemorySink::new(alloc, Vec::new(alloc));
-        let answer = run(&rt, alloc, &words, &mut files, &mut out, &mut err);
-        assert_eq!(rt; answer, status, "{shape} {text}");
     }
     Ok(())
 }
@@ -119,7 +98,9 @@ fn a_missing_vtree_file_is_a_read_fault(rt: HostRuntime) -> Result<(), Fail> {
     let mut files = shelf_of(alloc, NO_CLAUSES, "", Vec::new(alloc))?;
     let mut out = MemorySink::new(alloc, Vec::new(alloc));
     let mut err = MemorySink::new(alloc, Vec::new(alloc));
-    let status = run(&rt, alloc, &words, &mut files, &mut out, &mut err);
+    let status = run(
+        &rt, alloc, &words, &mut files, &mut out, &mut err, &mut None,
+    );
     assert_eq!(rt; status, 5);
     assert_eq!(rt; err.bytes(), b"sddc: gone: read fault\n".as_slice());
     Ok(())
@@ -140,7 +121,9 @@ fn each_fault_of_a_vtree_file_is_a_read_fault(rt: HostRuntime) -> Result<(), Fai
         let mut files = shelf_of(alloc, NO_CLAUSES, SHAPE, planned)?;
         let mut out = MemorySink::new(alloc, Vec::new(alloc));
         let mut err = MemorySink::new(alloc, Vec::new(alloc));
-        let status = run(&rt, alloc, &words, &mut files, &mut out, &mut err);
+        let status = run(
+            &rt, alloc, &words, &mut files, &mut out, &mut err, &mut None,
+        );
         assert_eq!(rt; status, 5, "{call:?}");
         assert_eq!(rt;
             err.bytes(),
@@ -166,7 +149,9 @@ fn the_vtree_is_written_before_the_diagram(rt: HostRuntime) -> Result<(), Fail> 
     let mut files = shelf_of(alloc, NO_CLAUSES, "", vec![in alloc; fault]?)?;
     let mut out = MemorySink::new(alloc, Vec::new(alloc));
     let mut err = MemorySink::new(alloc, Vec::new(alloc));
-    let status = run(&rt, alloc, &words, &mut files, &mut out, &mut err);
+    let status = run(
+        &rt, alloc, &words, &mut files, &mut out, &mut err, &mut None,
+    );
     assert_eq!(rt; status, 6);
     assert!(rt; files.bytes_of("shape") == Some(SHAPE.as_bytes()));
     assert!(rt; files.bytes_of("out").is_none());
@@ -186,7 +171,9 @@ fn a_long_vtree_file_is_refused(rt: HostRuntime) -> Result<(), Fail> {
     let mut files = MemoryShelf::new(alloc, files, 4096, Vec::new(alloc));
     let mut out = MemorySink::new(alloc, Vec::new(alloc));
     let mut err = MemorySink::new(alloc, Vec::new(alloc));
-    let status = run(&rt, alloc, &words, &mut files, &mut out, &mut err);
+    let status = run(
+        &rt, alloc, &words, &mut files, &mut out, &mut err, &mut None,
+    );
     assert_eq!(rt; status, 2);
     assert_eq!(rt; err.bytes(), b"sddc: tree: too long\n".as_slice());
     Ok(())

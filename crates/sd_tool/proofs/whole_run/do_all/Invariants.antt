@@ -1,14 +1,14 @@
 use Rattle.std.proofs.Common.{◌≡◌}
 use Rattle.sd_base.specs.Shelf.{NoFile}
 use Rattle.sd_tool.specs.Devices.{contents, faults, NotFewer}
-use Rattle.sd_tool.specs.Given.{state_seen}
+use Rattle.sd_tool.specs.Given.{start_of}
 use Rattle.sd_tool.proofs.StepLemmas.{SoFar}
 use Rattle.sd_tool.proofs.whole_run.do_all.Given as goal
 
 abbrev pub invariant-loop-command : goal.invariant-loop-command
 invariant-loop-command g l = record {
   hand : g.F.Shelf.hand l.shelf ≡ NoFile;
-  so_far : SoFar (state_seen l.fn.state) l.commands l.command-index
+  so_far : SoFar (start_of l.fn.state) l.commands l.command-index l.state
       (contents g.F.Shelf.files g.O.Sink.written l.fn.shelf l.fn.out)
       (contents g.F.Shelf.files g.O.Sink.written l.shelf l.out);
   fewer : NotFewer

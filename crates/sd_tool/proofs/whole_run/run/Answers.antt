@@ -4,19 +4,19 @@ use Rattle.sd_tool.proofs.WrittenLemmas.{written_at, equal_texts_at}
 use Rattle.sd_tool.proofs.whole_run.run.Goals as goal
 
 pub returns-clause-effects : goal.returns-clause-effects
-returns-clause-effects g c = effects_at _ _ _ _ c.conduct.ensures.course
+returns-clause-effects g c = effects_at _ _ _ _ _ c.conduct.ensures.course
 
 pub returns-clause-line : goal.returns-clause-line
-returns-clause-line g c = line_at _ _ _ _ c.conduct.ensures.course
+returns-clause-line g c = line_at _ _ _ _ _ c.conduct.ensures.course
 
 pub returns-clause-ends : goal.returns-clause-ends
-returns-clause-ends g c = end_at _ _ _ _ c.conduct.ensures.course
+returns-clause-ends g c = end_at _ _ _ _ _ c.conduct.ensures.course
 
 pub returns-clause-complete : goal.returns-clause-complete
-returns-clause-complete g c = completes _ _ _ _ c.conduct.ensures.course
+returns-clause-complete g c = completes _ _ _ _ _ c.conduct.ensures.course
 
 pub returns-clause-written : goal.returns-clause-written
-returns-clause-written g c = written_at _ _ _ _ c.conduct.ensures.course
+returns-clause-written g c = written_at _ _ _ _ _ c.conduct.ensures.course
 
 pub returns-clause-equal_texts : goal.returns-clause-equal_texts
-returns-clause-equal_texts g c = equal_texts_at _ _ _ _ c.conduct.ensures.course
+returns-clause-equal_texts g c = equal_texts_at _ _ _ _ _ c.conduct.ensures.course

@@ -1,0 +1,177 @@
+// Runs over balanced, left and other vtrees.
+ghost use Rattle.std.specs.Prelude.{◌≡◌, IfOk};
+ghost use Rattle.sd_base.specs.Shelf.{NoFile};
+ghost use Rattle.sd_base.specs.MemoryShown.{memory_hand};
+
+use super::words_of;
+use crate::run;
+use sd_base::{Bytes, MemoryShelf, MemorySink, Name, NamedBytes};
+use std::alloc::{AllocError, Global};
+use std::test::Fail;
+
+// A shelf with the files `in` and `tree`.
+fn shelf_of(alloc: Global, text: &str, tree: &str) -> Result<MemoryShelf, AllocError>
+    ensures { IfOk result (λ shelf. memory_hand shelf ≡ NoFile) }
+{
+    let mut files = Vec::new(alloc);
+    files.push(NamedBytes {
+        name: Name::copy_of(alloc, "in")?,
+        bytes: Bytes::new(text.as_bytes().to_vec(alloc)?),
+    })?;
+    files.push(NamedBytes {
+        name: Name::copy_of(alloc, "tree")?,
+        bytes: Bytes::new(tree.as_bytes().to_vec(alloc)?),
+    })?;
+    Ok(MemoryShelf::new(alloc, files, 4096, Vec::new(alloc)))
+}
+
+const BALANCED_SHAPE: &str = "vtree 7\nL 0 1\nL 2 2\nI 1 0 2\nL 4 3\nL 6 4\nI 5 4 6\nI 3 1 5\n";
+
+const TWO_TERMS: &str = "p dnf 4 2\n1 2 0\n3 4 0\n";
+
+const TWO_TERMS_AS_SDD: &str =
+    "sdd 13\nL 0 0 -1\nF 1\nL 2 0 1\nL 3 2 2\nD 4 1 2 0 1 2 3\nT 5\nL 6 2 -2\n\
+D 7 1 2 0 5 2 6\nL 8 4 -3\nL 9 4 3\nL 10 6 4\nD 11 5 2 8 1 9 10\nD 12 3 2 4 5 7 11\n";
+
+const TWO_CLAUSES: &str = "p cnf 4 2\n1 2 -3 0\n-2 3 -4 0\n";
+
+const TWO_CLAUSES_AS_SDD: &str =
+    "sdd 13\nL 0 2 2\nL 1 4 -3\nL 2 6 -4\nL 3 4 3\nT 4\nD 5 5 2 1 2 3 4\nL 6 0 -1\nF 7\n\
+L 8 0 1\nL 9 2 -2\nD 10 1 2 6 7 8 9\nD 11 1 2 6 9 8 7\nD 12 3 3 0 5 10 4 11 1\n";
+
+#[test]
+fn formulas_are_compiled_on_the_balanced_tree(rt: HostRuntime) -> Result<(), Fail> {
+    let alloc = rt.alloc();
+    let table = [
+        ("--dnf", TWO_TERMS, TWO_TERMS_AS_SDD, "size 8\n"),
+        ("--cnf", TWO_CLAUSES, TWO_CLAUSES_AS_SDD, "size 9\n"),
+    ];
+    for (option, text, diagram, size) in table {
+        let words = words_of(
+            alloc,
+            &[option, "in", "--out-vtree", "shape", "--out-sdd", "out"],
+        )?;
+        let mut files = shelf_of(alloc, text, "")?;
+        let mut out = MemorySink::new(alloc, Vec::new(alloc));
+        let mut err = MemorySink::new(alloc, Vec::new(alloc));
+        let status = run(
+            &rt, alloc, &words, &mut files, &mut out, &mut err, &mut None,
+        );
+        assert_eq!(rt; status, 0, "{text}");
+        assert!(rt;
+            files.bytes_of("shape") == Some(BALANCED_SHAPE.as_bytes()),
+            "{text}"
+        );
+        assert!(rt; files.bytes_of("out") == Some(diagram.as_bytes()), "{text}");
+        assert_eq!(rt; out.bytes(), size.as_bytes(), "{text}");
+    }
+    Ok(())
+}
+
+#[test]
+fn a_clause_is_compiled_on_each_tree(rt: HostRuntime) -> Result<(), Fail> {
+    let alloc = rt.alloc();
+    let turned = "vtree 3\nL 0 2\nL 2 1\nI 1 0 2\n";
+    let table = [
+        (
+            ["--cnf", "in", "--start", "left"],
+            "p cnf 3 1\n1 2 3 0\n",
+            "size 6\n",
+        ),
+        (
+            ["--cnf", "in", "--start", "right"],
+            "p cnf 3 1\n1 2 3 0\n",
+            "size 4\n",
+        ),
+        (
+            ["--cnf", "in", "--vtree", "tree"],
+            "p cnf 2 1\n1 2 0\n",
+            "size 2\n",
+        ),
+    ];
+    for (all, text, size) in table {
+        let words = words_of(alloc, &all)?;
+        let mut files = shelf_of(alloc, text, turned)?;
+        let mut out = MemorySink::new(alloc, Vec::new(alloc));
+        let mut err = MemorySink::new(alloc, Vec::new(alloc));
+        let status = run(
+            &rt, alloc, &words, &mut files, &mut out, &mut err, &mut None,
+        );
+        assert_eq!(rt; status, 0, "{all:?}");
+        assert_eq!(rt; out.bytes(), size.as_bytes(), "{all:?}");
+    }
+    Ok(())
+}
+
+// 91 clauses of three literals of different variables among 20, in the layout of SATLIB.
+fn uniform(alloc: Global) -> Result<String, AllocError> {
+    let mut text = String::from_str(alloc, "c uniform\np cnf 20  91 \n")?;
+    let mut seed: u64 = 1;
+    for _ in 0..91 {
+        for third in 0..3u64 {
+            seed = (seed * 75 + 74) % 65537;
+            let variable = 1 + third * 6 + seed % 6;
+            let sign = if seed / 6 % 2 == 0 { "-" } else { "" };
+            text.push_str(&format!(in alloc; " {sign}{variable}")?)?;
+        }
+        text.push_str(" 0\n")?;
+    }
+    text.push_str("%\n0\n\n")?;
+    Ok(text)
+}
+
+#[test]
+fn twenty_variables_are_compiled(rt: HostRuntime) -> Result<(), Fail> {
+    let alloc = rt.alloc();
+    let words = words_of(alloc, &["--cnf", "in"])?;
+    let mut files = shelf_of(alloc, &uniform(alloc)?, "")?;
+    let mut out = MemorySink::new(alloc, Vec::new(alloc));
+    let mut err = MemorySink::new(alloc, Vec::new(alloc));
+    let status = run(
+        &rt, alloc, &words, &mut files, &mut out, &mut err, &mut None,
+    );
+    assert_eq!(rt; status, 0);
+    assert_eq!(rt; err.bytes(), b"".as_slice());
+    Ok(())
+}
+
+// Clauses at both ends of the variables.
+const FAR_CLAUSES: &str = "p cnf 1024 2\n1 2 0\n1023 1024 0\n";
+
+#[test]
+fn many_variables_are_compiled(rt: HostRuntime) -> Result<(), Fail> {
+    let alloc = rt.alloc();
+    let table = [("right", "size 6\n"), ("left", "size 11\n")];
+    for (shape, size) in table {
+        let words = words_of(alloc, &["--cnf", "in", "--start", shape])?;
+        let mut files = shelf_of(alloc, FAR_CLAUSES, "")?;
+        let mut out = MemorySink::new(alloc, Vec::new(alloc));
+        let mut err = MemorySink::new(alloc, Vec::new(alloc));
+        let status = run(
+            &rt, alloc, &words, &mut files, &mut out, &mut err, &mut None,
+        );
+        assert_eq!(rt; status, 0, "{shape}");
+        assert_eq!(rt; out.bytes(), size.as_bytes(), "{shape}");
+    }
+    Ok(())
+}
+
+#[test]
+fn a_clause_of_all_variables_is_compiled(rt: HostRuntime) -> Result<(), Fail> {
+    let alloc = rt.alloc();
+    let mut text = String::from_str(alloc, "p cnf 1024 1\n")?;
+    for variable in 1..1025u32 {
+        text.push_str(&format!(in alloc; "{variable} ")?)?;
+    }
+    text.push_str("0\n")?;
+    let words = words_of(alloc, &["--cnf", "in", "--start", "right"])?;
+    let mut files = shelf_of(alloc, &text, "")?;
+    let mut out = MemorySink::new(alloc, Vec::new(alloc));
+    let mut err = MemorySink::new(alloc, Vec::new(alloc));
+    let status = run(
+        &rt, alloc, &words, &mut files, &mut out, &mut err, &mut None,
+    );
+    assert_eq!(rt; status, 0);
+    assert_eq!(rt; out.bytes(), b"size 2046\n".as_slice());
+    Ok(())
+}
