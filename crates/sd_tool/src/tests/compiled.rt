@@ -103,28 +103,31 @@ fn a_clause_is_compiled_on_each_tree(rt: HostRuntime) -> Result<(), Fail> {
     Ok(())
 }
 
-// 91 clauses of three literals of different variables among 20, in the layout of SATLIB.
-fn uniform(alloc: Global) -> Result<String, AllocError> {
-    let mut text = String::from_str(alloc, "c uniform\np cnf 20  91 \n")?;
-    let mut seed: u64 = 1;
-    for _ in 0..91 {
-        for third in 0..3u64 {
-            seed = (seed * 75 + 74) % 65537;
-            let variable = 1 + third * 6 + seed % 6;
-            let sign = if seed / 6 % 2 == 0 { "-" } else { "" };
-            text.push_str(&format!(in alloc; " {sign}{variable}")?)?;
-        }
-        text.push_str(" 0\n")?;
-    }
-    text.push_str("%\n0\n\n")?;
-    Ok(text)
-}
+// 91 clauses of three literals at random among 20 variables, in the layout of SATLIB.
+const UNIFORM: &str =
+    "c 20 variables, 91 clauses of three literals, in the layout of the collection SATLIB\n\
+p cnf 20 91\n 5 19 3 0\n 13 -7 4 0\n 20 -1 -15 0\n 4 -11 1 0\n -13 -7 -14 0\n\
+16 -18 -8 0\n -10 -1 -14 0\n -6 -10 -4 0\n -17 -14 20 0\n 19 -16 17 0\n 13 -14 -6 0\n\
+-12 3 15 0\n -13 12 16 0\n -20 19 13 0\n -1 -7 18 0\n 12 19 -20 0\n -1 -13 -17 0\n\
+-14 -2 16 0\n -17 14 16 0\n -18 -11 -15 0\n -18 -19 -6 0\n 9 2 3 0\n 9 -8 20 0\n\
+3 -6 -19 0\n 10 15 11 0\n 11 14 -7 0\n 7 14 1 0\n -6 -15 17 0\n -17 15 -8 0\n\
+-11 14 2 0\n -2 10 -3 0\n 6 -14 -9 0\n 19 -7 -15 0\n 20 17 2 0\n 14 -19 7 0\n\
+17 -16 -1 0\n -1 -6 -7 0\n 5 -11 -14 0\n 18 -12 20 0\n 2 -3 5 0\n 11 17 9 0\n\
+-20 -16 5 0\n -14 -3 -13 0\n 11 -4 -13 0\n -9 -12 10 0\n -9 4 -2 0\n -3 -14 4 0\n\
+19 14 6 0\n -4 -14 -13 0\n 18 9 16 0\n -1 20 10 0\n -13 -3 -19 0\n -4 -9 -7 0\n\
+16 12 9 0\n 12 -3 9 0\n 19 11 8 0\n 11 19 -10 0\n 20 -3 8 0\n -9 18 3 0\n\
+-12 16 -19 0\n -11 3 -17 0\n 5 -11 -10 0\n 10 -5 7 0\n 11 18 7 0\n -8 9 3 0\n\
+-9 18 15 0\n 11 -6 -9 0\n -19 -1 -2 0\n 5 9 -19 0\n 8 16 -1 0\n 15 -8 -19 0\n\
+-14 -11 -18 0\n -8 -2 3 0\n 17 7 -10 0\n -6 -15 -3 0\n 19 13 -6 0\n -2 16 -13 0\n\
+-6 18 2 0\n -4 9 -3 0\n -3 15 -8 0\n -14 13 -6 0\n 16 -7 -4 0\n 10 -9 -8 0\n\
+17 -15 1 0\n 9 -7 6 0\n -19 -9 -15 0\n 18 12 16 0\n -13 -7 10 0\n 19 -1 -18 0\n\
+5 -3 17 0\n 12 17 11 0\n%\n0\n\n";
 
 #[test]
 fn twenty_variables_are_compiled(rt: HostRuntime) -> Result<(), Fail> {
     let alloc = rt.alloc();
     let words = words_of(alloc, &["--cnf", "in"])?;
-    let mut files = shelf_of(alloc, &uniform(alloc)?, "")?;
+    let mut files = shelf_of(alloc, UNIFORM, "")?;
     let mut out = MemorySink::new(alloc, Vec::new(alloc));
     let mut err = MemorySink::new(alloc, Vec::new(alloc));
     let status = run(
