@@ -1,17 +1,24 @@
 -- Worked examples.
-use Rattle.std.proofs.Common.{◌≡◌, [], ◌∷◌, refl, Ok, Err, pos, negsuc}
+use Rattle.std.proofs.Common.{◌≡◌, true, false, [], ◌∷◌, refl, ap, ◌∙◌, Result, Ok, Err, pos, negsuc}
 use Rattle.std.specs.Prelude.{codes}
 use Rattle.sd_file.specs.declared.fault.SddFault.TheVariants.{BadLine, IdTwice, ChildUnknown}
 use Rattle.sd_file.specs.declared.fault.SddFault.TheVariants.{LiteralRange, CountDiffers, Empty}
-use Rattle.sd_file.specs.Reads.{Literal, Decomposition, sdd_file}
+use Rattle.sd_file.specs.declared.fault.SddFault.{SddFault}
+use Rattle.sd_model.specs.Diagram.{Diagram, Bottom, Literal, Decomposition, End, Pair}
+use Rattle.sd_model.specs.Expression.{expression_value}
+use Rattle.sd_model.specs.Size.{completed}
+use Rattle.sd_model.specs.Text.{number_text, sdd_text}
+use Rattle.sd_file.specs.Reads.{Constant as ConstantNode, Literal as LiteralNode, Decomposition as DecompositionNode}
+use Rattle.sd_file.specs.Reads.{File, sdd_file, expression_of}
+use Rattle.sd_file.specs.RoundTrip.{ReadsBack}
 
 -- not compressed, ids with a gap, and ids of another vtree
 elsewhere : sdd_file 2 (codes "c made elsewhere\nsdd 4\nL 0 9 1\nL 1 9 -1\nL 3 7 2\nD 2 8 2 0 3 1 3\n") ≡
     Ok (record {
       variables = 2;
-      nodes = record { id = 0; node = Literal 9 (pos 1) }
-          ∷ record { id = 1; node = Literal 9 (negsuc 0) } ∷ record { id = 3; node = Literal 7 (pos 2) }
-          ∷ record { id = 2; node = Decomposition 8 ((0, 2) ∷ (1, 2) ∷ []) } ∷ [];
+      nodes = record { id = 0; node = LiteralNode 9 (pos 1) }
+          ∷ record { id = 1; node = LiteralNode 9 (negsuc 0) } ∷ record { id = 3; node = LiteralNode 7 (pos 2) }
+          ∷ record { id = 2; node = DecompositionNode 8 ((0, 2) ∷ (1, 2) ∷ []) } ∷ [];
     })
 unfolding sdd_file
 elsewhere = refl
@@ -43,3 +50,38 @@ no_pairs = refl
 id_twice : sdd_file 2 (codes "sdd 2\nT 0\nF 0\n") ≡ Err (IdTwice 3)
 unfolding sdd_file
 id_twice = refl
+
+-- ---- texts that are read back
+
+-- the diagram of "1 and 2" over the vtree (1 2)
+both : Diagram
+both = Decomposition 1 (Pair (Literal 0 1 false) Bottom (Pair (Literal 0 1 true) (Literal 2 2 true) End))
+
+-- its text
+both_text : sdd_text both ≡ codes "sdd 5\nL 0 0 -1\nF 1\nL 2 0 1\nL 3 2 2\nD 4 1 2 0 1 2 3\n"
+unfolding sdd_text completed number_text both
+both_text = refl
+
+-- which is read back
+both_back : ReadsBack 2 (codes "sdd 5\nL 0 0 -1\nF 1\nL 2 0 1\nL 3 2 2\nD 4 1 2 0 1 2 3\n") both
+unfolding sdd_file both
+both_back = record {
+  file = record {
+    variables = 2;
+    nodes = record { id = 0; node = LiteralNode 0 (negsuc 0) } ∷ record { id = 1; node = ConstantNode false }
+        ∷ record { id = 2; node = LiteralNode 0 (pos 1) } ∷ record { id = 3; node = LiteralNode 2 (pos 2) }
+        ∷ record { id = 4; node = DecompositionNode 1 ((0, 1) ∷ (2, 3) ∷ []) } ∷ [];
+  };
+  reads = refl;
+  value = λ given. refl;
+}
+
+-- the text of true is not one of false
+true_not_false : ReadsBack 2 (codes "sdd 1\nT 0\n") Bottom → ⊥
+unfolding sdd_file
+true_not_false back =
+    let file : File = record { variables = 2; nodes = record { id = 0; node = ConstantNode true } ∷ [] } in
+    let read : ◌≡◌ {A = Result File SddFault} (Ok file) (Ok back.file) = back.reads in
+    let is : file ≡ back.file = cc in
+    let value : true ≡ false = ap (λ f. expression_value (expression_of f) []) is ∙ back.value [] in
+    cc

@@ -1,3 +1,4 @@
 pub mod Files
 pub mod Reads
+pub mod RoundTrip
 pub mod Steps

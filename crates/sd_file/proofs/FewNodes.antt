@@ -1,0 +1,98 @@
+-- Under a diagram that a manager holds there are no more diagrams than codes, so its text is read back.
+use Rattle.std.proofs.Common.{◌≡◌, inl, inr, ℕ, ◌+◌, ◌<◌, ◌≤◌, List, [], ◌∷◌, ◌++◌, length}
+use Rattle.std.proofs.Common.{Option, Some, None, refl, sym, ap, subst, arith}
+use Rattle.std.specs.FinMap.{get}
+use Rattle.std.specs.List.{AllByRecursion}
+use Rattle.std.specs.Option.{IsSome}
+use Rattle.sd_model.specs.Tree.{leaves}
+use Rattle.sd_model.specs.Diagram.{Diagram, Bottom, Top, Literal, Decomposition, Elements, End, Pair}
+use Rattle.sd_model.specs.Size.{walk, walk_elements, completed}
+use Rattle.sd_model.specs.Text.{sdd_text}
+use Rattle.sd_model.proofs.Adding.{completed-add}
+use Rattle.sd_vtree.specs.Numbered.{Numbered, forget, or_else}
+use Rattle.sd_laws.specs.Shown.{Lookup, Shows, ShowElements}
+use Rattle.sd_laws.proofs.Codes.{one-diagram}
+use Rattle.sd_laws.proofs.Nodes.{code-of_node}
+use Rattle.sd_manager.specs.Table.{Table}
+use Rattle.sd_manager.specs.Shown.{IsShown, HoldsDiagram}
+use Rattle.sd_manager.specs.Valid.{IsTable}
+use Rattle.sd_file.specs.RoundTrip.{ReadsBack}
+use Rattle.sd_file.proofs.DiagramPlaces.{new_completed, all_differ}
+use Rattle.sd_file.proofs.Pigeons.{HaveCodes, few_coded}
+use Rattle.sd_file.proofs.Readable.{all_append, all_add}
+use Rattle.sd_file.proofs.ReadBack.{reads_back}
+
+-- some code shows the diagram, and each that does is below n
+abbrev HasCode : Numbered → Lookup → ℕ → Diagram → Type 0
+HasCode t at n d = (c : ℕ) × Shows t at c d × (c < n)
+
+-- each code that shows a diagram is below n
+abbrev AreBelow : Numbered → Lookup → ℕ → Type 0
+AreBelow t at n = (c : ℕ) (d : Diagram) → Shows t at c d → c < n
+
+mutual
+  -- each diagram under one that is shown is shown
+  walk_shown : (t : Numbered) (at : Lookup) (n : ℕ) → AreBelow t at n → (d : Diagram) (c : ℕ) → Shows t at c d →
+      AllByRecursion (HasCode t at n) (walk d)
+  walk_shown t at n below Bottom c h = ((c, h, below c Bottom h), tt)
+  walk_shown t at n below Top c h = ((c, h, below c Top h), tt)
+  walk_shown t at n below (Literal p x positive) c h = ((c, h, below c (Literal p x positive) h), tt)
+  walk_shown t at n below (Decomposition p es) c h =
+      all_append (HasCode t at n) (walk_elements es) (Decomposition p es ∷ [])
+      (elements_shown t at n below es h.0 h.2) ((c, h, below c (Decomposition p es) h), tt)
+
+  -- and so is each under elements that are shown
+  elements_shown : (t : Numbered) (at : Lookup) (n : ℕ) → AreBelow t at n → (es : Elements) (l : List (ℕ × ℕ)) →
+      ShowElements t at l es → AllByRecursion (HasCode t at n) (walk_elements es)
+  elements_shown t at n below End l h = tt
+  elements_shown t at n below (Pair p s rest) [] h = absurd h
+  elements_shown t at n below (Pair p s rest) (e ∷ l) h =
+      all_append (HasCode t at n) (walk p ++ walk s) (walk_elements rest)
+      (all_append (HasCode t at n) (walk p) (walk s) (walk_shown t at n below p e.0 h.0)
+      (walk_shown t at n below s e.1 h.1)) (elements_shown t at n below rest l h.2)
+
+-- a linked node has a number below the number of records
+linked_below : (t : Table) (n : ℕ) → IsTable t → IsSome (get t.linked n) → n < t.records
+linked_below t n table some = go (get t.linked n) refl some
+  where
+    go : (o : Option (ℕ × List (ℕ × ℕ))) → get t.linked n ≡ o → IsSome o → n < t.records
+    go (Some key) is some = table.within n key (ap (λ o. or_else o (get t.detached n)) is)
+    go None is some = absurd cc
+
+-- a code that shows a diagram is below 2,050 and the number of records
+code_below : (t : Table) → IsTable t → AreBelow t.vtree (get t.linked) (2050 + t.records)
+code_below t table c d h = elim (code-of_node t.vtree (get t.linked) table.numbered c d h) [
+  | inl low ↦ (let few = table.numbered.few in omega arith)
+  | inr node ↦ omega (arith, node.1, linked_below t node.0 table node.2)
+]
+
+-- the diagrams under one that is shown
+pub few_nodes : (t : Table) (c : ℕ) (d : Diagram) → IsTable t → IsShown t c d
+    → length (completed (d ∷ [])) ≤ 2050 + t.records
+few_nodes t c d table is =
+    let at : Lookup = get t.linked in
+    let n = 2050 + t.records in
+    let one = λ (c : ℕ) (d e : Diagram) (h : Shows t.vtree at c d) (k : Shows t.vtree at c e).
+    one-diagram t.vtree at table.numbered d c e h k in
+    let shown = walk_shown t.vtree at n (code_below t table) d c is.shows in
+    let coded : HaveCodes (Shows t.vtree at) n (completed (d ∷ [])) =
+    subst (AllByRecursion (HasCode t.vtree at n)) (sym (completed-add d))
+    (all_add (HasCode t.vtree at n) [] (walk d) tt shown) in
+    few_coded (Shows t.vtree at) n one (completed (d ∷ [])) (all_differ [] (completed (d ∷ [])) (new_completed d)) coded
+
+-- a diagram that a root holds is read back from its text
+pub held_reads_back : (t : Table) (root : ℕ) (d : Diagram) → IsTable t → HoldsDiagram t root d
+    → ReadsBack (leaves (forget t.vtree)) (sdd_text d) d
+held_reads_back t root d table held =
+    let few = few_nodes t held.code d table held.is in
+    let records = table.records_fit in
+    let extent = table.bounded in
+    let bound = table.bound_fits in
+    reads_back (forget t.vtree) d table.numbered.vtree table.numbered.few held.is.canonical (omega arith)
+
+-- so is one from a text that is its own
+pub written_reads_back : (t : Table) (root : ℕ) (text : List ℕ) → IsTable t
+    → ((d : Diagram) → HoldsDiagram t root d → text ≡ sdd_text d) → (d : Diagram) → HoldsDiagram t root d
+    → ReadsBack (leaves (forget t.vtree)) text d
+written_reads_back t root text table is d held =
+    subst (λ x. ReadsBack (leaves (forget t.vtree)) x d) (sym (is d held)) (held_reads_back t root d table held)
