@@ -1,0 +1,6 @@
+pub mod Below
+pub mod Orders
+pub mod Listing
+pub mod Totals
+pub mod Tried
+pub mod Ties

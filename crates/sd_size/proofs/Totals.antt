@@ -1,0 +1,205 @@
+-- Listed nodes show the distinct diagrams, and the sum of their element counts is the size.
+use Rattle.std.proofs.Common.{◌≡◌, ◌≢◌, ◌⊎◌, inl, inr, Option, Some, None, ℕ, zero, suc, ◌+◌, ◌*◌, ◌≤◌, ◌<◌, ◌^◌}
+use Rattle.std.proofs.Common.{List, [], ◌∷◌}
+use Rattle.std.proofs.Common.{length, take, get_or, refl, sym, ap, subst, ◌∙◌, arith}
+use Rattle.std.specs.FinMap.{get}
+use Rattle.std.specs.List.{AllByRecursion, AllZip, sum_by, range_with_len}
+use Rattle.std.proofs.lemmas.List.Sums.{sum_by-append}
+use Rattle.std.proofs.lemmas.List.Sorted.{sum_by-IsPermutation}
+use Rattle.std.proofs.lemmas.List.FromFn.{length-range_with_len, get_or-range_with_len}
+use Rattle.std.specs.Option.{IsSome}
+use Rattle.sd_model.specs.Tree.{AreDistinct, leaves}
+use Rattle.sd_model.specs.Diagram.{Diagram}
+use Rattle.sd_model.specs.Canonical.{AreDifferent}
+use Rattle.sd_model.specs.Size.{walk, completed, element_count, size_of}
+use Rattle.sd_laws.proofs.Codes.{one-diagram, one-code}
+use Rattle.sd_laws.proofs.Lists.{IsAmong, IsWithin, all-at, all-from, among-from_contains, first_at, second_at}
+use Rattle.sd_laws.proofs.Lists.{beside, zip_whole}
+use Rattle.sd_laws.proofs.Nodes.{code-of_node}
+use Rattle.sd_laws.proofs.Pigeons.{length-within}
+use Rattle.sd_manager.specs.Table.{Table}
+use Rattle.sd_manager.specs.Shown.{Shows, IsShown, IsKnown}
+use Rattle.sd_manager.specs.Valid.{IsTable}
+use Rattle.sd_manager.proofs.Reading.{linked_key}
+use Rattle.sd_vtree.specs.Numbered.{forget}
+use Rattle.sd_size.specs.Listed.{AreListed, Adds, AreBelow}
+use Rattle.sd_size.proofs.Orders.{completed-permutation}
+
+-- the diagrams that codes show, in the order of the codes
+record HasDiagrams (t : Table) (codes : List ℕ) (ds : List Diagram) : Type 0 where
+  pub diagrams : List Diagram
+  pub shown : AllZip (IsShown t) codes diagrams
+  pub within : IsWithin diagrams ds
+
+has-diagrams : (t : Table) (codes : List ℕ) (ds : List Diagram) →
+    ((c : ℕ) → IsAmong c codes → (d : Diagram) × IsAmong d ds × IsShown t c d) → HasDiagrams t codes ds
+has-diagrams t [] ds h = record { diagrams = []; shown = tt; within = λ x m. absurd m }
+has-diagrams t (c ∷ codes) ds h =
+    let k = h c (inl refl) in
+    let r = has-diagrams t codes ds (λ b m. h b (inr m)) in
+    record { diagrams = k.0 ∷ r.diagrams; shown = (k.2, r.shown); within = within k.0 r.diagrams k.1 r.within }
+  where
+    within : (d : Diagram) (xs : List Diagram) → IsAmong d ds → IsWithin xs ds → IsWithin (d ∷ xs) ds
+    within d xs m w x (inl e) = subst (λ z. IsAmong z ds) (sym e) m
+    within d xs m w x (inr n) = w x n
+
+-- different codes show different diagrams
+diagrams-differ : (t : Table) → IsTable t → (codes : List ℕ) (ds : List Diagram) → AllZip (IsShown t) codes ds →
+    AreDistinct codes → AreDifferent ds
+diagrams-differ t table [] [] h k = tt
+diagrams-differ t table [] (d ∷ ds) h k = absurd h
+diagrams-differ t table (c ∷ codes) [] h k = absurd h
+diagrams-differ t table (c ∷ codes) (d ∷ ds) h k = (
+  all-from (λ e. d ≢ e) ds differs,
+  diagrams-differ t table codes ds h.1 k.1,
+)
+  where
+    differs : (x : Diagram) → IsAmong x ds → d ≢ x
+    differs x m e =
+        let b = first_at (IsShown t) codes ds h.1 x m in
+        let code : c ≡ b.0 =
+        one-code t.vtree (get t.linked) table.keys x c b.0 (subst (Shows t c) e h.0.shows) b.2.shows in
+        all-at (λ y. c ≢ y) codes b.0 k.0 b.1 code
+
+-- the codes of all that stands under a diagram show its distinct diagrams
+pub are-below : (t : Table) → IsTable t → (codes : List ℕ) (d : Diagram) → AreListed t codes (walk d) →
+    AreBelow t codes d
+are-below t table codes d l =
+    let k = has-diagrams t codes (walk d) l.shown in
+    record {
+      diagrams = k.diagrams;
+      shown = k.shown;
+      order =
+          completed-permutation d k.diagrams (diagrams-differ t table codes k.diagrams k.shown l.distinct) k.within
+          (covered k.diagrams k.shown);
+    }
+  where
+    covered : (ds : List Diagram) → AllZip (IsShown t) codes ds → IsWithin (walk d) ds
+    covered ds h x m =
+        let b = l.each x m in
+        let y = second_at (IsShown t) codes ds h b.0 b.1 in
+        let same : y.0 ≡ x =
+        one-diagram t.vtree (get t.linked) table.numbered y.0 b.0 x y.2.shows b.2.shows in
+        subst (λ z. IsAmong z ds) same y.1
+
+-- an empty list shows nothing
+pub listed-empty : (t : Table) → AreListed t [] []
+listed-empty t = record {
+  distinct = tt;
+  shown = λ c m. absurd m;
+  each = λ d m. absurd m;
+  closed = λ d m. absurd m;
+}
+
+-- each code of the list shows some diagram
+pub all-known : (t : Table) (codes : List ℕ) (ds : List Diagram) → AllZip (IsShown t) codes ds →
+    AllByRecursion (IsKnown t) codes
+all-known t [] ds h = tt
+all-known t (c ∷ codes) [] h = absurd h
+all-known t (c ∷ codes) (d ∷ ds) h = (record { diagram = d; is = h.0 }, all-known t codes ds h.1)
+
+-- the sum of the element counts of the distinct diagrams is the size
+pub size-below : (t : Table) (codes : List ℕ) (d : Diagram) (n : ℕ) → (k : AreBelow t codes d) →
+    n ≡ sum_by element_count k.diagrams → n ≡ size_of (d ∷ [])
+unfolding size_of
+size-below t codes d n k e = e ∙ sum_by-IsPermutation element_count (completed (d ∷ [])) k.diagrams k.order
+
+-- the sum so far is that of the first nodes, and each node has fewer than 2^32 elements
+pub record HasSummed (t : Table) (codes : List ℕ) (i sum : ℕ) : Type 0 where
+  pub first : (ds : List Diagram) → AllZip (IsShown t) codes ds → sum ≡ sum_by element_count (take i ds)
+  pub bound : sum ≤ i * 4294967295
+
+pub summed-none : (t : Table) (codes : List ℕ) → HasSummed t codes 0 0
+summed-none t codes = record { first = λ ds h. refl; bound = omega arith }
+
+-- one node more
+pub summed-more : (t : Table) (codes : List ℕ) (i sum n c : ℕ) → HasSummed t codes i sum → i < length codes →
+    c ≡ get_or codes i c → n < 2 ^ 32 → ((d : Diagram) → IsShown t c d → n ≡ element_count d) →
+    HasSummed t codes (i + 1) (sum + n)
+summed-more t codes i sum n c h inside at few is = record { first = first; bound = omega (arith, h.bound, few) }
+  where
+    first : (ds : List Diagram) → AllZip (IsShown t) codes ds → sum + n ≡ sum_by element_count (take (i + 1) ds)
+    first ds shown =
+        let b = beside (IsShown t) codes ds i c c shown inside at in
+        let more : suc i ≡ i + 1 = omega arith in
+        let last : sum_by element_count (b.other ∷ []) ≡ element_count b.other = omega arith in
+        let whole : sum_by element_count (take (i + 1) ds)
+        ≡ sum_by element_count (take i ds) + sum_by element_count (b.other ∷ []) =
+        ap (λ m. sum_by element_count (take m ds)) (sym more) ∙ ap (sum_by element_count) b.more
+        ∙ sum_by-append element_count (take i ds) (b.other ∷ []) in
+        omega (arith, h.first ds shown, is b.other b.related, last, whole)
+
+-- at the end it is that of all
+pub all-summed : (t : Table) (codes : List ℕ) (i sum : ℕ) → HasSummed t codes i sum → length codes ≤ i →
+    (ds : List Diagram) → AllZip (IsShown t) codes ds → sum ≡ sum_by element_count ds
+all-summed t codes i sum h done ds shown =
+    h.first ds shown ∙ ap (sum_by element_count) (zip_whole (IsShown t) codes ds i shown done).0
+
+-- a code that shows something is below the number of records, counted from 2,050 on
+code-below : (t : Table) → IsTable t → (c : ℕ) → IsKnown t c → c < 2050 + t.records
+code-below t table c k =
+    go (code-of_node t.vtree (get t.linked) table.numbered c k.diagram k.is.shows)
+  where
+    linked : (n : ℕ) (o : Option (ℕ × List (ℕ × ℕ))) → get t.linked n ≡ o → IsSome o → n < t.records
+    linked n None e some = cc
+    linked n (Some key) e some = table.within n key (linked_key t n key e)
+
+    go : (c < 2 * leaves (forget t.vtree) + 2) ⊎ ((n : ℕ) × (c ≡ 2050 + n) × IsSome (get t.linked n)) →
+        c < 2050 + t.records
+    go (inl low) = omega (arith, table.numbered.few)
+    go (inr n) = omega (arith, n.1, linked n.0 (get t.linked n.0) refl n.2)
+
+-- so different codes are no more than that
+pub few-listed : (t : Table) → IsTable t → (codes : List ℕ) → AreDistinct codes → AllByRecursion (IsKnown t) codes →
+    length codes ≤ 2050 + t.records
+few-listed t table codes differ known =
+    omega (
+      arith,
+      length-within codes (range_with_len 0 (2050 + t.records)) differ
+          (all-from (λ c. IsAmong c (range_with_len 0 (2050 + t.records))) codes each),
+      length-range_with_len 0 (2050 + t.records),
+    )
+  where
+    each : (c : ℕ) → IsAmong c codes → IsAmong c (range_with_len 0 (2050 + t.records))
+    each c m =
+        let low : c < 2050 + t.records = code-below t table c (all-at (IsKnown t) codes c known m) in
+        among-from_contains (range_with_len 0 (2050 + t.records)) c (
+          c,
+          omega (arith, low, length-range_with_len 0 (2050 + t.records)),
+          get_or-range_with_len 0 (2050 + t.records) c c low ∙ omega arith,
+        )
+
+-- one node more fits
+pub sum-fits : (t : Table) → IsTable t → (codes : List ℕ) → AreDistinct codes → AllByRecursion (IsKnown t) codes →
+    (i sum n : ℕ) → HasSummed t codes i sum → i < length codes → n < 2 ^ 32 → sum + n < 2 ^ 64
+sum-fits t table codes differ known i sum n h inside few =
+    let short = few-listed t table codes differ known in
+    let fits = table.records_fit in
+    let bounded = table.bounded in
+    let bound = table.bound_fits in
+    omega (arith, short, fits, bounded, bound, h.bound, inside, few)
+
+-- what is known of each is known of the one at a place
+pub known-at : (t : Table) (codes : List ℕ) (i c : ℕ) → AllByRecursion (IsKnown t) codes → i < length codes →
+    c ≡ get_or codes i c → IsKnown t c
+known-at t [] i c h inside at = absurd (omega arith)
+known-at t (b ∷ codes) zero c h inside at = subst (IsKnown t) (sym at) h.0
+known-at t (b ∷ codes) (suc i) c h inside at = known-at t codes i c h.1 (omega arith) at
+
+-- what was added to an empty list
+listed-all : (t : Table) (old new codes : List ℕ) (d : Diagram) → old ≡ [] → Adds t old new (walk d) → codes ≡ new →
+    AreListed t codes (walk d)
+listed-all t old new codes d none adds same =
+    subst (λ l. AreListed t l (walk d)) (sym same)
+    (adds [] (subst (λ l. AreListed t l []) (sym none) (listed-empty t)))
+
+-- shows the distinct diagrams
+pub all-below : (t : Table) → IsTable t → (old new codes : List ℕ) (d : Diagram) → old ≡ [] →
+    Adds t old new (walk d) → codes ≡ new → AreBelow t codes d
+all-below t table old new codes d none adds same =
+    are-below t table codes d (listed-all t old new codes d none adds same)
+
+-- by different codes
+pub all-distinct : (t : Table) (old new codes : List ℕ) (d : Diagram) → old ≡ [] → Adds t old new (walk d) →
+    codes ≡ new → AreDistinct codes
+all-distinct t old new codes d none adds same = (listed-all t old new codes d none adds same).distinct

@@ -1,0 +1,7 @@
+use Rattle.sd_manager.proofs.Reading.{shown_has_node}
+use Rattle.sd_size.proofs.size.elements_of.Goals as goal
+
+pub view-requires : goal.view-requires
+view-requires c =
+    shown_has_node c.args.m.now c.requires.table.numbered c.args.node c.requires.known.diagram
+    c.requires.known.is.shows
