@@ -1,22 +1,27 @@
 -- What an accepted text says: literals are in range, and children are earlier nodes.
 use Rattle.std.proofs.Common.{◌≡◌, ℕ, zero, suc, ◌+◌, ◌≤◌, ◌<◌, ◌==◌, Bool, true, false, not, ◌&&◌, List, [], ◌∷◌, ◌++◌}
 use Rattle.std.proofs.Common.{map, length}
-use Rattle.std.proofs.Common.{Option, Some, None, ok_or, Result, Ok, Err, refl, ap, subst, arith, ℤ, unsigned_abs}
+use Rattle.std.proofs.Common.{Option, Some, None, ok_or, Result, Ok, Err, refl, sym, ap, subst, arith, ℤ, unsigned_abs}
 use Rattle.std.proofs.Common.{slice_get, slice_index_or}
 use Rattle.std.specs.Prelude.{nat_le, is_some}
 use Rattle.std.specs.List.{AllByRecursion}
 use Rattle.std.proofs.lemmas.Bool.{leb-true}
-use Rattle.std.proofs.lemmas.List.{length-map}
+use Rattle.std.proofs.lemmas.List.{length-map, map_push}
 use Rattle.std.proofs.lemmas.List.Quantifiers.{position-Some}
 use Rattle.sd_base.specs.Lines.{TextLine}
 use Rattle.sd_base.specs.Reading.{◌>>=◌, ◌>>◌, fault_if, each, each_after, read_more}
 use Rattle.sd_file.specs.declared.fault.SddFault.{SddFault}
 use Rattle.sd_file.specs.declared.fault.SddFault.TheVariants.{BadLine, IdTwice, ChildUnknown, LiteralRange}
-use Rattle.sd_file.specs.Files.{IsEarlier, FitsAt, FitFrom, IsFile, no_entry, entry_at, pairs_in, pairs_at}
+use Rattle.sd_model.specs.Tree.{AreDistinct}
+use Rattle.sd_file.specs.declared.file.FileNode.{FileNode}
+use Rattle.sd_file.specs.Files.{IsEarlier, FitsAt, FitFrom, IsFile, IsKindOver, kind_of}
+use Rattle.sd_file.specs.Files.{no_entry, entry_at, pairs_in, pairs_at}
 use Rattle.sd_file.specs.Reads.{Node, Constant, Literal, Decomposition, Entry, Form, ConstantForm, LiteralForm}
 use Rattle.sd_file.specs.Reads.{DecompositionForm, id_of, form_of, place_of, pair_at, is_literal, node_of}
 use Rattle.sd_file.specs.Reads.{File, entry_with, entry_of}
-use Rattle.sd_file.proofs.Growing.{two}
+use Rattle.sd_file.proofs.Growing.{two, each_length}
+use Rattle.sd_file.proofs.FormPairs.{HasPairs, form_pairs}
+use Rattle.sd_file.proofs.Distinct.{distinct_push, not_among}
 
 -- ---- steps that came to an end
 
@@ -96,22 +101,28 @@ literal_in_range v z h =
     both_true false c e = absurd cc
 
 -- a node that was read fits behind the earlier ones
-node_fits : (v : ℕ) (ids : List ℕ) (line : ℕ) (form : Form) (node : Node) → node_of v ids line form ≡ Ok node
-    → FitsAt v (length ids) node
-node_fits v ids line (ConstantForm id value) node h =
+node_fits : (v : ℕ) (ids : List ℕ) (line : ℕ) (form : Form) (node : Node) → HasPairs form
+    → node_of v ids line form ≡ Ok node → FitsAt v (length ids) node
+node_fits v ids line (ConstantForm id value) node some h =
     subst (FitsAt v (length ids)) (ends_at (Constant value) node h) tt
-node_fits v ids line (LiteralForm id vtree z) node h =
+node_fits v ids line (LiteralForm id vtree z) node some h =
     let tested = past (not (is_literal v z)) (LiteralRange line) (Ok (Literal vtree z)) node h in
     subst (FitsAt v (length ids)) (ends_at (Literal vtree z) node tested.1) (literal_in_range v z tested.0)
-node_fits v ids line (DecompositionForm id vtree pairs) node h =
+node_fits v ids line (DecompositionForm id vtree pairs) node some h =
     let read = through (each (pair_at ids line) pairs) (λ places. Ok (Decomposition vtree places)) node h in
     let below = pair_below ids line in
     let earlier = each_all (pair_at ids line) (IsEarlier (length ids)) below pairs read.middle read.gave in
-    subst (FitsAt v (length ids)) (ends_at (Decomposition vtree read.middle) node read.led) earlier
+    let filled : 1 ≤ length read.middle =
+    omega (arith, each_length (pair_at ids line) pairs read.middle read.gave, some) in
+    subst (FitsAt v (length ids)) (ends_at (Decomposition vtree read.middle) node read.led) (filled, earlier)
 
--- and so does the entry of a line
-entry_fits : (v : ℕ) (ids : List ℕ) (line : TextLine) (e : Entry) → entry_with v ids line ≡ Ok e
-    → FitsAt v (length ids) e.node
+-- an entry that fits behind others, and has an id of its own
+record IsNext (v : ℕ) (ids : List ℕ) (e : Entry) : Type 0 where
+  pub fits : FitsAt v (length ids) e.node
+  pub new : is_some (place_of e.id ids) ≡ false
+
+-- the entry of a line does
+entry_fits : (v : ℕ) (ids : List ℕ) (line : TextLine) (e : Entry) → entry_with v ids line ≡ Ok e → IsNext v ids e
 entry_fits v ids line e h =
     let node = λ (form : Form). node_of v ids line.number form in
     let entry : Form → Node → Result Entry SddFault = λ form node. Ok (record { id = id_of form; node = node }) in
@@ -122,7 +133,9 @@ entry_fits v ids line e h =
     let new = past (known form) (IdTwice line.number) (node form >>= entry form) e formed.led in
     let read = through (node form) (entry form) e new.1 in
     let is = ends_at (record { id = id_of form; node = read.middle }) e read.led in
-    subst (λ (x : Entry). FitsAt v (length ids) x.node) is (node_fits v ids line.number form read.middle read.gave)
+    let some = form_pairs line.words form (had (form_of line.words) (BadLine line.number) form formed.gave) in
+    subst (IsNext v ids) is
+    (record { fits = node_fits v ids line.number form read.middle some read.gave; new = new.0 })
 
 -- ---- all lines
 
@@ -133,19 +146,35 @@ fit_push v index [] e fit here = (subst (λ i. FitsAt v i e.node) (omega arith) 
 fit_push v index (x ∷ es) e fit here =
     (fit.0, fit_push v (1 + index) es e fit.1 (subst (λ i. FitsAt v i e.node) (omega arith) here))
 
--- what fits stays so to the last line
-pub after_fits : (v : ℕ) (lines : List TextLine) (earlier all : List Entry) → FitFrom v 0 earlier
-    → each_after (entry_of v) earlier lines ≡ Ok all → FitFrom v 0 all
-after_fits v [] earlier all fit h = subst (FitFrom v 0) (ends_at earlier all h) fit
-after_fits v (line ∷ lines) earlier all fit h =
+-- the ids of entries
+abbrev ids_in : List Entry → List ℕ
+ids_in es = map (λ e. e.id) es
+
+-- entries that fit, of distinct ids
+pub record AreEntries (v : ℕ) (es : List Entry) : Type 0 where
+  pub fit : FitFrom v 0 es
+  pub distinct : AreDistinct (ids_in es)
+
+-- none yet
+pub no_entries : {v : ℕ} → AreEntries v []
+no_entries = record { fit = tt; distinct = tt }
+
+-- they stay so to the last line
+pub after_fits : (v : ℕ) (lines : List TextLine) (earlier all : List Entry) → AreEntries v earlier
+    → each_after (entry_of v) earlier lines ≡ Ok all → AreEntries v all
+after_fits v [] earlier all are h = subst (AreEntries v) (ends_at earlier all h) are
+after_fits v (line ∷ lines) earlier all are h =
     let more = through (read_more (entry_of v) earlier line) (λ now. each_after (entry_of v) now lines) all h in
     let read = through (entry_of v earlier line) (λ e. Ok (earlier ++ e ∷ [])) more.middle more.gave in
-    let here = entry_fits v (map (λ e. e.id) earlier) line read.middle read.gave in
-    let count : length (map (λ (e : Entry). e.id) earlier) ≡ 0 + length earlier =
+    let here = entry_fits v (ids_in earlier) line read.middle read.gave in
+    let count : length (ids_in earlier) ≡ 0 + length earlier =
     omega (arith, length-map earlier (λ (e : Entry). e.id)) in
-    let at = subst (λ n. FitsAt v n read.middle.node) count here in
-    let now = subst (FitFrom v 0) (ends_at (earlier ++ read.middle ∷ []) more.middle read.led)
-    (fit_push v 0 earlier read.middle fit at) in
+    let at = subst (λ n. FitsAt v n read.middle.node) count here.fits in
+    let other = not_among read.middle.id (ids_in earlier) here.new in
+    let ids = subst AreDistinct (sym (map_push (λ (e : Entry). e.id) earlier read.middle))
+    (distinct_push (ids_in earlier) read.middle.id are.distinct other) in
+    let now = subst (AreEntries v) (ends_at (earlier ++ read.middle ∷ []) more.middle read.led)
+    (record { fit = fit_push v 0 earlier read.middle are.fit at; distinct = ids }) in
     after_fits v lines more.middle all now more.led
 
 -- ---- the node of a number
@@ -170,7 +199,20 @@ all_at P (y ∷ ys) (suc i) x all at = all_at P ys i x all.1 at
 pairs_earlier : (v index : ℕ) (node : Node) → FitsAt v index node → AllByRecursion (IsEarlier index) (pairs_in node)
 pairs_earlier v index (Constant value) fit = tt
 pairs_earlier v index (Literal vtree literal) fit = tt
-pairs_earlier v index (Decomposition vtree pairs) fit = fit
+pairs_earlier v index (Decomposition vtree pairs) fit = fit.1
+
+-- what a node shows of itself fits
+kind_fits : (v index : ℕ) (node : Node) → FitsAt v index node → IsKindOver v (kind_of node)
+kind_fits v index (Constant value) fit = tt
+kind_fits v index (Literal vtree literal) fit = fit
+kind_fits v index (Decomposition vtree pairs) fit = fit.0
+
+-- and so does the node of a number
+pub kind_at : (f : File) (i : ℕ) (kind : FileNode) → IsFile f → i < length f.nodes
+    → kind ≡ kind_of (entry_at f i).node → IsKindOver f.variables kind
+kind_at f i kind is below same =
+    subst (IsKindOver f.variables) (sym same)
+    (kind_fits f.variables (0 + i) (entry_at f i).node (fit_at f.variables 0 f.nodes i is.fit below))
 
 -- the pair of an element
 pub earlier_at : (f : File) (i j : ℕ) (pair : ℕ × ℕ) → IsFile f → i < length f.nodes

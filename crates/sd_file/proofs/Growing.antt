@@ -54,7 +54,7 @@ pair_step ids line (prime ∷ sub ∷ others) front p s h prime-is sub-is =
 -- ---- a decomposition
 
 -- as many results as there are elements
-each_length : {A B E : Type 0} (f : A → Result B E) (xs : List A) (ys : List B) → each f xs ≡ Ok ys
+pub each_length : {A B E : Type 0} (f : A → Result B E) (xs : List A) (ys : List B) → each f xs ≡ Ok ys
     → length ys ≡ length xs
 each_length f [] ys h = cc
 each_length {A} {B} {E} f (x ∷ xs) ys h = go_on (f x) (each f xs) (each_length f xs) h

@@ -1,6 +1,7 @@
 -- What the nodes of a file show of themselves, and what is known of each.
-use Rattle.std.specs.Prelude.{ℕ, ◌+◌, ◌≤◌, ◌<◌, false, List, [], ◌∷◌, length, slice_index_or, unsigned_abs}
+use Rattle.std.specs.Prelude.{ℕ, ◌+◌, ◌≤◌, ◌<◌, false, List, [], ◌∷◌, map, length, slice_index_or, unsigned_abs}
 use Rattle.std.specs.List.{AllByRecursion}
+use Rattle.sd_model.specs.Tree.{AreDistinct}
 use Rattle.sd_file.specs.declared.file.FileNode.{FileNode}
 use Rattle.sd_file.specs.declared.file.FileNode.TheVariants as kinds
 use Rattle.sd_file.specs.Reads.{Node, Constant, Literal, Decomposition, Entry, File}
@@ -36,21 +37,28 @@ pub record IsEarlier (index : ℕ) (pair : ℕ × ℕ) : Type 0 where
   pub prime : pair.0 < index
   pub sub : pair.1 < index
 
--- a literal is of a variable of 1 to v, and primes and subs are earlier nodes
+-- a literal is of a variable of 1 to v, and a decomposition has pairs, all of earlier nodes
 abbrev pub FitsAt : ℕ → ℕ → Node → Type 0
 FitsAt v index (Constant value) = Unit {0}
 FitsAt v index (Literal vtree literal) = (1 ≤ unsigned_abs literal) × (unsigned_abs literal ≤ v)
-FitsAt v index (Decomposition vtree pairs) = AllByRecursion (IsEarlier index) pairs
+FitsAt v index (Decomposition vtree pairs) = (1 ≤ length pairs) × AllByRecursion (IsEarlier index) pairs
 
 -- this is so of each entry, where the first has a number
 abbrev pub FitFrom : ℕ → ℕ → List Entry → Type 0
 FitFrom v index [] = Unit {0}
 FitFrom v index (e ∷ es) = FitsAt v index e.node × FitFrom v (1 + index) es
 
--- 1 to 1,024 variables, 1 to 67,108,864 nodes, and each fits behind the earlier ones
+-- 1 to 1,024 variables, 1 to 67,108,864 nodes of distinct ids, and each fits behind the earlier ones
 pub record IsFile (f : File) : Type 0 where
   pub some : 1 ≤ f.variables
   pub few : f.variables ≤ 1024
   pub filled : 1 ≤ length f.nodes
   pub count : length f.nodes ≤ 67108864
   pub fit : FitFrom f.variables 0 f.nodes
+  pub distinct : AreDistinct (map (λ e. e.id) f.nodes)
+
+-- what a node shows of itself fits: a literal is of a variable of 1 to v, and a decomposition has pairs
+abbrev pub IsKindOver : ℕ → FileNode → Type 0
+IsKindOver v (kinds.Constant value) = Unit {0}
+IsKindOver v (kinds.Literal vtree literal) = (1 ≤ unsigned_abs literal) × (unsigned_abs literal ≤ v)
+IsKindOver v (kinds.Decomposition vtree count) = 1 ≤ count

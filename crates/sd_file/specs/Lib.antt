@@ -1,3 +1,4 @@
+pub mod Built
 pub mod Files
 pub mod Reads
 pub mod RoundTrip

@@ -1,7 +1,7 @@
 //! The nodes of an SDD file.
 
 ghost use Rattle.std.specs.Prelude.{◌≡◌, ◌<◌, ◌≤◌, length, slice_get, Some};
-ghost use Rattle.sd_file.specs.Files.{entry_at, pairs_at, kind_of, IsEarlier, IsFile};
+ghost use Rattle.sd_file.specs.Files.{entry_at, pairs_at, kind_of, IsEarlier, IsFile, IsKindOver};
 
 use std::marker::Model;
 
@@ -61,6 +61,7 @@ impl SddFile {
     pub fn nodes(&self) -> u32
         ensures value { result ≡ length self.now.nodes }
         ensures range { (1 ≤ result) × (result ≤ 67108864) }
+        ensures file { IsFile self.now }
     {
         self.kept.len() as u32
     }
@@ -73,10 +74,20 @@ impl SddFile {
         self.kept[index as usize].id
     }
 
-    /// What a node is, counted from 0.
+    /// What a node is, counted from 0: a literal is in range, and a decomposition has pairs.
     pub fn node(&self, index: u32) -> FileNode
         requires { index < length self.now.nodes }
-        ensures { result ≡ kind_of (entry_at self.now index).node }
+        ensures value { result ≡ kind_of (entry_at self.now index).node }
+        ensures fits { IsKindOver self.now.variables result }
+    {
+        self.node_in(index)
+    }
+
+    /// The node of a number.
+    fn node_in(&self, index: u32) -> FileNode
+        requires { index < length self.now.nodes }
+        ensures value { result ≡ kind_of (entry_at self.now index).node }
+        ensures file { IsFile self.now }
     {
         self.kept[index as usize].node
     }

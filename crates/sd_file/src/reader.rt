@@ -1,9 +1,10 @@
 //! The nodes of a text, line by line.
 
-ghost use Rattle.std.specs.Prelude.{◌≡◌, ◌≤◌, ◌+◌, ◌++◌, [], ◌∷◌, length, Ok, OnOk, IfOk, IfErr};
+ghost use Rattle.std.specs.Prelude.{◌≡◌, ◌≤◌, ◌+◌, ◌++◌, [], ◌∷◌, map, length, Ok, OnOk, IfOk, IfErr};
 ghost use Rattle.std.specs.List.{AllByRecursion};
 ghost use Rattle.sd_base.specs.Reading.{each_after, read_more};
 ghost use Rattle.sd_base.specs.Views.{line_view, content_left};
+ghost use Rattle.sd_model.specs.Tree.{AreDistinct};
 ghost use Rattle.sd_file.specs.Files.{FitFrom, IsFile};
 ghost use Rattle.sd_file.specs.Reads as texts;
 ghost use Rattle.sd_file.specs.Reads.{Fails, Gives, sdd_file};
@@ -110,6 +111,7 @@ pub fn read_sdd(alloc: Global, bytes: &[u8], variables: u32) -> Result<SddFile, 
     requires short { length bytes.now ≤ 67108864 }
     ensures ok { IfOk result (λ f. sdd_file variables bytes.now ≡ Ok f) }
     ensures fault { IfErr result (λ e. Fails e (sdd_file variables bytes.now)) }
+    ensures variables { IfOk result (λ f. f.variables ≡ variables) }
     ensures fit { IfOk result IsFile }
 {
     read_text(alloc, bytes, variables)
@@ -121,7 +123,8 @@ fn read_text(alloc: Global, bytes: &[u8], variables: u32) -> Result<SddFile, Sdd
     requires some { 1 ≤ variables }
     requires few { variables ≤ 1024 }
     requires short { length bytes.now ≤ 67108864 }
-    ensures { Gives (λ f. f) result (sdd_file variables bytes.now) }
+    ensures value { Gives (λ f. f) result (sdd_file variables bytes.now) }
+    ensures variables { IfOk result (λ f. f.variables ≡ variables) }
 {
     let mut lines = ContentLines::new(bytes, b'c');
     let Some(header) = lines.next() else {
@@ -140,8 +143,10 @@ fn finish(variables: u32, stated: u64, nodes: Nodes) -> Result<SddFile, SddFault
     requires range { variables ≤ 1024 }
     requires few { length nodes.known.kept.items ≤ 67108864 }
     requires fit { FitFrom variables 0 (nodes_view nodes) }
+    requires distinct { AreDistinct (map (λ e. e.id) (nodes_view nodes)) }
     requires read { IsRead nodes }
-    ensures { Gives (λ f. f) result (texts.finish variables stated (nodes_view nodes)) }
+    ensures value { Gives (λ f. f) result (texts.finish variables stated (nodes_view nodes)) }
+    ensures variables { IfOk result (λ f. f.variables ≡ variables) }
 {
     let known = nodes.known;
     let kept = known.kept;

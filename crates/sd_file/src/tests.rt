@@ -1,5 +1,16 @@
+ghost use Rattle.std.specs.Prelude.{◌≡◌, ◌≤◌, ◌<◌, ◌^◌, IfOk};
+ghost use Rattle.sd_model.specs.Tree.{leaves};
+ghost use Rattle.sd_model.specs.StartTrees.{balanced_tree};
+ghost use Rattle.sd_vtree.specs.Numbered.{forget};
+ghost use Rattle.sd_apply.specs.Serving.{Serves};
+
 use super::*;
-use std::alloc::Global;
+use sd_apply::{and, or};
+use sd_cache::Cache;
+use sd_manager::{Manager, NodeId};
+use sd_runs::TakeError;
+use sd_vtree::Vtree;
+use std::alloc::{AllocError, Global};
 use std::ops::Range;
 use std::test::Fail;
 
@@ -9,6 +20,9 @@ const ELSEWHERE: &[u8] = b"c made elsewhere\nsdd 4\nL 0 9 1\nL 1 9 -1\nL 3 7 2\n
 /// The text of `(1 and 2) or (3 and 4)` over the balanced tree.
 const TWO_PAIRS: &[u8] = b"sdd 13\nL 0 0 -1\nF 1\nL 2 0 1\nL 3 2 2\nD 4 1 2 0 1 2 3\nT 5\n\
     L 6 2 -2\nD 7 1 2 0 5 2 6\nL 8 4 -3\nL 9 4 3\nL 10 6 4\nD 11 5 2 8 1 9 10\nD 12 3 2 4 5 7 11\n";
+
+/// The conjunction of the variables 1 and 2 in one pair, which is no partition.
+const ONE_PAIR: &[u8] = b"sdd 3\nL 0 0 1\nL 1 2 2\nD 2 1 1 0 1\n";
 
 const fn bad(line: u32) -> SddFault {
     SddFault::BadLine { line }
@@ -145,4 +159,61 @@ fn nothing_missing(rt: HostRuntime) {
     for length in [141, 142, 143] {
         assert!(rt; read_prefix(rt.alloc(), length).is_ok(), "{length}");
     }
+}
+
+/// A manager over the balanced vtree of the variables, and a new cache.
+fn balanced(alloc: Global, variables: u32, bound: u32) -> Result<(Manager, Cache), AllocError>
+    requires some { 1 ≤ variables }
+    requires few { variables ≤ 1024 }
+    requires bound { bound < 2 ^ 31 }
+    ensures tree { IfOk result (λ r. forget r.0.vtree ≡ balanced_tree variables) }
+    ensures serves { IfOk result (λ r. Serves r.1 r.0) }
+{
+    let vtree = Vtree::balanced(alloc, variables)?;
+    let m = Manager::new(alloc, vtree, bound)?;
+    let c = Cache::new(alloc)?;
+    Ok((m, c))
+}
+
+/// The file of another tool has the value of the literal 2.
+#[test]
+fn value_of_a_literal(rt: HostRuntime) -> Result<(), Fail> {
+    let file = read_sdd(rt.alloc(), ELSEWHERE, 2)?;
+    let (mut m, mut c) = balanced(rt.alloc(), 2, 100)?;
+    let two = m.literal(2);
+    let node = build(rt.alloc(), &mut m, &mut c, &file)?;
+    assert_eq!(rt; node, two);
+    Ok(())
+}
+
+/// The node of `(1 and 2) or (3 and 4)`.
+fn two_pairs(alloc: Global, m: &mut Manager, c: &mut Cache) -> Result<NodeId, TakeError>
+    requires four { leaves (forget m.old.vtree) ≡ 4 }
+    requires serves { Serves c.old m.old }
+{
+    let (one, two) = (m.literal(1), m.literal(2));
+    let (three, four) = (m.literal(3), m.literal(4));
+    let first = and(alloc, m, c, one, two)?;
+    let second = and(alloc, m, c, three, four)?;
+    or(alloc, m, c, first, second)
+}
+
+#[test]
+fn value_of_two_pairs(rt: HostRuntime) -> Result<(), Fail> {
+    let file = read_sdd(rt.alloc(), TWO_PAIRS, 4)?;
+    let (mut m, mut c) = balanced(rt.alloc(), 4, 100)?;
+    let node = build(rt.alloc(), &mut m, &mut c, &file)?;
+    let expected = two_pairs(rt.alloc(), &mut m, &mut c)?;
+    assert_eq!(rt; node, expected);
+    Ok(())
+}
+
+/// An arena of one element has no room for the two elements of a conjunction.
+#[test]
+fn no_room_for_a_node(rt: HostRuntime) -> Result<(), Fail> {
+    let file = read_sdd(rt.alloc(), ONE_PAIR, 2)?;
+    let (mut m, mut c) = balanced(rt.alloc(), 2, 1)?;
+    let full = Err(TakeError::ArenaFull { elements: 2 });
+    assert_eq!(rt; build(rt.alloc(), &mut m, &mut c, &file), full);
+    Ok(())
 }

@@ -1,0 +1,127 @@
+//! The node of a file: each of its nodes is built of earlier ones.
+
+ghost use Rattle.std.specs.Prelude.{◌≡◌, ◌≤◌, ◌<◌, length, IfOk, IfErr};
+ghost use Rattle.std.specs.List.{list_any};
+ghost use Rattle.sd_model.specs.Tree.{leaves};
+ghost use Rattle.sd_model.specs.Expression.{expression_value};
+ghost use Rattle.sd_vtree.specs.Numbered.{forget};
+ghost use Rattle.sd_manager.specs.Valid.{IsTable};
+ghost use Rattle.sd_manager.specs.Making.{Extends, KeepsRule};
+ghost use Rattle.sd_apply.specs.Answers.{HasAnswer};
+ghost use Rattle.sd_apply.specs.Serving.{Serves};
+ghost use Rattle.sd_file.specs.Built.{AreBuilt, value_at, pair_value};
+ghost use Rattle.sd_file.specs.Files.{pairs_at, IsFile};
+ghost use Rattle.sd_file.specs.Reads.{expression_of};
+
+use crate::file::{FileNode, SddFile};
+use sd_apply::{and, or};
+use sd_cache::Cache;
+use sd_manager::{Manager, NodeId};
+use sd_runs::TakeError;
+use std::alloc::Global;
+
+/// The node with the value of a file, which need not be a partition, compressed or trimmed. It refuses as
+/// `sd_apply::and`.
+pub fn build(
+    alloc: Global,
+    m: &mut Manager,
+    c: &mut Cache,
+    file: &SddFile,
+) -> Result<NodeId, TakeError>
+    requires variables { leaves (forget m.old.vtree) ≡ file.now.variables }
+    requires serves { Serves c.old m.old }
+    ensures ok { IfOk result (λ node. HasAnswer m.new (expression_value (expression_of file.now)) node) }
+    ensures kept { Extends m.old m.new }
+    ensures serves { Serves c.new m.new }
+    ensures rule { IfErr result (λ e. KeepsRule m.new e) }
+    ensures table { IsTable m.new }
+{
+    let built = build_nodes(alloc, m, c, file)?;
+    Ok(built[built.len() - 1])
+}
+
+/// The nodes of all nodes of a file, in order.
+fn build_nodes(
+    alloc: Global,
+    m: &mut Manager,
+    c: &mut Cache,
+    file: &SddFile,
+) -> Result<Vec<NodeId>, TakeError>
+    requires variables { leaves (forget m.old.vtree) ≡ file.now.variables }
+    requires serves { Serves c.old m.old }
+    ensures ok { IfOk result (λ built. AreBuilt m.new file.now built.items) }
+    ensures all { IfOk result (λ built. length built.items ≡ length file.now.nodes) }
+    ensures file { IsFile file.now }
+    ensures kept { Extends m.old m.new }
+    ensures serves { Serves c.new m.new }
+    ensures rule { IfErr result (λ e. KeepsRule m.new e) }
+    ensures table { IsTable m.new }
+{
+    let _ = m.vtree();
+    let count = file.nodes();
+    let mut built = Vec::with_capacity(alloc, count as usize)?;
+    for index in 0..count {
+        let node = node_of(alloc, m, c, file, index, &built)?;
+        built.push(node)?;
+    }
+    Ok(built)
+}
+
+/// The node of a file's node, of which the earlier ones are built.
+fn node_of(
+    alloc: Global,
+    m: &mut Manager,
+    c: &mut Cache,
+    file: &SddFile,
+    index: u32,
+    built: &[NodeId],
+) -> Result<NodeId, TakeError>
+    requires variables { leaves (forget m.old.vtree) ≡ file.now.variables }
+    requires file { IsFile file.now }
+    requires index { index < length file.now.nodes }
+    requires built { AreBuilt m.old file.now built.now }
+    requires all { length built.now ≡ index }
+    requires serves { Serves c.old m.old }
+    ensures ok { IfOk result (λ node. HasAnswer m.new (value_at file.now index) node) }
+    ensures kept { Extends m.old m.new }
+    ensures serves { Serves c.new m.new }
+    ensures rule { IfErr result (λ e. KeepsRule m.new e) }
+    ensures table { IsTable m.new }
+{
+    match file.node(index) {
+        FileNode::Constant(value) => Ok(m.constant(value)),
+        FileNode::Literal { literal, .. } => Ok(m.literal(literal)),
+        FileNode::Decomposition { count, .. } => join(alloc, m, c, file, index, count, built),
+    }
+}
+
+/// The disjunction of the pairs of a file's node, each the conjunction of its prime and its sub.
+fn join(
+    alloc: Global,
+    m: &mut Manager,
+    c: &mut Cache,
+    file: &SddFile,
+    index: u32,
+    count: u32,
+    built: &[NodeId],
+) -> Result<NodeId, TakeError>
+    requires index { index < length file.now.nodes }
+    requires count { count ≡ length (pairs_at file.now index) }
+    requires built { AreBuilt m.old file.now built.now }
+    requires all { length built.now ≡ index }
+    requires serves { Serves c.old m.old }
+    ensures ok { IfOk result (λ node.
+        HasAnswer m.new (λ given. list_any (pair_value file.now given) (pairs_at file.now index)) node) }
+    ensures kept { Extends m.old m.new }
+    ensures serves { Serves c.new m.new }
+    ensures rule { IfErr result (λ e. KeepsRule m.new e) }
+    ensures table { IsTable m.new }
+{
+    let mut node = m.constant(false);
+    for element in 0..count {
+        let (prime, sub) = file.pair(index, element);
+        let product = and(alloc, m, c, built[prime as usize], built[sub as usize])?;
+        node = or(alloc, m, c, node, product)?;
+    }
+    Ok(node)
+}
