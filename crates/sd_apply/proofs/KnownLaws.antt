@@ -115,19 +115,19 @@ xor_true : (u : Bool) → not u ≡ combine Xor u true
 xor_true true = refl
 xor_true false = refl
 
-opposite_and : (u : Bool) → false ≡ combine And u (not u)
+pub opposite_and : (u : Bool) → false ≡ combine And u (not u)
 opposite_and true = refl
 opposite_and false = refl
 
-opposite_or : (u : Bool) → true ≡ combine Or u (not u)
+pub opposite_or : (u : Bool) → true ≡ combine Or u (not u)
 opposite_or true = refl
 opposite_or false = refl
 
-opposite_xor : (u : Bool) → true ≡ combine Xor u (not u)
+pub opposite_xor : (u : Bool) → true ≡ combine Xor u (not u)
 opposite_xor true = refl
 opposite_xor false = refl
 
-not_not : (u : Bool) → u ≡ not (not u)
+pub not_not : (u : Bool) → u ≡ not (not u)
 not_not true = refl
 not_not false = refl
 

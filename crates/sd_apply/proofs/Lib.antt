@@ -10,3 +10,4 @@ pub mod Served
 pub mod Expanding
 pub mod Whole
 pub mod Tried
+pub mod Opposite

@@ -5,8 +5,7 @@ use Rattle.std.specs.FinMap.{get}
 use Rattle.std.specs.Map.{lookup}
 use Rattle.sd_model.specs.declared.trees.Operation.{Operation}
 use Rattle.sd_model.specs.declared.trees.Operation.TheVariants.{And, Or, Xor}
-use Rattle.sd_model.specs.Diagram.{Diagram, Bottom, meaning}
-use Rattle.sd_model.specs.Canonical.{canonical_bottom}
+use Rattle.sd_model.specs.Diagram.{Diagram, meaning}
 use Rattle.sd_model.specs.Expression.{combine}
 use Rattle.sd_cache.specs.Entries.{Call, Entries, call, is_call, kept, looked}
 use Rattle.sd_cache.proofs.Callers.{found-entry, looked-entry, kept-entry}
@@ -52,7 +51,7 @@ serves-look c c1 t k e h =
       right = λ n x m. h.right n x (looked-entry c k x m);
     })
 
-right-same : (t : Table) (e f : Call) (r s : ℕ) → e.operation ≡ f.operation → e.a ≡ f.a →
+pub right-same : (t : Table) (e f : Call) (r s : ℕ) → e.operation ≡ f.operation → e.a ≡ f.a →
     e.b ≡ f.b → r ≡ s →
     IsRight t (f, s) → IsRight t (e, r)
 right-same t e f r s o a b n h =
@@ -67,7 +66,7 @@ right-same t e f r s o a b n h =
     }
 
 -- the answer that was looked up
-looked-right : (c : Entries) (t : Table) (n a b r : ℕ) → Serves c t → t.epoch < 72057594037927936 →
+pub looked-right : (c : Entries) (t : Table) (n a b r : ℕ) → Serves c t → t.epoch < 72057594037927936 →
     lookup (is_call (call t.epoch n a b)) c ≡ Some r → IsRight t (call t.epoch n a b, r)
 looked-right c t n a b r h early e =
     let k = call t.epoch n a b in
@@ -172,19 +171,4 @@ applies-right old new o n epoch v a b r x y z e same ex ey ez p q h =
         value = λ g. k.value g ∙ sym (value-number o p.diagram q.diagram g)
             ∙ ap (λ m. operation_value m p.diagram q.diagram g) (sym same);
       };
-    })
-
-pub complements-right : (old new : Table) (epoch v a r x z : ℕ) → Extends old new → x ≡ a →
-    z ≡ r → IsBelow old v a →
-    Complements old new v a r → IsRight new (call epoch 3 x 0, z)
-complements-right old new epoch v a r x z e ex ez p h =
-    let k = h.each p.diagram p.is in
-    right-same new (call epoch 3 x 0) (call epoch 3 a 0) z r refl ex refl ez
-    (record {
-      known = omega arith;
-      first = p.diagram;
-      second = Bottom;
-      first_is = shown-on old new e a p.diagram (shown old v a p.diagram p.is);
-      second_is = record { shows = refl; canonical = canonical_bottom };
-      answer = record { diagram = k.diagram; is = k.is; value = k.value };
     })

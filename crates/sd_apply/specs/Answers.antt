@@ -18,8 +18,7 @@ pub record HasAnswer (t : Table) (f : List Bool → Bool) (c : ℕ) : Type 0 whe
   pub value : (a : List Bool) → meaning diagram a ≡ f a
 
 -- The code shows a canonical diagram that has the value of the connective at x and y, and that
--- stands below each vtree
--- node below which both x and y stand.
+-- stands below each vtree node below which both x and y stand.
 pub record IsCombination (t : Table) (o : Operation) (x y : Diagram) (c : ℕ) : Type 0 where
   pub diagram : Diagram
   pub is : IsShown t c diagram
@@ -32,8 +31,7 @@ pub record Combines (old new : Table) (o : Operation) (a b c : ℕ) : Type 0 whe
   pub each : (x y : Diagram) → IsShown old a x → IsShown old b y → IsCombination new o x y c
 
 -- the code shows a canonical diagram that has the opposite value of x, and that stands below each
--- vtree node below
--- which x stands
+-- vtree node below which x stands
 pub record IsNegation (t : Table) (x : Diagram) (c : ℕ) : Type 0 where
   pub diagram : Diagram
   pub is : IsShown t c diagram

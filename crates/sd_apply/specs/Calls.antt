@@ -5,6 +5,7 @@ use Rattle.sd_model.specs.Diagram.{Diagram, meaning}
 use Rattle.sd_model.specs.Expression.{combine}
 use Rattle.sd_laws.specs.Pairs.{answers}
 use Rattle.sd_manager.specs.Table.{Table}
+use Rattle.sd_manager.specs.Shown.{IsShown}
 use Rattle.sd_apply.specs.Answers.{HasAnswer}
 use Rattle.sd_apply.specs.Places.{IsNodeUnder}
 use Rattle.sd_apply.specs.Elements.{IsPair, Lists, IsSplit, HasList, row, products}
@@ -17,6 +18,11 @@ pub record Applies (old new : Table) (o : Operation) (v a b c : ℕ) : Type 0 wh
 -- what negation answers at a node below v
 pub record Complements (old new : Table) (v a c : ℕ) : Type 0 where
   pub each : (x : Diagram) → IsNodeUnder old v a x → HasAnswer new (λ g. not (meaning x g)) c
+
+-- the second code shows the negation of what the first shows
+pub record AreOpposite (t : Table) (a b : ℕ) : Type 0 where
+  pub each : (x y : Diagram) → IsShown t a x → IsShown t b y → (g : List Bool) →
+      meaning y g ≡ not (meaning x g)
 
 -- the pairs are a partition with the value of the node, which is below v
 pub record Expands (old new : Table) (v u w a : ℕ) (l : List (ℕ × ℕ)) : Type 0 where

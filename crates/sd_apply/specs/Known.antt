@@ -1,10 +1,11 @@
 -- Answers that need no node.
 use Rattle.std.specs.Prelude.{ℕ, ◌+◌, ◌-◌, ◌/◌, ◌%◌, ◌&&◌, ◌==◌, nat_lt, Option, Some, None}
 use Rattle.std.specs.Prelude.{if◌then◌else◌}
+use Rattle.sd_model.specs.declared.trees.Operation.{Operation}
+use Rattle.sd_model.specs.declared.trees.Operation.TheVariants.{And, Or, Xor}
 
 -- the answer of the connective with this number where the codes are equal, where one is constant,
--- and where they are
--- the two literals of a variable
+-- and where they are the two literals of a variable
 abbrev pub known_of : ℕ → ℕ → ℕ → Option ℕ
 known_of n a b =
     if a == b then (if n == 2 then Some 0 else Some a)
@@ -20,3 +21,9 @@ abbrev pub opposite_of : ℕ → Option ℕ
 opposite_of a =
     if nat_lt a 2 then Some (1 - a)
     else (if nat_lt a 2050 then (if a % 2 == 0 then Some (a + 1) else Some (a - 1)) else None)
+
+-- the answer of a connective at a node and its negation
+abbrev pub opposites_code : Operation → ℕ
+opposites_code And = 0
+opposites_code Or = 1
+opposites_code Xor = 1

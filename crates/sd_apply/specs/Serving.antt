@@ -8,8 +8,7 @@ use Rattle.sd_apply.specs.Operations.{operation_value}
 use Rattle.sd_apply.specs.Answers.{HasAnswer}
 
 -- an entry is of one of the six operations, and names nodes that show canonical diagrams, and an
--- answer with the value
--- of the operation at them
+-- answer with the value of the operation at them
 pub record IsRight (t : Table) (e : Call × ℕ) : Type 0 where
   pub known : e.0.operation ≤ 5
   pub first : Diagram

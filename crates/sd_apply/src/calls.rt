@@ -14,8 +14,9 @@ ghost use Rattle.sd_apply.specs.Elements.{IsPaired, AreListed, ArePartition, Asc
 ghost use Rattle.sd_apply.specs.Calls.{Applies, Complements, Expands, Multiplies, AddsRow};
 ghost use Rattle.sd_apply.specs.Calls.{Merges, Joins, Flips};
 
-use crate::known::{NEGATION, known, number, opposite};
+use crate::known::{NEGATION, at_opposites, known, number, opposite};
 use crate::lists::{Pairs, below_left, below_right, by_sub, elements_of};
+use crate::opposites::{are_opposite, keep_opposites};
 use crate::places::{fork, own_fork, place_of};
 use sd_cache::Cache;
 use sd_manager::{Manager, NodeId};
@@ -124,16 +125,12 @@ fn split(
     let (place, left, right) = fork(m, at, a, b);
     let first = expand(alloc, m, c, place, left, right, a)?;
     let second = expand(alloc, m, c, place, left, right, b)?;
-    let pairs = multiply(
-        alloc,
-        m,
-        c,
-        operation,
-        left,
-        right,
-        first.as_slice(),
-        second.as_slice(),
-    )?;
+    let one = first.as_slice();
+    let other = second.as_slice();
+    if are_opposite(m, c, a, b, one, other) {
+        return Ok(at_opposites(operation));
+    }
+    let pairs = multiply(alloc, m, c, operation, left, right, one, other)?;
     compress_at(alloc, m, c, place, left, right, pairs.as_slice())
 }
 
@@ -355,7 +352,7 @@ pub(crate) fn complement(
     let list = elements_of(alloc, m, a)?;
     let pairs = flip(alloc, m, c, left, right, list.as_slice())?;
     let code = compress_at(alloc, m, c, place, left, right, pairs.as_slice())?;
-    c.keep(epoch, NEGATION, a.0, 0, code.0);
+    keep_opposites(m, c, a, code);
     Ok(code)
 }
 

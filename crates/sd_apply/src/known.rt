@@ -1,8 +1,9 @@
 // Answers that need no node.
 ghost use Rattle.std.specs.Prelude.{◌≡◌, ◌≤◌, ◌==◌, ℕ, if◌then◌else◌, Some, None};
 ghost use Rattle.sd_apply.specs.Operations.{number_of};
-ghost use Rattle.sd_apply.specs.Known.{known_of, opposite_of};
+ghost use Rattle.sd_apply.specs.Known.{known_of, opposite_of, opposites_code};
 
+use sd_manager::NodeId;
 use sd_model::Operation;
 
 /// The number of negation among the operations.
@@ -66,4 +67,15 @@ pub(crate) fn opposite(a: u32) -> Option<u32>
         return if a % 2 == 0 { Some(a + 1) } else { Some(a - 1) };
     }
     None
+}
+
+/// The answer of a connective at a node and its negation.
+pub(crate) fn at_opposites(operation: Operation) -> NodeId
+    ensures { result ≡ opposites_code operation }
+{
+    match operation {
+        Operation::And => NodeId(0),
+        Operation::Or => NodeId(1),
+        Operation::Xor => NodeId(1),
+    }
 }

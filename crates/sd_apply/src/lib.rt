@@ -6,6 +6,7 @@ mod calls;
 mod known;
 mod lists;
 mod operations;
+mod opposites;
 mod places;
 
 pub use operations::{and, compress, negate, or, xor};

@@ -17,8 +17,7 @@ use sd_vtree::VNode;
 use std::alloc::Global;
 
 /// The conjunction of two nodes. ArenaFull where the elements of a node find no room in the
-/// arena, and OutOfMemory for want of
-/// memory; then each node shows what it showed.
+/// arena, and OutOfMemory for want of memory; then each node shows what it showed.
 pub fn and(
     alloc: Global,
     m: &mut Manager,
@@ -40,8 +39,7 @@ pub fn and(
 }
 
 /// The disjunction of two nodes. ArenaFull where the elements of a node find no room in the
-/// arena, and OutOfMemory for want of
-/// memory; then each node shows what it showed.
+/// arena, and OutOfMemory for want of memory; then each node shows what it showed.
 pub fn or(
     alloc: Global,
     m: &mut Manager,
@@ -63,8 +61,7 @@ pub fn or(
 }
 
 /// The exclusive or of two nodes. ArenaFull where the elements of a node find no room in the
-/// arena, and OutOfMemory for want of
-/// memory; then each node shows what it showed.
+/// arena, and OutOfMemory for want of memory; then each node shows what it showed.
 pub fn xor(
     alloc: Global,
     m: &mut Manager,
@@ -100,8 +97,7 @@ pub fn negate(alloc: Global, m: &mut Manager, c: &mut Cache, a: NodeId) -> Resul
 }
 
 /// The node of a partition of a vtree node, whose subs may be equal: the elements with equal subs
-/// are joined.
-/// It refuses as `and`.
+/// are joined. It refuses as `and`.
 pub fn compress(
     alloc: Global,
     m: &mut Manager,

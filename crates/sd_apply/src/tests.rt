@@ -1,5 +1,11 @@
-ghost use Rattle.std.specs.Prelude.{◌^◌, ◌<◌, IfOk};
+ghost use Rattle.std.specs.Prelude.{◌≡◌, ◌^◌, ◌<◌, ◌≤◌, IfOk};
+ghost use Rattle.sd_model.specs.Tree.{leaves};
+ghost use Rattle.sd_vtree.specs.Numbered.{forget};
+ghost use Rattle.sd_manager.specs.Literals.{IsLiteralTo};
 ghost use Rattle.sd_manager.specs.OverTwo.{IsOverTwo};
+ghost use Rattle.sd_manager.specs.Shown.{IsKnown};
+ghost use Rattle.sd_manager.specs.Valid.{IsTable};
+ghost use Rattle.sd_manager.specs.Making.{Extends};
 ghost use Rattle.sd_apply.specs.Serving.{Serves};
 
 use super::*;
@@ -76,5 +82,72 @@ fn equal_subs_are_joined(rt: HostRuntime) -> Result<(), Fail> {
         &[(other, two), (one, two)],
     )?;
     assert_eq!(rt; joined, NodeId(4));
+    Ok(())
+}
+
+// The variable at so many levels from the deepest of a start tree of 1,024 variables.
+fn variable_at(down: bool, index: u32) -> i32
+    requires positive { 1 ≤ index }
+    requires below { index < 1024 }
+    ensures { IsLiteralTo 1024 result }
+{
+    let variable = if down { 1024 - index } else { index + 1 };
+    variable as i32
+}
+
+// The disjunction of a node with the literals of all variables but the deepest of a start tree of
+// 1,024 variables, from the deepest up.
+fn with_all(
+    alloc: Global,
+    m: &mut Manager,
+    c: &mut Cache,
+    down: bool,
+    start: NodeId,
+) -> Result<NodeId, TakeError>
+    requires variables { leaves (forget m.old.vtree) ≡ 1024 }
+    requires start { IsKnown m.old start }
+    requires serves { Serves c.old m.old }
+    requires table { IsTable m.old }
+    ensures ok { IfOk result (λ node. IsKnown m.new node) }
+    ensures kept { Extends m.old m.new }
+    ensures serves { Serves c.new m.new }
+    ensures table { IsTable m.new }
+{
+    let mut node = start;
+    for index in 1..1024u32 {
+        let literal = m.literal(variable_at(down, index));
+        node = or(alloc, m, c, literal, node)?;
+    }
+    Ok(node)
+}
+
+// The conjunction of two disjunctions of all 1,024 variables, which differ in the sign of the
+// deepest alone, and the disjunction of all others.
+fn deepest(alloc: Global, vtree: Vtree, down: bool) -> Result<(NodeId, NodeId), TakeError> {
+    if vtree.variables() != 1024 {
+        return Err(TakeError::OutOfMemory);
+    }
+    let variable = if down { 1024 } else { 1 };
+    let Ok(mut m) = Manager::new(alloc, vtree, 1_000_000) else {
+        return Err(TakeError::OutOfMemory);
+    };
+    let Ok(mut c) = Cache::new(alloc) else {
+        return Err(TakeError::OutOfMemory);
+    };
+    let (last, negated, none) = (m.literal(variable), m.literal(-variable), m.constant(false));
+    let first = with_all(alloc, &mut m, &mut c, down, last)?;
+    let second = with_all(alloc, &mut m, &mut c, down, negated)?;
+    let others = with_all(alloc, &mut m, &mut c, down, none)?;
+    let both = and(alloc, &mut m, &mut c, first, second)?;
+    Ok((both, others))
+}
+
+/// An operation that goes down to the deepest of 1,024 levels ends on an ordinary stack.
+#[test]
+fn deepest_level(rt: HostRuntime) -> Result<(), Fail> {
+    let (both, others) = deepest(rt.alloc(), Vtree::right(rt.alloc(), 1024)?, true)?;
+    assert_eq!(rt; both, others);
+    let (both, others) = deepest(rt.alloc(), Vtree::left(rt.alloc(), 1024)?, false)?;
+    assert_eq!(rt; both, others);
     Ok(())
 }

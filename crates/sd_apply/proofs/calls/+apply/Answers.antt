@@ -28,7 +28,9 @@ use Rattle.sd_apply.proofs.KnownLaws.{opposite-complements, opposite-none}
 use Rattle.sd_apply.proofs.Sorting.{turned-at, length-turned}
 use Rattle.sd_apply.proofs.Standing.{shown}
 use Rattle.sd_apply.proofs.Served.{serves-on, serves-look, serves-keep, looked-applies}
-use Rattle.sd_apply.proofs.Served.{looked-complements, applies-right, complements-right}
+use Rattle.sd_apply.proofs.Served.{looked-complements, applies-right}
+use Rattle.sd_apply.proofs.Opposite.{opposite-applies, complements-opposite, operand-known}
+use Rattle.sd_apply.proofs.Opposite.{negation-known}
 use Rattle.sd_apply.proofs.Expanding.{own-code, expand-own, expand-right, expand-left}
 use Rattle.sd_apply.proofs.Expanding.{right-under, left-under, expanded-partition}
 use Rattle.sd_apply.proofs.Expanding.{partition-listed}
@@ -376,9 +378,8 @@ complement-compress_at-requires t c =
       ),
     )
 
-negated : (t : ℕ) (c : goal.complement-Joined-list-3 t) →
-    Complements c.args.m.now c.compress_at.new.m c.args.at c.args.a c.in_ok-code.code
-negated t c =
+pub complement-returns-clause-ok : goal.complement-returns-clause-ok
+complement-returns-clause-ok t c =
     let m = c.args.m.now in
     let n = c.flip.new.m in
     let i = c.epoch-epoch.ensures.table in
@@ -388,26 +389,69 @@ negated t c =
     c.in_ok-pairs.pairs.items in
     let J : List (ℕ × ℕ) → Type 0 = λ l. Joins n c.compress_at.new.m f.result.1 f.result.2 l
     c.in_ok-code.code in
-    flip-complements m n c.compress_at.new.m i c.args.at f.result.0 f.result.1 f.result.2 c.args.a
-    c.in_ok-code.code
+    let negated = flip-complements m n c.compress_at.new.m i c.args.at f.result.0 f.result.1
+    f.result.2 c.args.a c.in_ok-code.code
     c.in_ok-pairs.pairs.items f.ensures.children f.ensures.place code
     (subst F (c.as_slice.ensures ∙ c.in_ok-list.ensures.ok) c.in_ok-pairs.ensures.ok)
-    (subst J c.as_slice-2.ensures c.in_ok-code.ensures.ok)
+    (subst J c.as_slice-2.ensures c.in_ok-code.ensures.ok) in
+    negated
 
-pub complement-returns-clause-ok : goal.complement-returns-clause-ok
-complement-returns-clause-ok t c = negated t c
-
-pub complement-returns-clause-serves : goal.complement-returns-clause-serves
-complement-returns-clause-serves t c =
+pub complement-keep_opposites-requires-clause-first :
+    goal.complement-keep_opposites-requires-clause-first
+complement-keep_opposites-requires-clause-first t c =
     let m = c.args.m.now in
     let n = c.compress_at.new.m in
     let x = extends-on m c.flip.new.m n c.flip.ensures.kept c.compress_at.ensures.kept in
-    serves-keep c.compress_at.new.c c.keep.new.self n (call c.epoch-epoch.result 3 c.a-2.inside.0
-    0) c.code.inside.0
-    c.keep.ensures.keeps (c.epoch-epoch.ensures.epoch ∙ sym x.epoch) c.compress_at.ensures.serves
-    (complements-right m n c.epoch-epoch.result c.args.at c.args.a c.in_ok-code.code
-    c.a-2.inside.0 c.code.inside.0 x
-    c.a-2.view_is c.code.view_is c.requires.a (negated t c))
+    operand-known m n x c.args.at c.args.a c.requires.a
+
+pub complement-keep_opposites-requires-clause-second :
+    goal.complement-keep_opposites-requires-clause-second
+complement-keep_opposites-requires-clause-second t c =
+    let m = c.args.m.now in
+    let n = c.flip.new.m in
+    let i = c.epoch-epoch.ensures.table in
+    let f = c.own_fork-place in
+    let code = opposite-none c.args.a (sym (c.in_default.ensures ∙ ap opposite_of c.a.view_is)) in
+    let F : List (ℕ × ℕ) → Type 0 = λ l. Flips m n f.result.1 f.result.2 l
+    c.in_ok-pairs.pairs.items in
+    let J : List (ℕ × ℕ) → Type 0 = λ l. Joins n c.compress_at.new.m f.result.1 f.result.2 l
+    c.in_ok-code.code in
+    let negated = flip-complements m n c.compress_at.new.m i c.args.at f.result.0 f.result.1
+    f.result.2 c.args.a c.in_ok-code.code
+    c.in_ok-pairs.pairs.items f.ensures.children f.ensures.place code
+    (subst F (c.as_slice.ensures ∙ c.in_ok-list.ensures.ok) c.in_ok-pairs.ensures.ok)
+    (subst J c.as_slice-2.ensures c.in_ok-code.ensures.ok) in
+    negation-known m c.compress_at.new.m c.args.at c.args.a c.in_ok-code.code negated c.requires.a
+
+pub complement-keep_opposites-requires-clause-opposite :
+    goal.complement-keep_opposites-requires-clause-opposite
+complement-keep_opposites-requires-clause-opposite t c =
+    let m = c.args.m.now in
+    let n = c.flip.new.m in
+    let i = c.epoch-epoch.ensures.table in
+    let f = c.own_fork-place in
+    let code = opposite-none c.args.a (sym (c.in_default.ensures ∙ ap opposite_of c.a.view_is)) in
+    let F : List (ℕ × ℕ) → Type 0 = λ l. Flips m n f.result.1 f.result.2 l
+    c.in_ok-pairs.pairs.items in
+    let J : List (ℕ × ℕ) → Type 0 = λ l. Joins n c.compress_at.new.m f.result.1 f.result.2 l
+    c.in_ok-code.code in
+    let negated = flip-complements m n c.compress_at.new.m i c.args.at f.result.0 f.result.1
+    f.result.2 c.args.a c.in_ok-code.code
+    c.in_ok-pairs.pairs.items f.ensures.children f.ensures.place code
+    (subst F (c.as_slice.ensures ∙ c.in_ok-list.ensures.ok) c.in_ok-pairs.ensures.ok)
+    (subst J c.as_slice-2.ensures c.in_ok-code.ensures.ok) in
+    let last = c.compress_at.new.m in
+    let x = extends-on m n last c.flip.ensures.kept c.compress_at.ensures.kept in
+    complements-opposite m last c.compress_at.ensures.table x c.args.at c.args.a
+    c.in_ok-code.code negated c.requires.a
+
+pub complement-returns-clause-kept : goal.complement-returns-clause-kept
+complement-returns-clause-kept t c =
+    extends-on c.args.m.now c.flip.new.m c.compress_at.new.m c.flip.ensures.kept
+    c.compress_at.ensures.kept
+
+pub complement-returns-clause-serves : goal.complement-returns-clause-serves
+complement-returns-clause-serves t c = c.keep_opposites.ensures.serves
 
 -- compression
 
@@ -855,6 +899,15 @@ split-expand-requires-2 t c =
       ),
     )
 
+pub split-returns-then-are_opposite-clause-ok : goal.split-returns-then-are_opposite-clause-ok
+split-returns-then-are_opposite-clause-ok t c =
+    let m = c.args.m.now in
+    let n = c.expand.new.m in
+    let o = c.expand-2.new.m in
+    let x = extends-on m n o c.expand.ensures.kept c.expand-2.ensures.kept in
+    opposite-applies m o x c.args.operation c.args.at c.args.a c.args.b c.at_opposites.result
+    (c.are_opposite.ensures.opposite c.if-are_opposite.true) c.at_opposites.ensures
+
 pub split-multiply-requires : goal.split-multiply-requires
 split-multiply-requires t c =
     let m = c.args.m.now in
@@ -886,10 +939,10 @@ split-multiply-requires t c =
         (
           there-on m o k w (right-there m.vtree v f.result.0 u w f.ensures.children),
           (
-            subst (AreListed o u w) (sym c.as_slice.ensures) first,
+            subst (AreListed o u w) (sym c.as_slice-one.ensures) first,
             (
-              subst (ArePartition o u w) (sym c.as_slice-2.ensures) second,
-              (c.expand-2.ensures.serves, c.expand-2.ensures.table),
+              subst (ArePartition o u w) (sym c.as_slice-other.ensures) second,
+              (c.are_opposite.ensures.serves, c.expand-2.ensures.table),
             ),
           ),
         ),
@@ -915,8 +968,8 @@ split-compress_at-requires t c =
     let y = c.requires.b in
     let M : List (ℕ × ℕ) → List (ℕ × ℕ) → Type 0 = λ r s. Multiplies o q c.args.operation u w r s
     c.in_ok-pairs.pairs.items in
-    let product = subst (λ r. M r c.in_ok-second.second.items) c.as_slice.ensures
-    (subst (λ s. M c.as_slice.result.now s) c.as_slice-2.ensures c.in_ok-pairs.ensures.ok) in
+    let product = subst (λ r. M r c.in_ok-second.second.items) c.as_slice-one.ensures
+    (subst (λ s. M c.as_slice-one.result.now s) c.as_slice-other.ensures c.in_ok-pairs.ensures.ok) in
     let part = products-partition m n o q c.args.operation p u w c.args.a c.args.b
     c.in_ok-first.first.items
     c.in_ok-second.second.items c.in_ok-pairs.pairs.items k1 k2 x.diagram y.diagram
@@ -927,7 +980,7 @@ split-compress_at-requires t c =
       (
         children-on m q k p u w f.ensures.children,
         (
-          subst (ArePartition q u w) (sym c.as_slice-3.ensures) part,
+          subst (ArePartition q u w) (sym c.as_slice.ensures) part,
           (
             c.multiply.ensures.serves,
             c.multiply.ensures.table,
@@ -949,14 +1002,14 @@ split-returns-clause-ok t c =
     let w = f.result.2 in
     let M : List (ℕ × ℕ) → List (ℕ × ℕ) → Type 0 = λ r s. Multiplies o q c.args.operation u w r s
     c.in_ok-pairs.pairs.items in
-    let product = subst (λ r. M r c.in_ok-second.second.items) c.as_slice.ensures
-    (subst (λ s. M c.as_slice.result.now s) c.as_slice-2.ensures c.in_ok-pairs.ensures.ok) in
-    IfOk-weaker c.compress_at.result (λ r. Joins q last u w c.as_slice-3.result.now r)
+    let product = subst (λ r. M r c.in_ok-second.second.items) c.as_slice-one.ensures
+    (subst (λ s. M c.as_slice-one.result.now s) c.as_slice-other.ensures c.in_ok-pairs.ensures.ok) in
+    IfOk-weaker c.compress_at.result (λ r. Joins q last u w c.as_slice.result.now r)
     (λ r. Applies m last c.args.operation c.args.at c.args.a c.args.b r)
     (λ r h. split-applies m n o q last c.args.operation c.args.at p u w c.args.a c.args.b r
     c.in_ok-first.first.items
     c.in_ok-second.second.items c.in_ok-pairs.pairs.items c.expand.ensures.kept
     c.expand-2.ensures.kept
     f.ensures.first f.ensures.second c.in_ok-first.ensures.ok c.in_ok-second.ensures.ok product
-    (subst (λ l. Joins q last u w l r) c.as_slice-3.ensures h))
+    (subst (λ l. Joins q last u w l r) c.as_slice.ensures h))
     c.compress_at.ensures.ok
