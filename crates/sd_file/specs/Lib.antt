@@ -1,5 +1,9 @@
 pub mod Built
 pub mod Files
+pub mod Lines
+pub mod Numbers
+pub mod Ordered
+pub mod Ranks
 pub mod Reads
 pub mod RoundTrip
 pub mod Steps

@@ -1,4 +1,5 @@
-ghost use Rattle.std.specs.Prelude.{◌≡◌, ◌≤◌, ◌<◌, ◌^◌, IfOk};
+ghost use Rattle.std.specs.Prelude.{◌≡◌, ◌≤◌, ◌<◌, ◌^◌, None, IfOk};
+ghost use Rattle.std.specs.FinMap.{empty};
 ghost use Rattle.sd_model.specs.Tree.{leaves};
 ghost use Rattle.sd_model.specs.StartTrees.{balanced_tree};
 ghost use Rattle.sd_vtree.specs.Numbered.{forget};
@@ -161,13 +162,15 @@ fn nothing_missing(rt: HostRuntime) {
     }
 }
 
-/// A manager over the balanced vtree of the variables, and a new cache.
+/// A manager over the balanced vtree of the variables, without roots, and a new cache.
 fn balanced(alloc: Global, variables: u32, bound: u32) -> Result<(Manager, Cache), AllocError>
     requires some { 1 ≤ variables }
     requires few { variables ≤ 1024 }
     requires bound { bound < 2 ^ 31 }
     ensures tree { IfOk result (λ r. forget r.0.vtree ≡ balanced_tree variables) }
     ensures serves { IfOk result (λ r. Serves r.1 r.0) }
+    ensures still { IfOk result (λ r. r.0.moving ≡ None) }
+    ensures no_roots { IfOk result (λ r. r.0.roots ≡ empty) }
 {
     let vtree = Vtree::balanced(alloc, variables)?;
     let m = Manager::new(alloc, vtree, bound)?;
@@ -205,6 +208,18 @@ fn value_of_two_pairs(rt: HostRuntime) -> Result<(), Fail> {
     let node = build(rt.alloc(), &mut m, &mut c, &file)?;
     let expected = two_pairs(rt.alloc(), &mut m, &mut c)?;
     assert_eq!(rt; node, expected);
+    Ok(())
+}
+
+/// What was built from a text is written as that text.
+#[test]
+fn two_pairs_are_written(rt: HostRuntime) -> Result<(), Fail> {
+    let file = read_sdd(rt.alloc(), TWO_PAIRS, 4)?;
+    let (mut m, mut c) = balanced(rt.alloc(), 4, 100)?;
+    let node = build(rt.alloc(), &mut m, &mut c, &file)?;
+    let root = m.hold(node)?;
+    let text = write_sdd(rt.alloc(), &m, &root)?;
+    assert_eq!(rt; text.as_slice(), TWO_PAIRS);
     Ok(())
 }
 

@@ -1,0 +1,230 @@
+-- The ranks of constants and literals, and that all that a node shows is in order.
+use Rattle.std.proofs.Common.{◌≡◌, ◌≢◌, ◌⊎◌, inl, inr, ℕ, zero, suc, ◌+◌, ◌≤◌, ◌<◌, ◌==◌, Bool, true, false, cond}
+use Rattle.std.proofs.Common.{List, [], ◌∷◌, length, Option, Some, None, slice_get, refl, sym, ◌∙◌, ap, subst, arith, w32}
+use Rattle.std.proofs.Common.{if◌then◌else◌}
+use Rattle.std.specs.Prelude.{ℤ, pos}
+use mir.Val.{SFits, to_z, of_z}
+use lib.IntN.{nat_abs}
+use lib.Signed.{lt_z}
+use Rattle.std.proofs.lemmas.Int.{to_z-of_z}
+use Rattle.std.proofs.lemmas.Bool.Decides.{nat_tests}
+use Rattle.std.proofs.lemmas.Option.{same_Some}
+use Rattle.std.proofs.lemmas.Map.Lookups.{exact_unsigned}
+use Rattle.std.specs.List.{AllByRecursion}
+use Rattle.std.specs.Option.{IsSome}
+use Rattle.std.specs.FinMap.{get}
+use Rattle.std.specs.BTreeMap as tree
+use Rattle.std.specs.BTreeMap.{BTreeMap}
+use Rattle.std.specs.Ordering.{nat_cmp, bool_cmp, ordering_then}
+use Rattle.std.specs.declared.cmp.Ordering.{Ordering}
+use Rattle.std.specs.declared.cmp.Ordering.TheVariants.{Less, Equal, Greater}
+use Rattle.std.specs.declared.vec.Vec.{Vec}
+use Rattle.std.specs.declared.alloc.Global.{Global}
+use Rattle.sd_model.specs.Tree.{Tree, Leaf, Node, leaves, right_base}
+use Rattle.sd_model.specs.Diagram.{Diagram, Bottom, Top, Literal, Decomposition, Elements, End, Pair, diagram_cmp}
+use Rattle.sd_model.specs.Canonical.{IsCanonical, canonical_literal, canonical_in_left, canonical_in_right}
+use Rattle.sd_vtree.specs.Numbered.{Numbered, IsNumbered, numbers, forget, variable_at}
+use Rattle.sd_vtree.proofs.Subtrees.{once_numbered, node_within}
+use Rattle.sd_vtree.proofs.Times.{one_place, times-slice_get}
+use Rattle.sd_laws.specs.Parts.{leaf_position}
+use Rattle.sd_laws.specs.Shown.{ShowElements, AreKeys}
+use Rattle.sd_laws.proofs.Codes.{one-code, one-diagram, leaf-range}
+use Rattle.sd_laws.proofs.Leaves.{leaf-number}
+use Rattle.sd_laws.proofs.Numbers.{literal-canonical}
+use Rattle.sd_laws.proofs.Places.{position-within}
+use Rattle.sd_manager.specs.Table.{Table}
+use Rattle.sd_manager.specs.Shown.{Shows, IsShown}
+use Rattle.sd_manager.specs.declared.view.View.TheVariants.{Literal as LiteralView}
+use Rattle.sd_manager.specs.Literals.{literal_of}
+use Rattle.sd_manager.specs.Views.{IsViewOf}
+use Rattle.sd_manager.specs.Valid.{IsTable}
+use Rattle.sd_file.specs.declared.order.Ordered.{Ordered}
+use Rattle.sd_file.specs.Ordered.{Rank, rank_of, list_of, HasElements, IsOrdered, AreOrdered}
+use Rattle.sd_file.specs.Ranks.{rank_cmp, FitsRank, HasRanks, AreRanks, FitsPlain, ArePlain, AreLeft, AreGroups, AreFound}
+use Rattle.sd_file.specs.declared.order.Found.{Found}
+use Rattle.sd_file.proofs.Ranking.{nat_same, if_tells, some_of}
+
+-- places and positions
+
+-- a node that stands at a position is one of the vtree
+pub stands_within : (t : Numbered) → IsNumbered t → (p u : ℕ) → slice_get (numbers t) p ≡ Some u →
+    u < length (numbers t)
+stands_within t v p u e = node_within t v u (times-slice_get (numbers t) p u e)
+
+-- it stands at one position
+pub same_position : (t : Numbered) → IsNumbered t → (u p q : ℕ) → slice_get (numbers t) p ≡ Some u →
+    slice_get (numbers t) q ≡ Some u → p ≡ q
+same_position t v u p q = one_place (numbers t) u p q (once_numbered t v u)
+
+-- literals
+
+-- the variable and the sign of a literal
+literal_parts : (x : ℕ) (s : Bool) → 1 ≤ x →
+    (nat_abs (literal_of x s) ≡ x) × (lt_z (pos 0) (literal_of x s) ≡ s)
+literal_parts x true h = (refl, grind (arith, nat_tests))
+literal_parts x false h = (omega arith, refl)
+
+pub literal_read : (x : ℕ) (s : Bool) (l : ℤ) → SFits w32 l → 1 ≤ x → l ≡ literal_of x s →
+    (nat_abs (to_z w32 (of_z w32 l)) ≡ x) × (lt_z (pos 0) (to_z w32 (of_z w32 l)) ≡ s)
+literal_read x s l fits h e =
+    subst (λ z. (nat_abs z ≡ x) × (lt_z (pos 0) z ≡ s)) (sym (to_z-of_z w32 l fits ∙ e)) (literal_parts x s h)
+
+-- the variable of a literal that is read is one of the vtree
+pub literal_range : (t : Table) → IsTable t → (tree : Numbered) → tree ≡ t.vtree → (l : ℤ) → SFits w32 l → (y : ℕ) →
+    y ≡ nat_abs (to_z w32 (of_z w32 l)) → (d : Diagram) → IsViewOf t (LiteralView l) d →
+    (1 ≤ y) × (y ≤ leaves (forget tree))
+literal_range t table tree same l fits y e d h =
+    let r = leaf-range (forget t.vtree) table.numbered.vtree 0 h.1 h.0 h.5 in
+    let k = literal_read h.1 h.2 l fits r.0 h.4 in (
+      omega (arith, e, k.0, r.0),
+      omega (arith, e, k.0, r.1, ap (λ z. leaves (forget z)) same),
+    )
+
+-- the literal at the leaf of its variable is the one that is shown
+pub literal_shown : (t : Table) → IsTable t → (tree : Numbered) → tree ≡ t.vtree → (l : ℤ) → SFits w32 l →
+    (u y q : ℕ) → y ≡ nat_abs (to_z w32 (of_z w32 l)) → variable_at tree u ≡ Some y →
+    slice_get (numbers tree) q ≡ Some u → (d : Diagram) → IsViewOf t (LiteralView l) d →
+    Literal q y (lt_z (pos 0) (to_z w32 (of_z w32 l))) ≡ d
+literal_shown t table tree same l fits u y q e leaf at d h =
+    let r = leaf-range (forget t.vtree) table.numbered.vtree 0 h.1 h.0 h.5 in
+    let k = literal_read h.1 h.2 l fits r.0 h.4 in
+    let variable : y ≡ h.1 = e ∙ k.0 in
+    let has : variable_at t.vtree u ≡ Some h.1 =
+    subst (λ z. variable_at z u ≡ Some y) same leaf ∙ ap (λ x. Some x) variable in
+    let n = leaf-number t.vtree table.numbered u h.1 has in
+    let place : q ≡ h.0 =
+    same_position t.vtree table.numbered u q n.0 (subst (λ z. slice_get (numbers z) q ≡ Some u) same at) n.1
+    ∙ same_Some n.0 h.0 (sym n.2 ∙ h.5) in
+    ap (λ p. Literal p y (lt_z (pos 0) (to_z w32 (of_z w32 l)))) place
+    ∙ ap (λ x. Literal h.0 x (lt_z (pos 0) (to_z w32 (of_z w32 l)))) variable
+    ∙ ap (Literal h.0 h.1) k.1 ∙ sym h.3
+
+-- the rank of a literal fits it
+pub literal_fits : (q y : ℕ) (s : Bool) (d : Diagram) → Literal q y s ≡ d → FitsPlain d (1, q, cond s 1 0)
+literal_fits q y s d e = subst (λ x. FitsPlain x (1, q, cond s 1 0)) e refl
+
+-- constants and literals
+
+-- two literals at one position are of one variable
+one_variable : {t : Tree} {b c p q x y : ℕ} {s u : Bool} → IsCanonical t b (Literal p x s) →
+    IsCanonical t c (Literal q y u) → b ≡ c → p ≡ q → x ≡ y
+one_variable (canonical_literal s) (canonical_literal u) e f = refl
+one_variable (canonical_in_left m k) (canonical_in_left n j) e f = one_variable k j e f
+one_variable (canonical_in_right {l = l} m k) (canonical_in_right n j) e f = one_variable k j (ap (right_base l) e) f
+one_variable (canonical_in_left m k) (canonical_in_right n j) e f =
+    absurd (omega (arith, e, f, (position-within k refl).1, (position-within j refl).0))
+one_variable (canonical_in_right m k) (canonical_in_left n j) e f =
+    absurd (omega (arith, e, f, (position-within j refl).1, (position-within k refl).0))
+
+-- signs are compared as truth values
+sign_cmp : (s u : Bool) → nat_cmp (cond s 1 0) (cond u 1 0) ≡ bool_cmp s u
+sign_cmp false false = refl
+sign_cmp false true = refl
+sign_cmp true false = refl
+sign_cmp true true = refl
+
+-- two literals are compared as their positions and signs
+literals_compared : (o k m : Ordering) → (o ≡ Equal → m ≡ Equal) →
+    ordering_then o k ≡ ordering_then o (ordering_then k m)
+literals_compared Less k m h = refl
+literals_compared Equal k m h = sym (last k (h refl))
+  where
+    last : (k : Ordering) → m ≡ Equal → ordering_then k m ≡ k
+    last Less e = refl
+    last Equal e = e
+    last Greater e = refl
+literals_compared Greater k m h = refl
+
+-- ranks of constants and literals are compared as these are
+plain_order : (t : Table) → IsTable t → (c b : ℕ) (r s : Rank) (d e : Diagram) → FitsPlain d r → FitsPlain e s →
+    Shows t c d → Shows t b e → rank_cmp r s ≡ diagram_cmp d e
+plain_order t table c b r s Bottom Bottom f g h k = ap (λ x. rank_cmp x s) f ∙ ap (rank_cmp (0, 0, 0)) g
+plain_order t table c b r s Bottom Top f g h k = ap (λ x. rank_cmp x s) f ∙ ap (rank_cmp (0, 0, 0)) g
+plain_order t table c b r s Bottom (Literal q y u) f g h k = ap (λ x. rank_cmp x s) f ∙ ap (rank_cmp (0, 0, 0)) g
+plain_order t table c b r s Top Bottom f g h k = ap (λ x. rank_cmp x s) f ∙ ap (rank_cmp (0, 0, 1)) g
+plain_order t table c b r s Top Top f g h k = ap (λ x. rank_cmp x s) f ∙ ap (rank_cmp (0, 0, 1)) g
+plain_order t table c b r s Top (Literal q y u) f g h k = ap (λ x. rank_cmp x s) f ∙ ap (rank_cmp (0, 0, 1)) g
+plain_order t table c b r s (Literal p x v) Bottom f g h k =
+    ap (λ z. rank_cmp z s) f ∙ ap (rank_cmp (1, p, cond v 1 0)) g
+plain_order t table c b r s (Literal p x v) Top f g h k =
+    ap (λ z. rank_cmp z s) f ∙ ap (rank_cmp (1, p, cond v 1 0)) g
+plain_order t table c b r s (Literal p x v) (Literal q y u) f g h k =
+    ap (λ z. rank_cmp z s) f ∙ ap (rank_cmp (1, p, cond v 1 0)) g
+    ∙ ap (ordering_then (nat_cmp p q)) (sign_cmp v u)
+    ∙ literals_compared (nat_cmp p q) (bool_cmp v u) (nat_cmp x y)
+    (λ e.
+    let at : p ≡ q = exact_unsigned p q e in
+    nat_same x y
+    (one_variable (literal-canonical (forget t.vtree) 0 x p v h.1) (literal-canonical (forget t.vtree) 0 y q u k.1) refl
+    at))
+plain_order t table c b r s (Decomposition p es) e f g h k = absurd f
+plain_order t table c b r s Bottom (Decomposition q fs) f g h k = absurd g
+plain_order t table c b r s Top (Decomposition q fs) f g h k = absurd g
+plain_order t table c b r s (Literal p x v) (Decomposition q fs) f g h k = absurd g
+
+-- a rank of a constant or a literal is a rank
+plain_fits : (d : Diagram) (r : Rank) → FitsPlain d r → FitsRank d r
+plain_fits Bottom r h = h
+plain_fits Top r h = h
+plain_fits (Literal p x s) r h = h
+plain_fits (Decomposition p es) r h = absurd h
+
+-- before decompositions have ranks, all of them are left
+pub all_left : (t : Table) → IsTable t → (o : Ordered) (f : Found) → ArePlain t o → AreFound t f →
+    AreLeft t o f.groups
+all_left t table o f plain found =
+    record {
+      ranks =
+        record {
+          fits = λ c r d is shows. plain_fits d r (plain c r d is shows);
+          order = λ c b r s d e is at shows seen. plain_order t table c b r s d e (plain c r d is shows)
+              (plain b s e at seen) shows seen;
+          lists = λ c p r es is shows. absurd (plain c r (Decomposition p es) is shows);
+        };
+      each = found.each;
+      fresh = λ c p r es v is shows. absurd (plain c r (Decomposition p es) is shows);
+    }
+
+-- one more rank of a constant or a literal
+pub plain_given : (t : Table) (old new : Ordered) (c : ℕ) (r : Rank) → ArePlain t old →
+    ((b : ℕ) → rank_of new b ≡ (if b == c then Some r else rank_of old b)) →
+    ((d : Diagram) → Shows t c d → FitsPlain d r) → ArePlain t new
+plain_given t old new c r h given fits b s d is shows = go (if_tells b c (Some r) (rank_of old b))
+  where
+    go : ((b ≡ c) × ((if b == c then Some r else rank_of old b) ≡ Some r))
+        ⊎ ((b ≢ c) × ((if b == c then Some r else rank_of old b) ≡ rank_of old b)) → FitsPlain d s
+    go (inl k) =
+        subst (FitsPlain d) (same_Some r s (sym k.1 ∙ sym (given b) ∙ is))
+        (fits d (subst (λ x. Shows t x d) k.0 shows))
+    go (inr k) = h b s d (sym k.1 ∙ sym (given b) ∙ is) shows
+
+-- all that a node with a rank shows is in order
+mutual
+  pub in_order_below : (t : Table) → IsTable t → (o : Ordered) → AreRanks t o → (d : Diagram) (c : ℕ) →
+      IsSome (rank_of o c) → Shows t c d → IsOrdered t d (list_of o)
+  in_order_below t table o ranks Bottom c is shows = tt
+  in_order_below t table o ranks Top c is shows = tt
+  in_order_below t table o ranks (Literal p x s) c is shows = tt
+  in_order_below t table o ranks (Decomposition p es) c is shows =
+      let r = some_of (rank_of o c) is in
+      let l = ranks.lists c p r.0 es r.1 shows in (
+        λ b seen.
+            record {
+              list = l.list;
+              is =
+                ap (list_of o) (one-code t.vtree (get t.linked) table.keys (Decomposition p es) b c seen shows) ∙ l.is;
+              shown = l.shown;
+            },
+        in_order_elements t table o ranks es l.list l.shown l.ranked,
+      )
+
+  pub in_order_elements : (t : Table) → IsTable t → (o : Ordered) → AreRanks t o → (es : Elements)
+      (list : List (ℕ × ℕ)) → ShowElements t.vtree (get t.linked) list es → AllByRecursion (HasRanks o) list →
+      AreOrdered t es (list_of o)
+  in_order_elements t table o ranks End list shown ranked = tt
+  in_order_elements t table o ranks (Pair p s rest) [] shown ranked = absurd shown
+  in_order_elements t table o ranks (Pair p s rest) (e ∷ list) shown ranked = (
+    in_order_below t table o ranks p e.0 ranked.0.0 shown.0,
+    in_order_below t table o ranks s e.1 ranked.0.1 shown.1,
+    in_order_elements t table o ranks rest list shown.2 ranked.1,
+  )

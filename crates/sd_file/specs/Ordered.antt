@@ -1,0 +1,45 @@
+-- The elements of the decompositions in a diagram, by the codes of the nodes that show them, in the structural order.
+use Rattle.std.specs.Prelude.{◌≡◌, ℕ, List, Option, Some}
+use Rattle.std.specs.Option.{option_map}
+use Rattle.std.specs.BTreeMap as tree
+use Rattle.std.specs.FinMap.{get}
+use Rattle.std.specs.Ordering.{nat_cmp}
+use Rattle.sd_model.specs.Diagram.{Diagram, Decomposition, Elements, End, Pair}
+use Rattle.sd_laws.specs.Shown.{ShowElements}
+use Rattle.sd_manager.specs.Table.{Table}
+use Rattle.sd_manager.specs.Shown.{Shows}
+use Rattle.sd_file.specs.declared.order.Ordered.{Ordered}
+
+-- a list of pairs of codes for some codes
+abbrev pub Lists : Type 0
+Lists = ℕ → Option (List (ℕ × ℕ))
+
+-- the elements that are kept of a decomposition, by its code
+unfoldable pub list_of : Ordered → Lists
+list_of o c = option_map (λ pairs. pairs.items) (tree.get nat_cmp o.lists c)
+
+-- where a diagram stands in the structural order: its kind, its position, and its place among those of one position
+abbrev pub Rank : Type 0
+Rank = ℕ × ℕ × ℕ
+
+-- the rank that is kept of a code
+unfoldable pub rank_of : Ordered → ℕ → Option Rank
+rank_of o c = tree.get nat_cmp o.ranks c
+
+-- the code has a list, which shows these elements one by one
+pub record HasElements (t : Table) (lists : Lists) (c : ℕ) (es : Elements) : Type 0 where
+  pub list : List (ℕ × ℕ)
+  pub is : lists c ≡ Some list
+  pub shown : ShowElements t.vtree (get t.linked) list es
+
+abbrev mutual
+  -- each code of a decomposition in the diagram, which may be the diagram itself, has the list of its elements
+  pub IsOrdered : Table → Diagram → Lists → Type 0
+  IsOrdered t (Decomposition p es) lists =
+      ((c : ℕ) → Shows t c (Decomposition p es) → HasElements t lists c es) × AreOrdered t es lists
+  IsOrdered t _ lists = Unit {0}
+
+  -- and so in each prime and sub
+  pub AreOrdered : Table → Elements → Lists → Type 0
+  AreOrdered t End lists = Unit {0}
+  AreOrdered t (Pair p s rest) lists = IsOrdered t p lists × IsOrdered t s lists × AreOrdered t rest lists

@@ -1,0 +1,191 @@
+-- Ranks of codes, which are compared as the diagrams that the codes show, and how they are given.
+use Rattle.std.specs.Prelude.{◌≡◌, ℕ, ◌+◌, ◌<◌, ◌==◌, Bool, true, false, cond, [], ◌∷◌, ◌++◌, List, length, map, take, drop, Option, Some, None, if◌then◌else◌}
+use Rattle.std.specs.List.{AllByRecursion, IsDistinct}
+use Rattle.std.specs.List.Sorted.{IsStrictlySortedBy}
+use Rattle.std.specs.Option.{IsSome}
+use Rattle.std.proofs.Math.Dec.{eqb}
+use Rattle.std.specs.BTreeMap as tree
+use Rattle.std.specs.BTreeSet as set
+use Rattle.std.specs.BTreeMap.{BTreeMap}
+use Rattle.std.specs.BTreeSet.{BTreeSet}
+use Rattle.std.specs.FinMap.{get}
+use Rattle.std.specs.Cmp.Lexicographic.{slice_cmp}
+use Rattle.std.specs.Ordering.{nat_cmp, ordering_then}
+use Rattle.std.specs.declared.cmp.Ordering.{Ordering}
+use Rattle.std.specs.declared.cmp.Ordering.TheVariants.{Less}
+use Rattle.std.specs.declared.vec.Vec.{Vec}
+use Rattle.std.specs.declared.alloc.Global.{Global}
+use Rattle.sd_model.specs.Diagram.{Diagram, Bottom, Top, Literal, Decomposition, Elements, diagram_cmp}
+use Rattle.sd_laws.specs.Shown.{ShowElements}
+use Rattle.sd_manager.specs.Table.{Table}
+use Rattle.sd_manager.specs.Shown.{Shows, IsShown}
+use Rattle.sd_manager.specs.Views.{pairs_at}
+use Rattle.sd_manager.specs.Valid.{IsTable}
+use Rattle.sd_file.specs.declared.order.Ordered.{Ordered}
+use Rattle.sd_file.specs.declared.order.Found.{Found}
+use Rattle.sd_file.specs.Ordered.{Rank, rank_of, list_of}
+
+-- a prime and a sub, by their ranks and by their codes
+abbrev pub Ranked : Type 0
+Ranked = Rank × Rank × ℕ × ℕ
+
+-- a decomposition: the number of its elements, these, and its code
+abbrev pub Entry : Type 0
+Entry = ℕ × Vec Ranked Global × ℕ
+
+-- the order of ranks
+abbrev pub rank_cmp : Rank → Rank → Ordering
+rank_cmp r s = ordering_then (ordering_then (nat_cmp r.0 s.0) (nat_cmp r.1 s.1)) (nat_cmp r.2 s.2)
+
+-- the order of elements by ranks, and by codes where these are equal
+abbrev pub ranked_cmp : Ranked → Ranked → Ordering
+ranked_cmp e f =
+    ordering_then (ordering_then (ordering_then (rank_cmp e.0 f.0) (rank_cmp e.1 f.1)) (nat_cmp e.2 f.2))
+    (nat_cmp e.3 f.3)
+
+-- the order of decompositions of one position
+abbrev pub entry_cmp : Entry → Entry → Ordering
+entry_cmp x y =
+    ordering_then (ordering_then (nat_cmp x.0 y.0) (slice_cmp ranked_cmp x.1.items y.1.items)) (nat_cmp x.2 y.2)
+
+-- the codes of an element
+abbrev pub codes_of : Ranked → ℕ × ℕ
+codes_of e = (e.2, e.3)
+
+-- the rank is of the diagram's kind and position
+abbrev pub FitsRank : Diagram → Rank → Type 0
+FitsRank Bottom r = r ≡ (0, 0, 0)
+FitsRank Top r = r ≡ (0, 0, 1)
+FitsRank (Literal p x positive) r = r ≡ (1, p, cond positive 1 0)
+FitsRank (Decomposition p es) r = (r.0 ≡ 2) × (r.1 ≡ p)
+
+-- both codes of a pair have ranks
+abbrev pub HasRanks : Ordered → ℕ × ℕ → Type 0
+HasRanks o e = IsSome (rank_of o e.0) × IsSome (rank_of o e.1)
+
+-- the ranks of an element are those of its codes
+abbrev pub IsRanked : Ordered → Ranked → Type 0
+IsRanked o e = (rank_of o e.2 ≡ Some e.0) × (rank_of o e.3 ≡ Some e.1)
+
+-- the list of a code shows the elements, and their codes have ranks
+pub record IsListed (t : Table) (o : Ordered) (c : ℕ) (es : Elements) : Type 0 where
+  pub list : List (ℕ × ℕ)
+  pub is : list_of o c ≡ Some list
+  pub shown : ShowElements t.vtree (get t.linked) list es
+  pub ranked : AllByRecursion (HasRanks o) list
+
+-- Each rank fits the diagram of its code, two ranks are compared as the diagrams are, and each decomposition with a
+-- rank has its list.
+pub record AreRanks (t : Table) (o : Ordered) : Type 0 where
+  pub fits : (c : ℕ) (r : Rank) (d : Diagram) → rank_of o c ≡ Some r → Shows t c d → FitsRank d r
+  pub order : (c b : ℕ) (r s : Rank) (d e : Diagram) → rank_of o c ≡ Some r → rank_of o b ≡ Some s → Shows t c d →
+      Shows t b e → rank_cmp r s ≡ diagram_cmp d e
+  pub lists : (c p : ℕ) (r : Rank) (es : Elements) → rank_of o c ≡ Some r → Shows t c (Decomposition p es) →
+      IsListed t o c es
+
+-- the entry has the elements of its decomposition at the position, in the structural order
+pub record IsEntry (t : Table) (o : Ordered) (p : ℕ) (entry : Entry) : Type 0 where
+  pub elements : Elements
+  pub shown : Shows t entry.2 (Decomposition p elements)
+  pub list : ShowElements t.vtree (get t.linked) (map codes_of entry.1.items) elements
+  pub ranked : AllByRecursion (IsRanked o) entry.1.items
+  pub count : entry.0 ≡ length entry.1.items
+
+-- each decomposition with a rank at the position is less than that of the entry
+abbrev pub IsPast : Table → Ordered → ℕ → Entry → Type 0
+IsPast t o p entry =
+    (c : ℕ) (r : Rank) (es fs : Elements) → rank_of o c ≡ Some r → Shows t c (Decomposition p es) →
+    Shows t entry.2 (Decomposition p fs) → diagram_cmp (Decomposition p es) (Decomposition p fs) ≡ Less
+
+-- no group is left at a position at which a decomposition has a rank
+abbrev pub IsFresh : Table → Ordered → BTreeMap ℕ (Vec ℕ Global) → Type 0
+IsFresh t o groups =
+    (c p : ℕ) (r : Rank) (es : Elements) (v : Vec ℕ Global) → rank_of o c ≡ Some r →
+    Shows t c (Decomposition p es) → ¬ (tree.get nat_cmp groups p ≡ Some v)
+
+-- the entries that are left of a position are to have ranks with this place and the next ones
+pub record IsGiving (t : Table) (o : Ordered) (groups : BTreeMap ℕ (Vec ℕ Global)) (p place : ℕ)
+    (left : List Entry) : Type 0 where
+  pub ranks : AreRanks t o
+  pub fresh : IsFresh t o groups
+  pub gone : (v : Vec ℕ Global) → ¬ (tree.get nat_cmp groups p ≡ Some v)
+  pub below : (c : ℕ) (r : Rank) (es : Elements) → rank_of o c ≡ Some r → Shows t c (Decomposition p es) → r.2 < place
+  pub past : AllByRecursion (IsPast t o p) left
+  pub entries : AllByRecursion (IsEntry t o p) left
+  pub ascending : IsStrictlySortedBy entry_cmp left
+
+-- only this code got a rank and a list
+pub record IsGiven (old new : Ordered) (c : ℕ) (r : Rank) (list : List (ℕ × ℕ)) : Type 0 where
+  pub ranks : (b : ℕ) → rank_of new b ≡ (if b == c then Some r else rank_of old b)
+  pub lists : (b : ℕ) → list_of new b ≡ (if b == c then Some list else list_of old b)
+
+-- the code is of a decomposition at the position
+abbrev pub IsAt : Table → ℕ → ℕ → Type 0
+IsAt t p c = (es : Elements) × IsShown t c (Decomposition p es)
+
+-- codes of distinct decompositions at the position
+pub record IsGroup (t : Table) (p : ℕ) (group : List ℕ) : Type 0 where
+  pub each : AllByRecursion (IsAt t p) group
+  pub distinct : IsDistinct eqb group
+
+-- each group is one of its position
+abbrev pub AreGroups : Table → BTreeMap ℕ (Vec ℕ Global) → Type 0
+AreGroups t groups = (p : ℕ) (v : Vec ℕ Global) → tree.get nat_cmp groups p ≡ Some v → IsGroup t p v.items
+
+-- the groups of decompositions that have no ranks yet, by their positions
+pub record AreLeft (t : Table) (o : Ordered) (groups : BTreeMap ℕ (Vec ℕ Global)) : Type 0 where
+  pub ranks : AreRanks t o
+  pub each : AreGroups t groups
+  pub fresh : IsFresh t o groups
+
+-- no decomposition at the position has a rank
+abbrev pub NoneAt : Table → Ordered → ℕ → Type 0
+NoneAt t o p = (c : ℕ) (r : Rank) (es : Elements) → rank_of o c ≡ Some r → ¬ Shows t c (Decomposition p es)
+
+-- the rank is of the diagram, which is no decomposition
+abbrev pub FitsPlain : Diagram → Rank → Type 0
+FitsPlain (Decomposition p es) r = ⊥
+FitsPlain d r = FitsRank d r
+
+-- only constants and literals have ranks
+abbrev pub ArePlain : Table → Ordered → Type 0
+ArePlain t o = (c : ℕ) (r : Rank) (d : Diagram) → rank_of o c ≡ Some r → Shows t c d → FitsPlain d r
+
+-- a code was seen
+abbrev pub was_seen : Found → ℕ → Bool
+was_seen f c = set.contains nat_cmp f.seen c
+
+-- the codes in the groups were seen, and each group is one of its position
+pub record AreFound (t : Table) (f : Found) : Type 0 where
+  pub each : AreGroups t f.groups
+  pub seen : (p : ℕ) (v : Vec ℕ Global) → tree.get nat_cmp f.groups p ≡ Some v →
+      AllByRecursion (λ c. was_seen f c ≡ true) v.items
+
+-- the codes in a group, or none
+abbrev pub items_of : Option (Vec ℕ Global) → List ℕ
+items_of None = []
+items_of (Some v) = v.items
+
+-- only this code was added, at the position
+pub record IsAdded (old new : Found) (p c : ℕ) : Type 0 where
+  pub group : Vec ℕ Global
+  pub is : tree.get nat_cmp new.groups p ≡ Some group
+  pub items : group.items ≡ items_of (tree.get nat_cmp old.groups p) ++ c ∷ []
+  pub others : (q : ℕ) → (q ≡ p → ⊥) → tree.get nat_cmp new.groups q ≡ tree.get nat_cmp old.groups q
+  pub seen : (b : ℕ) → was_seen new b ≡ (if b == c then true else was_seen old b)
+
+-- the elements so far are those of the first pairs of the node
+pub record HasRankedTo (t : Table) (o : Ordered) (c i : ℕ) (so_far : List Ranked) : Type 0 where
+  pub pairs : map codes_of so_far ≡ take i (pairs_at t c)
+  pub ranked : AllByRecursion (IsRanked o) so_far
+
+-- the entries so far are those of the first codes of the group
+pub record HasEntries (t : Table) (o : Ordered) (group : List ℕ) (i : ℕ) (so_far : List Entry) : Type 0 where
+  pub codes : map (λ (e : Entry). e.2) so_far ≡ take i group
+  pub entries : (p : ℕ) → AllByRecursion (IsAt t p) group → AllByRecursion (IsEntry t o p) so_far
+
+-- the first entries of a position have their ranks
+abbrev pub HasGiven : Ordered → Ordered → ℕ → ℕ → List Entry → Type 0
+HasGiven old new p i entries =
+    (t : Table) (groups : BTreeMap ℕ (Vec ℕ Global)) → IsTable t → IsGiving t old groups p 0 entries →
+    IsGiving t new groups p i (drop i entries)

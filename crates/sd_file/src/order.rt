@@ -1,0 +1,403 @@
+//! The elements of the decompositions below a node, in the structural order.
+
+ghost use Rattle.std.specs.Prelude.{◌≡◌, ◌≤◌, ◌<◌, ◌+◌, ◌==◌, ℕ, Some, None, List, [], length, map, IfOk, OnOk, if◌then◌else◌};
+ghost use Rattle.std.specs.BTreeMap as tree;
+ghost use Rattle.std.specs.Ordering.{nat_cmp};
+ghost use Rattle.sd_laws.specs.Depth.{depth};
+ghost use Rattle.sd_vtree.specs.Numbered.{numbers};
+ghost use Rattle.sd_manager.specs.Views.{IsViewOf};
+ghost use Rattle.sd_manager.specs.declared.view.View.TheVariants.{Literal as LiteralView};
+ghost use Rattle.std.specs.Option.{IsSome};
+ghost use Rattle.std.specs.List.{AllByRecursion};
+ghost use Rattle.std.specs.List.Sorted.{IsPermutation, IsSorted};
+ghost use Rattle.sd_model.specs.Diagram.{Diagram, Decomposition, Elements};
+ghost use Rattle.sd_manager.specs.Table.{Table};
+ghost use Rattle.sd_manager.specs.Shown.{Shows, IsShown};
+ghost use Rattle.sd_manager.specs.Views.{pairs_at};
+ghost use Rattle.sd_manager.specs.Valid.{IsTable};
+ghost use Rattle.sd_file.specs.Ordered.{IsOrdered, list_of, rank_of, Rank};
+ghost use Rattle.sd_file.specs.Ranks.{IsRanked, AreRanks, IsEntry, IsGiven, IsGiving, codes_of, ranked_cmp, entry_cmp};
+ghost use Rattle.sd_file.specs.Ranks.{IsAt, IsGroup, IsFresh, NoneAt, AreLeft, ArePlain, FitsPlain, AreFound, IsAdded};
+ghost use Rattle.sd_file.specs.Ranks.{was_seen, items_of};
+
+use sd_manager::{Manager, NodeId, View};
+use std::alloc::{AllocError, Global};
+use sd_vtree::VNode;
+use std::collections::{BTreeMap, BTreeSet};
+
+// Where a diagram stands in the structural order: its kind, its position, and its place among those of one position.
+type Rank = (u8, u32, usize);
+
+// A prime and a sub, by their ranks and by their codes.
+type Ranked = (Rank, Rank, u32, u32);
+
+// A decomposition: the number of its elements, these, and its code.
+type Entry = (usize, Vec<Ranked>, u32);
+
+/// The elements of the distinct decompositions at and below a node, each list in the structural order of the primes.
+#[derive(Drop)]
+pub(crate) struct Ordered {
+    lists: BTreeMap<u32, Vec<(NodeId, NodeId)>>,
+    ranks: BTreeMap<u32, Rank>,
+}
+
+impl Ordered {
+    /// The elements of a decomposition, in the structural order.
+    #[tactic(auto, unfolding(crate::specs::Ordered::list_of))]
+    pub(crate) fn elements(&self, node: NodeId) -> &[(NodeId, NodeId)]
+        requires { IsSome (list_of self.now node) }
+        ensures { list_of self.now node ≡ Some result.now }
+    {
+        self.lists.get(&node.0).unwrap()
+    }
+
+    // The rank of a node.
+    #[tactic(auto, unfolding(crate::specs::Ordered::rank_of))]
+    fn rank(&self, node: NodeId) -> Option<Rank>
+        ensures { result ≡ rank_of self.now node }
+    {
+        self.ranks.get(&node.0).copied()
+    }
+
+    // Gives a constant or a literal its rank.
+    #[tactic(auto, unfolding(crate::specs::Ordered::rank_of))]
+    fn give_plain(&mut self, code: u32, rank: Rank) -> Result<(), AllocError>
+        ensures { OnOk result ((b : ℕ) → rank_of self.new b ≡ (if b == code then Some rank else rank_of self.old b)) }
+    {
+        self.ranks.insert(code, rank)?;
+        Ok(())
+    }
+
+    // Gives the decompositions at a position, which are in the structural order, their ranks and lists.
+    fn give_all(
+        &mut self,
+        alloc: Global,
+        position: u32,
+        entries: &[Entry],
+    ) -> Result<(), AllocError>
+        ensures { OnOk result ((t : Table) (groups : _) → IsTable t →
+            IsGiving t self.old groups position 0 entries.now →
+            IsGiving t self.new groups position (length entries.now) []) }
+    {
+        for (place, entry) in entries.iter().enumerate() {
+            let list = pairs_of(alloc, &entry.1)?;
+            self.give(entry.2, (2, position, place), list)?;
+        }
+        Ok(())
+    }
+
+    // Gives a node its rank and its list.
+    fn give(
+        &mut self,
+        code: u32,
+        rank: Rank,
+        list: Vec<(NodeId, NodeId)>,
+    ) -> Result<(), AllocError>
+        ensures { OnOk result (IsGiven self.old self.new code rank list.items) }
+    {
+        self.ranks.insert(code, rank)?;
+        self.lists.insert(code, list)?;
+        Ok(())
+    }
+}
+
+// The elements of a node with their ranks, by ascending ranks.
+fn sort_elements(elements: &mut Vec<Ranked>)
+    ensures permutation { IsPermutation elements.old.items elements.new.items }
+    ensures sorted { IsSorted ranked_cmp elements.new.items }
+{
+    elements.sort_unstable();
+}
+
+// Puts decompositions of one position into the structural order.
+fn sort_entries(entries: &mut Vec<Entry>)
+    ensures permutation { IsPermutation entries.old.items entries.new.items }
+    ensures sorted { IsSorted entry_cmp entries.new.items }
+{
+    entries.sort_unstable();
+}
+
+// The codes of elements.
+fn pairs_of(alloc: Global, elements: &[Ranked]) -> Result<Vec<(NodeId, NodeId)>, AllocError>
+    ensures { IfOk result (λ v. v.items ≡ map codes_of elements.now) }
+{
+    let mut pairs = Vec::with_capacity(alloc, elements.len())?;
+    for element in elements {
+        pairs.push((NodeId(element.2), NodeId(element.3)))?;
+    }
+    Ok(pairs)
+}
+
+
+// The elements of a node with their ranks, in the order of the table.
+fn ranked_elements(
+    alloc: Global,
+    m: &Manager,
+    o: &Ordered,
+    node: NodeId,
+    count: u32,
+) -> Result<Vec<Ranked>, AllocError>
+    requires { length (pairs_at m.now node) ≡ count }
+    ensures pairs { IfOk result (λ v. map codes_of v.items ≡ pairs_at m.now node) }
+    ensures ranked { IfOk result (λ v. AllByRecursion (IsRanked o.now) v.items) }
+{
+    let mut elements = Vec::with_capacity(alloc, count as usize)?;
+    for index in 0..count {
+        let (prime, sub) = m.element(node, index);
+        let prime_rank = o.rank(prime).ok_or(AllocError)?;
+        let sub_rank = o.rank(sub).ok_or(AllocError)?;
+        elements.push((prime_rank, sub_rank, prime.0, sub.0))?;
+    }
+    Ok(elements)
+}
+
+// How many elements a decomposition has.
+fn count_of(m: &Manager, node: NodeId) -> u32
+    requires table { IsTable m.now }
+    requires known { (p : ℕ) × IsAt m.now p node }
+    ensures { length (pairs_at m.now node) ≡ result }
+{
+    match m.view(node) {
+        View::Decomposition { count, .. } => count,
+        _ => 0,
+    }
+}
+
+// A decomposition with its elements in the structural order.
+fn entry_of(alloc: Global, m: &Manager, o: &Ordered, code: u32) -> Result<Entry, AllocError>
+    requires table { IsTable m.now }
+    requires ranks { AreRanks m.now o.now }
+    requires known { (p : ℕ) × IsAt m.now p code }
+    ensures code { IfOk result (λ e. e.2 ≡ code) }
+    ensures entry { IfOk result (λ e. (p : ℕ) → IsAt m.now p code → IsEntry m.now o.now p e) }
+{
+    let node = NodeId(code);
+    let count = count_of(m, node);
+    let mut elements = ranked_elements(alloc, m, o, node, count)?;
+    sort_elements(&mut elements);
+    Ok((elements.len(), elements, code))
+}
+
+// The decompositions of a group.
+fn entries_of(
+    alloc: Global,
+    m: &Manager,
+    o: &Ordered,
+    group: &[u32],
+) -> Result<Vec<Entry>, AllocError>
+    requires table { IsTable m.now }
+    requires ranks { AreRanks m.now o.now }
+    requires known { (p : ℕ) × AllByRecursion (IsAt m.now p) group.now }
+    ensures codes { IfOk result (λ v. map (λ e. e.2) v.items ≡ group.now) }
+    ensures entries { IfOk result (λ v. (p : ℕ) → AllByRecursion (IsAt m.now p) group.now →
+        AllByRecursion (IsEntry m.now o.now p) v.items) }
+{
+    let mut entries = Vec::with_capacity(alloc, group.len())?;
+    for code in group {
+        entries.push(entry_of(alloc, m, o, *code)?)?;
+    }
+    Ok(entries)
+}
+
+// Gives a group of decompositions at a position their ranks and lists.
+fn rank_group(
+    alloc: Global,
+    m: &Manager,
+    o: &mut Ordered,
+    position: u32,
+    group: &[u32],
+) -> Result<(), AllocError>
+    requires table { IsTable m.now }
+    requires ranks { AreRanks m.now o.old }
+    requires group { IsGroup m.now position group.now }
+    ensures { OnOk result ((groups : _) → IsFresh m.now o.old groups → NoneAt m.now o.old position →
+        tree.get nat_cmp groups position ≡ None → AreRanks m.now o.new × IsFresh m.now o.new groups) }
+{
+    let mut entries = entries_of(alloc, m, o, group)?;
+    sort_entries(&mut entries);
+    o.give_all(alloc, position, &entries)
+}
+
+// Takes the group of a position out.
+fn take_group(groups: &mut BTreeMap<u32, Vec<u32>>, position: u32) -> Option<Vec<u32>>
+    ensures taken { result ≡ tree.get nat_cmp groups.old position }
+    ensures gone { tree.get nat_cmp groups.new position ≡ None }
+    ensures rest { (q : ℕ) (v : _) → tree.get nat_cmp groups.new q ≡ Some v →
+        tree.get nat_cmp groups.old q ≡ Some v }
+{
+    groups.remove(&position)
+}
+
+// Ranks the decompositions at a vtree node and below it.
+fn rank_below(
+    alloc: Global,
+    m: &Manager,
+    groups: &mut BTreeMap<u32, Vec<u32>>,
+    o: &mut Ordered,
+    node: VNode,
+) -> Result<(), AllocError>
+    requires table { IsTable m.now }
+    requires left { AreLeft m.now o.old groups.old }
+    requires node { node < length (numbers m.now.vtree) }
+    ensures { OnOk result (AreLeft m.now o.new groups.new) }
+{
+    if let Some(children) = m.vtree().children(node) {
+        rank_below(alloc, m, groups, o, children.0)?;
+        rank_below(alloc, m, groups, o, children.1)?;
+        let position = m.vtree().position(node);
+        if let Some(group) = take_group(groups, position) {
+            rank_group(alloc, m, o, position, &group)?;
+        }
+    }
+    Ok(())
+}
+
+// Takes the group of a position out, or makes an empty one.
+fn taken_or_new(
+    alloc: Global,
+    groups: &mut BTreeMap<u32, Vec<u32>>,
+    position: u32,
+) -> Vec<u32>
+    ensures items { result.items ≡ items_of (tree.get nat_cmp groups.old position) }
+    ensures others { (q : ℕ) → (q ≡ position → ⊥) → tree.get nat_cmp groups.new q ≡ tree.get nat_cmp groups.old q }
+{
+    match groups.remove(&position) {
+        Some(group) => group,
+        None => Vec::new(alloc),
+    }
+}
+
+// The decompositions below a node, by their positions.
+#[derive(Drop)]
+struct Found {
+    groups: BTreeMap<u32, Vec<u32>>,
+    seen: BTreeSet<u32>,
+}
+
+impl Found {
+    // Whether a decomposition was found.
+    fn has(&self, code: u32) -> bool
+        ensures { result ≡ was_seen self.now code }
+    {
+        self.seen.contains(&code)
+    }
+
+    // Adds a decomposition at a position where it was not found yet.
+    fn add(&mut self, alloc: Global, position: u32, code: u32) -> Result<(), AllocError>
+        ensures { OnOk result ((t : Table) → AreFound t self.old → IsAt t position code → AreFound t self.new) }
+    {
+        if self.has(code) {
+            Ok(())
+        } else {
+            self.put(alloc, position, code)
+        }
+    }
+
+    // Puts a decomposition into the group of its position.
+    fn put(&mut self, alloc: Global, position: u32, code: u32) -> Result<(), AllocError>
+        ensures { OnOk result (IsAdded self.old self.new position code) }
+    {
+        let mut group = taken_or_new(alloc, &mut self.groups, position);
+        group.push(code)?;
+        self.groups.insert(position, group)?;
+        self.seen.insert(code)?;
+        Ok(())
+    }
+}
+
+// The rank of a literal of the vtree, as DIMACS has it.
+fn literal_rank(m: &Manager, literal: i32) -> Rank
+    requires table { IsTable m.now }
+    requires known { (d : Diagram) × IsViewOf m.now (LiteralView literal) d }
+    ensures { (d : Diagram) → IsViewOf m.now (LiteralView literal) d → FitsPlain d result }
+{
+    let variable = literal.unsigned_abs();
+    let vtree = m.vtree();
+    let position = vtree.position(vtree.leaf(variable));
+    if literal > 0 {
+        (1, position, 1)
+    } else {
+        (1, position, 0)
+    }
+}
+
+// Ranks the constants and literals at and below a node that shows one of at most so many levels of decompositions,
+// and finds the decompositions.
+#[cycle(collect)]
+fn collect(
+    alloc: Global,
+    m: &Manager,
+    o: &mut Ordered,
+    found: &mut Found,
+    node: NodeId,
+    levels: u32,
+) -> Result<(), AllocError>
+    requires table { IsTable m.now }
+    requires plain { ArePlain m.now o.old }
+    requires found { AreFound m.now found.old }
+    requires known { (d : Diagram) × IsShown m.now node d × (depth d ≤ levels) }
+    ensures plain { OnOk result (ArePlain m.now o.new) }
+    ensures found { OnOk result (AreFound m.now found.new) }
+{
+    match m.view(node) {
+        View::Constant(value) => o.give_plain(node.0, (0, 0, if value { 1 } else { 0 })),
+        View::Literal(literal) => o.give_plain(node.0, literal_rank(m, literal)),
+        View::Decomposition { place, count } => {
+            if found.has(node.0) {
+                return Ok(());
+            }
+            collect_below(alloc, m, o, found, node, count, levels)?;
+            found.add(alloc, m.vtree().position(place), node.0)
+        }
+    }
+}
+
+// The same below a decomposition with this number of elements.
+#[cycle(collect)]
+fn collect_below(
+    alloc: Global,
+    m: &Manager,
+    o: &mut Ordered,
+    found: &mut Found,
+    node: NodeId,
+    count: u32,
+    levels: u32,
+) -> Result<(), AllocError>
+    requires table { IsTable m.now }
+    requires plain { ArePlain m.now o.old }
+    requires found { AreFound m.now found.old }
+    requires count { length (pairs_at m.now node) ≡ count }
+    requires known { (p : ℕ) × (es : Elements) × IsShown m.now node (Decomposition p es)
+        × (depth (Decomposition p es) ≤ levels) }
+    ensures plain { OnOk result (ArePlain m.now o.new) }
+    ensures found { OnOk result (AreFound m.now found.new) }
+{
+    for index in 0..count {
+        let (prime, sub) = m.element(node, index);
+        collect(alloc, m, o, found, prime, levels - 1)?;
+        collect(alloc, m, o, found, sub, levels - 1)?;
+    }
+    Ok(())
+}
+
+/// The elements of the decompositions at and below a node. The only error is want of memory.
+pub(crate) fn in_order(alloc: Global, m: &Manager, node: NodeId) -> Result<Ordered, AllocError>
+    requires { (d : Diagram) × IsShown m.now node d }
+    ensures { IfOk result (λ o. (d : Diagram) → IsShown m.now node d → IsOrdered m.now d (list_of o)) }
+{
+    let mut o = Ordered {
+        lists: BTreeMap::new(alloc),
+        ranks: BTreeMap::new(alloc),
+    };
+    let mut found = Found {
+        groups: BTreeMap::new(alloc),
+        seen: BTreeSet::new(alloc),
+    };
+    let levels = m.vtree().variables();
+    collect(alloc, m, &mut o, &mut found, node, levels)?;
+    rank_below(alloc, m, &mut found.groups, &mut o, m.vtree().root())?;
+    match o.rank(node) {
+        Some(_) => Ok(o),
+        None => Err(AllocError),
+    }
+}

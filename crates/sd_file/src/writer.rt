@@ -1,0 +1,116 @@
+//! The text of the diagram that a root shows.
+
+ghost use Rattle.std.specs.Prelude.{◌≡◌, List, ◌∷◌, [], ◌++◌, IfOk, OnOk};
+ghost use Rattle.std.specs.FinMap.{get};
+ghost use Rattle.std.specs.List.{AllByRecursion};
+ghost use Rattle.sd_model.specs.Diagram.{Diagram, Elements, Literal};
+ghost use Rattle.sd_model.specs.Listing.{add};
+ghost use Rattle.sd_model.specs.Size.{walk, walk_elements};
+ghost use Rattle.sd_model.specs.Text.{sdd_text, number_text};
+ghost use Rattle.sd_laws.specs.Shown.{ShowElements};
+ghost use Rattle.sd_manager.specs.declared.view.View.TheVariants.{Literal as LiteralView};
+ghost use Rattle.sd_manager.specs.Shown.{Shows, HoldsDiagram};
+ghost use Rattle.sd_manager.specs.Valid.{IsTable};
+ghost use Rattle.sd_manager.specs.Views.{IsViewOf};
+ghost use Rattle.sd_file.specs.Lines.{IsWritten, CanBeWalked, BothCanBeWalked};
+ghost use Rattle.sd_file.specs.Ordered.{list_of};
+
+use crate::lines::{Leaf, Listing, push_feed, push_number};
+use crate::order::{Ordered, in_order};
+use sd_base::Bytes;
+use sd_manager::{Manager, NodeId, Root, View};
+use std::alloc::{AllocError, Global};
+
+/// The text of the diagram that a root shows, in the form of the SDD Package 2.0: the line `sdd N`, then a line for
+/// each of the N distinct diagrams in it, numbered from 0 in the order in which they are first complete. Its own line
+/// is the last. Each node is visited once. The only error is want of memory.
+pub fn write_sdd(alloc: Global, m: &Manager, root: &Root) -> Result<Bytes, AllocError>
+    requires held { (d : Diagram) × HoldsDiagram m.now root.now d }
+    ensures text { IfOk result (λ text. (d : Diagram) → HoldsDiagram m.now root.now d → text ≡ sdd_text d) }
+{
+    let node = m.node_of(root);
+    let ordered = in_order(alloc, m, node)?;
+    let mut listing = Listing::new(alloc);
+    add_node(m, &ordered, node, m.vtree().variables(), &mut listing)?;
+    let mut text = header(alloc, listing.numbers.count())?;
+    text.extend_from_slice(&listing.text)?;
+    Ok(Bytes::new(text))
+}
+
+// The first line of a text with so many nodes.
+fn header(alloc: Global, count: u32) -> Result<Vec<u8>, AllocError>
+    ensures { IfOk result (λ v. v.items ≡ (115 ∷ 100 ∷ 100 ∷ []) ++ 32 ∷ number_text count ++ 10 ∷ []) }
+{
+    let mut text = Vec::from_slice(alloc, b"sdd")?;
+    push_number(&mut text, u64::from(count))?;
+    push_feed(&mut text)?;
+    Ok(text)
+}
+
+// Writes the lines of the nodes below a node, and then its own, where they lack one. The node shows a diagram of at
+// most so many levels of decompositions.
+#[cycle(add)]
+fn add_node(
+    m: &Manager,
+    ordered: &Ordered,
+    node: NodeId,
+    levels: u32,
+    listing: &mut Listing,
+) -> Result<(), AllocError>
+    requires table { IsTable m.now }
+    requires known { CanBeWalked m.now (list_of ordered.now) levels node }
+    requires written { (ds : List Diagram) × IsWritten m.now listing.old ds }
+    ensures { (d : Diagram) (ds : List Diagram) → Shows m.now node d → IsWritten m.now listing.old ds →
+        OnOk result (IsWritten m.now listing.new (add ds (walk d))) }
+{
+    if listing.numbers.has(node.0) {
+        return Ok(());
+    }
+    match m.view(node) {
+        View::Constant(value) => listing.add_constant(node, value),
+        View::Literal(literal) => listing.add_literal(node, leaf_of(m, literal)),
+        View::Decomposition { place, .. } => {
+            let elements = ordered.elements(node);
+            add_elements(m, ordered, elements, levels - 1, listing)?;
+            listing.add_decomposition(node, m.vtree().position(place), elements)
+        }
+    }
+}
+
+// Writes the lines of the nodes below pairs, each prime before its sub.
+#[cycle(add)]
+fn add_elements(
+    m: &Manager,
+    ordered: &Ordered,
+    elements: &[(NodeId, NodeId)],
+    levels: u32,
+    listing: &mut Listing,
+) -> Result<(), AllocError>
+    requires table { IsTable m.now }
+    requires known { AllByRecursion (BothCanBeWalked m.now (list_of ordered.now) levels) elements.now }
+    requires written { (ds : List Diagram) × IsWritten m.now listing.old ds }
+    ensures { (es : Elements) (ds : List Diagram) → ShowElements m.now.vtree (get m.now.linked) elements.now es →
+        IsWritten m.now listing.old ds → OnOk result (IsWritten m.now listing.new (add ds (walk_elements es))) }
+{
+    for element in elements {
+        add_node(m, ordered, element.0, levels, listing)?;
+        add_node(m, ordered, element.1, levels, listing)?;
+    }
+    Ok(())
+}
+
+// The literal of the vtree, as DIMACS has it, at its leaf.
+fn leaf_of(m: &Manager, literal: i32) -> Leaf
+    requires table { IsTable m.now }
+    requires known { (d : Diagram) × IsViewOf m.now (LiteralView literal) d }
+    ensures { (d : Diagram) → IsViewOf m.now (LiteralView literal) d →
+        Literal result.position result.variable result.positive ≡ d }
+{
+    let variable = literal.unsigned_abs();
+    let vtree = m.vtree();
+    Leaf {
+        position: vtree.position(vtree.leaf(variable)),
+        variable,
+        positive: literal > 0,
+    }
+}
