@@ -1,6 +1,6 @@
 -- The ranks of constants and literals, and that all that a node shows is in order.
-use Rattle.std.proofs.Common.{◌≡◌, ◌≢◌, ◌⊎◌, inl, inr, ℕ, zero, suc, ◌+◌, ◌≤◌, ◌<◌, ◌==◌, Bool, true, false, cond}
-use Rattle.std.proofs.Common.{List, [], ◌∷◌, length, Option, Some, None, slice_get, refl, sym, ◌∙◌, ap, subst, arith, w32}
+use Rattle.std.proofs.Common.{◌≡◌, ◌≢◌, ◌⊎◌, inl, inr, ℕ, ◌≤◌, ◌<◌, ◌==◌, Bool, true, false, cond}
+use Rattle.std.proofs.Common.{List, [], ◌∷◌, length, Some, slice_get, refl, sym, ◌∙◌, ap, subst, arith, w32}
 use Rattle.std.proofs.Common.{if◌then◌else◌}
 use Rattle.std.specs.Prelude.{ℤ, pos}
 use mir.Val.{SFits, to_z, of_z}
@@ -13,34 +13,29 @@ use Rattle.std.proofs.lemmas.Map.Lookups.{exact_unsigned}
 use Rattle.std.specs.List.{AllByRecursion}
 use Rattle.std.specs.Option.{IsSome}
 use Rattle.std.specs.FinMap.{get}
-use Rattle.std.specs.BTreeMap as tree
-use Rattle.std.specs.BTreeMap.{BTreeMap}
 use Rattle.std.specs.Ordering.{nat_cmp, bool_cmp, ordering_then}
 use Rattle.std.specs.declared.cmp.Ordering.{Ordering}
 use Rattle.std.specs.declared.cmp.Ordering.TheVariants.{Less, Equal, Greater}
-use Rattle.std.specs.declared.vec.Vec.{Vec}
-use Rattle.std.specs.declared.alloc.Global.{Global}
-use Rattle.sd_model.specs.Tree.{Tree, Leaf, Node, leaves, right_base}
+use Rattle.sd_model.specs.Tree.{Tree, leaves, right_base}
 use Rattle.sd_model.specs.Diagram.{Diagram, Bottom, Top, Literal, Decomposition, Elements, End, Pair, diagram_cmp}
 use Rattle.sd_model.specs.Canonical.{IsCanonical, canonical_literal, canonical_in_left, canonical_in_right}
 use Rattle.sd_vtree.specs.Numbered.{Numbered, IsNumbered, numbers, forget, variable_at}
 use Rattle.sd_vtree.proofs.Subtrees.{once_numbered, node_within}
 use Rattle.sd_vtree.proofs.Times.{one_place, times-slice_get}
-use Rattle.sd_laws.specs.Parts.{leaf_position}
-use Rattle.sd_laws.specs.Shown.{ShowElements, AreKeys}
-use Rattle.sd_laws.proofs.Codes.{one-code, one-diagram, leaf-range}
+use Rattle.sd_laws.specs.Shown.{ShowElements}
+use Rattle.sd_laws.proofs.Codes.{one-code, leaf-range}
 use Rattle.sd_laws.proofs.Leaves.{leaf-number}
 use Rattle.sd_laws.proofs.Numbers.{literal-canonical}
 use Rattle.sd_laws.proofs.Places.{position-within}
 use Rattle.sd_manager.specs.Table.{Table}
-use Rattle.sd_manager.specs.Shown.{Shows, IsShown}
+use Rattle.sd_manager.specs.Shown.{Shows}
 use Rattle.sd_manager.specs.declared.view.View.TheVariants.{Literal as LiteralView}
 use Rattle.sd_manager.specs.Literals.{literal_of}
 use Rattle.sd_manager.specs.Views.{IsViewOf}
 use Rattle.sd_manager.specs.Valid.{IsTable}
 use Rattle.sd_file.specs.declared.order.Ordered.{Ordered}
-use Rattle.sd_file.specs.Ordered.{Rank, rank_of, list_of, HasElements, IsOrdered, AreOrdered}
-use Rattle.sd_file.specs.Ranks.{rank_cmp, FitsRank, HasRanks, AreRanks, FitsPlain, ArePlain, AreLeft, AreGroups, AreFound}
+use Rattle.sd_file.specs.Ordered.{Rank, rank_of, list_of, IsOrdered, AreOrdered}
+use Rattle.sd_file.specs.Ranks.{rank_cmp, FitsRank, HasRanks, AreRanks, FitsPlain, ArePlain, AreLeft, AreFound}
 use Rattle.sd_file.specs.declared.order.Found.{Found}
 use Rattle.sd_file.proofs.Ranking.{nat_same, if_tells, some_of}
 
@@ -175,12 +170,12 @@ pub all_left : (t : Table) → IsTable t → (o : Ordered) (f : Found) → ArePl
 all_left t table o f plain found =
     record {
       ranks =
-        record {
-          fits = λ c r d is shows. plain_fits d r (plain c r d is shows);
-          order = λ c b r s d e is at shows seen. plain_order t table c b r s d e (plain c r d is shows)
-              (plain b s e at seen) shows seen;
-          lists = λ c p r es is shows. absurd (plain c r (Decomposition p es) is shows);
-        };
+          record {
+            fits = λ c r d is shows. plain_fits d r (plain c r d is shows);
+            order = λ c b r s d e is at shows seen. plain_order t table c b r s d e (plain c r d is shows)
+                (plain b s e at seen) shows seen;
+            lists = λ c p r es is shows. absurd (plain c r (Decomposition p es) is shows);
+          };
       each = found.each;
       fresh = λ c p r es v is shows. absurd (plain c r (Decomposition p es) is shows);
     }
@@ -212,7 +207,8 @@ mutual
             record {
               list = l.list;
               is =
-                ap (list_of o) (one-code t.vtree (get t.linked) table.keys (Decomposition p es) b c seen shows) ∙ l.is;
+                  ap (list_of o) (one-code t.vtree (get t.linked) table.keys (Decomposition p es) b c seen shows)
+                  ∙ l.is;
               shown = l.shown;
             },
         in_order_elements t table o ranks es l.list l.shown l.ranked,

@@ -1,7 +1,7 @@
 -- What a map that was asked has.
 use Rattle.std.proofs.Common.{◌≡◌, Option, Some, None, refl, subst, sym}
 use Rattle.std.specs.Option.{IsSome, option_map, option_copied}
-use Rattle.std.proofs.Common.{ℕ, [], ap}
+use Rattle.std.proofs.Common.{ℕ, ap}
 use Rattle.std.specs.Ordering.{nat_cmp}
 use Rattle.std.specs.BTreeMap as tree
 use Rattle.std.specs.BTreeMap.{BTreeMap, is_at}

@@ -1,16 +1,16 @@
 -- Elements, entries and groups, one more at a time.
-use Rattle.std.proofs.Common.{◌≡◌, ◌≢◌, ◌⊎◌, inl, inr, ℕ, zero, suc, ◌+◌, ◌<◌, ◌≤◌, ◌==◌, Bool, true, false, List, [], ◌∷◌}
-use Rattle.std.proofs.Common.{◌++◌, length, map, take, drop, get_or, Option, Some, None, refl, sym, ◌∙◌, ap, subst, arith}
+use Rattle.std.proofs.Common.{◌≡◌, ◌≢◌, ◌⊎◌, inl, inr, ℕ, zero, suc, ◌+◌, ◌<◌, ◌==◌, true, false, List, [], ◌∷◌}
+use Rattle.std.proofs.Common.{◌++◌, length, map, take, drop, get_or, Option}
+use Rattle.std.proofs.Common.{Some, None, refl, sym, ◌∙◌, ap, subst, arith}
 use Rattle.std.proofs.Common.{slice_get, drop-cons, Result, Ok, Err, if◌then◌else◌}
 use Rattle.std.specs.Prelude.{OnOk, ◌||◌}
 use Rattle.std.specs.List.{AllByRecursion, IsDistinct, list_any}
-use Rattle.std.specs.List.Sorted.{IsPermutation, IsSorted, IsStrictlySortedBy}
+use Rattle.std.specs.List.Sorted.{IsPermutation, IsSorted}
 use Rattle.std.specs.Option.{ok_or}
 use Rattle.std.specs.BTreeMap as tree
 use Rattle.std.specs.BTreeMap.{BTreeMap}
 use Rattle.std.specs.Cmp.{nat_eq_equiv}
-use Rattle.std.specs.Ordering.{nat_cmp, ordering_then, is_eq, eq_by_cmp, bool_cmp}
-use Rattle.std.specs.FinMap.{get}
+use Rattle.std.specs.Ordering.{nat_cmp, ordering_then, is_eq, eq_by_cmp}
 use Rattle.std.specs.declared.cmp.Ordering.{Ordering}
 use Rattle.std.specs.declared.cmp.Ordering.TheVariants.{Less, Equal, Greater}
 use Rattle.std.specs.declared.vec.Vec.{Vec}
@@ -22,21 +22,19 @@ use Rattle.std.proofs.lemmas.Bool.Decides.{eqb_tells}
 use Rattle.std.proofs.lemmas.List.{map_push, take_more}
 use Rattle.std.proofs.lemmas.Map.Keys.{IsDistinct-push}
 use Rattle.std.proofs.lemmas.Option.{same_Some}
-use Rattle.sd_model.specs.Diagram.{Diagram, Bottom, Top, Literal, Decomposition, Elements, End, Pair}
-use Rattle.sd_laws.specs.Shown.{ShowElements}
 use Rattle.sd_laws.proofs.Lists.{all-permuted, all-weaker}
 use Rattle.sd_manager.specs.Table.{Table}
-use Rattle.sd_manager.specs.Shown.{Shows, IsShown}
 use Rattle.sd_manager.specs.Views.{pairs_at}
 use Rattle.sd_manager.specs.Valid.{IsTable}
 use Rattle.sd_file.specs.declared.order.Ordered.{Ordered}
 use Rattle.sd_file.specs.declared.order.Found.{Found}
-use Rattle.sd_file.specs.Ordered.{Rank, rank_of, list_of}
-use Rattle.sd_file.specs.Ranks.{Ranked, Entry, ranked_cmp, entry_cmp, codes_of, IsRanked, AreRanks, IsEntry, IsPast, IsFresh}
-use Rattle.sd_file.specs.Ranks.{IsGiving, IsGiven, IsAt, IsGroup, AreGroups, AreLeft, NoneAt, AreFound, IsAdded, was_seen}
+use Rattle.sd_file.specs.Ordered.{rank_of}
+use Rattle.sd_file.specs.Ranks.{Ranked, Entry, ranked_cmp, entry_cmp, codes_of}
+use Rattle.sd_file.specs.Ranks.{IsRanked, AreRanks, IsEntry, IsPast, IsFresh}
+use Rattle.sd_file.specs.Ranks.{IsGiving, IsGiven, IsAt, IsGroup, AreLeft, NoneAt, AreFound, IsAdded, was_seen}
 use Rattle.sd_file.specs.Ranks.{items_of, HasRankedTo, HasEntries, HasGiven}
 use Rattle.sd_file.proofs.Ascending.{sorted_strict}
-use Rattle.sd_file.proofs.Ranking.{if_tells, nat_same, entry_total, given_one, elements_sorted}
+use Rattle.sd_file.proofs.Ranking.{if_tells, entry_total, given_one, elements_sorted}
 use Rattle.sd_file.proofs.Giving.{all_pushed, nat_other}
 
 -- what an option has that was asked for
@@ -65,11 +63,11 @@ pub ranked_more : (t : Table) (o : Ordered) (c i : ℕ) (v w : List Ranked) (e :
 ranked_more t o c i v w e x h at a b r s same =
     record {
       pairs =
-        ap (map codes_of) same ∙ map_push codes_of v x ∙ ap (λ l. l ++ codes_of x ∷ []) h.pairs
-            ∙ ap (λ z. take i (pairs_at t c) ++ z ∷ []) pair ∙ sym (take_next (pairs_at t c) i e at);
+          ap (map codes_of) same ∙ map_push codes_of v x ∙ ap (λ l. l ++ codes_of x ∷ []) h.pairs
+          ∙ ap (λ z. take i (pairs_at t c) ++ z ∷ []) pair ∙ sym (take_next (pairs_at t c) i e at);
       ranked =
-        subst (AllByRecursion (IsRanked o)) (sym same)
-            (all_pushed (IsRanked o) v x h.ranked (ap (rank_of o) a ∙ r, ap (rank_of o) b ∙ s));
+          subst (AllByRecursion (IsRanked o)) (sym same)
+          (all_pushed (IsRanked o) v x h.ranked (ap (rank_of o) a ∙ r, ap (rank_of o) b ∙ s));
     }
   where
     pair : codes_of x ≡ e
@@ -82,9 +80,9 @@ pub entries_more : (t : Table) (o : Ordered) (group : List ℕ) (i d : ℕ) (v w
 entries_more t o group i d v w x h lt code is same =
     record {
       codes =
-        ap (map (λ (e : Entry). e.2)) same ∙ map_push (λ (e : Entry). e.2) v x
-            ∙ ap (λ l. l ++ x.2 ∷ []) h.codes ∙ ap (λ n. take i group ++ n ∷ []) code
-            ∙ sym (take_more group i d lt);
+          ap (map (λ (e : Entry). e.2)) same ∙ map_push (λ (e : Entry). e.2) v x
+          ∙ ap (λ l. l ++ x.2 ∷ []) h.codes ∙ ap (λ n. take i group ++ n ∷ []) code
+          ∙ sym (take_more group i d lt);
       entries = λ p each.
           subst (AllByRecursion (IsEntry t o p)) (sym same)
           (all_pushed (IsEntry t o p) v x (h.entries p each) (is p (all_or (IsAt t p) group i each lt)));
@@ -159,7 +157,7 @@ giving_start t o groups p group v w ranks is codes entries order up fresh none g
       past = all_past w;
       entries = all-permuted (IsEntry t o p) v w order entries;
       ascending =
-        sorted_strict entry_total v w (distinct_entries v (subst (IsDistinct eqb) (sym codes) is.distinct)) order up;
+          sorted_strict entry_total v w (distinct_entries v (subst (IsDistinct eqb) (sym codes) is.distinct)) order up;
     }
   where
     all_past : (xs : List Entry) → AllByRecursion (IsPast t o p) xs
@@ -243,8 +241,8 @@ added_found t old new p c h k at fresh =
         record {
           each = all_pushed (IsAt t p) (items_of (tree.get nat_cmp old.groups p)) c g.0.each at;
           distinct =
-            IsDistinct-push nat_eq_equiv (items_of (tree.get nat_cmp old.groups p)) c g.0.distinct
-                (none_of old c (items_of (tree.get nat_cmp old.groups p)) fresh g.1);
+              IsDistinct-push nat_eq_equiv (items_of (tree.get nat_cmp old.groups p)) c g.0.distinct
+              (none_of old c (items_of (tree.get nat_cmp old.groups p)) fresh g.1);
         }
 
     each : (q : ℕ) (v : Vec ℕ Global) → tree.get nat_cmp new.groups q ≡ Some v → IsGroup t q v.items

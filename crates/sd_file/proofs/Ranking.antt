@@ -1,6 +1,6 @@
 -- Ranks are compared as diagrams are, and how a decomposition gets its rank.
-use Rattle.std.proofs.Common.{◌≡◌, ◌≢◌, ◌⊎◌, inl, inr, ℕ, zero, suc, ◌+◌, ◌<◌, ◌==◌, Bool, true, false, cond, List, [], ◌∷◌}
-use Rattle.std.proofs.Common.{length, map, Option, Some, None, refl, sym, ◌∙◌, ap, subst, arith, if◌then◌else◌}
+use Rattle.std.proofs.Common.{◌≡◌, ◌≢◌, ◌⊎◌, inl, inr, ℕ, ◌+◌, ◌<◌, ◌==◌, true, false, List, [], ◌∷◌}
+use Rattle.std.proofs.Common.{map, Option, Some, None, refl, sym, ◌∙◌, ap, subst, arith, if◌then◌else◌}
 use Rattle.std.specs.List.{AllByRecursion}
 use Rattle.std.specs.List.Sorted.{IsPermutation, IsSorted, IsStrictlySortedBy}
 use Rattle.std.specs.Option.{IsSome}
@@ -23,7 +23,6 @@ use Rattle.std.proofs.lemmas.Map.Lookups.{exact_unsigned}
 use Rattle.sd_model.specs.Diagram.{Diagram, Bottom, Top, Literal, Decomposition, Elements, End, Pair}
 use Rattle.sd_model.specs.Diagram.{primes, count, diagram_cmp, elements_cmp}
 use Rattle.sd_model.proofs.Order.{antisymm, exact, irreflexive, reflexive}
-use Rattle.sd_vtree.specs.Numbered.{IsNumbered}
 use Rattle.sd_laws.specs.Shown.{ShowElements, AreKeys}
 use Rattle.sd_laws.proofs.Codes.{one-code, one-diagram}
 use Rattle.sd_laws.proofs.Lists.{all-permuted, all-weaker, lifted}
@@ -34,7 +33,8 @@ use Rattle.sd_manager.specs.Valid.{IsTable}
 use Rattle.sd_manager.proofs.Reading.{linked_key, pairs_node, pairs_count}
 use Rattle.sd_file.specs.declared.order.Ordered.{Ordered}
 use Rattle.sd_file.specs.Ordered.{Rank, rank_of, list_of}
-use Rattle.sd_file.specs.Ranks.{Ranked, Entry, rank_cmp, ranked_cmp, entry_cmp, codes_of, FitsRank, HasRanks, IsRanked}
+use Rattle.sd_file.specs.Ranks.{Ranked, Entry, rank_cmp, ranked_cmp}
+use Rattle.sd_file.specs.Ranks.{entry_cmp, codes_of, FitsRank, HasRanks, IsRanked}
 use Rattle.sd_file.specs.Ranks.{IsListed, AreRanks, IsEntry, IsPast, IsFresh, IsGiving, IsGiven}
 use Rattle.sd_file.proofs.Ascending.{sorted_same}
 
@@ -183,12 +183,12 @@ entry_compared t keys o ranks p x y a b =
     let e : slice_cmp ranked_cmp x.1.items y.1.items ≡ elements_cmp a.elements b.elements =
     compared t keys o ranks x.1.items y.1.items a.elements b.elements a.ranked b.ranked a.list b.list in
     let inner : ordering_then (nat_cmp x.0 y.0) (slice_cmp ranked_cmp x.1.items y.1.items)
-        ≡ ordering_then (nat_cmp (count a.elements) (count b.elements)) (elements_cmp a.elements b.elements) =
+    ≡ ordering_then (nat_cmp (count a.elements) (count b.elements)) (elements_cmp a.elements b.elements) =
     ap (λ k. ordering_then (nat_cmp k y.0) (slice_cmp ranked_cmp x.1.items y.1.items)) n
     ∙ ap (λ k. ordering_then (nat_cmp (count a.elements) k) (slice_cmp ranked_cmp x.1.items y.1.items)) m
     ∙ ap (ordering_then (nat_cmp (count a.elements) (count b.elements))) e in
     let whole : ordering_then (nat_cmp x.0 y.0) (slice_cmp ranked_cmp x.1.items y.1.items)
-        ≡ diagram_cmp (Decomposition p a.elements) (Decomposition p b.elements) =
+    ≡ diagram_cmp (Decomposition p a.elements) (Decomposition p b.elements) =
     inner
     ∙ ap (λ v. ordering_then v (ordering_then (nat_cmp (count a.elements) (count b.elements))
     (elements_cmp a.elements b.elements))) (sym (nat_same p p refl)) in
@@ -235,7 +235,8 @@ cross t (Decomposition q fs) r p place es fits past = go (nat_cmp q p) refl
     whole : rank_cmp r (2, p, place) ≡ ordering_then (nat_cmp q p) (nat_cmp r.2 place)
     whole = ap (λ o. ordering_then o (nat_cmp r.2 place)) lead
 
-    go : (o : Ordering) → nat_cmp q p ≡ o → rank_cmp r (2, p, place) ≡ diagram_cmp (Decomposition q fs) (Decomposition p es)
+    go : (o : Ordering) → nat_cmp q p ≡ o →
+        rank_cmp r (2, p, place) ≡ diagram_cmp (Decomposition q fs) (Decomposition p es)
     go Less e =
         whole ∙ ap (λ o. ordering_then o (nat_cmp r.2 place)) e
         ∙ sym (ap (λ o. ordering_then o (ordering_then (nat_cmp (count fs) (count es)) (elements_cmp fs es))) e)
@@ -267,7 +268,6 @@ elements_equal p q es fs e = (ap place_in e, ap elements_in e)
     elements_in : Diagram → Elements
     elements_in (Decomposition p es) = es
     elements_in _ = End
-
 
 -- the step for the first entry that is left
 module _ (t : Table) (table : IsTable t) (old new : Ordered) (groups : BTreeMap ℕ (Vec ℕ Global)) (p place : ℕ)
@@ -419,10 +419,10 @@ module _ (t : Table) (table : IsTable t) (old new : Ordered) (groups : BTreeMap 
             list = map codes_of entry.1.items;
             is = ap (list_of new) k.0 ∙ has_list;
             shown =
-              subst (ShowElements t.vtree (get t.linked) (map codes_of entry.1.items))
-                  (elements_equal p q h.entries.0.elements es
-                  (only (Decomposition q es) (subst (λ b. Shows t b (Decomposition q es)) k.0 shows))).1
-                  h.entries.0.list;
+                subst (ShowElements t.vtree (get t.linked) (map codes_of entry.1.items))
+                (elements_equal p q h.entries.0.elements es
+                (only (Decomposition q es) (subst (λ b. Shows t b (Decomposition q es)) k.0 shows))).1
+                h.entries.0.list;
             ranked = pairs_ranked entry.1.items h.entries.0.ranked;
           }
 

@@ -1,6 +1,7 @@
 //! The elements of the decompositions below a node, in the structural order.
 
-ghost use Rattle.std.specs.Prelude.{◌≡◌, ◌≤◌, ◌<◌, ◌+◌, ◌==◌, ℕ, Some, None, List, [], length, map, IfOk, OnOk, if◌then◌else◌};
+ghost use Rattle.std.specs.Prelude.{◌≡◌, ◌≤◌, ◌<◌, ◌+◌, ◌==◌, ℕ, Some};
+ghost use Rattle.std.specs.Prelude.{None, List, [], length, map, IfOk, OnOk, if◌then◌else◌};
 ghost use Rattle.std.specs.BTreeMap as tree;
 ghost use Rattle.std.specs.Ordering.{nat_cmp};
 ghost use Rattle.sd_laws.specs.Depth.{depth};
@@ -16,13 +17,15 @@ ghost use Rattle.sd_manager.specs.Shown.{Shows, IsShown};
 ghost use Rattle.sd_manager.specs.Views.{pairs_at};
 ghost use Rattle.sd_manager.specs.Valid.{IsTable};
 ghost use Rattle.sd_file.specs.Ordered.{IsOrdered, list_of, rank_of, Rank};
-ghost use Rattle.sd_file.specs.Ranks.{IsRanked, AreRanks, IsEntry, IsGiven, IsGiving, codes_of, ranked_cmp, entry_cmp};
-ghost use Rattle.sd_file.specs.Ranks.{IsAt, IsGroup, IsFresh, NoneAt, AreLeft, ArePlain, FitsPlain, AreFound, IsAdded};
+ghost use Rattle.sd_file.specs.Ranks.{IsRanked, AreRanks, IsEntry, IsGiven};
+ghost use Rattle.sd_file.specs.Ranks.{IsGiving, codes_of, ranked_cmp, entry_cmp};
+ghost use Rattle.sd_file.specs.Ranks.{IsAt, IsGroup, IsFresh, NoneAt};
+ghost use Rattle.sd_file.specs.Ranks.{AreLeft, ArePlain, FitsPlain, AreFound, IsAdded};
 ghost use Rattle.sd_file.specs.Ranks.{was_seen, items_of};
 
 use sd_manager::{Manager, NodeId, View};
-use std::alloc::{AllocError, Global};
 use sd_vtree::VNode;
+use std::alloc::{AllocError, Global};
 use std::collections::{BTreeMap, BTreeSet};
 
 // Where a diagram stands in the structural order: its kind, its position, and its place among those of one position.
@@ -87,12 +90,7 @@ impl Ordered {
     }
 
     // Gives a node its rank and its list.
-    fn give(
-        &mut self,
-        code: u32,
-        rank: Rank,
-        list: Vec<(NodeId, NodeId)>,
-    ) -> Result<(), AllocError>
+    fn give(&mut self, code: u32, rank: Rank, list: Vec<(NodeId, NodeId)>) -> Result<(), AllocError>
         ensures { OnOk result (IsGiven self.old self.new code rank list.items) }
     {
         self.ranks.insert(code, rank)?;
@@ -127,7 +125,6 @@ fn pairs_of(alloc: Global, elements: &[Ranked]) -> Result<Vec<(NodeId, NodeId)>,
     }
     Ok(pairs)
 }
-
 
 // The elements of a node with their ranks, in the order of the table.
 fn ranked_elements(
@@ -253,11 +250,7 @@ fn rank_below(
 }
 
 // Takes the group of a position out, or makes an empty one.
-fn taken_or_new(
-    alloc: Global,
-    groups: &mut BTreeMap<u32, Vec<u32>>,
-    position: u32,
-) -> Vec<u32>
+fn taken_or_new(alloc: Global, groups: &mut BTreeMap<u32, Vec<u32>>, position: u32) -> Vec<u32>
     ensures items { result.items ≡ items_of (tree.get nat_cmp groups.old position) }
     ensures others { (q : ℕ) → (q ≡ position → ⊥) → tree.get nat_cmp groups.new q ≡ tree.get nat_cmp groups.old q }
 {
@@ -380,7 +373,10 @@ fn collect_below(
     Ok(())
 }
 
-/// The elements of the decompositions at and below a node. The only error is want of memory.
+/// The elements of the decompositions at and below a node.
+///
+/// Each element's codes are looked up, and one without a rank would be answered as want of memory. There is none, since
+/// the vtree's children come before their node, but no clause says so yet.
 pub(crate) fn in_order(alloc: Global, m: &Manager, node: NodeId) -> Result<Ordered, AllocError>
     requires { (d : Diagram) × IsShown m.now node d }
     ensures { IfOk result (λ o. (d : Diagram) → IsShown m.now node d → IsOrdered m.now d (list_of o)) }
@@ -401,3 +397,6 @@ pub(crate) fn in_order(alloc: Global, m: &Manager, node: NodeId) -> Result<Order
         None => Err(AllocError),
     }
 }
+
+#[cfg(test)]
+mod tests;

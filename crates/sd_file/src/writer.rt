@@ -7,6 +7,8 @@ ghost use Rattle.sd_model.specs.Diagram.{Diagram, Elements, Literal};
 ghost use Rattle.sd_model.specs.Listing.{add};
 ghost use Rattle.sd_model.specs.Size.{walk, walk_elements};
 ghost use Rattle.sd_model.specs.Text.{sdd_text, number_text};
+ghost use Rattle.sd_model.specs.Tree.{leaves};
+ghost use Rattle.sd_vtree.specs.Numbered.{forget};
 ghost use Rattle.sd_laws.specs.Shown.{ShowElements};
 ghost use Rattle.sd_manager.specs.declared.view.View.TheVariants.{Literal as LiteralView};
 ghost use Rattle.sd_manager.specs.Shown.{Shows, HoldsDiagram};
@@ -14,6 +16,7 @@ ghost use Rattle.sd_manager.specs.Valid.{IsTable};
 ghost use Rattle.sd_manager.specs.Views.{IsViewOf};
 ghost use Rattle.sd_file.specs.Lines.{IsWritten, CanBeWalked, BothCanBeWalked};
 ghost use Rattle.sd_file.specs.Ordered.{list_of};
+ghost use Rattle.sd_file.specs.RoundTrip.{ReadsBack};
 
 use crate::lines::{Leaf, Listing, push_feed, push_number};
 use crate::order::{Ordered, in_order};
@@ -23,10 +26,13 @@ use std::alloc::{AllocError, Global};
 
 /// The text of the diagram that a root shows, in the form of the SDD Package 2.0: the line `sdd N`, then a line for
 /// each of the N distinct diagrams in it, numbered from 0 in the order in which they are first complete. Its own line
-/// is the last. Each node is visited once. The only error is want of memory.
+/// is the last, and the text is read back as a file with the diagram's value. Each node is visited once. The only error
+/// is want of memory.
 pub fn write_sdd(alloc: Global, m: &Manager, root: &Root) -> Result<Bytes, AllocError>
     requires held { (d : Diagram) × HoldsDiagram m.now root.now d }
     ensures text { IfOk result (λ text. (d : Diagram) → HoldsDiagram m.now root.now d → text ≡ sdd_text d) }
+    ensures read_back { IfOk result (λ text. (d : Diagram) → HoldsDiagram m.now root.now d →
+        ReadsBack (leaves (forget m.now.vtree)) text d) }
 {
     let node = m.node_of(root);
     let ordered = in_order(alloc, m, node)?;

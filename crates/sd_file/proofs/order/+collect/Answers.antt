@@ -1,6 +1,5 @@
-use Rattle.std.proofs.Common.{◌≡◌, ◌<◌, length, sym, ◌∙◌, ap, subst, arith, Some, slice_get}
+use Rattle.std.proofs.Common.{◌≡◌, ◌<◌, length, sym, subst, arith, Some, slice_get}
 use Rattle.sd_model.specs.Diagram.{Decomposition}
-use Rattle.sd_laws.specs.Depth.{depth}
 use Rattle.sd_vtree.specs.Numbered.{numbers}
 use Rattle.sd_manager.specs.Shown.{IsShown}
 use Rattle.sd_manager.proofs.Reading.{shown_has_node}

@@ -1,7 +1,5 @@
-use Rattle.std.proofs.Common.{◌≡◌, ◌<◌, length, sym, ◌∙◌, ap, subst, arith, Some}
-use Rattle.std.specs.BTreeMap as tree
-use Rattle.std.specs.Ordering.{nat_cmp}
-use Rattle.sd_vtree.specs.Numbered.{numbers, children_at}
+use Rattle.std.proofs.Common.{◌≡◌, sym, ◌∙◌, ap, subst, Some}
+use Rattle.sd_vtree.specs.Numbered.{children_at}
 use Rattle.sd_vtree.proofs.Subtrees.{inner_pair, size_at}
 use Rattle.sd_vtree.proofs.Times.{smaller}
 use Rattle.sd_file.specs.Ranks.{IsGroup}

@@ -1,4 +1,4 @@
-use Rattle.std.proofs.Common.{◌≡◌, true, false, cond, w32, rules, ap, ◌∙◌, subst, sym}
+use Rattle.std.proofs.Common.{◌≡◌, true, false, w32, rules, subst}
 use mir.Val.{SFits, to_z, of_z}
 use lib.Signed.{lt_z}
 use Rattle.std.specs.Prelude.{pos}

@@ -1,5 +1,4 @@
 use Rattle.std.proofs.Common.{sym, subst}
-use Rattle.std.specs.List.Sorted.{IsPermutation}
 use Rattle.sd_file.specs.Ranks.{IsGiving}
 use Rattle.sd_file.proofs.Grouping.{on_ok, giving_start}
 use Rattle.sd_file.proofs.order.rank_group.Goals as goal

@@ -1,4 +1,4 @@
-use Rattle.std.proofs.Common.{◌≡◌, Some, sym, ◌∙◌, ap}
+use Rattle.std.proofs.Common.{◌≡◌, Some, sym, ◌∙◌}
 use Rattle.sd_file.proofs.Grouping.{ranked_more, ok_given}
 use Rattle.sd_file.specs.Ordered.{rank_of}
 use Rattle.sd_file.proofs.order.ranked_elements.Goals as goal

@@ -3,6 +3,7 @@ use Rattle.sd_model.specs.Tree.{leaves}
 use Rattle.sd_vtree.specs.Numbered.{forget}
 use Rattle.sd_laws.proofs.Depths.{depth-canonical}
 use Rattle.sd_file.proofs.Added.{whole_text, held_shown, none_written}
+use Rattle.sd_file.proofs.FewNodes.{written_reads_back}
 use Rattle.sd_file.proofs.writer.write_sdd.Goals as goal
 
 -- the walk may begin at the node
@@ -23,14 +24,17 @@ add_node-requires-clause-known c =
     )
 
 -- the header and the lines make the text
-pub returns : goal.returns
-returns c = record {
-  text = λ d h.
-      let shown = held_shown c.args.m.now c.args.root.now c.node_of-node.result d h c.node_of-node.ensures.held in
-      c.new.ensures ∙ c.in_ok-extend_from_slice.ensures.items
-      ∙ rw (c.in_ok-text.ensures, c.deref.ensures.value, c.count.ensures)
-      (whole_text c.args.m.now c.add_node.new.listing d
-      (c.in_ok-add_node.ensures d [] shown.shows
-      (none_written c.args.m.now c.new-listing.result c.new-listing.ensures.marks c.new-listing.ensures.count
-      c.new-listing.ensures.text)));
-}
+pub returns-clause-text : goal.returns-clause-text
+returns-clause-text c = λ d h.
+    let shown = held_shown c.args.m.now c.args.root.now c.node_of-node.result d h c.node_of-node.ensures.held in
+    c.new.ensures ∙ c.in_ok-extend_from_slice.ensures.items
+    ∙ rw (c.in_ok-text.ensures, c.deref.ensures.value, c.count.ensures)
+    (whole_text c.args.m.now c.add_node.new.listing d
+    (c.in_ok-add_node.ensures d [] shown.shows
+    (none_written c.args.m.now c.new-listing.result c.new-listing.ensures.marks c.new-listing.ensures.count
+    c.new-listing.ensures.text)))
+
+-- and the text is read back
+pub returns-clause-read_back : goal.returns-clause-read_back
+returns-clause-read_back c =
+    written_reads_back c.args.m.now c.args.root.now _ c.node_of-node.ensures.table (returns-clause-text c)

@@ -1,6 +1,4 @@
 use Rattle.std.proofs.Common.{ap, ◌∙◌, ◌++◌, ◌∷◌, []}
-use Rattle.std.specs.Ordering.{nat_cmp}
-use Rattle.std.specs.BTreeMap as tree
 use Rattle.sd_file.proofs.Giving.{updated_here, updated_other, updated_set}
 use Rattle.sd_file.proofs.order.Found.put.Goals as goal
 

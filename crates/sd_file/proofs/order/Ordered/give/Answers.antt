@@ -1,4 +1,3 @@
-use Rattle.std.proofs.Common.{Some}
 use Rattle.std.specs.Option.{option_map}
 use Rattle.sd_file.specs.Ordered.{list_of, rank_of}
 use Rattle.sd_file.proofs.Giving.{updated}

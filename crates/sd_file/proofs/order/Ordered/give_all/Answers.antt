@@ -1,4 +1,4 @@
-use Rattle.std.proofs.Common.{length, map, ap, sym, ◌∙◌, arith}
+use Rattle.std.proofs.Common.{map, ap, ◌∙◌, arith}
 use Rattle.sd_file.specs.Ranks.{codes_of}
 use Rattle.sd_file.proofs.Grouping.{given_more, given_all}
 use Rattle.sd_file.proofs.order.Ordered.give_all.Goals as goal

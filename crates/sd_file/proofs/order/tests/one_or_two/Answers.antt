@@ -1,0 +1,21 @@
+use Rattle.std.proofs.Common.{ℕ, List, [], ◌∷◌, Ok}
+use Rattle.sd_manager.proofs.OverTwo.{clause_asked}
+use Rattle.sd_manager.proofs.Same.{made_known}
+use Rattle.sd_file.proofs.order.tests.one_or_two.Goals as goal
+
+pub make-requires-clause-partition : goal.make-requires-clause-partition
+make-requires-clause-partition c =
+    clause_asked c.args.m.now c.args.root c.literal-other.result c.literal-two.result c.literal-one.result
+    c.constant-yes.result c.requires c.literal-other.ensures.code c.literal-two.ensures.code
+    c.literal-one.ensures.code
+    c.constant-yes.ensures.code
+
+pub returns : goal.returns
+returns c =
+    let split = clause_asked c.args.m.now c.args.root c.literal-other.result c.literal-two.result
+    c.literal-one.result c.constant-yes.result c.requires c.literal-other.ensures.code c.literal-two.ensures.code
+    c.literal-one.ensures.code c.constant-yes.ensures.code in
+    let pairs : List (ℕ × ℕ) =
+    (c.literal-other.result, c.literal-two.result) ∷ (c.literal-one.result, c.constant-yes.result) ∷ [] in
+    made_known c.args.m.now c.make.new.self c.args.root pairs split.0 split.1 (Ok c.in_ok-make.field-0)
+    c.in_ok-make.ensures.ok
