@@ -115,6 +115,7 @@ opposite-right t epoch a b x z ex ez p q h =
       second = Bottom;
       first_is = p.is;
       second_is = record { shows = refl; canonical = canonical_bottom };
+      argument = record { negation = λ e. refl; given = λ e. cc; forget = λ e. cc };
       answer = record {
         diagram = q.diagram;
         is = q.is;

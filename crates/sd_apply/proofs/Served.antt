@@ -16,7 +16,7 @@ use Rattle.sd_manager.specs.Making.{Extends}
 use Rattle.sd_manager.specs.Valid.{IsTable}
 use Rattle.sd_apply.specs.Operations.{number_of, operation_value}
 use Rattle.sd_apply.specs.Answers.{HasAnswer}
-use Rattle.sd_apply.specs.Serving.{IsRight, Serves}
+use Rattle.sd_apply.specs.Serving.{IsArgument, IsRight, Serves}
 use Rattle.sd_apply.specs.Places.{IsBelow}
 use Rattle.sd_apply.specs.Calls.{Applies, Complements}
 use Rattle.sd_apply.proofs.Listed.{shown-on, answer-on}
@@ -30,6 +30,7 @@ right-on old new x e h =
       second = h.second;
       first_is = shown-on old new x e.0.a h.first h.first_is;
       second_is = shown-on old new x e.0.b h.second h.second_is;
+      argument = h.argument;
       answer = answer-on old new x (operation_value e.0.operation h.first h.second) e.1 h.answer;
     }
 
@@ -61,6 +62,8 @@ right-same t e f r s o a b n h =
       second = h.second;
       first_is = subst (λ x. IsShown t x h.first) (sym a) h.first_is;
       second_is = subst (λ x. IsShown t x h.second) (sym b) h.second_is;
+      argument = subst (λ x. IsArgument x e.b h.second) (sym o)
+          (subst (λ x. IsArgument f.operation x h.second) (sym b) h.argument);
       answer = subst (λ x. HasAnswer t (operation_value e.operation h.first h.second) x) (sym n)
           (subst (λ x. HasAnswer t (operation_value x h.first h.second) s) (sym o) h.answer);
     }
@@ -86,6 +89,12 @@ number-known : (o : Operation) → number_of o ≤ 5
 number-known And = omega arith
 number-known Or = omega arith
 number-known Xor = omega arith
+
+-- a connective takes any second argument
+any-argument : (o : Operation) (b : ℕ) (d : Diagram) → IsArgument (number_of o) b d
+any-argument And b d = record { negation = λ e. cc; given = λ e. cc; forget = λ e. cc }
+any-argument Or b d = record { negation = λ e. cc; given = λ e. cc; forget = λ e. cc }
+any-argument Xor b d = record { negation = λ e. cc; given = λ e. cc; forget = λ e. cc }
 
 pub looked-applies : (c : Entries) (t : Table) (o : Operation) (n v a b epoch x y r : ℕ) →
     IsTable t → Serves c t →
@@ -165,6 +174,7 @@ applies-right old new o n epoch v a b r x y z e same ex ey ez p q h =
       second = q.diagram;
       first_is = shown-on old new e a p.diagram (shown old v a p.diagram p.is);
       second_is = shown-on old new e b q.diagram (shown old v b q.diagram q.is);
+      argument = subst (λ m. IsArgument m b q.diagram) (sym same) (any-argument o b q.diagram);
       answer = record {
         diagram = k.diagram;
         is = k.is;

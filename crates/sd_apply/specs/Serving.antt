@@ -1,11 +1,27 @@
 -- When the kept answers are right for a manager.
-use Rattle.std.specs.Prelude.{◌≡◌, ℕ, ◌≤◌, Contains}
-use Rattle.sd_model.specs.Diagram.{Diagram}
+use Rattle.std.specs.Prelude.{◌≡◌, ℕ, ◌≤◌, true, Contains}
+use Rattle.sd_model.specs.Diagram.{Diagram, Literal}
 use Rattle.sd_cache.specs.Entries.{Call, Entries}
 use Rattle.sd_manager.specs.Table.{Table}
 use Rattle.sd_manager.specs.Shown.{IsShown}
 use Rattle.sd_apply.specs.Operations.{operation_value}
 use Rattle.sd_apply.specs.Answers.{HasAnswer}
+
+-- the diagram is a literal
+abbrev pub IsLiteral : Diagram → Type 0
+IsLiteral (Literal p v positive) = Unit {0}
+IsLiteral d = ⊥
+
+-- the diagram is a variable
+abbrev pub IsVariable : Diagram → Type 0
+IsVariable (Literal p v true) = Unit {0}
+IsVariable d = ⊥
+
+-- the second argument of an operation is 0 for negation, a literal for given, and a variable for forget
+pub record IsArgument (operation b : ℕ) (second : Diagram) : Type 0 where
+  pub negation : operation ≡ 3 → b ≡ 0
+  pub given : operation ≡ 4 → IsLiteral second
+  pub forget : operation ≡ 5 → IsVariable second
 
 -- an entry is of one of the six operations, and names nodes that show canonical diagrams, and an
 -- answer with the value of the operation at them
@@ -15,6 +31,7 @@ pub record IsRight (t : Table) (e : Call × ℕ) : Type 0 where
   pub second : Diagram
   pub first_is : IsShown t e.0.a first
   pub second_is : IsShown t e.0.b second
+  pub argument : IsArgument e.0.operation e.0.b second
   pub answer : HasAnswer t (operation_value e.0.operation first second) e.1
 
 -- the last epoch, 2^64 - 1, at which a manager stays
