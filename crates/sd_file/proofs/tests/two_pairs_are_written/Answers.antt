@@ -14,3 +14,12 @@ hold-requires-clause-room g c =
       ap len c.in_ok-m.ensures.no_roots,
       len-empty nat_cmp ℕ,
     )
+
+-- the root holds the node that was built
+pub write_sdd-requires : goal.write_sdd-requires
+write_sdd-requires g c =
+    let answer = c.in_ok-node.ensures.ok in record {
+      held = subst (λ t. (d : Diagram) × HoldsDiagram t c.in_ok-root.root d) (sym c.in_ok-root.ensures.ok)
+          (root_holds c.build.new.m c.in_ok-root.root c.in_ok-node.node
+          (record { diagram = answer.diagram; is = answer.is }));
+    }
