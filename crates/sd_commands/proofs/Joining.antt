@@ -1,0 +1,241 @@
+-- Nodes joined one after another show the joined values.
+use Rattle.std.proofs.Common.{◌≡◌, ℕ, zero, suc, ◌+◌, ◌-◌, ◌<◌, ◌≤◌, Bool, true, false, ◌&&◌, ◌||◌}
+use Rattle.std.proofs.Common.{List, [], ◌∷◌, ◌++◌, length, drop, take, slice_get}
+use Rattle.std.proofs.Common.{Some, ℤ, pos, negsuc, refl, sym, ap, subst, ◌∙◌, arith, add-one}
+use Rattle.std.specs.List.{list_all, list_any}
+use Rattle.std.specs.FinMap.{get}
+use Rattle.sd_model.specs.declared.trees.Operation.{Operation}
+use Rattle.sd_model.specs.declared.trees.Operation.TheVariants.{And, Or, Xor}
+use Rattle.sd_model.specs.Assignment.{literal_holds}
+use Rattle.sd_model.specs.Diagram.{Diagram, meaning}
+use Rattle.sd_model.specs.Expression.{combine, expression_value}
+use Rattle.sd_formula.specs.declared.formula.Kind.{Kind}
+use Rattle.sd_formula.specs.declared.formula.Kind.TheVariants.{Cnf, Dnf}
+use Rattle.sd_formula.specs.Dimacs.{Groups}
+use Rattle.sd_formula.specs.Formulas.{IsLiteral, expression_of}
+use Rattle.sd_formula.proofs.GroupLaws.{drop_at}
+use Rattle.sd_laws.proofs.Codes.{shows-kept}
+use Rattle.sd_manager.specs.Table.{Table}
+use Rattle.sd_manager.specs.Shown.{IsShown, IsKnown, constant_diagram}
+use Rattle.sd_manager.specs.Literals.{IsLiteralTo}
+use Rattle.sd_manager.specs.Making.{Extends}
+use Rattle.sd_vtree.specs.Numbered.{Numbered}
+use Rattle.sd_apply.specs.Answers.{HasAnswer, Combines}
+use Rattle.sd_commands.specs.Joined.{joined, neutral, outer, inner}
+
+-- all and any are joined
+all_joined : {X : Type 0} (p : X → Bool) (xs : List X) → list_all p xs ≡ joined And p xs
+all_joined p [] = refl
+all_joined p (x ∷ xs) = ap (λ b. p x && b) (all_joined p xs)
+
+any_joined : {X : Type 0} (p : X → Bool) (xs : List X) → list_any p xs ≡ joined Or p xs
+any_joined p [] = refl
+any_joined p (x ∷ xs) = ap (λ b. p x || b) (any_joined p xs)
+
+-- equal values are joined to equal ones
+joined_same : {X : Type 0} (o : Operation) (p q : X → Bool) (xs : List X) → ((x : X) → p x ≡ q x)
+    → joined o p xs ≡ joined o q xs
+joined_same o p q [] same = refl
+joined_same o p q (x ∷ xs) same =
+    ap (λ b. combine o b (joined o p xs)) (same x) ∙ ap (combine o (q x)) (joined_same o p q xs same)
+
+-- the value of a formula, by its connectives
+pub formula_joined : (f : Groups) (given : List Bool)
+    → joined (outer f.kind) (λ g. joined (inner f.kind) (literal_holds given) g) f.groups
+    ≡ expression_value (expression_of f) given
+formula_joined f given = go f.kind f.groups
+  where
+    go : (kind : Kind) (groups : List (List ℤ))
+        → joined (outer kind) (λ g. joined (inner kind) (literal_holds given) g) groups
+        ≡ expression_value (expression_of (record { kind = kind; variables = f.variables; groups = groups })) given
+    go Cnf groups =
+        joined_same And _ _ groups (λ g. sym (any_joined (literal_holds given) g))
+        ∙ sym (all_joined (λ g. list_any (literal_holds given) g) groups)
+    go Dnf groups =
+        joined_same Or _ _ groups (λ g. sym (all_joined (literal_holds given) g))
+        ∙ sym (any_joined (λ g. list_all (literal_holds given) g) groups)
+
+-- connectives are associative, and have a neutral value
+grouped : (o : Operation) (a b c : Bool) → combine o a (combine o b c) ≡ combine o (combine o a b) c
+grouped And true b c = refl
+grouped And false b c = refl
+grouped Or true b c = refl
+grouped Or false b c = refl
+grouped Xor true true true = refl
+grouped Xor true true false = refl
+grouped Xor true false c = refl
+grouped Xor false b c = refl
+
+alone : (o : Operation) (b : Bool) → combine o b (neutral o) ≡ combine o (neutral o) b
+alone And true = refl
+alone And false = refl
+alone Or true = refl
+alone Or false = refl
+alone Xor true = refl
+alone Xor false = refl
+
+-- one value more
+joined_push : {X : Type 0} (o : Operation) (p : X → Bool) (xs : List X) (x : X)
+    → joined o p (xs ++ x ∷ []) ≡ combine o (joined o p xs) (p x)
+joined_push o p [] x = alone o (p x)
+joined_push o p (y ∷ xs) x = ap (combine o (p y)) (joined_push o p xs x) ∙ grouped o (p y) (joined o p xs) (p x)
+
+-- a node that shows a value is known
+pub known : (t : Table) (f : List Bool → Bool) (c : ℕ) → HasAnswer t f c → IsKnown t c
+known t f c h = record { diagram = h.diagram; is = h.is }
+
+-- a node shows the same in a later table
+pub shown_on : (old new : Table) (d : Diagram) (c : ℕ) → Extends old new → IsShown old c d → IsShown new c d
+shown_on old new d c kept is = subst IsShownBy (sym kept.vtree) record {
+  shows = shows-kept old.vtree (get old.linked) (get new.linked) kept.nodes d c is.shows;
+  canonical = is.canonical;
+}
+  where
+    IsShownBy : Numbered → Type 0
+    IsShownBy v = IsShown (record new { vtree = v }) c d
+
+-- so does one that shows a value
+pub answer_on : (old new : Table) (f : List Bool → Bool) (c : ℕ) → Extends old new → HasAnswer old f c
+    → HasAnswer new f c
+answer_on old new f c kept h =
+    record { diagram = h.diagram; is = shown_on old new h.diagram c kept h.is; value = h.value }
+
+-- and with an equal value
+pub answer_same : (t : Table) (f g : List Bool → Bool) (c : ℕ) → ((given : List Bool) → f given ≡ g given)
+    → HasAnswer t f c → HasAnswer t g c
+answer_same t f g c same h = record {
+  diagram = h.diagram;
+  is = h.is;
+  value = λ given. h.value given ∙ same given;
+}
+
+-- the answer of a connective
+pub combined : (old new : Table) (o : Operation) (f g : List Bool → Bool) (a b c : ℕ) → HasAnswer old f a
+    → HasAnswer old g b → Combines old new o a b c → HasAnswer new (λ given. combine o (f given) (g given)) c
+combined old new o f g a b c p q combines =
+    let r = combines.each p.diagram q.diagram p.is q.is in record {
+      diagram = r.diagram;
+      is = r.is;
+      value = λ given. r.value given ∙ ap (λ v. combine o v (meaning q.diagram given)) (p.value given)
+          ∙ ap (combine o (f given)) (q.value given);
+    }
+
+-- the constant of no operands
+pub none_joined : (t : Table) (o : Operation) (c : ℕ) (b : Bool) → b ≡ neutral o → IsShown t c (constant_diagram b)
+    → HasAnswer t (λ given. neutral o) c
+none_joined t o c b is shown = record {
+  diagram = constant_diagram b;
+  is = shown;
+  value = λ given. constant b given ∙ is;
+}
+  where
+    constant : (b : Bool) (given : List Bool) → meaning (constant_diagram b) given ≡ b
+    constant true given = refl
+    constant false given = refl
+
+-- one table after another
+pub extends_on : (a b c : Table) → Extends a b → Extends b c → Extends a c
+extends_on a b c h k = record {
+  vtree = k.vtree ∙ h.vtree;
+  nodes = λ n key at. k.nodes n key (h.nodes n key at);
+  marks = λ n key at. k.marks n key (h.nodes n key at) ∙ h.marks n key at;
+  detached = k.detached ∙ h.detached;
+  loose = k.loose ∙ h.loose;
+  roots = k.roots ∙ h.roots;
+  epoch = k.epoch ∙ h.epoch;
+  bound = k.bound ∙ h.bound;
+  moving = k.moving ∙ h.moving;
+  records = omega (arith, h.records, k.records);
+  extent = omega (arith, h.extent, k.extent);
+}
+
+pub extends_self : (t : Table) → Extends t t
+extends_self t = record {
+  vtree = refl;
+  nodes = λ n key at. at;
+  marks = λ n key at. refl;
+  detached = refl;
+  loose = refl;
+  roots = refl;
+  epoch = refl;
+  bound = refl;
+  moving = refl;
+  records = omega arith;
+  extent = omega arith;
+}
+
+-- a literal of a variable from 1 to v is one of the vtree's
+pub literal_of_tree : (v : ℕ) (z : ℤ) → IsLiteral v z → IsLiteralTo v z
+literal_of_tree v (pos x) is = (is.low, is.high)
+literal_of_tree v (negsuc i) is = let high = is.high in omega (arith, high)
+
+-- ---- a group
+
+-- the list from one place before
+from_before : {X : Type 0} (xs : List X) (i j : ℕ) (x : X) → i < length xs → j ≡ length xs - 1 - i
+    → slice_get xs j ≡ Some x → drop (length xs - (i + 1)) xs ≡ x ∷ drop (length xs - i) xs
+from_before xs i j x below is at =
+    let here : length xs - (i + 1) ≡ j = omega (arith, below, is) in
+    let after_ : j + 1 ≡ length xs - i = omega (arith, below, is) in
+    ap (λ n. drop n xs) here ∙ drop_at xs j x at ∙ ap (λ n. x ∷ drop n xs) after_
+
+-- one literal more in front
+pub literal_more : (old new : Table) (o : Operation) (xs : List ℤ) (i j : ℕ) (x : ℤ) (a b c : ℕ) → i < length xs
+    → j ≡ length xs - 1 - i → slice_get xs j ≡ Some x
+    → (d : Diagram) × IsShown old a d × ((given : List Bool) → meaning d given ≡ literal_holds given x)
+    → HasAnswer old (λ given. joined o (literal_holds given) (drop (length xs - i) xs)) b
+    → Combines old new o a b c
+    → HasAnswer new (λ given. joined o (literal_holds given) (drop (length xs - (i + 1)) xs)) c
+literal_more old new o xs i j x a b c below is at first rest combines =
+    answer_same new
+    (λ given. combine o (literal_holds given x) (joined o (literal_holds given) (drop (length xs - i) xs)))
+    (λ given. joined o (literal_holds given) (drop (length xs - (i + 1)) xs)) c
+    (λ given. ap (joined o (literal_holds given)) (sym (from_before xs i j x below is at)))
+    (combined old new o (λ given. literal_holds given x)
+    (λ given. joined o (literal_holds given) (drop (length xs - i) xs)) a b c
+    (record { diagram = first.0; is = first.1; value = first.2 }) rest combines)
+
+-- ---- the groups
+
+take_at : {X : Type 0} (xs : List X) (i : ℕ) (x : X) → slice_get xs i ≡ Some x
+    → take (suc i) xs ≡ take i xs ++ x ∷ []
+take_at [] i x at = absurd cc
+take_at (y ∷ ys) zero x at = let is : y ≡ x = cc in ap (λ z. z ∷ []) is
+take_at (y ∷ ys) (suc i) x at = ap (λ l. y ∷ l) (take_at ys i x at)
+
+take_all : {X : Type 0} (xs : List X) (i : ℕ) → length xs ≤ i → take i xs ≡ xs
+take_all [] zero h = refl
+take_all [] (suc i) h = refl
+take_all (y ∷ ys) zero h = absurd (omega (arith, h))
+take_all (y ∷ ys) (suc i) h = ap (λ l. y ∷ l) (take_all ys i (omega (arith, h)))
+
+-- the value of the first groups
+abbrev pub front_value : Groups → ℕ → List Bool → Bool
+front_value f i given =
+    joined (outer f.kind) (λ group. joined (inner f.kind) (literal_holds given) group) (take i f.groups)
+
+-- one group more
+pub group_more : (f : Groups) (old mid new : Table) (between within : Operation) (i : ℕ) (g : List ℤ) (a b c : ℕ)
+    → between ≡ outer f.kind → within ≡ inner f.kind → slice_get f.groups i ≡ Some g → Extends old mid
+    → HasAnswer old (front_value f i) a → HasAnswer mid (λ given. joined within (literal_holds given) g) b
+    → Combines mid new between a b c → HasAnswer new (front_value f (i + 1)) c
+group_more f old mid new between within i g a b c outside inside at kept front group combines =
+    answer_same new (λ given. combine (outer f.kind) (front_value f i given)
+    (joined (inner f.kind) (literal_holds given) g)) (front_value f (i + 1)) c
+    (λ given.
+    sym (joined_push (outer f.kind) (λ group. joined (inner f.kind) (literal_holds given) group) (take i f.groups) g)
+    ∙ ap (joined (outer f.kind) (λ group. joined (inner f.kind) (literal_holds given) group))
+    (sym (ap (λ n. take n f.groups) (add-one i) ∙ take_at f.groups i g at)))
+    (combined mid new (outer f.kind) (front_value f i) (λ given. joined (inner f.kind) (literal_holds given) g) a b c
+    (answer_on old mid (front_value f i) a kept front)
+    (subst (λ o. HasAnswer mid (λ given. joined o (literal_holds given) g) b) inside group)
+    (subst (λ o. Combines mid new o a b c) outside combines))
+
+-- all groups
+pub all_groups : (f : Groups) (t : Table) (i : ℕ) (c : ℕ) → length f.groups ≤ i → HasAnswer t (front_value f i) c
+    → HasAnswer t (expression_value (expression_of f)) c
+all_groups f t i c all h =
+    answer_same t (front_value f i) (expression_value (expression_of f)) c
+    (λ given.
+    ap (joined (outer f.kind) (λ group. joined (inner f.kind) (literal_holds given) group)) (take_all f.groups i all)
+    ∙ formula_joined f given) h

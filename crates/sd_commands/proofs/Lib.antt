@@ -1,0 +1,5 @@
+pub mod Joining
+pub mod Outcomes
+pub mod Standing
+pub mod Stepping
+pub mod Values

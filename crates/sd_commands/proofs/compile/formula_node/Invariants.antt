@@ -1,0 +1,18 @@
+use Rattle.std.proofs.Common.{take}
+use Rattle.sd_model.specs.Assignment.{literal_holds}
+use Rattle.sd_manager.specs.Valid.{IsTable}
+use Rattle.sd_manager.specs.Making.{Extends}
+use Rattle.sd_apply.specs.Answers.{HasAnswer}
+use Rattle.sd_apply.specs.Serving.{Serves}
+use Rattle.sd_commands.specs.Joined.{joined, outer, inner}
+use Rattle.sd_commands.proofs.compile.formula_node.Given as goal
+
+abbrev pub invariant-loop-index : goal.invariant-loop-index
+invariant-loop-index l = record {
+  shown : HasAnswer l.m (λ given. joined (outer l.fn.formula.kind)
+      (λ group. joined (inner l.fn.formula.kind) (literal_holds given) group)
+      (take l.index l.fn.formula.groups)) l.node;
+  kept : Extends l.fn.m l.m;
+  serves : Serves l.c l.m;
+  table : IsTable l.m;
+}

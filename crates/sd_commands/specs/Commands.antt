@@ -1,0 +1,112 @@
+-- The commands of a run, and what each comes to. A later command is a case more of `Command` and of `Step`.
+use Rattle.std.specs.Prelude.{◌≡◌, ℕ, Bool, true, false, not, ◌==◌, List, [], ◌∷◌, ◌++◌, filter, codes}
+use Rattle.std.specs.Prelude.{Option, Some, None, unwrap_or, if◌then◌else◌}
+use Rattle.sd_model.specs.Expression.{Expression, Constant, Atom, Combined, Negated, expression_value, AreOneFunction}
+use Rattle.sd_model.specs.Tree.{Tree, leaves}
+use Rattle.sd_model.specs.Diagram.{Diagram}
+use Rattle.sd_model.specs.Size.{IsDiagramOf, HasSize}
+use Rattle.sd_model.specs.Text.{number_text, sdd_text, vtree_text}
+use Rattle.sd_file.specs.Reads.{expression_of}
+use Rattle.sd_commands.specs.Effects.{Effect, Write, Print}
+use Rattle.sd_commands.specs.declared.command.Command.{Command}
+use Rattle.sd_commands.specs.declared.command.Command.TheVariants as commands
+
+-- what a run holds between two commands: the bound names with their formulas, the last one first, the tree, and the
+-- limit of the total size
+pub record State : Type 0 where
+  pub names : List (ℕ × Expression)
+  pub tree : Tree
+  pub limit : ℕ
+
+-- a command is done, with a new state and at most one effect; its place is not movable; or the total size passes the
+-- limit, at a group or after the command
+pub data Outcome : Type 0 where
+  Done : (state : State) (effects : List Effect) → Outcome
+  NotMovable : Outcome
+  OverLimit : (group : Option ℕ) (size : ℕ) → Outcome
+
+-- the formula of a name, if it is bound
+abbrev pub named : List (ℕ × Expression) → ℕ → Option Expression
+named [] name = None
+named (entry ∷ entries) name = if entry.0 == name then Some entry.1 else named entries name
+
+-- the formula of a bound name
+abbrev pub formula_of : State → ℕ → Expression
+formula_of state name = unwrap_or (named state.names name) (Constant false)
+
+-- the state with one more name
+abbrev pub bound : State → ℕ → Expression → State
+bound state name f = record state { names = (name, f) ∷ state.names }
+
+-- the state without a name
+abbrev pub dropped : State → ℕ → State
+dropped state name = record state { names = filter (λ entry. not (entry.0 == name)) state.names }
+
+-- the name is bound to the formula, and nothing is done outside
+abbrev pub Binds : State → ℕ → Expression → Outcome → Type 0
+Binds state name f outcome = outcome ≡ Done (bound state name f) []
+
+-- the command writes or prints this, and the state stays
+abbrev pub Does : State → Effect → Outcome → Type 0
+Does state effect outcome = outcome ≡ Done state (effect ∷ [])
+
+-- the text of the canonical diagram of a formula
+pub record IsTextOf (tree : Tree) (f : Expression) (text : List ℕ) : Type 0 where
+  pub diagram : Diagram
+  pub of_value : IsDiagramOf tree f diagram
+  pub is : text ≡ sdd_text diagram
+
+-- the answer says whether two formulas are one function over the variables of the tree
+abbrev pub Compares : Tree → Expression → Expression → Bool → Type 0
+Compares tree f g true = AreOneFunction (leaves tree) f g
+Compares tree f g false = ¬ (AreOneFunction (leaves tree) f g)
+
+-- the line with the size of a diagram
+abbrev pub size_line : ℕ → List ℕ
+size_line n = codes "size " ++ number_text n ++ 10 ∷ []
+
+-- the line that says whether two formulas are one function
+abbrev pub same_line : Bool → List ℕ
+same_line true = codes "same" ++ 10 ∷ []
+same_line false = codes "differ" ++ 10 ∷ []
+
+-- the line with a truth value
+abbrev pub value_line : Bool → List ℕ
+value_line true = codes "value 1" ++ 10 ∷ []
+value_line false = codes "value 0" ++ 10 ∷ []
+
+-- what a command comes to in a state, where this formula is the input
+abbrev pub Step : Expression → State → Command → Outcome → Type 0
+Step input state (commands.Input n) outcome = Binds state n input outcome
+Step input state (commands.Load n file) outcome = Binds state n (expression_of file) outcome
+Step input state (commands.Literal n literal) outcome = Binds state n (Atom literal) outcome
+Step input state (commands.Constant n value) outcome = Binds state n (Constant value) outcome
+Step input state (commands.Combine operation n a b) outcome =
+    Binds state n (Combined operation (formula_of state a) (formula_of state b)) outcome
+Step input state (commands.Negate n a) outcome = Binds state n (Negated (formula_of state a)) outcome
+Step input state (commands.Drop a) outcome = outcome ≡ Done (dropped state a) []
+Step input state (commands.Same a b) outcome =
+    (answer : Bool) × Compares state.tree (formula_of state a) (formula_of state b) answer
+    × Does state (Print (same_line answer)) outcome
+Step input state (commands.Size a) outcome =
+    (n : ℕ) × HasSize (formula_of state a ∷ []) state.tree n × Does state (Print (size_line n)) outcome
+Step input state (commands.Value a bits) outcome =
+    Does state (Print (value_line (expression_value (formula_of state a) bits))) outcome
+Step input state (commands.Write a file) outcome =
+    (text : List ℕ) × IsTextOf state.tree (formula_of state a) text × Does state (Write file text) outcome
+Step input state (commands.WriteVtree file) outcome = Does state (Write file (vtree_text state.tree)) outcome
+
+-- the command may need the arena of the diagrams
+abbrev pub MayFill : Command → Type 0
+MayFill (commands.Input n) = Unit {0}
+MayFill (commands.Load n file) = Unit {0}
+MayFill (commands.Combine operation n a b) = Unit {0}
+MayFill (commands.Negate n a) = Unit {0}
+MayFill command = ⊥
+
+-- these commands are all done, one after another, with these effects
+abbrev pub Steps : Expression → State → List Command → List Effect → State → Type 0
+Steps input old [] effects new = (effects ≡ []) × (new ≡ old)
+Steps input old (command ∷ commands) effects new =
+    (mid : State) × (first : List Effect) × (others : List Effect)
+    × Step input old command (Done mid first) × Steps input mid commands others new × (effects ≡ first ++ others)

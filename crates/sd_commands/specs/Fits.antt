@@ -1,0 +1,57 @@
+-- Which commands can be done: what they use is bound, and their numbers and files are those of the variables.
+use Rattle.std.specs.Prelude.{◌≡◌, ℕ, Bool, true, not, ◌==◌, ◌&&◌, nat_le, List, [], ◌∷◌, ◌++◌, filter, length}
+use Rattle.std.specs.Prelude.{unsigned_abs}
+use Rattle.std.specs.List.{list_any, list_all}
+use Rattle.sd_commands.specs.declared.command.Command.{Command}
+use Rattle.sd_commands.specs.declared.command.Command.TheVariants as commands
+
+-- a number is in a list
+abbrev pub has : List ℕ → ℕ → Bool
+has numbers n = list_any (λ m. m == n) numbers
+
+-- the names that must be bound
+abbrev pub uses : Command → List ℕ
+uses (commands.Combine operation n a b) = a ∷ b ∷ []
+uses (commands.Negate n a) = a ∷ []
+uses (commands.Drop a) = a ∷ []
+uses (commands.Same a b) = a ∷ b ∷ []
+uses (commands.Size a) = a ∷ []
+uses (commands.Value a bits) = a ∷ []
+uses (commands.Write a file) = a ∷ []
+uses command = []
+
+-- the name that is bound then
+abbrev pub binds : Command → List ℕ
+binds (commands.Input n) = n ∷ []
+binds (commands.Load n file) = n ∷ []
+binds (commands.Literal n literal) = n ∷ []
+binds (commands.Constant n value) = n ∷ []
+binds (commands.Combine operation n a b) = n ∷ []
+binds (commands.Negate n a) = n ∷ []
+binds command = []
+
+-- the name that is free then
+abbrev pub frees : Command → List ℕ
+frees (commands.Drop a) = a ∷ []
+frees command = []
+
+-- the bound names after one more command
+abbrev pub bound_after : List ℕ → Command → List ℕ
+bound_after names c = binds c ++ filter (λ n. not (has (frees c) n)) names
+
+-- a literal is of a variable of 1 to v, a file is over v variables, and a value has v bits
+abbrev pub in_range : ℕ → Command → Bool
+in_range v (commands.Load n file) = file.variables == v
+in_range v (commands.Literal n literal) = nat_le 1 (unsigned_abs literal) && nat_le (unsigned_abs literal) v
+in_range v (commands.Value a bits) = length bits == v
+in_range v command = true
+
+-- the command can be done over v variables, where these names are bound
+pub record Fits (v : ℕ) (names : List ℕ) (c : Command) : Type 0 where
+  pub known : list_all (has names) (uses c) ≡ true
+  pub ranges : in_range v c ≡ true
+
+-- so can each of these commands, after those before it
+abbrev pub AllFit : ℕ → List ℕ → List Command → Type 0
+AllFit v names [] = Unit {0}
+AllFit v names (c ∷ cs) = Fits v names c × AllFit v (bound_after names c) cs

@@ -1,0 +1,5 @@
+pub mod Commands
+pub mod Effects
+pub mod Fits
+pub mod Joined
+pub mod Standing

@@ -1,0 +1,43 @@
+//! Commands, and what they do outside.
+
+use sd_base::{Bits, Bytes, Name};
+use sd_file::SddFile;
+use sd_model::Operation;
+
+/// A command of a run. Names are numbers; each name that a command uses has to be bound by an earlier one.
+#[derive(Drop)]
+pub enum Command {
+    /// Binds a name to the input's formula.
+    Input(u32),
+    /// Binds a name to the value of an SDD file.
+    Load(u32, SddFile),
+    /// Binds a name to a literal, as DIMACS has it.
+    Literal(u32, i32),
+    /// Binds a name to a constant.
+    Constant(u32, bool),
+    /// Binds the first name to the formulas of two others, joined by a connective.
+    Combine(Operation, u32, u32, u32),
+    /// Binds the first name to the negation of another's formula.
+    Negate(u32, u32),
+    /// Frees a name.
+    Drop(u32),
+    /// Prints whether the formulas of two names are one function.
+    Same(u32, u32),
+    /// Prints the size of a name's diagram.
+    Size(u32),
+    /// Prints the value of a name's formula under truth values for the variables 1 to V.
+    Value(u32, Bits),
+    /// Writes the text of a name's diagram to a file.
+    Write(u32, Name),
+    /// Writes the text of the vtree to a file.
+    WriteVtree(Name),
+}
+
+/// What a command does outside.
+#[derive(Drop)]
+pub enum Act {
+    /// The named file is written whole with these bytes.
+    WriteFile(Name, Bytes),
+    /// This line, with its end, is printed.
+    PrintLine(Bytes),
+}

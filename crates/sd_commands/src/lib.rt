@@ -1,0 +1,16 @@
+//! The commands of a run over the diagrams of one vtree: each binds a name to a formula, frees one, or makes a text
+//! to be written or printed. What a command does outside is handed out as a value.
+#![tactic(auto)]
+
+mod acts;
+mod binds;
+mod command;
+mod compile;
+mod state;
+mod steps;
+#[cfg(test)]
+mod tests;
+
+pub use command::{Act, Command};
+pub use state::State;
+pub use steps::step;
