@@ -25,19 +25,19 @@ use Rattle.sd_script.proofs.Seeing.{known, length-see_least}
 -- ---- steps of a reading that has no fault
 
 -- a test that passed, and what follows
-passed : {B : Type 0} (b : Bool) (e : ScriptFault) (rest : Result B ScriptFault) (x : B)
+pub passed : {B : Type 0} (b : Bool) (e : ScriptFault) (rest : Result B ScriptFault) (x : B)
     → (fault_if b e >> rest) ≡ Ok x → (b ≡ false) × (rest ≡ Ok x)
 passed true e rest x h = cc
 passed false e rest x h = (refl, h)
 
 -- a step that gave a value, and what follows
-gave : {A B : Type 0} (r : Result A ScriptFault) (f : A → Result B ScriptFault) (x : B)
+pub gave : {A B : Type 0} (r : Result A ScriptFault) (f : A → Result B ScriptFault) (x : B)
     → (r >>= f) ≡ Ok x → (a : A) × (r ≡ Ok a) × (f a ≡ Ok x)
 gave (Ok a) f x h = (a, refl, h)
 gave (Err e) f x h = cc
 
 -- a step, and what follows
-went_on : {A B : Type 0} (r : Result A ScriptFault) (rest : Result B ScriptFault) (x : B)
+pub went_on : {A B : Type 0} (r : Result A ScriptFault) (rest : Result B ScriptFault) (x : B)
     → (r >> rest) ≡ Ok x → (a : A) × (r ≡ Ok a) × (rest ≡ Ok x)
 went_on (Ok a) rest x h = (a, refl, h)
 went_on (Err e) rest x h = cc

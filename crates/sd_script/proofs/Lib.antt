@@ -5,4 +5,5 @@ pub mod Seeing
 pub mod Ahead
 pub mod Bits
 pub mod Allowed
+pub mod FewLines
 mod Rows

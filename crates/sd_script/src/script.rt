@@ -72,6 +72,7 @@ pub fn read_script(alloc: Global, bytes: &[u8], variables: u32) -> Result<Script
     ensures ok { IfOk result (λ script. script_of variables bytes.now ≡ Ok script) }
     ensures fault { IfErr result (λ e. Fails e (script_of variables bytes.now)) }
     ensures script { IfOk result (IsScript variables) }
+    ensures few { IfOk result (λ script. length script.commands ≤ 100000) }
 {
     let reader = read_lines(alloc, bytes, variables)?;
     let names = reader.names.texts(alloc)?;

@@ -1,10 +1,12 @@
 -- What the course of a run says of each status.
-use Rattle.std.proofs.Common.{◌≡◌, ◌⊎◌, ℕ, List, [], Option, Some, None, true, false, ◌==◌, inl, inr, refl, sym, ap, ◌∙◌}
-use Rattle.std.proofs.lemmas.Bool.{eq-eqb}
+use Rattle.std.proofs.Common.{◌≡◌, ◌⊎◌, ℕ, Bool, true, false, ◌==◌, ◌||◌, List, [], Option, Some, None, inl, inr}
+use Rattle.std.proofs.Common.{refl, sym, ap, ◌∙◌}
 use Rattle.sd_base.specs.Files.{Files}
-use Rattle.sd_tool.specs.Effects.{Effect, Contents, after}
+use Rattle.sd_manager.specs.Table.{Table}
+use Rattle.sd_commands.specs.Effects.{Effect}
+use Rattle.sd_tool.specs.Effects.{Contents, after}
 use Rattle.sd_tool.specs.Readings.{Refuses, Reads, reading_of, ReadsTo}
-use Rattle.sd_tool.specs.Refusals.{Refusal, NotYet, TooLong, BadFormula, BadVtree, refusal_status}
+use Rattle.sd_tool.specs.Refusals.{refusal_status}
 use Rattle.sd_tool.specs.Ends.{End, Finished, Refused, Unreadable, Unwritable, OutOfMemory, ArenaFull}
 use Rattle.sd_tool.specs.Ends.{status_of}
 use Rattle.sd_tool.specs.Devices.{Moment, HasCause, SaysLine}
@@ -12,30 +14,67 @@ use Rattle.sd_tool.specs.Course.{Comes, Leaves}
 use Rattle.sd_tool.specs.Headline.{Went, HasEffects, HasLine, HasEnd, WasFull}
 use Rattle.sd_tool.specs.Headline.{IsRefused, CouldNotRead, CouldNotWrite}
 use Rattle.sd_tool.specs.Kept.{Keeps}
-use Rattle.sd_manager.specs.Table.{Table}
-use Rattle.sd_tool.proofs.OneOutcome.{none_refused}
+use Rattle.sd_tool.specs.declared.refusal.Refusal.{Refusal}
+use Rattle.sd_tool.specs.declared.refusal.Refusal.TheVariants as refusals
 use Rattle.sd_tool.proofs.NoWant.{refused_of_text}
 
--- a refusal has one of its two statuses
-two_or_nine : (refusal : Refusal) (status : ℕ) → status ≡ refusal_status refusal → (status ≡ 2) ⊎ (status ≡ 9)
-two_or_nine NotYet status is = inr is
-two_or_nine (TooLong file) status is = inl is
-two_or_nine (BadFormula file fault) status is = inl is
-two_or_nine (BadVtree file fault) status is = inl is
+-- the statuses of refusals, and with them that of a file that was not read
+abbrev pub is_refused : ℕ → Bool
+is_refused n = n == 1 || (n == 2 || (n == 3 || n == 9))
 
--- and no other
-other_status : {A : Type 0} (refusal : Refusal) (status : ℕ) → status ≡ refusal_status refusal
-    → (status ≡ 0) ⊎ (status ≡ 5) ⊎ (status ≡ 6) ⊎ (status ≡ 7) ⊎ (status ≡ 8) → A
-other_status refusal status is other = elim (two_or_nine refusal status is) [
-  | inl two ↦ elim other [ inl a ↦ cc | inr (inl a) ↦ cc | inr (inr (inl a)) ↦ cc | inr (inr (inr (inl a))) ↦ cc | inr (inr (inr (inr a))) ↦ cc ]
-  | inr nine ↦ elim other [ inl a ↦ cc | inr (inl a) ↦ cc | inr (inr (inl a)) ↦ cc | inr (inr (inr (inl a))) ↦ cc | inr (inr (inr (inr a))) ↦ cc ]
-]
+abbrev pub is_idle : ℕ → Bool
+is_idle n = n == 5 || is_refused n
+
+-- a refusal has one of its statuses
+one_of_four : (refusal : Refusal) (status : ℕ) → status ≡ refusal_status refusal
+    → (status ≡ 1) ⊎ (status ≡ 2) ⊎ (status ≡ 3) ⊎ (status ≡ 9)
+one_of_four refusals.NotYet status is = inr (inr (inr is))
+one_of_four (refusals.BadWords fault) status is = inl is
+one_of_four (refusals.TooLong file) status is = inr (inl is)
+one_of_four (refusals.BadFormula file fault) status is = inr (inl is)
+one_of_four (refusals.BadVtree file fault) status is = inr (inl is)
+one_of_four (refusals.BadSdd file fault) status is = inr (inl is)
+one_of_four (refusals.LongScript file) status is = inr (inr (inl is))
+one_of_four (refusals.BadScript file fault) status is = inr (inr (inl is))
+
+-- a test tells two statuses apart
+apart : {A : Type 0} (test : ℕ → Bool) (status a b : ℕ) → status ≡ a → status ≡ b → test a ≡ false → test b ≡ true → A
+apart test status a b is other no_ yes_ = absurd (differ (sym no_ ∙ ap test (sym is ∙ other) ∙ yes_))
+  where
+    differ : false ≡ true → ⊥
+    differ e = cc
+
+-- a status that is none of a refusal
+no_refused : {A : Type 0} (status a : ℕ) → is_refused a ≡ false → status ≡ a
+    → (status ≡ 1) ⊎ (status ≡ 2) ⊎ (status ≡ 3) ⊎ (status ≡ 9) → A
+no_refused status a other is (inl s) = apart is_refused status a 1 is s other refl
+no_refused status a other is (inr (inl s)) = apart is_refused status a 2 is s other refl
+no_refused status a other is (inr (inr (inl s))) = apart is_refused status a 3 is s other refl
+no_refused status a other is (inr (inr (inr s))) = apart is_refused status a 9 is s other refl
+
+-- nor that of a file that was not read
+no_idle : {A : Type 0} (status a : ℕ) → is_idle a ≡ false → status ≡ a
+    → (status ≡ 1) ⊎ (status ≡ 2) ⊎ (status ≡ 3) ⊎ (status ≡ 5) ⊎ (status ≡ 9) → A
+no_idle status a other is (inl s) = apart is_idle status a 1 is s other refl
+no_idle status a other is (inr (inl s)) = apart is_idle status a 2 is s other refl
+no_idle status a other is (inr (inr (inl s))) = apart is_idle status a 3 is s other refl
+no_idle status a other is (inr (inr (inr (inl s)))) = apart is_idle status a 5 is s other refl
+no_idle status a other is (inr (inr (inr (inr s)))) = apart is_idle status a 9 is s other refl
+
+-- a refusal has no other status
+other_status : {A : Type 0} (refusal : Refusal) (status a : ℕ) → status ≡ refusal_status refusal
+    → is_refused a ≡ false → status ≡ a → A
+other_status refusal status a is other same = no_refused status a other same (one_of_four refusal status is)
+
+-- another number
+no_same : {A : Type 0} (status a b : ℕ) → status ≡ a → (a == b) ≡ false → (b == b) ≡ true → status ≡ b → A
+no_same status a b is differ same other = apart (λ n. n == b) status a b is other differ same
 
 -- a run is refused before its commands
 refused_early : (words : List (List ℕ)) (told : Option Files) (effects : List Effect) (refusal : Refusal)
     → Comes words told effects (Refused refusal) → ReadsTo told (reading_of words) (Refuses refusal) × (effects ≡ [])
 refused_early words told effects refusal (inl p) = p
-refused_early words told effects refusal (inr p) = absurd (none_refused p.2.0 p.2.1 refusal p.2.3)
+refused_early words told effects refusal (inr p) = absurd p.2
 
 -- a file that is not read is asked for before the commands
 unread_early : (words : List (List ℕ)) (told : Option Files) (effects : List Effect) (file : List ℕ)
@@ -77,18 +116,18 @@ effects_at words status kept old new went = go went.end went.comes went.status_i
         → Leaves went.effects end old.contents new.contents → HasEffects words status old new
     go Finished comes is leaves = record {
       all = λ s. (went.effects, comes, leaves);
-      none = λ s. elim s [ inl a ↦ cc | inr (inl a) ↦ cc | inr (inr a) ↦ cc ];
+      none = λ s. no_idle status 0 refl is s;
       first = λ s. cc;
       full = λ s. cc;
       in_hand = λ s. cc;
     }
     go (Refused refusal) comes is leaves = record {
-      all = λ s. other_status refusal status is (inl s);
+      all = λ s. other_status refusal status 0 is refl s;
       none = λ s. nothing_done went.effects old.contents new.contents
           (refused_early words old.contents.files went.effects refusal comes).1 leaves;
-      first = λ s. other_status refusal status is (inr (inr (inr (inl s))));
-      full = λ s. other_status refusal status is (inr (inr (inr (inr s))));
-      in_hand = λ s. other_status refusal status is (inr (inr (inl s)));
+      first = λ s. other_status refusal status 7 is refl s;
+      full = λ s. other_status refusal status 8 is refl s;
+      in_hand = λ s. other_status refusal status 6 is refl s;
     }
     go (Unreadable file) comes is leaves = record {
       all = λ s. cc;
@@ -100,21 +139,21 @@ effects_at words status kept old new went = go went.end went.comes went.status_i
     }
     go (Unwritable effect) comes is leaves = record {
       all = λ s. cc;
-      none = λ s. elim s [ inl a ↦ cc | inr (inl a) ↦ cc | inr (inr a) ↦ cc ];
+      none = λ s. no_idle status 6 refl is s;
       first = λ s. cc;
       full = λ s. cc;
       in_hand = λ s. (went.effects, effect, comes, leaves);
     }
     go OutOfMemory comes is leaves = record {
       all = λ s. cc;
-      none = λ s. elim s [ inl a ↦ cc | inr (inl a) ↦ cc | inr (inr a) ↦ cc ];
+      none = λ s. no_idle status 7 refl is s;
       first = λ s. (went.effects, comes, leaves);
       full = λ s. cc;
       in_hand = λ s. cc;
     }
     go (ArenaFull n) comes is leaves = record {
       all = λ s. cc;
-      none = λ s. elim s [ inl a ↦ cc | inr (inl a) ↦ cc | inr (inr a) ↦ cc ];
+      none = λ s. no_idle status 8 refl is s;
       first = λ s. cc;
       full = λ s. (went.effects, n, comes, leaves);
       in_hand = λ s. cc;
@@ -126,43 +165,35 @@ pub line_at : (words : List (List ℕ)) (status : ℕ) (kept : Option Table) (ol
     → HasLine status old new
 line_at words status kept old new went = (went.end, went.status_is, went.line)
 
--- a number is not two that differ
-apart : {A : Type 0} (status a b : ℕ) → (a == b) ≡ false → status ≡ a → status ≡ b → A
-apart status a b differ is other = absurd (true-false (sym (eq-eqb a b (sym is ∙ other)) ∙ differ))
-  where
-    true-false : true ≡ false → ⊥
-    true-false e = cc
-
--- nor that of a refusal
-no_refused : {A : Type 0} (status a : ℕ) → (a == 2) ≡ false → (a == 9) ≡ false → status ≡ a
-    → (status ≡ 2) ⊎ (status ≡ 9) → A
-no_refused status a two nine is (inl s) = apart status a 2 two is s
-no_refused status a two nine is (inr s) = apart status a 9 nine is s
-
 -- the causes where all was done
 end_finished : (words : List (List ℕ)) (status : ℕ) (kept : Option Table) (old new : Moment) → status ≡ 0
     → kept ≡ None → HasEnd words status kept old new
 end_finished words status kept old new is keeps = record {
   one_of = inl is;
-  refused = λ s. no_refused status 0 refl refl is s;
-  read_fault = λ s. apart status 0 5 refl is s;
-  write_fault = λ s. apart status 0 6 refl is s;
-  arena_full = λ s. apart status 0 8 refl is s;
+  refused = λ s. no_refused status 0 refl is s;
+  read_fault = λ s. no_same status 0 5 is refl refl s;
+  write_fault = λ s. no_same status 0 6 is refl refl s;
+  arena_full = λ s. no_same status 0 8 is refl refl s;
   none_kept = λ s. keeps;
 }
+
+-- a refusal has one of the statuses
+among_all : (status : ℕ) → (status ≡ 1) ⊎ (status ≡ 2) ⊎ (status ≡ 3) ⊎ (status ≡ 9) → (status ≡ 0) ⊎ (status ≡ 1)
+    ⊎ (status ≡ 2) ⊎ (status ≡ 3) ⊎ (status ≡ 5) ⊎ (status ≡ 6) ⊎ (status ≡ 7) ⊎ (status ≡ 8) ⊎ (status ≡ 9)
+among_all status (inl s) = inr (inl s)
+among_all status (inr (inl s)) = inr (inr (inl s))
+among_all status (inr (inr (inl s))) = inr (inr (inr (inl s)))
+among_all status (inr (inr (inr s))) = inr (inr (inr (inr (inr (inr (inr (inr s)))))))
 
 -- where the words or a text were refused
 end_refused : (words : List (List ℕ)) (status : ℕ) (kept : Option Table) (old new : Moment) (refusal : Refusal)
     → status ≡ refusal_status refusal → kept ≡ None → IsRefused words status old new → HasEnd words status kept old new
 end_refused words status kept old new refusal is keeps refused = record {
-  one_of = elim (two_or_nine refusal status is) [
-    | inl two ↦ inr (inl two)
-    | inr nine ↦ inr (inr (inr (inr (inr (inr nine)))))
-  ];
+  one_of = among_all status (one_of_four refusal status is);
   refused = λ s. refused;
-  read_fault = λ s. other_status refusal status is (inr (inl s));
-  write_fault = λ s. other_status refusal status is (inr (inr (inl s)));
-  arena_full = λ s. other_status refusal status is (inr (inr (inr (inr s))));
+  read_fault = λ s. other_status refusal status 5 is refl s;
+  write_fault = λ s. other_status refusal status 6 is refl s;
+  arena_full = λ s. other_status refusal status 8 is refl s;
   none_kept = λ s. keeps;
 }
 
@@ -170,11 +201,11 @@ end_refused words status kept old new refusal is keeps refused = record {
 end_unread : (words : List (List ℕ)) (status : ℕ) (kept : Option Table) (old new : Moment) → status ≡ 5
     → kept ≡ None → CouldNotRead words old new → HasEnd words status kept old new
 end_unread words status kept old new is keeps unread = record {
-  one_of = inr (inr (inl is));
-  refused = λ s. no_refused status 5 refl refl is s;
+  one_of = inr (inr (inr (inr (inl is))));
+  refused = λ s. no_refused status 5 refl is s;
   read_fault = λ s. unread;
-  write_fault = λ s. apart status 5 6 refl is s;
-  arena_full = λ s. apart status 5 8 refl is s;
+  write_fault = λ s. no_same status 5 6 is refl refl s;
+  arena_full = λ s. no_same status 5 8 is refl refl s;
   none_kept = λ s. keeps;
 }
 
@@ -182,11 +213,11 @@ end_unread words status kept old new is keeps unread = record {
 end_unwritten : (words : List (List ℕ)) (status : ℕ) (kept : Option Table) (old new : Moment) → status ≡ 6
     → kept ≡ None → CouldNotWrite words old new → HasEnd words status kept old new
 end_unwritten words status kept old new is keeps unwritten = record {
-  one_of = inr (inr (inr (inl is)));
-  refused = λ s. no_refused status 6 refl refl is s;
-  read_fault = λ s. apart status 6 5 refl is s;
+  one_of = inr (inr (inr (inr (inr (inl is)))));
+  refused = λ s. no_refused status 6 refl is s;
+  read_fault = λ s. no_same status 6 5 is refl refl s;
   write_fault = λ s. unwritten;
-  arena_full = λ s. apart status 6 8 refl is s;
+  arena_full = λ s. no_same status 6 8 is refl refl s;
   none_kept = λ s. keeps;
 }
 
@@ -194,11 +225,11 @@ end_unwritten words status kept old new is keeps unwritten = record {
 end_no_memory : (words : List (List ℕ)) (status : ℕ) (kept : Option Table) (old new : Moment) → status ≡ 7
     → kept ≡ None → HasEnd words status kept old new
 end_no_memory words status kept old new is keeps = record {
-  one_of = inr (inr (inr (inr (inl is))));
-  refused = λ s. no_refused status 7 refl refl is s;
-  read_fault = λ s. apart status 7 5 refl is s;
-  write_fault = λ s. apart status 7 6 refl is s;
-  arena_full = λ s. apart status 7 8 refl is s;
+  one_of = inr (inr (inr (inr (inr (inr (inl is))))));
+  refused = λ s. no_refused status 7 refl is s;
+  read_fault = λ s. no_same status 7 5 is refl refl s;
+  write_fault = λ s. no_same status 7 6 is refl refl s;
+  arena_full = λ s. no_same status 7 8 is refl refl s;
   none_kept = λ s. keeps;
 }
 
@@ -206,10 +237,10 @@ end_no_memory words status kept old new is keeps = record {
 end_full : (words : List (List ℕ)) (status : ℕ) (kept : Option Table) (old new : Moment) → status ≡ 8
     → WasFull words kept old new → HasEnd words status kept old new
 end_full words status kept old new is full = record {
-  one_of = inr (inr (inr (inr (inr (inl is)))));
-  refused = λ s. no_refused status 8 refl refl is s;
-  read_fault = λ s. apart status 8 5 refl is s;
-  write_fault = λ s. apart status 8 6 refl is s;
+  one_of = inr (inr (inr (inr (inr (inr (inr (inl is)))))));
+  refused = λ s. no_refused status 8 refl is s;
+  read_fault = λ s. no_same status 8 5 is refl refl s;
+  write_fault = λ s. no_same status 8 6 is refl refl s;
   arena_full = λ s. full;
   none_kept = λ s. absurd (s is);
 }

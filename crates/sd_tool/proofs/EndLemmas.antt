@@ -1,60 +1,38 @@
 -- How a run ends: at its readings, among its commands, or at the end of them.
-use Rattle.std.proofs.Common.{◌≡◌, ◌≢◌, ℕ, List, [], Option, Some, None, Result, Ok, Err}
+use Rattle.std.proofs.Common.{◌≡◌, ℕ, List, [], Option, Some, None, Result, Ok, Err}
 use Rattle.std.proofs.Common.{inl, inr, cond, refl, sym, ap, subst, ◌∙◌}
 use Rattle.sd_base.specs.Files.{Files}
-use Rattle.sd_tool.specs.Effects.{Effect, Contents}
-use Rattle.sd_tool.specs.Commands.{State}
+use Rattle.sd_manager.specs.Table.{Table}
+use Rattle.sd_formula.specs.Dimacs.{Groups}
+use Rattle.sd_commands.specs.Effects.{Effect}
+use Rattle.sd_commands.specs.declared.command.Command.{Command}
+use Rattle.sd_commands.specs.declared.state.State.{State as CodeState}
+use Rattle.sd_tool.specs.Effects.{Contents}
 use Rattle.sd_tool.specs.Readings.{Plan, Begins, ReadsTo, reading_of}
 use Rattle.sd_tool.specs.Course.{EndsAmong, Leaves}
+use Rattle.sd_tool.specs.Given.{plan_with}
 use Rattle.sd_tool.specs.Headline.{Went}
-use Rattle.sd_tool.specs.Refusals as refusals
 use Rattle.sd_tool.specs.Ends.{End, Finished, Refused, Unreadable, Unwritable, OutOfMemory as NoMemory}
 use Rattle.sd_tool.specs.Ends.{ArenaFull as NoRoom, line_of, status_of}
-use Rattle.sd_tool.specs.Refusals.{Refusal, refusal_status}
+use Rattle.sd_tool.specs.Refusals.{refusal_status}
 use Rattle.sd_tool.specs.Kept.{Keeps}
-use Rattle.sd_manager.specs.Table.{Table}
 use Rattle.sd_tool.specs.Devices.{Moment, Faults, NotFewer, HasCause, Says, SaysLine}
 use Rattle.sd_tool.specs.Stops.{stop_status, stop_text, StandsFor, StopsReading, GoesOn, CarriesOut, Attempts}
 use Rattle.sd_tool.specs.Stops.{Fills, is_full}
-use Rattle.sd_tool.proofs.StepLemmas.{cause_since}
-use Rattle.sd_tool.specs.declared.commands.Command.{Command}
+use Rattle.sd_tool.specs.declared.refusal.Refusal.{Refusal}
+use Rattle.sd_tool.specs.declared.refusal.Refusal.TheVariants as refusals
 use Rattle.sd_tool.specs.declared.stop.Stop.{Stop}
-use Rattle.sd_tool.specs.declared.stop.Stop.TheVariants.{NotYet, TooLong, BadFormula, BadVtree, ReadFault}
-use Rattle.sd_tool.specs.declared.stop.Stop.TheVariants.{WriteFault, OutputFault, OutOfMemory, ArenaFull}
+use Rattle.sd_tool.specs.declared.stop.Stop.TheVariants as stops
+use Rattle.sd_tool.specs.declared.stop.Stop.TheVariants.{ReadFault, WriteFault, OutputFault, OutOfMemory, ArenaFull}
+use Rattle.sd_tool.proofs.StepLemmas.{cause_since}
 
 -- the readings stop, and nothing was done
 pub reading_stops : (words : List (List ℕ)) (stop : Stop) (kept : Option Table) (old new : Contents)
-    (before now : Faults) → kept ≡ None → new ≡ old → StopsReading stop old.files (reading_of words) before.read now.read →
-    Attempts words kept (Err stop) old new before now
-reading_stops words NotYet kept old new before now none same stops = record {
-  end = Refused refusals.NotYet;
-  at = record { status = refl; text = refl; stopped = λ e. cc };
-  effects = [];
-  comes = inl (stops, refl);
-  keeps = none;
-  leaves = same;
-  cause = tt;
-}
-reading_stops words (TooLong file) kept old new before now none same stops = record {
-  end = Refused (refusals.TooLong file);
-  at = record { status = refl; text = refl; stopped = λ e. cc };
-  effects = [];
-  comes = inl (stops, refl);
-  keeps = none;
-  leaves = same;
-  cause = tt;
-}
-reading_stops words (BadFormula file fault) kept old new before now none same stops = record {
-  end = Refused (refusals.BadFormula file fault);
-  at = record { status = refl; text = refl; stopped = λ e. cc };
-  effects = [];
-  comes = inl (stops, refl);
-  keeps = none;
-  leaves = same;
-  cause = tt;
-}
-reading_stops words (BadVtree file fault) kept old new before now none same stops = record {
-  end = Refused (refusals.BadVtree file fault);
+    (before now : Faults) → kept ≡ None → new ≡ old
+    → StopsReading stop old.files (reading_of words) before.read now.read
+    → Attempts words kept (Err stop) old new before now
+reading_stops words (stops.Refused refusal) kept old new before now none same stops = record {
+  end = Refused refusal;
   at = record { status = refl; text = refl; stopped = λ e. cc };
   effects = [];
   comes = inl (stops, refl);
@@ -85,28 +63,32 @@ reading_stops words OutOfMemory kept old new before now none same stops = record
 }
 
 -- a cause among the commands is a cause in the whole run
-cause_from : (start : State) (commands : List Command) (effects : List Effect) (end : End) (files others : Option Files)
-    (first mid last : Faults) → EndsAmong start commands effects end → NotFewer first mid → HasCause end files mid last
+cause_from : (plan : Plan) (effects : List Effect) (end : End) (files others : Option Files)
+    (first mid last : Faults) → EndsAmong plan effects end → NotFewer first mid → HasCause end files mid last
     → HasCause end others first last
-cause_from start commands effects Finished files others first mid last ends fewer cause = tt
-cause_from start commands effects (Refused r) files others first mid last ends fewer cause = tt
-cause_from start commands effects (Unreadable file) files others first mid last ends fewer cause = absurd ends
-cause_from start commands effects (Unwritable effect) files others first mid last ends fewer cause =
+cause_from plan effects Finished files others first mid last ends fewer cause = tt
+cause_from plan effects (Refused r) files others first mid last ends fewer cause = tt
+cause_from plan effects (Unreadable file) files others first mid last ends fewer cause = absurd ends
+cause_from plan effects (Unwritable effect) files others first mid last ends fewer cause =
     cause_since effect files others first mid last fewer cause
-cause_from start commands effects NoMemory files others first mid last ends fewer cause = tt
-cause_from start commands effects (NoRoom n) files others first mid last ends fewer cause = tt
+cause_from plan effects NoMemory files others first mid last ends fewer cause = tt
+cause_from plan effects (NoRoom n) files others first mid last ends fewer cause = tt
 
 -- a refusal has not the status of a full arena
-no_refusal : (refusal : Refusal) → 8 ≡ refusal_status refusal → ⊥
+pub no_refusal : (refusal : Refusal) → refusal_status refusal ≡ 8 → ⊥
 no_refusal refusals.NotYet e = let bad : ⊥ = cc in bad
+no_refusal (refusals.BadWords fault) e = let bad : ⊥ = cc in bad
 no_refusal (refusals.TooLong file) e = let bad : ⊥ = cc in bad
 no_refusal (refusals.BadFormula file fault) e = let bad : ⊥ = cc in bad
 no_refusal (refusals.BadVtree file fault) e = let bad : ⊥ = cc in bad
+no_refusal (refusals.BadSdd file fault) e = let bad : ⊥ = cc in bad
+no_refusal (refusals.LongScript file) e = let bad : ⊥ = cc in bad
+no_refusal (refusals.BadScript file fault) e = let bad : ⊥ = cc in bad
 
 -- the manager of a full arena is kept
 kept_full : (end : End) (t : Table) → 8 ≡ status_of end → Fills end t → Keeps end (Some t)
 kept_full Finished t is fills = cc
-kept_full (Refused refusal) t is fills = absurd (no_refusal refusal is)
+kept_full (Refused refusal) t is fills = absurd (no_refusal refusal (sym is))
 kept_full (Unreadable file) t is fills = cc
 kept_full (Unwritable effect) t is fills = cc
 kept_full NoMemory t is fills = cc
@@ -121,23 +103,11 @@ kept_none (Unwritable effect) other = refl
 kept_none NoMemory other = refl
 kept_none (NoRoom n) other = absurd (other refl)
 
--- no other stop has the status of a full arena
-not_full : (stop : Stop) → ((n : ℕ) → stop ≢ ArenaFull n) → stop_status stop ≡ 8 → ⊥
-not_full NotYet other e = let bad : ⊥ = cc in bad
-not_full (TooLong file) other e = let bad : ⊥ = cc in bad
-not_full (BadFormula file fault) other e = let bad : ⊥ = cc in bad
-not_full (BadVtree file fault) other e = let bad : ⊥ = cc in bad
-not_full (ReadFault file) other e = let bad : ⊥ = cc in bad
-not_full (WriteFault file) other e = let bad : ⊥ = cc in bad
-not_full OutputFault other e = let bad : ⊥ = cc in bad
-not_full OutOfMemory other e = let bad : ⊥ = cc in bad
-not_full (ArenaFull n) other e = other n refl
-
 -- the commands came to an end, and what is kept is that of the end
-carried : (start : State) (commands : List Command) (t : Table) (kept : Option Table) (result : Result (Unit {0}) Stop)
-    (old new : Contents) (before now : Faults) → (goes : GoesOn start commands t result old new before now)
-    → Keeps goes.end kept → CarriesOut start commands kept result old new before now
-carried start commands t kept result old new before now goes keeps = record {
+carried : (plan : Plan) (t : Table) (kept : Option Table) (result : Result (Unit {0}) Stop)
+    (old new : Contents) (before now : Faults) → (goes : GoesOn plan t result old new before now)
+    → Keeps goes.end kept → CarriesOut plan kept result old new before now
+carried plan t kept result old new before now goes keeps = record {
   end = goes.end;
   at = goes.at;
   effects = goes.effects;
@@ -147,62 +117,70 @@ carried start commands t kept result old new before now goes keeps = record {
   cause = goes.cause;
 }
 
-pub carried_done : (start : State) (commands : List Command) (t : Table) (kept : Option Table) (old new : Contents)
-    (before now : Faults) → kept ≡ None → GoesOn start commands t (Ok tt) old new before now
-    → CarriesOut start commands kept (Ok tt) old new before now
-carried_done start commands t kept old new before now none goes =
-    carried start commands t kept (Ok tt) old new before now goes
-    (subst (Keeps goes.end) (sym none) (kept_none goes.end (λ e. other goes.at e)))
+-- the commands in hand are those of the plan
+abbrev with_own : Groups → CodeState → ℕ → Option Table → Result (Unit {0}) Stop → Contents → Contents → Faults
+    → Faults → List Command → Type 0
+with_own formula state limit kept result old new before now commands =
+    CarriesOut (plan_with formula state limit commands) kept result old new before now
+
+-- all commands were done
+pub carried_done : (formula : Groups) (state : CodeState) (limit : ℕ) (done commands : List Command) (t : Table)
+    (kept : Option Table) (old new : Contents) (before now : Faults) → done ≡ commands → kept ≡ None
+    → GoesOn (plan_with formula state limit done) t (Ok tt) old new before now
+    → CarriesOut (plan_with formula state limit commands) kept (Ok tt) old new before now
+carried_done formula state limit done commands t kept old new before now all none goes =
+    subst (with_own formula state limit kept (Ok tt) old new before now) all
+    (carried (plan_with formula state limit done) t kept (Ok tt) old new before now goes
+    (subst (Keeps goes.end) (sym none) (kept_none goes.end (λ e. other goes.at e))))
   where
     other : goes.end ≡ Finished → status_of goes.end ≡ 8 → ⊥
     other is e = let zero_ = ap status_of is in let bad : ⊥ = cc in bad
+
+-- what is kept after a stop that is no full arena
+kept_other : (stop : Stop) (end : End) (kept was : Option Table) → was ≡ None → kept ≡ was
+    → stop_status stop ≡ status_of end → (stop_status stop ≡ 8 → ⊥) → Keeps end kept
+kept_other stop end kept was none is status other =
+    subst (Keeps end) (sym (is ∙ none)) (kept_none end (λ e. other (status ∙ e)))
 
 -- what is kept after a stop is what its end keeps
 keeps_at : (stop : Stop) (end : End) (t : Table) (kept was : Option Table) → was ≡ None
     → kept ≡ cond (is_full stop) (Some t) was → stop_status stop ≡ status_of end → Fills end t → Keeps end kept
 keeps_at (ArenaFull n) end t kept was none is status fills = subst (Keeps end) (sym is) (kept_full end t status fills)
-keeps_at NotYet end t kept was none is status fills =
-    subst (Keeps end) (sym (is ∙ none)) (kept_none end (λ e. not_full NotYet (λ n. λ same. cc) (status ∙ e)))
-keeps_at (TooLong file) end t kept was none is status fills =
-    subst (Keeps end) (sym (is ∙ none)) (kept_none end (λ e. not_full (TooLong file) (λ n. λ same. cc) (status ∙ e)))
-keeps_at (BadFormula file fault) end t kept was none is status fills =
-    subst (Keeps end) (sym (is ∙ none)) (kept_none end (λ e. not_full (BadFormula file fault) (λ n. λ same. cc) (status ∙ e)))
-keeps_at (BadVtree file fault) end t kept was none is status fills =
-    subst (Keeps end) (sym (is ∙ none)) (kept_none end (λ e. not_full (BadVtree file fault) (λ n. λ same. cc) (status ∙ e)))
+keeps_at (stops.Refused refusal) end t kept was none is status fills =
+    kept_other (stops.Refused refusal) end kept was none is status (no_refusal refusal)
 keeps_at (ReadFault file) end t kept was none is status fills =
-    subst (Keeps end) (sym (is ∙ none)) (kept_none end (λ e. not_full (ReadFault file) (λ n. λ same. cc) (status ∙ e)))
+    kept_other (ReadFault file) end kept was none is status (λ e. cc)
 keeps_at (WriteFault file) end t kept was none is status fills =
-    subst (Keeps end) (sym (is ∙ none)) (kept_none end (λ e. not_full (WriteFault file) (λ n. λ same. cc) (status ∙ e)))
+    kept_other (WriteFault file) end kept was none is status (λ e. cc)
 keeps_at OutputFault end t kept was none is status fills =
-    subst (Keeps end) (sym (is ∙ none)) (kept_none end (λ e. not_full OutputFault (λ n. λ same. cc) (status ∙ e)))
+    kept_other OutputFault end kept was none is status (λ e. cc)
 keeps_at OutOfMemory end t kept was none is status fills =
-    subst (Keeps end) (sym (is ∙ none)) (kept_none end (λ e. not_full OutOfMemory (λ n. λ same. cc) (status ∙ e)))
+    kept_other OutOfMemory end kept was none is status (λ e. cc)
 
--- the commands stopped, and the manager of a full arena is kept
-pub carried_stop : (start : State) (done commands : List Command) (t : Table) (kept was : Option Table) (stop : Stop)
-    (old new : Contents) (before now : Faults) → done ≡ commands → was ≡ None
-    → kept ≡ cond (is_full stop) (Some t) was → GoesOn start done t (Err stop) old new before now
-    → CarriesOut start commands kept (Err stop) old new before now
-carried_stop start done commands t kept was stop old new before now all none is goes =
-    subst (λ l. CarriesOut start l kept (Err stop) old new before now) all
-    (carried start done t kept (Err stop) old new before now goes
+-- the commands stopped, and the manager is kept if it was full
+pub carried_stop : (formula : Groups) (state : CodeState) (limit : ℕ) (done commands : List Command) (t : Table)
+    (kept was : Option Table) (stop : Stop) (old new : Contents) (before now : Faults) → done ≡ commands
+    → was ≡ None → kept ≡ cond (is_full stop) (Some t) was
+    → GoesOn (plan_with formula state limit done) t (Err stop) old new before now
+    → CarriesOut (plan_with formula state limit commands) kept (Err stop) old new before now
+carried_stop formula state limit done commands t kept was stop old new before now all none is goes =
+    subst (with_own formula state limit kept (Err stop) old new before now) all
+    (carried (plan_with formula state limit done) t kept (Err stop) old new before now goes
     (keeps_at stop goes.end t kept was none is goes.at.status goes.fills))
 
 -- the commands go on from where the readings led
-pub commands_go : (words : List (List ℕ)) (plan : Plan) (commands : List Command) (kept : Option Table)
-    (result : Result (Unit {0}) Stop)
+pub commands_go : (words : List (List ℕ)) (plan : Plan) (kept : Option Table) (result : Result (Unit {0}) Stop)
     (old mid new : Contents) (first before last : Faults) → ReadsTo old.files (reading_of words) (Begins plan)
-    → mid ≡ old → NotFewer first before → commands ≡ plan.commands
-    → CarriesOut plan.start commands kept result mid new before last → Attempts words kept result old new first last
-commands_go words plan commands kept result old mid new first before last led same fewer all goes = record {
+    → mid ≡ old → NotFewer first before → CarriesOut plan kept result mid new before last
+    → Attempts words kept result old new first last
+commands_go words plan kept result old mid new first before last led same fewer goes = record {
   end = goes.end;
   at = goes.at;
   effects = goes.effects;
-  comes = inr (plan, led, subst (λ l. EndsAmong plan.start l goes.effects goes.end) all goes.ends);
+  comes = inr (plan, led, goes.ends);
   keeps = goes.keeps;
   leaves = subst (λ (o : Contents). Leaves goes.effects goes.end o new) same goes.leaves;
-  cause = cause_from plan.start commands goes.effects goes.end mid.files old.files first before last
-      goes.ends fewer goes.cause;
+  cause = cause_from plan goes.effects goes.end mid.files old.files first before last goes.ends fewer goes.cause;
 }
 
 says_end : (stop : Stop) (end : End) (old new : Moment) → StandsFor stop end

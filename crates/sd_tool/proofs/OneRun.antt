@@ -1,16 +1,22 @@
 -- Over told files there is one course: where the words and the files lead to an end of their own, a run in which no
 -- device fails comes to that end, or memory ran out.
-use Rattle.std.proofs.Common.{◌≡◌, ◌⊎◌, ℕ, List, Option, Some, inl, inr, refl, sym}
-use Rattle.std.proofs.Common.{ap, subst, ◌∙◌}
+use Rattle.std.proofs.Common.{◌≡◌, ◌⊎◌, ℕ, List, Option, Some, None, inl, inr, refl, sym}
+use Rattle.std.proofs.Common.{ap, subst, ◌∙◌, if◌then◌else◌}
 use Rattle.sd_base.specs.Files.{Files, Lacks}
+use Rattle.sd_model.specs.StartTrees.{balanced_tree, right_tree, left_tree}
 use Rattle.sd_model.specs.Tree.{Tree}
 use Rattle.sd_manager.specs.Table.{Table}
 use Rattle.sd_formula.specs.Dimacs.{Groups}
-use Rattle.sd_tool.specs.Job.{Job, TreeWord, StartOf, VtreeIn}
-use Rattle.sd_tool.specs.Effects.{Effect, Write, Print, after}
+use Rattle.sd_words.specs.declared.jobs.Job.{Job}
+use Rattle.sd_words.specs.declared.jobs.TreeWord.{TreeWord}
+use Rattle.sd_words.specs.declared.jobs.TreeWord.TheVariants as trees
+use Rattle.sd_commands.specs.Effects.{Effect, Write, Print}
+use Rattle.sd_tool.specs.Effects.{after}
 use Rattle.sd_tool.specs.Readings.{Plan, Reading, Refuses, Begins, Reads, Text, Whole, reading_of, ReadsTo}
-use Rattle.sd_tool.specs.Readings.{with_input, with_formula, with_tree_word, with_tree, with_vtree_reading, plan_for}
-use Rattle.sd_tool.specs.Refusals.{Refusal}
+use Rattle.sd_tool.specs.Readings.{with_job, with_input_word, with_input, with_formula, with_tree_word, with_tree}
+use Rattle.sd_tool.specs.Readings.{with_vtree_text, with_vtree_reading, with_commands, plan_for, stated, input_file}
+use Rattle.sd_tool.specs.declared.refusal.Refusal.{Refusal}
+use Rattle.sd_tool.specs.declared.refusal.Refusal.TheVariants as refusals
 use Rattle.sd_tool.specs.Ends.{End, Finished, Refused, Unreadable, Unwritable, OutOfMemory, ArenaFull}
 use Rattle.sd_tool.specs.Ends.{status_of}
 use Rattle.sd_tool.specs.Devices.{Moment, Faults, NoneRose, HasCause}
@@ -18,9 +24,9 @@ use Rattle.sd_tool.specs.Course.{EndsAmong, Comes, Leaves}
 use Rattle.sd_tool.specs.Headline.{Went, IsOwn, IsComplete}
 use Rattle.sd_tool.specs.Written.{IsInput, IsStartTree}
 use Rattle.sd_tool.proofs.OneCourse.{one_end_among}
-use Rattle.sd_tool.proofs.OneOutcome.{none_refused}
-use Rattle.sd_tool.proofs.OnePoint.{one_point, valid_start}
-use Rattle.sd_tool.proofs.ReadingLemmas.{reads_on, reads_same, job_follows}
+use Rattle.sd_tool.proofs.NoWant.{valid_start}
+use Rattle.sd_tool.proofs.OnePoint.{one_point}
+use Rattle.sd_tool.proofs.ReadingLemmas.{reads_on, reads_same}
 
 -- the readings come to one plan
 same_plan : (files : Files) (reading : Reading) (a b : Plan) → ReadsTo (Some files) reading (Begins a)
@@ -51,8 +57,8 @@ one_own : (words : List (List ℕ)) (files : Files) (effects done : List Effect)
     → Comes words (Some files) effects own → Comes words (Some files) done end → (end ≡ own) × (done ≡ effects)
 one_own words files effects done own end a b (inr p) (inr q) =
     let same = same_plan files (reading_of words) p.0 q.0 p.1 q.1 in
-    one_end_among p.0.start p.0.commands effects done own end (valid_start (Some files) words p.0 p.1) a b p.2
-    (subst (λ (plan : Plan). EndsAmong plan.start plan.commands done end) (sym same) q.2)
+    one_end_among p.0 effects done own end (valid_start (Some files) words p.0 p.1) a b p.2
+    (subst (λ (plan : Plan). EndsAmong plan done end) (sym same) q.2)
 one_own words files effects done Finished end a b (inl p) q = absurd p.0
 one_own words files effects done own Finished a b p (inl q) = absurd q.0
 one_own words files effects done (Refused r) (Refused s) a b (inl p) (inl q) =
@@ -125,7 +131,8 @@ no_other_end words files effects done own OutOfMemory before now a all comes cau
 no_other_end words files effects done own (ArenaFull n) before now a all comes cause calm = inr (inr (n, refl))
 
 -- where the words and the files lead to an end of their own, the run came to it, or there was no memory
-comes_to_own : (words : List (List ℕ)) (status : ℕ) (kept : Option Table) (old new : Moment) → Went words status kept old new
+comes_to_own : (words : List (List ℕ)) (status : ℕ) (kept : Option Table) (old new : Moment)
+    → Went words status kept old new
     → (files : Files) (effects : List Effect) (own : End) → old.contents.files ≡ Some files
     → NoneRose old.faults new.faults → IsOwn own → Comes words (Some files) effects own
     → ((status ≡ status_of own) × (new.contents ≡ after effects old.contents)) ⊎ (status ≡ 7) ⊎ (status ≡ 8)
@@ -151,39 +158,68 @@ comes_to_own words status kept old new went files effects own told calm is all =
     all_done OutOfMemory is leaves = absurd is
     all_done (ArenaFull n) is leaves = absurd is
 
+-- a tree leads to its plan, without a script
+leads_at_tree : (told : Option Files) (job : Job) (f : Groups) (own tree : Tree) → job.script ≡ None → own ≡ tree
+    → ReadsTo told (with_tree job f own) (Begins (plan_for job f tree (stated job)))
+leads_at_tree told job f own tree alone is =
+    reads_same told _ _
+    (ap (with_commands job f.variables (λ commands. Begins (plan_for job f own commands))) alone
+    ∙ ap (λ t. Begins (plan_for job f t (stated job))) is)
+
 -- a start tree of the words leads to its plan
-leads_with_tree : (files : Files) (job : Job) (f : Groups) (tree : Tree) (word : TreeWord)
+leads_with_tree : (files : Files) (job : Job) (f : Groups) (tree : Tree) (word : TreeWord) → job.script ≡ None
     → IsStartTree files word f.variables tree
-    → ReadsTo (Some files) (with_tree_word job f word) (Begins (plan_for job f tree))
-leads_with_tree files job f tree (StartOf shape) is = reads_same (Some files) _ _ (ap (with_tree job f) (sym is))
-leads_with_tree files job f tree (VtreeIn file) (bytes, there, short, reads) =
-    inr (Whole bytes, (there, short), reads_same (Some files) _ _ (ap (with_vtree_reading job f file) reads))
+    → ReadsTo (Some files) (with_tree_word job f word) (Begins (plan_for job f tree (stated job)))
+leads_with_tree files job f tree trees.Balanced alone is =
+    leads_at_tree (Some files) job f (balanced_tree f.variables) tree alone (sym is)
+leads_with_tree files job f tree trees.Right alone is =
+    leads_at_tree (Some files) job f (right_tree f.variables) tree alone (sym is)
+leads_with_tree files job f tree trees.Left alone is =
+    leads_at_tree (Some files) job f (left_tree f.variables) tree alone (sym is)
+leads_with_tree files job f tree (trees.File file) alone (bytes, there, short, reads) =
+    inr (
+      Whole bytes,
+      (there, short),
+      reads_on (Some files) (with_vtree_text job f file (Whole bytes)) (with_tree job f tree) _
+          (reads_same (Some files) _ _ (ap (with_vtree_reading job f file) reads))
+          (leads_at_tree (Some files) job f tree tree alone refl),
+    )
+
+-- the words lead to their input
+job_follows : (words : List (List ℕ)) (files : Files) (job : Job) (f : Groups) (input : IsInput words files job f)
+    → ReadsTo (Some files) (reading_of words) (Reads input.input.file (with_input job input.input))
+job_follows words files job f input =
+    reads_same (Some files) _ _
+    (ap with_job input.named
+    ∙ ap (λ b. if b then with_input_word job (input_file job.input) else Refuses refusals.NotYet) input.plain
+    ∙ ap (with_input_word job) input.is_input)
 
 -- an input with a start tree leads to its plan
 leads_to_plan : (words : List (List ℕ)) (files : Files) (job : Job) (f : Groups) (tree : Tree)
     → IsInput words files job f → IsStartTree files job.tree f.variables tree
-    → ReadsTo (Some files) (reading_of words) (Begins (plan_for job f tree))
+    → ReadsTo (Some files) (reading_of words) (Begins (plan_for job f tree (stated job)))
 leads_to_plan words files job f tree input start =
     let told = Some files in
-    let read : ReadsTo told (Reads job.input.file (with_input job)) (with_tree_word job f job.tree) =
+    let asks = Reads input.input.file (with_input job input.input) in
+    let read : ReadsTo told asks (with_tree_word job f job.tree) =
     inr (
       Whole input.bytes,
       (input.there, input.short),
-      reads_same told _ _ (ap (with_formula job) input.reads),
+      reads_same told _ _ (ap (with_formula job input.input.file) input.reads),
     ) in
-    reads_on told (reading_of words) (Reads job.input.file (with_input job)) _ (job_follows told words job input.named)
-    (reads_on told (Reads job.input.file (with_input job)) (with_tree_word job f job.tree) _ read
-    (leads_with_tree files job f tree job.tree start))
+    reads_on told (reading_of words) asks _ (job_follows words files job f input)
+    (reads_on told asks (with_tree_word job f job.tree) _ read
+    (leads_with_tree files job f tree job.tree input.alone start))
 
 -- where the readings lead to a plan and no device fails, all is done, or there was no memory
 done_or_none : (words : List (List ℕ)) (files : Files) (plan : Plan) (effects : List Effect) (end : End)
     (before now : Faults) → ReadsTo (Some files) (reading_of words) (Begins plan) → Comes words (Some files) effects end
-    → HasCause end (Some files) before now → NoneRose before now → (status_of end ≡ 0) ⊎ (status_of end ≡ 7) ⊎ (status_of end ≡ 8)
+    → HasCause end (Some files) before now → NoneRose before now
+    → (status_of end ≡ 0) ⊎ (status_of end ≡ 7) ⊎ (status_of end ≡ 8)
 done_or_none words files plan effects Finished before now leads comes cause calm = inl refl
 done_or_none words files plan effects (Refused r) before now leads (inl p) cause calm =
     absurd (no_plan files (reading_of words) r plan p.0 leads)
-done_or_none words files plan effects (Refused r) before now leads (inr p) cause calm =
-    absurd (none_refused p.2.0 p.2.1 r p.2.3)
+done_or_none words files plan effects (Refused r) before now leads (inr p) cause calm = absurd p.2
 done_or_none words files plan effects (Unreadable file) before now leads (inl p) (inl lacks) calm =
     absurd (asked_before plan files (reading_of words) file p.0.0 leads p.0.1 lacks)
 done_or_none words files plan effects (Unreadable file) before now leads comes (inr rose) calm =
@@ -197,15 +233,15 @@ done_or_none words files plan effects OutOfMemory before now leads comes cause c
 done_or_none words files plan effects (ArenaFull n) before now leads comes cause calm = inr (inr refl)
 
 -- a run that went somewhere is complete
-pub completes : (words : List (List ℕ)) (status : ℕ) (kept : Option Table) (old new : Moment) → Went words status kept old new
-    → IsComplete words status old new
+pub completes : (words : List (List ℕ)) (status : ℕ) (kept : Option Table) (old new : Moment)
+    → Went words status kept old new → IsComplete words status old new
 completes words status kept old new went = record {
   served = λ files job formula tree told calm input start.
       let comes = subst (λ f. Comes words f went.effects went.end) told went.comes in
       let cause = subst (λ f. HasCause went.end f old.faults new.faults) told went.cause in
+      let plan = plan_for job formula tree (stated job) in
       let leads = leads_to_plan words files job formula tree input start in
-      elim (done_or_none words files (plan_for job formula tree) went.effects went.end old.faults new.faults
-      leads comes cause calm) [
+      elim (done_or_none words files plan went.effects went.end old.faults new.faults leads comes cause calm) [
         | inl done ↦ inl (went.status_is ∙ done)
         | inr (inl memory) ↦ inr (inl (went.status_is ∙ memory))
         | inr (inr full) ↦ inr (inr (went.status_is ∙ full))

@@ -1,25 +1,25 @@
 -- The readings of a run, one after another.
-use Rattle.std.proofs.Common.{◌≡◌, ◌⊎◌, ℕ, ◌≤◌, List, length, Option, Some, None, Result, Ok}
-use Rattle.std.proofs.Common.{Err}
-use Rattle.std.proofs.Common.{IfOk, IfErr, inl, inr, refl, sym, ap, subst, ◌∙◌, arith}
+use Rattle.std.proofs.Common.{◌≡◌, ◌⊎◌, ℕ, ◌≤◌, List, length, Option, Some, None, Result, Ok, Err}
+use Rattle.std.proofs.Common.{inl, inr, refl, sym, ap, subst, arith}
 use Rattle.sd_base.specs.Faults.{Rose}
 use Rattle.sd_base.specs.Files.{Files, HasBytes, HasLonger, Lacks}
-use Rattle.sd_model.specs.Tree.{Tree, leaves}
-use Rattle.sd_formula.specs.Dimacs.{Groups, dimacs}
-use Rattle.sd_tool.specs.Job.{Job, VtreeIn, job_of}
-use Rattle.sd_tool.specs.Readings.{Reading, Refuses, Begins, Reads, Whole, TooLong, IsText, ReadsTo}
-use Rattle.sd_tool.specs.Readings.{reading_of, with_job, with_input, with_formula, with_tree_word, with_tree}
-use Rattle.sd_tool.specs.Readings.{with_vtree_text, with_vtree_reading}
-use Rattle.sd_tool.specs.Refusals.{Refusal}
-use Rattle.sd_tool.specs.Refusals as refusals
-use Rattle.sd_tool.specs.Given.{plan_of}
-use Rattle.sd_tool.specs.Stops.{StopsReading, StopsTree, ReadsTree, GivesFormula, PlansAt}
+use Rattle.sd_formula.specs.Dimacs.{Groups}
+use Rattle.sd_formula.specs.declared.formula.Kind.{Kind}
+use Rattle.sd_vtree.specs.Numbered.{Numbered, forget}
+use Rattle.sd_words.specs.declared.jobs.Job.{Job}
+use Rattle.sd_words.specs.declared.jobs.InputWord.{InputWord}
+use Rattle.sd_words.specs.declared.jobs.TreeWord.{TreeWord}
+use Rattle.sd_words.specs.declared.jobs.TreeWord.TheVariants as trees
+use Rattle.sd_tool.specs.Readings.{Reading, Refuses, Begins, Reads, Text, Whole, TooLong, IsText, ReadsTo}
+use Rattle.sd_script.specs.Scripts.{Script}
+use Rattle.sd_commands.specs.declared.command.Command.{Command}
+use Rattle.sd_tool.specs.Readings.{with_commands, with_script, with_script_text}
+use Rattle.sd_tool.specs.Readings.{input_file, with_input, with_input_word, with_tree_word, with_tree, with_vtree_text}
+use Rattle.sd_tool.specs.Stops.{StopsReading, LeadsTo, StopsFor, GivesText, text_read}
+use Rattle.sd_tool.specs.declared.refusal.Refusal.{Refusal}
 use Rattle.sd_tool.specs.declared.stop.Stop.{Stop}
-use Rattle.sd_tool.specs.declared.stop.Stop.TheVariants as stops
-use Rattle.sd_tool.specs.declared.stop.Stop.TheVariants.{NotYet, BadFormula, BadVtree, ReadFault}
-use Rattle.sd_tool.specs.declared.stop.Stop.TheVariants.{WriteFault, OutputFault, OutOfMemory, ArenaFull}
-use Rattle.sd_vfile.proofs.Accepted.{accepted}
-use Rattle.sd_tool.specs.declared.plan.Plan.{Plan as CodePlan}
+use Rattle.sd_tool.specs.declared.stop.Stop.TheVariants.{Refused, ReadFault, WriteFault, OutputFault, OutOfMemory}
+use Rattle.sd_tool.specs.declared.stop.Stop.TheVariants.{ArenaFull}
 
 -- what was read of a told file is its text
 pub is_text : (told : Option Files) (file bytes : List ℕ) → HasBytes told file bytes → length bytes ≤ 67108864
@@ -38,6 +38,11 @@ reads_here told (Refuses refusal) = refl
 reads_here told (Begins plan) = refl
 reads_here told (Reads file next) = inl refl
 
+-- a file that was read goes on with its text
+pub reads_text : (told : Option Files) (file : List ℕ) (next : Text → Reading) (text : Text) → IsText told file text
+    → ReadsTo told (Reads file next) (next text)
+reads_text told file next text is = inr (text, is, reads_here told (next text))
+
 -- where the readings have come to a point, they go on from there
 pub reads_on : (told : Option Files) (reading mid point : Reading) → ReadsTo told reading mid → ReadsTo told mid point
     → ReadsTo told reading point
@@ -54,10 +59,7 @@ reads_same told reading point is = subst (λ r. ReadsTo told reading r) is (read
 pub stops_on : (stop : Stop) (told : Option Files) (reading mid : Reading) (first before now : ℕ)
     → ReadsTo told reading mid
     → first ≤ before → StopsReading stop told mid before now → StopsReading stop told reading first now
-stops_on NotYet told reading mid first before now a later b = reads_on told reading mid _ a b
-stops_on (stops.TooLong file) told reading mid first before now a later b = reads_on told reading mid _ a b
-stops_on (BadFormula file fault) told reading mid first before now a later b = reads_on told reading mid _ a b
-stops_on (BadVtree file fault) told reading mid first before now a later b = reads_on told reading mid _ a b
+stops_on (Refused refusal) told reading mid first before now a later b = reads_on told reading mid _ a b
 stops_on (ReadFault file) told reading mid first before now a later ((next, b), inl lacks) =
     ((next, reads_on told reading mid _ a b), inl lacks)
 stops_on (ReadFault file) told reading mid first before now a later ((next, b), inr rose) =
@@ -67,128 +69,103 @@ stops_on OutputFault told reading mid first before now a later b = absurd b
 stops_on OutOfMemory told reading mid first before now a later b = tt
 stops_on (ArenaFull n) told reading mid first before now a later b = absurd b
 
--- ---- the formula
-
--- a formula leads to its vtree
-pub formula_follows : (told : Option Files) (job : Job) (bytes : List ℕ) (result : Result Groups Stop)
-    → IsText told job.input.file (Whole bytes)
-    → GivesFormula job.input.file (dimacs job.input.kind bytes) result
-    → IfOk result (λ f. ReadsTo told (Reads job.input.file (with_input job)) (with_tree_word job f job.tree))
-formula_follows told job bytes (Ok f) has reads =
-    inr (Whole bytes, has, reads_same told _ _ (ap (with_formula job) reads))
-formula_follows told job bytes (Err stop) has gives = tt
-
-pub formula_stops : (told : Option Files) (job : Job) (bytes : List ℕ) (result : Result Groups Stop) (before now : ℕ)
-    → IsText told job.input.file (Whole bytes)
-    → GivesFormula job.input.file (dimacs job.input.kind bytes) result
-    → IfErr result (λ stop. StopsReading stop told (Reads job.input.file (with_input job)) before now)
-formula_stops told job bytes (Ok f) before now has gives = tt
-formula_stops told job bytes (Err NotYet) before now has gives = absurd gives
-formula_stops told job bytes (Err (stops.TooLong file)) before now has gives = absurd gives
-formula_stops told job bytes (Err (BadFormula name fault)) before now has (same, reads) =
-    inr (
-      Whole bytes,
-      has,
-      reads_same told _ _ (ap (with_formula job) reads
-          ∙ ap (λ (n : List ℕ). Refuses (refusals.BadFormula n fault)) (sym same)),
-    )
-formula_stops told job bytes (Err (BadVtree file fault)) before now has gives = absurd gives
-formula_stops told job bytes (Err (ReadFault file)) before now has gives = absurd gives
-formula_stops told job bytes (Err (WriteFault file)) before now has gives = absurd gives
-formula_stops told job bytes (Err OutputFault) before now has gives = absurd gives
-formula_stops told job bytes (Err OutOfMemory) before now has gives = tt
-formula_stops told job bytes (Err (ArenaFull n)) before now has gives = absurd gives
-
--- an input that is too long
-pub long_stops : (told : Option Files) (job : Job) (name : List ℕ) → name ≡ job.input.file
-    → HasLonger told name 67108864
-    → ReadsTo told (Reads job.input.file (with_input job)) (Refuses (refusals.TooLong name))
-long_stops told job name same longer =
-    inr (
-      TooLong,
-      is_long told job.input.file (subst (λ (n : List ℕ). HasLonger told n 67108864) same longer),
-      ap (λ (n : List ℕ). Refuses (refusals.TooLong n)) same,
-    )
-
--- ---- the vtree
-
--- the tree of a vtree file follows
-pub tree_follows : (told : Option Files) (job : Job) (f : Groups) (file : List ℕ) (tree : Tree)
-    → ReadsTree told file f.variables tree → ReadsTo told (with_tree_word job f (VtreeIn file)) (with_tree job f tree)
-tree_follows told job f file tree r =
-    inr (Whole r.bytes, r.text, reads_same told _ _ (ap (with_vtree_reading job f file) r.reads))
-
-pub tree_stops : (stop : Stop) (told : Option Files) (job : Job) (f : Groups) (file : List ℕ) (before now : ℕ)
-    → StopsTree stop told file f.variables before now
-    → StopsReading stop told (with_tree_word job f (VtreeIn file)) before now
-tree_stops (stops.TooLong name) told job f file before now (same, text) =
-    inr (TooLong, text, ap (λ (n : List ℕ). Refuses (refusals.TooLong n)) same)
-tree_stops (BadVtree name fault) told job f file before now (same, r) =
-    inr (
-      Whole r.bytes,
-      r.text,
-      reads_same told _ _ (ap (with_vtree_reading job f file) r.reads
-          ∙ ap (λ (n : List ℕ). Refuses (refusals.BadVtree n fault)) (sym same)),
-    )
-tree_stops (ReadFault name) told job f file before now (same, cause) = (
-  (
-    with_vtree_text job f file,
-    inl (ap (λ (n : List ℕ). Reads n (with_vtree_text job f file)) same),
-  ),
+-- a read fault at the file that is asked for
+pub stops_at_file : (told : Option Files) (file name : List ℕ) (next : Text → Reading) (before now : ℕ)
+    → name ≡ file → Lacks told file ⊎ Rose before now
+    → StopsReading (ReadFault name) told (Reads file next) before now
+stops_at_file told file name next before now same cause = (
+  (next, inl (ap (λ (n : List ℕ). Reads n next) same)),
   subst (λ (n : List ℕ). Lacks told n ⊎ Rose before now) (sym same) cause,
 )
-tree_stops OutOfMemory told job f file before now b = tt
-tree_stops NotYet told job f file before now b = absurd b
-tree_stops (BadFormula name fault) told job f file before now b = absurd b
-tree_stops (WriteFault name) told job f file before now b = absurd b
-tree_stops OutputFault told job f file before now b = absurd b
-tree_stops (ArenaFull n) told job f file before now b = absurd b
 
--- ---- the plan
-
-pub plan_follows : (told : Option Files) (point : Reading) (result : Result CodePlan Stop) → PlansAt point result
-    → IfOk result (λ plan. ReadsTo told point (Begins (plan_of plan)))
-plan_follows told point (Ok plan) is = reads_same told point _ is
-plan_follows told point (Err stop) is = tt
-
-pub plan_stops : (told : Option Files) (point : Reading) (result : Result CodePlan Stop) (before now : ℕ)
-    → PlansAt point result → IfErr result (λ stop. StopsReading stop told point before now)
-plan_stops told point (Ok plan) before now is = tt
-plan_stops told point (Err NotYet) before now is = absurd is
-plan_stops told point (Err (stops.TooLong file)) before now is = absurd is
-plan_stops told point (Err (BadFormula file fault)) before now is = absurd is
-plan_stops told point (Err (BadVtree file fault)) before now is = absurd is
-plan_stops told point (Err (ReadFault file)) before now is = absurd is
-plan_stops told point (Err (WriteFault file)) before now is = absurd is
-plan_stops told point (Err OutputFault) before now is = absurd is
-plan_stops told point (Err OutOfMemory) before now is = tt
-plan_stops told point (Err (ArenaFull n)) before now is = absurd is
-
--- ---- the whole
-
--- the words lead to the job's input
-pub job_follows : (told : Option Files) (words : List (List ℕ)) (job : Job) → job_of words ≡ Some job
-    → ReadsTo told (reading_of words) (Reads job.input.file (with_input job))
-job_follows told words job is = reads_same told _ _ (ap with_job is)
-
--- the plan of a step is the plan of the words
-pub plan_on : (told now : Option Files) (reading mid : Reading) (result : Result CodePlan Stop) → now ≡ told
-    → ReadsTo told reading mid → IfOk result (λ plan. ReadsTo now mid (Begins (plan_of plan)))
-    → IfOk result (λ plan. ReadsTo told reading (Begins (plan_of plan)))
-plan_on told now reading mid (Ok plan) same a b =
-    reads_on told reading mid _ a (subst (λ t. ReadsTo t mid (Begins (plan_of plan))) same b)
-plan_on told now reading mid (Err stop) same a b = tt
-
--- and so is its stop
-pub stop_on : (told now : Option Files) (reading mid : Reading) (result : Result CodePlan Stop) (first before last : ℕ)
-    → now ≡ told → first ≤ before → ReadsTo told reading mid
-    → IfErr result (λ stop. StopsReading stop now mid before last)
-    → IfErr result (λ stop. StopsReading stop told reading first last)
-stop_on told now reading mid (Ok plan) first before last same later a b = tt
-stop_on told now reading mid (Err stop) first before last same later a b =
+-- a step that follows a point follows all that led there
+pub leads_on : {A : Type 0} (told now : Option Files) (reading mid : Reading) (next : A → Reading)
+    (result : Result A Stop) (first before last : ℕ) → now ≡ told → first ≤ before → ReadsTo told reading mid
+    → LeadsTo now mid next result before last → LeadsTo told reading next result first last
+leads_on told now reading mid next (Ok x) first before last same later a b =
+    reads_on told reading mid (next x) a (subst (λ t. ReadsTo t mid (next x)) same b)
+leads_on told now reading mid next (Err stop) first before last same later a b =
     stops_on stop told reading mid first before last a later (subst (λ t. StopsReading stop t mid before last) same b)
 
--- a tree that was read is one over the variables
-pub read_fits : (told : Option Files) (file : List ℕ) (v : ℕ) (tree : Tree) → ReadsTree told file v tree
-    → leaves tree ≡ v
-read_fits told file v tree r = (accepted v r.bytes tree r.reads).count
+-- the stop at a refusal to which the readings lead
+pub stops_for : (told : Option Files) (reading : Reading) (refusal : Refusal) (stop : Stop) (before now : ℕ)
+    → ReadsTo told reading (Refuses refusal) → StopsFor refusal stop → StopsReading stop told reading before now
+stops_for told reading refusal (Refused found) before now a is =
+    subst (λ r. ReadsTo told reading (Refuses r)) (sym is) a
+stops_for told reading refusal (ReadFault file) before now a is = absurd is
+stops_for told reading refusal (WriteFault file) before now a is = absurd is
+stops_for told reading refusal OutputFault before now a is = absurd is
+stops_for told reading refusal OutOfMemory before now a is = tt
+stops_for told reading refusal (ArenaFull n) before now a is = absurd is
+
+-- what a text gives leads on, and its fault is where the readings stop
+pub text_leads : {X Y E : Type 0} (told : Option Files) (reading : Reading) (after : Result Y E → Reading)
+    (view : X → Y) (refuse : E → Refusal) (parsed : Result Y E) (result : Result X Stop) (before now : ℕ)
+    → ((fault : E) → after (Err fault) ≡ Refuses (refuse fault))
+    → ReadsTo told reading (after parsed) → GivesText view refuse parsed result
+    → LeadsTo told reading (λ x. after (Ok (view x))) result before now
+text_leads told reading after view refuse parsed (Ok x) before now refused a is =
+    subst (λ r. ReadsTo told reading (after r)) is a
+text_leads told reading after view refuse parsed (Err (Refused refusal)) before now refused a (fault, is, named) =
+    subst (λ r. ReadsTo told reading (Refuses r)) (sym named)
+    (subst (λ r. ReadsTo told reading r) (refused fault) (subst (λ r. ReadsTo told reading (after r)) is a))
+text_leads told reading after view refuse parsed (Err (ReadFault file)) before now refused a is = absurd is
+text_leads told reading after view refuse parsed (Err (WriteFault file)) before now refused a is = absurd is
+text_leads told reading after view refuse parsed (Err OutputFault) before now refused a is = absurd is
+text_leads told reading after view refuse parsed (Err OutOfMemory) before now refused a is = tt
+text_leads told reading after view refuse parsed (Err (ArenaFull n)) before now refused a is = absurd is
+
+-- ---- the text of a file, as the code has it
+
+-- the bytes that were read
+pub text_given : (told : Option Files) (file : List ℕ) (next : Text → Reading) (field : Option (List ℕ))
+    (bytes slice : List ℕ) → field ≡ Some bytes → slice ≡ bytes
+    → ReadsTo told (Reads file next) (next (text_read field)) → ReadsTo told (Reads file next) (next (Whole slice))
+text_given told file next field bytes slice is same a =
+    subst (λ (b : List ℕ). ReadsTo told (Reads file next) (next (Whole b))) (sym same)
+    (subst (λ f. ReadsTo told (Reads file next) (next (text_read f))) is a)
+
+-- none, where the file is too long
+pub text_lacking : (told : Option Files) (file : List ℕ) (next : Text → Reading) (field : Option (List ℕ))
+    → field ≡ None → ReadsTo told (Reads file next) (next (text_read field))
+    → ReadsTo told (Reads file next) (next TooLong)
+text_lacking told file next field is a = subst (λ f. ReadsTo told (Reads file next) (next (text_read f))) is a
+
+-- ---- the words for the input and for the tree
+
+-- the input is that of its word
+pub input_leads : (told : Option Files) (job : Job) (input : InputWord) (kind : Kind) (name file : List ℕ)
+    (result : Result Groups Stop) (before now : ℕ)
+    → input_file input ≡ Some (record { kind = kind; file = file }) → name ≡ file
+    → LeadsTo told (Reads name (with_input job (record { kind = kind; file = name })))
+    (λ formula. with_tree_word job formula job.tree) result before now
+    → LeadsTo told (with_input_word job (input_file input)) (λ formula. with_tree_word job formula job.tree)
+    result before now
+input_leads told job input kind name file result before now is same leads =
+    subst (λ i. LeadsTo told (with_input_word job i) (λ formula. with_tree_word job formula job.tree)
+    result before now) (sym is)
+    (subst (λ (n : List ℕ). LeadsTo told (Reads n (with_input job (record { kind = kind; file = n })))
+    (λ formula. with_tree_word job formula job.tree) result before now) same leads)
+
+-- the tree is that of a file
+pub vtree_file_leads : (told : Option Files) (job : Job) (formula : Groups) (word : TreeWord) (name file : List ℕ)
+    (result : Result Numbered Stop) (before now : ℕ) → word ≡ trees.File file → name ≡ file
+    → LeadsTo told (Reads name (with_vtree_text job formula name)) (λ vtree. with_tree job formula (forget vtree))
+    result before now
+    → LeadsTo told (with_tree_word job formula word) (λ vtree. with_tree job formula (forget vtree)) result before now
+vtree_file_leads told job formula word name file result before now is same leads =
+    subst (λ w. LeadsTo told (with_tree_word job formula w) (λ vtree. with_tree job formula (forget vtree))
+    result before now) (sym is)
+    (subst (λ (n : List ℕ). LeadsTo told (Reads n (with_vtree_text job formula n))
+    (λ vtree. with_tree job formula (forget vtree)) result before now) same leads)
+
+-- the commands are those of a script
+pub script_leads : (told : Option Files) (job : Job) (v : ℕ) (begin : List Command → Reading)
+    (word : Option (List ℕ)) (name file : List ℕ) (result : Result Script Stop) (before now : ℕ)
+    → word ≡ Some file → name ≡ file
+    → LeadsTo told (Reads name (with_script_text name v begin)) (with_script v begin) result before now
+    → LeadsTo told (with_commands job v begin word) (with_script v begin) result before now
+script_leads told job v begin word name file result before now is same leads =
+    subst (λ w. LeadsTo told (with_commands job v begin w) (with_script v begin) result before now) (sym is)
+    (subst (λ (n : List ℕ). LeadsTo told (Reads n (with_script_text n v begin)) (with_script v begin)
+    result before now) same leads)

@@ -1,26 +1,28 @@
 -- Commands that are done one after another.
-use Rattle.std.proofs.Common.{◌≡◌, ℕ, ◌+◌, ◌<◌, ◌≤◌, Option, Err, List, [], ◌∷◌, ◌++◌, length, take}
-use Rattle.std.proofs.Common.{drop}
+use Rattle.std.proofs.Common.{◌≡◌, ℕ, ◌+◌, ◌<◌, ◌≤◌, Option, Ok, Err, List, [], ◌∷◌, ◌++◌, length, take, drop}
 use Rattle.std.proofs.Common.{get_or, refl, sym, ap, subst, ◌∙◌, append_assoc, take-append-drop, arith, add-one}
-use Rattle.std.proofs.lemmas.List.{append-nil, take_more}
+use Rattle.std.proofs.lemmas.List.{append-nil, take_all, take_more}
 use Rattle.std.proofs.Math.Seq.{drop-cons}
 use Rattle.sd_base.specs.Faults.{Rose}
 use Rattle.sd_base.specs.Files.{Files}
-use Rattle.sd_tool.specs.Effects.{Effect, Write, Print, Contents, after_effect, after, DoesPart}
-use Rattle.sd_tool.specs.Commands.{State, Done, Step, Steps}
-use Rattle.sd_tool.specs.Refusals as refusals
-use Rattle.sd_tool.specs.Ends.{Refused, Unwritable, OutOfMemory as NoMemory, ArenaFull as NoRoom}
+use Rattle.sd_model.specs.Expression.{Expression}
+use Rattle.sd_manager.specs.Table.{Table}
+use Rattle.sd_commands.specs.Effects.{Effect, Write, Print}
+use Rattle.sd_commands.specs.Commands.{State, Done, Step, Steps, MayFill}
+use Rattle.sd_commands.specs.Fits.{AllFit}
+use Rattle.sd_commands.specs.Standing.{Stands, StepsTo, IsFilled, effects_of, names_of}
+use Rattle.sd_commands.specs.declared.command.Act.{Act}
+use Rattle.sd_commands.specs.declared.command.Command.{Command}
+use Rattle.sd_commands.specs.declared.state.State.{State as CodeState}
+use Rattle.sd_commands.proofs.Outcomes.{names_after}
+use Rattle.sd_tool.specs.Effects.{Contents, after_effect, after, DoesPart}
+use Rattle.sd_tool.specs.Readings.{Plan}
+use Rattle.sd_tool.specs.Ends.{Finished, Unwritable, OutOfMemory as NoMemory, ArenaFull as NoRoom}
 use Rattle.sd_tool.specs.Devices.{Faults, NotFewer, HasCause}
 use Rattle.sd_tool.specs.Course.{IsAt}
-use Rattle.sd_tool.specs.Stops.{StopsAt, FailsAt, GoesOn, StepsTo, effects_of}
-use Rattle.sd_tool.specs.Given.{Stands}
-use Rattle.sd_tool.specs.declared.state.State.{State as CodeState}
-use Rattle.sd_tool.specs.declared.commands.Act.{Act}
-use Rattle.sd_manager.specs.Table.{Table}
+use Rattle.sd_tool.specs.Stops.{FailsAt, GoesOn}
 use Rattle.sd_tool.specs.declared.stop.Stop.{Stop}
-use Rattle.sd_tool.specs.declared.stop.Stop.TheVariants.{NotYet, TooLong, BadFormula, BadVtree, ReadFault}
-use Rattle.sd_tool.specs.declared.stop.Stop.TheVariants.{WriteFault, OutputFault, OutOfMemory, ArenaFull}
-use Rattle.sd_tool.specs.declared.commands.Command.{Command}
+use Rattle.sd_tool.specs.declared.stop.Stop.TheVariants.{OutOfMemory, ArenaFull}
 
 -- the contents after two lists of effects
 pub after-append : (first others : List Effect) (old : Contents)
@@ -29,33 +31,34 @@ after-append [] others old = refl
 after-append (effect ∷ first) others old = after-append first others (after_effect effect old)
 
 -- one command more
-Steps-push : (start mid new : State) (done : List Command) (effects here : List Effect) (next : Command)
-    → Steps start done effects mid → Step mid next (Done new here)
-    → Steps start (done ++ next ∷ []) (effects ++ here) new
-Steps-push start mid new [] effects here next steps step = (
+Steps-push : (input : Expression) (start mid new : State) (done : List Command) (effects here : List Effect)
+    (next : Command) → Steps input start done effects mid → Step input mid next (Done new here)
+    → Steps input start (done ++ next ∷ []) (effects ++ here) new
+Steps-push input start mid new [] effects here next steps step = (
   new,
   here,
   [],
-  subst (λ (s : State). Step s next (Done new here)) steps.1 step,
+  subst (λ (s : State). Step input s next (Done new here)) steps.1 step,
   (refl, refl),
   ap (λ (l : List Effect). l ++ here) steps.0 ∙ sym (append-nil here),
 )
-Steps-push start mid new (command ∷ done) effects here next steps step = (
+Steps-push input start mid new (command ∷ done) effects here next steps step = (
   steps.0,
   steps.1,
   steps.2 ++ here,
   steps.3,
-  Steps-push steps.0 mid new done steps.2 here next steps.4 step,
+  Steps-push input steps.0 mid new done steps.2 here next steps.4 step,
   ap (λ (l : List Effect). l ++ here) steps.5 ∙ append_assoc steps.1 steps.2 here,
 )
 
--- what the loop over the commands knows: those before the index are done, and the code holds the state after them
-pub record SoFar (start : State) (commands : List Command) (index : ℕ) (code : CodeState) (old now : Contents)
-    : Type 0 where
+-- What the loop over the commands knows: those before the index are done, the code holds the state after them, and
+-- the others can be done.
+pub record SoFar (plan : Plan) (v index : ℕ) (code : CodeState) (old now : Contents) : Type 0 where
   pub effects : List Effect
   pub state : State
-  pub steps : Steps start (take index commands) effects state
+  pub steps : Steps plan.input plan.start (take index plan.commands) effects state
   pub stands : Stands code state
+  pub fit : AllFit v (names_of state) (drop index plan.commands)
   pub is : now ≡ after effects old
 
 -- the loop is at this command
@@ -63,37 +66,51 @@ pub record IsNext (commands : List Command) (index : ℕ) (command : Command) : 
   pub within : index < length commands
   pub is : command ≡ get_or commands index command
 
--- so it is the next
-reaches_next : (start state : State) (commands : List Command) (index : ℕ) (effects : List Effect) (command : Command)
-    → IsNext commands index command → Steps start (take index commands) effects state
-    → IsAt start commands effects state command
-reaches_next start state commands index effects command next steps = record {
-  left = drop (index + 1) commands;
+-- the commands from the index on are this one and those after it
+left_at : (commands : List Command) (index : ℕ) (command : Command) → IsNext commands index command
+    → drop index commands ≡ command ∷ drop (index + 1) commands
+left_at commands index command next =
+    drop-cons commands index command next.within
+    ∙ ap (λ n. get_or commands index command ∷ drop n commands) (sym (add-one index))
+    ∙ ap (λ c. c ∷ drop (index + 1) commands) (sym next.is)
+
+-- so it can be done, and those after it
+pub fits_next : (plan : Plan) (v index : ℕ) (code : CodeState) (old now : Contents) (command : Command)
+    → IsNext plan.commands index command → (so_far : SoFar plan v index code old now)
+    → AllFit v (names_of so_far.state) (command ∷ drop (index + 1) plan.commands)
+fits_next plan v index code old now command next so_far =
+    subst (AllFit v (names_of so_far.state)) (left_at plan.commands index command next) so_far.fit
+
+-- and it is the next
+reaches_next : (plan : Plan) (state : State) (index : ℕ) (effects : List Effect) (command : Command)
+    → IsNext plan.commands index command → Steps plan.input plan.start (take index plan.commands) effects state
+    → IsAt plan effects state command
+reaches_next plan state index effects command next steps = record {
+  left = drop (index + 1) plan.commands;
   reaches = record {
-    done = take index commands;
-    in_order =
-        ap (λ (l : List Command). take index commands ++ l)
-        (ap (λ c. c ∷ drop (index + 1) commands) next.is
-        ∙ ap (λ n. get_or commands index command ∷ drop n commands) (add-one index)
-        ∙ sym (drop-cons commands index command next.within))
-        ∙ take-append-drop index commands;
+    done = take index plan.commands;
+    in_order = ap (λ (l : List Command). take index plan.commands ++ l)
+        (sym (left_at plan.commands index command next)) ∙ take-append-drop index plan.commands;
     steps = steps;
   };
 }
 
 -- the command at the index is done
-pub so_far_more : (start : State) (commands : List Command) (index : ℕ) (code code' : CodeState) (old now new : Contents)
-    (command : Command) (act : Option Act) → IsNext commands index command
-    → (so_far : SoFar start commands index code old now) → StepsTo so_far.state command code' act
-    → new ≡ after (effects_of act) now → SoFar start commands (index + 1) code' old new
-so_far_more start commands index code code' old now new command act next so_far done effect = record {
+pub so_far_more : (plan : Plan) (v index : ℕ) (code code' : CodeState) (old now new : Contents) (command : Command)
+    (act : Option Act) → IsNext plan.commands index command → (so_far : SoFar plan v index code old now)
+    → StepsTo plan.input so_far.state command code' act → new ≡ after (effects_of act) now
+    → SoFar plan v (index + 1) code' old new
+so_far_more plan v index code code' old now new command act next so_far done effect = record {
   effects = so_far.effects ++ effects_of act;
   state = done.next;
-  steps = subst (λ (l : List Command). Steps start l (so_far.effects ++ effects_of act) done.next)
-      (ap (λ c. take index commands ++ c ∷ []) next.is ∙ sym (take_more commands index command next.within))
-      (Steps-push start so_far.state done.next (take index commands) so_far.effects (effects_of act) command
-      so_far.steps done.step);
+  steps = subst (λ (l : List Command). Steps plan.input plan.start l (so_far.effects ++ effects_of act) done.next)
+      (ap (λ c. take index plan.commands ++ c ∷ []) next.is ∙ sym (take_more plan.commands index command next.within))
+      (Steps-push plan.input plan.start so_far.state done.next (take index plan.commands) so_far.effects
+      (effects_of act) command so_far.steps done.step);
   stands = done.stands;
+  fit = subst (λ names. AllFit v names (drop (index + 1) plan.commands))
+      (sym (names_after plan.input so_far.state done.next command (effects_of act) done.step))
+      (fits_next plan v index code old now command next so_far).1;
   is = effect ∙ ap (after (effects_of act)) so_far.is ∙ sym (after-append so_far.effects (effects_of act) old);
 }
 
@@ -117,13 +134,12 @@ cause_since (Write file bytes) files others first mid last fewer rose =
 cause_since (Print line) files others first mid last fewer rose =
     rose_since first.print mid.print last.print fewer.print rose
 
--- a command stops: there was no memory or no room, or it is refused
-pub goes_to_stop : (start : State) (commands : List Command) (index : ℕ) (code : CodeState) (t : Table)
-    (old now : Contents) (before after_ : Faults) (command : Command) (stop : Stop) → IsNext commands index command
-    → (so_far : SoFar start commands index code old now) → StopsAt so_far.state command t stop
-    → GoesOn start commands t (Err stop) old now before after_
-goes_to_stop start commands index code t old now before after_ command OutOfMemory next so_far stops =
-    let at = reaches_next start so_far.state commands index so_far.effects command next so_far.steps in record {
+-- there was no memory for a command
+pub goes_to_want : (plan : Plan) (v index : ℕ) (code : CodeState) (t : Table) (old now : Contents)
+    (before after_ : Faults) (command : Command) → IsNext plan.commands index command
+    → SoFar plan v index code old now → GoesOn plan t (Err OutOfMemory) old now before after_
+goes_to_want plan v index code t old now before after_ command next so_far =
+    let at = reaches_next plan so_far.state index so_far.effects command next so_far.steps in record {
       end = NoMemory;
       at = record { status = refl; text = refl; stopped = λ e. cc };
       effects = so_far.effects;
@@ -132,87 +148,34 @@ goes_to_stop start commands index code t old now before after_ command OutOfMemo
       leaves = so_far.is;
       cause = tt;
     }
-goes_to_stop start commands index code t old now before after_ command (ArenaFull n) next so_far stops = record {
+
+-- the arena was full, and the command may need it
+pub goes_to_full : (plan : Plan) (v index : ℕ) (code : CodeState) (t : Table) (old now : Contents)
+    (before after_ : Faults) (command : Command) (n : ℕ) → IsNext plan.commands index command
+    → SoFar plan v index code old now → MayFill command → IsFilled n t
+    → GoesOn plan t (Err (ArenaFull n)) old now before after_
+goes_to_full plan v index code t old now before after_ command n next so_far needs filled = record {
   end = NoRoom n;
   at = record { status = refl; text = refl; stopped = λ e. cc };
   effects = so_far.effects;
   ends = (
     so_far.state,
     command,
-    reaches_next start so_far.state commands index so_far.effects command next so_far.steps,
-    stops.0,
+    reaches_next plan so_far.state index so_far.effects command next so_far.steps,
+    needs,
   );
-  fills = stops.1;
+  fills = filled;
   leaves = so_far.is;
   cause = tt;
 }
-goes_to_stop start commands index code t old now before after_ command NotYet next so_far refused = record {
-  end = Refused refusals.NotYet;
-  at = record { status = refl; text = refl; stopped = λ e. cc };
-  effects = so_far.effects;
-  ends = (
-    so_far.state,
-    command,
-    reaches_next start so_far.state commands index so_far.effects command next so_far.steps,
-    refused,
-  );
-  fills = tt;
-  leaves = so_far.is;
-  cause = tt;
-}
-goes_to_stop start commands index code t old now before after_ command (TooLong file) next so_far refused = record {
-  end = Refused (refusals.TooLong file);
-  at = record { status = refl; text = refl; stopped = λ e. cc };
-  effects = so_far.effects;
-  ends = (
-    so_far.state,
-    command,
-    reaches_next start so_far.state commands index so_far.effects command next so_far.steps,
-    refused,
-  );
-  fills = tt;
-  leaves = so_far.is;
-  cause = tt;
-}
-goes_to_stop start commands index code t old now before after_ command (BadFormula file fault) next so_far refused = record {
-  end = Refused (refusals.BadFormula file fault);
-  at = record { status = refl; text = refl; stopped = λ e. cc };
-  effects = so_far.effects;
-  ends = (
-    so_far.state,
-    command,
-    reaches_next start so_far.state commands index so_far.effects command next so_far.steps,
-    refused,
-  );
-  fills = tt;
-  leaves = so_far.is;
-  cause = tt;
-}
-goes_to_stop start commands index code t old now before after_ command (BadVtree file fault) next so_far refused = record {
-  end = Refused (refusals.BadVtree file fault);
-  at = record { status = refl; text = refl; stopped = λ e. cc };
-  effects = so_far.effects;
-  ends = (
-    so_far.state,
-    command,
-    reaches_next start so_far.state commands index so_far.effects command next so_far.steps,
-    refused,
-  );
-  fills = tt;
-  leaves = so_far.is;
-  cause = tt;
-}
-goes_to_stop start commands index code t old now before after_ command (ReadFault f) next so_far none = absurd none
-goes_to_stop start commands index code t old now before after_ command (WriteFault f) next so_far none = absurd none
-goes_to_stop start commands index code t old now before after_ command OutputFault next so_far none = absurd none
 
 -- the effect of a command fails
-pub goes_to_fault : (start : State) (commands : List Command) (index : ℕ) (code code' : CodeState) (t : Table)
-    (old now new : Contents) (first before after_ : Faults) (command : Command) (stop : Stop) (act : Option Act)
-    → IsNext commands index command → (so_far : SoFar start commands index code old now) → NotFewer first before
-    → StepsTo so_far.state command code' act → FailsAt stop (effects_of act) now new before after_
-    → GoesOn start commands t (Err stop) old new first after_
-goes_to_fault start commands index code code' t old now new first before after_ command stop act next so_far fewer done
+pub goes_to_fault : (plan : Plan) (v index : ℕ) (code code' : CodeState) (t : Table) (old now new : Contents)
+    (first before after_ : Faults) (command : Command) (stop : Stop) (act : Option Act)
+    → IsNext plan.commands index command → (so_far : SoFar plan v index code old now) → NotFewer first before
+    → StepsTo plan.input so_far.state command code' act → FailsAt stop (effects_of act) now new before after_
+    → GoesOn plan t (Err stop) old new first after_
+goes_to_fault plan v index code code' t old now new first before after_ command stop act next so_far fewer done
     fails =
     record {
       end = Unwritable fails.effect;
@@ -221,13 +184,34 @@ goes_to_fault start commands index code code' t old now new first before after_ 
       ends = (
         so_far.state,
         command,
-        reaches_next start so_far.state commands index so_far.effects command next so_far.steps,
+        reaches_next plan so_far.state index so_far.effects command next so_far.steps,
         (
           done.next,
-          subst (λ (l : List Effect). Step so_far.state command (Done done.next l)) fails.one done.step,
+          subst (λ (l : List Effect). Step plan.input so_far.state command (Done done.next l)) fails.one done.step,
         ),
       );
       fills = tt;
       leaves = subst (λ (o : Contents). DoesPart fails.effect o new) so_far.is fails.part;
       cause = cause_since fails.effect now.files old.files first before after_ fewer fails.cause;
     }
+
+-- all commands are done
+pub goes_to_end : (plan : Plan) (v index : ℕ) (code : CodeState) (t : Table) (old now : Contents)
+    (before after_ : Faults) → length plan.commands ≤ index → SoFar plan v index code old now
+    → GoesOn plan t (Ok tt) old now before after_
+goes_to_end plan v index code t old now before after_ all so_far = record {
+  end = Finished;
+  at = refl;
+  effects = so_far.effects;
+  ends = (
+    so_far.state,
+    record {
+      done = take index plan.commands;
+      in_order = append-nil (take index plan.commands) ∙ take_all index plan.commands all;
+      steps = so_far.steps;
+    },
+  );
+  fills = tt;
+  leaves = so_far.is;
+  cause = tt;
+}

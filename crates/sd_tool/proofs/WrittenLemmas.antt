@@ -1,14 +1,13 @@
--- At status 0 the course of a run writes the texts of the input's diagram and of its vtree.
+-- At status 0 a run without a script writes the texts of the input's diagram and of its vtree.
 -- Equal texts of diagrams are one function.
-use Rattle.std.proofs.Common.{◌≡◌, ◌↔◌, ℕ, List, [], ◌∷◌, ◌++◌, Option, Some, None, Result, Ok, Err}
-use Rattle.std.proofs.Common.{inl, inr, refl, sym, ap, subst, ◌∙◌}
+use Rattle.std.proofs.Common.{◌≡◌, ◌↔◌, ℕ, Bool, true, false, List, [], ◌∷◌, ◌++◌, Option, Some, None, Result, Ok, Err}
+use Rattle.std.proofs.Common.{inl, inr, refl, sym, ap, subst, ◌∙◌, if◌then◌else◌}
 use Rattle.std.specs.List.{AllZip}
-use Rattle.std.proofs.lemmas.List.{append-nil}
-use Rattle.sd_base.specs.Files.{Files, bytes_at, told_with}
+use Rattle.sd_base.specs.Files.{Files, told_with}
 use Rattle.sd_base.specs.Sink.{told_then}
-use Rattle.sd_base.proofs.FileLemmas.{bytes_at-with_file}
 use Rattle.sd_model.specs.Expression.{Expression, AreOneFunction}
-use Rattle.sd_model.specs.Tree.{Tree}
+use Rattle.sd_model.specs.StartTrees.{balanced_tree, right_tree, left_tree}
+use Rattle.sd_model.specs.Tree.{Tree, IsVtree, leaves}
 use Rattle.sd_model.specs.Diagram.{Diagram}
 use Rattle.sd_model.specs.Size.{IsDiagramOf, size_of}
 use Rattle.sd_model.specs.Text.{sdd_text, vtree_text}
@@ -16,150 +15,185 @@ use Rattle.sd_model.proofs.Determined.{diagram_determined, texts_equal}
 use Rattle.sd_formula.specs.declared.error.FormulaError.{FormulaError}
 use Rattle.sd_formula.specs.Dimacs.{Groups, dimacs}
 use Rattle.sd_formula.specs.Formulas.{expression_of}
-use Rattle.sd_formula.proofs.RangeLaws.{accepted_fits}
 use Rattle.sd_vfile.specs.Reads.{vtree_file}
-use Rattle.sd_manager.specs.Table.{Table}
 use Rattle.sd_vfile.specs.declared.fault.VtreeFault.{VtreeFault}
-use Rattle.sd_tool.specs.Job.{Job, TreeWord, StartOf, VtreeIn, job_of}
-use Rattle.sd_tool.specs.Effects.{Effect, Write, Print, Contents, after}
-use Rattle.sd_tool.specs.Commands.{State, Done, Steps, IsTextOf, size_line}
-use Rattle.sd_tool.specs.Readings.{Plan, Begins, Text, Whole, TooLong, ReadsTo, IsText}
-use Rattle.sd_tool.specs.Readings.{reading_of, with_job, with_input, with_formula, with_tree_word, with_tree}
-use Rattle.sd_tool.specs.Readings.{with_vtree_reading, plan_for, for_file, start_tree}
+use Rattle.sd_manager.specs.Table.{Table}
+use Rattle.sd_words.specs.JobOf.{job_of}
+use Rattle.sd_words.specs.declared.jobs.Job.{Job}
+use Rattle.sd_words.specs.declared.jobs.TreeWord.{TreeWord}
+use Rattle.sd_words.specs.declared.jobs.TreeWord.TheVariants as trees
+use Rattle.sd_commands.specs.Effects.{Effect, Write, Print}
+use Rattle.sd_commands.specs.Commands.{State, Done, Steps, IsTextOf, bound, formula_of, size_line}
+use Rattle.sd_commands.specs.Standing.{start}
+use Rattle.sd_commands.specs.declared.command.Command.{Command}
+use Rattle.sd_commands.specs.declared.command.Command.TheVariants as commands
+use Rattle.sd_tool.specs.Effects.{Contents, after}
+use Rattle.sd_tool.specs.Readings.{Plan, Input, Begins, Refuses, Text, Whole, TooLong, ReadsTo, IsText}
+use Rattle.sd_tool.specs.Readings.{reading_of, with_job, with_input_word, with_input, with_formula, with_tree_word}
+use Rattle.sd_tool.specs.Readings.{with_tree, with_vtree_reading, with_commands, plan_for, for_file, stated}
+use Rattle.sd_tool.specs.Readings.{input_file, is_plain}
+use Rattle.sd_tool.specs.declared.refusal.Refusal.TheVariants as refusals
 use Rattle.sd_tool.specs.Ends.{Finished}
 use Rattle.sd_tool.specs.Devices.{Moment}
-use Rattle.sd_tool.specs.Course.{Comes, Reaches}
+use Rattle.sd_tool.specs.Course.{Comes}
 use Rattle.sd_tool.specs.Headline.{Went}
 use Rattle.sd_tool.specs.Written.{IsInput, IsStartTree, IsWritten, HasWritten, HasEqualTexts, with_output}
-use Rattle.sd_tool.specs.declared.commands.Command.{Command}
-use Rattle.sd_tool.specs.declared.commands.Command.TheVariants.{Input, WriteVtree, WriteDiagram}
-use Rattle.sd_tool.specs.declared.commands.Command.TheVariants.{PrintSize}
 use Rattle.sd_tool.proofs.ByStatus.{effects_at}
-use Rattle.sd_tool.proofs.OneOutcome.{IsValid}
-use Rattle.sd_tool.proofs.OnePoint.{valid_start}
-use Rattle.sd_tool.proofs.Starts.{start_tree_fits}
-use Rattle.sd_vfile.proofs.Accepted.{IsVtreeOver}
+use Rattle.sd_tool.proofs.OneCourse.{one_tree, whole_plan}
+use Rattle.sd_tool.proofs.NoWant.{valid_start}
 
--- a plan is that of an input and its tree
-record FromInput (words : List (List ℕ)) (files : Files) (plan : Plan) : Type 0 where
-  job : Job
+-- a plan is that of an input and its tree, with the stated commands
+record FromInput (words : List (List ℕ)) (files : Files) (job : Job) (plan : Plan) : Type 0 where
   formula : Groups
   tree : Tree
   input : IsInput words files job formula
   start : IsStartTree files job.tree formula.variables tree
-  is : plan ≡ plan_for job formula tree
+  is : plan ≡ plan_for job formula tree (stated job)
 
 -- a plan over a tree is that of this tree
-from_tree : (told : Option Files) (job : Job) (f : Groups) (tree : Tree) (plan : Plan)
-    → ReadsTo told (with_tree job f tree) (Begins plan) → plan ≡ plan_for job f tree
-from_tree told job f tree plan p = cc
+from_tree : (told : Option Files) (job : Job) (f : Groups) (tree : Tree) (plan : Plan) → job.script ≡ None
+    → ReadsTo told (with_tree job f tree) (Begins plan) → plan ≡ plan_for job f tree (stated job)
+from_tree told job f tree plan alone p =
+    let begin = λ (l : List Command). Begins (plan_for job f tree l) in
+    let is : Begins plan ≡ Begins (plan_for job f tree (stated job)) =
+    subst (λ script. ReadsTo told (with_commands job f.variables begin script) (Begins plan)) alone p in
+    cc
 
 -- a plan after a formula, with its tree
 record FromTree (files : Files) (job : Job) (f : Groups) (plan : Plan) : Type 0 where
   tree : Tree
   start : IsStartTree files job.tree f.variables tree
-  is : plan ≡ plan_for job f tree
+  is : plan ≡ plan_for job f tree (stated job)
+
+-- a tree of the word is the tree of the plan
+found_tree : (files : Files) (job : Job) (f : Groups) (plan : Plan) (word : TreeWord) (tree : Tree) → job.tree ≡ word
+    → job.script ≡ None → IsStartTree files word f.variables tree
+    → ReadsTo (Some files) (with_tree job f tree) (Begins plan) → FromTree files job f plan
+found_tree files job f plan word tree e alone start p = record {
+  tree = tree;
+  start = subst (λ w. IsStartTree files w f.variables tree) (sym e) start;
+  is = from_tree (Some files) job f tree plan alone p;
+}
 
 from_word : (files : Files) (job : Job) (f : Groups) (plan : Plan) (word : TreeWord) → job.tree ≡ word
-    → ReadsTo (Some files) (with_tree_word job f word) (Begins plan) → FromTree files job f plan
-from_word files job f plan (StartOf shape) e p =
-    let tree = start_tree shape f.variables in
-    let found = from_tree (Some files) job f tree plan p in record {
-      tree = tree;
-      start = subst (λ w. IsStartTree files w f.variables tree) (sym e) refl;
-      is = found;
-    }
-from_word files job f plan (VtreeIn file) e (inl p) = let bad : ⊥ = cc in absurd bad
-from_word files job f plan (VtreeIn file) e (inr (TooLong, has, p)) = let bad : ⊥ = cc in absurd bad
-from_word files job f plan (VtreeIn file) e (inr (Whole bytes, has, p)) = go (vtree_file f.variables bytes) refl p
+    → job.script ≡ None → ReadsTo (Some files) (with_tree_word job f word) (Begins plan) → FromTree files job f plan
+from_word files job f plan trees.Balanced e alone p =
+    found_tree files job f plan trees.Balanced (balanced_tree f.variables) e alone refl p
+from_word files job f plan trees.Right e alone p =
+    found_tree files job f plan trees.Right (right_tree f.variables) e alone refl p
+from_word files job f plan trees.Left e alone p =
+    found_tree files job f plan trees.Left (left_tree f.variables) e alone refl p
+from_word files job f plan (trees.File file) e alone (inl p) = let bad : ⊥ = cc in absurd bad
+from_word files job f plan (trees.File file) e alone (inr (TooLong, has, p)) = let bad : ⊥ = cc in absurd bad
+from_word files job f plan (trees.File file) e alone (inr (Whole bytes, has, p)) =
+    go (vtree_file f.variables bytes) refl p
   where
     go : (reading : Result Tree VtreeFault) → vtree_file f.variables bytes ≡ reading
         → ReadsTo (Some files) (with_vtree_reading job f file reading) (Begins plan) → FromTree files job f plan
     go (Err fault) is p = let bad : ⊥ = cc in absurd bad
     go (Ok tree) is p =
-        let found = from_tree (Some files) job f tree plan p in record {
-          tree = tree;
-          start = subst (λ w. IsStartTree files w f.variables tree) (sym e) (bytes, has.0, has.1, is);
-          is = found;
-        }
-
--- a formula that was read
-abbrev ok : Groups → Result Groups FormulaError
-ok formula = Ok formula
+        found_tree files job f plan (trees.File file) tree e alone (bytes, has.0, has.1, is) p
 
 -- a plan is made of a formula
-from_formula : (files : Files) (job : Job) (formula : Result Groups FormulaError) (plan : Plan)
-    → ReadsTo (Some files) (with_formula job formula) (Begins plan)
+from_formula : (files : Files) (job : Job) (file : List ℕ) (formula : Result Groups FormulaError) (plan : Plan)
+    → job.script ≡ None → ReadsTo (Some files) (with_formula job file formula) (Begins plan)
     → (f : Groups) × (formula ≡ Ok f) × FromTree files job f plan
-from_formula files job (Err fault) plan p = let bad : ⊥ = cc in absurd bad
-from_formula files job (Ok formula) plan p = (formula, refl, from_word files job formula plan job.tree refl p)
+from_formula files job file (Err fault) plan alone p = let bad : ⊥ = cc in absurd bad
+from_formula files job file (Ok formula) plan alone p =
+    (formula, refl, from_word files job formula plan job.tree refl alone p)
+
+-- the text of the input
+from_text : (words : List (List ℕ)) (files : Files) (job : Job) (input : Input) (plan : Plan) (text : Text)
+    → job_of words ≡ Ok job → is_plain job ≡ true → job.script ≡ None → input_file job.input ≡ Some input
+    → IsText (Some files) input.file text → ReadsTo (Some files) (with_input job input text) (Begins plan)
+    → FromInput words files job plan
+from_text words files job input plan TooLong named plain alone is has p = let bad : ⊥ = cc in absurd bad
+from_text words files job input plan (Whole bytes) named plain alone is has p =
+    let found = from_formula files job input.file (dimacs input.kind bytes) plan alone p in record {
+      formula = found.0;
+      tree = found.2.tree;
+      input = record {
+        named = named;
+        plain = plain;
+        alone = alone;
+        input = input;
+        is_input = is;
+        bytes = bytes;
+        there = has.0;
+        short = has.1;
+        reads = found.1;
+      };
+      start = found.2.start;
+      is = found.2.is;
+    }
+
+-- the input of the words
+from_job : (words : List (List ℕ)) (files : Files) (job : Job) (plan : Plan) (word : Option Input)
+    → job_of words ≡ Ok job → is_plain job ≡ true → job.script ≡ None → input_file job.input ≡ word
+    → ReadsTo (Some files) (with_input_word job word) (Begins plan) → FromInput words files job plan
+from_job words files job plan None named plain alone is p = let bad : ⊥ = cc in absurd bad
+from_job words files job plan (Some input) named plain alone is (inl p) = let bad : ⊥ = cc in absurd bad
+from_job words files job plan (Some input) named plain alone is (inr p) =
+    from_text words files job input plan p.0 named plain alone is p.1 p.2
 
 -- the plan of the readings comes from the input files
-from_input : (words : List (List ℕ)) (files : Files) (plan : Plan)
-    → ReadsTo (Some files) (reading_of words) (Begins plan) → FromInput words files plan
-from_input words files plan p = go (job_of words) refl p
+from_input : (words : List (List ℕ)) (files : Files) (job : Job) (plan : Plan) → job_of words ≡ Ok job
+    → job.script ≡ None → ReadsTo (Some files) (reading_of words) (Begins plan) → FromInput words files job plan
+from_input words files job plan named alone p =
+    go (is_plain job) refl (subst (λ j. ReadsTo (Some files) (with_job j) (Begins plan)) named p)
   where
-    read : (job : Job) → job_of words ≡ Some job → (text : Text) → IsText (Some files) job.input.file text
-        → ReadsTo (Some files) (with_input job text) (Begins plan) → FromInput words files plan
-    read job named TooLong has p = let bad : ⊥ = cc in absurd bad
-    read job named (Whole bytes) has p =
-        let found = from_formula files job (dimacs job.input.kind bytes) plan p in record {
-          job = job;
-          formula = found.0;
-          tree = found.2.tree;
-          input = record { named = named; bytes = bytes; there = has.0; short = has.1; reads = found.1 };
-          start = found.2.start;
-          is = found.2.is;
-        }
-
-    go : (job : Option Job) → job_of words ≡ job → ReadsTo (Some files) (with_job job) (Begins plan)
-        → FromInput words files plan
-    go None named p = let bad : ⊥ = cc in absurd bad
-    go (Some job) named (inl p) = let bad : ⊥ = cc in absurd bad
-    go (Some job) named (inr p) = read job named p.0 p.1 p.2
+    go : (plain : Bool) → is_plain job ≡ plain
+        → ReadsTo (Some files)
+        (if plain then with_input_word job (input_file job.input) else Refuses refusals.NotYet) (Begins plan)
+        → FromInput words files job plan
+    go false is p = let bad : ⊥ = cc in absurd bad
+    go true is p = from_job words files job plan (input_file job.input) named is alone refl p
 
 -- ---- all commands done
 
 -- what is written where there is a name for it
-abbrev writes_to : Option (List ℕ) → List ℕ → List Effect
+abbrev pub writes_to : Option (List ℕ) → List ℕ → List Effect
 writes_to None bytes = []
 writes_to (Some file) bytes = Write file bytes ∷ []
 
--- what the commands of a plan do
+-- what the commands of a plan do, where name 0 is bound
 record AllDone (state : State) (out_vtree out_sdd : Option (List ℕ)) (effects : List Effect) : Type 0 where
   diagram : Diagram
-  of_value : IsDiagramOf state.tree state.value diagram
-  are : effects ≡ writes_to out_vtree (vtree_text state.tree) ++ writes_to out_sdd (sdd_text diagram)
+  of_value : IsDiagramOf state.tree (formula_of state 0) diagram
+  are : effects
+      ≡ writes_to out_vtree (vtree_text state.tree) ++ writes_to out_sdd (sdd_text diagram)
       ++ Print (size_line (size_of (diagram ∷ []))) ∷ []
 
 -- a first command with one effect, and the others after it
-record Before (state last : State) (rest : List Command) (effect : Effect) (effects : List Effect) : Type 0 where
+record Before (input : Expression) (state last : State) (rest : List Command) (effect : Effect) (effects : List Effect)
+    : Type 0 where
   others : List Effect
-  steps : Steps state rest others last
+  steps : Steps input state rest others last
   are : effects ≡ effect ∷ others
 
-first_done : (state mid last : State) (rest : List Command) (effect : Effect) (first others effects : List Effect)
-    → Done mid first ≡ Done state (effect ∷ []) → Steps mid rest others last → effects ≡ first ++ others
-    → Before state last rest effect effects
-first_done state mid last rest effect first others effects done steps is =
+first_done : (input : Expression) (state mid last : State) (rest : List Command) (effect : Effect)
+    (first others effects : List Effect) → Done mid first ≡ Done state (effect ∷ [])
+    → Steps input mid rest others last → effects ≡ first ++ others → Before input state last rest effect effects
+first_done input state mid last rest effect first others effects done steps is =
     let same : mid ≡ state = cc in
     let wrote : first ≡ effect ∷ [] = cc in record {
       others = others;
-      steps = subst (λ s. Steps s rest others last) same steps;
+      steps = subst (λ s. Steps input s rest others last) same steps;
       are = is ∙ ap (λ (l : List Effect). l ++ others) wrote;
     }
 
-vtree_done : (state last : State) (file : List ℕ) (rest : List Command) (effects : List Effect)
-    → Steps state (WriteVtree file ∷ rest) effects last
-    → Before state last rest (Write file (vtree_text state.tree)) effects
-vtree_done state last file rest effects (mid, first, others, step, steps, is) =
-    first_done state mid last rest _ first others effects step steps is
+vtree_done : (input : Expression) (state last : State) (file : List ℕ) (rest : List Command) (effects : List Effect)
+    → Steps input state (commands.WriteVtree file ∷ rest) effects last
+    → Before input state last rest (Write file (vtree_text state.tree)) effects
+vtree_done input state last file rest effects (mid, first, others, step, steps, is) =
+    first_done input state mid last rest _ first others effects step steps is
 
-diagram_done : (state last : State) (file : List ℕ) (rest : List Command) (effects : List Effect)
-    → Steps state (WriteDiagram file ∷ rest) effects last
-    → (text : List ℕ) × IsTextOf state text × Before state last rest (Write file text) effects
-diagram_done state last file rest effects (mid, first, others, step, steps, is) =
-    (step.0, step.1, first_done state mid last rest _ first others effects step.2 steps is)
+diagram_done : (input : Expression) (state last : State) (file : List ℕ) (rest : List Command) (effects : List Effect)
+    → Steps input state (commands.Write 0 file ∷ rest) effects last
+    → (text : List ℕ) × IsTextOf state.tree (formula_of state 0) text
+    × Before input state last rest (Write file text) effects
+diagram_done input state last file rest effects (mid, first, others, step, steps, is) =
+    (step.0, step.1, first_done input state mid last rest _ first others effects step.2 steps is)
 
 one_diagram : (t : Tree) (f : Expression) (ds : List Diagram) → AllZip (IsDiagramOf t) (f ∷ []) ds
     → (d : Diagram) × IsDiagramOf t f d × (ds ≡ d ∷ [])
@@ -168,11 +202,13 @@ one_diagram t f (d ∷ []) p = (d, p.0, refl)
 one_diagram t f (d ∷ e ∷ ds) p = absurd p.1
 
 -- the size is printed last
-size_done : (state last : State) (effects : List Effect) → Steps state (PrintSize ∷ []) effects last
-    → (d : Diagram) × IsDiagramOf state.tree state.value d × (effects ≡ Print (size_line (size_of (d ∷ []))) ∷ [])
-size_done state last effects (mid, first, others, step, steps, is) =
-    let before = first_done state mid last [] _ first others effects step.2 steps is in
-    let found = one_diagram state.tree state.value step.1.diagrams step.1.each in
+size_done : (input : Expression) (state last : State) (effects : List Effect)
+    → Steps input state (commands.Size 0 ∷ []) effects last
+    → (d : Diagram) × IsDiagramOf state.tree (formula_of state 0) d
+    × (effects ≡ Print (size_line (size_of (d ∷ []))) ∷ [])
+size_done input state last effects (mid, first, others, step, steps, is) =
+    let before = first_done input state mid last [] _ first others effects step.2 steps is in
+    let found = one_diagram state.tree (formula_of state 0) step.1.diagrams step.1.each in
     let size : step.0 ≡ size_of (found.0 ∷ []) = sym step.1.size ∙ ap size_of found.2 in (
       found.0,
       found.1,
@@ -182,70 +218,68 @@ size_done state last effects (mid, first, others, step, steps, is) =
     )
 
 -- the written text is that of the diagram whose size was printed
-same_text : (state : State) (d : Diagram) (text : List ℕ) → IsValid state → IsTextOf state text
-    → IsDiagramOf state.tree state.value d → text ≡ sdd_text d
-same_text state d text valid is of_value =
-    is.is ∙ ap sdd_text (diagram_determined state.tree state.value is.diagram d valid is.of_value of_value)
+same_text : (tree : Tree) (f : Expression) (d : Diagram) (text : List ℕ) → IsVtree tree → IsTextOf tree f text
+    → IsDiagramOf tree f d → text ≡ sdd_text d
+same_text tree f d text valid is of_value =
+    is.is ∙ ap sdd_text (diagram_determined tree f is.diagram d valid is.of_value of_value)
 
-diagram_and_size : (state last : State) (file : List ℕ) (effects : List Effect) → IsValid state
-    → Steps state (WriteDiagram file ∷ PrintSize ∷ []) effects last → AllDone state None (Some file) effects
-diagram_and_size state last file effects valid p =
-    let one = diagram_done state last file (PrintSize ∷ []) effects p in
-    let two = size_done state last one.2.others one.2.steps in record {
+diagram_and_size : (input : Expression) (state last : State) (file : List ℕ) (effects : List Effect)
+    → IsVtree state.tree → Steps input state (commands.Write 0 file ∷ commands.Size 0 ∷ []) effects last
+    → AllDone state None (Some file) effects
+diagram_and_size input state last file effects valid p =
+    let one = diagram_done input state last file (commands.Size 0 ∷ []) effects p in
+    let two = size_done input state last one.2.others one.2.steps in record {
       diagram = two.0;
       of_value = two.1;
       are = one.2.are ∙ ap (λ (l : List Effect). Write file one.0 ∷ l) two.2
           ∙ ap (λ text. Write file text ∷ Print (size_line (size_of (two.0 ∷ []))) ∷ [])
-          (same_text state two.0 one.0 valid one.1 two.1);
+          (same_text state.tree (formula_of state 0) two.0 one.0 valid one.1 two.1);
     }
 
-size_alone : (state last : State) (effects : List Effect) → Steps state (PrintSize ∷ []) effects last
-    → AllDone state None None effects
-size_alone state last effects p =
-    let two = size_done state last effects p in record { diagram = two.0; of_value = two.1; are = two.2 }
+size_alone : (input : Expression) (state last : State) (effects : List Effect)
+    → Steps input state (commands.Size 0 ∷ []) effects last → AllDone state None None effects
+size_alone input state last effects p =
+    let two = size_done input state last effects p in record { diagram = two.0; of_value = two.1; are = two.2 }
 
--- the commands of a plan after the first, one after another
-all_done : (state last : State) (out_vtree out_sdd : Option (List ℕ)) (effects : List Effect) → IsValid state
-    → Steps state (for_file WriteVtree out_vtree ++ for_file WriteDiagram out_sdd ++ PrintSize ∷ []) effects last
+-- the stated commands after the first, one after another
+all_done : (input : Expression) (state last : State) (out_vtree out_sdd : Option (List ℕ)) (effects : List Effect)
+    → IsVtree state.tree
+    → Steps input state
+    (for_file commands.WriteVtree out_vtree ++ for_file (commands.Write 0) out_sdd ++ commands.Size 0 ∷ []) effects last
     → AllDone state out_vtree out_sdd effects
-all_done state last None None effects valid p = size_alone state last effects p
-all_done state last None (Some file) effects valid p = diagram_and_size state last file effects valid p
-all_done state last (Some file) None effects valid p =
-    let one = vtree_done state last file (PrintSize ∷ []) effects p in
-    let rest = size_alone state last one.others one.steps in record {
+all_done input state last None None effects valid p = size_alone input state last effects p
+all_done input state last None (Some file) effects valid p = diagram_and_size input state last file effects valid p
+all_done input state last (Some file) None effects valid p =
+    let one = vtree_done input state last file (commands.Size 0 ∷ []) effects p in
+    let rest = size_alone input state last one.others one.steps in record {
       diagram = rest.diagram;
       of_value = rest.of_value;
       are = one.are ∙ ap (λ (l : List Effect). Write file (vtree_text state.tree) ∷ l) rest.are;
     }
-all_done state last (Some file) (Some other) effects valid p =
-    let one = vtree_done state last file (WriteDiagram other ∷ PrintSize ∷ []) effects p in
-    let rest = diagram_and_size state last other one.others valid one.steps in record {
+all_done input state last (Some file) (Some other) effects valid p =
+    let one = vtree_done input state last file (commands.Write 0 other ∷ commands.Size 0 ∷ []) effects p in
+    let rest = diagram_and_size input state last other one.others valid one.steps in record {
       diagram = rest.diagram;
       of_value = rest.of_value;
       are = one.are ∙ ap (λ (l : List Effect). Write file (vtree_text state.tree) ∷ l) rest.are;
     }
 
--- the formula is compiled first, without an effect
-record AfterInput (state last : State) (rest : List Command) (effects : List Effect) : Type 0 where
-  steps : Steps (record state { value = state.input }) rest effects last
+-- name 0 is bound to the input first, without an effect
+record AfterInput (input : Expression) (state last : State) (rest : List Command) (effects : List Effect)
+    : Type 0 where
+  steps : Steps input (bound state 0 input) rest effects last
 
-input_done : (state last : State) (rest : List Command) (effects : List Effect)
-    → Steps state (Input ∷ rest) effects last → AfterInput state last rest effects
-input_done state last rest effects (mid, first, others, step, steps, is) =
-    let done : Done mid first ≡ Done (record state { value = state.input }) [] = step in
-    let same : mid ≡ record state { value = state.input } = cc in
+input_done : (input : Expression) (state last : State) (rest : List Command) (effects : List Effect)
+    → Steps input state (commands.Input 0 ∷ rest) effects last → AfterInput input state last rest effects
+input_done input state last rest effects (mid, first, others, step, steps, is) =
+    let done : Done mid first ≡ Done (bound state 0 input) [] = step in
+    let same : mid ≡ bound state 0 input = cc in
     let none : first ≡ [] = cc in
     let all : effects ≡ others = is ∙ ap (λ (l : List Effect). l ++ others) none in
     record {
-      steps = subst (λ l. Steps (record state { value = state.input }) rest l last) (sym all)
-          (subst (λ s. Steps s rest others last) same steps);
+      steps = subst (λ l. Steps input (bound state 0 input) rest l last) (sym all)
+          (subst (λ s. Steps input s rest others last) same steps);
     }
-
--- all commands of the plan were done
-whole_plan : (start last : State) (commands : List Command) (effects : List Effect)
-    → Reaches start commands effects last [] → Steps start commands effects last
-whole_plan start last commands effects reached =
-    subst (λ l. Steps start l effects last) (sym (append-nil reached.done) ∙ reached.in_order) reached.steps
 
 -- the files after the commands
 files_after : (out_vtree out_sdd : Option (List ℕ)) (vtree diagram line : List ℕ) (old : Contents) (files : Files)
@@ -267,10 +301,9 @@ printed_after None (Some file) vtree diagram line old = refl
 printed_after (Some file) None vtree diagram line old = refl
 printed_after (Some file) (Some other) vtree diagram line old = refl
 
--- the state of a plan once its formula is compiled
+-- the state of a plan once its formula is bound
 abbrev compiled : Job → Groups → Tree → State
-compiled job formula tree =
-    let start = (plan_for job formula tree).start in record start { value = start.input }
+compiled job formula tree = bound (start tree job.limit) 0 (expression_of formula)
 
 -- these effects write the formula's texts
 writes : (files : Files) (job : Job) (formula : Groups) (tree : Tree) (effects : List Effect) (old new : Contents)
@@ -286,113 +319,59 @@ writes files job formula tree effects old new told done is =
           ∙ printed_after job.out_vtree job.out_sdd (vtree_text tree) (sdd_text done.diagram) _ old;
     }
 
--- what a run at status 0 wrote
-record Found (words : List (List ℕ)) (files : Files) (old new : Contents) : Type 0 where
-  job : Job
-  formula : Groups
-  tree : Tree
-  input : IsInput words files job formula
-  start : IsStartTree files job.tree formula.variables tree
-  written : IsWritten files job formula tree old new
-
-found_at : (words : List (List ℕ)) (status : ℕ) (kept : Option Table) (old new : Moment)
-    → Went words status kept old new → (files : Files)
-    → status ≡ 0 → old.contents.files ≡ Some files → Found words files old.contents new.contents
-found_at words status kept old new went files zero_ told =
-    let all = (effects_at words status kept old new went).all zero_ in
-    go all.0 (subst (λ f. Comes words f all.0 Finished) told all.1) all.2
-  where
-    go : (effects : List Effect) → Comes words (Some files) effects Finished
-        → new.contents ≡ after effects old.contents → Found words files old.contents new.contents
-    go effects (inl p) is = absurd p.0
-    go effects (inr p) is =
-        let from = from_input words files p.0 p.1 in
-        let steps = whole_plan p.0.start p.2.0 p.0.commands effects p.2.1 in
-        let steps' = subst (λ (plan : Plan). Steps plan.start plan.commands effects p.2.0) from.is steps in
-        let start = compiled from.job from.formula from.tree in
-        let after_input = input_done (plan_for from.job from.formula from.tree).start p.2.0 _ effects steps' in
-        let valid = subst (λ (plan : Plan). IsValid plan.start) from.is (valid_start (Some files) words p.0 p.1) in
-        record {
-          job = from.job;
-          formula = from.formula;
-          tree = from.tree;
-          input = from.input;
-          start = from.start;
-          written = writes files from.job from.formula from.tree effects old.contents new.contents told
-              (all_done start p.2.0 from.job.out_vtree from.job.out_sdd effects valid after_input.steps) is;
-        }
+-- what a plan of an input does
+plan_writes : (words : List (List ℕ)) (files : Files) (job : Job) (plan : Plan) (last : State) (effects : List Effect)
+    (old new : Contents) → old.files ≡ Some files → (from : FromInput words files job plan) → IsVtree plan.start.tree
+    → Steps plan.input plan.start plan.commands effects last → new ≡ after effects old
+    → IsWritten files job from.formula from.tree old new
+plan_writes words files job plan last effects old new told from valid steps is =
+    let own = plan_for job from.formula from.tree (stated job) in
+    let own_steps = subst (λ (p : Plan). Steps p.input p.start p.commands effects last) from.is steps in
+    let own_valid = subst (λ (p : Plan). IsVtree p.start.tree) from.is valid in
+    let after_input = input_done own.input own.start last
+    (for_file commands.WriteVtree job.out_vtree ++ for_file (commands.Write 0) job.out_sdd ++ commands.Size 0 ∷ [])
+    effects own_steps in
+    writes files job from.formula from.tree effects old new told
+    (all_done own.input (compiled job from.formula from.tree) last job.out_vtree job.out_sdd effects own_valid
+    after_input.steps) is
 
 -- at status 0 the formula of the input was written
 pub written_at : (words : List (List ℕ)) (status : ℕ) (kept : Option Table) (old new : Moment)
-    → Went words status kept old new
-    → HasWritten words status old new
-written_at words status kept old new went = λ files zero_ told.
-    let found = found_at words status kept old new went files zero_ told in
-    (found.job, found.formula, found.tree, found.input, found.start, found.written)
+    → Went words status kept old new → HasWritten words status old new
+written_at words status kept old new went = λ files job zero_ told named alone.
+    let all = (effects_at words status kept old new went).all zero_ in
+    go files job told named alone all.0 (subst (λ f. Comes words f all.0 Finished) told all.1) all.2
+  where
+    go : (files : Files) (job : Job) → old.contents.files ≡ Some files → job_of words ≡ Ok job → job.script ≡ None
+        → (effects : List Effect) → Comes words (Some files) effects Finished
+        → new.contents ≡ after effects old.contents
+        → (formula : Groups) × (tree : Tree) × IsInput words files job formula
+        × IsStartTree files job.tree formula.variables tree × IsWritten files job formula tree old.contents new.contents
+    go files job told named alone effects (inl p) is = absurd p.0
+    go files job told named alone effects (inr p) is =
+        let from = from_input words files job p.0 named alone p.1 in (
+          from.formula,
+          from.tree,
+          from.input,
+          from.start,
+          plan_writes words files job p.0 p.2.0 effects old.contents new.contents told from
+              (valid_start (Some files) words p.0 p.1) (whole_plan p.0 p.2.0 effects p.2.1) is,
+        )
 
 -- ---- equal texts
 
--- an input is one job, one formula and one tree
-same_job : (words : List (List ℕ)) (files : Files) (j k : Job) (f g : Groups) → IsInput words files j f
-    → IsInput words files k g → j ≡ k
-same_job words files j k f g p q = let e : Some j ≡ Some k = sym p.named ∙ q.named in cc
+-- two texts for a vtree are equal exactly if their formulas are one function
+equal_to : (tree : Tree) (f g : Expression) (a b : List ℕ) → IsVtree tree → IsTextOf tree f a → IsTextOf tree g b
+    → (a ≡ b) ↔ AreOneFunction (leaves tree) f g
+equal_to tree f g a b valid p q =
+    subst (λ x. (x ≡ b) ↔ AreOneFunction (leaves tree) f g) (sym p.is)
+    (subst (λ y. (sdd_text p.diagram ≡ y) ↔ AreOneFunction (leaves tree) f g) (sym q.is)
+    (texts_equal tree f g p.diagram q.diagram valid p.of_value q.of_value))
 
-same_formula : (words : List (List ℕ)) (files : Files) (j k : Job) (f g : Groups) → IsInput words files j f
-    → IsInput words files k g → f ≡ g
-same_formula words files j k f g p q =
-    let same = same_job words files j k f g p q in
-    let there : Some p.bytes ≡ Some q.bytes =
-    sym p.there ∙ ap (λ (x : Job). bytes_at files x.input.file) same ∙ q.there in
-    let bytes : p.bytes ≡ q.bytes = cc in
-    let reads : ok f ≡ Ok g =
-    sym p.reads ∙ ap (λ (x : Job). dimacs x.input.kind p.bytes) same ∙ ap (dimacs k.input.kind) bytes ∙ q.reads in
-    cc
-
-same_tree : (files : Files) (word : TreeWord) (v : ℕ) (t u : Tree) → IsStartTree files word v t
-    → IsStartTree files word v u → t ≡ u
-same_tree files (StartOf shape) v t u p q = p ∙ sym q
-same_tree files (VtreeIn file) v t u (a, a_there, a_short, a_reads) (b, b_there, b_short, b_reads) =
-    let there : Some a ≡ Some b = sym a_there ∙ b_there in
-    let bytes : a ≡ b = cc in
-    let reads : Ok t ≡ Ok u = sym a_reads ∙ ap (vtree_file v) bytes ∙ b_reads in
-    cc
-
--- the written text is that of the formula's diagram
-text_is : (before now : Files) (out : Option (List ℕ)) (name written text : List ℕ) → out ≡ Some name
-    → Some now ≡ Some (with_output out written before) → bytes_at now name ≡ Some text → text ≡ written
-text_is before now out name written text named is found =
-    let same : now ≡ with_output out written before = cc in
-    let e : Some text ≡ Some written =
-    sym found ∙ ap (λ (f : Files). bytes_at f name) (same ∙ ap (λ o. with_output o written before) named)
-    ∙ bytes_at-with_file before name written in
-    cc
-
--- two texts are equal exactly if the formulas are one function
-equal_to : (formula : Groups) (tree : Tree) (d e : Diagram) (g : Expression) → IsVtreeOver formula.variables tree
-    → IsDiagramOf tree (expression_of formula) d → IsDiagramOf tree g e
-    → (sdd_text e ≡ sdd_text d) ↔ AreOneFunction formula.variables g (expression_of formula)
-equal_to formula tree d e g fits of_formula of_other =
-    subst (λ (n : ℕ). (sdd_text e ≡ sdd_text d) ↔ AreOneFunction n g (expression_of formula)) fits.count
-    (texts_equal tree g (expression_of formula) e d fits.vtree of_other of_formula)
-
--- and so for the text that the run wrote
-pub equal_texts_at : (words : List (List ℕ)) (status : ℕ) (kept : Option Table) (old new : Moment)
-    → Went words status kept old new
-    → HasEqualTexts words status old new
-equal_texts_at words status kept old new went =
-    λ files now job formula tree output text zero_ told told_now input start named found g e of_other.
-    let run = found_at words status kept old new went files zero_ told in
-    let job_is = same_job words files run.job job run.formula formula run.input input in
-    let formula_is = same_formula words files run.job job run.formula formula run.input input in
-    let run_start = subst (λ (j : Job). IsStartTree files j.tree formula.variables run.tree) job_is
-    (subst (λ (f : Groups). IsStartTree files run.job.tree f.variables run.tree) formula_is run.start) in
-    let tree_is = same_tree files job.tree formula.variables run.tree tree run_start start in
-    let fits = start_tree_fits files job.tree formula.variables tree
-    (accepted_fits job.input.kind input.bytes formula input.reads).some start in
-    let written = subst (λ t. IsWritten files job formula t old.contents new.contents) tree_is
-    (subst (λ j. IsWritten files j formula run.tree old.contents new.contents) job_is
-    (subst (λ f. IsWritten files run.job f run.tree old.contents new.contents) formula_is run.written)) in
-    let is = text_is (with_output job.out_vtree (vtree_text tree) files) now job.out_sdd output
-    (sdd_text written.diagram) text named (sym told_now ∙ written.files_are) found in
-    subst (λ t. (sdd_text e ≡ t) ↔ AreOneFunction formula.variables g (expression_of formula)) (sym is)
-    (equal_to formula tree written.diagram e g fits written.of_formula of_other)
+-- and so for two writes of a run
+pub equal_texts : (words : List (List ℕ)) (told : Option Files) → HasEqualTexts words told
+equal_texts words told = λ plan f g tree a b led first second.
+    let reached = first.at.reaches in
+    let same = first.tree_is
+    ∙ one_tree plan.input plan.start first.state reached.done first.effects reached.steps in
+    equal_to tree f g a b (subst IsVtree (sym same) (valid_start told words plan led)) first.text_is second.text_is

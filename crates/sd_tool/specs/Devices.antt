@@ -3,7 +3,8 @@ use Rattle.std.specs.Prelude.{◌≡◌, ◌⊎◌, ℕ, ◌≤◌, List, Option
 use Rattle.sd_base.specs.Faults.{Rose}
 use Rattle.sd_base.specs.Files.{Files, Lacks}
 use Rattle.sd_base.specs.Sink.{told_then, AppendsPart}
-use Rattle.sd_tool.specs.Effects.{Write, Print, Contents}
+use Rattle.sd_commands.specs.Effects.{Write, Print}
+use Rattle.sd_tool.specs.Effects.{Contents}
 use Rattle.sd_tool.specs.Ends.{End, Finished, Unreadable, Unwritable, text_of, line_of}
 
 -- how often each device has failed

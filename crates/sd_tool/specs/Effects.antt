@@ -1,12 +1,8 @@
--- What a run does outside: it writes files and prints lines.
+-- What the effects of a run leave outside.
 use Rattle.std.specs.Prelude.{◌≡◌, ℕ, List, [], ◌∷◌, Option}
 use Rattle.sd_base.specs.Files.{Files, told_with, WritesPart}
 use Rattle.sd_base.specs.Sink.{told_then, AppendsPart}
-
--- a file is written whole with these bytes, or a line is printed
-pub data Effect : Type 0 where
-  Write : (file bytes : List ℕ) → Effect
-  Print : (line : List ℕ) → Effect
+use Rattle.sd_commands.specs.Effects.{Effect, Write, Print}
 
 -- the files of the shelf and what was printed, as far as they are told
 pub record Contents : Type 0 where

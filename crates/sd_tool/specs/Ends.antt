@@ -1,13 +1,14 @@
 -- How a run ends: its status, and its line on `err`.
 use Rattle.std.specs.Prelude.{ℕ, List, [], ◌∷◌, ◌++◌, codes}
 use Rattle.sd_model.specs.Text.{number_text}
-use Rattle.sd_tool.specs.Effects.{Effect, Write, Print}
-use Rattle.sd_tool.specs.Refusals.{Refusal, refusal_status, refusal_text}
+use Rattle.sd_commands.specs.Effects.{Effect, Write, Print}
+use Rattle.sd_tool.specs.Refusals.{refusal_status, refusal_text}
+use Rattle.sd_tool.specs.declared.refusal.Refusal.{Refusal}
 
 pub data End : Type 0 where
   -- all commands were done
   Finished : End
-  -- the words, a text or a command were refused
+  -- the words or a text were refused
   Refused : Refusal → End
   -- an input file was not read
   Unreadable : (file : List ℕ) → End

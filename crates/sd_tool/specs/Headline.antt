@@ -4,15 +4,18 @@ use Rattle.sd_base.specs.Files.{Files}
 use Rattle.sd_model.specs.Tree.{Tree}
 use Rattle.sd_manager.specs.Table.{Table}
 use Rattle.sd_formula.specs.Dimacs.{Groups}
-use Rattle.sd_tool.specs.Job.{Job}
-use Rattle.sd_tool.specs.Effects.{Effect, after, DoesPart}
+use Rattle.sd_words.specs.declared.jobs.Job.{Job}
+use Rattle.sd_commands.specs.Effects.{Effect}
+use Rattle.sd_commands.specs.Standing.{IsFilled}
+use Rattle.sd_tool.specs.Effects.{after, DoesPart}
 use Rattle.sd_tool.specs.Readings.{Refuses, Reads, reading_of, ReadsTo}
-use Rattle.sd_tool.specs.Refusals.{Refusal, IsOfText, refusal_status}
+use Rattle.sd_tool.specs.Refusals.{IsOfText, refusal_status}
+use Rattle.sd_tool.specs.declared.refusal.Refusal.{Refusal}
 use Rattle.sd_tool.specs.Ends.{End, Finished, Refused, Unreadable, Unwritable, OutOfMemory, ArenaFull}
 use Rattle.sd_tool.specs.Ends.{status_of}
 use Rattle.sd_tool.specs.Devices.{Moment, NoneRose, HasCause, SaysLine}
 use Rattle.sd_tool.specs.Course.{Comes, Leaves}
-use Rattle.sd_tool.specs.Kept.{Keeps, IsFilled}
+use Rattle.sd_tool.specs.Kept.{Keeps}
 use Rattle.sd_tool.specs.Written.{IsInput, IsStartTree}
 
 -- How the run went: what it did and how it ended, where the words and the files lead; the status, the files and
@@ -27,12 +30,12 @@ pub record Went (words : List (List ℕ)) (status : ℕ) (kept : Option Table) (
   pub keeps : Keeps end kept
   pub line : SaysLine end old new
 
--- What was done outside: at status 0 all effects of the run, at 2, 5 and 9 none, at 7 and 8 those of the first commands,
--- at 6 those before the effect in hand, and a part of that one.
+-- What was done outside: at status 0 all effects of the run, at 1, 2, 3, 5 and 9 none, at 7 and 8 those of the first
+-- commands, at 6 those before the effect in hand, and a part of that one.
 pub record HasEffects (words : List (List ℕ)) (status : ℕ) (old new : Moment) : Type 0 where
   pub all : status ≡ 0 → (effects : List Effect)
       × Comes words old.contents.files effects Finished × (new.contents ≡ after effects old.contents)
-  pub none : (status ≡ 2) ⊎ (status ≡ 5) ⊎ (status ≡ 9) → new.contents ≡ old.contents
+  pub none : (status ≡ 1) ⊎ (status ≡ 2) ⊎ (status ≡ 3) ⊎ (status ≡ 5) ⊎ (status ≡ 9) → new.contents ≡ old.contents
   pub first : status ≡ 7 → (effects : List Effect)
       × Comes words old.contents.files effects OutOfMemory × (new.contents ≡ after effects old.contents)
   pub full : status ≡ 8 → (effects : List Effect) × (elements : ℕ)
@@ -79,11 +82,12 @@ pub record WasFull (words : List (List ℕ)) (kept : Option Table) (old new : Mo
   pub filled : IsFilled elements manager
   pub line : SaysLine (ArenaFull elements) old new
 
--- When each status comes, and that a manager is kept at 8 alone. That 9 comes wherever it may is the other half, in `IsComplete` and `Went`.
+-- When each status comes, and that a manager is kept at 8 alone. That a refusal comes wherever it may is the other
+-- half, in `IsComplete` and `Went`.
 pub record HasEnd (words : List (List ℕ)) (status : ℕ) (kept : Option Table) (old new : Moment) : Type 0 where
-  pub one_of : (status ≡ 0) ⊎ (status ≡ 2) ⊎ (status ≡ 5) ⊎ (status ≡ 6) ⊎ (status ≡ 7) ⊎ (status ≡ 8)
-      ⊎ (status ≡ 9)
-  pub refused : (status ≡ 2) ⊎ (status ≡ 9) → IsRefused words status old new
+  pub one_of : (status ≡ 0) ⊎ (status ≡ 1) ⊎ (status ≡ 2) ⊎ (status ≡ 3) ⊎ (status ≡ 5) ⊎ (status ≡ 6)
+      ⊎ (status ≡ 7) ⊎ (status ≡ 8) ⊎ (status ≡ 9)
+  pub refused : (status ≡ 1) ⊎ (status ≡ 2) ⊎ (status ≡ 3) ⊎ (status ≡ 9) → IsRefused words status old new
   pub read_fault : status ≡ 5 → CouldNotRead words old new
   pub write_fault : status ≡ 6 → CouldNotWrite words old new
   pub arena_full : status ≡ 8 → WasFull words kept old new

@@ -1,16 +1,13 @@
-pub mod Commands
+pub mod Actions
 pub mod Course
 pub mod Devices
 pub mod Effects
 pub mod Ends
 pub mod Given
 pub mod Headline
-pub mod Job
-pub mod Joined
 pub mod Kept
 pub mod Parts
 pub mod Readings
 pub mod Refusals
 pub mod Stops
-pub mod Unfolding
 pub mod Written

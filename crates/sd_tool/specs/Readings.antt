@@ -1,26 +1,44 @@
 -- What a run reads before its first command, and when that is refused. A later reading is one more `Reads`.
-use Rattle.std.specs.Prelude.{◌≡◌, ◌⊎◌, ℕ, ◌<◌, ◌≤◌, true}
-use Rattle.std.specs.Prelude.{List, [], ◌∷◌, ◌++◌, length, Option, Some, None, Result, Ok, Err}
+use Rattle.std.specs.Prelude.{◌≡◌, ◌⊎◌, ℕ, ◌<◌, ◌≤◌, Bool, true, false, ◌==◌, ◌&&◌, is_none}
+use Rattle.std.specs.Prelude.{List, [], ◌∷◌, ◌++◌, length, slice_index_or, if◌then◌else◌}
+use Rattle.std.specs.Prelude.{Option, Some, None, Result, Ok, Err}
+use Rattle.std.specs.List.{list_all}
 use Rattle.sd_base.specs.Files.{Files, bytes_at}
-use Rattle.sd_model.specs.Expression.{Constant}
+use Rattle.sd_model.specs.Expression.{Expression}
 use Rattle.sd_model.specs.Tree.{Tree}
 use Rattle.sd_model.specs.StartTrees.{balanced_tree, right_tree, left_tree}
 use Rattle.sd_formula.specs.declared.error.FormulaError.{FormulaError}
+use Rattle.sd_formula.specs.declared.formula.Kind.{Kind}
+use Rattle.sd_formula.specs.declared.formula.Kind.TheVariants as kinds
 use Rattle.sd_formula.specs.Dimacs.{Groups, dimacs}
 use Rattle.sd_formula.specs.Formulas.{expression_of}
 use Rattle.sd_vfile.specs.Reads.{vtree_file}
 use Rattle.sd_vfile.specs.declared.fault.VtreeFault.{VtreeFault}
-use Rattle.sd_tool.specs.Job.{Job, TreeWord, StartOf, VtreeIn, job_of}
-use Rattle.sd_tool.specs.Commands.{State}
-use Rattle.sd_tool.specs.Refusals.{Refusal, NotYet, BadFormula, BadVtree, TooLong as LongFile}
-use Rattle.sd_tool.specs.declared.commands.Command.{Command}
-use Rattle.sd_tool.specs.declared.commands.Command.TheVariants.{Input, WriteVtree, WriteDiagram}
-use Rattle.sd_tool.specs.declared.commands.Command.TheVariants.{PrintSize}
-use Rattle.sd_tool.specs.declared.words.Shape.{Shape}
-use Rattle.sd_tool.specs.declared.words.Shape.TheVariants.{Balanced, Right, Left}
+use Rattle.sd_file.specs.Reads.{File, sdd_file}
+use Rattle.sd_file.specs.declared.fault.SddFault.{SddFault}
+use Rattle.sd_script.specs.Scripts.{Script, script_of}
+use Rattle.sd_script.specs.declared.command.Action.{Action}
+use Rattle.sd_script.specs.declared.command.Action.TheVariants as actions
+use Rattle.sd_script.specs.declared.command.Command.{Command as Line}
+use Rattle.sd_script.specs.declared.fault.ScriptFault.{ScriptFault}
+use Rattle.sd_words.specs.JobOf.{job_of}
+use Rattle.sd_words.specs.declared.jobs.Job.{Job}
+use Rattle.sd_words.specs.declared.jobs.InputWord.{InputWord}
+use Rattle.sd_words.specs.declared.jobs.InputWord.TheVariants as inputs
+use Rattle.sd_words.specs.declared.jobs.TreeWord.{TreeWord}
+use Rattle.sd_words.specs.declared.jobs.TreeWord.TheVariants as trees
+use Rattle.sd_words.specs.declared.faults.WordsFault.{WordsFault}
+use Rattle.sd_commands.specs.Commands.{State}
+use Rattle.sd_commands.specs.Standing.{start}
+use Rattle.sd_commands.specs.declared.command.Command.{Command}
+use Rattle.sd_commands.specs.declared.command.Command.TheVariants as commands
+use Rattle.sd_tool.specs.declared.refusal.Refusal.{Refusal}
+use Rattle.sd_tool.specs.declared.refusal.Refusal.TheVariants.{NotYet, BadWords, BadFormula, BadVtree, BadSdd}
+use Rattle.sd_tool.specs.declared.refusal.Refusal.TheVariants.{BadScript, LongScript, TooLong as LongFile}
 
 -- what the commands begin with
 pub record Plan : Type 0 where
+  pub input : Expression
   pub start : State
   pub commands : List Command
 
@@ -35,27 +53,117 @@ pub data Reading : Type 0 where
   Begins : Plan → Reading
   Reads : (file : List ℕ) (next : Text → Reading) → Reading
 
+-- a formula file and its kind
+pub record Input : Type 0 where
+  pub kind : Kind
+  pub file : List ℕ
+
+-- the formula file of the words, where they name one
+abbrev pub input_file : InputWord → Option Input
+input_file (inputs.Cnf file) = Some record { kind = kinds.Cnf; file = file }
+input_file (inputs.Dnf file) = Some record { kind = kinds.Dnf; file = file }
+input_file (inputs.Generate count seed) = None
+
+-- a job without a search, with the limit and the slack of default
+abbrev pub is_plain : Job → Bool
+is_plain job = is_none job.minimise && (is_none job.every && (job.slack == 200 && job.limit == 16777216))
+
+-- ---- the commands
+
 -- a command for a file that is there
 abbrev pub for_file : (List ℕ → Command) → Option (List ℕ) → List Command
 for_file command None = []
 for_file command (Some file) = command file ∷ []
 
--- The formula under this tree: it is compiled, its vtree and its diagram are written, and then the size is printed.
--- At the start the diagram of true is held.
-abbrev pub plan_for : Job → Groups → Tree → Plan
-plan_for job formula tree = record {
-  start = record { input = expression_of formula; value = Constant true; tree = tree };
-  commands = Input ∷ for_file WriteVtree job.out_vtree ++ for_file WriteDiagram job.out_sdd ++ PrintSize ∷ [];
+-- Without a script the formula is compiled, its vtree and its diagram are written, and then its size is printed.
+abbrev pub stated : Job → List Command
+stated job =
+    commands.Input 0 ∷ for_file commands.WriteVtree job.out_vtree ++ for_file (commands.Write 0) job.out_sdd
+    ++ commands.Size 0 ∷ []
+
+-- a command of a script that runs have yet
+abbrev pub is_served : Action → Bool
+is_served (actions.Given n a literal) = false
+is_served (actions.Forget n a x) = false
+is_served (actions.Turn kind p) = false
+is_served (actions.Minimise rounds) = false
+is_served (actions.Limit k) = false
+is_served action = true
+
+-- the name of a file of a script
+abbrev pub file_name : Script → ℕ → List ℕ
+file_name script n = slice_index_or script.files n []
+
+-- a file that was read, or the refusal of its text
+abbrev pub with_sdd_reading : List ℕ → (File → Reading) → Result File SddFault → Reading
+with_sdd_reading file next (Err fault) = Refuses (BadSdd file fault)
+with_sdd_reading file next (Ok read) = next read
+
+-- the text of an SDD file over v variables
+abbrev pub with_sdd : ℕ → List ℕ → (File → Reading) → Text → Reading
+with_sdd v file next TooLong = Refuses (LongFile file)
+with_sdd v file next (Whole bytes) = with_sdd_reading file next (sdd_file v bytes)
+
+-- a command of a script as one of the run; a file that it loads is read
+abbrev pub with_action : ℕ → Script → (Command → Reading) → Action → Reading
+with_action v script next (actions.Input n) = next (commands.Input n)
+with_action v script next (actions.Load n file) =
+    Reads (file_name script file) (with_sdd v (file_name script file) (λ read. next (commands.Load n read)))
+with_action v script next (actions.Lit n literal) = next (commands.Literal n literal)
+with_action v script next (actions.Constant n value) = next (commands.Constant n value)
+with_action v script next (actions.Binary operation n a b) = next (commands.Combine operation n a b)
+with_action v script next (actions.Not n a) = next (commands.Negate n a)
+with_action v script next (actions.Drop a) = next (commands.Drop a)
+with_action v script next (actions.Same a b) = next (commands.Same a b)
+with_action v script next (actions.Size a) = next (commands.Size a)
+with_action v script next (actions.Value a bits) = next (commands.Value a bits)
+with_action v script next (actions.Write a file) = next (commands.Write a (file_name script file))
+with_action v script next (actions.Vtree file) = next (commands.WriteVtree (file_name script file))
+with_action v script next action = Refuses NotYet
+
+-- the commands of these lines, behind others
+abbrev pub with_lines : ℕ → Script → (List Command → Reading) → List Command → List Line → Reading
+with_lines v script begin done [] = begin done
+with_lines v script begin done (line ∷ lines) =
+    with_action v script (λ command. with_lines v script begin (done ++ command ∷ []) lines) line.action
+
+-- a script, if runs have its commands yet; no file is read before that is known
+abbrev pub with_script : ℕ → (List Command → Reading) → Script → Reading
+with_script v begin script =
+    if list_all (λ (line : Line). is_served line.action) script.commands
+    then with_lines v script begin [] script.commands
+    else Refuses NotYet
+
+-- a script that was read, or the refusal of its text
+abbrev pub with_script_reading : List ℕ → ℕ → (List Command → Reading) → Result Script ScriptFault → Reading
+with_script_reading file v begin (Err fault) = Refuses (BadScript file fault)
+with_script_reading file v begin (Ok script) = with_script v begin script
+
+-- the text of a script over v variables
+abbrev pub with_script_text : List ℕ → ℕ → (List Command → Reading) → Text → Reading
+with_script_text file v begin TooLong = Refuses (LongScript file)
+with_script_text file v begin (Whole bytes) = with_script_reading file v begin (script_of v bytes)
+
+-- the commands of a job: those of its script, or the stated ones
+abbrev pub with_commands : Job → ℕ → (List Command → Reading) → Option (List ℕ) → Reading
+with_commands job v begin None = begin (stated job)
+with_commands job v begin (Some file) = Reads file (with_script_text file v begin)
+
+-- ---- the formula and its tree
+
+-- what commands begin with: the formula, no name, the tree, and the job's limit
+abbrev pub plan_for : Job → Groups → Tree → List Command → Plan
+plan_for job formula tree commands = record {
+  input = expression_of formula;
+  start = start tree job.limit;
+  commands = commands;
 }
 
 abbrev pub with_tree : Job → Groups → Tree → Reading
-with_tree job formula tree = Begins (plan_for job formula tree)
+with_tree job formula tree =
+    with_commands job formula.variables (λ commands. Begins (plan_for job formula tree commands)) job.script
 
-abbrev pub start_tree : Shape → ℕ → Tree
-start_tree Balanced v = balanced_tree v
-start_tree Right v = right_tree v
-start_tree Left v = left_tree v
-
+-- the tree of a vtree file, or the refusal of its text
 abbrev pub with_vtree_reading : Job → Groups → List ℕ → Result Tree VtreeFault → Reading
 with_vtree_reading job formula file (Ok tree) = with_tree job formula tree
 with_vtree_reading job formula file (Err fault) = Refuses (BadVtree file fault)
@@ -65,28 +173,37 @@ with_vtree_text job formula file TooLong = Refuses (LongFile file)
 with_vtree_text job formula file (Whole bytes) =
     with_vtree_reading job formula file (vtree_file formula.variables bytes)
 
--- the start tree of a shape, or that of a vtree file
+-- the start tree of a shape over the variables in order, or that of a vtree file
 abbrev pub with_tree_word : Job → Groups → TreeWord → Reading
-with_tree_word job formula (StartOf shape) = with_tree job formula (start_tree shape formula.variables)
-with_tree_word job formula (VtreeIn file) = Reads file (with_vtree_text job formula file)
+with_tree_word job formula trees.Balanced = with_tree job formula (balanced_tree formula.variables)
+with_tree_word job formula trees.Right = with_tree job formula (right_tree formula.variables)
+with_tree_word job formula trees.Left = with_tree job formula (left_tree formula.variables)
+with_tree_word job formula (trees.File file) = Reads file (with_vtree_text job formula file)
 
 -- a text that is no formula has a fault
-abbrev pub with_formula : Job → Result Groups FormulaError → Reading
-with_formula job (Err fault) = Refuses (BadFormula job.input.file fault)
-with_formula job (Ok formula) = with_tree_word job formula job.tree
+abbrev pub with_formula : Job → List ℕ → Result Groups FormulaError → Reading
+with_formula job file (Err fault) = Refuses (BadFormula file fault)
+with_formula job file (Ok formula) = with_tree_word job formula job.tree
 
 -- the input is a formula file of its kind
-abbrev pub with_input : Job → Text → Reading
-with_input job TooLong = Refuses (LongFile job.input.file)
-with_input job (Whole bytes) = with_formula job (dimacs job.input.kind bytes)
+abbrev pub with_input : Job → Input → Text → Reading
+with_input job input TooLong = Refuses (LongFile input.file)
+with_input job input (Whole bytes) = with_formula job input.file (dimacs input.kind bytes)
 
-abbrev pub with_job : Option Job → Reading
-with_job None = Refuses NotYet
-with_job (Some job) = Reads job.input.file (with_input job)
+-- a job that runs have yet reads its input
+abbrev pub with_input_word : Job → Option Input → Reading
+with_input_word job None = Refuses NotYet
+with_input_word job (Some input) = Reads input.file (with_input job input)
+
+abbrev pub with_job : Result Job WordsFault → Reading
+with_job (Err fault) = Refuses (BadWords fault)
+with_job (Ok job) = if is_plain job then with_input_word job (input_file job.input) else Refuses NotYet
 
 -- the readings of a run, in order
 abbrev pub reading_of : List (List ℕ) → Reading
 reading_of words = with_job (job_of words)
+
+-- ---- how far the files lead
 
 -- where the files are told, the file of this name reads so
 abbrev pub IsText : Option Files → List ℕ → Text → Type 0

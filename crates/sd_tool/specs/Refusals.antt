@@ -1,33 +1,38 @@
--- What the words, the texts and the commands of a run are refused for.
+-- What the words and the texts of a run are refused for: the status and the text of each refusal.
 use Rattle.std.specs.Prelude.{ℕ, suc, true, false, List, [], ◌++◌, codes, ℤ, pos, negsuc}
 use Rattle.sd_model.specs.Text.{number_text, literal_text}
 use Rattle.sd_formula.specs.declared.error.FormulaError.{FormulaError}
 use Rattle.sd_formula.specs.declared.error.FormulaError.TheVariants as formula
 use Rattle.sd_vfile.specs.declared.fault.VtreeFault.{VtreeFault}
-use Rattle.sd_vfile.specs.declared.fault.VtreeFault.TheVariants.{NoHeader, BadLine, IdTwice, ChildUnknown, ChildTwice}
-use Rattle.sd_vfile.specs.declared.fault.VtreeFault.TheVariants.{VariableWrong, CountDiffers, NotOneRoot}
-use Rattle.sd_vfile.specs.declared.fault.VtreeFault.TheVariants.{VariableMissing, OutOfMemory}
-
-pub data Refusal : Type 0 where
-  -- it is not served yet
-  NotYet : Refusal
-  -- an input file is too long
-  TooLong : (file : List ℕ) → Refusal
-  -- a formula file has this fault
-  BadFormula : (file : List ℕ) → FormulaError → Refusal
-  -- a vtree file has this fault
-  BadVtree : (file : List ℕ) → VtreeFault → Refusal
+use Rattle.sd_vfile.specs.declared.fault.VtreeFault.TheVariants as vtree
+use Rattle.sd_file.specs.declared.fault.SddFault.{SddFault}
+use Rattle.sd_file.specs.declared.fault.SddFault.TheVariants as sdd
+use Rattle.sd_script.specs.declared.fault.ScriptFault.{ScriptFault}
+use Rattle.sd_script.specs.declared.fault.ScriptFault.TheVariants as script
+use Rattle.sd_words.specs.Options.{word_of}
+use Rattle.sd_words.specs.declared.faults.WordsFault.{WordsFault}
+use Rattle.sd_words.specs.declared.faults.WordsFault.TheVariants as words
+use Rattle.sd_tool.specs.declared.refusal.Refusal.{Refusal}
+use Rattle.sd_tool.specs.declared.refusal.Refusal.TheVariants.{NotYet, BadWords, TooLong, BadFormula, BadVtree}
+use Rattle.sd_tool.specs.declared.refusal.Refusal.TheVariants.{LongScript, BadScript, BadSdd}
 
 abbrev pub refusal_status : Refusal → ℕ
 refusal_status NotYet = 9
+refusal_status (BadWords fault) = 1
 refusal_status (TooLong file) = 2
 refusal_status (BadFormula file fault) = 2
 refusal_status (BadVtree file fault) = 2
+refusal_status (BadSdd file fault) = 2
+refusal_status (LongScript file) = 3
+refusal_status (BadScript file fault) = 3
 
--- the fault is one of a text: want of memory is none
+-- the fault is one of the words or of a text: want of memory is none
 abbrev pub IsOfText : Refusal → Type 0
+IsOfText (BadWords words.OutOfMemory) = ⊥
 IsOfText (BadFormula file formula.OutOfMemory) = ⊥
-IsOfText (BadVtree file OutOfMemory) = ⊥
+IsOfText (BadVtree file vtree.OutOfMemory) = ⊥
+IsOfText (BadSdd file sdd.OutOfMemory) = ⊥
+IsOfText (BadScript file script.OutOfMemory) = ⊥
 IsOfText refusal = Unit {0}
 
 -- a fault of a line
@@ -43,6 +48,19 @@ abbrev pub signed_text : ℤ → List ℕ
 signed_text (pos n) = literal_text n true
 signed_text (negsuc i) = literal_text (suc i) false
 
+-- the text of a fault of the words
+abbrev pub words_fault_text : WordsFault → List ℕ
+words_fault_text words.Usage = codes "usage"
+words_fault_text words.NoInput = codes "no input"
+words_fault_text words.TwoInputs = codes "two inputs"
+words_fault_text words.TwoVtrees = codes "two vtrees"
+words_fault_text (words.NumberRange option) = codes "number out of range: --" ++ word_of option
+words_fault_text (words.WithScript option) = codes "not with --script: --" ++ word_of option
+words_fault_text (words.FileTwice name) = codes "file named twice: " ++ name
+words_fault_text words.StartUnknown = codes "start unknown"
+words_fault_text (words.EmptyName option) = codes "empty name: --" ++ word_of option
+words_fault_text words.OutOfMemory = []
+
 -- the text of a fault of a formula file, after the file's name
 abbrev pub formula_fault_text : FormulaError → List ℕ
 formula_fault_text formula.NoHeader = codes ": no header"
@@ -57,20 +75,47 @@ formula_fault_text formula.OutOfMemory = []
 
 -- the text of a fault of a vtree file, after the file's name
 abbrev pub vtree_fault_text : VtreeFault → List ℕ
-vtree_fault_text NoHeader = codes ": no header"
-vtree_fault_text (BadLine n) = at_line n (codes ": bad line")
-vtree_fault_text (IdTwice n) = at_line n (codes ": id twice")
-vtree_fault_text (ChildUnknown n) = at_line n (codes ": child unknown")
-vtree_fault_text (ChildTwice n) = at_line n (codes ": child twice")
-vtree_fault_text (VariableWrong n) = at_line n (codes ": variable wrong")
-vtree_fault_text (CountDiffers s f) = counts s f
-vtree_fault_text (NotOneRoot r) = codes ": " ++ number_text r ++ codes " roots"
-vtree_fault_text (VariableMissing x) = codes ": variable missing: " ++ number_text x
-vtree_fault_text OutOfMemory = []
+vtree_fault_text vtree.NoHeader = codes ": no header"
+vtree_fault_text (vtree.BadLine n) = at_line n (codes ": bad line")
+vtree_fault_text (vtree.IdTwice n) = at_line n (codes ": id twice")
+vtree_fault_text (vtree.ChildUnknown n) = at_line n (codes ": child unknown")
+vtree_fault_text (vtree.ChildTwice n) = at_line n (codes ": child twice")
+vtree_fault_text (vtree.VariableWrong n) = at_line n (codes ": variable wrong")
+vtree_fault_text (vtree.CountDiffers s f) = counts s f
+vtree_fault_text (vtree.NotOneRoot r) = codes ": " ++ number_text r ++ codes " roots"
+vtree_fault_text (vtree.VariableMissing x) = codes ": variable missing: " ++ number_text x
+vtree_fault_text vtree.OutOfMemory = []
+
+-- the text of a fault of an SDD file, after the file's name
+abbrev pub sdd_fault_text : SddFault → List ℕ
+sdd_fault_text sdd.NoHeader = codes ": no header"
+sdd_fault_text (sdd.BadLine n) = at_line n (codes ": bad line")
+sdd_fault_text (sdd.IdTwice n) = at_line n (codes ": id twice")
+sdd_fault_text (sdd.ChildUnknown n) = at_line n (codes ": child unknown")
+sdd_fault_text (sdd.LiteralRange n) = at_line n (codes ": literal out of range")
+sdd_fault_text (sdd.CountDiffers s f) = counts s f
+sdd_fault_text sdd.Empty = codes ": no nodes"
+sdd_fault_text sdd.OutOfMemory = []
+
+-- the text of a fault of a script, after the file's name
+abbrev pub script_fault_text : ScriptFault → List ℕ
+script_fault_text (script.BadLine n) = at_line n (codes ": bad line")
+script_fault_text (script.NameUnknown n) = at_line n (codes ": name unknown")
+script_fault_text (script.NameTaken n) = at_line n (codes ": name taken")
+script_fault_text (script.LiteralRange n) = at_line n (codes ": literal out of range")
+script_fault_text (script.NumberRange n) = at_line n (codes ": number out of range")
+script_fault_text (script.FileTwice n) = at_line n (codes ": file named twice")
+script_fault_text script.TooManyLines = codes ": too many lines"
+script_fault_text (script.TooManyLoads n) = at_line n (codes ": too many loads")
+script_fault_text script.OutOfMemory = []
 
 -- the text of the line, after the name of the program
 abbrev pub refusal_text : Refusal → List ℕ
 refusal_text NotYet = codes "not yet"
+refusal_text (BadWords fault) = words_fault_text fault
 refusal_text (TooLong file) = file ++ codes ": too long"
 refusal_text (BadFormula file fault) = file ++ formula_fault_text fault
 refusal_text (BadVtree file fault) = file ++ vtree_fault_text fault
+refusal_text (BadSdd file fault) = file ++ sdd_fault_text fault
+refusal_text (LongScript file) = file ++ codes ": too long"
+refusal_text (BadScript file fault) = file ++ script_fault_text fault

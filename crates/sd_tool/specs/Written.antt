@@ -1,33 +1,46 @@
--- What the written file is, said without the course of the run.
-use Rattle.std.specs.Prelude.{◌≡◌, ◌↔◌, ℕ, ◌≤◌, List, [], ◌∷◌, length, Option, Some, None, Ok}
+-- What the written files are, said without the course of the run.
+use Rattle.std.specs.Prelude.{◌≡◌, ◌↔◌, ℕ, ◌≤◌, true, List, [], ◌∷◌, length, Option, Some, None, Ok}
 use Rattle.sd_base.specs.Files.{Files, bytes_at, with_file}
 use Rattle.sd_base.specs.Sink.{told_then}
 use Rattle.sd_model.specs.Expression.{Expression, AreOneFunction}
 use Rattle.sd_model.specs.Diagram.{Diagram}
 use Rattle.sd_model.specs.Size.{IsDiagramOf, size_of}
-use Rattle.sd_model.specs.Tree.{Tree}
+use Rattle.sd_model.specs.StartTrees.{balanced_tree, right_tree, left_tree}
+use Rattle.sd_model.specs.Tree.{Tree, leaves}
 use Rattle.sd_model.specs.Text.{sdd_text, vtree_text}
 use Rattle.sd_formula.specs.Dimacs.{Groups, dimacs}
 use Rattle.sd_formula.specs.Formulas.{expression_of}
 use Rattle.sd_vfile.specs.Reads.{vtree_file}
-use Rattle.sd_tool.specs.Job.{Job, TreeWord, StartOf, VtreeIn, job_of}
-use Rattle.sd_tool.specs.Readings.{start_tree}
+use Rattle.sd_words.specs.JobOf.{job_of}
+use Rattle.sd_words.specs.declared.jobs.Job.{Job}
+use Rattle.sd_words.specs.declared.jobs.TreeWord.{TreeWord}
+use Rattle.sd_words.specs.declared.jobs.TreeWord.TheVariants as trees
+use Rattle.sd_commands.specs.Effects.{Effect}
+use Rattle.sd_commands.specs.Commands.{State, IsTextOf, formula_of, size_line}
+use Rattle.sd_commands.specs.declared.command.Command.TheVariants as commands
+use Rattle.sd_tool.specs.Readings.{Input, Plan, Begins, input_file, is_plain, reading_of, ReadsTo}
+use Rattle.sd_tool.specs.Course.{IsAt}
 use Rattle.sd_tool.specs.Effects.{Contents}
 use Rattle.sd_tool.specs.Devices.{Moment}
-use Rattle.sd_tool.specs.Commands.{size_line}
 
--- the words name an input file that is not too long, and its bytes are the text of this formula
+-- the words name an input file, without a script, that is not too long, and its bytes are the text of this formula
 pub record IsInput (words : List (List ℕ)) (files : Files) (job : Job) (formula : Groups) : Type 0 where
-  pub named : job_of words ≡ Some job
+  pub named : job_of words ≡ Ok job
+  pub plain : is_plain job ≡ true
+  pub alone : job.script ≡ None
+  pub input : Input
+  pub is_input : input_file job.input ≡ Some input
   pub bytes : List ℕ
-  pub there : bytes_at files job.input.file ≡ Some bytes
+  pub there : bytes_at files input.file ≡ Some bytes
   pub short : length bytes ≤ 67108864
-  pub reads : dimacs job.input.kind bytes ≡ Ok formula
+  pub reads : dimacs input.kind bytes ≡ Ok formula
 
 -- the start tree of the words, for a formula of so many variables: that of a shape, or that of a vtree file
 abbrev pub IsStartTree : Files → TreeWord → ℕ → Tree → Type 0
-IsStartTree files (StartOf shape) v tree = tree ≡ start_tree shape v
-IsStartTree files (VtreeIn file) v tree =
+IsStartTree files trees.Balanced v tree = tree ≡ balanced_tree v
+IsStartTree files trees.Right v tree = tree ≡ right_tree v
+IsStartTree files trees.Left v tree = tree ≡ left_tree v
+IsStartTree files (trees.File file) v tree =
     (bytes : List ℕ) × (bytes_at files file ≡ Some bytes) × (length bytes ≤ 67108864) × (vtree_file v bytes ≡ Ok tree)
 
 -- the files with these bytes under a name that is there
@@ -44,18 +57,28 @@ pub record IsWritten (files : Files) (job : Job) (formula : Groups) (tree : Tree
       ≡ Some (with_output job.out_sdd (sdd_text diagram) (with_output job.out_vtree (vtree_text tree) files))
   pub printed_is : new.printed ≡ told_then old.printed (size_line (size_of (diagram ∷ [])))
 
--- At status 0, over told files, the formula of the input was written.
+-- At status 0, over told files, a run without a script wrote the formula of its input.
 abbrev pub HasWritten : List (List ℕ) → ℕ → Moment → Moment → Type 0
-HasWritten words status old new = (files : Files) → status ≡ 0 → old.contents.files ≡ Some files
-    → (job : Job) × (formula : Groups) × (tree : Tree) × IsInput words files job formula
+HasWritten words status old new = (files : Files) (job : Job) → status ≡ 0 → old.contents.files ≡ Some files
+    → job_of words ≡ Ok job → job.script ≡ None
+    → (formula : Groups) × (tree : Tree) × IsInput words files job formula
     × IsStartTree files job.tree formula.variables tree × IsWritten files job formula tree old.contents new.contents
 
--- At status 0, over told files: the text of any formula's canonical diagram for the run's tree equals the written
--- text exactly if that formula and the input are one function.
-abbrev pub HasEqualTexts : List (List ℕ) → ℕ → Moment → Moment → Type 0
-HasEqualTexts words status old new = (files now : Files) (job : Job) (formula : Groups) (tree : Tree)
-    (output text : List ℕ) → status ≡ 0 → old.contents.files ≡ Some files → new.contents.files ≡ Some now
-    → IsInput words files job formula → IsStartTree files job.tree formula.variables tree
-    → job.out_sdd ≡ Some output → bytes_at now output ≡ Some text
-    → (g : Expression) (e : Diagram) → IsDiagramOf tree g e
-    → (sdd_text e ≡ text) ↔ AreOneFunction formula.variables g (expression_of formula)
+-- A command of the plan that writes a diagram is reached: the formula of its name and the tree there, and the text that
+-- it writes.
+pub record Writes (plan : Plan) (f : Expression) (tree : Tree) (text : List ℕ) : Type 0 where
+  pub name : ℕ
+  pub file : List ℕ
+  pub effects : List Effect
+  pub state : State
+  pub at : IsAt plan effects state (commands.Write name file)
+  pub formula : f ≡ formula_of state name
+  pub tree_is : tree ≡ state.tree
+  pub text_is : IsTextOf tree f text
+
+-- Two writes of a run at one tree have equal texts exactly if their formulas are one function. The command `same`
+-- prints that answer.
+abbrev pub HasEqualTexts : List (List ℕ) → Option Files → Type 0
+HasEqualTexts words files = (plan : Plan) (f g : Expression) (tree : Tree) (a b : List ℕ)
+    → ReadsTo files (reading_of words) (Begins plan) → Writes plan f tree a → Writes plan g tree b
+    → (a ≡ b) ↔ AreOneFunction (leaves tree) f g

@@ -4,11 +4,12 @@ ghost use Rattle.sd_base.specs.Shelf.{NoFile};
 ghost use Rattle.sd_tool.specs.Effects.{after, after_effect, DoesPart};
 ghost use Rattle.sd_tool.specs.Ends.{Unwritable};
 ghost use Rattle.sd_tool.specs.Devices.{contents, faults, HasCause, NotFewer};
-ghost use Rattle.sd_tool.specs.Stops.{StandsFor, FailsAt, effect_of, effects_of};
+ghost use Rattle.sd_commands.specs.Standing.{effect_of, effects_of};
+ghost use Rattle.sd_tool.specs.Stops.{StandsFor, FailsAt};
 
-use crate::commands::Act;
 use crate::stop::Stop;
 use sd_base::{Shelf, Sink, write_all, write_all_to};
+use sd_commands::Act;
 
 /// Does what a command asks for outside, if anything.
 pub fn perform_any<F: Shelf, O: Sink>(

@@ -1,19 +1,16 @@
-//! The whole run of the program over a shelf of files and two sinks: the words, the input files, and the commands,
-//! which compile the formula, write the texts of its vtree and its diagram, and print its size.
+//! The whole run of the program over a shelf of files and two sinks: the words, the input files, and the commands of
+//! the script, which build formulas under one vtree, compare and evaluate them, and write their texts.
 #![tactic(auto)]
 
-mod commands;
-mod compile;
 mod devices;
 mod parts;
 mod plan;
 mod reading;
-mod state;
+mod refusal;
+mod scripts;
 mod stop;
-mod trees;
-mod unfold;
+mod texts;
 mod whole_run;
-mod words;
 
 pub use whole_run::run;
 

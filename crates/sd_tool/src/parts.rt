@@ -16,7 +16,7 @@ use sd_base::{Sink, WriteFault, write_all};
 #[derive(Clone, Copy, Debug)]
 pub struct Parts<'a> {
     pub subject: &'a [u8],
-    pub before: &'static [u8],
+    pub before: &'a [u8],
     pub first: Option<u64>,
     pub between: &'static [u8],
     pub second: Option<u64>,
@@ -24,7 +24,7 @@ pub struct Parts<'a> {
 }
 
 /// A text without numbers.
-pub fn plain<'a>(subject: &'a [u8], text: &'static [u8]) -> Parts<'a>
+pub fn plain<'a>(subject: &'a [u8], text: &'a [u8]) -> Parts<'a>
     ensures { parts_text result ≡ subject.now ++ text.now }
 {
     Parts {

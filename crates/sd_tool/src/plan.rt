@@ -1,67 +1,45 @@
-// What the commands of a run begin with.
-ghost use Rattle.std.specs.Prelude.{◌≡◌, ◌++◌, ◌∷◌, [], OnOk, IfOk};
-ghost use Rattle.std.specs.Option.{option_map};
-ghost use Rattle.sd_model.specs.Tree.{leaves};
-ghost use Rattle.sd_vtree.specs.Numbered.{forget};
-ghost use Rattle.sd_tool.specs.Given.{job_seen, plan_of, start_of, Stands};
-ghost use Rattle.sd_tool.specs.Readings.{for_file, plan_for};
-ghost use Rattle.sd_tool.specs.declared.commands.Command.TheVariants.{Input, WriteVtree, WriteDiagram, PrintSize};
+// What the commands of a run begin with, and the commands of a run without a script.
+ghost use Rattle.std.specs.Prelude.{◌≡◌, ◌++◌, OnOk, IfOk};
+ghost use Rattle.std.specs.Prelude.{Option};
+ghost use Rattle.sd_commands.specs.declared.command.Command.TheVariants.{Write, WriteVtree};
+ghost use Rattle.sd_tool.specs.Readings.{for_file, stated};
 
-use crate::commands::Command;
-use crate::state::State;
-use crate::words::Job;
 use sd_base::Name;
+use sd_commands::{Command, State};
 use sd_formula::Formula;
-use sd_vtree::Vtree;
+use sd_words::Job;
 use std::alloc::{AllocError, Global};
 
-/// What the commands begin with, and the commands.
+/// The formula of a run, the state that the commands begin with, the limit of the total size, and the commands.
 #[derive(Drop)]
 pub struct Plan {
-    pub start: State,
+    pub formula: Formula,
+    pub state: State,
+    pub limit: u32,
     pub commands: Vec<Command>,
 }
 
-/// The plan of a job for its formula and its start tree.
-pub fn plan_for(
-    alloc: Global,
-    job: &Job<'_>,
-    formula: Formula,
-    vtree: Vtree,
-) -> Result<Plan, AllocError>
-    requires { leaves (forget vtree) ≡ formula.variables }
-    ensures plan { IfOk result (λ plan. plan_of plan ≡ plan_for (job_seen job.now) formula (forget vtree)) }
-    ensures stands { IfOk result (λ plan. Stands plan.start (start_of plan.start)) }
-{
-    let commands = commands_for(alloc, job)?;
-    let start = State::new(alloc, formula, vtree)?;
-    Ok(Plan { start, commands })
-}
-
-fn commands_for(alloc: Global, job: &Job<'_>) -> Result<Vec<Command>, AllocError>
-    ensures { IfOk result (λ commands. commands.items
-        ≡ Input ∷ for_file WriteVtree (job_seen job.now).out_vtree
-        ++ for_file WriteDiagram (job_seen job.now).out_sdd ++ PrintSize ∷ []) }
+/// The commands of a run without a script.
+pub fn stated_commands(alloc: Global, job: &Job) -> Result<Vec<Command>, AllocError>
+    ensures { IfOk result (λ commands. commands.items ≡ stated job.now) }
 {
     let mut commands = Vec::new(alloc);
-    commands.push(Command::Input)?;
-    push_vtree(alloc, &mut commands, job.out_vtree)?;
-    push_diagram(alloc, &mut commands, job.out_sdd)?;
-    commands.push(Command::PrintSize)?;
+    commands.push(Command::Input(0))?;
+    push_vtree(alloc, &mut commands, &job.out_vtree)?;
+    push_diagram(alloc, &mut commands, &job.out_sdd)?;
+    commands.push(Command::Size(0))?;
     Ok(commands)
 }
 
 fn push_vtree(
     alloc: Global,
     commands: &mut Vec<Command>,
-    file: Option<&str>,
+    file: &Option<Name>,
 ) -> Result<(), AllocError>
-    ensures { OnOk result (commands.new.items
-        ≡ commands.old.items ++ for_file WriteVtree (option_map (λ name. name.now) file.entry)) }
+    ensures { OnOk result (commands.new.items ≡ commands.old.items ++ for_file WriteVtree file.now) }
 {
     if let Some(file) = file {
-        let name = Name::copy_of(alloc, file)?;
-        commands.push(Command::WriteVtree(name))?;
+        commands.push(Command::WriteVtree(Name::copy_of(alloc, file.as_str())?))?;
     }
     Ok(())
 }
@@ -69,14 +47,12 @@ fn push_vtree(
 fn push_diagram(
     alloc: Global,
     commands: &mut Vec<Command>,
-    file: Option<&str>,
+    file: &Option<Name>,
 ) -> Result<(), AllocError>
-    ensures { OnOk result (commands.new.items
-        ≡ commands.old.items ++ for_file WriteDiagram (option_map (λ name. name.now) file.entry)) }
+    ensures { OnOk result (commands.new.items ≡ commands.old.items ++ for_file (Write 0) file.now) }
 {
     if let Some(file) = file {
-        let name = Name::copy_of(alloc, file)?;
-        commands.push(Command::WriteDiagram(name))?;
+        commands.push(Command::Write(0, Name::copy_of(alloc, file.as_str())?))?;
     }
     Ok(())
 }

@@ -1,86 +1,72 @@
 // The words and the input files, up to the first command.
-ghost use Rattle.std.specs.Prelude.{◌≡◌, ◌≤◌, IfOk, IfErr, length, map, string_bytes};
+ghost use Rattle.std.specs.Prelude.{◌≡◌, ◌≤◌, ℕ, [], Option, Ok, Err, IfOk, MatchResult, length, map, string_bytes};
+ghost use Rattle.sd_base.specs.Files.{Files};
 ghost use Rattle.sd_base.specs.Shelf.{NoFile};
-ghost use Rattle.sd_formula.specs.Dimacs.{dimacs};
-ghost use Rattle.sd_vtree.specs.Numbered.{forget};
 ghost use Rattle.sd_model.specs.Tree.{leaves};
-ghost use Rattle.sd_tool.specs.Given.{job_seen, plan_of, start_of, Stands};
-ghost use Rattle.sd_tool.specs.Readings.{reading_of, ReadsTo, Reads, Begins, with_input, with_tree_word, with_tree};
-ghost use Rattle.sd_tool.specs.Stops.{StopsReading, StopsTree, ReadsTree, GivesFormula, PlansAt};
+ghost use Rattle.sd_formula.specs.Dimacs.{Groups, dimacs};
+ghost use Rattle.sd_vfile.specs.Reads.{vtree_file};
+ghost use Rattle.sd_vtree.specs.Numbered.{forget};
+ghost use Rattle.sd_words.specs.declared.jobs.Job.{Job as SeenJob};
+ghost use Rattle.sd_commands.specs.Fits.{AllFit};
+ghost use Rattle.sd_tool.specs.Given.{plan_of, IsReady};
+ghost use Rattle.sd_tool.specs.Readings.{reading_of, Begins, Reads, input_file, is_plain, plan_for};
+ghost use Rattle.sd_tool.specs.Readings.{with_input, with_input_word, with_tree_word, with_tree, with_vtree_text};
+ghost use Rattle.sd_tool.specs.Stops.{LeadsTo, GivesText};
+ghost use Rattle.sd_tool.specs.declared.refusal.Refusal.TheVariants as refusals;
+ghost use Rattle.sd_tool.specs.declared.stop.Stop.TheVariants as stops;
 
-use crate::plan::{Plan, plan_for};
+use crate::plan::Plan;
+use crate::refusal::Refusal;
+use crate::scripts::read_commands;
 use crate::stop::Stop;
-use crate::trees::start_vtree;
-use crate::words::{Job, TreeWord, read_words};
-use sd_base::{Name, ReadError, Shelf, read_all};
+use crate::texts::{read_text, too_long};
+use sd_base::{Name, Shelf};
+use sd_commands::{Command, State};
 use sd_formula::{Formula, FormulaError, Kind, read_dimacs};
 use sd_vfile::{VtreeFault, read_vtree};
 use sd_vtree::Vtree;
-use std::alloc::Global;
+use sd_words::{InputWord, Job, TreeWord, WordsFault, read_words};
+use std::alloc::{AllocError, Global};
 
-/// Reads what the words ask for, up to the first command.
+/// Reads what the words ask for, up to the first command: the formula file, the vtree file, the script, and the files
+/// that it loads.
 pub fn prepare<F: Shelf>(alloc: Global, words: &[String], shelf: &mut F) -> Result<Plan, Stop>
     requires { F.hand shelf.old ≡ NoFile }
     ensures hand { F.hand shelf.new ≡ NoFile }
     ensures files { F.files shelf.new ≡ F.files shelf.old }
     ensures read_faults { F.read_faults shelf.old ≤ F.read_faults shelf.new }
     ensures write_faults { F.write_faults shelf.new ≡ F.write_faults shelf.old }
-    ensures ok { IfOk result (λ plan.
-        ReadsTo (F.files shelf.old) (reading_of (map string_bytes words.now)) (Begins (plan_of plan))) }
-    ensures stands { IfOk result (λ plan. Stands plan.start (start_of plan.start)) }
-    ensures stop { IfErr result (λ stop. StopsReading stop (F.files shelf.old)
-        (reading_of (map string_bytes words.now)) (F.read_faults shelf.old) (F.read_faults shelf.new)) }
+    ensures leads { LeadsTo (F.files shelf.old) (reading_of (map string_bytes words.now))
+        (λ plan. Begins (plan_of plan)) result (F.read_faults shelf.old) (F.read_faults shelf.new) }
+    ensures ready { IfOk result IsReady }
 {
-    let Some(job) = read_words(words) else {
-        return Err(Stop::NotYet);
-    };
-    match read_formula(alloc, &job, shelf) {
-        Ok(formula) => plan_with(alloc, &job, formula, shelf),
+    match read_job(alloc, words) {
+        Ok(job) => prepare_job(alloc, &job, shelf),
         Err(stop) => Err(stop),
     }
 }
 
-// The formula of the job's input.
-fn read_formula<F: Shelf>(alloc: Global, job: &Job<'_>, shelf: &mut F) -> Result<Formula, Stop>
+// The plan of a job that runs have.
+fn prepare_job<F: Shelf>(alloc: Global, job: &Job, shelf: &mut F) -> Result<Plan, Stop>
     requires { F.hand shelf.old ≡ NoFile }
     ensures hand { F.hand shelf.new ≡ NoFile }
     ensures files { F.files shelf.new ≡ F.files shelf.old }
     ensures read_faults { F.read_faults shelf.old ≤ F.read_faults shelf.new }
     ensures write_faults { F.write_faults shelf.new ≡ F.write_faults shelf.old }
-    ensures ok { IfOk result (λ formula. ReadsTo (F.files shelf.old)
-        (Reads (job_seen job.now).input.file (with_input (job_seen job.now)))
-        (with_tree_word (job_seen job.now) formula (job_seen job.now).tree)) }
-    ensures stop { IfErr result (λ stop. StopsReading stop (F.files shelf.old)
-        (Reads (job_seen job.now).input.file (with_input (job_seen job.now)))
-        (F.read_faults shelf.old) (F.read_faults shelf.new)) }
+    ensures leads { LeadsTo (F.files shelf.old) (with_input_word job.now (input_file job.now.input))
+        (λ plan. Begins (plan_of plan)) result (F.read_faults shelf.old) (F.read_faults shelf.new) }
+    ensures ready { IfOk result IsReady }
 {
-    let Ok(input) = Name::copy_of(alloc, job.input.file) else {
-        return Err(Stop::OutOfMemory);
-    };
-    match read_all(alloc, shelf, input.as_str()) {
-        Ok(bytes) => formula_of(alloc, input, job.input.kind, bytes.as_slice()),
-        Err(ReadError::ReadFault) => Err(Stop::ReadFault(input)),
-        Err(ReadError::TooLong) => Err(Stop::TooLong(input)),
-        Err(ReadError::OutOfMemory) => Err(Stop::OutOfMemory),
+    match read_formula(alloc, job, shelf) {
+        Ok(formula) => prepare_formula(alloc, job, formula, shelf),
+        Err(stop) => Err(stop),
     }
 }
 
-// The formula of the text of this file.
-fn formula_of(alloc: Global, file: Name, kind: Kind, bytes: &[u8]) -> Result<Formula, Stop>
-    requires { length bytes.now ≤ 67108864 }
-    ensures { GivesFormula file (dimacs kind bytes.now) result }
-{
-    match read_dimacs(alloc, bytes, kind) {
-        Ok(formula) => Ok(formula),
-        Err(FormulaError::OutOfMemory) => Err(Stop::OutOfMemory),
-        Err(fault) => Err(Stop::BadFormula(file, fault)),
-    }
-}
-
-// The plan for a formula, with the vtree of the words.
-fn plan_with<F: Shelf>(
+// The plan for a formula.
+fn prepare_formula<F: Shelf>(
     alloc: Global,
-    job: &Job<'_>,
+    job: &Job,
     formula: Formula,
     shelf: &mut F,
 ) -> Result<Plan, Stop>
@@ -89,39 +75,187 @@ fn plan_with<F: Shelf>(
     ensures files { F.files shelf.new ≡ F.files shelf.old }
     ensures read_faults { F.read_faults shelf.old ≤ F.read_faults shelf.new }
     ensures write_faults { F.write_faults shelf.new ≡ F.write_faults shelf.old }
-    ensures ok { IfOk result (λ plan. ReadsTo (F.files shelf.old)
-        (with_tree_word (job_seen job.now) formula (job_seen job.now).tree) (Begins (plan_of plan))) }
-    ensures stands { IfOk result (λ plan. Stands plan.start (start_of plan.start)) }
-    ensures stop { IfErr result (λ stop. StopsReading stop (F.files shelf.old)
-        (with_tree_word (job_seen job.now) formula (job_seen job.now).tree)
-        (F.read_faults shelf.old) (F.read_faults shelf.new)) }
+    ensures leads { LeadsTo (F.files shelf.old) (with_tree_word job.now formula job.now.tree)
+        (λ plan. Begins (plan_of plan)) result (F.read_faults shelf.old) (F.read_faults shelf.new) }
+    ensures ready { IfOk result IsReady }
 {
-    match job.tree {
-        TreeWord::Start(shape) => match start_vtree(alloc, shape, formula.variables()) {
-            Ok(vtree) => plan_over(alloc, job, formula, vtree),
-            Err(_) => Err(Stop::OutOfMemory),
-        },
-        TreeWord::File(file) => match read_tree(alloc, file, formula.variables(), shelf) {
-            Ok(vtree) => plan_over(alloc, job, formula, vtree),
-            Err(stop) => Err(stop),
-        },
+    match read_tree(alloc, job, &formula, shelf) {
+        Ok(vtree) => prepare_tree(alloc, job, formula, vtree, shelf),
+        Err(stop) => Err(stop),
     }
 }
 
 // The plan for a formula and a vtree over its variables.
-fn plan_over(alloc: Global, job: &Job<'_>, formula: Formula, vtree: Vtree) -> Result<Plan, Stop>
-    requires { leaves (forget vtree) ≡ formula.variables }
-    ensures plan { PlansAt (with_tree (job_seen job.now) formula (forget vtree)) result }
-    ensures stands { IfOk result (λ plan. Stands plan.start (start_of plan.start)) }
+fn prepare_tree<F: Shelf>(
+    alloc: Global,
+    job: &Job,
+    formula: Formula,
+    vtree: Vtree,
+    shelf: &mut F,
+) -> Result<Plan, Stop>
+    requires hand { F.hand shelf.old ≡ NoFile }
+    requires variables { leaves (forget vtree) ≡ formula.variables }
+    ensures hand { F.hand shelf.new ≡ NoFile }
+    ensures files { F.files shelf.new ≡ F.files shelf.old }
+    ensures read_faults { F.read_faults shelf.old ≤ F.read_faults shelf.new }
+    ensures write_faults { F.write_faults shelf.new ≡ F.write_faults shelf.old }
+    ensures leads { LeadsTo (F.files shelf.old) (with_tree job.now formula (forget vtree))
+        (λ plan. Begins (plan_of plan)) result (F.read_faults shelf.old) (F.read_faults shelf.new) }
+    ensures ready { IfOk result IsReady }
 {
-    match plan_for(alloc, job, formula, vtree) {
-        Ok(plan) => Ok(plan),
+    match read_commands(alloc, job, formula.variables(), shelf) {
+        Ok(commands) => make_plan(alloc, job, formula, vtree, commands),
+        Err(stop) => Err(stop),
+    }
+}
+
+// The plan of its parts.
+fn make_plan(
+    alloc: Global,
+    job: &Job,
+    formula: Formula,
+    vtree: Vtree,
+    commands: Vec<Command>,
+) -> Result<Plan, Stop>
+    requires variables { leaves (forget vtree) ≡ formula.variables }
+    requires fit { AllFit formula.variables [] commands.items }
+    requires few { length commands.items ≤ 100000 }
+    ensures leads { (told : Option Files) (before now : ℕ)
+        → LeadsTo told (Begins (plan_for job.now formula (forget vtree) commands.items))
+        (λ plan. Begins (plan_of plan)) result before now }
+    ensures ready { IfOk result IsReady }
+{
+    match State::new(alloc, vtree) {
+        Ok(state) => Ok(Plan {
+            formula,
+            state,
+            limit: job.limit,
+            commands,
+        }),
+        Err(_) => Err(Stop::OutOfMemory),
+    }
+}
+
+// The job of the words, if runs have it yet.
+fn read_job(alloc: Global, words: &[String]) -> Result<Job, Stop>
+    ensures { (told : Option Files) (before now : ℕ) → LeadsTo told (reading_of (map string_bytes words.now))
+        (λ job. with_input_word job (input_file job.input)) result before now }
+{
+    match read_words(alloc, words) {
+        Ok(job) => {
+            if is_plain(&job) {
+                Ok(job)
+            } else {
+                Err(Stop::Refused(Refusal::NotYet))
+            }
+        }
+        Err(WordsFault::OutOfMemory) => Err(Stop::OutOfMemory),
+        Err(fault) => Err(Stop::Refused(Refusal::BadWords(fault))),
+    }
+}
+
+// Whether a job has no search, and the limit and the slack of default.
+fn is_plain(job: &Job) -> bool
+    ensures { result ≡ is_plain job.now }
+{
+    job.minimise.is_none() && job.every.is_none() && job.slack == 200 && job.limit == 16_777_216
+}
+
+// The formula of the job's input.
+fn read_formula<F: Shelf>(alloc: Global, job: &Job, shelf: &mut F) -> Result<Formula, Stop>
+    requires { F.hand shelf.old ≡ NoFile }
+    ensures hand { F.hand shelf.new ≡ NoFile }
+    ensures files { F.files shelf.new ≡ F.files shelf.old }
+    ensures read_faults { F.read_faults shelf.old ≤ F.read_faults shelf.new }
+    ensures write_faults { F.write_faults shelf.new ≡ F.write_faults shelf.old }
+    ensures leads { LeadsTo (F.files shelf.old) (with_input_word job.now (input_file job.now.input))
+        (λ formula. with_tree_word job.now formula job.now.tree)
+        result (F.read_faults shelf.old) (F.read_faults shelf.new) }
+{
+    match &job.input {
+        InputWord::Cnf(file) => read_groups(alloc, Kind::Cnf, file.as_str(), shelf),
+        InputWord::Dnf(file) => read_groups(alloc, Kind::Dnf, file.as_str(), shelf),
+        InputWord::Generate { .. } => Err(Stop::Refused(Refusal::NotYet)),
+    }
+}
+
+// The formula of a file of this kind.
+fn read_groups<F: Shelf>(
+    alloc: Global,
+    kind: Kind,
+    file: &str,
+    shelf: &mut F,
+) -> Result<Formula, Stop>
+    requires { F.hand shelf.old ≡ NoFile }
+    ensures hand { F.hand shelf.new ≡ NoFile }
+    ensures files { F.files shelf.new ≡ F.files shelf.old }
+    ensures read_faults { F.read_faults shelf.old ≤ F.read_faults shelf.new }
+    ensures write_faults { F.write_faults shelf.new ≡ F.write_faults shelf.old }
+    ensures leads { (job : SeenJob) → LeadsTo (F.files shelf.old)
+        (Reads file.now (with_input job (record { kind = kind; file = file.now })))
+        (λ formula. with_tree_word job formula job.tree)
+        result (F.read_faults shelf.old) (F.read_faults shelf.new) }
+{
+    match read_text(alloc, file, shelf) {
+        Ok(Some(bytes)) => formula_in(alloc, file, bytes.as_slice(), kind),
+        Ok(None) => Err(too_long(alloc, file)),
+        Err(stop) => Err(stop),
+    }
+}
+
+// The formula of the text of this file.
+fn formula_in(alloc: Global, file: &str, bytes: &[u8], kind: Kind) -> Result<Formula, Stop>
+    requires { length bytes.now ≤ 67108864 }
+    ensures { GivesText (λ formula. formula) (refusals.BadFormula file.now) (dimacs kind bytes.now) result }
+{
+    match read_dimacs(alloc, bytes, kind) {
+        Ok(formula) => Ok(formula),
+        Err(FormulaError::OutOfMemory) => Err(Stop::OutOfMemory),
+        Err(fault) => match Name::copy_of(alloc, file) {
+            Ok(name) => Err(Stop::Refused(Refusal::BadFormula(name, fault))),
+            Err(_) => Err(Stop::OutOfMemory),
+        },
+    }
+}
+
+// The start vtree of the job, over the variables of its formula.
+fn read_tree<F: Shelf>(
+    alloc: Global,
+    job: &Job,
+    formula: &Formula,
+    shelf: &mut F,
+) -> Result<Vtree, Stop>
+    requires { F.hand shelf.old ≡ NoFile }
+    ensures hand { F.hand shelf.new ≡ NoFile }
+    ensures files { F.files shelf.new ≡ F.files shelf.old }
+    ensures read_faults { F.read_faults shelf.old ≤ F.read_faults shelf.new }
+    ensures write_faults { F.write_faults shelf.new ≡ F.write_faults shelf.old }
+    ensures leads { LeadsTo (F.files shelf.old) (with_tree_word job.now formula.now job.now.tree)
+        (λ vtree. with_tree job.now formula.now (forget vtree))
+        result (F.read_faults shelf.old) (F.read_faults shelf.new) }
+    ensures variables { IfOk result (λ vtree. leaves (forget vtree) ≡ formula.now.variables) }
+{
+    let variables = formula.variables();
+    match &job.tree {
+        TreeWord::Balanced => kept(Vtree::balanced(alloc, variables)),
+        TreeWord::Right => kept(Vtree::right(alloc, variables)),
+        TreeWord::Left => kept(Vtree::left(alloc, variables)),
+        TreeWord::File(file) => read_vtree_file(alloc, file.as_str(), variables, shelf),
+    }
+}
+
+// The vtree, if there was memory for it.
+fn kept(start: Result<Vtree, AllocError>) -> Result<Vtree, Stop>
+    ensures { MatchResult start (λ vtree. result ≡ Ok vtree) (λ _. result ≡ Err stops.OutOfMemory) }
+{
+    match start {
+        Ok(vtree) => Ok(vtree),
         Err(_) => Err(Stop::OutOfMemory),
     }
 }
 
 // The vtree of a file, over so many variables.
-fn read_tree<F: Shelf>(
+fn read_vtree_file<F: Shelf>(
     alloc: Global,
     file: &str,
     variables: u32,
@@ -134,21 +268,33 @@ fn read_tree<F: Shelf>(
     ensures files { F.files shelf.new ≡ F.files shelf.old }
     ensures read_faults { F.read_faults shelf.old ≤ F.read_faults shelf.new }
     ensures write_faults { F.write_faults shelf.new ≡ F.write_faults shelf.old }
-    ensures ok { IfOk result (λ vtree. ReadsTree (F.files shelf.old) file.now variables (forget vtree)) }
-    ensures stop { IfErr result (λ stop. StopsTree stop (F.files shelf.old) file.now variables
-        (F.read_faults shelf.old) (F.read_faults shelf.new)) }
+    ensures leads { (job : SeenJob) (formula : Groups) → formula.variables ≡ variables
+        → LeadsTo (F.files shelf.old) (Reads file.now (with_vtree_text job formula file.now))
+        (λ vtree. with_tree job formula (forget vtree))
+        result (F.read_faults shelf.old) (F.read_faults shelf.new) }
+    ensures variables { IfOk result (λ vtree. leaves (forget vtree) ≡ variables) }
 {
-    let Ok(name) = Name::copy_of(alloc, file) else {
-        return Err(Stop::OutOfMemory);
-    };
-    match read_all(alloc, shelf, name.as_str()) {
-        Ok(bytes) => match read_vtree(alloc, bytes.as_slice(), variables) {
-            Ok(vtree) => Ok(vtree),
-            Err(VtreeFault::OutOfMemory) => Err(Stop::OutOfMemory),
-            Err(fault) => Err(Stop::BadVtree(name, fault)),
+    match read_text(alloc, file, shelf) {
+        Ok(Some(bytes)) => vtree_in(alloc, file, bytes.as_slice(), variables),
+        Ok(None) => Err(too_long(alloc, file)),
+        Err(stop) => Err(stop),
+    }
+}
+
+// The vtree of the text of this file.
+fn vtree_in(alloc: Global, file: &str, bytes: &[u8], variables: u32) -> Result<Vtree, Stop>
+    requires short { length bytes.now ≤ 67108864 }
+    requires some { 1 ≤ variables }
+    requires few { variables ≤ 1024 }
+    ensures gives { GivesText forget (refusals.BadVtree file.now) (vtree_file variables bytes.now) result }
+    ensures variables { IfOk result (λ vtree. leaves (forget vtree) ≡ variables) }
+{
+    match read_vtree(alloc, bytes, variables) {
+        Ok(vtree) => Ok(vtree),
+        Err(VtreeFault::OutOfMemory) => Err(Stop::OutOfMemory),
+        Err(fault) => match Name::copy_of(alloc, file) {
+            Ok(name) => Err(Stop::Refused(Refusal::BadVtree(name, fault))),
+            Err(_) => Err(Stop::OutOfMemory),
         },
-        Err(ReadError::ReadFault) => Err(Stop::ReadFault(name)),
-        Err(ReadError::TooLong) => Err(Stop::TooLong(name)),
-        Err(ReadError::OutOfMemory) => Err(Stop::OutOfMemory),
     }
 }

@@ -1,28 +1,31 @@
 // The whole run: its readings, its commands, and the line of its end.
-ghost use Rattle.std.specs.Prelude.{◌≡◌, Some, None, cond, map, string_bytes};
+ghost use Rattle.std.specs.Prelude.{◌≡◌, ℕ, Some, None, cond, map, string_bytes};
 ghost use Rattle.sd_base.specs.Shelf.{NoFile};
 ghost use Rattle.sd_tool.specs.Devices.{contents, faults, between, NotFewer};
-ghost use Rattle.sd_tool.specs.Given.{Stands, start_of};
+ghost use Rattle.sd_tool.specs.Given.{plan_of, plan_with, IsReady, IsReadyWith};
 ghost use Rattle.sd_tool.specs.Headline.{Went, HasEffects, HasLine, HasEnd, IsComplete};
 ghost use Rattle.sd_tool.specs.Stops.{GoesOn, CarriesOut, Attempts, is_full};
 ghost use Rattle.sd_tool.specs.Written.{HasWritten, HasEqualTexts};
 
-use crate::commands::{Command, step};
 use crate::devices::perform_any;
 use crate::parts::write_line;
 use crate::plan::Plan;
 use crate::reading::prepare;
-use crate::state::State;
 use crate::stop::Stop;
 use sd_base::{Shelf, Sink};
+use sd_commands::{Command, State, step};
+use sd_formula::Formula;
 use sd_manager::Manager;
+use sd_runs::TakeError;
 use std::alloc::Global;
 use std::thread::Threads;
 
 /// Runs the program with these words over a shelf of files, and answers its status:
-/// 0 where all was done, 2 where the formula file or the vtree file is too long or has a fault, 5 where an input was
-/// not read, 6 where an output or the printed line was not written, 7 where memory ran out, 8 where the arena of the
-/// diagrams was full, and 9 where the words are not served yet. The formula file is read first.
+/// 0 where all was done, 1 where the words are refused, 2 where the formula file, the vtree file or a loaded file is
+/// too long or has a fault, 3 where the script is too long or has a fault, 5 where an input was not read, 6 where an
+/// output or a printed line was not written, 7 where memory ran out, 8 where the arena of the diagrams was full, and 9
+/// where the words or the script ask for what is not served yet. The words are read first, then the formula file, the
+/// vtree file, the script, and the files that it loads.
 /// At every status but 0 the one line that says so is written to `err`. At 8 the manager that refused is put into
 /// `kept`, which is empty before.
 pub fn run<R: Threads + Sync, F: Shelf, O: Sink, E: Sink>(
@@ -49,8 +52,7 @@ pub fn run<R: Threads + Sync, F: Shelf, O: Sink, E: Sink>(
         shelf.old out.old err.old shelf.new out.new err.new (IsComplete (map string_bytes words.now) result) }
     ensures written { between F.files F.read_faults F.write_faults O.written O.faults E.written E.faults
         shelf.old out.old err.old shelf.new out.new err.new (HasWritten (map string_bytes words.now) result) }
-    ensures equal_texts { between F.files F.read_faults F.write_faults O.written O.faults E.written E.faults
-        shelf.old out.old err.old shelf.new out.new err.new (HasEqualTexts (map string_bytes words.now) result) }
+    ensures equal_texts { HasEqualTexts (map string_bytes words.now) (F.files shelf.old) }
 {
     conduct(alloc, words, shelf, out, err, kept)
 }
@@ -111,21 +113,23 @@ fn carry_out<F: Shelf, O: Sink>(
 ) -> Result<(), Stop>
     requires hand { F.hand shelf.old ≡ NoFile }
     requires none { kept.old ≡ None }
-    requires stands { Stands plan.start (start_of plan.start) }
+    requires ready { IsReady plan }
     ensures hand { F.hand shelf.new ≡ NoFile }
-    ensures goes { CarriesOut (start_of plan.start) plan.commands.items kept.new result
+    ensures goes { CarriesOut (plan_of plan) kept.new result
         (contents F.files O.written shelf.old out.old) (contents F.files O.written shelf.new out.new)
         (faults F.read_faults F.write_faults O.faults shelf.old out.old)
         (faults F.read_faults F.write_faults O.faults shelf.new out.new) }
 {
     let Plan {
-        mut start,
+        formula,
+        mut state,
         commands,
+        ..
     } = plan;
-    match do_all(alloc, shelf, out, &mut start, &commands) {
+    match do_all(alloc, shelf, out, &formula, &mut state, &commands) {
         Ok(()) => Ok(()),
         Err(stop) => {
-            keep(kept, &stop, start.manager);
+            keep(kept, &stop, state.manager);
             Err(stop)
         }
     }
@@ -145,23 +149,25 @@ fn do_all<F: Shelf, O: Sink>(
     alloc: Global,
     shelf: &mut F,
     out: &mut O,
+    formula: &Formula,
     state: &mut State,
     commands: &[Command],
 ) -> Result<(), Stop>
     requires hand { F.hand shelf.old ≡ NoFile }
-    requires stands { Stands state.old (start_of state.old) }
+    requires ready { IsReadyWith formula.now state.old commands.now }
     ensures hand { F.hand shelf.new ≡ NoFile }
     ensures fewer { NotFewer (faults F.read_faults F.write_faults O.faults shelf.old out.old)
         (faults F.read_faults F.write_faults O.faults shelf.new out.new) }
-    ensures goes { GoesOn (start_of state.old) commands.now state.new.manager result
+    ensures goes { (limit : ℕ) → GoesOn (plan_with formula.now state.old limit commands.now) state.new.manager result
         (contents F.files O.written shelf.old out.old) (contents F.files O.written shelf.new out.new)
         (faults F.read_faults F.write_faults O.faults shelf.old out.old)
         (faults F.read_faults F.write_faults O.faults shelf.new out.new) }
 {
     for command in commands {
-        let act = match step(alloc, state, command) {
+        let act = match step(alloc, formula, state, command) {
             Ok(act) => act,
-            Err(stop) => return Err(stop),
+            Err(TakeError::ArenaFull { elements }) => return Err(Stop::ArenaFull(elements)),
+            Err(TakeError::OutOfMemory) => return Err(Stop::OutOfMemory),
         };
         match perform_any(shelf, out, act) {
             Ok(()) => {}

@@ -1,29 +1,6 @@
 // Runs over balanced, left and other vtrees.
-ghost use Rattle.std.specs.Prelude.{◌≡◌, IfOk};
-ghost use Rattle.sd_base.specs.Shelf.{NoFile};
-ghost use Rattle.sd_base.specs.MemoryShown.{memory_hand};
-
-use super::words_of;
-use crate::run;
-use sd_base::{Bytes, MemoryShelf, MemorySink, Name, NamedBytes};
-use std::alloc::{AllocError, Global};
+use super::{file, ran, two_files};
 use std::test::Fail;
-
-// A shelf with the files `in` and `tree`.
-fn shelf_of(alloc: Global, text: &str, tree: &str) -> Result<MemoryShelf, AllocError>
-    ensures { IfOk result (λ shelf. memory_hand shelf ≡ NoFile) }
-{
-    let mut files = Vec::new(alloc);
-    files.push(NamedBytes {
-        name: Name::copy_of(alloc, "in")?,
-        bytes: Bytes::new(text.as_bytes().to_vec(alloc)?),
-    })?;
-    files.push(NamedBytes {
-        name: Name::copy_of(alloc, "tree")?,
-        bytes: Bytes::new(tree.as_bytes().to_vec(alloc)?),
-    })?;
-    Ok(MemoryShelf::new(alloc, files, 4096, Vec::new(alloc)))
-}
 
 const BALANCED_SHAPE: &str = "vtree 7\nL 0 1\nL 2 2\nI 1 0 2\nL 4 3\nL 6 4\nI 5 4 6\nI 3 1 5\n";
 
@@ -43,27 +20,25 @@ L 8 0 1\nL 9 2 -2\nD 10 1 2 6 7 8 9\nD 11 1 2 6 9 8 7\nD 12 3 3 0 5 10 4 11 1\n"
 fn formulas_are_compiled_on_the_balanced_tree(rt: HostRuntime) -> Result<(), Fail> {
     let alloc = rt.alloc();
     let table = [
-        ("--dnf", TWO_TERMS, TWO_TERMS_AS_SDD, "size 8\n"),
-        ("--cnf", TWO_CLAUSES, TWO_CLAUSES_AS_SDD, "size 9\n"),
+        (
+            "--dnf in --out-sdd out --out-vtree shape",
+            TWO_TERMS,
+            TWO_TERMS_AS_SDD,
+            "size 8\n",
+        ),
+        (
+            "--out-vtree=shape --cnf in --out-sdd out",
+            TWO_CLAUSES,
+            TWO_CLAUSES_AS_SDD,
+            "size 9\n",
+        ),
     ];
-    for (option, text, diagram, size) in table {
-        let words = words_of(
-            alloc,
-            &[option, "in", "--out-vtree", "shape", "--out-sdd", "out"],
-        )?;
-        let mut files = shelf_of(alloc, text, "")?;
-        let mut out = MemorySink::new(alloc, Vec::new(alloc));
-        let mut err = MemorySink::new(alloc, Vec::new(alloc));
-        let status = run(
-            &rt, alloc, &words, &mut files, &mut out, &mut err, &mut None,
-        );
-        assert_eq!(rt; status, 0, "{text}");
-        assert!(rt;
-            files.bytes_of("shape") == Some(BALANCED_SHAPE.as_bytes()),
-            "{text}"
-        );
-        assert!(rt; files.bytes_of("out") == Some(diagram.as_bytes()), "{text}");
-        assert_eq!(rt; out.bytes(), size.as_bytes(), "{text}");
+    for (words, text, diagram, size) in table {
+        let files = vec![in alloc; file(alloc, "in", text.as_bytes())?]?;
+        let end = ran(&rt, alloc, words, files)?;
+        assert!(rt; end.ended(0, size, ""), "{text}");
+        assert!(rt; end.holds("shape", BALANCED_SHAPE), "{text}");
+        assert!(rt; end.holds("out", diagram), "{text}");
     }
     Ok(())
 }
@@ -73,32 +48,14 @@ fn a_clause_is_compiled_on_each_tree(rt: HostRuntime) -> Result<(), Fail> {
     let alloc = rt.alloc();
     let turned = "vtree 3\nL 0 2\nL 2 1\nI 1 0 2\n";
     let table = [
-        (
-            ["--cnf", "in", "--start", "left"],
-            "p cnf 3 1\n1 2 3 0\n",
-            "size 6\n",
-        ),
-        (
-            ["--cnf", "in", "--start", "right"],
-            "p cnf 3 1\n1 2 3 0\n",
-            "size 4\n",
-        ),
-        (
-            ["--cnf", "in", "--vtree", "tree"],
-            "p cnf 2 1\n1 2 0\n",
-            "size 2\n",
-        ),
+        ("--cnf in --start left", "p cnf 3 1\n1 2 3 0\n", "size 6\n"),
+        ("--cnf in --start right", "p cnf 3 1\n1 2 3 0\n", "size 4\n"),
+        ("--cnf in --vtree tree", "p cnf 2 1\n1 2 0\n", "size 2\n"),
     ];
-    for (all, text, size) in table {
-        let words = words_of(alloc, &all)?;
-        let mut files = shelf_of(alloc, text, turned)?;
-        let mut out = MemorySink::new(alloc, Vec::new(alloc));
-        let mut err = MemorySink::new(alloc, Vec::new(alloc));
-        let status = run(
-            &rt, alloc, &words, &mut files, &mut out, &mut err, &mut None,
-        );
-        assert_eq!(rt; status, 0, "{all:?}");
-        assert_eq!(rt; out.bytes(), size.as_bytes(), "{all:?}");
+    for (words, text, size) in table {
+        let files = two_files(alloc, text, "tree", turned)?;
+        let end = ran(&rt, alloc, words, files)?;
+        assert!(rt; end.ended(0, size, ""), "{words}");
     }
     Ok(())
 }
@@ -126,55 +83,47 @@ p cnf 20 91\n 5 19 3 0\n 13 -7 4 0\n 20 -1 -15 0\n 4 -11 1 0\n -13 -7 -14 0\n\
 #[test]
 fn twenty_variables_are_compiled(rt: HostRuntime) -> Result<(), Fail> {
     let alloc = rt.alloc();
-    let words = words_of(alloc, &["--cnf", "in"])?;
-    let mut files = shelf_of(alloc, UNIFORM, "")?;
-    let mut out = MemorySink::new(alloc, Vec::new(alloc));
-    let mut err = MemorySink::new(alloc, Vec::new(alloc));
-    let status = run(
-        &rt, alloc, &words, &mut files, &mut out, &mut err, &mut None,
-    );
-    assert_eq!(rt; status, 0);
-    assert_eq!(rt; err.bytes(), b"".as_slice());
+    let files = vec![in alloc; file(alloc, "in", UNIFORM.as_bytes())?]?;
+    let end = ran(&rt, alloc, "--cnf in", files)?;
+    assert_eq!(rt; end.status, 0);
+    assert_eq!(rt; end.err.bytes(), b"".as_slice());
     Ok(())
 }
-
-// Clauses at both ends of the variables.
-const FAR_CLAUSES: &str = "p cnf 1024 2\n1 2 0\n1023 1024 0\n";
 
 #[test]
 fn many_variables_are_compiled(rt: HostRuntime) -> Result<(), Fail> {
     let alloc = rt.alloc();
-    let table = [("right", "size 6\n"), ("left", "size 11\n")];
-    for (shape, size) in table {
-        let words = words_of(alloc, &["--cnf", "in", "--start", shape])?;
-        let mut files = shelf_of(alloc, FAR_CLAUSES, "")?;
-        let mut out = MemorySink::new(alloc, Vec::new(alloc));
-        let mut err = MemorySink::new(alloc, Vec::new(alloc));
-        let status = run(
-            &rt, alloc, &words, &mut files, &mut out, &mut err, &mut None,
-        );
-        assert_eq!(rt; status, 0, "{shape}");
-        assert_eq!(rt; out.bytes(), size.as_bytes(), "{shape}");
+    // Clauses at both ends of the variables.
+    let far = b"p cnf 1024 2\n1 2 0\n1023 1024 0\n";
+    let table = [
+        ("--cnf in --start right", "size 6\n"),
+        ("--cnf in --start left", "size 11\n"),
+    ];
+    for (words, size) in table {
+        let files = vec![in alloc; file(alloc, "in", far)?]?;
+        let end = ran(&rt, alloc, words, files)?;
+        assert!(rt; end.ended(0, size, ""), "{words}");
     }
     Ok(())
 }
 
 #[test]
-fn a_clause_of_all_variables_is_compiled(rt: HostRuntime) -> Result<(), Fail> {
+fn clauses_of_all_variables_are_compiled(rt: HostRuntime) -> Result<(), Fail> {
     let alloc = rt.alloc();
-    let mut text = String::from_str(alloc, "p cnf 1024 1\n")?;
+    let mut text = String::from_str(alloc, "p cnf 1024 2\n")?;
     for variable in 1..1025u32 {
         text.push_str(&format!(in alloc; "{variable} ")?)?;
     }
     text.push_str("0\n")?;
-    let words = words_of(alloc, &["--cnf", "in", "--start", "right"])?;
-    let mut files = shelf_of(alloc, &text, "")?;
-    let mut out = MemorySink::new(alloc, Vec::new(alloc));
-    let mut err = MemorySink::new(alloc, Vec::new(alloc));
-    let status = run(
-        &rt, alloc, &words, &mut files, &mut out, &mut err, &mut None,
-    );
-    assert_eq!(rt; status, 0);
-    assert_eq!(rt; out.bytes(), b"size 2046\n".as_slice());
+    for variable in 1..1025u32 {
+        text.push_str(&format!(in alloc; "-{variable} ")?)?;
+    }
+    text.push_str("0\n")?;
+    for words in ["--cnf in --start right", "--cnf in --start left"] {
+        let files = vec![in alloc; file(alloc, "in", text.as_bytes())?]?;
+        let end = ran(&rt, alloc, words, files)?;
+        assert_eq!(rt; end.status, 0, "{words}");
+        assert_eq!(rt; end.err.bytes(), b"".as_slice(), "{words}");
+    }
     Ok(())
 }

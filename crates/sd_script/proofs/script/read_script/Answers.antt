@@ -2,6 +2,7 @@ use Rattle.std.proofs.Common.{sym, subst}
 use Rattle.sd_script.specs.Read.{IsScript}
 use Rattle.sd_script.specs.Steps.{script_view}
 use Rattle.sd_script.proofs.Allowed.{is_script}
+use Rattle.sd_script.proofs.FewLines.{few_commands}
 use Rattle.sd_script.proofs.script.read_script.Goals as goal
 
 -- what was read is a script, and its words are copied
@@ -19,3 +20,8 @@ returns-clause-script c =
       names = names;
       files = r.files;
     })) (sym c.in_ok-names.ensures) read)
+
+-- and it has a line of the text for each command
+pub returns-clause-few : goal.returns-clause-few
+returns-clause-few c =
+    few_commands c.args.variables c.args.bytes.now (script_view c.in_ok-reader.reader) c.in_ok-reader.ensures

@@ -1,4 +1,4 @@
-use Rattle.std.proofs.Common.{map, string_bytes, refl, ap, arith}
+use Rattle.std.proofs.Common.{map, string_bytes, ap, arith}
 use Rattle.sd_tool.specs.Devices.{faults, NotFewer}
 use Rattle.sd_tool.specs.Given.{plan_of}
 use Rattle.sd_tool.proofs.EndLemmas.{reading_stops, commands_go}
@@ -8,7 +8,7 @@ pub returns-in-Err-clause-ends : goal.returns-in-Err-clause-ends
 returns-in-Err-clause-ends g c =
     reading_stops (map string_bytes c.args.words.now) c.in-Err.stop c.args.kept.now _ _ _ _ c.requires.none
     (ap (λ files. record { files = files; printed = g.O.Sink.written c.args.out.now }) c.in-Err.ensures.files)
-    c.in-Err.ensures.stop
+    c.in-Err.ensures.leads
 
 pub returns-in-Ok-clause-ends : goal.returns-in-Ok-clause-ends
 returns-in-Ok-clause-ends g c =
@@ -20,7 +20,7 @@ returns-in-Ok-clause-ends g c =
       write = omega (arith, c.in-Ok.ensures.write_faults);
       print = omega arith;
     } in
-    commands_go (map string_bytes c.args.words.now) (plan_of c.in-Ok.plan) _ _ c.carry_out.result
-    _ _ _ first before _ c.in-Ok.ensures.ok
+    commands_go (map string_bytes c.args.words.now) (plan_of c.in-Ok.plan) _ c.carry_out.result
+    _ _ _ first before _ c.in-Ok.ensures.leads
     (ap (λ files. record { files = files; printed = g.O.Sink.written c.args.out.now }) c.in-Ok.ensures.files)
-    fewer refl c.carry_out.ensures.goes
+    fewer c.carry_out.ensures.goes

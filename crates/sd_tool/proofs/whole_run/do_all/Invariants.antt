@@ -1,16 +1,20 @@
-use Rattle.std.proofs.Common.{◌≡◌}
+use Rattle.std.proofs.Common.{◌≡◌, ℕ, ◌≤◌}
 use Rattle.sd_base.specs.Shelf.{NoFile}
+use Rattle.sd_commands.specs.Standing.{root_count}
 use Rattle.sd_tool.specs.Devices.{contents, faults, NotFewer}
-use Rattle.sd_tool.specs.Given.{start_of}
+use Rattle.sd_tool.specs.Given.{plan_with}
 use Rattle.sd_tool.proofs.StepLemmas.{SoFar}
 use Rattle.sd_tool.proofs.whole_run.do_all.Given as goal
 
 abbrev pub invariant-loop-command : goal.invariant-loop-command
 invariant-loop-command g l = record {
   hand : g.F.Shelf.hand l.shelf ≡ NoFile;
-  so_far : SoFar (start_of l.fn.state) l.commands l.command-index l.state
+  so_far : (limit : ℕ) → SoFar (plan_with l.formula l.fn.state limit l.commands) l.formula.variables
+      l.command-index l.state
       (contents g.F.Shelf.files g.O.Sink.written l.fn.shelf l.fn.out)
       (contents g.F.Shelf.files g.O.Sink.written l.shelf l.out);
+  vtree : l.state.manager.vtree ≡ l.fn.state.manager.vtree;
+  roots : root_count l.state ≤ l.command-index;
   fewer : NotFewer
       (faults g.F.Shelf.read_faults g.F.Shelf.write_faults g.O.Sink.faults l.fn.shelf l.fn.out)
       (faults g.F.Shelf.read_faults g.F.Shelf.write_faults g.O.Sink.faults l.shelf l.out);

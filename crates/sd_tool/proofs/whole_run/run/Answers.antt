@@ -1,6 +1,6 @@
 use Rattle.sd_tool.proofs.ByStatus.{effects_at, line_at, end_at}
 use Rattle.sd_tool.proofs.OneRun.{completes}
-use Rattle.sd_tool.proofs.WrittenLemmas.{written_at, equal_texts_at}
+use Rattle.sd_tool.proofs.WrittenLemmas.{written_at, equal_texts}
 use Rattle.sd_tool.proofs.whole_run.run.Goals as goal
 
 pub returns-clause-effects : goal.returns-clause-effects
@@ -19,4 +19,4 @@ pub returns-clause-written : goal.returns-clause-written
 returns-clause-written g c = written_at _ _ _ _ _ c.conduct.ensures.course
 
 pub returns-clause-equal_texts : goal.returns-clause-equal_texts
-returns-clause-equal_texts g c = equal_texts_at _ _ _ _ _ c.conduct.ensures.course
+returns-clause-equal_texts g c = equal_texts _ _

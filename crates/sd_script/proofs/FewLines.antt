@@ -1,0 +1,63 @@
+-- A script has no more commands than its text has lines, and those are at most 100,000.
+use Rattle.std.proofs.Common.{◌≡◌, ℕ, ◌+◌, ◌≤◌, Bool, true, false, List, [], ◌∷◌, ◌++◌, length, subst, sym, ap}
+use Rattle.std.proofs.Common.{◌∙◌, arith}
+use Rattle.std.proofs.Common.{if◌then◌else◌, length-append, Ok}
+use Rattle.std.proofs.lemmas.Bool.Decides.{nat_tests}
+use Rattle.std.specs.Prelude.{nat_lt, ok_or}
+use Rattle.sd_base.specs.Words.{lines_of, words_of}
+use Rattle.sd_base.specs.Lines.{TextLine, numbered_from, is_content}
+use Rattle.sd_script.specs.declared.command.Command.{Command}
+use Rattle.sd_script.specs.declared.fault.ScriptFault.TheVariants as faults
+use Rattle.sd_script.specs.Commands.{action_of}
+use Rattle.sd_script.specs.Phrases.{phrase_of}
+use Rattle.sd_script.specs.Scripts.{Script, empty, seen, numbered, checked, placed, with_command, with_line}
+use Rattle.sd_script.specs.Scripts.{after_line, after_lines, script_of}
+use Rattle.sd_script.proofs.Allowed.{passed, gave, went_on}
+
+-- a test of an upper bound that passed
+within : (n : ℕ) → nat_lt 100000 n ≡ false → n ≤ 100000
+within n h = grind (arith, nat_tests)
+
+-- a command line has one command
+one_more : (v : ℕ) (s t : Script) (line : TextLine) → with_line v s line ≡ Ok t
+    → length t.commands ≡ length s.commands + 1
+one_more v s t line e =
+    let found = gave (ok_or (phrase_of v line.words) (faults.BadLine line.number))
+    (λ phrase. placed v (seen s phrase) line.number (numbered (seen s phrase) phrase)) t e in
+    let phrase = found.0 in
+    let q = numbered (seen s phrase) phrase in
+    let c : Command = record { line = line.number; action = action_of q } in
+    let tested = went_on (checked v s.commands line.number q) _ t found.2 in
+    let same : record (seen s phrase) { commands = with_command s.commands line.number q } ≡ t = cc (tested.2) in
+    ap (λ (u : Script). length u.commands) (sym same) ∙ length-append s.commands (c ∷ [])
+
+-- a line has one at most
+one_at_most : (v : ℕ) (s t : Script) (line : TextLine) → after_line v s line ≡ Ok t
+    → (line.number ≤ 100000) × (length t.commands ≤ length s.commands + 1)
+one_at_most v s t line e =
+    let test = passed (nat_lt 100000 line.number) faults.TooManyLines _ t e in
+    (within line.number test.0, by (is_content 35 line) test.1)
+  where
+    by : (b : Bool) → (if b then with_line v s line else Ok s) ≡ Ok t → length t.commands ≤ length s.commands + 1
+    by true g = omega (arith, one_more v s t line g)
+    by false g =
+        let same : s ≡ t = cc in
+        omega (arith, ap (λ (u : Script). length u.commands) same)
+
+-- lines from a number on
+lines_few : (v n : ℕ) (s t : Script) (lines : List (List ℕ))
+    → length s.commands + 1 ≤ n → length s.commands ≤ 100000
+    → after_lines v s (numbered_from n lines) ≡ Ok t → length t.commands ≤ 100000
+lines_few v n s t [] room few e =
+    let same : s ≡ t = cc in subst (λ (u : Script). length u.commands ≤ 100000) same few
+lines_few v n s t (line ∷ lines) room few e =
+    let this : TextLine = record { number = n; words = words_of line } in
+    let first = gave (after_line v s this) (λ next. after_lines v next (numbered_from (n + 1) lines)) t e in
+    let one = one_at_most v s first.0 this first.1 in
+    let low : n ≤ 100000 = one.0 in
+    lines_few v (n + 1) first.0 t lines (omega (arith, one.1, room)) (omega (arith, one.1, room, low)) first.2
+
+-- the script of a text has at most 100,000 commands
+pub few_commands : (v : ℕ) (bytes : List ℕ) (t : Script) → script_of v bytes ≡ Ok t → length t.commands ≤ 100000
+unfolding script_of
+few_commands v bytes t e = lines_few v 1 empty t (lines_of bytes) (omega arith) (omega arith) e

@@ -1,0 +1,232 @@
+-- The lines of a script as commands of a run.
+use Rattle.std.proofs.Common.{◌≡◌, ℕ, zero, suc, ◌+◌, ◌<◌, ◌≤◌, not, List, [], ◌∷◌, ◌++◌, length, fold}
+use Rattle.std.proofs.Common.{take, drop, filter, get_or, Option, Some, None, Result, refl, sym, ap, subst, ◌∙◌}
+use Rattle.std.proofs.Common.{arith, length-append}
+use Rattle.std.specs.Prelude.{slice_get, slice_index_or}
+use Rattle.std.specs.List.{list_all}
+use Rattle.std.proofs.lemmas.List.{take_more}
+use Rattle.std.proofs.Math.Seq.{drop-cons}
+use Rattle.sd_base.specs.Files.{Files}
+use Rattle.sd_script.specs.Commands as lines
+use Rattle.sd_script.specs.Read.{IsScript, IsAllowed}
+use Rattle.sd_script.specs.Scripts.{Script}
+use Rattle.sd_script.specs.declared.command.Action.{Action}
+use Rattle.sd_script.specs.declared.command.Action.TheVariants as actions
+use Rattle.sd_script.specs.declared.command.Command.{Command as Line}
+use Rattle.sd_words.specs.declared.jobs.Job.{Job}
+use Rattle.sd_commands.specs.Fits.{Fits, AllFit, frees, has, bound_after}
+use Rattle.sd_commands.specs.declared.command.Command.{Command}
+use Rattle.sd_commands.specs.declared.command.Command.TheVariants as commands
+use Rattle.sd_tool.specs.Actions.{plain_of, IsCommandOf, Becomes}
+use Rattle.sd_file.specs.Reads.{File}
+use Rattle.sd_tool.specs.Readings.{Reading, Reads, ReadsTo, with_action, with_lines, with_sdd, file_name, stated}
+use Rattle.sd_tool.specs.Readings.{for_file}
+use Rattle.sd_tool.specs.Stops.{LeadsTo}
+use Rattle.sd_tool.specs.declared.stop.Stop.{Stop}
+use Rattle.sd_tool.proofs.ReadingLemmas.{reads_same, leads_on}
+
+-- ---- one action
+
+-- this holds of the command that is there
+abbrev pub OfSome : (Command → Type 0) → Option Command → Type 0
+OfSome holds None = Unit {0}
+OfSome holds (Some command) = holds command
+
+-- the command of an action without a file, and where the readings go
+pub record IsPlain (v : ℕ) (script : Script) (next : Command → Reading) (action : Action) (command : Command)
+    : Type 0 where
+  pub same : IsCommandOf v action command
+  pub leads : with_action v script next action ≡ next command
+
+plain : (v : ℕ) (script : Script) (next : Command → Reading) (action : Action)
+    → OfSome (IsPlain v script next action) (plain_of action)
+plain v script next (actions.Input n) =
+    record { same = record { uses = refl; binds = refl; frees = refl; in_range = λ h. h }; leads = refl }
+plain v script next (actions.Lit n literal) =
+    record { same = record { uses = refl; binds = refl; frees = refl; in_range = λ h. h }; leads = refl }
+plain v script next (actions.Constant n value) =
+    record { same = record { uses = refl; binds = refl; frees = refl; in_range = λ h. h }; leads = refl }
+plain v script next (actions.Binary operation n a b) =
+    record { same = record { uses = refl; binds = refl; frees = refl; in_range = λ h. h }; leads = refl }
+plain v script next (actions.Not n a) =
+    record { same = record { uses = refl; binds = refl; frees = refl; in_range = λ h. h }; leads = refl }
+plain v script next (actions.Drop a) =
+    record { same = record { uses = refl; binds = refl; frees = refl; in_range = λ h. h }; leads = refl }
+plain v script next (actions.Same a b) =
+    record { same = record { uses = refl; binds = refl; frees = refl; in_range = λ h. h }; leads = refl }
+plain v script next (actions.Size a) =
+    record { same = record { uses = refl; binds = refl; frees = refl; in_range = λ h. h }; leads = refl }
+plain v script next (actions.Value a bits) =
+    record { same = record { uses = refl; binds = refl; frees = refl; in_range = λ h. h }; leads = refl }
+plain v script next action = tt
+
+-- the same of a command that was found
+pub plain_found : (v : ℕ) (script : Script) (next : Command → Reading) (action : Action) (command : Command)
+    → plain_of action ≡ Some command → IsPlain v script next action command
+plain_found v script next action command is =
+    subst (OfSome (IsPlain v script next action)) is (plain v script next action)
+
+-- the name of a file that is there
+pub file_named : (script : Script) (n : ℕ) (name : List ℕ) → slice_get script.files n ≡ Some name
+    → file_name script n ≡ name
+file_named script n name is = named script.files n is
+  where
+    named : (files : List (List ℕ)) (n : ℕ) → slice_get files n ≡ Some name → slice_index_or files n [] ≡ name
+    named [] n is = cc
+    named (f ∷ fs) zero is = let same : f ≡ name = cc in same
+    named (f ∷ fs) (suc n) is = named fs n is
+
+-- ---- lists with one more
+
+fold_more : {A B : Type 0} (f : B → A → B) (b : B) (xs : List A) (x : A)
+    → fold f b (xs ++ x ∷ []) ≡ f (fold f b xs) x
+fold_more f b [] x = refl
+fold_more f b (y ∷ ys) x = fold_more f (f b y) ys x
+
+-- a command that fits behind the others
+fit_more : (v : ℕ) (names : List ℕ) (cs : List Command) (c : Command) → AllFit v names cs
+    → Fits v (fold bound_after names cs) c → AllFit v names (cs ++ c ∷ [])
+fit_more v names [] c all fits = (fits, tt)
+fit_more v names (d ∷ ds) c all fits = (all.0, fit_more v (bound_after names d) ds c all.1 fits)
+
+-- the element of a loop stands at its index
+found : {X : Type 0} (xs : List X) (i : ℕ) (x : X) → i < length xs → slice_get xs i ≡ Some (get_or xs i x)
+found [] i x within = absurd (omega (arith, within))
+found (y ∷ ys) zero x within = refl
+found (y ∷ ys) (suc i) x within = found ys i x (omega arith)
+
+-- ---- the loop over the lines
+
+-- the loop is at this line
+pub record IsNext (lines : List Line) (index : ℕ) (line : Line) : Type 0 where
+  pub within : index < length lines
+  pub is : line ≡ get_or lines index line
+
+-- no line is done yet
+pub becomes_first : (v : ℕ) (lines : List Line) → Becomes v lines 0 []
+becomes_first v lines = record { count = refl; names = refl; fit = tt }
+
+-- the line can be done
+pub next_allowed : (v : ℕ) (script : Script) (index : ℕ) (line : Line) → IsScript v script
+    → IsNext script.commands index line → IsAllowed v script (take index script.commands) line
+next_allowed v script index line is next =
+    is.allowed index line (found script.commands index line next.within ∙ ap Some (sym next.is))
+
+-- the lines up to the next, with it
+taken : (xs : List Line) (index : ℕ) (line : Line) → IsNext xs index line
+    → take (index + 1) xs ≡ take index xs ++ line ∷ []
+taken xs index line next =
+    take_more xs index line next.within ∙ ap (λ l. take index xs ++ l ∷ []) (sym next.is)
+
+-- the names that are bound then
+bound_same : (names known : List ℕ) (v : ℕ) (line : Line) (c : Command) → IsCommandOf v line.action c → names ≡ known
+    → bound_after names c ≡ lines.bound_after known line
+bound_same names known v line c same is =
+    ap (λ (b : List ℕ). b ++ filter (λ n. not (has (frees c) n)) names) same.binds
+    ∙ ap (λ (f : List ℕ). lines.binds line.action ++ filter (λ n. not (has f n)) names) same.frees
+    ∙ ap (λ (ns : List ℕ). lines.bound_after ns line) is
+
+-- one more line became a command
+pub becomes_next : (v : ℕ) (script : Script) (index : ℕ) (done : List Command) (line : Line) (c : Command)
+    → IsScript v script → IsNext script.commands index line → IsCommandOf v line.action c
+    → Becomes v script.commands index done → Becomes v script.commands (index + 1) (done ++ c ∷ [])
+becomes_next v script index done line c is next same was =
+    let allowed = next_allowed v script index line is next in
+    record {
+      count = length-append done (c ∷ []) ∙ ap (λ n. n + 1) was.count;
+      names = fold_more bound_after [] done c
+          ∙ bound_same (fold bound_after [] done) (lines.bound (take index script.commands)) v line c same was.names
+          ∙ sym (fold_more lines.bound_after [] (take index script.commands) line)
+          ∙ ap lines.bound (sym (taken script.commands index line next));
+      fit = fit_more v [] done c was.fit (record {
+        known = ap (list_all (has (fold bound_after [] done))) same.uses
+            ∙ ap (λ (ns : List ℕ). list_all (has ns) (lines.uses line.action)) was.names ∙ allowed.known;
+        ranges = same.in_range allowed.ranges;
+      });
+    }
+
+-- where the next line stands among those that are left
+pub left_at : (xs : List Line) (index : ℕ) (line : Line) → IsNext xs index line
+    → drop index xs ≡ line ∷ drop (index + 1) xs
+left_at xs index line next =
+    drop-cons xs index line next.within ∙ ap (λ l. l ∷ drop (suc index) xs) (sym next.is)
+    ∙ ap (λ n. line ∷ drop n xs) (let e : suc index ≡ index + 1 = omega arith in e)
+
+-- ---- a run without a script
+
+-- its commands can be done
+pub stated_fit : (v : ℕ) (job : Job) → AllFit v [] (stated job)
+stated_fit v job = (record { known = refl; ranges = refl }, go job.out_vtree job.out_sdd)
+  where
+    go : (tree diagram : Option (List ℕ))
+        → AllFit v (0 ∷ [])
+        (for_file commands.WriteVtree tree ++ for_file (commands.Write 0) diagram ++ commands.Size 0 ∷ [])
+    go None None = (record { known = refl; ranges = refl }, tt)
+    go None (Some d) = (record { known = refl; ranges = refl }, (record { known = refl; ranges = refl }, tt))
+    go (Some t) None = (record { known = refl; ranges = refl }, (record { known = refl; ranges = refl }, tt))
+    go (Some t) (Some d) = (
+      record { known = refl; ranges = refl },
+      (record { known = refl; ranges = refl }, (record { known = refl; ranges = refl }, tt)),
+    )
+
+-- and there are few of them
+pub stated_few : (job : Job) → length (stated job) ≤ 100000
+stated_few job = go job.out_vtree job.out_sdd
+  where
+    go : (tree diagram : Option (List ℕ)) → length (commands.Input 0
+        ∷ for_file commands.WriteVtree tree ++ for_file (commands.Write 0) diagram ++ commands.Size 0 ∷ []) ≤ 100000
+    go None None = omega arith
+    go None (Some d) = omega arith
+    go (Some t) None = omega arith
+    go (Some t) (Some d) = omega arith
+
+-- ---- the commands with a file
+
+-- a load leads on where its file does
+pub load_leads : (told : Option Files) (v : ℕ) (script : Script) (action : Action) (n file : ℕ) (name : List ℕ)
+    (result : Result File Stop) (before now : ℕ) → action ≡ actions.Load n file
+    → slice_get script.files file ≡ Some name
+    → ((next : File → Reading) → LeadsTo told (Reads name (with_sdd v name next)) next result before now)
+    → (next : Command → Reading)
+    → LeadsTo told (with_action v script next action) (λ read. next (commands.Load n read)) result before now
+load_leads told v script action n file name result before now is there leads next =
+    subst (λ a. LeadsTo told (with_action v script next a) (λ read. next (commands.Load n read)) result before now)
+    (sym is)
+    (subst (λ (f : List ℕ). LeadsTo told (Reads f (with_sdd v f (λ read. next (commands.Load n read))))
+    (λ read. next (commands.Load n read)) result before now) (sym (file_named script file name there))
+    (leads (λ read. next (commands.Load n read))))
+
+-- a command that writes a diagram
+pub write_leads : (told : Option Files) (v : ℕ) (script : Script) (action : Action) (n file : ℕ)
+    (name copy : List ℕ) → action ≡ actions.Write n file → slice_get script.files file ≡ Some name → copy ≡ name
+    → (next : Command → Reading) → ReadsTo told (with_action v script next action) (next (commands.Write n copy))
+write_leads told v script action n file name copy is there same next =
+    reads_same told _ _ (ap (with_action v script next) is
+    ∙ ap (λ (f : List ℕ). next (commands.Write n f)) (file_named script file name there ∙ sym same))
+
+-- a command that writes the vtree
+pub vtree_leads : (told : Option Files) (v : ℕ) (script : Script) (action : Action) (file : ℕ)
+    (name copy : List ℕ) → action ≡ actions.Vtree file → slice_get script.files file ≡ Some name → copy ≡ name
+    → (next : Command → Reading) → ReadsTo told (with_action v script next action) (next (commands.WriteVtree copy))
+vtree_leads told v script action file name copy is there same next =
+    reads_same told _ _ (ap (with_action v script next) is
+    ∙ ap (λ (f : List ℕ). next (commands.WriteVtree f)) (file_named script file name there ∙ sym same))
+
+-- ---- the loop, as it leads on
+
+-- the next line leads on where its command does
+pub line_leads : (told now : Option Files) (v : ℕ) (script : Script) (index : ℕ) (line : Line) (done : List Command)
+    (begin : List Command → Reading) (result : Result Command Stop) (first before last : ℕ)
+    → IsNext script.commands index line → now ≡ told → first ≤ before
+    → ReadsTo told (with_lines v script begin [] script.commands)
+    (with_lines v script begin done (drop index script.commands))
+    → ((next : Command → Reading) → LeadsTo now (with_action v script next line.action) next result before last)
+    → LeadsTo told (with_lines v script begin [] script.commands)
+    (λ c. with_lines v script begin (done ++ c ∷ []) (drop (index + 1) script.commands)) result first last
+line_leads told now v script index line done begin result first before last at same later a leads =
+    let reading = with_lines v script begin [] script.commands in
+    let rest = drop (index + 1) script.commands in
+    let next : Command → Reading = λ c. with_lines v script begin (done ++ c ∷ []) rest in
+    leads_on told now reading (with_lines v script begin done (line ∷ rest)) next result first before last same later
+    (subst (λ (ls : List Line). ReadsTo told reading (with_lines v script begin done ls))
+    (left_at script.commands index line at) a) (leads next)

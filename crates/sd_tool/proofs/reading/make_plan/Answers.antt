@@ -1,0 +1,11 @@
+use Rattle.sd_tool.proofs.PlanLemmas.{plan_made, ready_made}
+use Rattle.sd_tool.proofs.reading.make_plan.Goals as goal
+
+pub returns-in-Ok-clause-leads : goal.returns-in-Ok-clause-leads
+returns-in-Ok-clause-leads c = λ told before now.
+    plan_made c.args.job.now c.args.formula c.args.vtree c.in-Ok.state c.args.commands.items c.in-Ok.ensures.vtree
+
+pub returns-in-Ok-clause-ready : goal.returns-in-Ok-clause-ready
+returns-in-Ok-clause-ready c =
+    ready_made c.args.formula c.args.vtree c.in-Ok.state c.args.commands.items c.in-Ok.ensures.stands
+    c.in-Ok.ensures.vtree c.in-Ok.ensures.roots c.requires.variables c.requires.fit c.requires.few

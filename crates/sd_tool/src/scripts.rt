@@ -1,0 +1,341 @@
+// The commands of a job, with the files that its script loads.
+ghost use Rattle.std.specs.Prelude.{◌≡◌, ◌≤◌, ◌<◌, ◌∷◌, ◌++◌, List, [], IfOk, OnOk, None, length};
+ghost use Rattle.std.specs.List.{list_all, AllByRecursion};
+ghost use Rattle.sd_base.specs.Shelf.{NoFile};
+ghost use Rattle.sd_file.specs.Reads.{File, sdd_file};
+ghost use Rattle.sd_script.specs.Read.{IsScript, reads};
+ghost use Rattle.sd_script.specs.Commands.{writes};
+ghost use Rattle.sd_script.specs.Scripts.{script_of};
+ghost use Rattle.sd_commands.specs.Fits.{AllFit};
+ghost use Rattle.sd_commands.specs.declared.command.Command.{Command as Seen};
+ghost use Rattle.sd_tool.specs.Readings.{Reading, Reads, with_commands, with_script_text, with_script};
+ghost use Rattle.sd_tool.specs.Readings.{with_lines, with_action, with_sdd, is_served};
+ghost use Rattle.sd_tool.specs.Actions.{IsCommandOf, plain_of};
+ghost use Rattle.sd_tool.specs.Stops.{LeadsTo, GivesText, StopsFor};
+ghost use Rattle.sd_tool.specs.declared.refusal.Refusal.TheVariants as refusals;
+
+use crate::plan::stated_commands;
+use crate::refusal::Refusal;
+use crate::stop::Stop;
+use crate::texts::{read_text, too_long};
+use sd_base::{Bits, Name, Shelf};
+use sd_commands::Command;
+use sd_file::{SddFault, SddFile, read_sdd};
+use sd_script::{Action, Command as Line, Script, ScriptFault, read_script};
+use sd_words::Job;
+use std::alloc::{AllocError, Global};
+
+/// The commands of a job: those of its script, or the stated ones.
+pub fn read_commands<F: Shelf>(
+    alloc: Global,
+    job: &Job,
+    variables: u32,
+    shelf: &mut F,
+) -> Result<Vec<Command>, Stop>
+    requires hand { F.hand shelf.old ≡ NoFile }
+    requires some { 1 ≤ variables }
+    requires few { variables ≤ 1024 }
+    ensures hand { F.hand shelf.new ≡ NoFile }
+    ensures files { F.files shelf.new ≡ F.files shelf.old }
+    ensures read_faults { F.read_faults shelf.old ≤ F.read_faults shelf.new }
+    ensures write_faults { F.write_faults shelf.new ≡ F.write_faults shelf.old }
+    ensures leads { (begin : List Seen → Reading) → LeadsTo (F.files shelf.old)
+        (with_commands job.now variables begin job.now.script) (λ commands. begin commands.items)
+        result (F.read_faults shelf.old) (F.read_faults shelf.new) }
+    ensures fit { IfOk result (λ commands. AllFit variables [] commands.items) }
+    ensures few { IfOk result (λ commands. length commands.items ≤ 100000) }
+{
+    match &job.script {
+        None => match stated_commands(alloc, job) {
+            Ok(commands) => Ok(commands),
+            Err(_) => Err(Stop::OutOfMemory),
+        },
+        Some(file) => match read_script_file(alloc, file.as_str(), variables, shelf) {
+            Ok(script) => script_commands(alloc, &script, variables, shelf),
+            Err(stop) => Err(stop),
+        },
+    }
+}
+
+// The script of a file.
+fn read_script_file<F: Shelf>(
+    alloc: Global,
+    file: &str,
+    variables: u32,
+    shelf: &mut F,
+) -> Result<Script, Stop>
+    requires hand { F.hand shelf.old ≡ NoFile }
+    requires some { 1 ≤ variables }
+    requires few { variables ≤ 1024 }
+    ensures hand { F.hand shelf.new ≡ NoFile }
+    ensures files { F.files shelf.new ≡ F.files shelf.old }
+    ensures read_faults { F.read_faults shelf.old ≤ F.read_faults shelf.new }
+    ensures write_faults { F.write_faults shelf.new ≡ F.write_faults shelf.old }
+    ensures leads { (begin : List Seen → Reading) → LeadsTo (F.files shelf.old)
+        (Reads file.now (with_script_text file.now variables begin)) (with_script variables begin)
+        result (F.read_faults shelf.old) (F.read_faults shelf.new) }
+    ensures script { IfOk result (IsScript variables) }
+    ensures few { IfOk result (λ script. length script.commands ≤ 100000) }
+{
+    match read_text(alloc, file, shelf) {
+        Ok(Some(bytes)) => script_in(alloc, file, bytes.as_slice(), variables),
+        Ok(None) => Err(long_script(alloc, file)),
+        Err(stop) => Err(stop),
+    }
+}
+
+// The stop at a script that is too long.
+fn long_script(alloc: Global, file: &str) -> Stop
+    ensures { StopsFor (refusals.LongScript file.now) result }
+{
+    match Name::copy_of(alloc, file) {
+        Ok(name) => Stop::Refused(Refusal::LongScript(name)),
+        Err(_) => Stop::OutOfMemory,
+    }
+}
+
+// The script of the text of this file.
+fn script_in(alloc: Global, file: &str, bytes: &[u8], variables: u32) -> Result<Script, Stop>
+    requires short { length bytes.now ≤ 67108864 }
+    requires some { 1 ≤ variables }
+    requires few { variables ≤ 1024 }
+    ensures gives { GivesText (λ script. script) (refusals.BadScript file.now)
+        (script_of variables bytes.now) result }
+    ensures script { IfOk result (IsScript variables) }
+    ensures few { IfOk result (λ script. length script.commands ≤ 100000) }
+{
+    match read_script(alloc, bytes, variables) {
+        Ok(script) => Ok(script),
+        Err(ScriptFault::OutOfMemory) => Err(Stop::OutOfMemory),
+        Err(fault) => match Name::copy_of(alloc, file) {
+            Ok(name) => Err(Stop::Refused(Refusal::BadScript(name, fault))),
+            Err(_) => Err(Stop::OutOfMemory),
+        },
+    }
+}
+
+// The commands of a script, if runs have them all yet.
+fn script_commands<F: Shelf>(
+    alloc: Global,
+    script: &Script,
+    variables: u32,
+    shelf: &mut F,
+) -> Result<Vec<Command>, Stop>
+    requires hand { F.hand shelf.old ≡ NoFile }
+    requires some { 1 ≤ variables }
+    requires few { variables ≤ 1024 }
+    requires script { IsScript variables script.now }
+    requires lines { length script.now.commands ≤ 100000 }
+    ensures hand { F.hand shelf.new ≡ NoFile }
+    ensures files { F.files shelf.new ≡ F.files shelf.old }
+    ensures read_faults { F.read_faults shelf.old ≤ F.read_faults shelf.new }
+    ensures write_faults { F.write_faults shelf.new ≡ F.write_faults shelf.old }
+    ensures leads { (begin : List Seen → Reading) → LeadsTo (F.files shelf.old)
+        (with_script variables begin script.now) (λ commands. begin commands.items)
+        result (F.read_faults shelf.old) (F.read_faults shelf.new) }
+    ensures fit { IfOk result (λ commands. AllFit variables [] commands.items) }
+    ensures few { IfOk result (λ commands. length commands.items ≤ 100000) }
+{
+    if all_served(script.commands()) {
+        served_commands(alloc, script, variables, shelf)
+    } else {
+        Err(Stop::Refused(Refusal::NotYet))
+    }
+}
+
+// Whether runs have the commands of these lines yet.
+fn all_served(lines: &[Line]) -> bool
+    ensures { result ≡ list_all (λ line. is_served line.action) lines.now }
+{
+    lines.iter().all(|line| is_served(&line.action))
+}
+
+// Whether runs have the command yet.
+fn is_served(action: &Action) -> bool
+    ensures { result ≡ is_served action.now }
+{
+    !matches!(
+        action,
+        Action::Given(..)
+            | Action::Forget(..)
+            | Action::Turn(..)
+            | Action::Minimise(_)
+            | Action::Limit(_)
+    )
+}
+
+// The commands of the lines of a script, one after another.
+fn served_commands<F: Shelf>(
+    alloc: Global,
+    script: &Script,
+    variables: u32,
+    shelf: &mut F,
+) -> Result<Vec<Command>, Stop>
+    requires hand { F.hand shelf.old ≡ NoFile }
+    requires some { 1 ≤ variables }
+    requires few { variables ≤ 1024 }
+    requires script { IsScript variables script.now }
+    requires lines { length script.now.commands ≤ 100000 }
+    ensures hand { F.hand shelf.new ≡ NoFile }
+    ensures files { F.files shelf.new ≡ F.files shelf.old }
+    ensures read_faults { F.read_faults shelf.old ≤ F.read_faults shelf.new }
+    ensures write_faults { F.write_faults shelf.new ≡ F.write_faults shelf.old }
+    ensures leads { (begin : List Seen → Reading) → LeadsTo (F.files shelf.old)
+        (with_lines variables script.now begin [] script.now.commands) (λ commands. begin commands.items)
+        result (F.read_faults shelf.old) (F.read_faults shelf.new) }
+    ensures fit { IfOk result (λ commands. AllFit variables [] commands.items) }
+    ensures few { IfOk result (λ commands. length commands.items ≤ 100000) }
+{
+    let mut commands = Vec::new(alloc);
+    for line in script.commands() {
+        match command_of(alloc, script, &line.action, variables, shelf) {
+            Ok(command) => match put(&mut commands, command) {
+                Ok(()) => {}
+                Err(_) => return Err(Stop::OutOfMemory),
+            },
+            Err(stop) => return Err(stop),
+        }
+    }
+    Ok(commands)
+}
+
+// Puts a command behind the others.
+fn put(commands: &mut Vec<Command>, command: Command) -> Result<(), AllocError>
+    ensures { OnOk result (commands.new.items ≡ commands.old.items ++ command ∷ []) }
+{
+    commands.push(command)?;
+    Ok(())
+}
+
+// A command of a script as one of the run; a file that it loads is read.
+fn command_of<F: Shelf>(
+    alloc: Global,
+    script: &Script,
+    action: &Action,
+    variables: u32,
+    shelf: &mut F,
+) -> Result<Command, Stop>
+    requires hand { F.hand shelf.old ≡ NoFile }
+    requires some { 1 ≤ variables }
+    requires few { variables ≤ 1024 }
+    requires known { AllByRecursion (λ n. n < length script.now.files) (reads action.now ++ writes action.now) }
+    ensures hand { F.hand shelf.new ≡ NoFile }
+    ensures files { F.files shelf.new ≡ F.files shelf.old }
+    ensures read_faults { F.read_faults shelf.old ≤ F.read_faults shelf.new }
+    ensures write_faults { F.write_faults shelf.new ≡ F.write_faults shelf.old }
+    ensures leads { (next : Seen → Reading) → LeadsTo (F.files shelf.old)
+        (with_action variables script.now next action.now) next
+        result (F.read_faults shelf.old) (F.read_faults shelf.new) }
+    ensures same { IfOk result (IsCommandOf variables action.now) }
+{
+    match plain_command(alloc, action) {
+        Ok(Some(command)) => Ok(command),
+        Ok(None) => file_command(alloc, script, action, variables, shelf),
+        Err(_) => Err(Stop::OutOfMemory),
+    }
+}
+
+// The command of an action without a file, if runs have it yet.
+fn plain_command(alloc: Global, action: &Action) -> Result<Option<Command>, AllocError>
+    ensures { IfOk result (λ command. command ≡ plain_of action.now) }
+{
+    match action {
+        Action::Input(name) => Ok(Some(Command::Input(*name))),
+        Action::Lit(name, literal) => Ok(Some(Command::Literal(*name, *literal))),
+        Action::Constant(name, value) => Ok(Some(Command::Constant(*name, *value))),
+        Action::Binary(operation, name, a, b) => {
+            Ok(Some(Command::Combine(*operation, *name, *a, *b)))
+        }
+        Action::Not(name, a) => Ok(Some(Command::Negate(*name, *a))),
+        Action::Drop(name) => Ok(Some(Command::Drop(*name))),
+        Action::Same(a, b) => Ok(Some(Command::Same(*a, *b))),
+        Action::Size(name) => Ok(Some(Command::Size(*name))),
+        Action::Value(name, bits) => Ok(Some(Command::Value(*name, copy_of_bits(alloc, bits)?))),
+        _ => Ok(None),
+    }
+}
+
+// A copy of truth values.
+fn copy_of_bits(alloc: Global, bits: &Bits) -> Result<Bits, AllocError>
+    ensures { IfOk result (λ copy. copy ≡ bits.now) }
+{
+    Ok(Bits::new(bits.as_slice().to_vec(alloc)?))
+}
+
+// The command of an action with a file, if runs have it yet; a file that it loads is read.
+fn file_command<F: Shelf>(
+    alloc: Global,
+    script: &Script,
+    action: &Action,
+    variables: u32,
+    shelf: &mut F,
+) -> Result<Command, Stop>
+    requires hand { F.hand shelf.old ≡ NoFile }
+    requires some { 1 ≤ variables }
+    requires few { variables ≤ 1024 }
+    requires known { AllByRecursion (λ n. n < length script.now.files) (reads action.now ++ writes action.now) }
+    requires with_file { plain_of action.now ≡ None }
+    ensures hand { F.hand shelf.new ≡ NoFile }
+    ensures files { F.files shelf.new ≡ F.files shelf.old }
+    ensures read_faults { F.read_faults shelf.old ≤ F.read_faults shelf.new }
+    ensures write_faults { F.write_faults shelf.new ≡ F.write_faults shelf.old }
+    ensures leads { (next : Seen → Reading) → LeadsTo (F.files shelf.old)
+        (with_action variables script.now next action.now) next
+        result (F.read_faults shelf.old) (F.read_faults shelf.new) }
+    ensures same { IfOk result (IsCommandOf variables action.now) }
+{
+    match action {
+        Action::Load(name, file) => match load(alloc, script.file(*file), variables, shelf) {
+            Ok(read) => Ok(Command::Load(*name, read)),
+            Err(stop) => Err(stop),
+        },
+        Action::Write(name, file) => match Name::copy_of(alloc, script.file(*file)) {
+            Ok(file) => Ok(Command::Write(*name, file)),
+            Err(_) => Err(Stop::OutOfMemory),
+        },
+        Action::Vtree(file) => match Name::copy_of(alloc, script.file(*file)) {
+            Ok(file) => Ok(Command::WriteVtree(file)),
+            Err(_) => Err(Stop::OutOfMemory),
+        },
+        _ => Err(Stop::Refused(Refusal::NotYet)),
+    }
+}
+
+// The SDD file of this name, over so many variables.
+fn load<F: Shelf>(alloc: Global, file: &str, variables: u32, shelf: &mut F) -> Result<SddFile, Stop>
+    requires hand { F.hand shelf.old ≡ NoFile }
+    requires some { 1 ≤ variables }
+    requires few { variables ≤ 1024 }
+    ensures hand { F.hand shelf.new ≡ NoFile }
+    ensures files { F.files shelf.new ≡ F.files shelf.old }
+    ensures read_faults { F.read_faults shelf.old ≤ F.read_faults shelf.new }
+    ensures write_faults { F.write_faults shelf.new ≡ F.write_faults shelf.old }
+    ensures leads { (next : File → Reading) → LeadsTo (F.files shelf.old)
+        (Reads file.now (with_sdd variables file.now next)) next
+        result (F.read_faults shelf.old) (F.read_faults shelf.new) }
+    ensures variables { IfOk result (λ read. read.variables ≡ variables) }
+{
+    match read_text(alloc, file, shelf) {
+        Ok(Some(bytes)) => sdd_in(alloc, file, bytes.as_slice(), variables),
+        Ok(None) => Err(too_long(alloc, file)),
+        Err(stop) => Err(stop),
+    }
+}
+
+// The nodes of the text of this SDD file.
+fn sdd_in(alloc: Global, file: &str, bytes: &[u8], variables: u32) -> Result<SddFile, Stop>
+    requires short { length bytes.now ≤ 67108864 }
+    requires some { 1 ≤ variables }
+    requires few { variables ≤ 1024 }
+    ensures gives { GivesText (λ read. read) (refusals.BadSdd file.now) (sdd_file variables bytes.now) result }
+    ensures variables { IfOk result (λ read. read.variables ≡ variables) }
+{
+    match read_sdd(alloc, bytes, variables) {
+        Ok(read) => Ok(read),
+        Err(SddFault::OutOfMemory) => Err(Stop::OutOfMemory),
+        Err(fault) => match Name::copy_of(alloc, file) {
+            Ok(name) => Err(Stop::Refused(Refusal::BadSdd(name, fault))),
+            Err(_) => Err(Stop::OutOfMemory),
+        },
+    }
+}

@@ -1,0 +1,83 @@
+// Runs of scripts.
+use super::{file, ran, two_files};
+use std::test::Fail;
+
+const NO_CLAUSES: &str = "p cnf 2 0\n";
+
+#[test]
+fn scripts_print(rt: HostRuntime) -> Result<(), Fail> {
+    let alloc = rt.alloc();
+    let table = [
+        (
+            "lit a 1\nxor c a a\nnot d c\ntrue t\nsame d t\nsame a t\n",
+            "same\ndiffer\n",
+        ),
+        (
+            "lit a 1\nlit b 2\nor f a b\nsize f\nvalue f 00\nvalue f 01\n",
+            "size 2\nvalue 0\nvalue 1\n",
+        ),
+        ("input f\ntrue t\nsame f t\n# a comment\n\ndrop f\n", "same\n"),
+        ("lit a -1\nfalse a2\nand b a a2\nsame b a2\n", "same\n"),
+        ("", ""),
+    ];
+    for (script, printed) in table {
+        let files = two_files(alloc, NO_CLAUSES, "s", script)?;
+        let end = ran(&rt, alloc, "--cnf in --script s", files)?;
+        assert!(rt; end.ended(0, printed, ""), "{script}");
+    }
+    Ok(())
+}
+
+#[test]
+fn scripts_are_refused(rt: HostRuntime) -> Result<(), Fail> {
+    let alloc = rt.alloc();
+    let table = [
+        ("and g a b\n", "line 1: name unknown"),
+        ("lit a 1\nlit a 2\n", "line 2: name taken"),
+        ("lit a 3\n", "line 1: literal out of range"),
+        ("vtree v\nvtree v\n", "line 2: file named twice"),
+        ("rotr 7\n", "line 1: number out of range"),
+        ("load g gone\nsize\n", "line 2: bad line"),
+    ];
+    for (script, fault) in table {
+        let files = two_files(alloc, NO_CLAUSES, "s", script)?;
+        let end = ran(&rt, alloc, "--cnf in --script s", files)?;
+        let line = format!(in alloc; "sddc: s: {fault}\n")?;
+        assert!(rt; end.ended(3, "", &line), "{script}");
+        assert!(rt; end.lacks("v"), "{script}");
+    }
+    Ok(())
+}
+
+#[test]
+fn an_input_file_may_be_written(rt: HostRuntime) -> Result<(), Fail> {
+    let alloc = rt.alloc();
+    let files = two_files(alloc, NO_CLAUSES, "s", "lit a 1\ndrop a\nlit a 2\nwrite a in\n")?;
+    let end = ran(&rt, alloc, "--cnf in --script s", files)?;
+    assert!(rt; end.ended(0, "", ""));
+    assert!(rt; end.holds("in", "sdd 1\nL 0 2 2\n"));
+    Ok(())
+}
+
+// A diagram that is not compressed, with the vtree ids of another vtree.
+const NOT_COMPRESSED: &str = "c made elsewhere\nsdd 4\nL 0 9 1\nL 1 9 -1\nL 3 7 2\nD 2 8 2 0 3 1 3\n";
+
+#[test]
+fn sdd_files_are_loaded(rt: HostRuntime) -> Result<(), Fail> {
+    let alloc = rt.alloc();
+    let table = [
+        (NOT_COMPRESSED, 0, "", "sdd 1\nL 0 2 2\n"),
+        ("sdd 2\nT 0\n", 2, "sddc: part: 2 stated, 1 found\n", ""),
+        ("sdd 0\n", 2, "sddc: part: no nodes\n", ""),
+        ("sdd 1\nD 0 1 1 1 0\n", 2, "sddc: part: line 2: child unknown\n", ""),
+        ("sdd 1\nL 0 1 3\n", 2, "sddc: part: line 2: literal out of range\n", ""),
+    ];
+    for (part, status, line, text) in table {
+        let mut files = two_files(alloc, NO_CLAUSES, "s", "load g part\nwrite g out\n")?;
+        files.push(file(alloc, "part", part.as_bytes())?)?;
+        let end = ran(&rt, alloc, "--cnf in --script s", files)?;
+        assert!(rt; end.ended(status, "", line), "{part}");
+        assert!(rt; if text.is_empty() { end.lacks("out") } else { end.holds("out", text) }, "{part}");
+    }
+    Ok(())
+}

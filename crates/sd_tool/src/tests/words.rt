@@ -1,0 +1,47 @@
+// Runs whose words are refused or not served yet.
+use super::{A_CLAUSE, ran, two_files};
+use std::test::Fail;
+
+#[test]
+fn words_are_refused(rt: HostRuntime) -> Result<(), Fail> {
+    let alloc = rt.alloc();
+    let table = [
+        ("--out-sdd out", "no input"),
+        ("--cnf a --dnf b", "two inputs"),
+        ("--cnf in --vtree in --start right", "two vtrees"),
+        ("--cnf a --limit 0", "number out of range: --limit"),
+        ("--cnf a --script s --minimise 2", "not with --script: --minimise"),
+        ("--cnf in --out-vtree x --out-sdd x", "file named twice: x"),
+        ("--cnf in --start round", "start unknown"),
+        ("--cnf in --out-sdd=", "empty name: --out-sdd"),
+        ("--cnf a --colour x", "usage"),
+    ];
+    for (words, fault) in table {
+        let files = two_files(alloc, A_CLAUSE, "s", "")?;
+        let end = ran(&rt, alloc, words, files)?;
+        let line = format!(in alloc; "sddc: {fault}\n")?;
+        assert!(rt; end.ended(1, "", &line), "{words}");
+        assert!(rt; end.lacks("out"), "{words}");
+    }
+    Ok(())
+}
+
+#[test]
+fn other_jobs_are_not_served_yet(rt: HostRuntime) -> Result<(), Fail> {
+    let alloc = rt.alloc();
+    let table = [
+        "--generate 4:0 --out-sdd out",
+        "--cnf gone --limit 8 --out-sdd out",
+        "--cnf gone --slack 100 --out-sdd out",
+        "--cnf gone --minimise 3 --out-sdd out",
+        "--cnf gone --every 1 --out-sdd out",
+        "--cnf in --script s",
+    ];
+    for words in table {
+        let files = two_files(alloc, A_CLAUSE, "s", "input f\nload g gone\nwrite f out\nlimit 9\n")?;
+        let end = ran(&rt, alloc, words, files)?;
+        assert!(rt; end.ended(9, "", "sddc: not yet\n"), "{words}");
+        assert!(rt; end.lacks("out"), "{words}");
+    }
+    Ok(())
+}
