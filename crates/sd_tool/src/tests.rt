@@ -41,14 +41,15 @@ fn two_files(alloc: Global, input: &str, name: &str, text: &str) -> Result<Vec<N
 }
 
 // What a run left.
-struct Ran {
+#[derive(Drop)]
+struct Outcome {
     status: u8,
     files: MemoryShelf,
     out: MemorySink,
     err: MemorySink,
 }
 
-impl Ran {
+impl Outcome {
     // Whether a file has these bytes.
     fn holds(&self, name: &str, text: &str) -> bool {
         self.files.bytes_of(name) == Some(text.as_bytes())
@@ -72,13 +73,13 @@ fn ran_with(
     files: Vec<NamedBytes>,
     planned: Vec<PlannedFault>,
     printing: Vec<u64>,
-) -> Result<Ran, AllocError> {
+) -> Result<Outcome, AllocError> {
     let words = words_of(alloc, line)?;
     let mut files = MemoryShelf::new(alloc, files, 32, planned);
     let mut out = MemorySink::new(alloc, printing);
     let mut err = MemorySink::new(alloc, Vec::new(alloc));
     let status = run(rt, alloc, &words, &mut files, &mut out, &mut err, &mut None);
-    Ok(Ran {
+    Ok(Outcome {
         status,
         files,
         out,
@@ -92,6 +93,6 @@ fn ran(
     alloc: Global,
     line: &str,
     files: Vec<NamedBytes>,
-) -> Result<Ran, AllocError> {
+) -> Result<Outcome, AllocError> {
     ran_with(rt, alloc, line, files, Vec::new(alloc), Vec::new(alloc))
 }
