@@ -35,7 +35,7 @@ use Rattle.sd_manager.specs.Views.{IsViewOf}
 use Rattle.sd_manager.specs.Valid.{IsTable}
 use Rattle.sd_file.specs.declared.order.Ordered.{Ordered}
 use Rattle.sd_file.specs.Ordered.{Rank, rank_of, list_of, IsOrdered, AreOrdered}
-use Rattle.sd_file.specs.Ranks.{rank_cmp, FitsRank, HasRanks, AreRanks, FitsPlain, ArePlain, AreLeft, AreFound}
+use Rattle.sd_file.specs.Ranks.{rank_cmp, FitsRank, HasRanks, AreRanks, FitsPlain, ArePlain, AreLeft, AreCollected}
 use Rattle.sd_file.specs.declared.order.Found.{Found}
 use Rattle.sd_file.proofs.Ranking.{nat_same, if_tells, some_of}
 
@@ -165,19 +165,19 @@ plain_fits (Literal p x s) r h = h
 plain_fits (Decomposition p es) r h = absurd h
 
 -- before decompositions have ranks, all of them are left
-pub all_left : (t : Table) → IsTable t → (o : Ordered) (f : Found) → ArePlain t o → AreFound t f →
-    AreLeft t o f.groups
-all_left t table o f plain found =
+pub all_left : (t : Table) → IsTable t → (o : Ordered) (f : Found) → AreCollected t o f → AreLeft t o f.groups
+all_left t table o f h =
     record {
       ranks =
           record {
-            fits = λ c r d is shows. plain_fits d r (plain c r d is shows);
-            order = λ c b r s d e is at shows seen. plain_order t table c b r s d e (plain c r d is shows)
-                (plain b s e at seen) shows seen;
-            lists = λ c p r es is shows. absurd (plain c r (Decomposition p es) is shows);
+            fits = λ c r d is shows. plain_fits d r (h.plain c r d is shows);
+            order = λ c b r s d e is at shows seen. plain_order t table c b r s d e (h.plain c r d is shows)
+                (h.plain b s e at seen) shows seen;
+            lists = λ c p r es is shows. absurd (h.plain c r (Decomposition p es) is shows);
           };
-      each = found.each;
-      fresh = λ c p r es v is shows. absurd (plain c r (Decomposition p es) is shows);
+      each = h.found.each;
+      fresh = λ c p r es v is shows. absurd (h.plain c r (Decomposition p es) is shows);
+      closed = h.closed;
     }
 
 -- one more rank of a constant or a literal

@@ -6,7 +6,7 @@ use Rattle.std.proofs.Common.{slice_get, drop-cons, Result, Ok, Err, if◌then�
 use Rattle.std.specs.Prelude.{OnOk, ◌||◌}
 use Rattle.std.specs.List.{AllByRecursion, IsDistinct, list_any}
 use Rattle.std.specs.List.Sorted.{IsPermutation, IsSorted}
-use Rattle.std.specs.Option.{ok_or}
+use Rattle.std.specs.Option.{IsSome}
 use Rattle.std.specs.BTreeMap as tree
 use Rattle.std.specs.BTreeMap.{BTreeMap}
 use Rattle.std.specs.Cmp.{nat_eq_equiv}
@@ -19,7 +19,8 @@ use Rattle.std.proofs.Math.Dec.{eqb}
 use Rattle.std.proofs.Math.ListN.{drop_of_length-le}
 use Rattle.std.proofs.lemmas.Bool.{eqb-false}
 use Rattle.std.proofs.lemmas.Bool.Decides.{eqb_tells}
-use Rattle.std.proofs.lemmas.List.{map_push, take_more}
+use Rattle.std.proofs.lemmas.List.{map_push, take_all, take_more}
+use Rattle.std.proofs.lemmas.List.Sorted.{IsPermutation-sym}
 use Rattle.std.proofs.lemmas.Map.Keys.{IsDistinct-push}
 use Rattle.std.proofs.lemmas.Option.{same_Some}
 use Rattle.sd_laws.proofs.Lists.{all-permuted, all-weaker}
@@ -32,18 +33,15 @@ use Rattle.sd_file.specs.Ordered.{rank_of}
 use Rattle.sd_file.specs.Ranks.{Ranked, Entry, ranked_cmp, entry_cmp, codes_of}
 use Rattle.sd_file.specs.Ranks.{IsRanked, AreRanks, IsEntry, IsPast, IsFresh}
 use Rattle.sd_file.specs.Ranks.{IsGiving, IsGiven, IsAt, IsGroup, AreLeft, NoneAt, AreFound, IsAdded, was_seen}
-use Rattle.sd_file.specs.Ranks.{items_of, HasRankedTo, HasEntries, HasGiven}
+use Rattle.sd_file.specs.Ranks.{items_of, HasRankedTo, HasEntries, HasGiven, IsLeft, IsFoundAlso}
+use Rattle.sd_file.specs.Ranks.{HaveRanksTo, KeepRanks}
 use Rattle.sd_file.proofs.Ascending.{sorted_strict}
 use Rattle.sd_file.proofs.Ranking.{if_tells, entry_total, given_one, elements_sorted}
 use Rattle.sd_file.proofs.Giving.{all_pushed, nat_other}
-
--- what an option has that was asked for
-pub ok_given : {A E : Type 0} (o : Option A) (e : E) (x : A) → Ok x ≡ ok_or o e → o ≡ Some x
-ok_given None e x h = absurd (cc)
-ok_given (Some y) e x h = let k : x ≡ y = cc in ap (λ z. Some z) (sym k)
+use Rattle.sd_file.proofs.Standing.{added_also, given_keeps, given_has}
 
 -- the first elements of a list and the next one
-take_next : {X : Type 0} (xs : List X) (i : ℕ) (x : X) → slice_get xs i ≡ Some x →
+pub take_next : {X : Type 0} (xs : List X) (i : ℕ) (x : X) → slice_get xs i ≡ Some x →
     take (i + 1) xs ≡ take i xs ++ x ∷ []
 take_next {X} xs i x h = go xs i h
   where
@@ -122,6 +120,51 @@ given_all old new p i xs h e t groups table start =
     subst (λ n. IsGiving t new groups p n []) e
     (subst (IsGiving t new groups p i) (drop_of_length-le xs (omega (arith, e))) (h t groups table start))
 
+-- no entry has a rank yet
+pub ranks_none : (o : Ordered) (xs : List Entry) → HaveRanksTo o o 0 xs
+ranks_none o xs = record { kept = λ c s. s; given = none xs }
+  where
+    none : (xs : List Entry) → AllByRecursion (λ (e : Entry). IsSome (rank_of o e.2)) (take 0 xs)
+    none [] = tt
+    none (x ∷ xs) = tt
+
+-- the next entry has one
+pub ranks_more : (old o new : Ordered) (p i : ℕ) (xs : List Entry) (x : Entry) (list : List (ℕ × ℕ)) →
+    HaveRanksTo old o i xs → i < length xs → x ≡ get_or xs i x → IsGiven o new x.2 (2, p, i) list →
+    HaveRanksTo old new (i + 1) xs
+ranks_more old o new p i xs x list h lt is given =
+    record {
+      kept = λ c s. keeps c (h.kept c s);
+      given =
+          subst (AllByRecursion (λ (e : Entry). IsSome (rank_of new e.2)))
+          (sym (take_more xs i x lt ∙ ap (λ z. take i xs ++ z ∷ []) (sym is)))
+          (all_pushed (λ (e : Entry). IsSome (rank_of new e.2)) (take i xs) x
+          (all-weaker (λ (e : Entry). IsSome (rank_of o e.2)) (λ (e : Entry). IsSome (rank_of new e.2))
+          (λ e s. keeps e.2 s) (take i xs) h.given) (given_has o new x.2 (2, p, i) given.ranks));
+    }
+  where
+    keeps : KeepRanks o new
+    keeps = given_keeps o new x.2 (2, p, i) given.ranks
+
+-- at the end all have
+pub ranks_all : (old o : Ordered) (i : ℕ) (xs : List Entry) → HaveRanksTo old o i xs → i ≡ length xs →
+    AllByRecursion (λ (e : Entry). IsSome (rank_of o e.2)) xs
+ranks_all old o i xs h e =
+    subst (AllByRecursion (λ (e : Entry). IsSome (rank_of o e.2))) (take_all i xs (omega (arith, e))) h.given
+
+-- so have the codes of the entries, in any order
+pub ranks_codes : (o : Ordered) (group : List ℕ) (v w : List Entry) → map (λ (e : Entry). e.2) v ≡ group →
+    IsPermutation v w → AllByRecursion (λ (e : Entry). IsSome (rank_of o e.2)) w →
+    AllByRecursion (λ c. IsSome (rank_of o c)) group
+ranks_codes o group v w codes order h =
+    subst (AllByRecursion (λ c. IsSome (rank_of o c))) codes
+    (over v (all-permuted (λ (e : Entry). IsSome (rank_of o e.2)) w v (IsPermutation-sym v w order) h))
+  where
+    over : (v : List Entry) → AllByRecursion (λ (e : Entry). IsSome (rank_of o e.2)) v →
+        AllByRecursion (λ c. IsSome (rank_of o c)) (map (λ (e : Entry). e.2) v)
+    over [] h = tt
+    over (x ∷ v) h = (h.0, over v h.1)
+
 -- groups
 
 -- a last test that tells apart
@@ -180,16 +223,6 @@ pub fresh_fewer : (t : Table) (o : Ordered) (old new : BTreeMap ℕ (Vec ℕ Glo
     IsFresh t o old → IsFresh t o new
 fresh_fewer t o old new rest h c p r es v is shows e = h c p r es v is shows (rest p v e)
 
-pub left_fewer : (t : Table) (o : Ordered) (old new : BTreeMap ℕ (Vec ℕ Global)) →
-    ((q : ℕ) (v : Vec ℕ Global) → tree.get nat_cmp new q ≡ Some v → tree.get nat_cmp old q ≡ Some v) →
-    AreLeft t o old → AreLeft t o new
-left_fewer t o old new rest h =
-    record {
-      ranks = h.ranks;
-      each = λ q v e. h.each q v (rest q v e);
-      fresh = fresh_fewer t o old new rest h.fresh;
-    }
-
 -- one code more
 
 -- a code that was not seen is none of those that were
@@ -212,7 +245,7 @@ no_group t p = record { each = tt; distinct = tt }
 pub added_found : (t : Table) (old new : Found) (p c : ℕ) → AreFound t old → IsAdded old new p c → IsAt t p c →
     was_seen old c ≡ false → AreFound t new
 added_found t old new p c h k at fresh =
-    record { each = λ q v e. each q v e; seen = λ q v e. seen q v e }
+    record { each = λ q v e. each q v e; seen = λ q v e. seen q v e; among = among }
   where
     was : (b : ℕ) → was_seen old b ≡ true → was_seen new b ≡ true
     was b s = go (if_tells b c true (was_seen old b))
@@ -229,6 +262,17 @@ added_found t old new p c h k at fresh =
             ⊎ ((c ≢ c) × ((if c == c then true else was_seen old c) ≡ was_seen old c)) → was_seen new c ≡ true
         go (inl w) = k.seen c ∙ w.1
         go (inr w) = absurd (w.0 refl)
+
+    among : (b : ℕ) → was_seen new b ≡ true → IsLeft new.groups b
+    among b s = go (if_tells b c true (was_seen old b))
+      where
+        also : IsFoundAlso old new c
+        also = added_also old new p c k
+
+        go : ((b ≡ c) × ((if b == c then true else was_seen old b) ≡ true))
+            ⊎ ((b ≢ c) × ((if b == c then true else was_seen old b) ≡ was_seen old b)) → IsLeft new.groups b
+        go (inl w) = subst (IsLeft new.groups) (sym w.0) also.here
+        go (inr w) = also.kept b (h.among b (sym w.1 ∙ sym (k.seen b) ∙ s))
 
     had : (o : Option (Vec ℕ Global)) → tree.get nat_cmp old.groups p ≡ o →
         IsGroup t p (items_of o) × AllByRecursion (λ b. was_seen old b ≡ true) (items_of o)

@@ -1,6 +1,7 @@
 pub mod Added
 pub mod Ascending
 pub mod Building
+pub mod Collected
 pub mod Collecting
 pub mod Complete
 pub mod DiagramPlaces
@@ -23,10 +24,12 @@ pub mod NodeLines
 pub mod Numbering
 pub mod Pigeons
 pub mod Places
+pub mod RankedBelow
 pub mod Ranking
 pub mod ReadBack
 pub mod Readable
 pub mod Rows
+pub mod Standing
 pub mod Tried
 pub mod Values
 pub mod Walking

@@ -1,5 +1,5 @@
 -- Ranks of codes, which are compared as the diagrams that the codes show, and how they are given.
-use Rattle.std.specs.Prelude.{◌≡◌, ℕ, ◌<◌, ◌==◌, Bool, true, cond, [], ◌∷◌}
+use Rattle.std.specs.Prelude.{◌≡◌, ◌⊎◌, ℕ, ◌+◌, ◌<◌, ◌==◌, Bool, true, cond, [], ◌∷◌}
 use Rattle.std.specs.Prelude.{◌++◌, List, length, map, take, drop, Option, Some, None, if◌then◌else◌}
 use Rattle.std.specs.List.{AllByRecursion, IsDistinct}
 use Rattle.std.specs.List.Sorted.{IsStrictlySortedBy}
@@ -16,7 +16,11 @@ use Rattle.std.specs.declared.cmp.Ordering.TheVariants.{Less}
 use Rattle.std.specs.declared.vec.Vec.{Vec}
 use Rattle.std.specs.declared.alloc.Global.{Global}
 use Rattle.sd_model.specs.Diagram.{Diagram, Bottom, Top, Literal, Decomposition, Elements, diagram_cmp}
+use Rattle.sd_model.specs.Canonical.{IsCanonical}
+use Rattle.sd_vtree.specs.Numbered.{Numbered, forget, subtree}
 use Rattle.sd_laws.specs.Shown.{ShowElements}
+use Rattle.sd_laws.proofs.Lists.{IsAmong}
+use Rattle.sd_laws.proofs.Numbers.{PartAt}
 use Rattle.sd_manager.specs.Table.{Table}
 use Rattle.sd_manager.specs.Shown.{Shows, IsShown}
 use Rattle.sd_manager.specs.Views.{pairs_at}
@@ -132,11 +136,58 @@ pub record IsGroup (t : Table) (p : ℕ) (group : List ℕ) : Type 0 where
 abbrev pub AreGroups : Table → BTreeMap ℕ (Vec ℕ Global) → Type 0
 AreGroups t groups = (p : ℕ) (v : Vec ℕ Global) → tree.get nat_cmp groups p ≡ Some v → IsGroup t p v.items
 
+-- the code stands in a group
+pub record IsLeft (groups : BTreeMap ℕ (Vec ℕ Global)) (c : ℕ) : Type 0 where
+  pub position : ℕ
+  pub group : Vec ℕ Global
+  pub is : tree.get nat_cmp groups position ≡ Some group
+  pub among : IsAmong c group.items
+
+-- the code has a rank or stands in a group
+abbrev pub Stands : Ordered → BTreeMap ℕ (Vec ℕ Global) → ℕ → Type 0
+Stands o groups c = IsSome (rank_of o c) ⊎ IsLeft groups c
+
+-- so do both codes of a pair
+abbrev pub BothStand : Ordered → BTreeMap ℕ (Vec ℕ Global) → ℕ × ℕ → Type 0
+BothStand o groups e = Stands o groups e.0 × Stands o groups e.1
+
+-- so do those of the pairs of each code in a group
+abbrev pub AreClosed : Table → Ordered → BTreeMap ℕ (Vec ℕ Global) → Type 0
+AreClosed t o groups = (c : ℕ) → IsLeft groups c → AllByRecursion (BothStand o groups) (pairs_at t c)
+
+-- what had a rank or stood in a group still does
+abbrev pub StandStill : Ordered → Ordered → BTreeMap ℕ (Vec ℕ Global) → BTreeMap ℕ (Vec ℕ Global) → Type 0
+StandStill old new before after = (c : ℕ) → Stands old before c → Stands new after c
+
+-- what had a rank still has one
+abbrev pub KeepRanks : Ordered → Ordered → Type 0
+KeepRanks old new = (c : ℕ) → IsSome (rank_of old c) → IsSome (rank_of new c)
+
+-- the codes of all pairs of the code have ranks
+abbrev pub IsReady : Table → Ordered → ℕ → Type 0
+IsReady t o c = AllByRecursion (HasRanks o) (pairs_at t c)
+
 -- the groups of decompositions that have no ranks yet, by their positions
 pub record AreLeft (t : Table) (o : Ordered) (groups : BTreeMap ℕ (Vec ℕ Global)) : Type 0 where
   pub ranks : AreRanks t o
   pub each : AreGroups t groups
   pub fresh : IsFresh t o groups
+  pub closed : AreClosed t o groups
+
+-- the diagram is canonical for the subtree of the vtree node with the number u
+pub record IsBelow (t : Numbered) (u : ℕ) (d : Diagram) : Type 0 where
+  pub part : Numbered
+  pub is : subtree t u ≡ Some part
+  pub at : PartAt t u part 0
+  pub canonical : IsCanonical (forget part) (0 + at.skip) d
+
+-- the decompositions at and below a vtree node got ranks
+pub record AreRankedBelow (t : Table) (old new : Ordered) (before after : BTreeMap ℕ (Vec ℕ Global))
+    (u : ℕ) : Type 0 where
+  pub left : AreLeft t new after
+  pub still : StandStill old new before after
+  pub fewer : (c : ℕ) → IsLeft after c → IsLeft before c
+  pub none : (c : ℕ) (d : Diagram) → IsLeft after c → Shows t c d → ¬ IsBelow t.vtree u d
 
 -- no decomposition at the position has a rank
 abbrev pub NoneAt : Table → Ordered → ℕ → Type 0
@@ -155,11 +206,23 @@ ArePlain t o = (c : ℕ) (r : Rank) (d : Diagram) → rank_of o c ≡ Some r →
 abbrev pub was_seen : Found → ℕ → Bool
 was_seen f c = set.contains nat_cmp f.seen c
 
--- the codes in the groups were seen, and each group is one of its position
+-- the codes in the groups are those that were seen, and each group is one of its position
 pub record AreFound (t : Table) (f : Found) : Type 0 where
   pub each : AreGroups t f.groups
   pub seen : (p : ℕ) (v : Vec ℕ Global) → tree.get nat_cmp f.groups p ≡ Some v →
       AllByRecursion (λ c. was_seen f c ≡ true) v.items
+  pub among : (c : ℕ) → was_seen f c ≡ true → IsLeft f.groups c
+
+-- Only constants and literals have ranks, and the codes of the pairs of each decomposition that is found have ranks or
+-- are found.
+pub record AreCollected (t : Table) (o : Ordered) (f : Found) : Type 0 where
+  pub plain : ArePlain t o
+  pub found : AreFound t f
+  pub closed : AreClosed t o f.groups
+
+-- what was found or had a rank still is or does
+abbrev pub CollectStill : Ordered → Ordered → Found → Found → Type 0
+CollectStill o p f g = StandStill o p f.groups g.groups
 
 -- the codes in a group, or none
 abbrev pub items_of : Option (Vec ℕ Global) → List ℕ
@@ -189,3 +252,20 @@ abbrev pub HasGiven : Ordered → Ordered → ℕ → ℕ → List Entry → Typ
 HasGiven old new p i entries =
     (t : Table) (groups : BTreeMap ℕ (Vec ℕ Global)) → IsTable t → IsGiving t old groups p 0 entries →
     IsGiving t new groups p i (drop i entries)
+
+-- the code is found too, and no other that was not
+pub record IsFoundAlso (old new : Found) (c : ℕ) : Type 0 where
+  pub here : IsLeft new.groups c
+  pub kept : (b : ℕ) → IsLeft old.groups b → IsLeft new.groups b
+  pub only : (b : ℕ) → IsLeft new.groups b → (b ≡ c) ⊎ IsLeft old.groups b
+
+-- the first entries of a position have ranks, and what had a rank still has one
+pub record HaveRanksTo (old new : Ordered) (i : ℕ) (entries : List Entry) : Type 0 where
+  pub kept : KeepRanks old new
+  pub given : AllByRecursion (λ (e : Entry). IsSome (rank_of new e.2)) (take i entries)
+
+-- the codes of the first pairs of a node have ranks or are found
+pub record HasCollectedTo (t : Table) (old new : Ordered) (f g : Found) (c i : ℕ) : Type 0 where
+  pub collected : AreCollected t new g
+  pub still : CollectStill old new f g
+  pub stand : AllByRecursion (BothStand new g.groups) (take i (pairs_at t c))

@@ -13,15 +13,16 @@ ghost use Rattle.std.specs.List.{AllByRecursion};
 ghost use Rattle.std.specs.List.Sorted.{IsPermutation, IsSorted};
 ghost use Rattle.sd_model.specs.Diagram.{Diagram, Decomposition, Elements};
 ghost use Rattle.sd_manager.specs.Table.{Table};
-ghost use Rattle.sd_manager.specs.Shown.{Shows, IsShown};
+ghost use Rattle.sd_manager.specs.Shown.{Shows, IsShown, constant_diagram};
 ghost use Rattle.sd_manager.specs.Views.{pairs_at};
 ghost use Rattle.sd_manager.specs.Valid.{IsTable};
 ghost use Rattle.sd_file.specs.Ordered.{IsOrdered, list_of, rank_of, Rank};
 ghost use Rattle.sd_file.specs.Ranks.{IsRanked, AreRanks, IsEntry, IsGiven};
 ghost use Rattle.sd_file.specs.Ranks.{IsGiving, codes_of, ranked_cmp, entry_cmp};
 ghost use Rattle.sd_file.specs.Ranks.{IsAt, IsGroup, IsFresh, NoneAt};
-ghost use Rattle.sd_file.specs.Ranks.{AreLeft, ArePlain, FitsPlain, AreFound, IsAdded};
-ghost use Rattle.sd_file.specs.Ranks.{was_seen, items_of};
+ghost use Rattle.sd_file.specs.Ranks.{AreLeft, FitsPlain, AreFound, IsAdded, was_seen, items_of};
+ghost use Rattle.sd_file.specs.Ranks.{KeepRanks, IsReady, HasRanks, AreRankedBelow, AreCollected};
+ghost use Rattle.sd_file.specs.Ranks.{BothStand, CollectStill, IsFoundAlso, Stands};
 
 use sd_manager::{Manager, NodeId, View};
 use sd_vtree::VNode;
@@ -78,9 +79,11 @@ impl Ordered {
         position: u32,
         entries: &[Entry],
     ) -> Result<(), AllocError>
-        ensures { OnOk result ((t : Table) (groups : _) → IsTable t →
+        ensures giving { OnOk result ((t : Table) (groups : _) → IsTable t →
             IsGiving t self.old groups position 0 entries.now →
             IsGiving t self.new groups position (length entries.now) []) }
+        ensures kept { OnOk result (KeepRanks self.old self.new) }
+        ensures given { OnOk result (AllByRecursion (λ e. IsSome (rank_of self.new e.2)) entries.now) }
     {
         for (place, entry) in entries.iter().enumerate() {
             let list = pairs_of(alloc, &entry.1)?;
@@ -134,15 +137,16 @@ fn ranked_elements(
     node: NodeId,
     count: u32,
 ) -> Result<Vec<Ranked>, AllocError>
-    requires { length (pairs_at m.now node) ≡ count }
+    requires count { length (pairs_at m.now node) ≡ count }
+    requires ready { AllByRecursion (HasRanks o.now) (pairs_at m.now node) }
     ensures pairs { IfOk result (λ v. map codes_of v.items ≡ pairs_at m.now node) }
     ensures ranked { IfOk result (λ v. AllByRecursion (IsRanked o.now) v.items) }
 {
     let mut elements = Vec::with_capacity(alloc, count as usize)?;
     for index in 0..count {
         let (prime, sub) = m.element(node, index);
-        let prime_rank = o.rank(prime).ok_or(AllocError)?;
-        let sub_rank = o.rank(sub).ok_or(AllocError)?;
+        let prime_rank = o.rank(prime).unwrap();
+        let sub_rank = o.rank(sub).unwrap();
         elements.push((prime_rank, sub_rank, prime.0, sub.0))?;
     }
     Ok(elements)
@@ -165,6 +169,7 @@ fn entry_of(alloc: Global, m: &Manager, o: &Ordered, code: u32) -> Result<Entry,
     requires table { IsTable m.now }
     requires ranks { AreRanks m.now o.now }
     requires known { (p : ℕ) × IsAt m.now p code }
+    requires ready { IsReady m.now o.now code }
     ensures code { IfOk result (λ e. e.2 ≡ code) }
     ensures entry { IfOk result (λ e. (p : ℕ) → IsAt m.now p code → IsEntry m.now o.now p e) }
 {
@@ -185,6 +190,7 @@ fn entries_of(
     requires table { IsTable m.now }
     requires ranks { AreRanks m.now o.now }
     requires known { (p : ℕ) × AllByRecursion (IsAt m.now p) group.now }
+    requires ready { AllByRecursion (IsReady m.now o.now) group.now }
     ensures codes { IfOk result (λ v. map (λ e. e.2) v.items ≡ group.now) }
     ensures entries { IfOk result (λ v. (p : ℕ) → AllByRecursion (IsAt m.now p) group.now →
         AllByRecursion (IsEntry m.now o.now p) v.items) }
@@ -207,8 +213,11 @@ fn rank_group(
     requires table { IsTable m.now }
     requires ranks { AreRanks m.now o.old }
     requires group { IsGroup m.now position group.now }
-    ensures { OnOk result ((groups : _) → IsFresh m.now o.old groups → NoneAt m.now o.old position →
+    requires ready { AllByRecursion (IsReady m.now o.old) group.now }
+    ensures ranks { OnOk result ((groups : _) → IsFresh m.now o.old groups → NoneAt m.now o.old position →
         tree.get nat_cmp groups position ≡ None → AreRanks m.now o.new × IsFresh m.now o.new groups) }
+    ensures kept { OnOk result (KeepRanks o.old o.new) }
+    ensures given { OnOk result (AllByRecursion (λ c. IsSome (rank_of o.new c)) group.now) }
 {
     let mut entries = entries_of(alloc, m, o, group)?;
     sort_entries(&mut entries);
@@ -221,6 +230,7 @@ fn take_group(groups: &mut BTreeMap<u32, Vec<u32>>, position: u32) -> Option<Vec
     ensures gone { tree.get nat_cmp groups.new position ≡ None }
     ensures rest { (q : ℕ) (v : _) → tree.get nat_cmp groups.new q ≡ Some v →
         tree.get nat_cmp groups.old q ≡ Some v }
+    ensures others { (q : ℕ) → (q ≡ position → ⊥) → tree.get nat_cmp groups.new q ≡ tree.get nat_cmp groups.old q }
 {
     groups.remove(&position)
 }
@@ -236,7 +246,7 @@ fn rank_below(
     requires table { IsTable m.now }
     requires left { AreLeft m.now o.old groups.old }
     requires node { node < length (numbers m.now.vtree) }
-    ensures { OnOk result (AreLeft m.now o.new groups.new) }
+    ensures { OnOk result (AreRankedBelow m.now o.old o.new groups.old groups.new node) }
 {
     if let Some(children) = m.vtree().children(node) {
         rank_below(alloc, m, groups, o, children.0)?;
@@ -277,7 +287,8 @@ impl Found {
 
     // Adds a decomposition at a position where it was not found yet.
     fn add(&mut self, alloc: Global, position: u32, code: u32) -> Result<(), AllocError>
-        ensures { OnOk result ((t : Table) → AreFound t self.old → IsAt t position code → AreFound t self.new) }
+        ensures found { OnOk result ((t : Table) → AreFound t self.old → IsAt t position code → AreFound t self.new) }
+        ensures more { OnOk result ((t : Table) → AreFound t self.old → IsFoundAlso self.old self.new code) }
     {
         if self.has(code) {
             Ok(())
@@ -296,6 +307,13 @@ impl Found {
         self.seen.insert(code)?;
         Ok(())
     }
+}
+
+// The rank of a constant.
+fn constant_rank(value: bool) -> Rank
+    ensures { FitsPlain (constant_diagram value) result }
+{
+    if value { (0, 0, 1) } else { (0, 0, 0) }
 }
 
 // The rank of a literal of the vtree, as DIMACS has it.
@@ -326,14 +344,14 @@ fn collect(
     levels: u32,
 ) -> Result<(), AllocError>
     requires table { IsTable m.now }
-    requires plain { ArePlain m.now o.old }
-    requires found { AreFound m.now found.old }
+    requires collected { AreCollected m.now o.old found.old }
     requires known { (d : Diagram) × IsShown m.now node d × (depth d ≤ levels) }
-    ensures plain { OnOk result (ArePlain m.now o.new) }
-    ensures found { OnOk result (AreFound m.now found.new) }
+    ensures collected { OnOk result (AreCollected m.now o.new found.new) }
+    ensures still { OnOk result (CollectStill o.old o.new found.old found.new) }
+    ensures stands { OnOk result (Stands o.new found.new.groups node) }
 {
     match m.view(node) {
-        View::Constant(value) => o.give_plain(node.0, (0, 0, if value { 1 } else { 0 })),
+        View::Constant(value) => o.give_plain(node.0, constant_rank(value)),
         View::Literal(literal) => o.give_plain(node.0, literal_rank(m, literal)),
         View::Decomposition { place, count } => {
             if found.has(node.0) {
@@ -357,13 +375,13 @@ fn collect_below(
     levels: u32,
 ) -> Result<(), AllocError>
     requires table { IsTable m.now }
-    requires plain { ArePlain m.now o.old }
-    requires found { AreFound m.now found.old }
+    requires collected { AreCollected m.now o.old found.old }
     requires count { length (pairs_at m.now node) ≡ count }
     requires known { (p : ℕ) × (es : Elements) × IsShown m.now node (Decomposition p es)
         × (depth (Decomposition p es) ≤ levels) }
-    ensures plain { OnOk result (ArePlain m.now o.new) }
-    ensures found { OnOk result (AreFound m.now found.new) }
+    ensures collected { OnOk result (AreCollected m.now o.new found.new) }
+    ensures still { OnOk result (CollectStill o.old o.new found.old found.new) }
+    ensures stand { OnOk result (AllByRecursion (BothStand o.new found.new.groups) (pairs_at m.now node)) }
 {
     for index in 0..count {
         let (prime, sub) = m.element(node, index);
@@ -374,9 +392,6 @@ fn collect_below(
 }
 
 /// The elements of the decompositions at and below a node.
-///
-/// Each element's codes are looked up, and one without a rank would be answered as want of memory. There is none, since
-/// the vtree's children come before their node, but no clause says so yet.
 pub(crate) fn in_order(alloc: Global, m: &Manager, node: NodeId) -> Result<Ordered, AllocError>
     requires { (d : Diagram) × IsShown m.now node d }
     ensures { IfOk result (λ o. (d : Diagram) → IsShown m.now node d → IsOrdered m.now d (list_of o)) }
@@ -392,10 +407,7 @@ pub(crate) fn in_order(alloc: Global, m: &Manager, node: NodeId) -> Result<Order
     let levels = m.vtree().variables();
     collect(alloc, m, &mut o, &mut found, node, levels)?;
     rank_below(alloc, m, &mut found.groups, &mut o, m.vtree().root())?;
-    match o.rank(node) {
-        Some(_) => Ok(o),
-        None => Err(AllocError),
-    }
+    Ok(o)
 }
 
 #[cfg(test)]

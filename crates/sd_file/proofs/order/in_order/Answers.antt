@@ -1,16 +1,18 @@
-use Rattle.std.proofs.Common.{sym, ◌∙◌, ap, subst, arith, refl}
-use Rattle.std.specs.Option.{IsSome}
+use Rattle.std.proofs.Common.{◌≡◌, sym, ◌∙◌, ap, subst, arith}
 use Rattle.sd_model.specs.Tree.{leaves}
-use Rattle.sd_vtree.specs.Numbered.{forget}
+use Rattle.sd_vtree.specs.Numbered.{forget, number_of}
 use Rattle.sd_laws.proofs.Depths.{depth-canonical}
-use Rattle.sd_file.specs.Ordered.{rank_of}
-use Rattle.sd_file.proofs.Finding.{nothing}
+use Rattle.sd_file.specs.Ranks.{IsBelow}
+use Rattle.sd_file.proofs.Collected.{nothing_collected}
 use Rattle.sd_file.proofs.Collecting.{all_left, in_order_below}
+use Rattle.sd_file.proofs.RankedBelow.{root_below, ranked_or}
 use Rattle.sd_file.proofs.order.in_order.Goals as goal
 
-pub collect-requires-clause-plain : goal.collect-requires-clause-plain
-unfolding rank_of
-collect-requires-clause-plain c = λ b r d is shows. absurd (cc (is, nothing c.new-2.result c.new-2.ensures.empty b))
+pub collect-requires-clause-collected : goal.collect-requires-clause-collected
+collect-requires-clause-collected c =
+    nothing_collected c.args.m.now (record { lists = c.new.result; ranks = c.new-2.result })
+    (record { groups = c.new-3.result; seen = c.new-4.result }) c.new-2.ensures.empty c.new-3.ensures.empty
+    c.new-4.ensures.empty
 
 pub collect-requires-clause-known : goal.collect-requires-clause-known
 collect-requires-clause-known c = (
@@ -26,10 +28,16 @@ collect-requires-clause-known c = (
 
 pub rank_below-requires-clause-left : goal.rank_below-requires-clause-left
 rank_below-requires-clause-left c =
-    all_left c.args.m.now c.vtree.ensures.table c.collect.new.o c.collect.new.found c.in_ok-collect.ensures.plain
-    c.in_ok-collect.ensures.found
+    all_left c.args.m.now c.vtree.ensures.table c.collect.new.o c.collect.new.found c.in_ok-collect.ensures.collected
 
-pub returns-in-Some : goal.returns-in-Some
-returns-in-Some c = λ d shows.
-    in_order_below c.args.m.now c.vtree.ensures.table c.rank_below.new.o c.in_ok-rank_below.ensures.ranks d c.args.node
-    (subst IsSome (sym c.in-Some.is ∙ c.rank.ensures) refl) shows.shows
+pub returns : goal.returns
+returns c = λ d shows.
+    let table = c.vtree.ensures.table in
+    let w = c.in_ok-rank_below.ensures in
+    let root : c.root.result ≡ number_of c.args.m.now.vtree =
+    c.root.ensures.root ∙ ap number_of c.vtree-2.ensures.vtree in
+    let below : IsBelow c.args.m.now.vtree c.root.result d =
+    subst (λ u. IsBelow c.args.m.now.vtree u d) (sym root) (root_below c.args.m.now.vtree d shows.canonical) in
+    in_order_below c.args.m.now table c.rank_below.new.o w.left.ranks d c.args.node
+    (ranked_or c.rank_below.new.o c.rank_below.new.groups c.args.node
+    (w.still c.args.node c.in_ok-collect.ensures.stands) (λ l. w.none c.args.node d l shows.shows below)) shows.shows
