@@ -232,7 +232,7 @@ module _ (t : Table) (table : IsTable t) (o0 o1 o2 : Ordered) (g0 g1 g2 : BTreeM
           let l : IsLeft g2 c = record { position = p; group = v; is = is; among = m } in
           let stand = all-at (λ x. Stands o2 g2 x.0 × Stands o2 g2 x.1) (pairs_at t c) e (second.left.closed c l) k in (
             ranked_or o2 g2 e.0 stand.0
-            (λ x. first.none e.0 w.prime (second.fewer e.0 x) w.shows_prime below.0),
+                (λ x. first.none e.0 w.prime (second.fewer e.0 x) w.shows_prime below.0),
             ranked_or o2 g2 e.1 stand.1 (λ x. second.none e.1 w.sub x w.shows_sub below.1),
           )
 

@@ -33,7 +33,12 @@ fn file(alloc: Global, name: &str, text: &[u8]) -> Result<NamedBytes, AllocError
 }
 
 // The file `in` and another one.
-fn two_files(alloc: Global, input: &str, name: &str, text: &str) -> Result<Vec<NamedBytes>, AllocError> {
+fn two_files(
+    alloc: Global,
+    input: &str,
+    name: &str,
+    text: &str,
+) -> Result<Vec<NamedBytes>, AllocError> {
     let mut files = Vec::new(alloc);
     files.push(file(alloc, "in", input.as_bytes())?)?;
     files.push(file(alloc, name, text.as_bytes())?)?;
@@ -61,7 +66,9 @@ impl Outcome {
 
     // Whether the run ended with this status and these two texts on `out` and `err`.
     fn ended(&self, status: u8, out: &str, err: &str) -> bool {
-        self.status == status && self.out.bytes() == out.as_bytes() && self.err.bytes() == err.as_bytes()
+        self.status == status
+            && self.out.bytes() == out.as_bytes()
+            && self.err.bytes() == err.as_bytes()
     }
 }
 

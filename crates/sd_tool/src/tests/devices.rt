@@ -57,7 +57,14 @@ fn each_fault_of_a_vtree_file_is_a_read_fault(rt: HostRuntime) -> Result<(), Fai
 fn an_output_that_fails_keeps_the_file(rt: HostRuntime) -> Result<(), Fail> {
     let alloc = rt.alloc();
     let files = vec![in alloc; file(alloc, "in", A_CLAUSE.as_bytes())?]?;
-    let end = ran_with(&rt, alloc, RIGHT, files, Vec::new(alloc), vec![in alloc; 1]?)?;
+    let end = ran_with(
+        &rt,
+        alloc,
+        RIGHT,
+        files,
+        Vec::new(alloc),
+        vec![in alloc; 1]?,
+    )?;
     assert!(rt; end.ended(6, "", "sddc: output: write fault\n"));
     assert!(rt; end.holds("out", A_CLAUSE_AS_SDD));
     Ok(())
@@ -72,7 +79,14 @@ fn files_written_before_a_fault_stand_whole(rt: HostRuntime) -> Result<(), Fail>
         nth: 4,
     };
     let words = "--cnf in --start right --script s";
-    let end = ran_with(&rt, alloc, words, files, vec![in alloc; fault]?, Vec::new(alloc))?;
+    let end = ran_with(
+        &rt,
+        alloc,
+        words,
+        files,
+        vec![in alloc; fault]?,
+        Vec::new(alloc),
+    )?;
     assert!(rt; end.ended(6, "", "sddc: B: write fault\n"));
     assert!(rt; end.holds("A", A_CLAUSE_AS_SDD));
     assert!(rt; end.files.bytes_of("B") == A_CLAUSE_AS_SDD.as_bytes().get(..32));

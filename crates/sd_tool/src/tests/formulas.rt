@@ -33,8 +33,16 @@ fn formula_files_are_accepted(rt: HostRuntime) -> Result<(), Fail> {
         ("--dnf in --out-sdd out", b"p dnf 2 1\n0\n", "sdd 1\nT 0\n"),
         ("--dnf in --out-sdd out", b"p dnf 2 1\n1 2 0\n", both),
         ("--cnf in --out-sdd out", satlib, "sdd 1\nL 0 2 2\n"),
-        ("--cnf in --out-sdd out", b"p cnf 2 1\r\n1 2 0\r\n", A_CLAUSE_AS_SDD),
-        ("--cnf in --out-sdd out", b"c \xff\np cnf 2 1\n1 2 0\n", A_CLAUSE_AS_SDD),
+        (
+            "--cnf in --out-sdd out",
+            b"p cnf 2 1\r\n1 2 0\r\n",
+            A_CLAUSE_AS_SDD,
+        ),
+        (
+            "--cnf in --out-sdd out",
+            b"c \xff\np cnf 2 1\n1 2 0\n",
+            A_CLAUSE_AS_SDD,
+        ),
     ];
     for (words, text, diagram) in table {
         let files = vec![in alloc; file(alloc, "in", text)?]?;
@@ -54,8 +62,16 @@ fn headers_are_refused(rt: HostRuntime) -> Result<(), Fail> {
         ("--cnf bad", b"p dnf 2 0\n", "line 1: bad header"),
         ("--dnf bad", b"c x\np cnf 2 0\n", "line 2: bad header"),
         ("--cnf bad", b"p cnf 0 0\n", "variables out of range: 0"),
-        ("--cnf bad", b"p cnf 1025 0\n", "variables out of range: 1025"),
-        ("--cnf bad", b"p cnf 2 1000001\n", "too many groups: 1000001"),
+        (
+            "--cnf bad",
+            b"p cnf 1025 0\n",
+            "variables out of range: 1025",
+        ),
+        (
+            "--cnf bad",
+            b"p cnf 2 1000001\n",
+            "too many groups: 1000001",
+        ),
     ];
     for (words, text, fault) in table {
         let files = vec![in alloc; file(alloc, "bad", text)?]?;

@@ -16,7 +16,10 @@ fn scripts_print(rt: HostRuntime) -> Result<(), Fail> {
             "lit a 1\nlit b 2\nor f a b\nsize f\nvalue f 00\nvalue f 01\n",
             "size 2\nvalue 0\nvalue 1\n",
         ),
-        ("input f\ntrue t\nsame f t\n# a comment\n\ndrop f\n", "same\n"),
+        (
+            "input f\ntrue t\nsame f t\n# a comment\n\ndrop f\n",
+            "same\n",
+        ),
         ("lit a -1\nfalse a2\nand b a a2\nsame b a2\n", "same\n"),
         ("", ""),
     ];
@@ -52,7 +55,12 @@ fn scripts_are_refused(rt: HostRuntime) -> Result<(), Fail> {
 #[test]
 fn an_input_file_may_be_written(rt: HostRuntime) -> Result<(), Fail> {
     let alloc = rt.alloc();
-    let files = two_files(alloc, NO_CLAUSES, "s", "lit a 1\ndrop a\nlit a 2\nwrite a in\n")?;
+    let files = two_files(
+        alloc,
+        NO_CLAUSES,
+        "s",
+        "lit a 1\ndrop a\nlit a 2\nwrite a in\n",
+    )?;
     let end = ran(&rt, alloc, "--cnf in --script s", files)?;
     assert!(rt; end.ended(0, "", ""));
     assert!(rt; end.holds("in", "sdd 1\nL 0 2 2\n"));
@@ -60,7 +68,8 @@ fn an_input_file_may_be_written(rt: HostRuntime) -> Result<(), Fail> {
 }
 
 // A diagram that is not compressed, with the vtree ids of another vtree.
-const NOT_COMPRESSED: &str = "c made elsewhere\nsdd 4\nL 0 9 1\nL 1 9 -1\nL 3 7 2\nD 2 8 2 0 3 1 3\n";
+const NOT_COMPRESSED: &str =
+    "c made elsewhere\nsdd 4\nL 0 9 1\nL 1 9 -1\nL 3 7 2\nD 2 8 2 0 3 1 3\n";
 
 #[test]
 fn sdd_files_are_loaded(rt: HostRuntime) -> Result<(), Fail> {
@@ -69,15 +78,32 @@ fn sdd_files_are_loaded(rt: HostRuntime) -> Result<(), Fail> {
         (NOT_COMPRESSED, 0, "", "sdd 1\nL 0 2 2\n"),
         ("sdd 2\nT 0\n", 2, "sddc: part: 2 stated, 1 found\n", ""),
         ("sdd 0\n", 2, "sddc: part: no nodes\n", ""),
-        ("sdd 1\nD 0 1 1 1 0\n", 2, "sddc: part: line 2: child unknown\n", ""),
-        ("sdd 1\nL 0 1 3\n", 2, "sddc: part: line 2: literal out of range\n", ""),
+        (
+            "sdd 1\nD 0 1 1 1 0\n",
+            2,
+            "sddc: part: line 2: child unknown\n",
+            "",
+        ),
+        (
+            "sdd 1\nL 0 1 3\n",
+            2,
+            "sddc: part: line 2: literal out of range\n",
+            "",
+        ),
     ];
     for (part, status, line, text) in table {
         let mut files = two_files(alloc, NO_CLAUSES, "s", "load g part\nwrite g out\n")?;
         files.push(file(alloc, "part", part.as_bytes())?)?;
         let end = ran(&rt, alloc, "--cnf in --script s", files)?;
         assert!(rt; end.ended(status, "", line), "{part}");
-        assert!(rt; if text.is_empty() { end.lacks("out") } else { end.holds("out", text) }, "{part}");
+        assert!(rt;
+            if text.is_empty() {
+                end.lacks("out")
+            } else {
+                end.holds("out", text)
+            },
+            "{part}"
+        );
     }
     Ok(())
 }

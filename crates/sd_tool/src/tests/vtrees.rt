@@ -54,7 +54,14 @@ fn the_vtree_is_written_before_the_diagram(rt: HostRuntime) -> Result<(), Fail> 
     };
     let files = two_files(alloc, NO_CLAUSES, "tree", "")?;
     let words = "--cnf in --out-vtree shape --out-sdd out";
-    let end = ran_with(&rt, alloc, words, files, vec![in alloc; fault]?, Vec::new(alloc))?;
+    let end = ran_with(
+        &rt,
+        alloc,
+        words,
+        files,
+        vec![in alloc; fault]?,
+        Vec::new(alloc),
+    )?;
     assert!(rt; end.ended(6, "", "sddc: out: write fault\n"));
     assert!(rt; end.holds("shape", SHAPE));
     assert!(rt; end.lacks("out"));

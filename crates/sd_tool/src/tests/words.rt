@@ -10,7 +10,10 @@ fn words_are_refused(rt: HostRuntime) -> Result<(), Fail> {
         ("--cnf a --dnf b", "two inputs"),
         ("--cnf in --vtree in --start right", "two vtrees"),
         ("--cnf a --limit 0", "number out of range: --limit"),
-        ("--cnf a --script s --minimise 2", "not with --script: --minimise"),
+        (
+            "--cnf a --script s --minimise 2",
+            "not with --script: --minimise",
+        ),
         ("--cnf in --out-vtree x --out-sdd x", "file named twice: x"),
         ("--cnf in --start round", "start unknown"),
         ("--cnf in --out-sdd=", "empty name: --out-sdd"),
@@ -38,7 +41,12 @@ fn other_jobs_are_not_served_yet(rt: HostRuntime) -> Result<(), Fail> {
         "--cnf in --script s",
     ];
     for words in table {
-        let files = two_files(alloc, A_CLAUSE, "s", "input f\nload g gone\nwrite f out\nlimit 9\n")?;
+        let files = two_files(
+            alloc,
+            A_CLAUSE,
+            "s",
+            "input f\nload g gone\nwrite f out\nlimit 9\n",
+        )?;
         let end = ran(&rt, alloc, words, files)?;
         assert!(rt; end.ended(9, "", "sddc: not yet\n"), "{words}");
         assert!(rt; end.lacks("out"), "{words}");
