@@ -1,5 +1,5 @@
-//! SDD files: the nodes that a text stands for, or its first fault; the node of a manager with the file's value; and the
-//! text of the diagram that a root shows.
+//! SDD files: the nodes that a text stands for, or its first fault; the node of a manager with the
+//! file's value; and the text of the diagram that a root shows.
 //! The format is that of the SDD Package 2.0; ids may be any distinct numbers. A caller sees a
 //! reading as `sdd_file` of `specs/Reads.antt`.
 #![tactic(auto)]

@@ -53,7 +53,8 @@ collect-returns-in-Literal-clause-collected t c =
 pub collect-returns-in_ok-collect_below-in-Decomposition-clause-collected :
     goal.collect-returns-in_ok-collect_below-in-Decomposition-clause-collected
 collect-returns-in_ok-collect_below-in-Decomposition-clause-collected t c =
-    on_ok c.add.result (λ k. k.collected) (added_collected c.add.result c.args.m.now c.collect_below.new.o c.collect_below.new.found c.add.new.self
+    on_ok c.add.result (λ k. k.collected)
+    (added_collected c.add.result c.args.m.now c.collect_below.new.o c.collect_below.new.found c.add.new.self
     c.position.result c.node-in-Decomposition-2.inside.0 c.args.node c.node-in-Decomposition-2.view_is
     (at_place c.args.m.now c.requires.table.numbered c.args.node c.in-Decomposition.place c.in-Decomposition.count
     c.position.result c.requires.known.0 c.requires.known.1
@@ -66,7 +67,8 @@ collect-returns-in_ok-collect_below-in-Decomposition-clause-collected t c =
 pub collect-returns-in_ok-collect_below-in-Decomposition-clause-still :
     goal.collect-returns-in_ok-collect_below-in-Decomposition-clause-still
 collect-returns-in_ok-collect_below-in-Decomposition-clause-still t c =
-    on_ok c.add.result (λ k b s. k.still b (c.in_ok-collect_below-in-Decomposition.ensures.still b s)) (added_collected c.add.result c.args.m.now c.collect_below.new.o c.collect_below.new.found c.add.new.self
+    on_ok c.add.result (λ k b s. k.still b (c.in_ok-collect_below-in-Decomposition.ensures.still b s))
+    (added_collected c.add.result c.args.m.now c.collect_below.new.o c.collect_below.new.found c.add.new.self
     c.position.result c.node-in-Decomposition-2.inside.0 c.args.node c.node-in-Decomposition-2.view_is
     (at_place c.args.m.now c.requires.table.numbered c.args.node c.in-Decomposition.place c.in-Decomposition.count
     c.position.result c.requires.known.0 c.requires.known.1
@@ -79,7 +81,8 @@ collect-returns-in_ok-collect_below-in-Decomposition-clause-still t c =
 pub collect-returns-in_ok-collect_below-in-Decomposition-clause-stands :
     goal.collect-returns-in_ok-collect_below-in-Decomposition-clause-stands
 collect-returns-in_ok-collect_below-in-Decomposition-clause-stands t c =
-    on_ok c.add.result (λ k. k.stands) (added_collected c.add.result c.args.m.now c.collect_below.new.o c.collect_below.new.found c.add.new.self
+    on_ok c.add.result (λ k. k.stands)
+    (added_collected c.add.result c.args.m.now c.collect_below.new.o c.collect_below.new.found c.add.new.self
     c.position.result c.node-in-Decomposition-2.inside.0 c.args.node c.node-in-Decomposition-2.view_is
     (at_place c.args.m.now c.requires.table.numbered c.args.node c.in-Decomposition.place c.in-Decomposition.count
     c.position.result c.requires.known.0 c.requires.known.1

@@ -9,10 +9,12 @@ loop-place-init c = ((λ t groups table start. start), ranks_none c.args.self.no
 pub loop-place-preserved : goal.loop-place-preserved
 loop-place-preserved c = (
   given_more c.args.self.now c.loop-place.self c.give.new.self c.args.position c.loop-place.place c.args.entries.now
-      c.index-entries-place.result c.in_ok-list.list.items c.loop-place.invariant.0 (omega arith) c.index-entries-place.is
+      c.index-entries-place.result c.in_ok-list.list.items c.loop-place.invariant.0 (omega arith)
+      c.index-entries-place.is
       (c.in_ok-list.ensures ∙ ap (map codes_of) c.deref.ensures.value) c.in_ok-give.ensures,
   ranks_more c.args.self.now c.loop-place.self c.give.new.self c.args.position c.loop-place.place c.args.entries.now
-      c.index-entries-place.result c.in_ok-list.list.items c.loop-place.invariant.1 (omega arith) c.index-entries-place.is
+      c.index-entries-place.result c.in_ok-list.list.items c.loop-place.invariant.1 (omega arith)
+      c.index-entries-place.is
       c.in_ok-give.ensures,
 )
 
