@@ -35,15 +35,15 @@ fn scripts_print(rt: HostRuntime) -> Result<(), Fail> {
 fn scripts_are_refused(rt: HostRuntime) -> Result<(), Fail> {
     let alloc = rt.alloc();
     let table = [
-        ("and g a b\n", "line 1: name unknown"),
-        ("lit a 1\nlit a 2\n", "line 2: name taken"),
-        ("lit a 3\n", "line 1: literal out of range"),
-        ("vtree v\nvtree v\n", "line 2: file named twice"),
-        ("rotr 7\n", "line 1: number out of range"),
-        ("load g gone\nsize\n", "line 2: bad line"),
+        (NO_CLAUSES, "and g a b\n", "line 1: name unknown"),
+        (NO_CLAUSES, "lit a 1\nlit a 2\n", "line 2: name taken"),
+        (NO_CLAUSES, "lit a 3\n", "line 1: literal out of range"),
+        (NO_CLAUSES, "vtree v\nvtree v\n", "line 2: file named twice"),
+        ("p cnf 4 0\n", "rotr 7\n", "line 1: number out of range"),
+        (NO_CLAUSES, "load g gone\nsize\n", "line 2: bad line"),
     ];
-    for (script, fault) in table {
-        let files = two_files(alloc, NO_CLAUSES, "s", script)?;
+    for (input, script, fault) in table {
+        let files = two_files(alloc, input, "s", script)?;
         let end = ran(&rt, alloc, "--cnf in --script s", files)?;
         let line = format!(in alloc; "sddc: s: {fault}\n")?;
         assert!(rt; end.ended(3, "", &line), "{script}");
