@@ -1,5 +1,6 @@
 pub mod Trees
 pub mod Listed
+pub mod Growing
 pub mod Steps
 pub mod Rows
 pub mod Merging

@@ -35,6 +35,7 @@ use Rattle.sd_apply.proofs.Listed.{extends-on, pair-on, lists-on}
 use Rattle.sd_apply.proofs.Listed.{lists-push, lists-none, lists-at, take-answers, take-all}
 use Rattle.sd_apply.proofs.Listed.{lists-permuted}
 use Rattle.sd_apply.proofs.Rows.{pair-prime}
+use Rattle.sd_apply.proofs.Growing.{either-none, either-both}
 use Rattle.sd_apply.proofs.Steps.{IsStep, InMerge}
 
 -- a list with a last pair shows elements with a last one
@@ -125,7 +126,12 @@ pub merge-first : (m0 : Table) (c : Entries) (u w : ℕ) (l : List (ℕ × ℕ))
     0 < length l → e ≡ get_or l 0 (0, 0) → InMerge m0 m0 c u w l [] e.0 e.1 1
 merge-first m0 c u w l e i s lt at =
     record {
-      step = record { kept = extends-self m0; serves = s; table = i };
+      step = record {
+        kept = extends-self m0;
+        serves = s;
+        table = i;
+        grown = either-none m0 u w;
+      };
       last = λ k n. let z : 0 ≡ k = omega arith in ap (λ (x : ℕ × ℕ). x.1) at
           ∙ ap (λ k. (get_or l k (0, 0)).1) z;
       smaller = tt;
@@ -142,7 +148,7 @@ merge-first m0 c u w l e i s lt at =
 -- an element with the same sub
 pub merge-same : (m0 m m1 : Table) (c c1 : Entries) (u w : ℕ) (l r : List (ℕ × ℕ)) (prime sub i :
     ℕ) (e : ℕ × ℕ)
-    (joined : ℕ) → InMerge m0 m c u w l r prime sub i → IsStep m m1 c1 → i < length l →
+    (joined : ℕ) → InMerge m0 m c u w l r prime sub i → IsStep m m1 c1 u w → i < length l →
     e ≡ get_or l i (0, 0) →
     e.1 ≡ sub → Applies m m1 Or u prime e.0 joined → InMerge m0 m1 c1 u w l r joined sub (i + 1)
 merge-same m0 m m1 c c1 u w l r prime sub i e joined h s lt at same k =
@@ -151,6 +157,7 @@ merge-same m0 m m1 c c1 u w l r prime sub i e joined h s lt at same k =
         kept = extends-on m0 m m1 h.step.kept s.kept;
         serves = s.serves;
         table = s.table;
+        grown = either-both m0 m m1 u w s.kept h.step.grown s.grown;
       };
       last = λ n q. let z : i ≡ n = omega arith in
           sym same ∙ ap (λ (x : ℕ × ℕ). x.1) at ∙ ap (λ n. (get_or l n (0, 0)).1) z;

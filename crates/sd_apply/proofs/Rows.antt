@@ -24,6 +24,7 @@ use Rattle.sd_apply.proofs.Trees.{answer-under, not-under}
 use Rattle.sd_apply.proofs.Listed.{one_answer, answers-push, extends-self, extends-on, pair-on}
 use Rattle.sd_apply.proofs.Listed.{lists-on, split-on, lists-push}
 use Rattle.sd_apply.proofs.Listed.{lists-none, lists-at, take-answers, take-all, node-on}
+use Rattle.sd_apply.proofs.Growing.{either-none, either-both}
 use Rattle.sd_apply.proofs.Steps.{IsStep, InRow, InProduct, InFlip}
 
 map-append : (f : Bool → Bool) (xs ys : List Bool) → map f (xs ++ ys) ≡ map f xs ++ map f ys
@@ -89,7 +90,12 @@ pub row-none : (m0 : Table) (c : Entries) (o : Operation) (u w : ℕ) (e : ℕ �
     Serves c m0 → InRow m0 m0 c o u w e m l l 0
 row-none m0 c o u w e m l i s =
     record {
-      step = record { kept = extends-self m0; serves = s; table = i };
+      step = record {
+        kept = extends-self m0;
+        serves = s;
+        table = i;
+        grown = either-none m0 u w;
+      };
       row = λ d fs gs hd hf hg. record {
         shown = gs;
         lists = hg;
@@ -118,7 +124,7 @@ row-done m0 m c o u w e list l r j h lo hi = record {
 -- the row after an element whose product has a false prime
 pub row-skip : (m0 m m1 : Table) (c c1 : Entries) (o : Operation) (u w : ℕ) (e : ℕ × ℕ)
     (list l0 l : List (ℕ × ℕ))
-    (j : ℕ) (f : ℕ × ℕ) (both : ℕ) → InRow m0 m c o u w e list l0 l j → IsStep m m1 c1 →
+    (j : ℕ) (f : ℕ × ℕ) (both : ℕ) → InRow m0 m c o u w e list l0 l j → IsStep m m1 c1 u w →
     j < length list →
     ◌≡◌ {A = ℕ × ℕ} f (get_or list j (0, 0)) → Applies m m1 And u e.0 f.0 both → both ≡ 0 →
     InRow m0 m1 c1 o u w e list l0 l (j + 1)
@@ -128,6 +134,7 @@ row-skip m0 m m1 c c1 o u w e list l0 l j f both r s lt at h zero_both =
         kept = extends-on m0 m m1 r.step.kept s.kept;
         serves = s.serves;
         table = s.table;
+        grown = either-both m0 m m1 u w s.kept r.step.grown s.grown;
       };
       row = λ d fs gs hd hf hg.
           let k = r.row d fs gs hd hf hg in
@@ -160,8 +167,8 @@ row-skip m0 m m1 c c1 o u w e list l0 l j f both r s lt at h zero_both =
 pub row-push : (m0 m m1 m2 : Table) (c c1 c2 : Entries) (o : Operation) (u w : ℕ) (e : ℕ × ℕ)
     (list l0 l : List (ℕ × ℕ))
     (j : ℕ) (f : ℕ × ℕ) (both sub : ℕ) (r2 : List (ℕ × ℕ)) → InRow m0 m c o u w e list l0 l j →
-    IsStep m m1 c1 →
-    IsStep m1 m2 c2 → j < length list → ◌≡◌ {A = ℕ × ℕ} f (get_or list j (0, 0)) →
+    IsStep m m1 c1 u w →
+    IsStep m1 m2 c2 u w → j < length list → ◌≡◌ {A = ℕ × ℕ} f (get_or list j (0, 0)) →
     Applies m m1 And u e.0 f.0 both →
     (both ≡ 0 → ⊥) → Applies m1 m2 o w e.1 f.1 sub → r2 ≡ l ++ (both, sub) ∷ [] →
     InRow m0 m2 c2 o u w e list l0 r2 (j + 1)
@@ -169,7 +176,13 @@ row-push m0 m m1 m2 c c1 c2 o u w e list l0 l j f both sub r2 r s s2 lt at h som
     let kept1 = extends-on m0 m m1 r.step.kept s.kept in
     let kept2 = extends-on m0 m1 m2 kept1 s2.kept in
     record {
-      step = record { kept = kept2; serves = s2.serves; table = s2.table };
+      step = record {
+        kept = kept2;
+        serves = s2.serves;
+        table = s2.table;
+        grown = either-both m0 m1 m2 u w s2.kept
+            (either-both m0 m m1 u w s.kept r.step.grown s.grown) s2.grown;
+      };
       row = λ d fs gs hd hf hg.
           let old_list = r.row d fs gs hd hf hg in
           let g = lists-at m0 u w list fs hf.lists j lt f at in
@@ -231,14 +244,19 @@ pub product-none : (m0 : Table) (c : Entries) (o : Operation) (u w : ℕ) (l m :
     InProduct m0 m0 c o u w l m [] 0
 product-none m0 c o u w l m i s =
     record {
-      step = record { kept = extends-self m0; serves = s; table = i };
+      step = record {
+        kept = extends-self m0;
+        serves = s;
+        table = i;
+        grown = either-none m0 u w;
+      };
       rows = λ ds fs hd hf. record { shown = []; lists = lists-none m0 u w; value = λ a. refl };
     }
 
 -- one more row
 pub product-next : (m0 m m1 : Table) (c c1 : Entries) (o : Operation) (u w : ℕ) (l k r r1 : List
     (ℕ × ℕ)) (i : ℕ)
-    (e : ℕ × ℕ) → InProduct m0 m c o u w l k r i → IsStep m m1 c1 → i < length l →
+    (e : ℕ × ℕ) → InProduct m0 m c o u w l k r i → IsStep m m1 c1 u w → i < length l →
     ◌≡◌ {A = ℕ × ℕ} e (get_or l i (0, 0)) → AddsRow m m1 o u w e k r r1 →
     InProduct m0 m1 c1 o u w l k r1 (i + 1)
 product-next m0 m m1 c c1 o u w l k r r1 i e h s lt at q =
@@ -247,6 +265,7 @@ product-next m0 m m1 c c1 o u w l k r r1 i e h s lt at q =
         kept = extends-on m0 m m1 h.step.kept s.kept;
         serves = s.serves;
         table = s.table;
+        grown = either-both m0 m m1 u w s.kept h.step.grown s.grown;
       };
       rows = λ ds fs hd hf.
           let old = h.rows ds fs hd hf in
@@ -295,14 +314,19 @@ pub flip-none : (m0 : Table) (c : Entries) (u w : ℕ) (l : List (ℕ × ℕ)) �
     Serves c m0 → InFlip m0 m0 c u w l [] 0
 flip-none m0 c u w l i s =
     record {
-      step = record { kept = extends-self m0; serves = s; table = i };
+      step = record {
+        kept = extends-self m0;
+        serves = s;
+        table = i;
+        grown = either-none m0 u w;
+      };
       flipped = λ ds hd. record { shown = []; lists = lists-none m0 u w; value = λ a. refl };
     }
 
 -- one more
 pub flip-next : (m0 m m1 : Table) (c c1 : Entries) (u w : ℕ) (l r r1 : List (ℕ × ℕ)) (i : ℕ)
     (e : ℕ × ℕ) (other : ℕ) →
-    InFlip m0 m c u w l r i → IsStep m m1 c1 → i < length l →
+    InFlip m0 m c u w l r i → IsStep m m1 c1 u w → i < length l →
     ◌≡◌ {A = ℕ × ℕ} e (get_or l i (0, 0)) →
     Complements m m1 w e.1 other → r1 ≡ r ++ (e.0, other) ∷ [] → InFlip m0 m1 c1 u w l r1 (i + 1)
 flip-next m0 m m1 c c1 u w l r r1 i e other h s lt at k pushed =
@@ -311,6 +335,7 @@ flip-next m0 m m1 c c1 u w l r r1 i e other h s lt at k pushed =
         kept = extends-on m0 m m1 h.step.kept s.kept;
         serves = s.serves;
         table = s.table;
+        grown = either-both m0 m m1 u w s.kept h.step.grown s.grown;
       };
       flipped = λ ds hd.
           let q = h.flipped ds hd in

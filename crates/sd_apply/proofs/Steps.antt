@@ -11,19 +11,21 @@ use Rattle.sd_manager.specs.Table.{Table}
 use Rattle.sd_manager.specs.Making.{Extends}
 use Rattle.sd_manager.specs.Valid.{IsTable}
 use Rattle.sd_apply.specs.Serving.{Serves}
+use Rattle.sd_apply.specs.Growing.{GrowsBelowEither}
 use Rattle.sd_apply.specs.Elements.{IsPair, Lists, IsSplit, HasList, row, products}
 
--- what each call leaves
-pub record IsStep (old new : Table) (c : Entries) : Type 0 where
+-- what each call leaves, where new nodes stand below u or w
+pub record IsStep (old new : Table) (c : Entries) (u w : ℕ) : Type 0 where
   pub kept : Extends old new
   pub serves : Serves c new
   pub table : IsTable new
+  pub grown : GrowsBelowEither old new u w
 
 -- the first j products of an element with a list stand behind those that were there
 pub record InRow (old new : Table) (c : Entries) (o : Operation) (u w : ℕ) (e : ℕ × ℕ)
     (m l r : List (ℕ × ℕ))
     (j : ℕ) : Type 0 where
-  pub step : IsStep old new c
+  pub step : IsStep old new c u w
   pub row : (d : Diagram × Diagram) (fs gs : List (Diagram × Diagram)) → IsPair old u w e d →
       IsSplit old u w m fs →
       Lists old u w l gs →
@@ -33,14 +35,14 @@ pub record InRow (old new : Table) (c : Entries) (o : Operation) (u w : ℕ) (e 
 -- the products of the first i elements with a list
 pub record InProduct (old new : Table) (c : Entries) (o : Operation) (u w : ℕ)
     (l m r : List (ℕ × ℕ)) (i : ℕ) : Type 0 where
-  pub step : IsStep old new c
+  pub step : IsStep old new c u w
   pub rows : (ds fs : List (Diagram × Diagram)) → Lists old u w l ds → IsSplit old u w m fs →
       HasList new u w r (λ a. products o (answers a (take i ds)) (answers a fs))
 
 -- the first i elements with their subs negated
 pub record InFlip (old new : Table) (c : Entries) (u w : ℕ) (l r : List (ℕ × ℕ)) (i : ℕ) : Type 0
   where
-    pub step : IsStep old new c
+    pub step : IsStep old new c u w
     pub flipped : (ds : List (Diagram × Diagram)) → Lists old u w l ds →
         HasList new u w r (λ a. map not (answers a (take i ds)))
 
@@ -49,7 +51,7 @@ pub record InFlip (old new : Table) (c : Entries) (u w : ℕ) (l r : List (ℕ �
 -- sub, and those before have smaller subs.
 pub record InMerge (old new : Table) (c : Entries) (u w : ℕ) (l r : List (ℕ × ℕ)) (prime sub i :
     ℕ) : Type 0 where
-  pub step : IsStep old new c
+  pub step : IsStep old new c u w
   pub last : (k : ℕ) → k + 1 ≡ i → sub ≡ (get_or l k (0, 0)).1
   pub smaller : AllByRecursion (λ (e : ℕ × ℕ). e.1 < sub) r
   pub distinct : AreDistinct (map (λ (e : ℕ × ℕ). e.1) r)

@@ -5,3 +5,4 @@ pub mod Known
 pub mod Places
 pub mod Elements
 pub mod Calls
+pub mod Growing

@@ -9,6 +9,7 @@ ghost use Rattle.sd_manager.specs.Making.{Extends, KeepsRule};
 ghost use Rattle.sd_apply.specs.Operations.{number_of};
 ghost use Rattle.sd_apply.specs.Serving.{Serves};
 ghost use Rattle.sd_apply.specs.Known.{known_of};
+ghost use Rattle.sd_apply.specs.Growing.{GrowsBelow, GrowsBelowEither};
 ghost use Rattle.sd_apply.specs.Places.{IsBelow, IsThere, HasChildren};
 ghost use Rattle.sd_apply.specs.Elements.{IsPaired, AreListed, ArePartition, Ascend, turned};
 ghost use Rattle.sd_apply.specs.Calls.{Applies, Complements, Expands, Multiplies, AddsRow};
@@ -43,6 +44,7 @@ pub(crate) fn apply(
     requires serves { Serves c.old m.old }
     ensures ok { IfOk result (λ r. Applies m.old m.new operation at a b r) }
     ensures kept { Extends m.old m.new }
+    ensures grown { GrowsBelow m.old m.new at }
     ensures serves { Serves c.new m.new }
     ensures rule { IfErr result (λ e. KeepsRule m.new e) }
     ensures table { IsTable m.new }
@@ -84,6 +86,7 @@ fn ask(
     requires serves { Serves c.old m.old }
     ensures ok { IfOk result (λ r. Applies m.old m.new operation at a b r) }
     ensures kept { Extends m.old m.new }
+    ensures grown { GrowsBelow m.old m.new at }
     ensures serves { Serves c.new m.new }
     ensures rule { IfErr result (λ e. KeepsRule m.new e) }
     ensures table { IsTable m.new }
@@ -118,6 +121,7 @@ fn split(
     requires serves { Serves c.old m.old }
     ensures ok { IfOk result (λ r. Applies m.old m.new operation at a b r) }
     ensures kept { Extends m.old m.new }
+    ensures grown { GrowsBelow m.old m.new at }
     ensures serves { Serves c.new m.new }
     ensures rule { IfErr result (λ e. KeepsRule m.new e) }
     ensures table { IsTable m.new }
@@ -153,6 +157,7 @@ fn expand(
     requires serves { Serves c.old m.old }
     ensures ok { IfOk result (λ r. Expands m.old m.new place left right a r.items) }
     ensures kept { Extends m.old m.new }
+    ensures grown { GrowsBelowEither m.old m.new left right }
     ensures serves { Serves c.new m.new }
     ensures rule { IfErr result (λ e. KeepsRule m.new e) }
     ensures table { IsTable m.new }
@@ -191,6 +196,7 @@ fn multiply(
     ensures ok { IfOk result (λ r. Multiplies m.old m.new operation left right first.now
         second.now r.items) }
     ensures kept { Extends m.old m.new }
+    ensures grown { GrowsBelowEither m.old m.new left right }
     ensures serves { Serves c.new m.new }
     ensures rule { IfErr result (λ e. KeepsRule m.new e) }
     ensures table { IsTable m.new }
@@ -228,6 +234,7 @@ fn add_row(
     ensures ok { IfOk result (λ _. AddsRow m.old m.new operation left right (prime, sub) list.now
         pairs.old.items pairs.new.items) }
     ensures kept { Extends m.old m.new }
+    ensures grown { GrowsBelowEither m.old m.new left right }
     ensures serves { Serves c.new m.new }
     ensures rule { IfErr result (λ e. KeepsRule m.new e) }
     ensures table { IsTable m.new }
@@ -262,6 +269,7 @@ pub(crate) fn compress_at(
     requires table { IsTable m.old }
     ensures ok { IfOk result (λ r. Joins m.old m.new left right pairs.now r) }
     ensures kept { Extends m.old m.new }
+    ensures grown { GrowsBelow m.old m.new place }
     ensures serves { Serves c.new m.new }
     ensures rule { IfErr result (λ e. KeepsRule m.new e) }
     ensures table { IsTable m.new }
@@ -290,6 +298,7 @@ fn merge(
     ensures ok { IfOk result (λ r. Merges m.old m.new left right (map turned sorted.now) r.items) }
     ensures differ { IfOk result (λ r. AreDistinct (map (λ e. e.1) r.items)) }
     ensures kept { Extends m.old m.new }
+    ensures grown { GrowsBelowEither m.old m.new left right }
     ensures serves { Serves c.new m.new }
     ensures rule { IfErr result (λ e. KeepsRule m.new e) }
     ensures table { IsTable m.new }
@@ -337,6 +346,7 @@ pub(crate) fn complement(
     requires serves { Serves c.old m.old }
     ensures ok { IfOk result (λ r. Complements m.old m.new at a r) }
     ensures kept { Extends m.old m.new }
+    ensures grown { GrowsBelow m.old m.new at }
     ensures serves { Serves c.new m.new }
     ensures rule { IfErr result (λ e. KeepsRule m.new e) }
     ensures table { IsTable m.new }
@@ -372,6 +382,7 @@ fn flip(
     requires table { IsTable m.old }
     ensures ok { IfOk result (λ r. Flips m.old m.new left right list.now r.items) }
     ensures kept { Extends m.old m.new }
+    ensures grown { GrowsBelowEither m.old m.new left right }
     ensures serves { Serves c.new m.new }
     ensures rule { IfErr result (λ e. KeepsRule m.new e) }
     ensures table { IsTable m.new }

@@ -6,6 +6,7 @@ ghost use Rattle.sd_manager.specs.Shown.{IsKnown, IsPartitionAt};
 ghost use Rattle.sd_manager.specs.Valid.{IsTable};
 ghost use Rattle.sd_manager.specs.Making.{Extends, KeepsRule};
 ghost use Rattle.sd_apply.specs.Answers.{Combines, Negates, Compresses};
+ghost use Rattle.sd_apply.specs.Growing.{GrowsBelow};
 ghost use Rattle.sd_apply.specs.Serving.{Serves};
 
 use crate::calls::{apply, complement, compress_at};
@@ -109,6 +110,7 @@ pub fn compress(
     requires serves { Serves c.old m.old }
     ensures ok { IfOk result (λ r. Compresses m.old m.new place pairs.now r) }
     ensures kept { Extends m.old m.new }
+    ensures grown { GrowsBelow m.old m.new place }
     ensures serves { Serves c.new m.new }
     ensures rule { IfErr result (λ e. KeepsRule m.new e) }
     ensures table { IsTable m.new }

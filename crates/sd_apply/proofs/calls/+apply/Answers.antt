@@ -15,6 +15,8 @@ use Rattle.sd_apply.specs.Calls.{Joins, Flips}
 use Rattle.sd_apply.proofs.Trees.{width-positive, left-there, right-there, place-before}
 use Rattle.sd_apply.proofs.Listed.{extends-on, width-on, there-on, children-on, partition-on}
 use Rattle.sd_apply.proofs.Listed.{paired-on, below-on, node-on, listed-on, pair-at}
+use Rattle.sd_apply.proofs.Growing.{grows-both, either-both, grows-left, grows-right}
+use Rattle.sd_apply.proofs.Growing.{grows-over, grows-answer, grows-at, grows-last}
 use Rattle.sd_apply.proofs.Steps.{IsStep, InMerge, InFlip}
 use Rattle.sd_apply.proofs.Rows.{row-skip, row-push, row-done, product-next, product-done}
 use Rattle.sd_apply.proofs.Rows.{flip-none, flip-next, flip-done}
@@ -109,17 +111,25 @@ add_row-loop-j-preserved t c =
     ) in
     let at = pair-at l j c.index-list-j.result c.index-list-j-in-loop-j.result c.loop-j-test.true in
     let e : ℕ × ℕ = (c.args.prime, c.args.sub) in
-    let first : IsStep c.loop-j.m c.apply.new.m c.apply.new.c =
+    let u = c.args.left in
+    let w0 = c.args.right in
+    let first : IsStep c.loop-j.m c.apply.new.m c.apply.new.c u w0 =
     record {
       kept = c.apply.ensures.kept;
       serves = c.apply.ensures.serves;
       table = c.apply.ensures.table;
+      grown = grows-left c.loop-j.m c.apply.new.m u w0 c.apply.ensures.grown;
     } in
     elim c.if-both-ne0.branch [
       | add_row-then-both-ne0+in_ok-result_sub+in-Ok w ↦
           let a = w.apply-then-both-ne0 in
-          let second : IsStep c.apply.new.m a.new.m a.new.c =
-          record { kept = a.ensures.kept; serves = a.ensures.serves; table = a.ensures.table } in
+          let second : IsStep c.apply.new.m a.new.m a.new.c u w0 =
+          record {
+            kept = a.ensures.kept;
+            serves = a.ensures.serves;
+            table = a.ensures.table;
+            grown = grows-right c.apply.new.m a.new.m u w0 a.ensures.grown;
+          } in
           rw (w.m-is, w.c-is, w.pairs-is)
           (row-push m0 c.loop-j.m c.apply.new.m a.new.m c.loop-j.c c.apply.new.c a.new.c
           c.args.operation c.args.left
@@ -693,6 +703,8 @@ flip-loop-i-preserved t c =
       kept = c.complement.ensures.kept;
       serves = c.complement.ensures.serves;
       table = c.complement.ensures.table;
+      grown = grows-right c.loop-i.m c.complement.new.m c.args.left c.args.right
+          c.complement.ensures.grown;
     })
     c.loop-i-test.true at c.in_ok-other.ensures.ok c.in-Ok.ensures.ok
 
@@ -776,7 +788,12 @@ merge-loop-i-preserved t c =
           (map turned s)
           c.loop-i.merged.items c.loop-i.prime c.loop-i.sub i e w.in_ok-joined.joined
           c.loop-i.invariant
-          (record { kept = a.ensures.kept; serves = a.ensures.serves; table = a.ensures.table })
+          (record {
+            kept = a.ensures.kept;
+            serves = a.ensures.serves;
+            table = a.ensures.table;
+            grown = grows-left c.loop-i.m a.new.m c.args.left c.args.right a.ensures.grown;
+          })
           lt (turned-at s i)
           w.if-next_sub-sub.true w.in_ok-joined.ensures.ok))
       | merge-else-next_sub-sub+in-Ok w ↦
@@ -859,6 +876,7 @@ multiply-loop-i-preserved t c =
       kept = c.add_row.ensures.kept;
       serves = c.add_row.ensures.serves;
       table = c.add_row.ensures.table;
+      grown = c.add_row.ensures.grown;
     })
     c.loop-i-test.true at c.in_ok-add_row.ensures.ok
 
@@ -1013,3 +1031,118 @@ split-returns-clause-ok t c =
     f.ensures.first f.ensures.second c.in_ok-first.ensures.ok c.in_ok-second.ensures.ok product
     (subst (λ l. Joins q last u w l r) c.as_slice.ensures h))
     c.compress_at.ensures.ok
+
+-- where the new nodes stand
+
+pub complement-returns-in_err-pairs-clause-grown :
+    goal.complement-returns-in_err-pairs-clause-grown
+complement-returns-in_err-pairs-clause-grown t c =
+    let f = c.own_fork-place in
+    grows-at c.args.m.now c.flip.new.m c.flip.ensures.kept f.ensures.table.numbered f.result.0
+    f.result.1 f.result.2 c.args.at f.ensures.children f.ensures.under c.flip.ensures.grown
+
+pub complement-returns-in_err-code-clause-grown :
+    goal.complement-returns-in_err-code-clause-grown
+complement-returns-in_err-code-clause-grown t c =
+    let f = c.own_fork-place in
+    grows-last c.args.m.now c.flip.new.m c.compress_at.new.m c.flip.ensures.kept
+    c.compress_at.ensures.kept f.ensures.table.numbered f.result.0 f.result.1 f.result.2 c.args.at
+    f.ensures.children f.ensures.under c.flip.ensures.grown c.compress_at.ensures.grown
+
+pub complement-returns-clause-grown : goal.complement-returns-clause-grown
+complement-returns-clause-grown t c =
+    let f = c.own_fork-place in
+    grows-last c.args.m.now c.flip.new.m c.compress_at.new.m c.flip.ensures.kept
+    c.compress_at.ensures.kept f.ensures.table.numbered f.result.0 f.result.1 f.result.2 c.args.at
+    f.ensures.children f.ensures.under c.flip.ensures.grown c.compress_at.ensures.grown
+
+pub compress_at-returns-in_err-merged-clause-grown :
+    goal.compress_at-returns-in_err-merged-clause-grown
+compress_at-returns-in_err-merged-clause-grown t c =
+    let m = c.args.m.now in
+    let n = c.merge.new.m in
+    let k = c.merge.ensures.kept in
+    grows-over m n c.merge.ensures.table.numbered c.args.place c.args.left c.args.right
+    (children-on m n k c.args.place c.args.left c.args.right c.requires.children)
+    c.merge.ensures.grown
+
+pub compress_at-returns-clause-grown : goal.compress_at-returns-clause-grown
+compress_at-returns-clause-grown t c =
+    let m = c.args.m.now in
+    let n = c.merge.new.m in
+    let o = c.make.new.self in
+    let p = c.args.place in
+    let u = c.args.left in
+    let w = c.args.right in
+    let k = c.merge.ensures.kept in
+    let e = children-on m n k p u w c.requires.children in
+    grows-both m n o p c.make.ensures.kept
+    (grows-over m n c.merge.ensures.table.numbered p u w e c.merge.ensures.grown)
+    (grows-answer n o c.make.ensures.table.numbered p u w c.as_slice-2.result.now
+    (children-on n o c.make.ensures.kept p u w e) c.make.result c.make.ensures.grown
+    c.make.ensures.err)
+
+pub split-returns-in_err-first-clause-grown : goal.split-returns-in_err-first-clause-grown
+split-returns-in_err-first-clause-grown t c =
+    let f = c.fork-place in
+    grows-at c.args.m.now c.expand.new.m c.expand.ensures.kept f.ensures.table.numbered f.result.0
+    f.result.1 f.result.2 c.args.at f.ensures.children f.ensures.under c.expand.ensures.grown
+
+pub split-returns-in_err-second-clause-grown : goal.split-returns-in_err-second-clause-grown
+split-returns-in_err-second-clause-grown t c =
+    let m = c.args.m.now in
+    let n = c.expand.new.m in
+    let o = c.expand-2.new.m in
+    let f = c.fork-place in
+    grows-at m o (extends-on m n o c.expand.ensures.kept c.expand-2.ensures.kept)
+    f.ensures.table.numbered f.result.0 f.result.1 f.result.2 c.args.at f.ensures.children
+    f.ensures.under
+    (either-both m n o f.result.1 f.result.2 c.expand-2.ensures.kept c.expand.ensures.grown
+    c.expand-2.ensures.grown)
+
+pub split-returns-then-are_opposite-clause-grown :
+    goal.split-returns-then-are_opposite-clause-grown
+split-returns-then-are_opposite-clause-grown t c =
+    let m = c.args.m.now in
+    let n = c.expand.new.m in
+    let o = c.expand-2.new.m in
+    let f = c.fork-place in
+    grows-at m o (extends-on m n o c.expand.ensures.kept c.expand-2.ensures.kept)
+    f.ensures.table.numbered f.result.0 f.result.1 f.result.2 c.args.at f.ensures.children
+    f.ensures.under
+    (either-both m n o f.result.1 f.result.2 c.expand-2.ensures.kept c.expand.ensures.grown
+    c.expand-2.ensures.grown)
+
+pub split-returns-in_err-pairs-clause-grown : goal.split-returns-in_err-pairs-clause-grown
+split-returns-in_err-pairs-clause-grown t c =
+    let m = c.args.m.now in
+    let n = c.expand.new.m in
+    let o = c.expand-2.new.m in
+    let q = c.multiply.new.m in
+    let f = c.fork-place in
+    let u = f.result.1 in
+    let w = f.result.2 in
+    let k = extends-on m n o c.expand.ensures.kept c.expand-2.ensures.kept in
+    grows-at m q (extends-on m o q k c.multiply.ensures.kept) f.ensures.table.numbered f.result.0
+    u w c.args.at f.ensures.children f.ensures.under
+    (either-both m o q u w c.multiply.ensures.kept
+    (either-both m n o u w c.expand-2.ensures.kept c.expand.ensures.grown c.expand-2.ensures.grown)
+    c.multiply.ensures.grown)
+
+pub split-returns-clause-grown : goal.split-returns-clause-grown
+split-returns-clause-grown t c =
+    let m = c.args.m.now in
+    let n = c.expand.new.m in
+    let o = c.expand-2.new.m in
+    let q = c.multiply.new.m in
+    let f = c.fork-place in
+    let u = f.result.1 in
+    let w = f.result.2 in
+    let k = extends-on m n o c.expand.ensures.kept c.expand-2.ensures.kept in
+    grows-last m q c.compress_at.new.m (extends-on m o q k c.multiply.ensures.kept)
+    c.compress_at.ensures.kept f.ensures.table.numbered f.result.0 u w c.args.at
+    f.ensures.children f.ensures.under
+    (either-both m o q u w c.multiply.ensures.kept
+    (either-both m n o u w c.expand-2.ensures.kept c.expand.ensures.grown c.expand-2.ensures.grown)
+    c.multiply.ensures.grown)
+    c.compress_at.ensures.grown
