@@ -8,6 +8,7 @@ pub mod KnownLaws
 pub mod Sorting
 pub mod Standing
 pub mod Served
+pub mod RightEntries
 pub mod Expanding
 pub mod Whole
 pub mod Tried

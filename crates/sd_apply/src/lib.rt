@@ -8,6 +8,7 @@ mod lists;
 mod operations;
 mod opposites;
 mod places;
+mod recent;
 
 pub use operations::{and, compress, negate, or, xor};
 
