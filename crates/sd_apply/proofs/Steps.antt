@@ -5,24 +5,24 @@ use Rattle.std.specs.List.{AllByRecursion}
 use Rattle.sd_model.specs.declared.trees.Operation.{Operation}
 use Rattle.sd_model.specs.Diagram.{Diagram, meaning}
 use Rattle.sd_model.specs.Tree.{AreDistinct}
-use Rattle.sd_cache.specs.Entries.{Entries}
 use Rattle.sd_laws.specs.Pairs.{answers}
 use Rattle.sd_manager.specs.Table.{Table}
 use Rattle.sd_manager.specs.Making.{Extends}
 use Rattle.sd_manager.specs.Valid.{IsTable}
-use Rattle.sd_apply.specs.Serving.{Serves}
+use Rattle.sd_apply.specs.declared.recent.Recent.{Recent}
+use Rattle.sd_apply.specs.Recent.{Knows}
 use Rattle.sd_apply.specs.Growing.{GrowsBelowEither}
 use Rattle.sd_apply.specs.Elements.{IsPair, Lists, IsSplit, HasList, row, products}
 
 -- what each call leaves, where new nodes stand below u or w
-pub record IsStep (old new : Table) (c : Entries) (u w : ℕ) : Type 0 where
+pub record IsStep (old new : Table) (c : Recent) (u w : ℕ) : Type 0 where
   pub kept : Extends old new
-  pub serves : Serves c new
+  pub knows : Knows c new
   pub table : IsTable new
   pub grown : GrowsBelowEither old new u w
 
 -- the first j products of an element with a list stand behind those that were there
-pub record InRow (old new : Table) (c : Entries) (o : Operation) (u w : ℕ) (e : ℕ × ℕ)
+pub record InRow (old new : Table) (c : Recent) (o : Operation) (u w : ℕ) (e : ℕ × ℕ)
     (m l r : List (ℕ × ℕ))
     (j : ℕ) : Type 0 where
   pub step : IsStep old new c u w
@@ -33,14 +33,14 @@ pub record InRow (old new : Table) (c : Entries) (o : Operation) (u w : ℕ) (e 
       (answers a (take j fs)))
 
 -- the products of the first i elements with a list
-pub record InProduct (old new : Table) (c : Entries) (o : Operation) (u w : ℕ)
+pub record InProduct (old new : Table) (c : Recent) (o : Operation) (u w : ℕ)
     (l m r : List (ℕ × ℕ)) (i : ℕ) : Type 0 where
   pub step : IsStep old new c u w
   pub rows : (ds fs : List (Diagram × Diagram)) → Lists old u w l ds → IsSplit old u w m fs →
       HasList new u w r (λ a. products o (answers a (take i ds)) (answers a fs))
 
 -- the first i elements with their subs negated
-pub record InFlip (old new : Table) (c : Entries) (u w : ℕ) (l r : List (ℕ × ℕ)) (i : ℕ) : Type 0
+pub record InFlip (old new : Table) (c : Recent) (u w : ℕ) (l r : List (ℕ × ℕ)) (i : ℕ) : Type 0
   where
     pub step : IsStep old new c u w
     pub flipped : (ds : List (Diagram × Diagram)) → Lists old u w l ds →
@@ -49,7 +49,7 @@ pub record InFlip (old new : Table) (c : Entries) (u w : ℕ) (l r : List (ℕ �
 -- The first i elements with equal subs joined: the last of them, which is still to be pushed, has
 -- the prime and the
 -- sub, and those before have smaller subs.
-pub record InMerge (old new : Table) (c : Entries) (u w : ℕ) (l r : List (ℕ × ℕ)) (prime sub i :
+pub record InMerge (old new : Table) (c : Recent) (u w : ℕ) (l r : List (ℕ × ℕ)) (prime sub i :
     ℕ) : Type 0 where
   pub step : IsStep old new c u w
   pub last : (k : ℕ) → k + 1 ≡ i → sub ≡ (get_or l k (0, 0)).1

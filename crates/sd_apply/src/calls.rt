@@ -7,7 +7,7 @@ ghost use Rattle.sd_vtree.specs.Numbered.{numbers};
 ghost use Rattle.sd_manager.specs.Valid.{IsTable};
 ghost use Rattle.sd_manager.specs.Making.{Extends, KeepsRule};
 ghost use Rattle.sd_apply.specs.Operations.{number_of};
-ghost use Rattle.sd_apply.specs.Serving.{Serves};
+ghost use Rattle.sd_apply.specs.Recent.{Knows};
 ghost use Rattle.sd_apply.specs.Known.{known_of};
 ghost use Rattle.sd_apply.specs.Growing.{GrowsBelow, GrowsBelowEither};
 ghost use Rattle.sd_apply.specs.Places.{IsBelow, IsThere, HasChildren};
@@ -15,11 +15,10 @@ ghost use Rattle.sd_apply.specs.Elements.{IsPaired, AreListed, ArePartition, Asc
 ghost use Rattle.sd_apply.specs.Calls.{Applies, Complements, Expands, Multiplies, AddsRow};
 ghost use Rattle.sd_apply.specs.Calls.{Merges, Joins, Flips};
 
-use crate::known::{NEGATION, at_opposites, known, number, opposite};
+use crate::known::{NEGATION, known, number, opposite};
 use crate::lists::{Pairs, below_left, below_right, by_sub, elements_of};
-use crate::opposites::{are_opposite, keep_opposites};
 use crate::places::{fork, own_fork, place_of};
-use sd_cache::Cache;
+use crate::recent::Recent;
 use sd_manager::{Manager, NodeId};
 use sd_model::Operation;
 use sd_runs::TakeError;
@@ -32,7 +31,7 @@ use std::alloc::Global;
 pub(crate) fn apply(
     alloc: Global,
     m: &mut Manager,
-    c: &mut Cache,
+    recent: &mut Recent,
     operation: Operation,
     at: VNode,
     a: NodeId,
@@ -41,11 +40,11 @@ pub(crate) fn apply(
     requires at { IsThere m.old.vtree at }
     requires a { IsBelow m.old at a }
     requires b { IsBelow m.old at b }
-    requires serves { Serves c.old m.old }
+    requires knows { Knows recent.old m.old }
     ensures ok { IfOk result (λ r. Applies m.old m.new operation at a b r) }
     ensures kept { Extends m.old m.new }
     ensures grown { GrowsBelow m.old m.new at }
-    ensures serves { Serves c.new m.new }
+    ensures knows { Knows recent.new m.new }
     ensures rule { IfErr result (λ e. KeepsRule m.new e) }
     ensures table { IsTable m.new }
 {
@@ -54,24 +53,25 @@ pub(crate) fn apply(
         return Ok(NodeId(code));
     }
     if a.0 == 1 {
-        return complement(alloc, m, c, at, b);
+        return complement(alloc, m, recent, at, b);
     }
     if b.0 == 1 {
-        return complement(alloc, m, c, at, a);
+        return complement(alloc, m, recent, at, a);
     }
     if a.0 < b.0 {
-        ask(alloc, m, c, operation, at, a, b)
+        ask(alloc, m, recent, operation, at, a, b)
     } else {
-        ask(alloc, m, c, operation, at, b, a)
+        ask(alloc, m, recent, operation, at, b, a)
     }
 }
 
-// The same at nodes that are neither constants nor of one leaf: the cache is asked first.
+// The same at nodes that are neither constants nor of one leaf: first it is asked whether the
+// answer is known.
 #[cycle(apply)]
 fn ask(
     alloc: Global,
     m: &mut Manager,
-    c: &mut Cache,
+    recent: &mut Recent,
     operation: Operation,
     at: VNode,
     a: NodeId,
@@ -83,21 +83,21 @@ fn ask(
     requires least_a { 2 ≤ a }
     requires least_b { 2 ≤ b }
     requires differ { a / 2 ≡ b / 2 → 2050 ≤ a }
-    requires serves { Serves c.old m.old }
+    requires knows { Knows recent.old m.old }
     ensures ok { IfOk result (λ r. Applies m.old m.new operation at a b r) }
     ensures kept { Extends m.old m.new }
     ensures grown { GrowsBelow m.old m.new at }
-    ensures serves { Serves c.new m.new }
+    ensures knows { Knows recent.new m.new }
     ensures rule { IfErr result (λ e. KeepsRule m.new e) }
     ensures table { IsTable m.new }
 {
-    let epoch = m.epoch();
+    let _ = m.vtree();
     let kind = number(operation);
-    if let Some(code) = c.look(epoch, kind, a.0, b.0) {
+    if let Some(code) = recent.look(kind, a.0, b.0) {
         return Ok(NodeId(code));
     }
-    let code = split(alloc, m, c, operation, at, a, b)?;
-    c.keep(epoch, kind, a.0, b.0, code.0);
+    let code = split(alloc, m, recent, operation, at, a, b)?;
+    recent.keep(alloc, kind, a.0, b.0, code.0);
     Ok(code)
 }
 
@@ -106,7 +106,7 @@ fn ask(
 fn split(
     alloc: Global,
     m: &mut Manager,
-    c: &mut Cache,
+    recent: &mut Recent,
     operation: Operation,
     at: VNode,
     a: NodeId,
@@ -118,24 +118,21 @@ fn split(
     requires least_a { 2 ≤ a }
     requires least_b { 2 ≤ b }
     requires differ { a / 2 ≡ b / 2 → 2050 ≤ a }
-    requires serves { Serves c.old m.old }
+    requires knows { Knows recent.old m.old }
     ensures ok { IfOk result (λ r. Applies m.old m.new operation at a b r) }
     ensures kept { Extends m.old m.new }
     ensures grown { GrowsBelow m.old m.new at }
-    ensures serves { Serves c.new m.new }
+    ensures knows { Knows recent.new m.new }
     ensures rule { IfErr result (λ e. KeepsRule m.new e) }
     ensures table { IsTable m.new }
 {
     let (place, left, right) = fork(m, at, a, b);
-    let first = expand(alloc, m, c, place, left, right, a)?;
-    let second = expand(alloc, m, c, place, left, right, b)?;
+    let first = expand(alloc, m, recent, place, left, right, a)?;
+    let second = expand(alloc, m, recent, place, left, right, b)?;
     let one = first.as_slice();
     let other = second.as_slice();
-    if are_opposite(m, c, a, b, one, other) {
-        return Ok(at_opposites(operation));
-    }
-    let pairs = multiply(alloc, m, c, operation, left, right, one, other)?;
-    compress_at(alloc, m, c, place, left, right, pairs.as_slice())
+    let pairs = multiply(alloc, m, recent, operation, left, right, one, other)?;
+    compress_at(alloc, m, recent, place, left, right, pairs.as_slice())
 }
 
 // A node below a vtree node, as elements there: its own where it stands there, and else two or
@@ -144,7 +141,7 @@ fn split(
 fn expand(
     alloc: Global,
     m: &mut Manager,
-    c: &mut Cache,
+    recent: &mut Recent,
     place: VNode,
     left: VNode,
     right: VNode,
@@ -154,11 +151,11 @@ fn expand(
     requires node { place < length (numbers m.old.vtree) }
     requires a { IsBelow m.old place a }
     requires least { 2 ≤ a }
-    requires serves { Serves c.old m.old }
+    requires knows { Knows recent.old m.old }
     ensures ok { IfOk result (λ r. Expands m.old m.new place left right a r.items) }
     ensures kept { Extends m.old m.new }
     ensures grown { GrowsBelowEither m.old m.new left right }
-    ensures serves { Serves c.new m.new }
+    ensures knows { Knows recent.new m.new }
     ensures rule { IfErr result (λ e. KeepsRule m.new e) }
     ensures table { IsTable m.new }
 {
@@ -171,7 +168,7 @@ fn expand(
     if middle < at {
         return below_right(alloc, a);
     }
-    let other = complement(alloc, m, c, left, a)?;
+    let other = complement(alloc, m, recent, left, a)?;
     below_left(alloc, a, other)
 }
 
@@ -180,7 +177,7 @@ fn expand(
 fn multiply(
     alloc: Global,
     m: &mut Manager,
-    c: &mut Cache,
+    recent: &mut Recent,
     operation: Operation,
     left: VNode,
     right: VNode,
@@ -191,13 +188,13 @@ fn multiply(
     requires right { IsThere m.old.vtree right }
     requires first { AreListed m.old left right first.now }
     requires second { ArePartition m.old left right second.now }
-    requires serves { Serves c.old m.old }
+    requires knows { Knows recent.old m.old }
     requires table { IsTable m.old }
     ensures ok { IfOk result (λ r. Multiplies m.old m.new operation left right first.now
         second.now r.items) }
     ensures kept { Extends m.old m.new }
     ensures grown { GrowsBelowEither m.old m.new left right }
-    ensures serves { Serves c.new m.new }
+    ensures knows { Knows recent.new m.new }
     ensures rule { IfErr result (λ e. KeepsRule m.new e) }
     ensures table { IsTable m.new }
 {
@@ -205,7 +202,7 @@ fn multiply(
     for i in 0..first.len() {
         let (prime, sub) = first[i];
         add_row(
-            alloc, m, c, operation, left, right, prime, sub, second, &mut pairs,
+            alloc, m, recent, operation, left, right, prime, sub, second, &mut pairs,
         )?;
     }
     Ok(pairs)
@@ -216,7 +213,7 @@ fn multiply(
 fn add_row(
     alloc: Global,
     m: &mut Manager,
-    c: &mut Cache,
+    recent: &mut Recent,
     operation: Operation,
     left: VNode,
     right: VNode,
@@ -229,21 +226,21 @@ fn add_row(
     requires right { IsThere m.old.vtree right }
     requires one { IsPaired m.old left right (prime, sub) }
     requires list { ArePartition m.old left right list.now }
-    requires serves { Serves c.old m.old }
+    requires knows { Knows recent.old m.old }
     requires table { IsTable m.old }
     ensures ok { IfOk result (λ _. AddsRow m.old m.new operation left right (prime, sub) list.now
         pairs.old.items pairs.new.items) }
     ensures kept { Extends m.old m.new }
     ensures grown { GrowsBelowEither m.old m.new left right }
-    ensures serves { Serves c.new m.new }
+    ensures knows { Knows recent.new m.new }
     ensures rule { IfErr result (λ e. KeepsRule m.new e) }
     ensures table { IsTable m.new }
 {
     for j in 0..list.len() {
         let (other, value) = list[j];
-        let both = apply(alloc, m, c, Operation::And, left, prime, other)?;
+        let both = apply(alloc, m, recent, Operation::And, left, prime, other)?;
         if both.0 != 0 {
-            let result_sub = apply(alloc, m, c, operation, right, sub, value)?;
+            let result_sub = apply(alloc, m, recent, operation, right, sub, value)?;
             let Ok(()) = pairs.push((both, result_sub)) else {
                 return Err(TakeError::OutOfMemory);
             };
@@ -257,7 +254,7 @@ fn add_row(
 pub(crate) fn compress_at(
     alloc: Global,
     m: &mut Manager,
-    c: &mut Cache,
+    recent: &mut Recent,
     place: VNode,
     left: VNode,
     right: VNode,
@@ -265,17 +262,17 @@ pub(crate) fn compress_at(
 ) -> Result<NodeId, TakeError>
     requires children { HasChildren m.old.vtree place left right }
     requires pairs { ArePartition m.old left right pairs.now }
-    requires serves { Serves c.old m.old }
+    requires knows { Knows recent.old m.old }
     requires table { IsTable m.old }
     ensures ok { IfOk result (λ r. Joins m.old m.new left right pairs.now r) }
     ensures kept { Extends m.old m.new }
     ensures grown { GrowsBelow m.old m.new place }
-    ensures serves { Serves c.new m.new }
+    ensures knows { Knows recent.new m.new }
     ensures rule { IfErr result (λ e. KeepsRule m.new e) }
     ensures table { IsTable m.new }
 {
     let sorted = by_sub(alloc, pairs)?;
-    let merged = merge(alloc, m, c, left, right, sorted.as_slice())?;
+    let merged = merge(alloc, m, recent, left, right, sorted.as_slice())?;
     m.make(place, merged.as_slice())
 }
 
@@ -285,7 +282,7 @@ pub(crate) fn compress_at(
 fn merge(
     alloc: Global,
     m: &mut Manager,
-    c: &mut Cache,
+    recent: &mut Recent,
     left: VNode,
     right: VNode,
     sorted: &[(u32, u32)],
@@ -293,13 +290,13 @@ fn merge(
     requires left { IsThere m.old.vtree left }
     requires pairs { ArePartition m.old left right (map turned sorted.now) }
     requires ascend { Ascend (map turned sorted.now) }
-    requires serves { Serves c.old m.old }
+    requires knows { Knows recent.old m.old }
     requires table { IsTable m.old }
     ensures ok { IfOk result (λ r. Merges m.old m.new left right (map turned sorted.now) r.items) }
     ensures differ { IfOk result (λ r. AreDistinct (map (λ e. e.1) r.items)) }
     ensures kept { Extends m.old m.new }
     ensures grown { GrowsBelowEither m.old m.new left right }
-    ensures serves { Serves c.new m.new }
+    ensures knows { Knows recent.new m.new }
     ensures rule { IfErr result (λ e. KeepsRule m.new e) }
     ensures table { IsTable m.new }
 {
@@ -311,7 +308,7 @@ fn merge(
             let joined = apply(
                 alloc,
                 m,
-                c,
+                recent,
                 Operation::Or,
                 left,
                 NodeId(prime),
@@ -337,32 +334,32 @@ fn merge(
 pub(crate) fn complement(
     alloc: Global,
     m: &mut Manager,
-    c: &mut Cache,
+    recent: &mut Recent,
     at: VNode,
     a: NodeId,
 ) -> Result<NodeId, TakeError>
     requires at { IsThere m.old.vtree at }
     requires a { IsBelow m.old at a }
-    requires serves { Serves c.old m.old }
+    requires knows { Knows recent.old m.old }
     ensures ok { IfOk result (λ r. Complements m.old m.new at a r) }
     ensures kept { Extends m.old m.new }
     ensures grown { GrowsBelow m.old m.new at }
-    ensures serves { Serves c.new m.new }
+    ensures knows { Knows recent.new m.new }
     ensures rule { IfErr result (λ e. KeepsRule m.new e) }
     ensures table { IsTable m.new }
 {
-    let epoch = m.epoch();
+    let _ = m.vtree();
     if let Some(code) = opposite(a.0) {
         return Ok(NodeId(code));
     }
-    if let Some(code) = c.look(epoch, NEGATION, a.0, 0) {
+    if let Some(code) = recent.look(NEGATION, a.0, 0) {
         return Ok(NodeId(code));
     }
     let (place, left, right) = own_fork(m, at, a);
     let list = elements_of(alloc, m, a)?;
-    let pairs = flip(alloc, m, c, left, right, list.as_slice())?;
-    let code = compress_at(alloc, m, c, place, left, right, pairs.as_slice())?;
-    keep_opposites(m, c, a, code);
+    let pairs = flip(alloc, m, recent, left, right, list.as_slice())?;
+    let code = compress_at(alloc, m, recent, place, left, right, pairs.as_slice())?;
+    recent.keep(alloc, NEGATION, a.0, 0, code.0);
     Ok(code)
 }
 
@@ -371,26 +368,26 @@ pub(crate) fn complement(
 fn flip(
     alloc: Global,
     m: &mut Manager,
-    c: &mut Cache,
+    recent: &mut Recent,
     left: VNode,
     right: VNode,
     list: &[(NodeId, NodeId)],
 ) -> Result<Pairs, TakeError>
     requires right { IsThere m.old.vtree right }
     requires list { AreListed m.old left right list.now }
-    requires serves { Serves c.old m.old }
+    requires knows { Knows recent.old m.old }
     requires table { IsTable m.old }
     ensures ok { IfOk result (λ r. Flips m.old m.new left right list.now r.items) }
     ensures kept { Extends m.old m.new }
     ensures grown { GrowsBelowEither m.old m.new left right }
-    ensures serves { Serves c.new m.new }
+    ensures knows { Knows recent.new m.new }
     ensures rule { IfErr result (λ e. KeepsRule m.new e) }
     ensures table { IsTable m.new }
 {
     let mut pairs = SmallVec::new(alloc);
     for i in 0..list.len() {
         let (prime, sub) = list[i];
-        let other = complement(alloc, m, c, right, sub)?;
+        let other = complement(alloc, m, recent, right, sub)?;
         let Ok(()) = pairs.push((prime, other)) else {
             return Err(TakeError::OutOfMemory);
         };

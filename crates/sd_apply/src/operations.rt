@@ -9,7 +9,9 @@ ghost use Rattle.sd_apply.specs.Answers.{Combines, Negates, Compresses};
 ghost use Rattle.sd_apply.specs.Growing.{GrowsBelow};
 ghost use Rattle.sd_apply.specs.Serving.{Serves};
 
-use crate::calls::{apply, complement, compress_at};
+use crate::asking::{combined, negated};
+use crate::calls::compress_at;
+use crate::recent::Recent;
 use sd_cache::Cache;
 use sd_manager::{Manager, NodeId};
 use sd_model::Operation;
@@ -36,7 +38,7 @@ pub fn and(
     ensures table { IsTable m.new }
 {
     let root = m.vtree().root();
-    apply(alloc, m, c, Operation::And, root, a, b)
+    combined(alloc, m, c, Operation::And, root, a, b)
 }
 
 /// The disjunction of two nodes. ArenaFull where the elements of a node find no room in the
@@ -58,7 +60,7 @@ pub fn or(
     ensures table { IsTable m.new }
 {
     let root = m.vtree().root();
-    apply(alloc, m, c, Operation::Or, root, a, b)
+    combined(alloc, m, c, Operation::Or, root, a, b)
 }
 
 /// The exclusive or of two nodes. ArenaFull where the elements of a node find no room in the
@@ -80,7 +82,7 @@ pub fn xor(
     ensures table { IsTable m.new }
 {
     let root = m.vtree().root();
-    apply(alloc, m, c, Operation::Xor, root, a, b)
+    combined(alloc, m, c, Operation::Xor, root, a, b)
 }
 
 /// The negation of a node. It refuses as `and`.
@@ -94,7 +96,7 @@ pub fn negate(alloc: Global, m: &mut Manager, c: &mut Cache, a: NodeId) -> Resul
     ensures table { IsTable m.new }
 {
     let root = m.vtree().root();
-    complement(alloc, m, c, root, a)
+    negated(alloc, m, c, root, a)
 }
 
 /// The node of a partition of a vtree node, whose subs may be equal: the elements with equal subs
@@ -118,5 +120,14 @@ pub fn compress(
     let Some(children) = m.vtree().children(place) else {
         unreachable!()
     };
-    compress_at(alloc, m, c, place, children.0, children.1, pairs)
+    let mut recent = Recent::new(alloc);
+    compress_at(
+        alloc,
+        m,
+        &mut recent,
+        place,
+        children.0,
+        children.1,
+        pairs,
+    )
 }

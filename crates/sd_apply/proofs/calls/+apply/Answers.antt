@@ -2,7 +2,6 @@ use Rattle.std.proofs.Common.{◌≡◌, ◌∙◌, sym, ap, subst, ℕ, ◌+◌
 use Rattle.std.proofs.Common.{[], ◌∷◌, length, map, get_or, Some, None, slice_get, arith}
 use Rattle.std.proofs.lemmas.Result.{IfOk-weaker}
 use Rattle.sd_model.specs.Diagram.{Diagram}
-use Rattle.sd_cache.specs.Entries.{call}
 use Rattle.sd_vtree.specs.Numbered.{numbers}
 use Rattle.sd_manager.specs.Shown.{IsPartitionAt}
 use Rattle.sd_manager.specs.Views.{pairs_at}
@@ -29,9 +28,9 @@ use Rattle.sd_apply.proofs.KnownLaws.{xor-negation, xor-negation-second, applies
 use Rattle.sd_apply.proofs.KnownLaws.{opposite-complements, opposite-none}
 use Rattle.sd_apply.proofs.Sorting.{turned-at, length-turned}
 use Rattle.sd_apply.proofs.Standing.{shown}
-use Rattle.sd_apply.proofs.Served.{serves-on, serves-look, serves-keep, looked-applies}
-use Rattle.sd_apply.proofs.Served.{looked-complements, applies-right}
-use Rattle.sd_apply.proofs.Opposite.{opposite-applies, complements-opposite, operand-known}
+use Rattle.sd_apply.proofs.Served.{right-applies, right-complements, applies-right}
+use Rattle.sd_apply.proofs.RightEntries.{knows-on}
+use Rattle.sd_apply.proofs.Opposite.{opposite-right, complements-opposite, operand-known}
 use Rattle.sd_apply.proofs.Opposite.{negation-known}
 use Rattle.sd_apply.proofs.Expanding.{own-code, expand-own, expand-right, expand-left}
 use Rattle.sd_apply.proofs.Expanding.{right-under, left-under, expanded-partition}
@@ -68,7 +67,7 @@ add_row-apply-requires t c =
         there-on m0 m x c.args.left c.requires.left,
         (
           prime-below m0 m x c.args.left c.args.right (c.args.prime, c.args.sub) c.requires.one,
-          (prime-below m0 m x c.args.left c.args.right f one, c.loop-j.invariant.step.serves),
+          (prime-below m0 m x c.args.left c.args.right f one, c.loop-j.invariant.step.knows),
         ),
       ),
     )
@@ -95,7 +94,7 @@ add_row-apply-requires-then-both-ne0 t c =
         there-on m0 m1 x c.args.right c.requires.right,
         (
           sub-below m0 m1 x c.args.left c.args.right (c.args.prime, c.args.sub) c.requires.one,
-          (sub-below m0 m1 x c.args.left c.args.right f one, c.apply.ensures.serves),
+          (sub-below m0 m1 x c.args.left c.args.right f one, c.apply.ensures.knows),
         ),
       ),
     )
@@ -113,25 +112,25 @@ add_row-loop-j-preserved t c =
     let e : ℕ × ℕ = (c.args.prime, c.args.sub) in
     let u = c.args.left in
     let w0 = c.args.right in
-    let first : IsStep c.loop-j.m c.apply.new.m c.apply.new.c u w0 =
+    let first : IsStep c.loop-j.m c.apply.new.m c.apply.new.recent u w0 =
     record {
       kept = c.apply.ensures.kept;
-      serves = c.apply.ensures.serves;
+      knows = c.apply.ensures.knows;
       table = c.apply.ensures.table;
       grown = grows-left c.loop-j.m c.apply.new.m u w0 c.apply.ensures.grown;
     } in
     elim c.if-both-ne0.branch [
       | add_row-then-both-ne0+in_ok-result_sub+in-Ok w ↦
           let a = w.apply-then-both-ne0 in
-          let second : IsStep c.apply.new.m a.new.m a.new.c u w0 =
+          let second : IsStep c.apply.new.m a.new.m a.new.recent u w0 =
           record {
             kept = a.ensures.kept;
-            serves = a.ensures.serves;
+            knows = a.ensures.knows;
             table = a.ensures.table;
             grown = grows-right c.apply.new.m a.new.m u w0 a.ensures.grown;
           } in
-          rw (w.m-is, w.c-is, w.pairs-is)
-          (row-push m0 c.loop-j.m c.apply.new.m a.new.m c.loop-j.c c.apply.new.c a.new.c
+          rw (w.m-is, w.recent-is, w.pairs-is)
+          (row-push m0 c.loop-j.m c.apply.new.m a.new.m c.loop-j.recent c.apply.new.recent a.new.recent
           c.args.operation c.args.left
           c.args.right e l c.args.pairs.now.items c.loop-j.pairs.items j f c.in_ok-both.both
           w.in_ok-result_sub.result_sub w.push.new.self.items c.loop-j.invariant first second
@@ -140,8 +139,8 @@ add_row-loop-j-preserved t c =
           w.in_ok-result_sub.ensures.ok
           w.in-Ok.ensures.ok)
       | add_row-else-both-ne0 w ↦
-          rw (w.m-is, w.c-is, w.pairs-is)
-          (row-skip m0 c.loop-j.m c.apply.new.m c.loop-j.c c.apply.new.c c.args.operation
+          rw (w.m-is, w.recent-is, w.pairs-is)
+          (row-skip m0 c.loop-j.m c.apply.new.m c.loop-j.recent c.apply.new.recent c.args.operation
           c.args.left c.args.right e l
           c.args.pairs.now.items c.loop-j.pairs.items j f c.in_ok-both.both c.loop-j.invariant
           first c.loop-j-test.true
@@ -150,7 +149,7 @@ add_row-loop-j-preserved t c =
 
 pub add_row-returns-clause-ok : goal.add_row-returns-clause-ok
 add_row-returns-clause-ok t c =
-    row-done c.args.m.now c.loop-j.m c.loop-j.c c.args.operation c.args.left c.args.right
+    row-done c.args.m.now c.loop-j.m c.loop-j.recent c.args.operation c.args.left c.args.right
     (c.args.prime, c.args.sub)
     c.args.list.now c.args.pairs.now.items c.loop-j.pairs.items c.loop-j.j c.loop-j.invariant
     c.loop-j-test.false
@@ -219,7 +218,7 @@ apply-ask-requires-else-a-b t c =
                 la,
                 (
                   unknown-turned c.args.operation c.args.a c.args.b u la lb,
-                  c.requires.serves,
+                  c.requires.knows,
                 ),
               ),
             ),
@@ -240,19 +239,9 @@ apply-returns-else-a-b-clause-ok t c =
 
 pub ask-returns-in-Some-clause-ok : goal.ask-returns-in-Some-clause-ok
 ask-returns-in-Some-clause-ok t c =
-    looked-applies c.args.c.now c.args.m.now c.args.operation c.number-kind.result c.args.at
-    c.args.a c.args.b
-    c.epoch-epoch.result c.a.inside.0 c.b.inside.0 c.in-Some.code c.epoch-epoch.ensures.table
-    c.requires.serves
-    c.number-kind.ensures c.epoch-epoch.ensures.epoch c.a.view_is c.b.view_is
-    c.in-Some.ensures.early
-    c.in-Some.ensures.value
-
-pub ask-returns-in-Some-clause-serves : goal.ask-returns-in-Some-clause-serves
-ask-returns-in-Some-clause-serves t c =
-    serves-look c.args.c.now c.look.new.self c.args.m.now
-    (call c.epoch-epoch.result c.number-kind.result c.a.inside.0 c.b.inside.0)
-    c.look.ensures.entries c.requires.serves
+    right-applies c.args.m.now c.args.operation c.number-kind.result c.args.at c.args.a c.args.b 0
+    c.a.inside.0 c.b.inside.0 c.in-Some.code c.vtree.ensures.table c.number-kind.ensures
+    c.a.view_is c.b.view_is (c.in-Some.ensures.right c.args.m.now c.requires.knows)
 
 pub ask-split-requires : goal.ask-split-requires
 ask-split-requires t c =
@@ -270,10 +259,7 @@ ask-split-requires t c =
                 c.requires.least_b,
                 (
                   c.requires.differ,
-                  serves-look c.args.c.now c.look.new.self c.args.m.now
-                      (call c.epoch-epoch.result c.number-kind.result c.a.inside.0 c.b.inside.0)
-                      c.look.ensures.entries
-                      c.requires.serves,
+                  c.requires.knows,
                 ),
               ),
             ),
@@ -282,53 +268,30 @@ ask-split-requires t c =
       ),
     )
 
-pub ask-returns-clause-serves : goal.ask-returns-clause-serves
-ask-returns-clause-serves t c =
-    let m1 = c.split.new.m in
-    let x = c.split.ensures.kept in
-    let epoch = c.epoch-epoch.result in
-    let kind = c.number-kind.result in
-    serves-keep c.split.new.c c.keep.new.self m1 (call epoch kind c.a-2.inside.0 c.b-2.inside.0)
-    c.code.inside.0
-    c.keep.ensures.keeps (c.epoch-epoch.ensures.epoch ∙ sym x.epoch) c.split.ensures.serves
-    (applies-right c.args.m.now m1 c.args.operation kind epoch c.args.at c.args.a c.args.b
-    c.in_ok-code.code
-    c.a-2.inside.0 c.b-2.inside.0 c.code.inside.0 x c.number-kind.ensures c.a-2.view_is
-    c.b-2.view_is c.code.view_is
+pub ask-returns-clause-knows : goal.ask-returns-clause-knows
+ask-returns-clause-knows t c =
+    c.keep.ensures.right c.split.new.m c.split.ensures.knows
+    (applies-right c.args.m.now c.split.new.m c.args.operation c.number-kind.result 0 c.args.at
+    c.args.a c.args.b c.in_ok-code.code c.a-2.inside.0 c.b-2.inside.0 c.code.inside.0
+    c.split.ensures.kept c.number-kind.ensures c.a-2.view_is c.b-2.view_is c.code.view_is
     c.requires.a c.requires.b c.in_ok-code.ensures.ok)
 
 -- negation
 
 pub complement-returns-in-Some-clause-ok : goal.complement-returns-in-Some-clause-ok
 complement-returns-in-Some-clause-ok t c =
-    opposite-complements c.args.m.now c.epoch-epoch.ensures.table c.args.at c.args.a c.in-Some.code
+    opposite-complements c.args.m.now c.vtree.ensures.table c.args.at c.args.a c.in-Some.code
     (sym (c.in-Some.ensures ∙ ap opposite_of c.a.view_is))
 
 pub complement-returns-in-Some-look-clause-ok : goal.complement-returns-in-Some-look-clause-ok
 complement-returns-in-Some-look-clause-ok t c =
-    looked-complements c.args.c.now c.args.m.now c.args.at c.args.a c.epoch-epoch.result
-    c.a.inside.0
-    c.in-Some-look.code c.epoch-epoch.ensures.table c.requires.serves c.epoch-epoch.ensures.epoch
-    c.a.view_is
-    c.in-Some-look.ensures.early c.in-Some-look.ensures.value
-
-pub complement-returns-in-Some-look-clause-serves :
-    goal.complement-returns-in-Some-look-clause-serves
-complement-returns-in-Some-look-clause-serves t c =
-    serves-look c.args.c.now c.look.new.self c.args.m.now (call c.epoch-epoch.result 3
-    c.a.inside.0 0)
-    c.look.ensures.entries c.requires.serves
-
-pub complement-returns-in_err-list-clause-serves : goal.complement-returns-in_err-list-clause-serves
-complement-returns-in_err-list-clause-serves t c =
-    serves-look c.args.c.now c.look.new.self c.args.m.now (call c.epoch-epoch.result 3
-    c.a.inside.0 0)
-    c.look.ensures.entries c.requires.serves
+    right-complements c.args.m.now c.args.at c.args.a 0 c.a.inside.0 c.in-Some-look.code
+    c.vtree.ensures.table c.a.view_is (c.in-Some-look.ensures.right c.args.m.now c.requires.knows)
 
 pub complement-flip-requires : goal.complement-flip-requires
 complement-flip-requires t c =
     let m = c.args.m.now in
-    let i = c.epoch-epoch.ensures.table in
+    let i = c.vtree.ensures.table in
     let f = c.own_fork-place in
     let code = opposite-none c.args.a (sym (c.in_default.ensures ∙ ap opposite_of c.a.view_is)) in
     let x = c.requires.a in
@@ -345,9 +308,7 @@ complement-flip-requires t c =
           subst (AreListed m f.result.1 f.result.2) (sym (c.as_slice.ensures
               ∙ c.in_ok-list.ensures.ok)) list,
           (
-            serves-look c.args.c.now c.look.new.self m (call c.epoch-epoch.result 3 c.a.inside.0
-                0) c.look.ensures.entries
-                c.requires.serves,
+            c.requires.knows,
             i,
           ),
         ),
@@ -358,7 +319,7 @@ pub complement-compress_at-requires : goal.complement-compress_at-requires
 complement-compress_at-requires t c =
     let m = c.args.m.now in
     let n = c.flip.new.m in
-    let i = c.epoch-epoch.ensures.table in
+    let i = c.vtree.ensures.table in
     let f = c.own_fork-place in
     let k = c.flip.ensures.kept in
     let code = opposite-none c.args.a (sym (c.in_default.ensures ∙ ap opposite_of c.a.view_is)) in
@@ -383,7 +344,7 @@ complement-compress_at-requires t c =
         children-on m n k f.result.0 f.result.1 f.result.2 f.ensures.children,
         (
           subst (ArePartition n f.result.1 f.result.2) (sym c.as_slice-2.ensures) part,
-          (c.flip.ensures.serves, c.flip.ensures.table),
+          (c.flip.ensures.knows, c.flip.ensures.table),
         ),
       ),
     )
@@ -392,7 +353,7 @@ pub complement-returns-clause-ok : goal.complement-returns-clause-ok
 complement-returns-clause-ok t c =
     let m = c.args.m.now in
     let n = c.flip.new.m in
-    let i = c.epoch-epoch.ensures.table in
+    let i = c.vtree.ensures.table in
     let f = c.own_fork-place in
     let code = opposite-none c.args.a (sym (c.in_default.ensures ∙ ap opposite_of c.a.view_is)) in
     let F : List (ℕ × ℕ) → Type 0 = λ l. Flips m n f.result.1 f.result.2 l
@@ -406,39 +367,11 @@ complement-returns-clause-ok t c =
     (subst J c.as_slice-2.ensures c.in_ok-code.ensures.ok) in
     negated
 
-pub complement-keep_opposites-requires-clause-first :
-    goal.complement-keep_opposites-requires-clause-first
-complement-keep_opposites-requires-clause-first t c =
-    let m = c.args.m.now in
-    let n = c.compress_at.new.m in
-    let x = extends-on m c.flip.new.m n c.flip.ensures.kept c.compress_at.ensures.kept in
-    operand-known m n x c.args.at c.args.a c.requires.a
-
-pub complement-keep_opposites-requires-clause-second :
-    goal.complement-keep_opposites-requires-clause-second
-complement-keep_opposites-requires-clause-second t c =
+pub complement-returns-clause-knows : goal.complement-returns-clause-knows
+complement-returns-clause-knows t c =
     let m = c.args.m.now in
     let n = c.flip.new.m in
-    let i = c.epoch-epoch.ensures.table in
-    let f = c.own_fork-place in
-    let code = opposite-none c.args.a (sym (c.in_default.ensures ∙ ap opposite_of c.a.view_is)) in
-    let F : List (ℕ × ℕ) → Type 0 = λ l. Flips m n f.result.1 f.result.2 l
-    c.in_ok-pairs.pairs.items in
-    let J : List (ℕ × ℕ) → Type 0 = λ l. Joins n c.compress_at.new.m f.result.1 f.result.2 l
-    c.in_ok-code.code in
-    let negated = flip-complements m n c.compress_at.new.m i c.args.at f.result.0 f.result.1
-    f.result.2 c.args.a c.in_ok-code.code
-    c.in_ok-pairs.pairs.items f.ensures.children f.ensures.place code
-    (subst F (c.as_slice.ensures ∙ c.in_ok-list.ensures.ok) c.in_ok-pairs.ensures.ok)
-    (subst J c.as_slice-2.ensures c.in_ok-code.ensures.ok) in
-    negation-known m c.compress_at.new.m c.args.at c.args.a c.in_ok-code.code negated c.requires.a
-
-pub complement-keep_opposites-requires-clause-opposite :
-    goal.complement-keep_opposites-requires-clause-opposite
-complement-keep_opposites-requires-clause-opposite t c =
-    let m = c.args.m.now in
-    let n = c.flip.new.m in
-    let i = c.epoch-epoch.ensures.table in
+    let i = c.vtree.ensures.table in
     let f = c.own_fork-place in
     let code = opposite-none c.args.a (sym (c.in_default.ensures ∙ ap opposite_of c.a.view_is)) in
     let F : List (ℕ × ℕ) → Type 0 = λ l. Flips m n f.result.1 f.result.2 l
@@ -452,16 +385,17 @@ complement-keep_opposites-requires-clause-opposite t c =
     (subst J c.as_slice-2.ensures c.in_ok-code.ensures.ok) in
     let last = c.compress_at.new.m in
     let x = extends-on m n last c.flip.ensures.kept c.compress_at.ensures.kept in
-    complements-opposite m last c.compress_at.ensures.table x c.args.at c.args.a
-    c.in_ok-code.code negated c.requires.a
+    let opposite = complements-opposite m last c.compress_at.ensures.table x c.args.at c.args.a
+    c.in_ok-code.code negated c.requires.a in
+    c.keep.ensures.right last c.compress_at.ensures.knows
+    (opposite-right last 0 c.args.a c.in_ok-code.code c.a-2.inside.0 c.code.inside.0 c.a-2.view_is
+    c.code.view_is (operand-known m last x c.args.at c.args.a c.requires.a)
+    (negation-known m last c.args.at c.args.a c.in_ok-code.code negated c.requires.a) opposite)
 
 pub complement-returns-clause-kept : goal.complement-returns-clause-kept
 complement-returns-clause-kept t c =
     extends-on c.args.m.now c.flip.new.m c.compress_at.new.m c.flip.ensures.kept
     c.compress_at.ensures.kept
-
-pub complement-returns-clause-serves : goal.complement-returns-clause-serves
-complement-returns-clause-serves t c = c.keep_opposites.ensures.serves
 
 -- compression
 
@@ -484,7 +418,7 @@ compress_at-merge-requires t c =
           (
             subst (λ l. Ascend (map turned l)) (sym c.as_slice.ensures)
                 c.in_ok-sorted.ensures.ascending,
-            (c.requires.serves, c.requires.table),
+            (c.requires.knows, c.requires.table),
           ),
         ),
       ),
@@ -526,9 +460,9 @@ compress_at-returns-clause-ok t c =
     (subst (λ l. K l d) c.as_slice-2.ensures h))
     c.make.ensures.ok
 
-pub compress_at-returns-clause-serves : goal.compress_at-returns-clause-serves
-compress_at-returns-clause-serves t c =
-    serves-on c.merge.new.c c.merge.new.m c.make.new.self c.make.ensures.kept c.merge.ensures.serves
+pub compress_at-returns-clause-knows : goal.compress_at-returns-clause-knows
+compress_at-returns-clause-knows t c =
+    knows-on c.merge.new.recent c.merge.new.m c.make.new.self c.make.ensures.kept c.merge.ensures.knows
 
 -- a node as elements
 
@@ -612,7 +546,7 @@ expand-complement-requires t c =
         left-there m.vtree i.numbered c.args.place c.args.left c.args.right c.requires.children,
         (
           record { diagram = x.diagram; is = record { shows = x.is.shows; under = under } },
-          c.requires.serves,
+          c.requires.knows,
         ),
       ),
     )
@@ -653,10 +587,10 @@ expand-returns-clause-ok t c =
 pub flip-loop-i-init : goal.flip-loop-i-init
 flip-loop-i-init t c =
     let I : List (ℕ × ℕ) → Type 0 = λ l.
-    InFlip c.args.m.now c.args.m.now c.args.c.now c.args.left c.args.right c.args.list.now l 0 in
+    InFlip c.args.m.now c.args.m.now c.args.recent.now c.args.left c.args.right c.args.list.now l 0 in
     subst I (sym c.new-pairs.ensures.items)
-    (flip-none c.args.m.now c.args.c.now c.args.left c.args.right c.args.list.now c.requires.table
-    c.requires.serves)
+    (flip-none c.args.m.now c.args.recent.now c.args.left c.args.right c.args.list.now c.requires.table
+    c.requires.knows)
 
 pub flip-complement-requires : goal.flip-complement-requires
 flip-complement-requires t c =
@@ -682,7 +616,7 @@ flip-complement-requires t c =
         (
           sub-below m0 m x c.args.left c.args.right f
               (paired-at m0 c.args.left c.args.right l i f c.requires.list c.loop-i-test.true at),
-          c.loop-i.invariant.step.serves,
+          c.loop-i.invariant.step.knows,
         ),
       ),
     )
@@ -696,12 +630,12 @@ flip-loop-i-preserved t c =
       (get_or l i c.index-list-i-in-loop-i.result).1,
     ) in
     let at = pair-at l i c.index-list-i.result c.index-list-i-in-loop-i.result c.loop-i-test.true in
-    flip-next c.args.m.now c.loop-i.m c.complement.new.m c.loop-i.c c.complement.new.c c.args.left
+    flip-next c.args.m.now c.loop-i.m c.complement.new.m c.loop-i.recent c.complement.new.recent c.args.left
     c.args.right l
     c.loop-i.pairs.items c.push.new.self.items i f c.in_ok-other.other c.loop-i.invariant
     (record {
       kept = c.complement.ensures.kept;
-      serves = c.complement.ensures.serves;
+      knows = c.complement.ensures.knows;
       table = c.complement.ensures.table;
       grown = grows-right c.loop-i.m c.complement.new.m c.args.left c.args.right
           c.complement.ensures.grown;
@@ -710,7 +644,7 @@ flip-loop-i-preserved t c =
 
 pub flip-returns-clause-ok : goal.flip-returns-clause-ok
 flip-returns-clause-ok t c =
-    flip-done c.args.m.now c.loop-i.m c.loop-i.c c.args.left c.args.right c.args.list.now
+    flip-done c.args.m.now c.loop-i.m c.loop-i.recent c.args.left c.args.right c.args.list.now
     c.loop-i.pairs.items c.loop-i.i
     c.loop-i.invariant c.loop-i-test.false c.loop-i.auto.i-end
 
@@ -733,13 +667,13 @@ merge-loop-i-init t c =
     let s = c.args.sorted.now in
     let n = partition-some c.args.m.now c.args.left c.args.right (map turned s) c.requires.pairs in
     let I : List (ℕ × ℕ) → Type 0 = λ l.
-    InMerge c.args.m.now c.args.m.now c.args.c.now c.args.left c.args.right (map turned s) l
+    InMerge c.args.m.now c.args.m.now c.args.recent.now c.args.left c.args.right (map turned s) l
     (get_or s 0 (0, 0)).1
     (get_or s 0 (0, 0)).0 1 in
     subst I (sym c.new-merged.ensures.items)
-    (merge-first c.args.m.now c.args.c.now c.args.left c.args.right (map turned s)
+    (merge-first c.args.m.now c.args.recent.now c.args.left c.args.right (map turned s)
     (turned (get_or s 0 (0, 0)))
-    c.requires.table c.requires.serves n (turned-at s 0))
+    c.requires.table c.requires.knows n (turned-at s 0))
 
 pub merge-apply-requires : goal.merge-apply-requires
 merge-apply-requires t c =
@@ -756,14 +690,14 @@ merge-apply-requires t c =
       (
         there-on m0 m x c.args.left c.requires.left,
         (
-          last-below m0 m c.loop-i.c c.args.left c.args.right (map turned s) c.loop-i.merged.items
+          last-below m0 m c.loop-i.recent c.args.left c.args.right (map turned s) c.loop-i.merged.items
               c.loop-i.prime c.loop-i.sub
               i c.loop-i.invariant c.requires.pairs,
           (
             next-below m0 m x c.args.left c.args.right (map turned s) i
                 (turned (get_or s i (0, 0))) c.requires.pairs lt
                 (turned-at s i),
-            c.loop-i.invariant.step.serves,
+            c.loop-i.invariant.step.knows,
           ),
         ),
       ),
@@ -779,26 +713,26 @@ merge-loop-i-preserved t c =
     elim c.if-next_sub-sub.branch [
       | merge-then-next_sub-sub+in_ok-joined w ↦
           let a = w.apply in
-          rw (w.m-is, w.c-is, w.merged-is, w.sub-is, w.prime-is)
+          rw (w.m-is, w.recent-is, w.merged-is, w.sub-is, w.prime-is)
           (let J : ℕ → Type 0 = λ p.
-          InMerge m0 a.new.m a.new.c c.args.left c.args.right (map turned s) c.loop-i.merged.items
+          InMerge m0 a.new.m a.new.recent c.args.left c.args.right (map turned s) c.loop-i.merged.items
           p c.loop-i.sub (i + 1) in
           subst J (sym w.joined.view_is)
-          (merge-same m0 c.loop-i.m a.new.m c.loop-i.c a.new.c c.args.left c.args.right
+          (merge-same m0 c.loop-i.m a.new.m c.loop-i.recent a.new.recent c.args.left c.args.right
           (map turned s)
           c.loop-i.merged.items c.loop-i.prime c.loop-i.sub i e w.in_ok-joined.joined
           c.loop-i.invariant
           (record {
             kept = a.ensures.kept;
-            serves = a.ensures.serves;
+            knows = a.ensures.knows;
             table = a.ensures.table;
             grown = grows-left c.loop-i.m a.new.m c.args.left c.args.right a.ensures.grown;
           })
           lt (turned-at s i)
           w.if-next_sub-sub.true w.in_ok-joined.ensures.ok))
       | merge-else-next_sub-sub+in-Ok w ↦
-          rw (w.m-is, w.c-is, w.merged-is, w.sub-is, w.prime-is)
-          (merge-next m0 c.loop-i.m c.loop-i.c c.args.left c.args.right (map turned s)
+          rw (w.m-is, w.recent-is, w.merged-is, w.sub-is, w.prime-is)
+          (merge-next m0 c.loop-i.m c.loop-i.recent c.args.left c.args.right (map turned s)
           c.loop-i.merged.items
           w.push.new.self.items c.loop-i.prime c.loop-i.sub i e c.requires.ascend
           c.loop-i.invariant c.loop-i.auto.i lt
@@ -809,7 +743,7 @@ pub merge-returns-clause-ok : goal.merge-returns-clause-ok
 merge-returns-clause-ok t c =
     let s = c.args.sorted.now in
     let n = partition-some c.args.m.now c.args.left c.args.right (map turned s) c.requires.pairs in
-    merge-done c.args.m.now c.loop-i.m c.loop-i.c c.args.left c.args.right (map turned s)
+    merge-done c.args.m.now c.loop-i.m c.loop-i.recent c.args.left c.args.right (map turned s)
     c.loop-i.merged.items
     c.push-2.new.self.items c.loop-i.prime c.loop-i.sub c.loop-i.i c.loop-i.invariant
     (omega (arith, c.loop-i-test.false, length-turned s))
@@ -817,7 +751,7 @@ merge-returns-clause-ok t c =
 
 pub merge-returns-clause-differ : goal.merge-returns-clause-differ
 merge-returns-clause-differ t c =
-    merge-distinct c.args.m.now c.loop-i.m c.loop-i.c c.args.left c.args.right
+    merge-distinct c.args.m.now c.loop-i.m c.loop-i.recent c.args.left c.args.right
     (map turned c.args.sorted.now)
     c.loop-i.merged.items c.push-2.new.self.items c.loop-i.prime c.loop-i.sub c.loop-i.i
     c.loop-i.invariant
@@ -851,7 +785,7 @@ multiply-add_row-requires t c =
                 at),
             (
               partition-on m0 m x c.args.left c.args.right c.args.second.now c.requires.second,
-              (c.loop-i.invariant.step.serves, c.loop-i.invariant.step.table),
+              (c.loop-i.invariant.step.knows, c.loop-i.invariant.step.table),
             ),
           ),
         ),
@@ -868,13 +802,13 @@ multiply-loop-i-preserved t c =
     ) in
     let at = pair-at l i c.index-first-i.result c.index-first-i-in-loop-i.result
     c.loop-i-test.true in
-    product-next c.args.m.now c.loop-i.m c.add_row.new.m c.loop-i.c c.add_row.new.c
+    product-next c.args.m.now c.loop-i.m c.add_row.new.m c.loop-i.recent c.add_row.new.recent
     c.args.operation c.args.left
     c.args.right l c.args.second.now c.loop-i.pairs.items c.add_row.new.pairs.items i f
     c.loop-i.invariant
     (record {
       kept = c.add_row.ensures.kept;
-      serves = c.add_row.ensures.serves;
+      knows = c.add_row.ensures.knows;
       table = c.add_row.ensures.table;
       grown = c.add_row.ensures.grown;
     })
@@ -882,7 +816,7 @@ multiply-loop-i-preserved t c =
 
 pub multiply-returns-clause-ok : goal.multiply-returns-clause-ok
 multiply-returns-clause-ok t c =
-    product-done c.args.m.now c.loop-i.m c.loop-i.c c.args.operation c.args.left c.args.right
+    product-done c.args.m.now c.loop-i.m c.loop-i.recent c.args.operation c.args.left c.args.right
     c.args.first.now
     c.args.second.now c.loop-i.pairs.items c.loop-i.i c.loop-i.invariant c.loop-i-test.false
     c.loop-i.auto.i-end
@@ -911,20 +845,11 @@ split-expand-requires-2 t c =
           (
             below-on m n k f.result.0 c.args.b (below-at m c.args.at f.result.0 c.args.b
                 f.ensures.second c.requires.b),
-            (c.requires.least_b, c.expand.ensures.serves),
+            (c.requires.least_b, c.expand.ensures.knows),
           ),
         ),
       ),
     )
-
-pub split-returns-then-are_opposite-clause-ok : goal.split-returns-then-are_opposite-clause-ok
-split-returns-then-are_opposite-clause-ok t c =
-    let m = c.args.m.now in
-    let n = c.expand.new.m in
-    let o = c.expand-2.new.m in
-    let x = extends-on m n o c.expand.ensures.kept c.expand-2.ensures.kept in
-    opposite-applies m o x c.args.operation c.args.at c.args.a c.args.b c.at_opposites.result
-    (c.are_opposite.ensures.opposite c.if-are_opposite.true) c.at_opposites.ensures
 
 pub split-multiply-requires : goal.split-multiply-requires
 split-multiply-requires t c =
@@ -960,7 +885,7 @@ split-multiply-requires t c =
             subst (AreListed o u w) (sym c.as_slice-one.ensures) first,
             (
               subst (ArePartition o u w) (sym c.as_slice-other.ensures) second,
-              (c.are_opposite.ensures.serves, c.expand-2.ensures.table),
+              (c.expand-2.ensures.knows, c.expand-2.ensures.table),
             ),
           ),
         ),
@@ -1000,7 +925,7 @@ split-compress_at-requires t c =
         (
           subst (ArePartition q u w) (sym c.as_slice.ensures) part,
           (
-            c.multiply.ensures.serves,
+            c.multiply.ensures.knows,
             c.multiply.ensures.table,
           ),
         ),
@@ -1090,19 +1015,6 @@ split-returns-in_err-first-clause-grown t c =
 
 pub split-returns-in_err-second-clause-grown : goal.split-returns-in_err-second-clause-grown
 split-returns-in_err-second-clause-grown t c =
-    let m = c.args.m.now in
-    let n = c.expand.new.m in
-    let o = c.expand-2.new.m in
-    let f = c.fork-place in
-    grows-at m o (extends-on m n o c.expand.ensures.kept c.expand-2.ensures.kept)
-    f.ensures.table.numbered f.result.0 f.result.1 f.result.2 c.args.at f.ensures.children
-    f.ensures.under
-    (either-both m n o f.result.1 f.result.2 c.expand-2.ensures.kept c.expand.ensures.grown
-    c.expand-2.ensures.grown)
-
-pub split-returns-then-are_opposite-clause-grown :
-    goal.split-returns-then-are_opposite-clause-grown
-split-returns-then-are_opposite-clause-grown t c =
     let m = c.args.m.now in
     let n = c.expand.new.m in
     let o = c.expand-2.new.m in

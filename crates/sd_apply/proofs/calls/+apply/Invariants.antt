@@ -38,16 +38,16 @@ decreases-merge l = 8 * (width l.m.now.vtree l.left + width l.m.now.vtree l.righ
 
 abbrev pub invariant-add_row-loop-j : goal.invariant-add_row-loop-j
 invariant-add_row-loop-j l =
-    InRow l.fn.m l.m l.c l.operation l.left l.right (l.prime, l.sub) l.list l.fn.pairs.items
+    InRow l.fn.m l.m l.recent l.operation l.left l.right (l.prime, l.sub) l.list l.fn.pairs.items
     l.pairs.items l.j
 
 abbrev pub invariant-multiply-loop-i : goal.invariant-multiply-loop-i
-invariant-multiply-loop-i l = InProduct l.fn.m l.m l.c l.operation l.left l.right l.first l.second
+invariant-multiply-loop-i l = InProduct l.fn.m l.m l.recent l.operation l.left l.right l.first l.second
     l.pairs.items l.i
 
 abbrev pub invariant-merge-loop-i : goal.invariant-merge-loop-i
 invariant-merge-loop-i l =
-    InMerge l.fn.m l.m l.c l.left l.fn.right (map turned l.sorted) l.merged.items l.prime l.sub l.i
+    InMerge l.fn.m l.m l.recent l.left l.fn.right (map turned l.sorted) l.merged.items l.prime l.sub l.i
 
 abbrev pub invariant-flip-loop-i : goal.invariant-flip-loop-i
-invariant-flip-loop-i l = InFlip l.fn.m l.m l.c l.fn.left l.right l.list l.pairs.items l.i
+invariant-flip-loop-i l = InFlip l.fn.m l.m l.recent l.fn.left l.right l.list l.pairs.items l.i
