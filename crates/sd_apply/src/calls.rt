@@ -12,11 +12,12 @@ ghost use Rattle.sd_apply.specs.Known.{known_of};
 ghost use Rattle.sd_apply.specs.Growing.{GrowsBelow, GrowsBelowEither};
 ghost use Rattle.sd_apply.specs.Places.{IsBelow, IsThere, HasChildren};
 ghost use Rattle.sd_apply.specs.Elements.{IsPaired, AreListed, ArePartition, Ascend, turned};
+ghost use Rattle.sd_apply.specs.Elements.{HaveSamePrimes};
 ghost use Rattle.sd_apply.specs.Calls.{Applies, Complements, Expands, Multiplies, AddsRow};
 ghost use Rattle.sd_apply.specs.Calls.{Merges, Joins, Flips};
 
 use crate::known::{NEGATION, known, number, opposite};
-use crate::lists::{Pairs, below_left, below_right, by_sub, elements_of};
+use crate::lists::{Pairs, below_left, below_right, by_sub, elements_of, have_same_primes};
 use crate::places::{fork, own_fork, place_of};
 use crate::recent::Recent;
 use sd_manager::{Manager, NodeId};
@@ -198,12 +199,56 @@ fn multiply(
     ensures rule { IfErr result (λ e. KeepsRule m.new e) }
     ensures table { IsTable m.new }
 {
+    if have_same_primes(first, second) {
+        return pointwise(
+            alloc, m, recent, operation, left, right, first, second,
+        );
+    }
     let mut pairs = SmallVec::new(alloc);
     for i in 0..first.len() {
         let (prime, sub) = first[i];
         add_row(
             alloc, m, recent, operation, left, right, prime, sub, second, &mut pairs,
         )?;
+    }
+    Ok(pairs)
+}
+
+// The same for two lists with the same primes: each element with the one beside it.
+#[cycle(apply)]
+fn pointwise(
+    alloc: Global,
+    m: &mut Manager,
+    recent: &mut Recent,
+    operation: Operation,
+    left: VNode,
+    right: VNode,
+    first: &[(NodeId, NodeId)],
+    second: &[(NodeId, NodeId)],
+) -> Result<Pairs, TakeError>
+    requires left { IsThere m.old.vtree left }
+    requires right { IsThere m.old.vtree right }
+    requires first { AreListed m.old left right first.now }
+    requires second { ArePartition m.old left right second.now }
+    requires same { HaveSamePrimes first.now second.now }
+    requires knows { Knows recent.old m.old }
+    requires table { IsTable m.old }
+    ensures ok { IfOk result (λ r. Multiplies m.old m.new operation left right first.now
+        second.now r.items) }
+    ensures kept { Extends m.old m.new }
+    ensures grown { GrowsBelowEither m.old m.new left right }
+    ensures knows { Knows recent.new m.new }
+    ensures rule { IfErr result (λ e. KeepsRule m.new e) }
+    ensures table { IsTable m.new }
+{
+    let mut pairs = SmallVec::new(alloc);
+    for i in 0..first.len() {
+        let (prime, sub) = first[i];
+        let value = second[i].1;
+        let result_sub = apply(alloc, m, recent, operation, right, sub, value)?;
+        let Ok(()) = pairs.push((prime, result_sub)) else {
+            return Err(TakeError::OutOfMemory);
+        };
     }
     Ok(pairs)
 }
