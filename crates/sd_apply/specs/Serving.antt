@@ -17,7 +17,8 @@ abbrev pub IsVariable : Diagram → Type 0
 IsVariable (Literal p v true) = Unit {0}
 IsVariable d = ⊥
 
--- the second argument of an operation is 0 for negation, a literal for given, and a variable for forget
+-- the second argument of an operation is 0 for negation, a literal for given, and a variable for
+-- forget
 pub record IsArgument (operation b : ℕ) (second : Diagram) : Type 0 where
   pub negation : operation ≡ 3 → b ≡ 0
   pub given : operation ≡ 4 → IsLiteral second

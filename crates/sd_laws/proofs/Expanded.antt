@@ -1,11 +1,12 @@
 -- A diagram at a node, or below one of its children, as a partition of the node.
-use Rattle.std.proofs.Common.{◌≡◌, ◌≢◌, ℕ, ◌+◌, Bool, true, false, cond, not}
+use Rattle.std.proofs.Common.{◌≡◌, ◌≢◌, ℕ, ◌+◌, ◌≤◌, Bool, true, false, cond, not}
 use Rattle.std.proofs.Common.{List, [], ◌∷◌, length, Some, slice_get, refl, sym, ◌∙◌, ap, subst, arith, length-append}
 use Rattle.std.specs.List.Sorted.{IsPermutation}
-use Rattle.std.proofs.lemmas.List.Sorted.{IsPermutation-sym}
+use Rattle.std.specs.List.{list_all}
+use Rattle.std.proofs.lemmas.List.Sorted.{IsPermutation-sym, length_permutation}
 use Rattle.sd_model.specs.Tree.{Tree, Node, variables, position, right_base}
 use Rattle.sd_model.specs.Diagram.{Diagram, Bottom, Top, Decomposition, Elements, meaning}
-use Rattle.sd_model.specs.Diagram.{some_element, is_constant, subs}
+use Rattle.sd_model.specs.Diagram.{some_element, is_constant, subs, count}
 use Rattle.sd_model.specs.Canonical.{IsElement, IsCanonical, AreDifferent}
 use Rattle.sd_model.specs.Canonical.{canonical_bottom, canonical_top, canonical_in_left, canonical_in_right}
 use Rattle.sd_model.specs.Canonical.{canonical_decomposition, true_primes}
@@ -19,8 +20,9 @@ use Rattle.sd_laws.specs.Pairs.{from_pairs, pairs_of, IsSplit, IsCompressed, Has
 use Rattle.sd_laws.specs.Parts.{IsPart, IsInner, HasPosition}
 use Rattle.sd_laws.specs.Shown.{Lookup, HasPairs, Shows, ShowPairs, IsNode}
 use Rattle.sd_laws.proofs.Lists.{all-from, IsAmong, first-permuted}
-use Rattle.sd_laws.proofs.Pairs.{pairs-back, element-among, true_primes-pairs, answers-value, HasValue-permuted}
-use Rattle.sd_laws.proofs.Pairs.{IsSplit-permuted, IsCompressed-permuted}
+use Rattle.sd_laws.proofs.Joining.{trimmed-permuted}
+use Rattle.sd_laws.proofs.Pairs.{pairs-back, count-pairs, element-among, true_primes-pairs, answers-value}
+use Rattle.sd_laws.proofs.Pairs.{HasValue-permuted, IsSplit-permuted, IsCompressed-permuted}
 use Rattle.sd_laws.proofs.Codes.{pairs-shown}
 use Rattle.sd_laws.proofs.Nodes.{place-stored}
 use Rattle.sd_laws.proofs.Places.{canonical-in, position-within, leaves-positive}
@@ -86,6 +88,8 @@ pub record Stored (t : Numbered) (at : Lookup) (u : ℕ) (l : List (ℕ × ℕ))
   pub split : IsSplit left right base pairs
   pub value : HasValue pairs (meaning d)
   pub compressed : IsCompressed pairs
+  pub several : 2 ≤ length pairs
+  pub trimmed : list_all is_constant (subs (from_pairs pairs)) ≡ false
 
 -- the stored pairs of a decomposition at an inner node
 pub stored-split : (t : Numbered) (at : Lookup) → IsNumbered t → (c p : ℕ) (es : Elements) →
@@ -114,6 +118,15 @@ stored-split t at v c p es h n u l code stored left right base inner =
       value = HasValue-permuted (pairs_of es) f.0 (meaning (Decomposition p es)) f.1
           (own-value left right base p es dec);
       compressed = IsCompressed-permuted (pairs_of es) f.0 f.1 (own-compressed left right base es dec);
+      several = omega (
+        arith,
+        dec.partition.several,
+        count-pairs (pairs_of es),
+        ap count (pairs-back es),
+        length_permutation (pairs_of es) f.0 f.1,
+      );
+      trimmed = trimmed-permuted (pairs_of es) f.0 f.1
+          (subst (λ x. list_all is_constant (subs x) ≡ false) (sym (pairs-back es)) dec.partition.trimmed);
     }
 
 -- below a child

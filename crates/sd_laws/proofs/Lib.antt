@@ -13,4 +13,20 @@ pub mod Expanded
 pub mod Leaves
 pub mod Connectives
 pub mod Made
+pub mod Choosing
+pub mod Meeting
+pub mod ByValues
+pub mod Evaluated
+pub mod Orderly
+pub mod Turning
+pub mod Placing
+pub mod OneKey
+pub mod Rewriting
+pub mod Within
+pub mod Known
+pub mod Users
+pub mod SameValues
+pub mod Growing
+pub mod GoneBack
 mod Worked
+mod WorkedValues

@@ -1,81 +1,241 @@
 -- A new run is added at the end of the arena.
-use Rattle.std.proofs.Common.{◌≡◌, ℕ, ◌+◌, ◌<◌, ◌≤◌, List, [], length, reverse, get_or}
-use Rattle.std.proofs.Common.{vec_capacity, None, refl, sym, ap, subst, ◌∙◌, arith}
+use Rattle.std.proofs.Common.{◌≡◌, ℕ, suc, zero, ◌+◌, ◌<◌, ◌≤◌, List, [], ◌∷◌, ◌++◌, length, get_or, take, drop}
+use Rattle.std.proofs.Common.{None, refl, sym, ap, subst, ◌∙◌, arith}
 use Rattle.std.proofs.Math.ListN.{set}
-use Rattle.std.proofs.lemmas.List.{length-map, get_or-map, set-get_or, map-set}
-use Rattle.std.specs.FinMap.{get}
-use Rattle.sd_runs.specs.declared.slots.Slot.{Slot}
-use Rattle.sd_runs.specs.declared.slots.Kept.{Kept}
+use Rattle.std.proofs.lemmas.Bool.{cases_eq}
+use Rattle.std.proofs.lemmas.List.{length-append, length-map, get_or-set_same, get_or-set_other, set_at}
+use Rattle.std.proofs.lemmas.List.{get_or_append_left, drop_at, take_at, append-nil, append_assoc}
+use Rattle.std.proofs.lemmas.List.Sums.{sum_by-append, sum_by-cons}
+use Rattle.std.specs.List.{sum_by}
+use Rattle.std.specs.FinMap.{get, insert}
 use Rattle.sd_runs.specs.Arena.{free_of}
-use Rattle.sd_runs.specs.Padded.{IsPaddedSlots, IsPaddedKept, HasRoom}
 use Rattle.sd_runs.specs.Taking.{taken, taken_at}
-use Rattle.sd_runs.specs.Slots.{filled_map, lists_of, lengths_of, stacks_of, counts_of, rooms_of}
-use Rattle.sd_runs.specs.Stored.{Stored}
-use Rattle.sd_runs.proofs.Arenas.{arena_of, same_arena, stored_set}
+use Rattle.sd_runs.specs.Fields.{chain, list_at, lists_of, stacks_of, lengths_of, filled_map, no_run, zeros, block}
+use Rattle.sd_runs.specs.Stored.{Stored, Kept, IsChain}
+use Rattle.sd_runs.proofs.Arenas.{arena_of, same_arena}
+use Rattle.sd_runs.proofs.Chains.{chain_kept}
+use Rattle.sd_runs.proofs.Lists.{list_first, list_live, list_same, lists_length}
 use Rattle.sd_runs.proofs.Maps.{shown, filled_set, filled_same, get-filled, with_list_some}
-use Rattle.sd_runs.proofs.Steps.{no_list, stored_grow, count_fits}
+use Rattle.sd_runs.proofs.Places.{by_cases, placed}
+use Rattle.sd_runs.proofs.Steps.{free_inside, no_list, not_end, stored_grow}
+use Rattle.sd_runs.proofs.Told.{stacks_are, lists_are, kept_from}
 
--- padding is not seen
-pub arena_padded_slots : (old new : List Slot) (kept : List Kept) (extent bound : ℕ) → IsPaddedSlots old new
-    → arena_of (lists_of new) (stacks_of kept) extent bound ≡ arena_of (lists_of old) (stacks_of kept) extent bound
-arena_padded_slots old new kept extent bound p = same_arena _ _ _ _ extent extent bound
-    (filled_same (lists_of new) (lists_of old) p.lists) refl refl
+-- so many empty lists
+abbrev pub blanks : ℕ → List (List (ℕ × ℕ))
+blanks zero = []
+blanks (suc n) = [] ∷ blanks n
 
--- the same of places for lengths
-pub arena_padded_kept : (slots : List Slot) (old new : List Kept) (extent bound : ℕ) → IsPaddedKept old new
-    → arena_of (lists_of slots) (stacks_of new) extent bound ≡ arena_of (lists_of slots) (stacks_of old) extent bound
-arena_padded_kept slots old new extent bound p = same_arena _ _ _ _ extent extent bound refl
-    (filled_same (stacks_of new) (stacks_of old) p.stacks) refl
+blanks_length : (n : ℕ) → length (blanks n) ≡ n
+blanks_length zero = refl
+blanks_length (suc n) = ap suc (blanks_length n)
 
-module _ (slots : List Slot) (kept : List Kept) (used extent bound n : ℕ) (list : List (ℕ × ℕ))
-    (st : Stored (lists_of slots) (lengths_of slots) (stacks_of kept) (counts_of kept)
-    (rooms_of kept) used extent bound)
-    (size : length list ≡ n) (some : 0 < n) where
-  pub count_small : (e : Kept) → n < length kept → (get_or kept n e).live ≤ extent
-  count_small e inside = omega (arith, count_fits st n some, get_or-map (λ (x : Kept). x.live) kept n e 0 inside)
+zeros_length : (n : ℕ) → length (zeros n) ≡ n
+zeros_length zero = refl
+zeros_length (suc n) = ap suc (zeros_length n)
 
-  -- no live run starts at the end
-  pub end_free : get (arena_of (lists_of slots) (stacks_of kept) extent bound).live extent ≡ None
-  end_free = get-filled (lists_of slots) extent ∙ ap shown (no_list st)
+block_length : (n : ℕ) → length (block n) ≡ n
+block_length zero = refl
+block_length (suc n) = ap suc (zeros_length n)
 
-  module _ (slot : Slot) (k e : Kept) (slot_fits : extent + n ≤ length slots) (kept_inside : n < length kept)
-      (below : extent + n ≤ bound)
-      (room : HasRoom kept n) (with_it : slot.list.items ≡ list) (sized : slot.length ≡ n)
-      (stack : k.starts.items ≡ (get_or kept n e).starts.items) (count : k.live ≡ (get_or kept n e).live + 1)
-      (same_room : vec_capacity k.starts ≡ vec_capacity (get_or kept n e).starts) where
-    stack_same : reverse k.starts.items ≡ get_or (stacks_of kept) n []
-    stack_same = ap reverse stack ∙ sym (get_or-map (λ (x : Kept). reverse x.starts.items) kept n e [] kept_inside)
+blanks_sum : (n : ℕ) → sum_by length (blanks n) ≡ 0
+blanks_sum zero = refl
+blanks_sum (suc n) = omega (arith, sum_by-cons length [] (blanks n), blanks_sum n)
 
-    -- the fields after the run was added
-    pub stored_after : Stored (lists_of (set slots extent slot)) (lengths_of (set slots extent slot))
-        (stacks_of (set kept n k)) (counts_of (set kept n k)) (rooms_of (set kept n k)) (used + n)
-        (extent + n) bound
-    stored_after =
-        stored_set slots kept extent n slot k with_it sized stack_same
-        (count ∙ ap (λ m. m + 1) (sym (get_or-map (λ (x : Kept). x.live) kept n e 0 kept_inside)))
-        (subst (λ ls. Stored (set (lists_of slots) extent list) (set (lengths_of slots) extent n) ls
-        (set (counts_of kept) n (get_or (counts_of kept) n 0 + 1)) (set (rooms_of kept) n (vec_capacity k.starts))
-        (used + n) (extent + n) bound)
-        (sym (set-get_or (stacks_of kept) n []))
-        (stored_grow st n (vec_capacity k.starts) list size some
-        (omega (arith, slot_fits, length-map slots (λ (x : Slot). x.list.items))) below
-        (omega (arith, kept_inside, length-map kept (λ (x : Kept). x.live)))
-        (omega (arith, kept_inside, length-map kept (λ (x : Kept). vec_capacity x.starts)))
-        (omega (arith, room, same_room, get_or-map (λ (x : Kept). vec_capacity x.starts) kept n e 0 kept_inside))))
+zeros_sum : (n : ℕ) → sum_by (λ m. m) (zeros n) ≡ 0
+zeros_sum zero = refl
+zeros_sum (suc n) = omega (arith, sum_by-cons (λ m. m) 0 (zeros n), zeros_sum n)
 
-    -- the arena after the run was added
-    pub arena_after : free_of (arena_of (lists_of slots) (stacks_of kept) extent bound) n ≡ []
-        → arena_of (lists_of (set slots extent slot)) (stacks_of (set kept n k)) (extent + n) bound
-        ≡ taken (arena_of (lists_of slots) (stacks_of kept) extent bound) list
-    arena_after none =
-        same_arena _ _ _ _ (extent + n) (extent + length list) bound
-        (ap filled_map (map-set (λ (x : Slot). x.list.items) slots extent slot
-        ∙ ap (set (lists_of slots) extent) with_it)
-        ∙ filled_set (lists_of slots) extent list
-        (omega (arith, slot_fits, length-map slots (λ (x : Slot). x.list.items)))
-        ∙ with_list_some (filled_map (lists_of slots)) extent list (omega arith))
-        (ap filled_map (map-set (λ (x : Kept). reverse x.starts.items) kept n k
-        ∙ ap (set (stacks_of kept) n) stack_same ∙ set-get_or (stacks_of kept) n []))
-        (ap (λ m. extent + m) (sym size))
-        ∙ ap (λ l. taken_at l (arena_of (lists_of slots) (stacks_of kept) extent bound) list)
-        (sym (ap (free_of (arena_of (lists_of slots) (stacks_of kept) extent bound)) size ∙ none))
+-- what is read past the end stays what it was
+blank_read : (xss : List (List (ℕ × ℕ))) (n k : ℕ) → get_or (xss ++ blanks n) k [] ≡ get_or xss k []
+blank_read [] zero k = refl
+blank_read [] (suc n) zero = refl
+blank_read [] (suc n) (suc k) = blank_read [] n k
+blank_read (x ∷ xss) n zero = refl
+blank_read (x ∷ xss) n (suc k) = blank_read xss n k
+
+zero_read : (xs : List ℕ) (n k : ℕ) → get_or (xs ++ zeros n) k 0 ≡ get_or xs k 0
+zero_read [] zero k = refl
+zero_read [] (suc n) zero = refl
+zero_read [] (suc n) (suc k) = zero_read [] n k
+zero_read (x ∷ xs) n zero = refl
+zero_read (x ∷ xs) n (suc k) = zero_read xs n k
+
+-- the lengths with one more run at the end
+lengths_push : (lengths : List ℕ) (n : ℕ) → lengths_of (lengths ++ n ∷ []) ≡ lengths_of lengths ++ block n
+lengths_push [] n = append-nil (block n)
+lengths_push (m ∷ ms) n =
+    ap (λ l. block m ++ l) (lengths_push ms n) ∙ sym (append_assoc (block m) (lengths_of ms) (block n))
+
+-- a block is zeros with the length at the first place
+block_set : (xs : List ℕ) (n at : ℕ) → 0 < n → length xs ≡ at → set (xs ++ zeros n) at n ≡ xs ++ block n
+block_set xs zero at pos e = absurd (omega arith)
+block_set xs (suc n) at pos e = set_at xs 0 (zeros n) (suc n) at e
+
+-- what holds of the fields holds with empty places behind
+stored_blanks : {lists : List (List (ℕ × ℕ))} {lengths : List ℕ} {stacks : List (List ℕ)}
+    {used extent bound : ℕ} (n : ℕ)
+    → Stored lists lengths stacks used extent bound
+    → Stored (lists ++ blanks n) (lengths ++ zeros n) stacks used extent bound
+stored_blanks {lists} {lengths} {stacks} {used} {extent} {bound} n st =
+    record {
+      same_length = omega (
+        arith,
+        st.same_length,
+        length-append lists (blanks n),
+        length-append lengths (zeros n),
+        blanks_length n,
+        zeros_length n,
+      );
+      held = λ s. subst (λ l. 0 < length l → length l ≡ get_or (lengths ++ zeros n) s 0) (sym (blank_read lists n s))
+          (subst (λ m. 0 < length (get_or lists s []) → length (get_or lists s []) ≡ m)
+          (sym (zero_read lengths n s)) (st.held s));
+      within = λ s. subst (λ m. 0 < m → s + m ≤ extent) (sym (zero_read lengths n s)) (st.within s);
+      apart = λ s t. subst (λ m. 0 < m → 0 < get_or (lengths ++ zeros n) t 0 → s < t → s + m ≤ t)
+          (sym (zero_read lengths n s))
+          (subst (λ m. 0 < get_or lengths s 0 → 0 < m → s < t → s + get_or lengths s 0 ≤ t)
+          (sym (zero_read lengths n t)) (st.apart s t));
+      sized = λ m s h. zero_read lengths n s ∙ st.sized m s h;
+      some = st.some;
+      free = λ m s h. blank_read lists n s ∙ st.free m s h;
+      once = st.once;
+      uses = omega (arith, st.uses, sum_by-append length lists (blanks n), blanks_sum n);
+      fills = omega (arith, st.fills, sum_by-append (λ m. m) lengths (zeros n), zeros_sum n);
+      whole = st.whole;
+      covered = omega (arith, st.covered, length-append lists (blanks n));
+      bounded = st.bounded;
+      bound_fits = st.bound_fits;
+    }
+
+-- no live run starts at the end
+pub end_free : (elements : List (ℕ × ℕ)) (lengths heads : List ℕ) (used bound : ℕ)
+    → Kept elements lengths heads used bound
+    → get (arena_of (lists_of elements lengths heads) (stacks_of elements heads)
+    (length elements) bound).live (length elements) ≡ None
+end_free elements lengths heads used bound k =
+    get-filled (lists_of elements lengths heads) (length elements) ∙ ap shown (no_list k.stored)
+
+module _ (elements : List (ℕ × ℕ)) (lengths heads : List ℕ) (used bound n : ℕ) (list : List (ℕ × ℕ))
+    (k : Kept elements lengths heads used bound) (size : length list ≡ n) (some : 0 < n)
+    (fits : length elements + n ≤ bound) (place : n < length heads) where
+  abbrev new : List (ℕ × ℕ)
+  new = elements ++ list
+
+  abbrev lists : List (List (ℕ × ℕ))
+  lists = set (lists_of elements lengths heads ++ blanks n) (length elements) list
+
+  lists_size : length (lists_of elements lengths heads) ≡ length elements
+  lists_size = lists_length 0 elements (stacks_of elements heads) (lengths_of lengths) ∙ k.filled
+
+  new_size : length new ≡ length elements + n
+  new_size = omega (arith, length-append elements list, size)
+
+  list_inside : length elements < length (lists_of elements lengths heads ++ blanks n)
+  list_inside =
+      omega (arith, length-append (lists_of elements lengths heads) (blanks n), blanks_length n, lists_size, some)
+
+  sizes : set (lengths_of lengths ++ zeros n) (length elements) n ≡ lengths_of (lengths ++ n ∷ [])
+  sizes = block_set (lengths_of lengths) n (length elements) some k.filled ∙ sym (lengths_push lengths n)
+
+  size_inside : length elements < length (lengths_of lengths ++ zeros n)
+  size_inside = omega (arith, length-append (lengths_of lengths) (zeros n), zeros_length n, k.filled, some)
+
+  size_here : get_or (lengths_of (lengths ++ n ∷ [])) (length elements) 0 ≡ n
+  size_here =
+      ap (λ l. get_or l (length elements) 0) (sym sizes)
+      ∙ get_or-set_same (lengths_of lengths ++ zeros n) (length elements) n 0 size_inside
+
+  size_there : (t : ℕ) → ¬ (t ≡ length elements)
+      → get_or (lengths_of (lengths ++ n ∷ [])) t 0 ≡ get_or (lengths_of lengths) t 0
+  size_there t ne =
+      ap (λ l. get_or l t 0) (sym sizes)
+      ∙ get_or-set_other (lengths_of lengths ++ zeros n) (length elements) t n 0 ne ∙ zero_read (lengths_of lengths) n t
+
+  stored : Stored lists (lengths_of (lengths ++ n ∷ [])) (stacks_of elements heads) (used + n) (length new) bound
+  stored =
+      subst (λ e. Stored lists (lengths_of (lengths ++ n ∷ [])) (stacks_of elements heads) (used + n) e bound)
+      (sym new_size)
+      (subst (λ l. Stored lists l (stacks_of elements heads) (used + n) (length elements + n) bound) sizes
+      (stored_grow (stored_blanks n k.stored) n list size some
+      (omega (arith, length-append (lists_of elements lengths heads) (blanks n), blanks_length n, lists_size)) fits))
+
+  same : (x : ℕ) → x < length elements → get_or new x (0, 0) ≡ get_or elements x (0, 0)
+  same x less = get_or_append_left elements list (0, 0) x less
+
+  chained : (m : ℕ) → IsChain new (get_or heads m no_run) (get_or (stacks_of elements heads) m [])
+  chained m =
+      chain_kept elements new (get_or heads m no_run) (get_or (stacks_of elements heads) m [])
+      (λ x h. same x (omega (arith, free_inside k.stored m x h, k.stored.some m x h)))
+      (k.chained m)
+
+  -- the elements of a part that stands in the old ones
+  old_part : (t m : ℕ) → t + m ≤ length elements → take m (drop t new) ≡ take m (drop t elements)
+  old_part t zero inside = refl
+  old_part t (suc m) inside = part_grown elements list t (suc m) inside
+    where
+      part_grown : (xs ys : List (ℕ × ℕ)) (t m : ℕ) → t + m ≤ length xs
+          → take m (drop t (xs ++ ys)) ≡ take m (drop t xs)
+      part_grown xs ys t zero h = refl
+      part_grown [] ys t (suc m) h = absurd (omega arith)
+      part_grown (x ∷ xs) ys zero (suc m) h = ap (λ l. x ∷ l) (part_grown xs ys 0 m (omega arith))
+      part_grown (x ∷ xs) ys (suc t) (suc m) h = part_grown xs ys t (suc m) (omega arith)
+
+  listed : (t : ℕ) → get_or lists t []
+      ≡ list_at new (stacks_of elements heads) t (get_or (lengths_of (lengths ++ n ∷ [])) t 0)
+  listed t =
+      placed (lists_of elements lengths heads ++ blanks n) (length elements) list [] t
+      (λ l. l ≡ list_at new (stacks_of elements heads) t (get_or (lengths_of (lengths ++ n ∷ [])) t 0)) list_inside
+      (λ e. subst (λ j. list ≡ list_at new (stacks_of elements heads) j (get_or (lengths_of (lengths ++ n ∷ [])) j 0))
+      (sym e)
+      (sym (ap (list_at new (stacks_of elements heads) (length elements)) size_here
+      ∙ list_live new (stacks_of elements heads) (length elements) n
+      (λ h. not_end k.stored n (length elements) h refl)
+      ∙ ap (take n) (drop_at elements list (length elements) refl)
+      ∙ ap (take n) (sym (append-nil list)) ∙ take_at list [] n size)))
+      (λ ne. blank_read (lists_of elements lengths heads) n t
+      ∙ list_first elements (stacks_of elements heads) (lengths_of lengths) t
+      ∙ sym (ap (list_at new (stacks_of elements heads) t) (size_there t ne)
+      ∙ list_same elements new (stacks_of elements heads) (stacks_of elements heads) t
+      (get_or (lengths_of lengths) t 0) refl
+      (λ pos. old_part t (get_or (lengths_of lengths) t 0) (k.stored.within t pos))))
+
+  places : length (stacks_of elements heads) ≡ length heads
+  places = length-map heads (λ head. chain (length elements) elements head)
+
+  filled : length (lengths_of (lengths ++ n ∷ [])) ≡ length new
+  filled = ap length (lengths_push lengths n)
+      ∙ omega (arith, length-append (lengths_of lengths) (block n), block_length n, new_size, k.filled)
+
+  placed_still : (t : ℕ) → 0 < get_or (lengths_of (lengths ++ n ∷ [])) t 0
+      → get_or (lengths_of (lengths ++ n ∷ [])) t 0 < length heads
+  placed_still t h =
+      by_cases
+      (λ e. let here : get_or (lengths_of (lengths ++ n ∷ [])) t 0 ≡ n =
+      ap (λ j. get_or (lengths_of (lengths ++ n ∷ [])) j 0) e ∙ size_here in
+      omega (arith, here, place))
+      (λ ne. omega (arith, size_there t ne, k.placed t (omega (arith, size_there t ne, h))))
+      (cases_eq t (length elements))
+
+  -- the fields after the run was added
+  pub kept_after : Kept (elements ++ list) (lengths ++ n ∷ []) heads (used + n) bound
+  kept_after = kept_from new (lengths ++ n ∷ []) heads stored places chained listed filled placed_still
+
+  -- the arena after the run was added
+  pub arena_after : free_of (arena_of (lists_of elements lengths heads) (stacks_of elements heads)
+      (length elements) bound) n ≡ []
+      → arena_of (lists_of (elements ++ list) (lengths ++ n ∷ []) heads) (stacks_of (elements ++ list) heads)
+      (length (elements ++ list)) bound
+      ≡ taken (arena_of (lists_of elements lengths heads) (stacks_of elements heads) (length elements) bound) list
+  arena_after none =
+      same_arena _ _ _ _ (length new) (length elements + length list) bound
+      (ap filled_map (lists_are new (lengths ++ n ∷ []) heads stored places chained listed filled placed_still)
+      ∙ filled_set (lists_of elements lengths heads ++ blanks n) (length elements) list list_inside
+      ∙ with_list_some (filled_map (lists_of elements lengths heads ++ blanks n)) (length elements) list
+      (omega (arith, size, some))
+      ∙ ap (λ m. insert m (length elements) list)
+      (filled_same _ _ (blank_read (lists_of elements lengths heads) n)))
+      (ap filled_map (stacks_are new (lengths ++ n ∷ []) heads stored places chained listed filled placed_still))
+      (length-append elements list)
+      ∙ ap (λ l. taken_at l (arena_of (lists_of elements lengths heads) (stacks_of elements heads)
+      (length elements) bound) list)
+      (sym (ap (free_of (arena_of (lists_of elements lengths heads) (stacks_of elements heads)
+      (length elements) bound)) size ∙ none))

@@ -1,89 +1,194 @@
 -- A free run becomes live again.
-use Rattle.std.proofs.Common.{◌≡◌, ℕ, ◌+◌, ◌<◌, ◌≤◌, List, [], ◌∷◌, length, reverse, get_or}
-use Rattle.std.proofs.Common.{vec_capacity, None, refl, sym, ap, subst, ◌∙◌, arith, inl}
+use Rattle.std.proofs.Common.{◌≡◌, ◌⊎◌, ℕ, ◌+◌, ◌<◌, ◌≤◌, List, [], ◌∷◌, length, get_or, take, drop, cond, true}
+use Rattle.std.proofs.Common.{None, refl, sym, ap, subst, ◌∙◌, arith, inl, inr}
 use Rattle.std.proofs.Math.ListN.{set}
-use Rattle.std.proofs.lemmas.List.{length-map, get_or-map, set-get_or, map-set}
+use Rattle.std.proofs.lemmas.List.{length-map, length-set, get_or-set_same, get_or-set_other, get_or_default}
 use Rattle.std.specs.FinMap.{get}
-use Rattle.sd_runs.specs.declared.slots.Slot.{Slot}
-use Rattle.sd_runs.specs.declared.slots.Kept.{Kept}
-use Rattle.sd_runs.specs.Arena.{Has, free_of, with_list}
+use Rattle.sd_runs.specs.Arena.{Has, IsOnce, free_of, with_list}
 use Rattle.sd_runs.specs.Taking.{taken, taken_at}
-use Rattle.sd_runs.specs.Slots.{filled_map, lists_of, lengths_of, stacks_of, counts_of, rooms_of}
-use Rattle.sd_runs.specs.Stored.{Stored}
-use Rattle.sd_runs.proofs.Arenas.{arena_of, same_arena, free_at, stored_set}
+use Rattle.sd_runs.specs.Fields.{chain, has, list_at, lists_of, stacks_of, lengths_of, filled_map, no_run}
+use Rattle.sd_runs.specs.Stored.{Stored, Kept, IsChain}
+use Rattle.sd_runs.proofs.Arenas.{arena_of, same_arena, free_at}
+use Rattle.sd_runs.proofs.Chains.{chain_kept}
+use Rattle.sd_runs.proofs.Lists.{list_first, list_live}
 use Rattle.sd_runs.proofs.Maps.{shown, filled_set, get-filled, with_list_some}
-use Rattle.sd_runs.proofs.Places.{list_inside}
-use Rattle.sd_runs.proofs.Steps.{free_inside, stored_reuse, count_fits}
+use Rattle.sd_runs.proofs.Places.{by_cases, placed, not_equal}
+use Rattle.sd_runs.proofs.Steps.{free_inside, stored_reuse}
+use Rattle.sd_runs.proofs.Told.{outside, list_other, stacks_are, lists_are, kept_from}
+use Rattle.sd_runs.proofs.Written.{put, put_length, put_other, put_part}
 
-module _ (slots : List Slot) (kept : List Kept) (used extent bound s n : ℕ) (rest : List ℕ) (list : List (ℕ × ℕ))
-    (st : Stored (lists_of slots) (lengths_of slots) (stacks_of kept) (counts_of kept)
-    (rooms_of kept) used extent bound)
-    (free : free_of (arena_of (lists_of slots) (stacks_of kept) extent bound) n ≡ s ∷ rest)
-    (size : length list ≡ n) (some : 0 < n) where
+module _ (elements : List (ℕ × ℕ)) (lengths heads : List ℕ) (used bound s n : ℕ) (rest : List ℕ)
+    (k : Kept elements lengths heads used bound)
+    (free : free_of (arena_of (lists_of elements lengths heads) (stacks_of elements heads)
+    (length elements) bound) n ≡ s ∷ rest) where
   -- the start is the first of the free ones of its length
-  on_stack : get_or (stacks_of kept) n [] ≡ s ∷ rest
-  on_stack = sym (free_at (lists_of slots) (stacks_of kept) extent bound n) ∙ free
+  on_stack : get_or (stacks_of elements heads) n [] ≡ s ∷ rest
+  on_stack =
+      sym (free_at (lists_of elements lengths heads) (stacks_of elements heads) (length elements) bound n) ∙ free
 
-  first : Has s (get_or (stacks_of kept) n [])
+  first : Has s (get_or (stacks_of elements heads) n [])
   first = subst (Has s) (sym on_stack) (inl refl)
 
-  pub slot_inside : s < length slots
-  slot_inside = omega (arith, free_inside st n s first, st.slots, length-map slots (λ (x : Slot). x.list.items))
+  run : get_or (lengths_of lengths) s 0 ≡ n
+  run = k.stored.sized n s first
 
-  stack_inside : n < length (stacks_of kept)
-  stack_inside = list_inside (stacks_of kept) n (omega (arith, ap length on_stack))
+  pub some : 0 < n
+  some = k.stored.some n s first
 
-  pub kept_inside : n < length kept
-  kept_inside = omega (arith, stack_inside, length-map kept (λ (x : Kept). reverse x.starts.items))
+  -- it lies within the elements
+  pub inside : s + n ≤ length elements
+  inside = free_inside k.stored n s first
 
-  pub count_small : (e : Kept) → (get_or kept n e).live ≤ extent
-  count_small e = omega (arith, count_fits st n some, get_or-map (λ (x : Kept). x.live) kept n e 0 kept_inside)
+  -- its length has a place
+  pub place : n < length heads
+  place = omega (arith, run, k.placed s (omega (arith, run, some)))
 
   -- the start is not that of a live run
-  pub not_live : get (arena_of (lists_of slots) (stacks_of kept) extent bound).live s ≡ None
-  not_live = get-filled (lists_of slots) s ∙ ap shown (st.free n s first)
+  pub not_live : get (arena_of (lists_of elements lengths heads) (stacks_of elements heads)
+      (length elements) bound).live s ≡ None
+  not_live = get-filled (lists_of elements lengths heads) s ∙ ap shown (k.stored.free n s first)
 
-  -- it is the last of the starts that are stored
-  pub starts_are : (e : Kept) → reverse (get_or kept n e).starts.items ≡ s ∷ rest
-  starts_are e = sym (get_or-map (λ (x : Kept). reverse x.starts.items) kept n e [] kept_inside) ∙ on_stack
+  list_inside : s < length (lists_of elements lengths heads)
+  list_inside = omega (arith, inside, some, k.stored.covered)
 
-  -- the run is no longer than the arena
-  pub size_fits : n ≤ extent
-  size_fits = omega (arith, free_inside st n s first)
+  stack_inside : n < length (stacks_of elements heads)
+  stack_inside = omega (arith, place, length-map heads (λ head. chain (length elements) elements head))
 
-  module _ (slot d : Slot) (k e : Kept) (with_it : slot.list.items ≡ list)
-      (same_size : slot.length ≡ (get_or slots s d).length)
-      (stack : reverse k.starts.items ≡ rest) (count : k.live ≡ (get_or kept n e).live + 1)
-      (more : vec_capacity (get_or kept n e).starts ≤ vec_capacity k.starts) where
+  alone : IsOnce (s ∷ rest)
+  alone = subst IsOnce on_stack (k.stored.once n)
+
+  chain_here : IsChain elements (get_or heads n no_run) (s ∷ rest)
+  chain_here = subst (IsChain elements (get_or heads n no_run)) on_stack (k.chained n)
+
+  module _ (new : List (ℕ × ℕ)) (list : List (ℕ × ℕ)) (size : length list ≡ n)
+      (same_size : length new ≡ length elements)
+      (same : (x : ℕ) → (x < s) ⊎ (s + n ≤ x) → get_or new x (0, 0) ≡ get_or elements x (0, 0))
+      (with_it : take n (drop s new) ≡ list) where
+    abbrev next : ℕ
+    next = (get_or elements s (0, 0)).0
+
+    abbrev starts : List (List ℕ)
+    starts = set (stacks_of elements heads) n rest
+
+    abbrev lists : List (List (ℕ × ℕ))
+    lists = set (lists_of elements lengths heads) s list
+
+    stored : Stored lists (lengths_of lengths) starts (used + n) (length new) bound
+    stored =
+        subst (λ e. Stored lists (lengths_of lengths) starts (used + n) e bound) (sym same_size)
+        (stored_reuse k.stored n s rest list on_stack size some stack_inside)
+
+    -- the first elements of the other free runs stay
+    other : (m x : ℕ) → Has x (get_or (stacks_of elements heads) m []) → ¬ (x ≡ s)
+        → get_or new x (0, 0) ≡ get_or elements x (0, 0)
+    other m x h ne =
+        let there : get_or (lengths_of lengths) x 0 ≡ m = k.stored.sized m x h in
+        let pos : 0 < m = k.stored.some m x h in
+        same x (by_cases inl (λ more. inr (omega (arith, more, run)))
+        (outside k.stored s x x ne (omega (arith, run, some)) (omega (arith, there, pos)) (omega arith)
+        (omega (arith, there, pos))))
+
+    chained : (m : ℕ) → IsChain new (get_or (set heads n next) m no_run) (get_or starts m [])
+    chained m =
+        placed (stacks_of elements heads) n rest [] m
+        (IsChain new (get_or (set heads n next) m no_run)) stack_inside
+        (λ e. subst (λ at. IsChain new at rest)
+        (sym (ap (λ j. get_or (set heads n next) j no_run) e ∙ get_or-set_same heads n next no_run place))
+        (chain_kept elements new next rest
+        (λ x h. other n x (subst (Has x) (sym on_stack) (inr h))
+        (λ same_start. alone.0 (subst (λ j. Has j rest) same_start h)))
+        chain_here.1))
+        (λ ne. subst (λ at. IsChain new at (get_or (stacks_of elements heads) m []))
+        (sym (get_or-set_other heads n m next no_run ne))
+        (chain_kept elements new (get_or heads m no_run) (get_or (stacks_of elements heads) m [])
+        (λ x h. other m x h (λ e. ne (sym (k.stored.sized m x h) ∙ ap (λ j. get_or (lengths_of lengths) j 0) e ∙ run)))
+        (k.chained m)))
+
+    free_there : (t m : ℕ) → ¬ (t ≡ s) → has t (get_or starts m []) ≡ has t (get_or (stacks_of elements heads) m [])
+    free_there t m ne =
+        placed (stacks_of elements heads) n rest [] m
+        (λ l. has t l ≡ has t (get_or (stacks_of elements heads) m [])) stack_inside
+        (λ e. sym (ap (λ j. has t (get_or (stacks_of elements heads) j [])) e ∙ ap (has t) on_stack
+        ∙ ap (λ b. cond b true (has t rest)) (not_equal t s ne)))
+        (λ _. refl)
+
+    listed : (t : ℕ) → get_or lists t [] ≡ list_at new starts t (get_or (lengths_of lengths) t 0)
+    listed t =
+        placed (lists_of elements lengths heads) s list [] t
+        (λ l. l ≡ list_at new starts t (get_or (lengths_of lengths) t 0)) list_inside
+        (λ e. subst (λ j. list ≡ list_at new starts j (get_or (lengths_of lengths) j 0)) (sym e)
+        (sym (ap (list_at new starts s) run
+        ∙ list_live new starts s n (λ h. alone.0 (subst (Has s)
+        (get_or-set_same (stacks_of elements heads) n rest [] stack_inside) h))
+        ∙ with_it)))
+        (λ ne. list_first elements (stacks_of elements heads) (lengths_of lengths) t
+        ∙ sym (list_other k.stored elements new starts s t ne (omega (arith, run, some)) same_size
+        (λ x away. same x (by_cases inl (λ more. inr (omega (arith, more, run))) away))
+        (free_there t (get_or (lengths_of lengths) t 0) ne)))
+
+    places : length starts ≡ length (set heads n next)
+    places =
+        length-set (stacks_of elements heads) n rest
+        ∙ length-map heads (λ head. chain (length elements) elements head) ∙ sym (length-set heads n next)
+
+    placed_still : (t : ℕ) → 0 < get_or (lengths_of lengths) t 0
+        → get_or (lengths_of lengths) t 0 < length (set heads n next)
+    placed_still t h = omega (arith, k.placed t h, length-set heads n next)
+
     -- the fields after the run was used again
-    pub stored_after : Stored (lists_of (set slots s slot)) (lengths_of (set slots s slot))
-        (stacks_of (set kept n k)) (counts_of (set kept n k)) (rooms_of (set kept n k)) (used + n) extent bound
-    stored_after =
-        stored_set slots kept s n slot k with_it
-        (same_size ∙ sym (get_or-map (λ (x : Slot). x.length) slots s d 0 slot_inside))
-        stack
-        (count ∙ ap (λ m. m + 1) (sym (get_or-map (λ (x : Kept). x.live) kept n e 0 kept_inside)))
-        (subst (λ ls. Stored (set (lists_of slots) s list) ls (set (stacks_of kept) n rest)
-        (set (counts_of kept) n (get_or (counts_of kept) n 0 + 1)) (set (rooms_of kept) n (vec_capacity k.starts))
-        (used + n) extent bound)
-        (sym (set-get_or (lengths_of slots) s 0))
-        (stored_reuse st n s (vec_capacity k.starts) rest list on_stack size some stack_inside
-        (omega (arith, kept_inside, length-map kept (λ (x : Kept). x.live)))
-        (omega (arith, kept_inside, length-map kept (λ (x : Kept). vec_capacity x.starts)))
-        (omega (arith, more, get_or-map (λ (x : Kept). vec_capacity x.starts) kept n e 0 kept_inside))))
+    pub kept_after : Kept new lengths (set heads n (get_or elements s (0, 0)).0) (used + n) bound
+    kept_after = kept_from new lengths (set heads n next) stored places chained listed
+        (k.filled ∙ sym same_size) placed_still
 
     -- the arena after the run was used again
-    pub arena_after : arena_of (lists_of (set slots s slot)) (stacks_of (set kept n k)) extent bound
-        ≡ taken (arena_of (lists_of slots) (stacks_of kept) extent bound) list
+    pub arena_after : arena_of (lists_of new lengths (set heads n (get_or elements s (0, 0)).0))
+        (stacks_of new (set heads n (get_or elements s (0, 0)).0)) (length new) bound
+        ≡ taken (arena_of (lists_of elements lengths heads) (stacks_of elements heads) (length elements) bound) list
     arena_after =
-        same_arena _ _ _ _ extent extent bound
-        (ap filled_map (map-set (λ (x : Slot). x.list.items) slots s slot ∙ ap (set (lists_of slots) s) with_it)
-        ∙ filled_set (lists_of slots) s list (omega
-        (arith, slot_inside, length-map slots (λ (x : Slot). x.list.items)))
-        ∙ with_list_some (filled_map (lists_of slots)) s list (omega arith))
-        (ap filled_map (map-set (λ (x : Kept). reverse x.starts.items) kept n k ∙ ap (set (stacks_of kept) n) stack)
-        ∙ filled_set (stacks_of kept) n rest stack_inside
-        ∙ ap (λ m. with_list (filled_map (stacks_of kept)) m rest) (sym size))
-        refl
-        ∙ ap (λ l. taken_at l (arena_of (lists_of slots) (stacks_of kept) extent bound) list)
-        (sym (ap (free_of (arena_of (lists_of slots) (stacks_of kept) extent bound)) size ∙ free))
+        same_arena _ _ _ _ (length new) (length elements) bound
+        (ap filled_map (lists_are new lengths (set heads n next) stored places chained listed
+        (k.filled ∙ sym same_size) placed_still)
+        ∙ filled_set (lists_of elements lengths heads) s list list_inside
+        ∙ with_list_some (filled_map (lists_of elements lengths heads)) s list (omega (arith, size, some)))
+        (ap filled_map (stacks_are new lengths (set heads n next) stored places chained listed
+        (k.filled ∙ sym same_size) placed_still)
+        ∙ filled_set (stacks_of elements heads) n rest stack_inside
+        ∙ ap (λ m. with_list (filled_map (stacks_of elements heads)) m rest) (sym size))
+        same_size
+        ∙ ap (λ l. taken_at l (arena_of (lists_of elements lengths heads) (stacks_of elements heads)
+        (length elements) bound) list)
+        (sym (ap (free_of (arena_of (lists_of elements lengths heads) (stacks_of elements heads)
+        (length elements) bound)) size ∙ free))
+
+  module _ (new : List (ℕ × ℕ)) (list : List (ℕ × ℕ)) (e : ℕ × ℕ) (size : length list ≡ n)
+      (reads : e ≡ get_or elements s e) (is : new ≡ put s elements list) where
+    fits : s + length list ≤ length elements
+    fits = omega (arith, inside, size)
+
+    other_stays : (x : ℕ) → (x < s) ⊎ (s + n ≤ x) → get_or (put s elements list) x (0, 0) ≡ get_or elements x (0, 0)
+    other_stays x away =
+        put_other s elements list x (0, 0) fits
+        (by_cases inl (λ more. inr (omega (arith, more, size))) away)
+
+    next_is : e.0 ≡ (get_or elements s (0, 0)).0
+    next_is = ap (λ (p : ℕ × ℕ). p.0) (reads ∙ get_or_default elements s e (0, 0) (omega (arith, inside, some)))
+
+    -- the fields after the list was written over the free run
+    pub kept_written : Kept new lengths (set heads n e.0) (used + n) bound
+    kept_written =
+        subst (λ j. Kept new lengths (set heads n j) (used + n) bound) (sym next_is)
+        (subst (λ l. Kept l lengths (set heads n (get_or elements s (0, 0)).0) (used + n) bound) (sym is)
+        (kept_after (put s elements list) list size (put_length s elements list fits) other_stays
+        (put_part s n elements list fits size)))
+
+    -- the arena after the list was written over the free run
+    pub arena_written : arena_of (lists_of new lengths (set heads n e.0)) (stacks_of new (set heads n e.0))
+        (length new) bound
+        ≡ taken (arena_of (lists_of elements lengths heads) (stacks_of elements heads) (length elements) bound) list
+    arena_written =
+        ap (λ j. arena_of (lists_of new lengths (set heads n j)) (stacks_of new (set heads n j)) (length new) bound)
+        next_is
+        ∙ ap (λ l. arena_of (lists_of l lengths (set heads n (get_or elements s (0, 0)).0))
+        (stacks_of l (set heads n (get_or elements s (0, 0)).0)) (length l) bound) is
+        ∙ arena_after (put s elements list) list size (put_length s elements list fits) other_stays
+        (put_part s n elements list fits size)

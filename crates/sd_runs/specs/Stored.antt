@@ -1,13 +1,12 @@
 -- What holds of the fields of the runs.
-use Rattle.std.specs.Prelude.{◌≡◌, ℕ, ◌+◌, ◌<◌, ◌≤◌, ◌^◌, List, [], length, get_or}
+use Rattle.std.specs.Prelude.{◌≡◌, ℕ, ◌+◌, ◌<◌, ◌≤◌, ◌^◌, List, [], ◌∷◌, length, get_or}
 use Rattle.std.specs.List.{sum_by}
 use Rattle.sd_runs.specs.Arena.{Has, IsOnce}
-use Rattle.sd_runs.specs.Slots.{counted, free_sum}
+use Rattle.sd_runs.specs.Fields.{free_sum, lengths_of, no_run, stacks_of, lists_of}
 
--- The lists of the live runs and the lengths of all runs stand at their starts; the starts of the free runs,
--- the number of live runs and the room for starts stand at their lengths. There is room for the starts of all live
--- runs too, so that giving one back takes no memory.
-pub record Stored (lists : List (List (ℕ × ℕ))) (lengths : List ℕ) (stacks : List (List ℕ)) (counts rooms : List ℕ)
+-- The lists of the live runs and the lengths of all runs stand at their starts; the starts of the free runs stand at
+-- their lengths.
+pub record Stored (lists : List (List (ℕ × ℕ))) (lengths : List ℕ) (stacks : List (List ℕ))
     (used extent bound : ℕ) : Type 0 where
   pub same_length : length lists ≡ length lengths
   pub held : (s : ℕ) → 0 < length (get_or lists s []) → length (get_or lists s []) ≡ get_or lengths s 0
@@ -17,11 +16,24 @@ pub record Stored (lists : List (List (ℕ × ℕ))) (lengths : List ℕ) (stack
   pub some : (n s : ℕ) → Has s (get_or stacks n []) → 0 < n
   pub free : (n s : ℕ) → Has s (get_or stacks n []) → get_or lists s [] ≡ []
   pub once : (n : ℕ) → IsOnce (get_or stacks n [])
-  pub counts_live : (n : ℕ) → 0 < n → get_or counts n 0 ≡ sum_by (counted n) lists
-  pub room : (n : ℕ) → get_or counts n 0 + length (get_or stacks n []) ≤ get_or rooms n 0
   pub uses : used ≡ sum_by length lists
   pub fills : sum_by (λ n. n) lengths ≡ extent
   pub whole : used + free_sum 0 stacks ≡ extent
-  pub slots : extent ≤ length lists
+  pub covered : extent ≤ length lists
   pub bounded : extent ≤ bound
   pub bound_fits : bound < 2 ^ 31
+
+-- the free runs from this one on are just these: each one's first element has the next start, the last one's `no_run`
+abbrev pub IsChain : List (ℕ × ℕ) → ℕ → List ℕ → Type 0
+IsChain elements at [] = at ≡ no_run
+IsChain elements at (start ∷ starts) = (at ≡ start) × IsChain elements (get_or elements start (0, 0)).0 starts
+
+-- What holds of the fields themselves: the elements, the lengths of the runs in order, and the first free run of each
+-- length.
+pub record Kept (elements : List (ℕ × ℕ)) (lengths heads : List ℕ) (used bound : ℕ) : Type 0 where
+  pub stored : Stored (lists_of elements lengths heads) (lengths_of lengths) (stacks_of elements heads)
+      used (length elements) bound
+  pub filled : length (lengths_of lengths) ≡ length elements
+  pub chained : (n : ℕ) → IsChain elements (get_or heads n no_run) (get_or (stacks_of elements heads) n [])
+  -- each length of a run has a place
+  pub placed : (s : ℕ) → 0 < get_or (lengths_of lengths) s 0 → get_or (lengths_of lengths) s 0 < length heads

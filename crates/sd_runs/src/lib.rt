@@ -1,10 +1,13 @@
 //! Runs of pairs in one arena: a run is taken for a list, read by its start, and given back for
 //! reuse.
+//!
+//! All elements stand in one vector of pairs, 8 bytes each. A run has 4 bytes more, and so has each
+//! length up to that of the longest list.
 #![tactic(auto)]
 
 mod error;
+mod heads;
 mod runs;
-mod slots;
 
 pub use error::TakeError;
 pub use runs::Runs;

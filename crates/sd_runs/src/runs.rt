@@ -4,45 +4,49 @@ ghost use Rattle.std.specs.Prelude.{OnOk, OnErr, IfOk, IfErr, Some, None, List, 
 ghost use Rattle.std.specs.FinMap.{get};
 
 use crate::TakeError;
-use crate::slots::{Kept, Slot, copied, make_lengths, make_room, make_slots};
+use crate::heads::{NONE, make_heads};
 use std::alloc::Global;
 use std::marker::Model;
 
 /// Runs of pairs in one arena. A free run is used again for a list of its own length only, the last
 /// given first.
+///
+/// A run keeps its start and its length for good: runs are neither split nor joined. A free run keeps
+/// the start of the next free run of its length in its own first element, so whether a run is live is
+/// told by the chains of free runs, and giving one back writes an element and a head.
 #[derive(Drop)]
 pub struct Runs {
-    alloc: Global,
-    slots: Vec<Slot>,
-    /// What is kept for each length.
-    kept: Vec<Kept>,
-    /// The sum of the lengths of the live runs.
+    // the elements of all runs, live or free: the next new run starts behind them
+    elements: Vec<(u32, u32)>,
+    // the length of each run, live or free, in the order of their starts: growth alone writes it, and
+    // no call reads it, but without it the fields would not tell where runs begin
+    lengths: Vec<u32>,
+    // for each length the start of the free run that was given last, or `NONE`
+    heads: Vec<u32>,
+    // the sum of the lengths of the live runs
     used: u32,
-    /// The number of all elements, live or free: the next new run starts here.
-    extent: u32,
-    /// What the extent never passes.
+    // what the number of elements never passes
     bound: u32,
 }
 
 impl Model for Runs {
+    ghost use Rattle.std.specs.Prelude.{length};
     ghost use Rattle.sd_runs.specs.Arena.{Arena, arena_code};
-    ghost use Rattle.sd_runs.specs.Slots.{lists_of, lengths_of, stacks_of, counts_of, rooms_of, filled_map};
-    ghost use Rattle.sd_runs.specs.Stored.{Stored};
+    ghost use Rattle.sd_runs.specs.Fields.{filled_map, lengths_of, stacks_of, lists_of};
+    ghost use Rattle.sd_runs.specs.Stored.{Kept};
 
     ghost Value = { Arena };
 
     ghost coded = { arena_code };
 
     ghost view = { λ r. record {
-      live = filled_map (lists_of r.slots.items);
-      free = filled_map (stacks_of r.kept.items);
-      extent = r.extent;
+      live = filled_map (lists_of r.elements.items r.lengths.items r.heads.items);
+      free = filled_map (stacks_of r.elements.items r.heads.items);
+      extent = length r.elements.items;
       bound = r.bound;
     } };
 
-    ghost invariant = { λ r. Stored (lists_of r.slots.items) (lengths_of r.slots.items)
-        (stacks_of r.kept.items) (counts_of r.kept.items) (rooms_of r.kept.items)
-        r.used r.extent r.bound };
+    ghost invariant = { λ r. Kept r.elements.items r.lengths.items r.heads.items r.used r.bound };
 }
 
 impl Runs {
@@ -60,18 +64,17 @@ impl Runs {
         ensures arena { IsArena result }
     {
         Runs {
-            alloc,
-            slots: Vec::new(alloc),
-            kept: Vec::new(alloc),
+            elements: Vec::new(alloc),
+            lengths: Vec::new(alloc),
+            heads: Vec::new(alloc),
             used: 0,
-            extent: 0,
             bound,
         }
     }
 
-    /// Makes a run of this list, of one element or more, live and answers its start: that of the free
-    /// run of its length that was given last, or else the extent, which grows. After an error nothing
-    /// is changed.
+    /// Makes a run of this list, of one element or more, live and answers its start: that of the
+    /// free run of its length that was given last, or else the extent, which grows. After an error
+    /// nothing is changed.
     pub fn take(&mut self, list: &[(u32, u32)]) -> Result<u32, TakeError>
         requires { 0 < length list.now }
         ensures start { IfOk result (λ start. start ≡ next_start self.old (length list.now)) }
@@ -86,18 +89,18 @@ impl Runs {
         ensures full { IfErr result (λ e. IsRefusal self.old (length list.now) e) }
     {
         let length = list.len();
-        let start = self.newest(length);
-        let elements = u64::from(self.extent) + length as u64;
-        if start.is_none() && elements > u64::from(self.bound) {
-            return Err(TakeError::ArenaFull { elements });
-        }
-        let list = copied(self.alloc, list)?;
-        match start {
+        match self.newest(length) {
             Some(start) => {
                 self.reuse(start, list);
                 Ok(start)
             }
-            None => self.grow(list),
+            None => {
+                let elements = self.elements.len() as u64 + length as u64;
+                if elements > u64::from(self.bound) {
+                    return Err(TakeError::ArenaFull { elements });
+                }
+                self.grow(list)
+            }
         }
     }
 
@@ -105,50 +108,49 @@ impl Runs {
     fn newest(&self, length: usize) -> Option<u32>
         ensures { result ≡ first (free_of self.now length) }
     {
-        if length < self.kept.len() {
-            self.kept[length].starts.last().copied()
+        if length < self.heads.len() {
+            let head = self.heads[length];
+            if head == NONE { None } else { Some(head) }
         } else {
             None
         }
     }
 
     // Makes the free run of its length that was given last live, with this list.
-    fn reuse(&mut self, start: u32, list: Vec<(u32, u32)>)
-        requires some { 0 < length list.items }
-        requires kept { first (free_of self.old (length list.items)) ≡ Some start }
+    fn reuse(&mut self, start: u32, list: &[(u32, u32)])
+        requires some { 0 < length list.now }
+        requires kept { first (free_of self.old (length list.now)) ≡ Some start }
         ensures fresh { get self.old.live start ≡ None }
-        ensures ok { self.new ≡ taken self.old list.items }
+        ensures ok { self.new ≡ taken self.old list.now }
         ensures arena { IsArena self.new }
     {
         let length = list.len();
-        let kept = &mut self.kept[length];
-        let _ = kept.starts.pop();
-        kept.live += 1;
+        let start = start as usize;
+        self.heads[length] = self.elements[start].0;
+        self.elements[start..start + length].copy_from_slice(list);
         self.used += length as u32;
-        self.slots[start as usize].list = list;
     }
 
-    // A new run at the end of the arena.
-    fn grow(&mut self, list: Vec<(u32, u32)>) -> Result<u32, TakeError>
-        requires some { 0 < length list.items }
-        requires kept { free_of self.old (length list.items) ≡ [] }
-        requires room { self.old.extent + length list.items ≤ self.old.bound }
+    // A new run at the end of the arena. What may be refused comes before the fields change that are
+    // seen.
+    fn grow(&mut self, list: &[(u32, u32)]) -> Result<u32, TakeError>
+        requires some { 0 < length list.now }
+        requires kept { free_of self.old (length list.now) ≡ [] }
+        requires room { self.old.extent + length list.now ≤ self.old.bound }
         ensures start { IfOk result (λ start. start ≡ self.old.extent) }
         ensures fresh { get self.old.live self.old.extent ≡ None }
-        ensures ok { OnOk result (self.new ≡ taken self.old list.items) }
+        ensures ok { OnOk result (self.new ≡ taken self.old list.now) }
         ensures err { OnErr result (self.new ≡ self.old) }
         ensures arena { IsArena self.new }
         ensures memory { IfErr result (λ e. e ≡ TakeError.OutOfMemory) }
     {
-        let start = self.extent;
-        let length = list.len();
-        make_slots(self.alloc, &mut self.slots, start as usize + length)?;
-        make_lengths(self.alloc, &mut self.kept, length)?;
-        make_room(&mut self.kept, length)?;
-        self.kept[length].live += 1;
-        let length = length as u32;
-        self.slots[start as usize] = Slot { length, list };
-        self.extent += length;
+        make_heads(&mut self.heads, list.len())?;
+        self.lengths.reserve(1)?;
+        let start = self.elements.len() as u32;
+        self.elements.extend_from_slice(list)?;
+        let length = list.len() as u32;
+        // room for it was reserved before the arena grew, so this can't fail
+        let _ = self.lengths.push(length);
         self.used += length;
         Ok(start)
     }
@@ -159,10 +161,8 @@ impl Runs {
         ensures given { self.new ≡ given self.old start length }
         ensures arena { IsArena self.new }
     {
-        self.slots[start as usize].list = Vec::new(self.alloc);
-        let kept = &mut self.kept[length as usize];
-        let _ = kept.starts.push(start);
-        kept.live -= 1;
+        self.elements[start as usize] = (self.heads[length as usize], 0);
+        self.heads[length as usize] = start;
         self.used -= length;
     }
 
@@ -171,7 +171,8 @@ impl Runs {
         requires { live_length self.now start ≡ Some length }
         ensures { get self.now.live start ≡ Some result.now }
     {
-        self.slots[start as usize].list.as_slice()
+        let start = start as usize;
+        &self.elements[start..start + length as usize]
     }
 
     /// The sum of the lengths of the live runs.
@@ -187,6 +188,6 @@ impl Runs {
         ensures extent { result ≡ self.now.extent }
         ensures arena { IsArena self.now }
     {
-        self.extent
+        self.elements.len() as u32
     }
 }

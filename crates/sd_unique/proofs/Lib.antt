@@ -4,3 +4,5 @@ mod Found
 mod Inserted
 mod Linked
 mod Numbered
+pub mod Chained
+mod WorkedRelinking

@@ -11,9 +11,11 @@ pub(crate) fn exchange(order: &mut [VNode], positions: &mut [u32], a: VNode, b: 
     requires a_placed { slice_index positions.old a < length order.old }
     requires b_placed { slice_index positions.old b < length order.old }
     ensures order { order.new ≡
-        slice_set (slice_set order.old (slice_index positions.old a) b) (slice_index positions.old b) a }
+        slice_set (slice_set order.old (slice_index positions.old a) b)
+        (slice_index positions.old b) a }
     ensures positions { positions.new ≡
-        slice_set (slice_set positions.old a (slice_index positions.old b)) b (slice_index positions.old a) }
+        slice_set (slice_set positions.old a (slice_index positions.old b)) b
+        (slice_index positions.old a) }
 {
     let first = positions[a.index()];
     let second = positions[b.index()];
@@ -53,9 +55,12 @@ pub(crate) fn write_positions(order: &[VNode], positions: &mut [u32], from: usiz
     requires order { from ≤ to }
     requires within { to ≤ length order.now }
     requires fits { length order.now < 2 ^ 32 }
-    requires nodes { (p : ℕ) → p < length order.now → slice_index order.now p < length positions.old }
-    requires apart { (p q : ℕ) → p < q → q < length order.now → slice_index order.now p ≢ slice_index order.now q }
-    ensures inside { (p : ℕ) → from ≤ p → p < to → slice_index positions.new (slice_index order.now p) ≡ p }
+    requires nodes { (p : ℕ) → p < length order.now →
+        slice_index order.now p < length positions.old }
+    requires apart { (p q : ℕ) → p < q → q < length order.now →
+        slice_index order.now p ≢ slice_index order.now q }
+    ensures inside { (p : ℕ) → from ≤ p → p < to →
+        slice_index positions.new (slice_index order.now p) ≡ p }
     ensures outside { (n : ℕ) → ((p : ℕ) → from ≤ p → p < to → slice_index order.now p ≢ n) →
         slice_index positions.new n ≡ slice_index positions.old n }
 {

@@ -1,0 +1,28 @@
+-- A code has uses in a list exactly where it stands in it.
+use Rattle.std.proofs.Common.{◌≡◌, inl, inr, ℕ, ◌≤◌, List, [], ◌∷◌, refl, arith, ne_eqb}
+use Rattle.std.proofs.lemmas.List.Sums.{sum_by-cons}
+use Rattle.std.proofs.lemmas.Bool.{cases_eq}
+use Rattle.sd_laws.specs.Values.{StandsIn}
+use Rattle.sd_manager.specs.Table.{uses_in, uses_of_pair}
+
+-- a pair that does not have the code does not use it
+pair_none : (c : ℕ) (e : ℕ × ℕ) → (e.0 ≡ c → ⊥) → (e.1 ≡ c → ⊥) → uses_of_pair c e ≡ 0
+pair_none c e f g = rw (ne_eqb e.0 c f, ne_eqb e.1 c g) refl
+
+-- where a code does not stand it has no uses
+pub no-uses : (c : ℕ) (l : List (ℕ × ℕ)) → ¬ StandsIn c l → uses_in c l ≡ 0
+no-uses c [] h = refl
+no-uses c (e ∷ l) h =
+    let pair = pair_none c e (λ z. h (inl z)) (λ z. h (inr (inl z))) in
+    omega (arith, pair, sum_by-cons (uses_of_pair c) e l, no-uses c l (λ s. h (inr (inr s))))
+
+-- and where it has uses it stands
+pub uses-stand : (c : ℕ) (l : List (ℕ × ℕ)) → 1 ≤ uses_in c l → StandsIn c l
+uses-stand c [] h = absurd (omega arith)
+uses-stand c (e ∷ l) h = elim (cases_eq e.0 c) [
+  | inl z ↦ inl z
+  | inr d ↦ elim (cases_eq e.1 c) [
+    | inl z ↦ inr (inl z)
+    | inr f ↦ inr (inr (uses-stand c l (omega (arith, h, sum_by-cons (uses_of_pair c) e l, pair_none c e d f))))
+  ]
+]

@@ -1,0 +1,51 @@
+-- A detached node may be linked under a list of its function: the list fits, and no linked node has the key.
+use Rattle.std.proofs.Common.{◌≡◌, ℕ, ◌+◌, List, Option, Some, None, refl, sym, ◌∙◌, ap, subst}
+use Rattle.std.specs.List.{AllByRecursion}
+use Rattle.std.specs.Option.{IsSome}
+use Rattle.std.specs.FinMap.{get}
+use Rattle.sd_vtree.specs.Numbered.{or_else}
+use Rattle.sd_laws.specs.Values.{Valuation, IsSame, pairs_value, IsWhole, IsPlaced, ShowsValue}
+use Rattle.sd_laws.proofs.ByValues.{FitsBy, fits-by_values}
+use Rattle.sd_laws.proofs.OneKey.{key-once}
+use Rattle.std.proofs.lemmas.Option.{none-some}
+use Rattle.sd_manager.specs.Table.{Table, key_at}
+use Rattle.sd_manager.specs.Valid.{IsTable}
+use Rattle.sd_manager.specs.Moving.{Fits, IsAbsent}
+use Rattle.sd_move.specs.Moving.{Progress, MoveInProgress}
+
+-- a linked node is one of all
+pub linked_key : (m : Table) (n : ℕ) (k : ℕ × List (ℕ × ℕ)) → get m.linked n ≡ Some k → key_at m n ≡ Some k
+linked_key m n k e = ap (λ o. or_else o (get m.detached n)) e
+
+-- and so is a detached one
+pub detached_key : (m : Table) → IsTable m → (n : ℕ) (k : ℕ × List (ℕ × ℕ)) → get m.detached n ≡ Some k →
+    key_at m n ≡ Some k
+detached_key m i n k e = go (get m.linked n) refl
+  where
+    go : (o : Option (ℕ × List (ℕ × ℕ))) → get m.linked n ≡ o → key_at m n ≡ Some k
+    go None f = ap (λ o. or_else o (get m.detached n)) f ∙ e
+    go (Some j) f = absurd (none-some k (sym (i.either n j f) ∙ e))
+
+-- Inside a move the list fits the place, where its values make a compressed and trimmed partition of it and its codes
+-- show their values.
+pub may-fit : (m0 m : Table) (x : ℕ) (h : Progress) (v : Valuation) → IsTable m → MoveInProgress m0 m x h v → (p : ℕ)
+    (l : List (ℕ × ℕ)) → IsWhole v l → IsPlaced m.vtree v p l →
+    AllByRecursion (λ (e : ℕ × ℕ). ShowsValue m.vtree (get m.linked) v e.0
+    × ShowsValue m.vtree (get m.linked) v e.1) l →
+    Fits m p l
+may-fit m0 m x h v i g p l whole placed codes =
+    let f : FitsBy m.vtree (get m.linked) v p l =
+    fits-by_values m.vtree i.numbered (get m.linked) v g.literals p l whole placed codes in
+    record { diagrams = f.diagrams; partition = f.split; differ = f.differ; untrimmed = f.untrimmed }
+
+-- And no linked node has the key, where the list has the function of a detached node: who had it would be that node.
+pub key-absent : (m0 m : Table) (x : ℕ) (h : Progress) (v : Valuation) → IsTable m → MoveInProgress m0 m x h v →
+    (n p : ℕ) (k : ℕ × List (ℕ × ℕ)) (l : List (ℕ × ℕ)) → get m.detached n ≡ Some k →
+    IsSame (v (2050 + n)) (pairs_value v l) → IsAbsent m p l
+key-absent m0 m x h v i g n p k l detached same r e =
+    let one : r ≡ n =
+    key-once (key_at m) v g.apart g.value r n p l (linked_key m r (p, l) e)
+    (subst IsSome (sym (detached_key m i n k detached)) refl) same in
+    let none : get m.detached r ≡ None = i.either r (p, l) e in
+    let there : get m.detached r ≡ Some k = ap (get m.detached) one ∙ detached in
+    absurd (none-some k (sym none ∙ there))

@@ -1,0 +1,71 @@
+-- A move on its way: what it has done so far, and what holds between its steps.
+use Rattle.std.specs.Prelude.{◌≡◌, ◌≢◌, ◌⊎◌, ℕ, ◌+◌, Bool, true, false, List, Some, None}
+use Rattle.std.specs.List.{AllByRecursion}
+use Rattle.std.specs.Option.{IsSome}
+use Rattle.std.specs.Ordering.{nat_cmp}
+use Rattle.std.specs.FinMap.{FinMap, get}
+use Rattle.sd_vtree.specs.Numbered.{IsUnder}
+use Rattle.sd_runs.specs.Arena.{Has}
+use Rattle.sd_laws.specs.Values.{Valuation, IsSame, pairs_value, IsWhole, IsPlaced, GivesLiterals, ShowsValue, AreApart}
+use Rattle.sd_manager.specs.Table.{Table, key_at}
+use Rattle.sd_manager.specs.Valid.{IsSettled}
+
+-- What a move has done so far: the numbers that it discarded, the last new list of each number that it rewrote and has
+-- not put back, whether it rewrote a node, and whether it is on its way back.
+pub record Progress : Type 0 where
+  pub discarded : List ℕ
+  pub rewritten : FinMap nat_cmp (List (ℕ × ℕ))
+  pub has_rewritten : Bool
+  pub goes_back : Bool
+
+-- the number is that of a node of the table, linked or detached
+abbrev pub HasNumber : Table → ℕ → Type 0
+HasNumber t n = IsSome (key_at t n)
+
+-- the code is of a detached node
+abbrev pub IsDetachedCode : Table → ℕ → Type 0
+IsDetachedCode t c = (n : ℕ) × (c ≡ 2050 + n) × IsSome (get t.detached n)
+
+-- the place is strictly below the node
+abbrev pub IsBelowNode : Table → ℕ → ℕ → Type 0
+IsBelowNode t x place = (place ≢ x) × IsUnder t.vtree place x
+
+-- The number is none of a node of m0, or was discarded: where it is one of a node, that node is new.
+abbrev pub IsNew : Table → Progress → ℕ → Type 0
+IsNew m0 h n = (get m0.linked n ≡ None) ⊎ Has n h.discarded
+
+-- A move at x is on its way from the table m0 to m, and v gives each node its function.
+pub record MoveInProgress (m0 m : Table) (x : ℕ) (h : Progress) (v : Valuation) : Type 0 where
+  pub literals : GivesLiterals v
+  pub moving : m.moving ≡ Some x
+  -- v gives the nodes of m0 the functions that they showed there; a number that was discarded may be another node's
+  pub began : (n : ℕ) → IsSome (get m0.linked n) → ¬ Has n h.discarded →
+      ShowsValue m0.vtree (get m0.linked) v (2050 + n)
+  -- each of them that was not discarded is linked or detached
+  pub kept : (n : ℕ) → IsSome (get m0.linked n) → ¬ Has n h.discarded → HasNumber m n
+  -- each node has the function of its list, whose values make a compressed and trimmed partition
+  pub value : (n u : ℕ) (list : List (ℕ × ℕ)) → key_at m n ≡ Some (u, list) → IsSame (v (2050 + n)) (pairs_value v list)
+  pub whole : (n u : ℕ) (list : List (ℕ × ℕ)) → key_at m n ≡ Some (u, list) → IsWhole v list
+  -- the list of each linked node fits its place in the present vtree
+  pub placed : (n u : ℕ) (list : List (ℕ × ℕ)) → get m.linked n ≡ Some (u, list) → IsPlaced m.vtree v u list
+  -- each linked node that is not above x shows a canonical diagram of its function
+  pub settled : (n u : ℕ) (list : List (ℕ × ℕ)) → get m.linked n ≡ Some (u, list) → IsSettled m u →
+      ShowsValue m.vtree (get m.linked) v (2050 + n)
+  -- one above x is as it was
+  pub above : (n u : ℕ) (list : List (ℕ × ℕ)) → get m.linked n ≡ Some (u, list) → ¬ IsSettled m u →
+      get m0.linked n ≡ Some (u, list)
+  -- a node of m0 has its list of m0, or the one that it was given last and that was not put back
+  pub lists : (n u p : ℕ) (list old : List (ℕ × ℕ)) → key_at m n ≡ Some (u, list) → get m0.linked n ≡ Some (p, old) →
+      ¬ Has n h.discarded → ((get h.rewritten n ≡ None) × (list ≡ old)) ⊎ (get h.rewritten n ≡ Some list)
+  -- from the first rewriting until the way back no detached node stands in the list of another
+  pub free : h.has_rewritten ≡ true → h.goes_back ≡ false → (n u : ℕ) (list : List (ℕ × ℕ)) →
+      get m.detached n ≡ Some (u, list) →
+      AllByRecursion (λ (e : ℕ × ℕ). (¬ IsDetachedCode m e.0) × (¬ IsDetachedCode m e.1)) list
+  -- a new node stands below x
+  pub new_below : (n u : ℕ) (list : List (ℕ × ℕ)) → key_at m n ≡ Some (u, list) → IsNew m0 h n → IsBelowNode m x u
+  -- and is linked, but on the way back, where it may be discarded
+  pub new_linked : h.goes_back ≡ false → (n : ℕ) → IsSome (get m.detached n) → ¬ IsNew m0 h n
+  -- no two nodes, old or new, are one function
+  pub apart : AreApart (key_at m) v
+  -- the roots are as they were
+  pub roots : m.roots ≡ m0.roots
