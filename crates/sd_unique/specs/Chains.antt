@@ -1,10 +1,16 @@
--- Chains of records: each record stands in that of its key's bucket.
-use Rattle.std.specs.Prelude.{◌≡◌, ◌⊎◌, ℕ, suc, zero, ◌+◌, ◌*◌, ◌/◌, ◌%◌, ◌-◌, ◌<◌, ◌^◌, List, length, map, get_or}
-use Rattle.std.specs.Prelude.{Some, slice_get, bit_and}
-use Rattle.std.specs.List.{fold}
+-- The chains of the records: of each bucket and of the free records, the lists of each place and of the detached, and
+-- the stack of candidates.
+use Rattle.std.specs.Prelude.{◌≡◌, ℕ, suc, zero, ◌+◌, ◌*◌, ◌/◌, ◌%◌, ◌-◌, ◌<◌, ◌^◌, List, length, map, get_or}
+use Rattle.std.specs.Prelude.{cond, Option, Some, None, slice_get, bit_and}
+use Rattle.std.specs.List.{fold, sum_by}
+use Rattle.std.specs.Option.{option_and_then}
 use Rattle.sd_runs.specs.Arena.{Arena}
+use Rattle.sd_unique.specs.Filed.{IsFiled, IsFiledBoth}
 use Rattle.sd_unique.specs.Record.{key_of, Stored}
 use Rattle.sd_unique.specs.declared.record.Record.{Record}
+use Rattle.sd_unique.specs.declared.record.Links.{Links}
+use Rattle.sd_unique.specs.declared.record.State.{State}
+use Rattle.sd_unique.specs.declared.record.State.TheVariants.{Free, Linked, Detached}
 
 -- a hash with one more word in it
 unfoldable pub mixed : ℕ → ℕ → ℕ
@@ -18,25 +24,109 @@ hash_of key = fold (λ hash pair. mixed (mixed hash pair.0) pair.1) (mixed 0 key
 unfoldable pub bucket_of : ℕ × List (ℕ × ℕ) → ℕ → ℕ
 bucket_of key count = bit_and (hash_of key / 2 ^ 32) (count - 1)
 
--- the number that follows in a chain; no record has it where the chain ends
+-- ends a chain
+abbrev pub no_record : ℕ
+no_record = 2 ^ 32 - 1
+
+-- a link of the record of this number
 abbrev pub next_of : List Record → ℕ → ℕ
-next_of records at = get_or (map (λ r. r.next) records) at 0
+next_of records n = get_or (map (λ r. r.next) records) n 0
 
--- the chain from this number on has the other within so many steps
-abbrev pub Reaches : List Record → ℕ → ℕ → ℕ → Type 0
-Reaches records zero at n = ⊥
-Reaches records (suc steps) at n =
-    (at < length records) × ((at ≡ n) ⊎ Reaches records steps (next_of records at) n)
+abbrev pub after_of : List Links → ℕ → ℕ
+after_of links n = get_or (map (λ l. l.after) links) n 0
 
--- each record is in the chain of its bucket
-abbrev pub IsLinked : Arena → List Record → List ℕ → Type 0
-IsLinked arena records heads =
-    (n : ℕ) (r : Record) → slice_get records n ≡ Some r
-    → Reaches records (length records) (get_or heads (bucket_of (key_of arena r) (length heads)) 0) n
+abbrev pub before_of : List Links → ℕ → ℕ
+before_of links n = get_or (map (λ l. l.before) links) n 0
 
--- what holds of the fields
-pub record Kept (arena : Arena) (records : List Record) (heads : List ℕ) : Type 0 where
+abbrev pub waiting_of : List Links → ℕ → ℕ
+waiting_of links n = get_or (map (λ l. l.waiting) links) n 0
+
+-- the first number of a chain
+abbrev pub head_of : List ℕ → ℕ → ℕ
+head_of heads b = get_or heads b no_record
+
+-- the stack is the one chain with a head
+abbrev pub top_of : ℕ → ℕ → ℕ
+top_of top zero = top
+top_of top (suc b) = no_record
+
+-- A free record stands in the first chain, a linked one in that of its bucket, a detached one in none.
+abbrev pub chain_by : State → ℕ → Option ℕ
+chain_by Free b = Some 0
+chain_by Linked b = Some (suc b)
+chain_by Detached b = None
+
+-- A detached record stands in the first list, a linked one in that of its place, a free one in none.
+abbrev pub list_by : State → ℕ → Option ℕ
+list_by Free b = None
+list_by Linked b = Some (suc b)
+list_by Detached b = Some 0
+
+abbrev pub chain_under : Arena → ℕ → List Record → ℕ → Option ℕ
+chain_under arena count records n =
+    option_and_then (λ r. chain_by r.state (bucket_of (key_of arena r) count)) (slice_get records n)
+
+abbrev pub list_under : List Record → ℕ → Option ℕ
+list_under records n = option_and_then (λ r. list_by r.state (bit_and r.place 2047)) (slice_get records n)
+
+-- a number stands in the stack of candidates where its flag is on
+abbrev pub stack_under : List Links → ℕ → Option ℕ
+stack_under links n = option_and_then (λ l. cond l.is_waiting (Some 0) None) (slice_get links n)
+
+-- the lists of the links
+abbrev pub AreListed : List Links → List ℕ → (ℕ → Option ℕ) → Type 0
+AreListed links places under = IsFiledBoth (after_of links) (before_of links) no_record (head_of places) under
+
+-- the stack of the links
+abbrev pub AreStacked : List Links → ℕ → Type 0
+AreStacked links top = IsFiled (waiting_of links) no_record (top_of top) (stack_under links)
+
+-- the links of the lists are as before
+pub record KeepsLists (old new : List Links) : Type 0 where
+  pub size : length new ≡ length old
+  pub after : (n : ℕ) → after_of new n ≡ after_of old n
+  pub before : (n : ℕ) → before_of new n ≡ before_of old n
+
+-- the stack is as before
+pub record KeepsStack (old new : List Links) : Type 0 where
+  pub size : length new ≡ length old
+  pub waiting : (n : ℕ) → waiting_of new n ≡ waiting_of old n
+  pub flags : (n : ℕ) → stack_under new n ≡ stack_under old n
+
+-- the number stands in the stack, and so does each other that stood there
+pub record IsPushed (old new : List Links) (number : ℕ) : Type 0 where
+  pub here : stack_under new number ≡ Some 0
+  pub others : (n : ℕ) → stack_under old n ≡ Some 0 → stack_under new n ≡ Some 0
+
+-- What holds of the fields. The first head is that of the free records, the others are those of the buckets; the first
+-- place is that of the detached records.
+pub record Kept (arena : Arena) (records : List Record) (links : List Links) (heads places : List ℕ)
+    (candidates : ℕ) : Type 0 where
   pub stored : Stored arena records
-  -- there is a bucket, and each record is found from its own
-  pub some : 0 < length heads
-  pub linked : IsLinked arena records heads
+  pub linked_all : length links ≡ length records
+  -- there is a bucket, and a head for each remainder of places
+  pub some : 1 < length heads
+  pub places_all : length places ≡ 2049
+  -- each record stands where its state says
+  pub in_chains : IsFiled (next_of records) no_record (head_of heads) (chain_under arena (length heads - 1) records)
+  pub in_lists : AreListed links places (list_under records)
+  pub in_stack : AreStacked links candidates
+  -- each linked node without uses is a candidate
+  pub queued : (n : ℕ) (r : Record) → slice_get records n ≡ Some r → r.state ≡ Linked → r.uses ≡ 0
+      → stack_under links n ≡ Some 0
+
+-- the records are as before but for the links of their chains
+pub record KeepsRecords (old new : List Record) : Type 0 where
+  pub size : length new ≡ length old
+  pub was : (i : ℕ) (t : Record) → slice_get new i ≡ Some t
+      → (r : Record) × (slice_get old i ≡ Some r) × (t.place ≡ r.place) × (t.start ≡ r.start)
+      × (t.length ≡ r.length) × (t.uses ≡ r.uses) × (t.mark ≡ r.mark) × (t.state ≡ r.state)
+
+-- the record is that of a linked node without uses
+pub record IsUnused (r : Record) : Type 0 where
+  pub linked : r.state ≡ Linked
+  pub none : r.uses ≡ 0
+
+-- how many numbers stand in the stack
+abbrev pub waiting_count : List Links → ℕ
+waiting_count links = sum_by (λ (l : Links). cond l.is_waiting 1 0) links

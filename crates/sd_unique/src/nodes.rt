@@ -1,9 +1,14 @@
 // Nodes by number and by key.
 ghost use Rattle.std.specs.Prelude.{◌≡◌, ◌≢◌, ◌+◌, ◌-◌, ◌<◌, ◌≤◌, ◌^◌, length};
-ghost use Rattle.std.specs.Prelude.{OnOk, OnErr, IfOk, IfErr, IfSome, IfNone, Some, None, ℕ};
+ghost use Rattle.std.specs.Prelude.{OnOk, OnErr, IfOk, IfErr, IfSome, IfNone, Some, None, ℕ, List};
 
-use crate::chains::{bucket, empty_heads, link, link_all};
-use crate::record::Record;
+use crate::buckets::{empty_heads, link_all};
+use crate::found::Found;
+use crate::hash::{bucket_at, hash};
+use crate::lists::{at_place, put_first};
+use crate::record::{Links, NO_RECORD, Record, State};
+use crate::stack::{pop_used, push, push_unused};
+use crate::states::{attach, detach, release};
 use sd_runs::{Runs, TakeError};
 use std::alloc::{AllocError, Global};
 use std::marker::Model;
@@ -13,11 +18,16 @@ use std::marker::Model;
 pub struct Nodes {
     alloc: Global,
     runs: Runs,
-    /// The records of the nodes, by number.
+    /// The records and their links, by number.
     records: Vec<Record>,
-    /// The first number of the chain of each bucket. There are about as many buckets as records, or
-    /// more.
+    links: Vec<Links>,
+    /// The first free record, then the first number of the chain of each bucket. There are about as
+    /// many buckets as records, or more.
     heads: Vec<u32>,
+    /// The first detached record, then the first number of the list of each place, by its remainder.
+    places: Vec<u32>,
+    /// The top of the stack of candidates.
+    candidates: u32,
 }
 
 impl Model for Nodes {
@@ -31,16 +41,22 @@ impl Model for Nodes {
 
     ghost view = { λ a. nodes_of a.runs a.records.items };
 
-    ghost invariant = { λ a. Kept a.runs a.records.items a.heads.items };
+    ghost invariant = { λ a. Kept a.runs a.records.items a.links.items a.heads.items a.places.items
+        a.candidates };
 }
 
 impl Nodes {
+    ghost use Rattle.sd_unique.specs.Chains.{hash_of};
+    ghost use Rattle.sd_unique.specs.Finding.{IfPresent, IfNew};
+    ghost use Rattle.sd_unique.specs.Occupying.{IsFreeNumber, occupied};
     ghost use Rattle.std.specs.Prelude.{◌≡◌, ◌≢◌, ◌+◌, ◌-◌, ◌<◌, ◌≤◌, ◌^◌, length};
-    ghost use Rattle.std.specs.Prelude.{OnOk, OnErr, IfOk, IfErr, IfSome, IfNone, Some, None, ℕ};
+    ghost use Rattle.std.specs.Prelude.{OnOk, OnErr, IfOk, IfErr, IfSome, IfNone, Some, None, ℕ, List};
     ghost use Rattle.std.specs.Option.{option_map, IsSome};
-    ghost use Rattle.std.specs.FinMap.{get, contains_key};
+    ghost use Rattle.std.specs.FinMap.{get, contains_key, empty};
     ghost use Rattle.sd_unique.specs.Nodes.{IsNodes, key_at, uses_at};
     ghost use Rattle.sd_unique.specs.Inserting.{no_nodes, inserted, with_uses, IsNewNumber, IsFull, IsRefusal};
+    ghost use Rattle.sd_unique.specs.Relinking.{with_mark, with_loose, without_loose, exchanged, removed, unlinked};
+    ghost use Rattle.sd_unique.specs.Relinking.{relinked, with_key, IsAbsent, IsAt, IsIdle, IsLoose};
 
     /// No nodes, over an arena of at most `bound` elements. The only error is want of memory.
     pub fn new(alloc: Global, bound: u32) -> Result<Nodes, AllocError>
@@ -52,7 +68,10 @@ impl Nodes {
             alloc,
             runs: Runs::new(alloc, bound),
             records: Vec::new(alloc),
-            heads: empty_heads(alloc, 16)?,
+            links: Vec::new(alloc),
+            heads: empty_heads(alloc, 17)?,
+            places: empty_heads(alloc, 2049)?,
+            candidates: NO_RECORD,
         })
     }
 
@@ -63,14 +82,27 @@ impl Nodes {
         ensures none { IfNone result ((n : ℕ) → get self.now.linked n ≢ Some (place, list.now)) }
         ensures nodes { IsNodes self.now }
     {
-        let mut number = self.heads[bucket(place, list, self.heads.len())];
+        self.lookup(hash(place, list), place, list)
+    }
+
+    // Finds a node as `find` does, by the hash of its key too.
+    fn lookup(&self, hash: u64, place: u32, list: &[(u32, u32)]) -> Option<u32>
+        requires hash { hash ≡ hash_of (place, list.now) }
+        ensures some { IfSome result (λ n. get self.now.linked n ≡ Some (place, list.now)) }
+        ensures none { IfNone result ((n : ℕ) → get self.now.linked n ≢ Some (place, list.now)) }
+        ensures nodes { IsNodes self.now }
+    {
+        let mut number = self.heads[bucket_at(hash, self.heads.len() - 1) + 1];
         // A chain has no more records than there are in all.
         for _step in 0..self.records.len() {
-            if number as usize >= self.records.len() {
+            if number == NO_RECORD {
                 return None;
             }
-            let record = self.records[number as usize];
-            if record.place == place && self.runs.get(record.start, record.length) == list {
+            let record = &self.records[number as usize];
+            if record.place == place
+                && record.length as usize == list.len()
+                && self.runs.get(record.start, record.length) == list
+            {
                 return Some(number);
             }
             number = record.next;
@@ -91,26 +123,74 @@ impl Nodes {
         ensures err { OnErr result (self.new ≡ self.old) }
         ensures full { IfErr result (λ e. IsRefusal self.old (length list.now) e) }
     {
-        self.widen();
-        self.add(place, list)
+        self.insert_hashed(hash(place, list), place, list)
+    }
+
+    /// Finds the linked node with this place and list, or makes it as `insert` does. The list has one
+    /// element or more. After an error nothing is changed.
+    pub fn find_or_insert(&mut self, place: u32, list: &[(u32, u32)]) -> Result<Found, TakeError>
+        requires some { 0 < length list.now }
+        ensures present { IfOk result (λ found. IfPresent found (λ n. get self.old.linked n ≡ Some (place, list.now))) }
+        ensures same { IfOk result (λ found. IfPresent found (λ n. self.new ≡ self.old)) }
+        ensures absent { IfOk result (λ found. IfNew found (λ n. IsAbsent self.old (place, list.now))) }
+        ensures number { IfOk result (λ found. IfNew found (λ n. IsNewNumber self.old n)) }
+        ensures ok { IfOk result (λ found. IfNew found (λ n. self.new ≡ inserted self.old n place list.now)) }
+        ensures nodes { IsNodes self.new }
+        ensures room { IfOk result (λ found. IfNew found (λ n. ¬ IsFull self.old (length list.now))) }
+        ensures err { OnErr result (self.new ≡ self.old) }
+        ensures refused { OnErr result (IsAbsent self.old (place, list.now)) }
+        ensures full { IfErr result (λ e. IsRefusal self.old (length list.now) e) }
+    {
+        let hash = hash(place, list);
+        if let Some(node) = self.lookup(hash, place, list) {
+            return Ok(Found::Present(node));
+        }
+        match self.insert_hashed(hash, place, list) {
+            Ok(node) => Ok(Found::New(node)),
+            Err(error) => Err(error),
+        }
+    }
+
+    // Makes a linked node as `insert` does, by the hash of its key too.
+    fn insert_hashed(
+        &mut self,
+        hash: u64,
+        place: u32,
+        list: &[(u32, u32)],
+    ) -> Result<u32, TakeError>
+        requires hash { hash ≡ hash_of (place, list.now) }
+        requires some { 0 < length list.now }
+        requires absent { (n : ℕ) → get self.old.linked n ≢ Some (place, list.now) }
+        ensures number { IfOk result (λ n. IsNewNumber self.old n) }
+        ensures ok { IfOk result (λ n. self.new ≡ inserted self.old n place list.now) }
+        ensures nodes { IsNodes self.new }
+        ensures room { OnOk result (¬ IsFull self.old (length list.now)) }
+        ensures err { OnErr result (self.new ≡ self.old) }
+        ensures full { IfErr result (λ e. IsRefusal self.old (length list.now) e) }
+    {
+        self.grow_buckets();
+        self.add(hash, place, list)
     }
 
     // Doubles the buckets where they are not more than the records. Where there is no memory for
     // that, they stay.
-    fn widen(&mut self)
+    fn grow_buckets(&mut self)
         ensures { self.new ≡ self.old }
     {
-        if self.records.len() < self.heads.len() {
+        let buckets = self.heads.len() - 1;
+        if self.records.len() < buckets {
             return;
         }
-        if let Ok(mut heads) = empty_heads(self.alloc, 2 * self.heads.len()) {
+        if let Ok(mut heads) = empty_heads(self.alloc, 2 * buckets + 1) {
+            heads[0] = self.heads[0];
             link_all(&self.runs, &mut self.records, &mut heads);
             self.heads = heads;
         }
     }
 
-    // Makes a linked node as `insert` does, among the buckets that there are.
-    fn add(&mut self, place: u32, list: &[(u32, u32)]) -> Result<u32, TakeError>
+    // Makes a linked node as `insert_hashed` does, among the buckets that there are.
+    fn add(&mut self, hash: u64, place: u32, list: &[(u32, u32)]) -> Result<u32, TakeError>
+        requires hash { hash ≡ hash_of (place, list.now) }
         requires some { 0 < length list.now }
         requires absent { (n : ℕ) → get self.old.linked n ≢ Some (place, list.now) }
         ensures number { IfOk result (λ n. IsNewNumber self.old n) }
@@ -121,12 +201,67 @@ impl Nodes {
         ensures full { IfErr result (λ e. IsRefusal self.old (length list.now) e) }
     {
         self.records.reserve(1)?;
+        self.links.reserve(1)?;
         let start = self.runs.take(list)?;
-        let number = self.records.len();
-        let record = Record::new(place, start, list.len() as u32);
-        let _ = self.records.push(record);
-        link(&self.runs, &mut self.records, &mut self.heads, number);
-        Ok(number as u32)
+        let run = (start, list.len() as u32);
+        if self.heads[0] != NO_RECORD {
+            return Ok(self.occupy(hash, place, run));
+        }
+        self.heads[0] = self.records.len() as u32;
+        let _ = self.records.push(Record::free());
+        let _ = self.links.push(Links::new());
+        Ok(self.occupy(hash, place, run))
+    }
+
+    // Makes the first free record that of a linked node with this place and the list of a loose run,
+    // with no uses and mark 0, and answers its number.
+    fn occupy(&mut self, hash: u64, place: u32, run: (u32, u32)) -> u32
+        requires run { (list : List (ℕ × ℕ)) × IsLoose self.old run.0 run.1 list × (hash ≡ hash_of (place, list))
+            × IsAbsent self.old (place, list) }
+        requires free { (n : ℕ) × IsFreeNumber self.old n }
+        ensures number { IsFreeNumber self.old result }
+        ensures ok { (list : List (ℕ × ℕ)) → IsLoose self.old run.0 run.1 list
+            → self.new ≡ occupied self.old result place run.0 list }
+        ensures nodes { IsNodes self.new }
+    {
+        let number = self.heads[0];
+        self.heads[0] = self.records[number as usize].next;
+        let head = bucket_at(hash, self.heads.len() - 1) + 1;
+        self.records[number as usize] = Record {
+            place,
+            start: run.0,
+            length: run.1,
+            next: self.heads[head],
+            uses: 0,
+            mark: 0,
+            state: State::Linked,
+        };
+        self.heads[head] = number;
+        put_first(
+            &mut self.links,
+            &mut self.places,
+            (place & 2047) as usize + 1,
+            number,
+        );
+        self.candidates = push(&mut self.links, self.candidates, number);
+        number
+    }
+
+    /// The mark of a node.
+    pub fn mark(&self, node: u32) -> u32
+        requires { IsSome (key_at self.now node) }
+        ensures { get self.now.marks node ≡ Some result }
+    {
+        self.records[node as usize].mark
+    }
+
+    /// Gives a node this mark.
+    pub fn set_mark(&mut self, node: u32, value: u32)
+        requires { IsSome (key_at self.old node) }
+        ensures mark { self.new ≡ with_mark self.old node value }
+        ensures nodes { IsNodes self.new }
+    {
+        self.records[node as usize].mark = value;
     }
 
     /// The place of a node.
@@ -159,7 +294,7 @@ impl Nodes {
         requires { number < self.now.records }
         ensures { result ≡ contains_key self.now.linked number }
     {
-        (number as usize) < self.records.len()
+        matches!(self.records[number as usize].state, State::Linked)
     }
 
     /// How often a node is used.
@@ -187,6 +322,155 @@ impl Nodes {
         ensures uses { self.new ≡ with_uses self.old node (uses_at self.old node - 1) }
         ensures nodes { IsNodes self.new }
     {
+        self.candidates = push(&mut self.links, self.candidates, node);
         self.records[node as usize].uses -= 1;
+    }
+
+    /// A detached node, where there is one.
+    pub fn first_detached(&self) -> Option<u32>
+        ensures some { IfSome result (λ n. IsSome (get self.now.detached n)) }
+        ensures none { IfNone result (self.now.detached ≡ empty) }
+    {
+        let first = self.places[0];
+        if first == NO_RECORD {
+            return None;
+        }
+        Some(first)
+    }
+
+    /// Makes a loose run of this list, of one element or more, and answers its start and length.
+    /// After an error nothing is changed.
+    pub fn take_run(&mut self, list: &[(u32, u32)]) -> Result<(u32, u32), TakeError>
+        requires some { 0 < length list.now }
+        ensures fresh { IfOk result (λ run. get self.old.loose run.0 ≡ None) }
+        ensures ok { IfOk result (λ run. (run.1 ≡ length list.now) × (self.new ≡ with_loose self.old run.0 list.now)) }
+        ensures nodes { IsNodes self.new }
+        ensures room { OnOk result (¬ IsFull self.old (length list.now)) }
+        ensures err { OnErr result (self.new ≡ self.old) }
+        ensures full { IfErr result (λ e. IsRefusal self.old (length list.now) e) }
+    {
+        let start = self.runs.take(list)?;
+        Ok((start, list.len() as u32))
+    }
+
+    /// Frees a loose run.
+    pub fn give_run(&mut self, run: (u32, u32))
+        requires { (list : List (ℕ × ℕ)) × IsLoose self.old run.0 run.1 list }
+        ensures given { (list : List (ℕ × ℕ)) → IsLoose self.old run.0 run.1 list
+            → self.new ≡ without_loose self.old run.0 list }
+        ensures nodes { IsNodes self.new }
+    {
+        self.runs.give(run.0, run.1);
+    }
+
+    /// Gives a detached node the list of a loose run, and answers the run that it had, which is
+    /// loose now.
+    pub fn replace_run(&mut self, node: u32, run: (u32, u32)) -> (u32, u32)
+        requires node { IsSome (get self.old.detached node) }
+        requires run { (list : List (ℕ × ℕ)) × IsLoose self.old run.0 run.1 list }
+        ensures exchanged { (k : ℕ × List (ℕ × ℕ)) (list : List (ℕ × ℕ)) → get self.old.detached node ≡ Some k
+            → IsLoose self.old run.0 run.1 list → (result.1 ≡ length k.1)
+            × (self.new ≡ exchanged self.old node k.0 run.0 list result.0 k.1) }
+        ensures fresh { get self.old.loose result.0 ≡ None }
+        ensures nodes { IsNodes self.new }
+    {
+        let record = &mut self.records[node as usize];
+        let old = (record.start, record.length);
+        record.start = run.0;
+        record.length = run.1;
+        old
+    }
+
+    /// Gives a detached node another place.
+    pub fn retag(&mut self, node: u32, place: u32)
+        requires node { IsSome (get self.old.detached node) }
+        ensures retagged { (k : ℕ × List (ℕ × ℕ)) → get self.old.detached node ≡ Some k
+            → self.new ≡ with_key self.old node (place, k.1) }
+        ensures nodes { IsNodes self.new }
+    {
+        self.records[node as usize].place = place;
+    }
+
+    /// Takes a linked node out of the chains: it is found by its number alone then.
+    pub fn unlink(&mut self, node: u32)
+        requires node { IsSome (get self.old.linked node) }
+        ensures unlinked { (k : ℕ × List (ℕ × ℕ)) → get self.old.linked node ≡ Some k
+            → self.new ≡ unlinked self.old node k }
+        ensures nodes { IsNodes self.new }
+    {
+        detach(
+            &self.runs,
+            &mut self.records,
+            &mut self.links,
+            &mut self.heads,
+            &mut self.places,
+            node,
+        );
+    }
+
+    /// Puts a detached node back into the chains, where no linked node has its key. Takes no
+    /// memory.
+    pub fn relink(&mut self, node: u32)
+        requires node { IsSome (get self.old.detached node) }
+        requires absent { (k : ℕ × List (ℕ × ℕ)) → get self.old.detached node ≡ Some k
+            → IsAbsent self.old k }
+        ensures relinked { (k : ℕ × List (ℕ × ℕ)) → get self.old.detached node ≡ Some k
+            → self.new ≡ relinked self.old node k }
+        ensures nodes { IsNodes self.new }
+    {
+        let uses = self.records[node as usize].uses;
+        self.candidates = push_unused(&mut self.links, self.candidates, node, uses);
+        attach(
+            &self.runs,
+            &mut self.records,
+            &mut self.links,
+            &mut self.heads,
+            &mut self.places,
+            node,
+        );
+    }
+
+    /// Removes a detached node without uses: its number and its run are free then.
+    pub fn remove(&mut self, node: u32)
+        requires node { IsSome (get self.old.detached node) }
+        requires unused { get self.old.uses node ≡ Some 0 }
+        ensures removed { (k : ℕ × List (ℕ × ℕ)) → get self.old.detached node ≡ Some k
+            → self.new ≡ removed self.old node k.1 }
+        ensures nodes { IsNodes self.new }
+    {
+        release(
+            &mut self.runs,
+            &mut self.records,
+            &mut self.links,
+            &mut self.heads,
+            &mut self.places,
+            node,
+        );
+    }
+
+    /// A linked node without uses, where there is one. A call goes on where the last one stopped.
+    pub fn idle(&mut self) -> Option<u32>
+        ensures some { IfSome result (λ n. IsIdle self.new n) }
+        ensures none { IfNone result ((n : ℕ) → ¬ IsIdle self.new n) }
+        ensures same { self.new ≡ self.old }
+    {
+        self.candidates = pop_used(&self.records, &mut self.links, self.candidates);
+        if self.candidates == NO_RECORD {
+            return None;
+        }
+        Some(self.candidates)
+    }
+
+    /// A linked node at this place, where there is one.
+    pub fn first_at(&self, place: u32) -> Option<u32>
+        ensures some { IfSome result (λ n. IsAt self.now place n) }
+        ensures none { IfNone result ((n : ℕ) → ¬ IsAt self.now place n) }
+    {
+        let first = self.places[(place & 2047) as usize + 1];
+        let found = at_place(&self.records, &self.links, first, place);
+        if found == NO_RECORD {
+            return None;
+        }
+        Some(found)
     }
 }

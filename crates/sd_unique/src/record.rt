@@ -1,7 +1,18 @@
-// The record of a node.
+// The records of the nodes, and the links between them.
 ghost use Rattle.std.specs.Prelude.{◌≡◌};
 
-/// What is kept for a node.
+/// What a record is.
+#[derive(Clone, Copy, Drop)]
+pub(crate) enum State {
+    /// Of no node: its number is free.
+    Free,
+    /// Of a node that is found by its key.
+    Linked,
+    /// Of a node that is found by its number alone.
+    Detached,
+}
+
+/// What is kept for a number, beside its links.
 #[derive(Clone, Copy, Drop)]
 pub(crate) struct Record {
     /// A number that the layer above gives; part of the node's key.
@@ -9,33 +20,63 @@ pub(crate) struct Record {
     /// The run of the node's list starts here.
     pub(crate) start: u32,
     pub(crate) length: u32,
+    /// The number that follows in the chain of the node's bucket, or among the free records.
+    pub(crate) next: u32,
     /// How often the layer above uses the node.
     pub(crate) uses: u64,
     /// A word of the layer above.
     pub(crate) mark: u32,
-    /// The number that follows in the chain of the node's bucket.
-    pub(crate) next: u32,
+    pub(crate) state: State,
+}
+
+/// The links of a record that no look-up follows.
+#[derive(Clone, Copy, Drop)]
+pub(crate) struct Links {
+    /// The numbers before and after in the list of the node's place, or in that of the detached.
+    pub(crate) before: u32,
+    pub(crate) after: u32,
+    /// The number that follows in the stack of candidates.
+    pub(crate) waiting: u32,
+    /// Whether the number stands in the stack of candidates.
+    pub(crate) is_waiting: bool,
 }
 
 /// Ends a chain: no record has this number.
 pub(crate) const NO_RECORD: u32 = u32::MAX;
 
 impl Record {
-    // Of a node with no uses and mark 0, in no chain.
-    pub(crate) fn new(place: u32, start: u32, length: u32) -> Record
-        ensures place { result.place ≡ place }
-        ensures start { result.start ≡ start }
-        ensures length { result.length ≡ length }
-        ensures uses { result.uses ≡ 0 }
-        ensures mark { result.mark ≡ 0 }
+    ghost use Rattle.std.specs.Prelude.{◌≡◌};
+    ghost use Rattle.sd_unique.specs.Chains.{no_record};
+
+    // Of no node, the last of a chain.
+    pub(crate) fn free() -> Record
+        ensures next { result.next ≡ no_record }
+        ensures state { result.state ≡ State.Free }
     {
         Record {
-            place,
-            start,
-            length,
+            place: 0,
+            start: 0,
+            length: 0,
+            next: NO_RECORD,
             uses: 0,
             mark: 0,
-            next: NO_RECORD,
+            state: State::Free,
+        }
+    }
+}
+
+impl Links {
+    ghost use Rattle.std.specs.Prelude.{◌≡◌, false};
+
+    // Of a number that stands nowhere.
+    pub(crate) fn new() -> Links
+        ensures { result.is_waiting ≡ false }
+    {
+        Links {
+            before: NO_RECORD,
+            after: NO_RECORD,
+            waiting: NO_RECORD,
+            is_waiting: false,
         }
     }
 }

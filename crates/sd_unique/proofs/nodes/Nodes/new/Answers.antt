@@ -1,17 +1,18 @@
-use Rattle.std.proofs.Common.{ap, ◌∙◌}
-use Rattle.sd_runs.specs.Taking.{empty_arena}
-use Rattle.sd_unique.specs.Record.{nodes_of}
-use Rattle.sd_unique.proofs.Inserted.{nodes_of_nothing, stored_of_nothing}
+use Rattle.std.proofs.Common.{arith}
+use Rattle.sd_unique.proofs.Nothing.{nodes_new, kept_new}
 use Rattle.sd_unique.proofs.Numbered.{is_nodes}
 use Rattle.sd_unique.proofs.nodes.Nodes.new.Goals as goal
 
+pub invariant_of-result : goal.invariant_of-result
+invariant_of-result c =
+    kept_new c.new.result c.args.bound c.new-2.result.items c.new.ensures.empty c.new-2.ensures.items
+    c.new-3.result.items c.in_ok-empty_heads.field-0.items c.in_ok-empty_heads-2.field-0.items 17
+    c.new.ensures.arena c.requires c.new-3.ensures.items c.in_ok-empty_heads.ensures c.in_ok-empty_heads-2.ensures
+    (omega arith)
+
 pub returns-clause-empty : goal.returns-clause-empty
 returns-clause-empty c =
-    ap (λ a. nodes_of a c.new-2.result.items) c.new.ensures.empty
-    ∙ ap (nodes_of (empty_arena c.args.bound)) c.new-2.ensures.items
-    ∙ nodes_of_nothing c.args.bound
+    nodes_new c.new.result c.args.bound c.new-2.result.items c.new.ensures.empty c.new-2.ensures.items
 
 pub returns-clause-nodes : goal.returns-clause-nodes
-returns-clause-nodes c =
-    is_nodes (stored_of_nothing c.new.result c.new-2.result.items c.args.bound c.new.ensures.empty
-    c.new-2.ensures.items c.new.ensures.arena c.requires)
+returns-clause-nodes c = is_nodes (invariant_of-result c).stored

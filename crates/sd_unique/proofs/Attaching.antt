@@ -1,0 +1,102 @@
+-- A detached record becomes a linked one.
+use Rattle.std.proofs.Common.{◌≡◌, ◌≢◌, ℕ, ◌+◌, ◌-◌, ◌<◌, bit_and, List, length, slice_get, unwrap_or}
+use Rattle.std.proofs.Common.{[], Some, refl, sym, ap, subst, ◌∙◌, arith}
+use Rattle.std.proofs.Math.ListN.{set}
+use Rattle.std.proofs.lemmas.List.{length-set, get_or-set_same, get_or-set_other}
+use Rattle.std.specs.FinMap.{get}
+use Rattle.sd_runs.specs.Arena.{Arena}
+use Rattle.sd_runs.proofs.Places.{by_cases}
+use Rattle.sd_unique.specs.declared.record.Record.{Record}
+use Rattle.sd_unique.specs.declared.record.Links.{Links}
+use Rattle.sd_unique.specs.declared.record.State.TheVariants.{Linked, Detached}
+use Rattle.sd_unique.specs.Filed.{IsFiled, unfiled, filed_at}
+use Rattle.sd_unique.specs.Record.{key_of, nodes_of}
+use Rattle.sd_unique.specs.Chains.{next_of, chain_by, list_by, chain_under, list_under, stack_under, bucket_of}
+use Rattle.sd_unique.specs.Chains.{head_of, no_record, Kept, KeepsStack, AreListed}
+use Rattle.sd_unique.specs.Relinking.{relinked, IsAbsent}
+use Rattle.sd_unique.proofs.Changed.{set_which}
+use Rattle.sd_unique.proofs.Cutting.{all_kept}
+use Rattle.sd_unique.proofs.Entries.{slice_get_inside}
+use Rattle.sd_unique.proofs.Filed.{filed_first, both_same}
+use Rattle.sd_unique.proofs.Moved.{stored_relinked, nodes_relinked}
+use Rattle.sd_unique.proofs.Numbered.{detached_is}
+use Rattle.sd_unique.proofs.Stacked.{link_there, link_other}
+use Rattle.sd_unique.proofs.Standing.{chain_here, chain_other, listed_at, stacked_kept, is_record, detached_chain}
+
+-- the bucket that the code computed is that of the key
+pub bucket_at : (arena : Arena) (r : Record) (list : List (ℕ × ℕ)) (count b : ℕ)
+    → get arena.live r.start ≡ Some list → b ≡ bucket_of (r.place, list) count → bucket_of (key_of arena r) count ≡ b
+bucket_at arena r list count b live is =
+    ap (λ o. bucket_of (r.place, unwrap_or o []) count) live ∙ sym is
+
+module _ (arena : Arena) (rs : List Record) (n : ℕ) (r t : Record) (there : slice_get rs n ≡ Some r)
+    (place : t.place ≡ r.place) (start : t.start ≡ r.start) (size : t.length ≡ r.length) (uses : t.uses ≡ r.uses)
+    (mark : t.mark ≡ r.mark) (was : r.state ≡ Detached) (is : t.state ≡ Linked) where
+  key_same : key_of arena t ≡ key_of arena r
+  key_same i = (place i, unwrap_or (get arena.live (start i)) [])
+
+  chain_new : (count b : ℕ) → bucket_of (key_of arena r) count ≡ b
+      → chain_under arena count (set rs n t) n ≡ Some (b + 1)
+  chain_new count b at =
+      chain_here arena rs rs n r t (all_kept rs) there count
+      ∙ ap (λ s. chain_by s (bucket_of (key_of arena t) count)) is
+      ∙ ap Some (omega (arith, ap (λ k. bucket_of k count) key_same, at))
+
+  list_new : list_by t.state (bit_and t.place 2047) ≡ Some (bit_and r.place 2047 + 1)
+  list_new =
+      ap (λ s. list_by s (bit_and t.place 2047)) is
+      ∙ ap Some (omega (arith, ap (λ p. bit_and p 2047) place))
+
+  -- the record is put first in the chain of its bucket
+  chained : (heads : List ℕ) (b : ℕ) → n ≢ no_record → bucket_of (key_of arena r) (length heads - 1) ≡ b
+      → b + 1 < length heads → t.next ≡ head_of heads (b + 1)
+      → IsFiled (next_of rs) no_record (head_of heads) (chain_under arena (length heads - 1) rs)
+      → IsFiled (next_of (set rs n t)) no_record (head_of (set heads (b + 1) n))
+      (chain_under arena (length heads - 1) (set rs n t))
+  chained heads b some at inside next f =
+      filed_first (next_of rs) (next_of (set rs n t)) no_record (head_of heads) (head_of (set heads (b + 1) n))
+      (chain_under arena (length heads - 1) rs) (chain_under arena (length heads - 1) (set rs n t)) (b + 1) n some
+      (detached_chain arena rs n r there was (length heads - 1))
+      (record {
+        after = link_there (λ (x : Record). x.next) rs n t (slice_get_inside rs n r there) ∙ next;
+        kept = λ y c e ne. link_other (λ (x : Record). x.next) rs n t y ne;
+        first = get_or-set_same heads (b + 1) n no_record inside;
+        heads = λ c ne. get_or-set_other heads (b + 1) c n no_record ne;
+        there = chain_new (length heads - 1) b at;
+        others = λ y ne. chain_other arena rs rs n r t (all_kept rs) there (length heads - 1) y ne;
+      })
+      f
+
+  -- what holds of the fields is kept
+  pub attached_kept : (links new : List Links) (heads places places' : List ℕ) (top b : ℕ)
+      → bucket_of (key_of arena r) (length heads - 1) ≡ b → b + 1 < length heads → t.next ≡ head_of heads (b + 1)
+      → length places' ≡ length places → KeepsStack links new
+      → AreListed new places' (filed_at n (bit_and r.place 2047 + 1) (unfiled n (list_under rs)))
+      → IsAbsent (nodes_of arena rs) (key_of arena r) → (r.uses ≡ 0 → stack_under links n ≡ Some 0)
+      → Kept arena rs links heads places top → Kept arena (set rs n t) new (set heads (b + 1) n) places' top
+  attached_kept links new heads places places' top b at inside next same_places stack lists absent queued k =
+      record {
+        stored = stored_relinked arena rs n r t there (slice_get_inside rs n r there) place start size uses mark
+            was is absent k.stored;
+        linked_all = stack.size ∙ k.linked_all ∙ sym (length-set rs n t);
+        some = omega (arith, k.some, length-set heads (b + 1) n);
+        places_all = same_places ∙ k.places_all;
+        in_chains = subst (λ h. IsFiled (next_of (set rs n t)) no_record (head_of (set heads (b + 1) n))
+            (chain_under arena (h - 1) (set rs n t))) (sym (length-set heads (b + 1) n))
+            (chained heads b (is_record n k.stored (slice_get_inside rs n r there)) at inside next k.in_chains);
+        in_lists = both_same _ _ _ _ no_record _ _ (filed_at n (bit_and r.place 2047 + 1) (unfiled n (list_under rs)))
+            (list_under (set rs n t)) (λ b i e. refl) (λ b i e. refl) (λ b. refl)
+            (listed_at arena rs rs n r t (all_kept rs) there (bit_and r.place 2047 + 1) list_new) lists;
+        in_stack = stacked_kept links new top stack k.in_stack;
+        queued = λ i x e linked none. by_cases
+            (λ h. stack.flags i ∙ ap (stack_under links) h.0
+            ∙ queued (sym uses ∙ ap (λ (y : Record). y.uses) h.1 ∙ none))
+            (λ h. stack.flags i ∙ k.queued i x h.1 linked none)
+            (set_which rs n r t there i x e);
+      }
+
+  pub nodes_attached : (k : ℕ × List (ℕ × ℕ)) → get (nodes_of arena rs).detached n ≡ Some k
+      → nodes_of arena (set rs n t) ≡ relinked (nodes_of arena rs) n k
+  nodes_attached k e =
+      nodes_relinked arena rs n r t there (slice_get_inside rs n r there) place start size uses mark was is
+      ∙ ap (relinked (nodes_of arena rs) n) (detached_is arena rs n r k there e)

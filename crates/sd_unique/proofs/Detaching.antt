@@ -1,0 +1,75 @@
+-- A linked record becomes a detached one.
+use Rattle.std.proofs.Common.{◌≡◌, ℕ, ◌-◌, bit_and, List, length, slice_get, Some, refl, sym, ap, subst, ◌∙◌, arith}
+use Rattle.std.proofs.Math.ListN.{set}
+use Rattle.std.proofs.lemmas.List.{length-set}
+use Rattle.std.specs.Option.{IsSome}
+use Rattle.std.specs.FinMap.{get}
+use Rattle.sd_runs.specs.Arena.{Arena}
+use Rattle.sd_runs.proofs.Places.{by_cases}
+use Rattle.sd_unique.specs.declared.record.Record.{Record}
+use Rattle.sd_unique.specs.declared.record.Links.{Links}
+use Rattle.sd_unique.specs.declared.record.State.TheVariants.{Linked, Detached}
+use Rattle.sd_unique.specs.Filed.{IsFiled, unfiled, filed_at}
+use Rattle.sd_unique.specs.Record.{key_of, nodes_of}
+use Rattle.sd_unique.specs.Chains.{next_of, chain_by, list_by, chain_under, list_under, bucket_of, head_of}
+use Rattle.sd_unique.specs.Chains.{no_record, Kept, KeepsRecords, KeepsStack, AreListed}
+use Rattle.sd_unique.specs.Relinking.{unlinked}
+use Rattle.sd_unique.proofs.Changed.{set_which}
+use Rattle.sd_unique.proofs.Entries.{slice_get_inside}
+use Rattle.sd_unique.proofs.Filed.{filed_same, both_same}
+use Rattle.sd_unique.proofs.Moved.{stored_unlinked, nodes_unlinked, not_both}
+use Rattle.sd_unique.proofs.Numbered.{linked_there, linked_is}
+use Rattle.sd_unique.proofs.Relinked.{nodes_kept, stored_kept}
+use Rattle.sd_unique.proofs.Stacked.{link_same}
+use Rattle.sd_unique.proofs.Standing.{unchained, listed_at, stacked_kept}
+
+-- The chain and the lists were changed, then the state: what holds of the fields is kept, and the node is detached.
+module _ (arena : Arena) (rs mid : List Record) (n : ℕ) (m t : Record) (kept : KeepsRecords rs mid)
+    (there : slice_get mid n ≡ Some m) (place : t.place ≡ m.place) (start : t.start ≡ m.start)
+    (size : t.length ≡ m.length) (uses : t.uses ≡ m.uses) (mark : t.mark ≡ m.mark) (is : t.state ≡ Detached) where
+  was_linked : IsSome (get (nodes_of arena rs).linked n) → m.state ≡ Linked
+  was_linked h =
+      let w = kept.was n m there in
+      let r = linked_there arena rs n h in
+      let same : Some r.0 ≡ Some w.0 = sym r.1 ∙ w.1 in
+      let is : r.0 ≡ w.0 = cc in
+      w.7 ∙ subst (λ (x : Record). x.state ≡ Linked) is r.2
+
+  pub detached_kept : (links new : List Links) (heads heads' places places' : List ℕ) (top : ℕ)
+      → IsSome (get (nodes_of arena rs).linked n) → t.next ≡ m.next → length heads' ≡ length heads
+      → length places' ≡ length places → KeepsStack links new
+      → IsFiled (next_of mid) no_record (head_of heads') (unfiled n (chain_under arena (length heads - 1) rs))
+      → AreListed new places' (filed_at n 0 (unfiled n (list_under rs)))
+      → Kept arena rs links heads places top → Kept arena (set mid n t) new heads' places' top
+  detached_kept links new heads heads' places places' top was next same_heads same_places stack chains lists k =
+      record {
+        stored = stored_unlinked arena mid n m t there (slice_get_inside mid n m there) place start size uses mark
+            (was_linked was) is (stored_kept rs mid kept arena k.stored);
+        linked_all = stack.size ∙ k.linked_all ∙ sym kept.size ∙ sym (length-set mid n t);
+        some = omega (arith, k.some, same_heads);
+        places_all = same_places ∙ k.places_all;
+        in_chains = filed_same (next_of mid) (next_of (set mid n t)) no_record (head_of heads') (head_of heads')
+            (unfiled n (chain_under arena (length heads - 1) rs)) (chain_under arena (length heads' - 1) (set mid n t))
+            (λ b i e. link_same (λ (x : Record). x.next) mid n t m there next i) (λ b. refl)
+            (λ i. ap (λ h. chain_under arena (h - 1) (set mid n t) i) same_heads
+            ∙ unchained arena rs mid n m t kept there (length heads - 1)
+            (ap (λ s. chain_by s (bucket_of (key_of arena t) (length heads - 1))) is) i) chains;
+        in_lists = both_same _ _ _ _ no_record _ _ (filed_at n 0 (unfiled n (list_under rs)))
+            (list_under (set mid n t)) (λ b i e. refl) (λ b i e. refl) (λ b. refl)
+            (listed_at arena rs mid n m t kept there 0 (ap (λ s. list_by s (bit_and t.place 2047)) is)) lists;
+        in_stack = stacked_kept links new top stack k.in_stack;
+        queued = λ i x e linked none. by_cases
+            (λ h. absurd (not_both t.state is (ap (λ y. y.state) h.1 ∙ linked)))
+            (λ h. let w = kept.was i x h.1 in
+            stack.flags i ∙ k.queued i w.0 w.1 (sym w.7 ∙ linked) (sym w.5 ∙ none))
+            (set_which mid n m t there i x e);
+      }
+
+  pub nodes_detached : (k : ℕ × List (ℕ × ℕ)) → get (nodes_of arena rs).linked n ≡ Some k
+      → nodes_of arena (set mid n t) ≡ unlinked (nodes_of arena rs) n k
+  nodes_detached k e =
+      nodes_unlinked arena mid n m t there (slice_get_inside mid n m there) place start size uses mark
+      (was_linked (subst IsSome (sym e) refl)) is
+      ∙ ap (unlinked (nodes_of arena mid) n) (linked_is arena mid n m k there
+      (ap (λ a. get a.linked n) (nodes_kept rs mid kept arena) ∙ e))
+      ∙ ap (λ a. unlinked a n k) (nodes_kept rs mid kept arena)

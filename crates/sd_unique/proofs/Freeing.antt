@@ -1,0 +1,99 @@
+-- A detached record becomes a free one.
+use Rattle.std.proofs.Common.{◌≡◌, ◌≢◌, ℕ, ◌-◌, ◌<◌, bit_and, List, length, slice_get, Some, refl, sym, ap, subst}
+use Rattle.std.proofs.Common.{[], unwrap_or, ◌∙◌, arith}
+use Rattle.std.proofs.Math.ListN.{set}
+use Rattle.std.proofs.lemmas.List.{length-set, get_or-set_same, get_or-set_other}
+use Rattle.std.specs.FinMap.{get}
+use Rattle.sd_runs.specs.Arena.{Arena, IsArena}
+use Rattle.sd_runs.specs.Taking.{given}
+use Rattle.sd_runs.proofs.Places.{by_cases}
+use Rattle.sd_unique.specs.declared.record.Record.{Record}
+use Rattle.sd_unique.specs.declared.record.Links.{Links}
+use Rattle.sd_unique.specs.declared.record.State.TheVariants.{Free, Detached}
+use Rattle.sd_unique.specs.Filed.{IsFiled, unfiled}
+use Rattle.sd_unique.specs.Record.{key_of, nodes_of, Stored}
+use Rattle.sd_unique.specs.Chains.{next_of, chain_by, list_by, chain_under, list_under, bucket_of, head_of}
+use Rattle.sd_unique.specs.Chains.{no_record, Kept, KeepsStack, AreListed}
+use Rattle.sd_unique.specs.Relinking.{removed}
+use Rattle.sd_unique.proofs.Changed.{set_which}
+use Rattle.sd_unique.proofs.Cutting.{all_kept}
+use Rattle.sd_unique.proofs.Entries.{slice_get_inside}
+use Rattle.sd_unique.proofs.Filed.{filed_first, both_same}
+use Rattle.sd_unique.proofs.Moved.{stored_freed, untaken, nodes_removed, free_not_linked}
+use Rattle.sd_unique.proofs.Numbered.{detached_is}
+use Rattle.sd_unique.proofs.Stacked.{link_there, link_other}
+use Rattle.sd_unique.proofs.Standing.{chain_here, chain_other, unlisted, stacked_kept, is_record, detached_chain}
+use Rattle.sd_unique.proofs.Taken.{kept_arena, given_same, given_longer, given_bound}
+
+module _ (arena : Arena) (rs : List Record) (n : ℕ) (r t : Record) (there : slice_get rs n ≡ Some r)
+    (was : r.state ≡ Detached) (is : t.state ≡ Free) where
+  -- the record is put first in the chain of the free ones
+  chained : (count : ℕ) (heads : List ℕ) → n ≢ no_record → 0 < length heads → t.next ≡ head_of heads 0
+      → IsFiled (next_of rs) no_record (head_of heads) (chain_under arena count rs)
+      → IsFiled (next_of (set rs n t)) no_record (head_of (set heads 0 n)) (chain_under arena count (set rs n t))
+  chained count heads some inside next f =
+      filed_first (next_of rs) (next_of (set rs n t)) no_record (head_of heads) (head_of (set heads 0 n))
+      (chain_under arena count rs) (chain_under arena count (set rs n t)) 0 n some
+      (detached_chain arena rs n r there was count)
+      (record {
+        after = link_there (λ (x : Record). x.next) rs n t (slice_get_inside rs n r there) ∙ next;
+        kept = λ y c e ne. link_other (λ (x : Record). x.next) rs n t y ne;
+        first = get_or-set_same heads 0 n no_record inside;
+        heads = λ c ne. get_or-set_other heads 0 c n no_record ne;
+        there = chain_here arena rs rs n r t (all_kept rs) there count
+            ∙ ap (λ s. chain_by s (bucket_of (key_of arena t) count)) is;
+        others = λ y ne. chain_other arena rs rs n r t (all_kept rs) there count y ne;
+      })
+      f
+
+  -- what holds of the fields is kept, before the run is given back
+  freed_kept : (links new : List Links) (heads places places' : List ℕ) (top : ℕ) → t.next ≡ head_of heads 0
+      → length places' ≡ length places → KeepsStack links new → AreListed new places' (unfiled n (list_under rs))
+      → Stored arena (set rs n t) → Kept arena rs links heads places top
+      → Kept arena (set rs n t) new (set heads 0 n) places' top
+  freed_kept links new heads places places' top next same_places stack lists st k =
+      record {
+        stored = st;
+        linked_all = stack.size ∙ k.linked_all ∙ sym (length-set rs n t);
+        some = omega (arith, k.some, length-set heads 0 n);
+        places_all = same_places ∙ k.places_all;
+        in_chains = subst (λ h. IsFiled (next_of (set rs n t)) no_record (head_of (set heads 0 n))
+            (chain_under arena (h - 1) (set rs n t))) (sym (length-set heads 0 n))
+            (chained (length heads - 1) heads (is_record n k.stored (slice_get_inside rs n r there))
+            (omega (arith, k.some)) next k.in_chains);
+        in_lists = both_same _ _ _ _ no_record _ _ (unfiled n (list_under rs)) (list_under (set rs n t))
+            (λ b i e. refl) (λ b i e. refl) (λ b. refl)
+            (unlisted arena rs rs n r t (all_kept rs) there (ap (λ s. list_by s (bit_and t.place 2047)) is)) lists;
+        in_stack = stacked_kept links new top stack k.in_stack;
+        queued = λ i x e linked none. by_cases
+            (λ h. absurd (free_not_linked t.state is (ap (λ (y : Record). y.state) h.1 ∙ linked)))
+            (λ h. stack.flags i ∙ k.queued i x h.1 linked none)
+            (set_which rs n r t there i x e);
+      }
+
+  module _ (new : Arena) (st : Stored arena rs) (well : IsArena new) (gave : new ≡ given arena r.start r.length)
+      (list : List (ℕ × ℕ)) (live : get arena.live r.start ≡ Some list) (size : length list ≡ r.length) where
+    inside : n < length rs
+    inside = slice_get_inside rs n r there
+
+    -- and after that
+    pub released_kept : (links more : List Links) (heads places places' : List ℕ) (top : ℕ) → t.next ≡ head_of heads 0
+        → length places' ≡ length places → KeepsStack links more
+        → AreListed more places' (unfiled n (list_under rs)) → Kept arena rs links heads places top
+        → Kept new (set rs n t) more (set heads 0 n) places' top
+    released_kept links more heads places places' top next same_places stack lists k =
+        let stored = stored_freed arena new rs n r t there inside was is st well gave list size in
+        let apart = untaken arena new rs n r t there inside was is st well gave list size in
+        kept_arena arena new (set rs n t) stored well
+        (given_same arena new (set rs n t) stored well list r.start r.length gave size apart)
+        (given_longer arena new (set rs n t) stored well list r.start r.length gave size apart)
+        (given_bound arena new (set rs n t) stored well list r.start r.length gave size apart)
+        more (set heads 0 n) places' top
+        (freed_kept links more heads places places' top next same_places stack lists stored k)
+
+    pub nodes_released : (k : ℕ × List (ℕ × ℕ)) → get (nodes_of arena rs).detached n ≡ Some k
+        → nodes_of new (set rs n t) ≡ removed (nodes_of arena rs) n k.1
+    nodes_released k e =
+        nodes_removed arena new rs n r t there inside was is st well gave list size
+        ∙ ap (removed (nodes_of arena rs) n)
+        (ap (λ o. unwrap_or o []) (sym live) ∙ ap (λ x. x.1) (detached_is arena rs n r k there e))

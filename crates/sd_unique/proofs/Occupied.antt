@@ -1,0 +1,325 @@
+-- A free record becomes that of a linked node over a loose run.
+use Rattle.std.proofs.Common.{◌≡◌, ◌≢◌, ◌-◌, bit_and, ℕ, suc, ◌<◌, List, [], length, get_or, slice_get}
+use Rattle.std.proofs.Common.{Option, Some, None, unwrap_or, refl, sym, ap, subst, ◌∙◌, arith}
+use Rattle.std.proofs.Math.ListN.{set}
+use Rattle.std.proofs.lemmas.Bool.{cases_eq}
+use Rattle.std.proofs.lemmas.List.{length-set, get_or-set_same, get_or-set_other}
+use Rattle.std.specs.Option.{option_map, option_and_then, IsSome}
+use Rattle.std.specs.FinMap.{get, remove}
+use Rattle.sd_runs.specs.Arena.{Arena}
+use Rattle.sd_runs.proofs.Places.{by_cases}
+use Rattle.sd_unique.specs.declared.record.Record.{Record}
+use Rattle.sd_unique.specs.declared.record.Links.{Links}
+use Rattle.sd_unique.specs.declared.record.State.{State}
+use Rattle.sd_unique.specs.declared.record.State.TheVariants.{Free, Linked, Detached}
+use Rattle.sd_unique.specs.Nodes.{key_at}
+use Rattle.sd_unique.specs.Occupying.{occupied, IsFreeNumber}
+use Rattle.sd_unique.specs.Relinking.{IsAbsent, IsLoose}
+use Rattle.sd_unique.specs.Record.{if_linked, if_detached, if_node, IsNode, key_of, linked_key}
+use Rattle.sd_unique.specs.Record.{detached_key, uses_in, mark_in, loose_of, counts_of, nodes_of, Stored}
+use Rattle.sd_unique.specs.Filed.{IsFiled, unfiled, filed_at}
+use Rattle.sd_unique.specs.Chains.{next_of, head_of, chain_by, list_by, chain_under, list_under}
+use Rattle.sd_unique.specs.Chains.{stack_under, bucket_of, no_record, Kept, AreListed, AreStacked, KeepsLists}
+use Rattle.sd_unique.specs.Chains.{KeepsStack, IsPushed}
+use Rattle.sd_unique.proofs.Both.{unfiled_here, unfiled_other, filed_here, filed_other}
+use Rattle.sd_unique.proofs.Changed.{set_which, stored_set}
+use Rattle.sd_unique.proofs.Cut.{filed_cut_first}
+use Rattle.sd_unique.proofs.Detached.{set_twice, slice_set_same}
+use Rattle.sd_unique.proofs.Entries.{slice_get_at, slice_get_inside, slice_get_set, slice_get_set_other}
+use Rattle.sd_unique.proofs.Filed.{filed_first, filed_same, both_same}
+use Rattle.sd_unique.proofs.Loose.{loose_same, loose_split, loose_live, loose_untaken}
+use Rattle.sd_unique.proofs.Numbered.{linked_at, key_at_is, node_key, node_some, picked_from}
+use Rattle.sd_unique.proofs.Picked.{picked_set, picked_same}
+use Rattle.sd_unique.proofs.Stacked.{link_there, link_other, head_has, chain_empty, get_or_any}
+
+linked_node : (s : State) → s ≡ Linked → IsNode s
+linked_node s e = subst IsNode (sym e) tt
+
+in_first : (s : State) (b : ℕ) → chain_by s b ≡ Some 0 → s ≡ Free
+in_first Free b e = refl
+in_first Linked b e = let no : suc b ≡ 0 = cc in absurd (omega arith)
+in_first Detached b e = cc
+
+module _ (arena : Arena) (rs : List Record) (n : ℕ) (r t : Record) (there : slice_get rs n ≡ Some r)
+    (was : r.state ≡ Free) (is : t.state ≡ Linked) where
+  inside : n < length rs
+  inside = slice_get_inside rs n r there
+
+  -- the lists with the number first in that of its place
+  pub list_occupied : (m : ℕ) → list_under (set rs n t) m ≡ filed_at n (suc (bit_and t.place 2047)) (list_under rs) m
+  list_occupied m =
+      by_cases
+      (λ e. ap (list_under (set rs n t)) e
+      ∙ ap (option_and_then (λ x. list_by x.state (bit_and x.place 2047))) (slice_get_set rs n t inside)
+      ∙ ap (λ s. list_by s (bit_and t.place 2047)) is
+      ∙ sym (filed_here n (suc (bit_and t.place 2047)) (list_under rs) m e))
+      (λ ne. ap (option_and_then (λ x. list_by x.state (bit_and x.place 2047))) (slice_get_set_other rs n t m ne)
+      ∙ sym (filed_other n (suc (bit_and t.place 2047)) (list_under rs) m ne))
+      (cases_eq m n)
+
+  -- a free record stands in no list
+  pub free_unlisted : list_under rs n ≡ None
+  free_unlisted =
+      ap (option_and_then (λ x. list_by x.state (bit_and x.place 2047))) there
+      ∙ ap (λ s. list_by s (bit_and r.place 2047)) was
+
+  -- the chains after the first free record was put into a bucket
+  pub chains_occupied : (heads : List ℕ) (b count : ℕ) → suc b < length heads → head_of heads 0 ≡ n
+      → n ≢ no_record → b ≡ bucket_of (key_of arena t) count
+      → t.next ≡ head_of (set heads 0 (next_of rs n)) (suc b)
+      → IsFiled (next_of rs) no_record (head_of heads) (chain_under arena count rs)
+      → IsFiled (next_of (set rs n t)) no_record (head_of (set (set heads 0 (next_of rs n)) (suc b) n))
+      (chain_under arena count (set rs n t))
+  chains_occupied heads b count fits first some bucket next f =
+      filed_first (next_of rs) (next_of (set rs n t)) no_record (head_of (set heads 0 (next_of rs n)))
+      (head_of (set (set heads 0 (next_of rs n)) (suc b) n)) (unfiled n (chain_under arena count rs))
+      (chain_under arena count (set rs n t)) (suc b) n some
+      (unfiled_here n (chain_under arena count rs) n refl)
+      (record {
+        after = link_there (λ (x : Record). x.next) rs n t inside ∙ next;
+        kept = λ y c e ne. link_other (λ (x : Record). x.next) rs n t y ne;
+        first = get_or-set_same (set heads 0 (next_of rs n)) (suc b) n no_record
+            (omega (arith, fits, length-set heads 0 (next_of rs n)));
+        heads = λ c ne. get_or-set_other (set heads 0 (next_of rs n)) (suc b) c n no_record ne;
+        there = ap (option_and_then (λ x. chain_by x.state (bucket_of (key_of arena x) count)))
+            (slice_get_set rs n t inside)
+            ∙ ap (λ s. chain_by s (bucket_of (key_of arena t) count)) is ∙ ap (λ k. Some (suc k)) (sym bucket);
+        others = λ y ne. ap (option_and_then (λ x. chain_by x.state (bucket_of (key_of arena x) count)))
+            (slice_get_set_other rs n t y ne) ∙ sym (unfiled_other n (chain_under arena count rs) y ne);
+      })
+      (filed_cut_first (next_of rs) no_record (head_of heads) (chain_under arena count rs) n 0 free_there f
+      (next_of rs) (head_of (set heads 0 (next_of rs n))) first
+      (get_or-set_same heads 0 (next_of rs n) no_record (omega arith)) (λ y. refl)
+      (λ c ne. get_or-set_other heads 0 c (next_of rs n) no_record ne))
+    where
+      free_there : chain_under arena count rs n ≡ Some 0
+      free_there =
+          ap (option_and_then (λ x. chain_by x.state (bucket_of (key_of arena x) count))) there
+          ∙ ap (λ s. chain_by s (bucket_of (key_of arena r) count)) was
+
+  module _ (list : List (ℕ × ℕ)) (run : get (nodes_of arena rs).loose t.start ≡ Some list)
+      (size : t.length ≡ length list) where
+    key_new : key_of arena t ≡ (t.place, list)
+    key_new i = (t.place, unwrap_or (loose_live arena.live rs t.start list run i) [])
+
+    -- what holds of the records is kept where no linked node has the key
+    pub stored_occupied : IsAbsent (nodes_of arena rs) (t.place, list) → Stored arena rs → Stored arena (set rs n t)
+    stored_occupied absent st =
+        stored_set arena rs n r t there
+        (λ node. ap (option_map length) (loose_live arena.live rs t.start list run) ∙ ap Some (sym size))
+        (λ i x ne e nx nt same. loose_untaken arena.live rs t.start list run i x e nx (sym same))
+        (λ i x ne e nx nt same. absent i
+        (linked_at arena rs i ∙ ap (option_and_then (λ r. linked_key arena r)) e
+        ∙ ap (λ s. if_linked s (key_of arena x)) nx ∙ ap Some (same ∙ key_new)))
+        st
+
+    loose_occupied : loose_of arena.live (set rs n t) ≡ remove (loose_of arena.live rs) t.start
+    loose_occupied =
+        loose_split arena.live (set rs n t) n t r (slice_set_same rs n t inside) (linked_node t.state is) was
+        ∙ ap (λ ts. remove (loose_of arena.live ts) t.start) (set_twice rs n t r)
+        ∙ ap (λ m. remove m t.start) (loose_same arena.live rs n r r there (λ m. refl))
+
+    -- the nodes with the new one
+    pub nodes_occupied : t.uses ≡ 0 → t.mark ≡ 0
+        → nodes_of arena (set rs n t) ≡ occupied (nodes_of arena rs) n t.place t.start list
+    nodes_occupied uses mark i =
+        record {
+          linked = picked_set (λ (x : Record). linked_key arena x) rs n t (t.place, list) inside
+              (ap (λ s. if_linked s (key_of arena t)) is ∙ ap Some key_new) i;
+          detached = picked_same (λ (x : Record). detached_key arena x) rs n t r there inside
+              (ap (λ s. if_detached s (key_of arena t)) is ∙ sym (ap (λ s. if_detached s (key_of arena r)) was)) i;
+          loose = loose_occupied i;
+          uses = picked_set (λ (x : Record). uses_in x) rs n t 0 inside
+              (ap (λ s. if_node s t.uses) is ∙ ap Some uses) i;
+          marks = picked_set (λ (x : Record). mark_in x) rs n t 0 inside
+              (ap (λ s. if_node s t.mark) is ∙ ap Some mark) i;
+          free = counts_of arena.free;
+          records = length-set rs n t i;
+          extent = arena.extent;
+          bound = arena.bound;
+        }
+
+    -- what holds of the fields is kept
+    pub kept_occupied : (links new : List Links) (heads heads' places places' : List ℕ) (top top' : ℕ)
+        → IsAbsent (nodes_of arena rs) (t.place, list)
+        → length new ≡ length links → length heads' ≡ length heads → length places' ≡ length places
+        → IsFiled (next_of (set rs n t)) no_record (head_of heads')
+        (chain_under arena (length heads - 1) (set rs n t))
+        → AreListed new places' (list_under (set rs n t)) → AreStacked new top'
+        → ((m : ℕ) → stack_under links m ≡ Some 0 → stack_under new m ≡ Some 0) → stack_under new n ≡ Some 0
+        → Kept arena rs links heads places top → Kept arena (set rs n t) new heads' places' top'
+    kept_occupied links new heads heads' places places' top top' absent size hsize psize chains lists stacked flags
+        here k =
+        record {
+          stored = stored_occupied absent k.stored;
+          linked_all = size ∙ k.linked_all ∙ sym (length-set rs n t);
+          some = omega (arith, hsize, k.some);
+          places_all = psize ∙ k.places_all;
+          in_chains = subst (λ s. IsFiled (next_of (set rs n t)) no_record (head_of heads')
+              (chain_under arena (s - 1) (set rs n t))) (sym hsize) chains;
+          in_lists = lists;
+          in_stack = stacked;
+          queued = λ i x e linked none. by_cases
+              (λ h. ap (stack_under new) h.0 ∙ here)
+              (λ h. flags i (k.queued i x h.1 linked none))
+              (set_which rs n r t there i x e);
+        }
+
+-- the lists, read from another function of the same places
+pub lists_by : (links : List Links) (places : List ℕ) (under under' : ℕ → Option ℕ) → ((m : ℕ) → under' m ≡ under m)
+    → AreListed links places under → AreListed links places under'
+lists_by links places under under' same f =
+    both_same _ _ _ _ no_record _ _ _ _ (λ b i e. refl) (λ b i e. refl) (λ b. refl) same f
+
+-- the lists after a push onto the stack
+pub lists_pushed : (links new : List Links) (places : List ℕ) (under : ℕ → Option ℕ) → KeepsLists links new
+    → AreListed links places under → AreListed new places under
+lists_pushed links new places under kept f =
+    both_same _ _ _ _ no_record _ _ _ _ (λ b i e. kept.after i) (λ b i e. kept.before i) (λ b. refl) (λ m. refl) f
+
+-- the stack after a step in the lists
+pub stack_kept : (links new : List Links) (top : ℕ) → KeepsStack links new → AreStacked links top → AreStacked new top
+stack_kept links new top kept f =
+    filed_same _ _ no_record _ _ _ _ (λ b i e. kept.waiting i) (λ b. refl) kept.flags f
+
+module _ (arena : Arena) (rs : List Record) (heads : List ℕ) (count : ℕ)
+    (f : IsFiled (next_of rs) no_record (head_of heads) (chain_under arena count rs)) where
+  -- the first number of the first chain is that of a free record
+  pub first_free : head_of heads 0 ≢ no_record
+      → (r : Record) × (slice_get rs (head_of heads 0) ≡ Some r) × (r.state ≡ Free)
+  first_free ne =
+      let r = picked_from (λ (x : Record). chain_by x.state (bucket_of (key_of arena x) count))
+      (slice_get rs (head_of heads 0)) 0
+      (f.only 0 (head_of heads 0) (head_has (next_of rs) no_record (head_of heads 0) (f.lists 0) (f.chained 0) ne)) in
+      (r.0, r.1, in_first (r.0).state (bucket_of (key_of arena r.0) count) r.2)
+
+  pub free_first : head_of heads 0 ≢ no_record → IsFreeNumber (nodes_of arena rs) (head_of heads 0)
+  free_first ne =
+      let r = first_free ne in (
+        slice_get_inside rs (head_of heads 0) r.0 r.1,
+        key_at_is arena rs (head_of heads 0) ∙ ap (option_and_then (λ r. node_key arena r)) r.1
+            ∙ ap (λ s. if_node s (key_of arena r.0)) r.2,
+      )
+
+  -- where the first chain is empty, each record is that of a node
+  pub none_free : head_of heads 0 ≡ no_record → (m : ℕ) (r : Record) → slice_get rs m ≡ Some r → IsNode r.state
+  none_free e m r there =
+      by_state r.state (λ free. chain_empty (next_of rs) no_record (head_of heads 0) m (f.lists 0) (f.chained 0) e
+      (f.filed 0 m (ap (option_and_then (λ x. chain_by x.state (bucket_of (key_of arena x) count))) there
+      ∙ ap (λ s. chain_by s (bucket_of (key_of arena r) count)) free)))
+    where
+      by_state : (s : State) → ¬ (s ≡ Free) → IsNode s
+      by_state Free h = absurd (h refl)
+      by_state Linked h = tt
+      by_state Detached h = tt
+
+  pub all_nodes : head_of heads 0 ≡ no_record → (m : ℕ) → m < length rs → IsSome (key_at (nodes_of arena rs) m)
+  all_nodes e m below =
+      let blank : Record = record { place = 0; start = 0; length = 0; next = 0; uses = 0; mark = 0; state = Free } in
+      let there = slice_get_at rs m blank below in
+      subst IsSome (sym (key_at_is arena rs m ∙ ap (option_and_then (λ r. node_key arena r)) there
+      ∙ node_some (get_or rs m blank).state (key_of arena (get_or rs m blank))
+      (none_free e m (get_or rs m blank) there))) refl
+
+  -- a number that no node has is that of a free record
+  pub some_free : (m : ℕ) → IsFreeNumber (nodes_of arena rs) m → head_of heads 0 ≢ no_record
+  some_free m free e =
+      let node = all_nodes e m free.0 in let no = subst IsSome free.1 node in cc
+
+-- the fields are the same, each by its equation
+pub kept_fields : (arena : Arena) (rs : List Record) (links links' : List Links) (heads places places' : List ℕ)
+    (top : ℕ) → links' ≡ links → places' ≡ places → Kept arena rs links heads places top
+    → Kept arena rs links' heads places' top
+kept_fields arena rs links links' heads places places' top e f k =
+    subst (λ l. Kept arena rs l heads places' top) (sym e)
+    (subst (λ p. Kept arena rs links heads p top) (sym f) k)
+
+module _ (arena : Arena) (rs : List Record) (links : List Links) (heads places : List ℕ) (top : ℕ)
+    (k : Kept arena rs links heads places top) (first : ℕ) (read : first ≡ get_or heads 0 first)
+    (free : (m : ℕ) × IsFreeNumber (nodes_of arena rs) m) where
+  first_is : head_of heads 0 ≡ first
+  first_is = get_or_any heads 0 no_record first (omega (arith, k.some)) ∙ sym read
+
+  pub first_some : first ≢ no_record
+  first_some e = some_free arena rs heads (length heads - 1) k.in_chains free.0 free.1 (first_is ∙ e)
+
+  -- the first free number has a free record
+  pub first_there : (r : Record) × (slice_get rs first ≡ Some r) × (r.state ≡ Free)
+  first_there =
+      subst (λ n. (r : Record) × (slice_get rs n ≡ Some r) × (r.state ≡ Free)) first_is
+      (first_free arena rs heads (length heads - 1) k.in_chains (λ e. first_some (sym first_is ∙ e)))
+
+  pub first_inside : first < length rs
+  first_inside = let r = first_there in slice_get_inside rs first r.0 r.1
+
+  pub first_linked : first < length links
+  first_linked = omega (arith, first_inside, k.linked_all)
+
+  -- the number is free in the nodes too
+  pub first_number : IsFreeNumber (nodes_of arena rs) first
+  first_number =
+      let r = first_there in (
+        first_inside,
+        key_at_is arena rs first ∙ ap (option_and_then (λ r. node_key arena r)) r.1
+            ∙ ap (λ s. if_node s (key_of arena r.0)) r.2,
+      )
+
+  -- it stands in no list
+  pub first_unlisted : list_under rs first ≡ None
+  first_unlisted =
+      let r = first_there in
+      ap (option_and_then (λ x. list_by x.state (bit_and x.place 2047))) r.1
+      ∙ ap (λ s. list_by s (bit_and (r.0).place 2047)) r.2
+
+  -- what putting it first in the list of its place asks
+  pub first_ready : (under : ℕ → Option ℕ) × (under first ≡ None)
+      × ((n b : ℕ) → under n ≡ Some b → n < length links) × AreListed links places under
+  first_ready = (
+    list_under rs,
+    first_unlisted,
+    λ n b e.
+        let x = picked_from (λ (x : Record). list_by x.state (bit_and x.place 2047)) (slice_get rs n) b e in
+        omega (arith, slice_get_inside rs n x.0 x.1, k.linked_all),
+    k.in_lists,
+  )
+
+  module _ (t : Record) (list : List (ℕ × ℕ)) (linked : t.state ≡ Linked)
+      (run : IsLoose (nodes_of arena rs) t.start t.length list)
+      (absent : IsAbsent (nodes_of arena rs) (t.place, list)) where
+    -- what holds of the fields after all steps
+    pub kept_steps : (next b head : ℕ) → next ≡ next_of rs first
+        → b ≡ bucket_of (t.place, list) (length heads - 1) → b < length heads - 1 → head ≡ suc b
+        → t.next ≡ get_or (set heads 0 next) head t.next
+        → (mid new : List Links) (places' : List ℕ) (top' at : ℕ) → at ≡ suc (bit_and t.place 2047)
+        → AreListed mid places' (filed_at first at (list_under rs)) → KeepsStack links mid
+        → length places' ≡ length places → KeepsLists mid new → AreStacked new top' → IsPushed mid new first
+        → Kept arena (set rs first t) new (set (set heads 0 next) head first) places' top'
+    kept_steps next b head next_is bucket fits head_is t_next mid new places' top' at at_is listed stack size lists
+        stacked pushed =
+        let r = first_there in
+        let key : key_of arena t ≡ (t.place, list) = key_new arena rs first r.0 t r.1 r.2 linked list run.is
+        (sym run.counted) in
+        kept_occupied arena rs first r.0 t r.1 r.2 linked list run.is (sym run.counted) links new heads
+        (set (set heads 0 next) head first) places places' top top' absent (lists.size ∙ stack.size)
+        (length-set (set heads 0 next) head first ∙ length-set heads 0 next) size
+        (subst (λ h. IsFiled (next_of (set rs first t)) no_record (head_of (set (set heads 0 next) h first))
+        (chain_under arena (length heads - 1) (set rs first t))) (sym head_is)
+        (subst (λ x. IsFiled (next_of (set rs first t)) no_record (head_of (set (set heads 0 x) (suc b) first))
+        (chain_under arena (length heads - 1) (set rs first t))) (sym next_is)
+        (chains_occupied arena rs first r.0 t r.1 r.2 linked heads b (length heads - 1) (omega (arith, fits)) first_is
+        first_some (bucket ∙ ap (λ y. bucket_of y (length heads - 1)) (sym key))
+        (t_next ∙ get_or_any (set heads 0 next) head t.next no_record
+        (omega (arith, fits, head_is, length-set heads 0 next))
+        ∙ ap (head_of (set heads 0 next)) head_is ∙ ap (λ x. head_of (set heads 0 x) (suc b)) next_is)
+        k.in_chains)))
+        (lists_pushed mid new places' (list_under (set rs first t)) lists
+        (lists_by mid places' (filed_at first at (list_under rs)) (list_under (set rs first t))
+        (λ m. list_occupied arena rs first r.0 t r.1 r.2 linked m
+        ∙ ap (λ h. filed_at first h (list_under rs) m) (sym at_is)) listed))
+        stacked (λ m e. pushed.others m (stack.flags m ∙ e)) pushed.here k
+
+    pub nodes_steps : t.uses ≡ 0 → t.mark ≡ 0
+        → nodes_of arena (set rs first t) ≡ occupied (nodes_of arena rs) first t.place t.start list
+    nodes_steps uses mark =
+        let r = first_there in
+        nodes_occupied arena rs first r.0 t r.1 r.2 linked list run.is (sym run.counted) uses mark

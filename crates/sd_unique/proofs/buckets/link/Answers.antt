@@ -1,0 +1,48 @@
+use Rattle.std.proofs.Common.{◌+◌, ◌-◌, ◌<◌, [], get_or, length, unwrap_or, refl, sym, ap, subst, ◌∙◌, arith}
+use Rattle.std.proofs.Math.ListN.{set}
+use Rattle.std.proofs.lemmas.List.{length-set}
+use Rattle.sd_unique.specs.Chains.{bucket_of, no_record}
+use Rattle.sd_unique.specs.Growing.{IsLinkedBelow}
+use Rattle.sd_unique.specs.declared.record.Record.{Record}
+use Rattle.sd_unique.specs.declared.record.State.TheVariants.{Free}
+use Rattle.sd_unique.proofs.Entries.{slice_get_at}
+use Rattle.sd_unique.proofs.Growing.{linked_next}
+use Rattle.sd_unique.proofs.Stacked.{get_or_any}
+use Rattle.sd_unique.proofs.buckets.link.Goals as goal
+
+abbrev blank : Record
+blank = record { place = 0; start = 0; length = 0; next = 0; uses = 0; mark = 0; state = Free }
+
+pub returns-clause-linked : goal.returns-clause-linked
+returns-clause-linked c =
+    let r : Record = get_or c.args.records.now c.args.number blank in
+    let t : Record = record {
+      place = r.place;
+      start = r.start;
+      length = r.length;
+      next = get_or c.args.heads.now (c.bucket_at-head.result + 1) 0;
+      uses = r.uses;
+      mark = r.mark;
+      state = r.state;
+    } in
+    let fits : c.bucket_at-head.result + 1 < length c.args.heads.now =
+    omega (arith, c.bucket_at-head.ensures.inside, c.requires.some) in
+    subst (λ n. IsLinkedBelow c.args.runs.now (n - 1) (c.args.number + 1) (set c.args.records.now c.args.number t)
+    (set c.args.heads.now (c.bucket_at-head.result + 1) c.args.number))
+    (sym (length-set c.args.heads.now (c.bucket_at-head.result + 1) c.args.number))
+    (linked_next c.args.runs.now c.args.records.now (length c.args.heads.now - 1) c.args.number
+    c.bucket_at-head.result (c.bucket_at-head.result + 1) c.args.heads.now r t
+    (slice_get_at c.args.records.now c.args.number blank c.requires.inside) c.in-Linked.is c.in-Linked.is refl
+    fits (omega arith)
+    (c.bucket_at-head.ensures.is (r.place, c.get-list.result.now) c.hash.ensures
+    ∙ ap (λ o. bucket_of (r.place, unwrap_or o []) (length c.args.heads.now - 1)) (sym c.get-list.ensures))
+    (get_or_any c.args.heads.now (c.bucket_at-head.result + 1) 0 no_record fits)
+    (λ e. omega (
+      arith,
+      e,
+      c.requires.inside,
+      c.requires.stored.few,
+      c.requires.stored.well.bounded,
+      c.requires.stored.bound_fits,
+    ))
+    c.requires.linked)

@@ -1,8 +1,0 @@
-use Rattle.std.proofs.Common.{◌≡◌, take}
-use Rattle.std.specs.List.{fold}
-use Rattle.sd_unique.specs.Chains.{mixed}
-use Rattle.sd_unique.proofs.chains.bucket.Given as goal
-
-abbrev pub invariant-loop-pair : goal.invariant-loop-pair
-invariant-loop-pair l =
-    l.hash ≡ fold (λ hash pair. mixed (mixed hash pair.0) pair.1) (mixed 0 l.place) (take l.pair-index l.list)

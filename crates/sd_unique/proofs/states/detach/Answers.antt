@@ -1,0 +1,135 @@
+use Rattle.std.proofs.Common.{◌<◌, ◌-◌, length, get_or, refl, ◌∙◌, arith}
+use Rattle.sd_unique.specs.declared.record.Record.{Record}
+use Rattle.sd_unique.specs.declared.record.State.TheVariants.{Free}
+use Rattle.sd_unique.specs.Chains.{chain_under, list_under}
+use Rattle.sd_unique.specs.Filed.{unfiled}
+use Rattle.sd_unique.proofs.Both.{unfiled_here}
+use Rattle.sd_unique.proofs.Listed.{keeps_both}
+use Rattle.sd_unique.proofs.Detaching.{detached_kept, nodes_detached}
+use Rattle.sd_unique.proofs.Standing.{chain_inside, list_inside, linked_here, linked_head, linked_place}
+use Rattle.sd_unique.proofs.Standing.{is_record, unfiled_inside}
+use Rattle.sd_unique.proofs.Entries.{slice_get_at}
+use Rattle.sd_unique.proofs.Numbered.{linked_inside}
+use Rattle.sd_unique.proofs.Taken.{linked_state}
+use Rattle.sd_unique.proofs.states.detach.Goals as goal
+
+abbrev blank : Record
+blank = record { place = 0; start = 0; length = 0; next = 0; uses = 0; mark = 0; state = Free }
+
+pub slice_copy_out-record : goal.slice_copy_out-record
+slice_copy_out-record c = linked_inside c.args.runs.now c.args.records.now c.args.number c.requires.linked
+
+pub get-list-requires : goal.get-list-requires
+get-list-requires c =
+    let read = linked_here c.args.runs.now c.args.records.now c.args.number blank c.requires.linked in
+    c.requires.kept.1.stored.live c.args.number (get_or c.args.records.now c.args.number blank) read.0
+    (linked_state (get_or c.args.records.now c.args.number blank).state read.1)
+
+pub cut-requires-clause-inside : goal.cut-requires-clause-inside
+cut-requires-clause-inside c = linked_inside c.args.runs.now c.args.records.now c.args.number c.requires.linked
+
+pub cut-requires-clause-chained : goal.cut-requires-clause-chained
+cut-requires-clause-chained c = (
+  chain_under c.args.runs.now (length c.args.heads.now - 1) c.args.records.now,
+  linked_head c.args.runs.now c.args.records.now c.args.number blank c.get-list.result.now
+      (length c.args.heads.now - 1) c.bucket_at-head.result c.requires.linked c.get-list.ensures
+      (c.bucket_at-head.ensures.is (
+        (get_or c.args.records.now c.args.number blank).place,
+        c.get-list.result.now,
+      ) c.hash.ensures),
+  chain_inside c.args.runs.now (length c.args.heads.now - 1) c.args.records.now,
+  c.requires.kept.1.in_chains,
+)
+
+pub take_out-requires-clause-inside : goal.take_out-requires-clause-inside
+take_out-requires-clause-inside c =
+    omega (
+      arith,
+      c.requires.kept.1.linked_all,
+      linked_inside c.args.runs.now c.args.records.now c.args.number c.requires.linked,
+    )
+
+pub take_out-requires-clause-listed : goal.take_out-requires-clause-listed
+take_out-requires-clause-listed c = (
+  list_under c.args.records.now,
+  linked_place c.args.runs.now c.args.records.now c.args.number blank c.requires.linked,
+  (λ i b e. omega (arith, c.requires.kept.1.linked_all, list_inside c.args.records.now i b e)),
+  c.requires.kept.1.in_lists,
+)
+
+pub put_first-requires-clause-inside : goal.put_first-requires-clause-inside
+put_first-requires-clause-inside c =
+    omega (
+      arith,
+      c.take_out.ensures.stack.size,
+      c.requires.kept.1.linked_all,
+      linked_inside c.args.runs.now c.args.records.now c.args.number c.requires.linked,
+    )
+
+pub put_first-requires-clause-some : goal.put_first-requires-clause-some
+put_first-requires-clause-some c =
+    is_record c.args.number c.requires.kept.1.stored
+    (linked_inside c.args.runs.now c.args.records.now c.args.number c.requires.linked)
+
+pub put_first-requires-clause-listed : goal.put_first-requires-clause-listed
+put_first-requires-clause-listed c = (
+  unfiled c.args.number (list_under c.args.records.now),
+  unfiled_here c.args.number (list_under c.args.records.now) c.args.number refl,
+  unfiled_inside (list_under c.args.records.now) c.args.number (length c.take_out.new.links)
+      (λ i b e. omega (
+        arith,
+        c.take_out.ensures.stack.size,
+        c.requires.kept.1.linked_all,
+        list_inside c.args.records.now i b e,
+      )),
+  c.take_out.ensures.listed (list_under c.args.records.now)
+      (linked_place c.args.runs.now c.args.records.now c.args.number blank c.requires.linked)
+      c.requires.kept.1.in_lists,
+)
+
+pub bounds-records-number : goal.bounds-records-number
+bounds-records-number c =
+    omega (
+      arith,
+      c.cut.ensures.kept.size,
+      linked_inside c.args.runs.now c.args.records.now c.args.number c.requires.linked,
+    )
+
+pub returns-clause-kept : goal.returns-clause-kept
+returns-clause-kept c = λ top k.
+    let inside : c.args.number < length c.cut.new.records = omega (
+      arith,
+      c.cut.ensures.kept.size,
+      linked_inside c.args.runs.now c.args.records.now c.args.number c.requires.linked,
+    ) in
+    detached_kept c.args.runs.now c.args.records.now c.cut.new.records c.args.number
+    (get_or c.cut.new.records c.args.number blank) _ c.cut.ensures.kept
+    (slice_get_at c.cut.new.records c.args.number blank inside) refl refl refl refl refl refl c.args.links.now
+    c.put_first.new.links c.args.heads.now c.cut.new.heads c.args.places.now c.put_first.new.places top
+    c.requires.linked refl c.cut.auto.heads (c.put_first.auto.places ∙ c.take_out.auto.places)
+    (keeps_both c.args.links.now c.take_out.new.links c.put_first.new.links c.take_out.ensures.stack
+    c.put_first.ensures.stack)
+    (c.cut.ensures.chained (chain_under c.args.runs.now (length c.args.heads.now - 1) c.args.records.now)
+    (linked_head c.args.runs.now c.args.records.now c.args.number blank c.get-list.result.now
+    (length c.args.heads.now - 1) c.bucket_at-head.result c.requires.linked c.get-list.ensures
+    (c.bucket_at-head.ensures.is (
+      (get_or c.args.records.now c.args.number blank).place,
+      c.get-list.result.now,
+    ) c.hash.ensures))
+    k.in_chains)
+    (c.put_first.ensures.listed (unfiled c.args.number (list_under c.args.records.now))
+    (unfiled_here c.args.number (list_under c.args.records.now) c.args.number refl)
+    (c.take_out.ensures.listed (list_under c.args.records.now)
+    (linked_place c.args.runs.now c.args.records.now c.args.number blank c.requires.linked) k.in_lists))
+    k
+
+pub returns-clause-nodes : goal.returns-clause-nodes
+returns-clause-nodes c = λ k e.
+    let inside : c.args.number < length c.cut.new.records = omega (
+      arith,
+      c.cut.ensures.kept.size,
+      linked_inside c.args.runs.now c.args.records.now c.args.number c.requires.linked,
+    ) in
+    nodes_detached c.args.runs.now c.args.records.now c.cut.new.records c.args.number
+    (get_or c.cut.new.records c.args.number blank) _ c.cut.ensures.kept
+    (slice_get_at c.cut.new.records c.args.number blank inside) refl refl refl refl refl refl k e

@@ -1,0 +1,96 @@
+-- Numbers filed in chains: the chain from each head, and which numbers stand in it.
+use Rattle.std.specs.Prelude.{◌≡◌, ◌≢◌, ◌⊎◌, ◌<◌, ℕ, List, [], ◌∷◌, ◌==◌, if◌then◌else◌, Option, Some, None}
+
+-- From `at` on the chain has just these numbers, and `none` ends it.
+abbrev pub IsChain : (ℕ → ℕ) → ℕ → ℕ → List ℕ → Type 0
+IsChain next none at [] = at ≡ none
+IsChain next none at (x ∷ xs) = (at ≡ x) × (x ≢ none) × IsChain next none (next x) xs
+
+-- the way back: each number has the one before it, the first has `before`
+abbrev pub IsBack : (ℕ → ℕ) → ℕ → List ℕ → Type 0
+IsBack prev before [] = Unit {0}
+IsBack prev before (x ∷ xs) = (prev x ≡ before) × IsBack prev x xs
+
+-- the number is in the list
+abbrev pub Has : ℕ → List ℕ → Type 0
+Has n [] = ⊥
+Has n (m ∷ ms) = (m ≡ n) ⊎ Has n ms
+
+-- no number is twice in the list
+abbrev pub IsOnce : List ℕ → Type 0
+IsOnce [] = Unit {0}
+IsOnce (x ∷ xs) = (¬ Has x xs) × IsOnce xs
+
+-- the number, or what comes in place of x
+abbrev pub passing : ℕ → ℕ → ℕ → ℕ
+passing x instead n = if n == x then instead else n
+
+-- the list without x
+abbrev pub without : ℕ → List ℕ → List ℕ
+without x [] = []
+without x (y ∷ ys) = if y == x then without x ys else (y ∷ without x ys)
+
+-- Each number stands once in the chain of the head under which it is filed, and in no other; one that is filed under no
+-- head stands in none.
+pub record IsFiled (next : ℕ → ℕ) (none : ℕ) (head : ℕ → ℕ) (under : ℕ → Option ℕ) : Type 0 where
+  pub lists : ℕ → List ℕ
+  pub chained : (b : ℕ) → IsChain next none (head b) (lists b)
+  pub once : (b : ℕ) → IsOnce (lists b)
+  pub filed : (b n : ℕ) → under n ≡ Some b → Has n (lists b)
+  pub only : (b n : ℕ) → Has n (lists b) → under n ≡ Some b
+
+-- the same with the way back
+pub record IsFiledBoth (next prev : ℕ → ℕ) (none : ℕ) (head : ℕ → ℕ) (under : ℕ → Option ℕ) : Type 0 where
+  pub forth : IsFiled next none head under
+  pub back : (b : ℕ) → IsBack prev none (forth.lists b)
+
+-- The links, heads and places after x was taken out: what led to x leads to what followed it.
+pub record IsTakenOut (next next' : ℕ → ℕ) (head head' : ℕ → ℕ) (under under' : ℕ → Option ℕ) (x : ℕ) : Type 0 where
+  pub after : (y b : ℕ) → under y ≡ Some b → y ≢ x → next' y ≡ passing x (next x) (next y)
+  pub heads : (b : ℕ) → head' b ≡ passing x (next x) (head b)
+  pub gone : under' x ≡ None
+  pub others : (y : ℕ) → y ≢ x → under' y ≡ under y
+
+-- the links, heads and places after x was put first under b
+pub record IsPutFirst (next next' : ℕ → ℕ) (head head' : ℕ → ℕ) (under under' : ℕ → Option ℕ) (b x : ℕ) : Type 0 where
+  pub after : next' x ≡ head b
+  pub kept : (y c : ℕ) → under y ≡ Some c → y ≢ x → next' y ≡ next y
+  pub first : head' b ≡ x
+  pub heads : (c : ℕ) → c ≢ b → head' c ≡ head c
+  pub there : under' x ≡ Some b
+  pub others : (y : ℕ) → y ≢ x → under' y ≡ under y
+
+-- the places where x is filed under no head
+abbrev pub unfiled : ℕ → (ℕ → Option ℕ) → ℕ → Option ℕ
+unfiled x under n = if n == x then None else under n
+
+-- the places where x is filed under b
+abbrev pub filed_at : ℕ → ℕ → (ℕ → Option ℕ) → ℕ → Option ℕ
+filed_at x b under n = if n == x then Some b else under n
+
+-- What follows p is q now, or the head b leads to q where p is `none`; all else is as before.
+pub record IsLed (next next' : ℕ → ℕ) (none : ℕ) (head head' : ℕ → ℕ) (b p q : ℕ) : Type 0 where
+  pub here : p ≢ none → next' p ≡ q
+  pub others : (y : ℕ) → y ≢ p → next' y ≡ next y
+  pub first : p ≡ none → head' b ≡ q
+  pub heads : (c : ℕ) → c ≢ b → head' c ≡ head c
+  pub heads_kept : p ≢ none → (c : ℕ) → head' c ≡ head c
+
+-- What leads back from q is p now, where q is not `none`; all else is as before.
+pub record IsLedBack (prev prev' : ℕ → ℕ) (none p q : ℕ) : Type 0 where
+  pub here : q ≢ none → prev' q ≡ p
+  pub others : (y : ℕ) → y ≢ q → prev' y ≡ prev y
+
+-- From `first` on the chain has these numbers, each once and below `size`; x is one of them, and not the first.
+pub record Leads (next : ℕ → ℕ) (none first x size : ℕ) (xs : List ℕ) : Type 0 where
+  pub chain : IsChain next none first xs
+  pub once : IsOnce xs
+  pub has : Has x xs
+  pub later : first ≢ x
+  pub below : (y : ℕ) → Has y xs → y < size
+
+-- From `first` on the chain has these numbers, each once and below `size`.
+pub record IsWalkable (next : ℕ → ℕ) (none first size : ℕ) (xs : List ℕ) : Type 0 where
+  pub chain : IsChain next none first xs
+  pub once : IsOnce xs
+  pub below : (y : ℕ) → Has y xs → y < size

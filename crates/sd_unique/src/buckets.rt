@@ -1,0 +1,52 @@
+// The buckets are made, and the records linked anew among more of them.
+ghost use Rattle.std.specs.Prelude.{◌≡◌, ◌+◌, ◌<◌, ◌-◌, length, replicate, IfOk};
+ghost use Rattle.sd_unique.specs.Chains.{chain_under, head_of, next_of, no_record, KeepsRecords};
+ghost use Rattle.sd_unique.specs.Filed.{IsFiled};
+ghost use Rattle.sd_unique.specs.Growing.{IsLinkedBelow};
+ghost use Rattle.sd_unique.specs.Record.{Stored};
+
+use crate::hash::{bucket_at, hash};
+use crate::record::{NO_RECORD, Record, State};
+use sd_runs::Runs;
+use std::alloc::{AllocError, Global};
+
+// Heads of so many empty chains.
+pub(crate) fn empty_heads(alloc: Global, count: usize) -> Result<Vec<u32>, AllocError>
+    ensures { IfOk result (λ heads. heads.items ≡ replicate count no_record) }
+{
+    vec![in alloc; NO_RECORD; count]
+}
+
+// Puts each linked record first in the chain of its bucket, where the other chains stand.
+pub(crate) fn link_all(runs: &Runs, records: &mut [Record], heads: &mut [u32])
+    requires stored { Stored runs.now records.old }
+    requires some { 1 < length heads.old }
+    requires linked { IsLinkedBelow runs.now (length heads.old - 1) 0 records.old heads.old }
+    ensures kept { KeepsRecords records.old records.new }
+    ensures linked { IsFiled (next_of records.new) no_record (head_of heads.new)
+        (chain_under runs.now (length heads.new - 1) records.new) }
+{
+    for number in 0..records.len() {
+        link(runs, records, heads, number);
+    }
+}
+
+// Puts the next record first in the chain of its bucket, if it is linked.
+fn link(runs: &Runs, records: &mut [Record], heads: &mut [u32], number: usize)
+    requires stored { Stored runs.now records.old }
+    requires inside { number < length records.old }
+    requires some { 1 < length heads.old }
+    requires linked { IsLinkedBelow runs.now (length heads.old - 1) number records.old heads.old }
+    ensures kept { KeepsRecords records.old records.new }
+    ensures linked { IsLinkedBelow runs.now (length heads.new - 1) (number + 1) records.new heads.new }
+{
+    let mut record = records[number];
+    let State::Linked = record.state else {
+        return;
+    };
+    let list = runs.get(record.start, record.length);
+    let head = bucket_at(hash(record.place, list), heads.len() - 1) + 1;
+    record.next = heads[head];
+    records[number] = record;
+    heads[head] = number as u32;
+}

@@ -1,0 +1,32 @@
+// The hash of a key, and the bucket of a hash.
+ghost use Rattle.std.specs.Prelude.{◌≡◌, ◌<◌, ℕ, List};
+ghost use Rattle.sd_unique.specs.Chains.{bucket_of, hash_of, mixed};
+
+// The hash of a place and a list.
+pub(crate) fn hash(place: u32, list: &[(u32, u32)]) -> u64
+    ensures { result ≡ hash_of (place, list.now) }
+{
+    let mut hash = mix(0, place);
+    for pair in list {
+        hash = mix(mix(hash, pair.0), pair.1);
+    }
+    hash
+}
+
+// The bucket of a key of this hash among so many.
+pub(crate) fn bucket_at(hash: u64, count: usize) -> usize
+    requires { 0 < count }
+    ensures is { (key : ℕ × List (ℕ × ℕ)) → hash ≡ hash_of key → result ≡ bucket_of key count }
+    ensures inside { result < count }
+{
+    (hash >> 32) as usize & (count - 1)
+}
+
+// The hash with one more word in it.
+#[tactic(auto, unfolding(crate::specs::Chains::mixed))]
+fn mix(hash: u64, word: u32) -> u64
+    ensures { result ≡ mixed hash word }
+{
+    hash.wrapping_add(u64::from(word))
+        .wrapping_mul(0x9E37_79B9_7F4A_7C15)
+}

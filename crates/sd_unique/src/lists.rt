@@ -1,0 +1,96 @@
+// The lists of the places and of the detached records, through the links in both directions.
+ghost use Rattle.std.specs.Prelude.{◌≡◌, ◌≢◌, ◌<◌, length, slice_get, Some, None, Option, List, ℕ};
+ghost use Rattle.sd_unique.specs.declared.record.Record.{Record};
+ghost use Rattle.sd_unique.specs.Chains.{AreListed, KeepsStack, after_of, before_of, head_of, no_record};
+ghost use Rattle.sd_unique.specs.Filed.{unfiled, filed_at, Has, IsChain, IsOnce, IsLed, IsLedBack, IsWalkable};
+
+use crate::record::{Links, NO_RECORD, Record};
+
+// Takes a number out of the list of this head.
+pub(crate) fn take_out(links: &mut [Links], places: &mut [u32], head: usize, number: u32)
+    requires inside { number < length links.old }
+    requires head { head < length places.old }
+    requires listed { (under : ℕ → Option ℕ) × (under number ≡ Some head)
+        × ((n b : ℕ) → under n ≡ Some b → n < length links.old) × AreListed links.old places.old under }
+    ensures listed { (under : ℕ → Option ℕ) → under number ≡ Some head
+        → AreListed links.old places.old under → AreListed links.new places.new (unfiled number under) }
+    ensures stack { KeepsStack links.old links.new }
+{
+    let link = links[number as usize];
+    lead(links, places, head, link.before, link.after);
+    lead_back(links, link.before, link.after);
+}
+
+// Lets a number lead to another, or the head where it is no record.
+fn lead(links: &mut [Links], places: &mut [u32], head: usize, from: u32, to: u32)
+    requires inside { from ≢ no_record → from < length links.old }
+    requires head { head < length places.old }
+    ensures led { IsLed (after_of links.old) (after_of links.new) no_record (head_of places.old)
+        (head_of places.new) head from to }
+    ensures before { (n : ℕ) → before_of links.new n ≡ before_of links.old n }
+    ensures stack { KeepsStack links.old links.new }
+{
+    if from == NO_RECORD {
+        places[head] = to;
+    } else {
+        links[from as usize].after = to;
+    }
+}
+
+// Lets a number lead back to another, where it is a record.
+fn lead_back(links: &mut [Links], to: u32, from: u32)
+    requires inside { from ≢ no_record → from < length links.old }
+    ensures led { IsLedBack (before_of links.old) (before_of links.new) no_record to from }
+    ensures after { (n : ℕ) → after_of links.new n ≡ after_of links.old n }
+    ensures stack { KeepsStack links.old links.new }
+{
+    if from != NO_RECORD {
+        links[from as usize].before = to;
+    }
+}
+
+// Puts a number that is in no list first in the list of this head.
+pub(crate) fn put_first(links: &mut [Links], places: &mut [u32], head: usize, number: u32)
+    requires inside { number < length links.old }
+    requires some { number ≢ no_record }
+    requires head { head < length places.old }
+    requires listed { (under : ℕ → Option ℕ) × (under number ≡ None)
+        × ((n b : ℕ) → under n ≡ Some b → n < length links.old) × AreListed links.old places.old under }
+    ensures listed { (under : ℕ → Option ℕ) → under number ≡ None
+        → AreListed links.old places.old under → AreListed links.new places.new (filed_at number head under) }
+    ensures stack { KeepsStack links.old links.new }
+{
+    let first = places[head];
+    lead_back(links, number, first);
+    let mut link = links[number as usize];
+    link.before = NO_RECORD;
+    link.after = first;
+    links[number as usize] = link;
+    places[head] = number;
+}
+
+// The first number from this one on whose record has this place, or no record.
+pub(crate) fn at_place(records: &[Record], links: &[Links], first: u32, place: u32) -> u32
+    requires size { length links.now ≡ length records.now }
+    requires walk { (xs : List ℕ)
+        × IsWalkable (after_of links.now) no_record first (length records.now) xs }
+    ensures some { result ≢ no_record
+        → (xs : List ℕ) → IsChain (after_of links.now) no_record first xs
+        → Has result xs × (r : Record) × (slice_get records.now result ≡ Some r)
+        × (r.place ≡ place) }
+    ensures none { result ≡ no_record
+        → (xs : List ℕ) → IsChain (after_of links.now) no_record first xs
+        → (n : ℕ) (r : Record) → Has n xs → slice_get records.now n ≡ Some r → r.place ≢ place }
+{
+    let mut at = first;
+    for _step in 0..records.len() {
+        if at == NO_RECORD {
+            return at;
+        }
+        if records[at as usize].place == place {
+            return at;
+        }
+        at = links[at as usize].after;
+    }
+    at
+}

@@ -1,0 +1,98 @@
+// A record comes to another state: it leaves its chain and its list for those of that state.
+ghost use Rattle.std.specs.Prelude.{◌≡◌, Some, Option, ℕ, List};
+ghost use Rattle.std.specs.Option.{IsSome};
+ghost use Rattle.std.specs.FinMap.{get};
+ghost use Rattle.sd_unique.specs.Chains.{Kept, stack_under};
+ghost use Rattle.sd_unique.specs.Record.{nodes_of};
+ghost use Rattle.sd_unique.specs.Relinking.{unlinked, relinked, removed, IsAbsent};
+
+use crate::chains::cut;
+use crate::hash::{bucket_at, hash};
+use crate::lists::{put_first, take_out};
+use crate::record::{Links, Record, State};
+use sd_runs::Runs;
+
+// Makes a linked record a detached one.
+pub(crate) fn detach(
+    runs: &Runs,
+    records: &mut [Record],
+    links: &mut [Links],
+    heads: &mut [u32],
+    places: &mut [u32],
+    number: u32,
+)
+    requires linked { IsSome (get (nodes_of runs.now records.old).linked number) }
+    requires kept { (top : ℕ) × Kept runs.now records.old links.old heads.old places.old top }
+    ensures kept { (top : ℕ) → Kept runs.now records.old links.old heads.old places.old top
+        → Kept runs.now records.new links.new heads.new places.new top }
+    ensures nodes { (k : ℕ × List (ℕ × ℕ))
+        → get (nodes_of runs.now records.old).linked number ≡ Some k
+        → nodes_of runs.now records.new ≡ unlinked (nodes_of runs.now records.old) number k }
+{
+    let record = records[number as usize];
+    let list = runs.get(record.start, record.length);
+    let head = bucket_at(hash(record.place, list), heads.len() - 1) + 1;
+    cut(records, heads, head, number);
+    take_out(links, places, (record.place & 2047) as usize + 1, number);
+    put_first(links, places, 0, number);
+    records[number as usize].state = State::Detached;
+}
+
+// Makes a detached record a linked one, which stands on the stack of candidates if it has no uses.
+pub(crate) fn attach(
+    runs: &Runs,
+    records: &mut [Record],
+    links: &mut [Links],
+    heads: &mut [u32],
+    places: &mut [u32],
+    number: u32,
+)
+    requires detached { IsSome (get (nodes_of runs.now records.old).detached number) }
+    requires absent { (k : ℕ × List (ℕ × ℕ))
+        → get (nodes_of runs.now records.old).detached number ≡ Some k
+        → IsAbsent (nodes_of runs.now records.old) k }
+    requires queued { get (nodes_of runs.now records.old).uses number ≡ Some 0
+        → stack_under links.old number ≡ Some 0 }
+    requires kept { (top : ℕ) × Kept runs.now records.old links.old heads.old places.old top }
+    ensures kept { (top : ℕ) → Kept runs.now records.old links.old heads.old places.old top
+        → Kept runs.now records.new links.new heads.new places.new top }
+    ensures nodes { (k : ℕ × List (ℕ × ℕ))
+        → get (nodes_of runs.now records.old).detached number ≡ Some k
+        → nodes_of runs.now records.new ≡ relinked (nodes_of runs.now records.old) number k }
+{
+    let mut record = records[number as usize];
+    let list = runs.get(record.start, record.length);
+    let head = bucket_at(hash(record.place, list), heads.len() - 1) + 1;
+    take_out(links, places, 0, number);
+    put_first(links, places, (record.place & 2047) as usize + 1, number);
+    record.next = heads[head];
+    record.state = State::Linked;
+    records[number as usize] = record;
+    heads[head] = number;
+}
+
+// Makes a detached record a free one, and gives its run back.
+pub(crate) fn release(
+    runs: &mut Runs,
+    records: &mut [Record],
+    links: &mut [Links],
+    heads: &mut [u32],
+    places: &mut [u32],
+    number: u32,
+)
+    requires detached { IsSome (get (nodes_of runs.old records.old).detached number) }
+    requires kept { (top : ℕ) × Kept runs.old records.old links.old heads.old places.old top }
+    ensures kept { (top : ℕ) → Kept runs.old records.old links.old heads.old places.old top
+        → Kept runs.new records.new links.new heads.new places.new top }
+    ensures nodes { (k : ℕ × List (ℕ × ℕ))
+        → get (nodes_of runs.old records.old).detached number ≡ Some k
+        → nodes_of runs.new records.new ≡ removed (nodes_of runs.old records.old) number k.1 }
+{
+    take_out(links, places, 0, number);
+    let mut record = records[number as usize];
+    record.next = heads[0];
+    record.state = State::Free;
+    records[number as usize] = record;
+    heads[0] = number;
+    runs.give(record.start, record.length);
+}
