@@ -28,6 +28,7 @@ extends-self t =
       vtree = refl;
       nodes = λ n k e. e;
       marks = λ n k e. refl;
+      detached_marks = λ n k e. refl;
       detached = refl;
       loose = refl;
       roots = refl;
@@ -44,6 +45,8 @@ extends-on a b c h k =
       vtree = k.vtree ∙ h.vtree;
       nodes = λ n key e. k.nodes n key (h.nodes n key e);
       marks = λ n key e. k.marks n key (h.nodes n key e) ∙ h.marks n key e;
+      detached_marks = λ n key e.
+          k.detached_marks n key (ap (λ m. get m n) h.detached ∙ e) ∙ h.detached_marks n key e;
       detached = k.detached ∙ h.detached;
       loose = k.loose ∙ h.loose;
       roots = k.roots ∙ h.roots;

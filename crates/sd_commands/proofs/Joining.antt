@@ -139,6 +139,8 @@ extends_on a b c h k = record {
   vtree = k.vtree ∙ h.vtree;
   nodes = λ n key at. k.nodes n key (h.nodes n key at);
   marks = λ n key at. k.marks n key (h.nodes n key at) ∙ h.marks n key at;
+  detached_marks = λ n key at.
+      k.detached_marks n key (ap (λ m. get m n) h.detached ∙ at) ∙ h.detached_marks n key at;
   detached = k.detached ∙ h.detached;
   loose = k.loose ∙ h.loose;
   roots = k.roots ∙ h.roots;
@@ -154,6 +156,7 @@ extends_self t = record {
   vtree = refl;
   nodes = λ n key at. at;
   marks = λ n key at. refl;
+  detached_marks = λ n key at. refl;
   detached = refl;
   loose = refl;
   roots = refl;

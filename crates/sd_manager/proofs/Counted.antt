@@ -9,7 +9,7 @@ use Rattle.std.specs.Option.{IsSome, option_map}
 use Rattle.std.specs.FinMap.{get, insert}
 use Rattle.sd_runs.proofs.Maps.{get-insert_same, get-insert_other}
 use Rattle.sd_runs.proofs.Places.{by_cases, not_equal, eqb_same}
-use Rattle.sd_unique.specs.Nodes.{Nodes, IsNodes, key_at, uses_at, or_else}
+use Rattle.sd_unique.specs.Nodes.{Nodes, IsNodes, key_at, uses_at}
 use Rattle.sd_unique.specs.Inserting.{with_uses}
 use Rattle.sd_manager.specs.Table.{uses_in, uses_of_pair}
 use Rattle.sd_manager.specs.Counting.{counts_one, IsCounted, AreCounted, AddsUses, DropsUse}
@@ -36,7 +36,7 @@ pub counted_there : (a : Nodes) (n : ℕ) → IsNodes a → IsSome (key_at a n) 
 counted_there a n valid there = let k = key_of_some (key_at a n) there in valid.counted n k.0 k.1
 
 -- an option with a function on what is there that changes nothing
-map_same : (f : ℕ → ℕ) → ((k : ℕ) → f k ≡ k) → (o : Option ℕ) → o ≡ option_map f o
+pub map_same : (f : ℕ → ℕ) → ((k : ℕ) → f k ≡ k) → (o : Option ℕ) → o ≡ option_map f o
 map_same f h None = refl
 map_same f h (Some k) = ap Some (sym (h k))
 
@@ -86,22 +86,9 @@ drops_one a b code valid least there e = record {
       (λ c k ne. omega (arith, counts_other c code ne));
 }
 
--- a code with a count has a node, linked or detached
-some_either : {X : Type 0} (a b : _) → IsSome {T = X} a → IsSome (or_else a b)
-some_either None b h = cc
-some_either (Some x) b h = h
-
--- the node of a code that is counted
-pub counted_node : (a : Nodes) (code : ℕ) → IsCounted a code → 2050 ≤ code → IsSome (key_at a (code - 2050))
-counted_node a code h least = some_either (get a.linked (code - 2050)) (get a.detached (code - 2050)) (h least)
-
--- the linked nodes are the same after uses were added
-pub linked_same : {more : ℕ → ℕ} (a b : Nodes) → AddsUses a b more → b.linked ≡ a.linked
-linked_same a b h = ap (λ v. v.linked) h.rest
-
--- so a code that is counted is so afterwards
+-- a code that is counted is so after uses were added
 pub still_counted : {more : ℕ → ℕ} (a b : Nodes) (code : ℕ) → AddsUses a b more → IsCounted a code → IsCounted b code
-still_counted a b code h k least = subst (λ m. IsSome (get m (code - 2050))) (sym (linked_same a b h)) (k least)
+still_counted a b code h k least = subst (λ x. IsSome (key_at x (code - 2050))) (sym h.rest) (k least)
 
 -- nothing is added by no codes
 pub adds_none : (a : Nodes) (more : ℕ → ℕ) → ((c : ℕ) → more c ≡ 0) → AddsUses a a more
@@ -132,7 +119,7 @@ pub record HasAdded (old new : Nodes) (list : List (ℕ × ℕ)) : Type 0 where
   pub valid : IsNodes new
 
 -- what is counted of a list is counted at each of its places
-counted_at : (a : Nodes) (list : List (ℕ × ℕ)) (i : ℕ) (d : ℕ × ℕ) → i < length list → AreCounted a list →
+pub counted_at : (a : Nodes) (list : List (ℕ × ℕ)) (i : ℕ) (d : ℕ × ℕ) → i < length list → AreCounted a list →
     IsCounted a (get_or list i d).0 × IsCounted a (get_or list i d).1
 counted_at a [] i d h k = absurd (omega arith)
 counted_at a (e ∷ list) zero d h k = k.0

@@ -1,5 +1,5 @@
 -- Roots and the uses of the nodes that they hold.
-use Rattle.std.proofs.Common.{◌≡◌, ◌⊎◌, inl, inr, ℕ, ◌+◌, ◌-◌, ◌*◌, ◌^◌, ◌≤◌, ◌<◌, cond, eqb}
+use Rattle.std.proofs.Common.{◌≡◌, inl, inr, ℕ, ◌+◌, ◌-◌, ◌^◌, ◌≤◌, ◌<◌, cond, eqb}
 use Rattle.std.proofs.Common.{List, [], ◌∷◌, length, Option, Some, None, unwrap_or, refl, sym, ap, subst, ◌∙◌, arith}
 use Rattle.std.proofs.Common.{Bool, true, false}
 use Rattle.std.proofs.lemmas.Bool.{cases_eq}
@@ -13,20 +13,17 @@ use Rattle.std.specs.FinMap.{FinMap, get, insert, remove, len, len-entries, len-
 use Rattle.std.specs.FinMap.{contains_key}
 use Rattle.sd_runs.proofs.Maps.{get-insert_same, get-insert_other, get-remove_same, get-remove_other}
 use Rattle.sd_runs.proofs.Places.{by_cases}
-use Rattle.sd_model.specs.Tree.{leaves}
-use Rattle.sd_model.specs.Diagram.{Diagram}
-use Rattle.sd_vtree.specs.Numbered.{Numbered, IsNumbered, forget}
-use Rattle.sd_laws.specs.Shown.{Shows}
-use Rattle.sd_unique.specs.Nodes.{Nodes, IsNodes, uses_at}
-use Rattle.sd_laws.proofs.Nodes.{code-of_node}
-use Rattle.sd_manager.specs.Table.{Table, uses_of, uses_in, uses_of_pair}
-use Rattle.sd_manager.specs.Shown.{IsKnown}
+use Rattle.sd_vtree.specs.Numbered.{Numbered, IsNumbered}
+use Rattle.sd_unique.specs.Nodes.{Nodes, IsNodes, uses_at, key_at as key_of_nodes}
+use Rattle.sd_manager.specs.Table.{Table, key_at, uses_of, uses_in, uses_of_pair}
+use Rattle.sd_manager.specs.Shown.{IsKnown, HasNode}
 use Rattle.sd_manager.specs.Valid.{IsTable, total_length}
 use Rattle.sd_manager.specs.Stored.{table_of, IsStored}
 use Rattle.sd_manager.specs.Counting.{counts_one, IsCounted, AddsUses, DropsUse}
 use Rattle.sd_manager.proofs.Counted.{counts_same}
 use Rattle.sd_manager.proofs.Totals.{total_new, total_without, total_replaced}
 use Rattle.sd_manager.proofs.Valid.{valid_roots, stored_with}
+use Rattle.sd_manager.proofs.Reading.{shown_has_node, key_again}
 
 -- how often codes are used
 
@@ -82,37 +79,50 @@ uses_fit t c i = omega (arith, uses_of-le t c, i.total, i.bounded, i.bound_fits,
 
 -- the code of a node
 
--- a code that shows something is counted
-pub shown_counted : (v : Numbered) (a : Nodes) (c : ℕ) (d : Diagram) → IsNumbered v → Shows v (get a.linked) c d →
-    IsCounted a c
-shown_counted v a c d numbered h least = go (code-of_node v (get a.linked) numbered c d h)
-  where
-    go : (c < 2 * leaves (forget v) + 2) ⊎ ((n : ℕ) × (c ≡ 2050 + n) × IsSome (get a.linked n)) →
-        IsSome (get a.linked (c - 2050))
-    go (inl low) = absurd (omega (arith, numbered.few))
-    go (inr k) = let same : k.0 ≡ c - 2050 = omega (arith, k.1) in subst (λ n. IsSome (get a.linked n)) same k.2
+-- a code that is there is counted
+pub there_counted : (v : Numbered) (a : Nodes) (m : FinMap nat_cmp ℕ) (e : ℕ) (g : Option ℕ) (c : ℕ) → IsNumbered v →
+    HasNode (table_of v a m e g) c → IsCounted a c
+there_counted v a m e g c numbered (inl low) least = absurd (omega (arith, numbered.few))
+there_counted v a m e g c numbered (inr h) least =
+    subst IsSome (sym (key_again (get a.linked (c - 2050)) (get a.detached (c - 2050)))) h.1
 
-pub known_counted : (v : Numbered) (a : Nodes) (m : FinMap nat_cmp ℕ) (e c : ℕ) → IsNumbered v →
-    IsKnown (table_of v a m e) c → IsCounted a c
-known_counted v a m e c numbered h = shown_counted v a c h.diagram numbered h.is.shows
+-- so is one that shows a canonical diagram
+pub known_counted : (v : Numbered) (a : Nodes) (m : FinMap nat_cmp ℕ) (e : ℕ) (g : Option ℕ) (c : ℕ) →
+    IsNumbered v → IsKnown (table_of v a m e g) c → IsCounted a c
+known_counted v a m e g c numbered h =
+    there_counted v a m e g c numbered
+    (shown_has_node (table_of v a m e g) numbered c h.diagram h.is.shows)
 
-some_value : {X : Type 0} (o : Option X) → IsSome o → (x : X) × (o ≡ Some x)
+-- an option that is there is there with its value
+pub some_value : {X : Type 0} (o : Option X) → IsSome o → (x : X) × (o ≡ Some x)
 some_value None h = cc
 some_value (Some x) h = (x, refl)
 
 -- the count of a code's node is how often the code is used
-pub counted_is : (v : Numbered) (a : Nodes) (m : FinMap nat_cmp ℕ) (e c : ℕ) → IsStored a (table_of v a m e) →
-    IsCounted a c → 2050 ≤ c → uses_at a (c - 2050) ≡ uses_of (table_of v a m e) c
-counted_is v a m e c stored counted least =
-    let k = some_value (get a.linked (c - 2050)) (counted least) in
+pub counted_is : (v : Numbered) (a : Nodes) (m : FinMap nat_cmp ℕ) (e : ℕ) (g : Option ℕ) (c : ℕ) →
+    IsStored a (table_of v a m e g) → IsCounted a c → 2050 ≤ c → uses_at a (c - 2050) ≡ uses_of (table_of v a m e g) c
+counted_is v a m e g c stored counted least =
+    let k = some_value (key_of_nodes a (c - 2050)) (counted least) in
+    let there : key_at (table_of v a m e g) (c - 2050) ≡ Some k.0 =
+    sym (key_again (get a.linked (c - 2050)) (get a.detached (c - 2050))) ∙ k.1 in
     let back : 2050 + (c - 2050) ≡ c = omega arith in
-    ap (λ o. unwrap_or o 0) (stored.uses (c - 2050) k.0 k.1) ∙ ap (uses_of (table_of v a m e)) back
+    ap (λ o. unwrap_or o 0) (stored.uses (c - 2050) k.0 there) ∙ ap (uses_of (table_of v a m e g)) back
+
+-- each count is of a node, and is how often the code is used
+pub count_is : (v : Numbered) (a : Nodes) (m : FinMap nat_cmp ℕ) (e : ℕ) (g : Option ℕ) →
+    IsStored a (table_of v a m e g) → (n k : ℕ) → get a.uses n ≡ Some k → k ≡ uses_of (table_of v a m e g) (2050 + n)
+count_is v a m e g stored n k is =
+    let key = some_value (key_of_nodes a n) (stored.valid.counted_only n (subst IsSome (sym is) refl)) in
+    let there : key_at (table_of v a m e g) n ≡ Some key.0 =
+    sym (key_again (get a.linked n) (get a.detached n)) ∙ key.1 in
+    let both : Some k ≡ Some (uses_of (table_of v a m e g) (2050 + n)) = sym is ∙ stored.uses n key.0 there in
+    cc
 
 -- there is room for one more use of a node
-pub room_for_use : (v : Numbered) (a : Nodes) (m : FinMap nat_cmp ℕ) (e c : ℕ) → IsStored a (table_of v a m e) →
-    IsCounted a c → 2050 ≤ c → uses_at a (c - 2050) < 2 ^ 64 - 1
-room_for_use v a m e c stored counted least =
-    omega (arith, counted_is v a m e c stored counted least, uses_fit (table_of v a m e) c stored.table)
+pub room_for_use : (v : Numbered) (a : Nodes) (m : FinMap nat_cmp ℕ) (e : ℕ) (g : Option ℕ) (c : ℕ) →
+    IsStored a (table_of v a m e g) → IsCounted a c → 2050 ≤ c → uses_at a (c - 2050) < 2 ^ 64 - 1
+room_for_use v a m e g c stored counted least =
+    omega (arith, counted_is v a m e g c stored counted least, uses_fit (table_of v a m e g) c stored.table)
 
 -- a node that a root holds is used
 pub held_is_used : (t : Table) (root c : ℕ) → get t.roots root ≡ Some c → 0 < uses_of t c
@@ -183,39 +193,40 @@ held_after_remove t root i still r d e =
 
 -- the manager after each change
 
-module _ (v : Numbered) (a : Nodes) (m : FinMap nat_cmp ℕ) (e : ℕ) (stored : IsStored a (table_of v a m e)) where
+module _ (v : Numbered) (a : Nodes) (m : FinMap nat_cmp ℕ) (e : ℕ) (g : Option ℕ)
+    (stored : IsStored a (table_of v a m e g)) (still : g ≡ None) where
   -- a new root
   pub stored_hold : (b : Nodes) (root c : ℕ) → get m root ≡ None → len m < 2 ^ 32 - 1 →
-      IsKnown (table_of v a m e) c → AddsUses a b (λ x. counts_one x c) → IsNodes b →
-      IsStored b (table_of v b (insert m root c) e)
+      IsKnown (table_of v a m e g) c → AddsUses a b (λ x. counts_one x c) → IsNodes b →
+      IsStored b (table_of v b (insert m root c) e g)
   stored_hold b root c none few known adds valid =
-      let t : Table = table_of v a m e in
-      stored_with v a b (insert m root c) e adds.rest valid stored.none_loose
-      (valid_roots t (insert m root c) stored.table (held_after_insert t root c stored.table refl known)
+      let t : Table = table_of v a m e g in
+      stored_with v a b (insert m root c) e g adds.rest valid
+      (valid_roots t (insert m root c) stored.table (held_after_insert t root c stored.table still known)
       (omega (arith, len-more m root c none)))
       (λ n k is. adds.uses n ∙ ap (option_map (λ u. u + counts_one (2050 + n) c)) (stored.uses n k is)
       ∙ ap Some (omega (arith, total_new (λ held. cond (eqb held (2050 + n)) 1 0) m root c none)))
 
   -- a root that is taken away
   pub stored_release : (b : Nodes) (root c : ℕ) → get m root ≡ Some c → DropsUse a b c → IsNodes b →
-      IsStored b (table_of v b (remove m root) e)
+      IsStored b (table_of v b (remove m root) e g)
   stored_release b root c some drops valid =
-      let t : Table = table_of v a m e in
-      stored_with v a b (remove m root) e drops.rest valid stored.none_loose
-      (valid_roots t (remove m root) stored.table (held_after_remove t root stored.table refl)
+      let t : Table = table_of v a m e g in
+      stored_with v a b (remove m root) e g drops.rest valid
+      (valid_roots t (remove m root) stored.table (held_after_remove t root stored.table still)
       (omega (arith, len-less m root c some, stored.table.few_roots)))
       (λ n k is. drops.uses n ∙ ap (option_map (λ u. u - counts_one (2050 + n) c)) (stored.uses n k is)
       ∙ ap Some (omega (arith, total_without (λ held. cond (eqb held (2050 + n)) 1 0) m root c some)))
 
   -- a root that holds another node
-  pub stored_rebind : (b d : Nodes) (root c new : ℕ) → get m root ≡ Some c → IsKnown (table_of v a m e) new →
+  pub stored_rebind : (b d : Nodes) (root c new : ℕ) → get m root ≡ Some c → IsKnown (table_of v a m e g) new →
       AddsUses a b (λ x. counts_one x new) → DropsUse b d c → IsNodes d →
-      IsStored d (table_of v d (insert m root new) e)
+      IsStored d (table_of v d (insert m root new) e g)
   stored_rebind b d root c new some known adds drops valid =
-      let t : Table = table_of v a m e in
+      let t : Table = table_of v a m e g in
       let with : Nodes → Nodes = λ x. record x { uses = d.uses } in
-      stored_with v a d (insert m root new) e (drops.rest ∙ ap with adds.rest) valid stored.none_loose
-      (valid_roots t (insert m root new) stored.table (held_after_insert t root new stored.table refl known)
+      stored_with v a d (insert m root new) e g (drops.rest ∙ ap with adds.rest) valid
+      (valid_roots t (insert m root new) stored.table (held_after_insert t root new stored.table still known)
       (omega (arith, len-again m root c new some, stored.table.few_roots)))
       (λ n k is. drops.uses n ∙ ap (option_map (λ u. u - counts_one (2050 + n) c))
       (adds.uses n ∙ ap (option_map (λ u. u + counts_one (2050 + n) new)) (stored.uses n k is))

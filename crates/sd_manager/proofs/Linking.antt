@@ -1,114 +1,43 @@
 -- A node is found or linked: what it shows, what stays, and when there is no room.
-use Rattle.std.proofs.Common.{◌≡◌, ◌⊎◌, inl, inr, ℕ, zero, suc, ◌+◌, ◌-◌, ◌*◌, ◌/◌, ◌^◌, ◌≤◌, ◌<◌, cond, eqb}
+use Rattle.std.proofs.Common.{◌≡◌, ◌⊎◌, inl, inr, ℕ, zero, suc, ◌+◌, ◌-◌, ◌*◌, ◌/◌, ◌^◌, ◌≤◌, ◌<◌}
 use Rattle.std.proofs.Common.{Bool, true, false, ◌||◌, List, [], ◌∷◌, length, map, Option, Some, None, unwrap_or}
 use Rattle.std.proofs.Common.{refl, sym, ap, subst, ◌∙◌, arith}
 use Rattle.std.proofs.lemmas.Bool.{cases_eq}
 use Rattle.std.proofs.lemmas.List.{length-map}
-use Rattle.std.proofs.lemmas.List.Sums.{sum_by-cons}
 use Rattle.std.proofs.lemmas.List.Sorted.{length_permutation}
-use Rattle.std.specs.List.{list_any, sum_by}
+use Rattle.std.specs.List.{list_any}
 use Rattle.std.specs.List.Sorted.{IsPermutation, IsSorted, IsStrictlySortedBy}
 use Rattle.std.specs.Option.{IsSome, option_map}
 use Rattle.std.specs.Ordering.{nat_cmp, eq_by_cmp}
-use Rattle.std.specs.FinMap.{FinMap, get, get-empty, insert, len, len-entries, values, keys, entries, contains_key-keys}
+use Rattle.std.specs.FinMap.{FinMap, get, insert, len, len-entries, keys, entries, contains_key-keys}
 use Rattle.sd_runs.proofs.Maps.{apart, get-insert_same, get-insert_other}
 use Rattle.sd_runs.proofs.Places.{by_cases}
 use Rattle.sd_runs.specs.declared.error.TakeError.{TakeError}
 use Rattle.sd_runs.specs.declared.error.TakeError.TheVariants.{ArenaFull, OutOfMemory}
 use Rattle.sd_model.specs.Tree.{leaves, AreDistinct}
-use Rattle.sd_model.specs.Diagram.{Diagram, Bottom, Top, Literal, Decomposition}
-use Rattle.sd_vtree.specs.Numbered.{Numbered, IsUnder, or_else, forget}
+use Rattle.sd_model.specs.Diagram.{Diagram}
+use Rattle.sd_vtree.specs.Numbered.{Numbered, or_else, forget}
 use Rattle.sd_unique.specs.Nodes.{Nodes, IsNodes, key_at as key_of_nodes, or_else as or_else_of_nodes, free_count}
 use Rattle.sd_unique.specs.Inserting.{inserted, extent_after, IsNewNumber, IsFull as IsFullOfNodes}
 use Rattle.sd_unique.specs.Inserting.{IsRefusal as IsRefusalOfNodes}
-use Rattle.sd_laws.specs.Shown.{Shows, ShowPairs, Keeps}
+use Rattle.sd_laws.specs.Shown.{ShowPairs, Keeps}
 use Rattle.sd_laws.specs.Trimming.{trim_of}
-use Rattle.sd_laws.proofs.Codes.{shows-kept, literal-range}
-use Rattle.sd_laws.proofs.Lists.{IsAmong}
+use Rattle.sd_laws.proofs.Codes.{shows-kept}
+use Rattle.sd_laws.proofs.Lists.{IsAmong, all-weaker}
 use Rattle.sd_laws.proofs.Made.{made-trimmed, made-node, made-several, sorted-codes}
-use Rattle.sd_laws.proofs.Nodes.{pair_cmp, element-shown, split-permuted}
+use Rattle.sd_laws.proofs.Nodes.{pair_cmp, split-permuted}
 use Rattle.sd_laws.proofs.Pigeons.{few-pairs}
-use Rattle.sd_manager.specs.Table.{Table, key_at, uses_of, uses_in, uses_of_pair}
-use Rattle.sd_manager.specs.Shown.{IsKnown, IsPartitionAt}
+use Rattle.sd_manager.specs.Table.{Table, key_at, uses_of, uses_in}
+use Rattle.sd_manager.specs.Shown.{IsKnown, IsPartitionAt, HasNode, AreThere}
 use Rattle.sd_manager.specs.Valid.{IsTable, IsSettled}
 use Rattle.sd_manager.specs.Making.{Extends, IsMade, IsFull, IsRefusal, IsPastBound, KeepsRule, HasNewNode}
+use Rattle.sd_manager.specs.Making.{IsNewNumber as IsNewNumberOfTable}
 use Rattle.sd_manager.specs.Stored.{table_of, IsStored}
 use Rattle.sd_manager.specs.Counting.{IsCounted, AreCounted, AddsUses}
-use Rattle.sd_manager.proofs.Counted.{counts_other}
-use Rattle.sd_manager.proofs.Totals.{total_new, total_without, sum_zero, sum_twos}
-use Rattle.sd_manager.proofs.Valid.{no_total}
-use Rattle.sd_manager.proofs.Holding.{shown_counted, known_counted, uses_in-le, uses_fit}
-use Rattle.sd_manager.proofs.Reading.{linked_key, key_again}
-
--- no place is above a move where there is none
-settled : (t : Table) → t.moving ≡ None → (place : ℕ) → IsSettled t place
-settled t still place x moves = let e : None ≡ Some x = sym still ∙ moves in absurd (cc)
-
--- codes that are used are of nodes
-
--- the pairs of a linked node are of codes that are counted
-codes_counted : (v : Numbered) (a : Nodes) (m : FinMap nat_cmp ℕ) (e : ℕ) → IsTable (table_of v a m e) → (n : ℕ)
-    (k : ℕ × List (ℕ × ℕ)) → get a.linked n ≡ Some k → (pair : ℕ × ℕ) → IsAmong pair k.1 →
-    IsCounted a pair.0 × IsCounted a pair.1
-codes_counted v a m e i n k stored pair among = go known.diagram known.is.shows
-  where
-    known : IsKnown (table_of v a m e) (2050 + n)
-    known = i.canonical n k stored (settled (table_of v a m e) refl k.0)
-
-    go : (d : Diagram) → Shows v (get a.linked) (2050 + n) d → IsCounted a pair.0 × IsCounted a pair.1
-    go Bottom h = absurd (omega arith)
-    go Top h = absurd (omega arith)
-    go (Literal p x s) h =
-        absurd (omega (arith, (literal-range v (get a.linked) i.numbered (2050 + n) p x s h).2))
-    go (Decomposition p es) h =
-        let r = element-shown v (get a.linked) (2050 + n) p es h n k.0 k.1 refl stored pair among in
-        (shown_counted v a pair.0 r.0 i.numbered r.3, shown_counted v a pair.1 r.1 i.numbered r.4)
-
--- a code that is none of a list is not used in it
-no_uses_in : (c : ℕ) (l : List (ℕ × ℕ)) → ((pair : ℕ × ℕ) → IsAmong pair l → (¬ (pair.0 ≡ c)) × (¬ (pair.1 ≡ c))) →
-    uses_in c l ≡ 0
-no_uses_in c [] h = refl
-no_uses_in c (pair ∷ l) h =
-    let here = h pair (inl refl) in
-    omega (
-      arith,
-      sum_by-cons (uses_of_pair c) pair l,
-      counts_other c pair.0 here.0,
-      counts_other c pair.1 here.1,
-      no_uses_in c l (λ q among. h q (inr among)),
-    )
-
--- a code that is counted is not that of a number without a node
-not_counted : (a : Nodes) (n c : ℕ) → get a.linked n ≡ None → IsCounted a c → ¬ (c ≡ 2050 + n)
-not_counted a n c none counted same =
-    let number : c - 2050 ≡ n = omega arith in
-    let some : IsSome (get a.linked n) = subst (λ q. IsSome (get a.linked q)) number (counted (omega arith)) in
-    let gone : IsSome {T = ℕ × List (ℕ × ℕ)} None = subst IsSome none some in
-    cc
-
--- the code of a number without a node is not used
-pub no_uses : (v : Numbered) (a : Nodes) (m : FinMap nat_cmp ℕ) (e n : ℕ) → IsStored a (table_of v a m e) →
-    get a.linked n ≡ None → uses_of (table_of v a m e) (2050 + n) ≡ 0
-no_uses v a m e n stored none =
-    let t : Table = table_of v a m e in
-    let c : ℕ = 2050 + n in
-    let Lists : FinMap nat_cmp (ℕ × List (ℕ × ℕ)) → ℕ =
-    λ f. sum_by (λ (k : ℕ × List (ℕ × ℕ)). uses_in c k.1) (values f) in
-    let Loose : FinMap nat_cmp (List (ℕ × ℕ)) → ℕ = λ f. sum_by (uses_in c) (values f) in
-    omega (
-      arith,
-      sum_zero (λ (k : ℕ × List (ℕ × ℕ)). uses_in c k.1) a.linked
-          (λ q k there. no_uses_in c k.1 (λ pair among.
-          let h = codes_counted v a m e stored.table q k there pair among in
-          (not_counted a n pair.0 none h.0, not_counted a n pair.1 none h.1))),
-      ap Lists (stored.table.at_rest refl),
-      no_total (λ (k : ℕ × List (ℕ × ℕ)). uses_in c k.1),
-      ap Loose stored.none_loose,
-      no_total (uses_in c),
-      sum_zero (λ held. cond (eqb held c) 1 0) m
-          (λ root x there. counts_other c x (not_counted a n x none
-          (known_counted v a m e x stored.table.numbered (stored.table.held refl root x there)))),
-    )
+use Rattle.sd_manager.proofs.Totals.{total_new, total_without, sum_twos}
+use Rattle.sd_manager.proofs.Holding.{there_counted, count_is, uses_in-le, uses_fit}
+use Rattle.sd_manager.proofs.Reading.{linked_key, detached_key, key_again, shown_has_node, not_there}
+use Rattle.sd_manager.proofs.Unused.{not_used}
 
 -- the numbers of the linked nodes
 
@@ -132,19 +61,21 @@ length-keys : {X : Type 0} (m : FinMap nat_cmp X) → length (keys m) ≡ len m
 length-keys {X} m = length-map (entries m) (λ (e : ℕ × X). e.0) ∙ sym (len-entries m)
 
 -- a list that is asked for
-pub record IsAsked (v : Numbered) (a : Nodes) (m : FinMap nat_cmp ℕ) (e u : ℕ) (elements l : List (ℕ × ℕ)) :
+pub record IsAsked (v : Numbered) (a : Nodes) (m : FinMap nat_cmp ℕ) (e : ℕ) (g : Option ℕ) (u : ℕ)
+    (elements l : List (ℕ × ℕ)) :
     Type 0 where
-  pub stored : IsStored a (table_of v a m e)
-  pub some : (ds : List (Diagram × Diagram)) × IsPartitionAt (table_of v a m e) u elements ds
+  pub stored : IsStored a (table_of v a m e g)
+  pub some : (ds : List (Diagram × Diagram)) × IsPartitionAt (table_of v a m e g) u elements ds
   pub differ : AreDistinct (map (λ e. e.1) elements)
   pub order : IsPermutation elements l
   pub up : IsSorted pair_cmp l
 
-module _ (v : Numbered) (a : Nodes) (m : FinMap nat_cmp ℕ) (e u : ℕ) (elements l : List (ℕ × ℕ))
-    (h : IsAsked v a m e u elements l) where
+module _ (v : Numbered) (a : Nodes) (m : FinMap nat_cmp ℕ) (e : ℕ) (g : Option ℕ) (u : ℕ)
+    (elements l : List (ℕ × ℕ))
+    (h : IsAsked v a m e g u elements l) where
   -- what is trimmed shows the partition
   pub made_trimmed : (c : ℕ) → trim_of l ≡ Some c → (ds : List (Diagram × Diagram)) →
-      IsPartitionAt (table_of v a m e) u elements ds → IsMade (table_of v a m e) c ds
+      IsPartitionAt (table_of v a m e g) u elements ds → IsMade (table_of v a m e g) c ds
   made_trimmed c trim ds split =
       let z = made-trimmed v (get a.linked) h.stored.table.numbered u elements l ds split h.order c trim in
       record { diagram = z.0; is = z.1; value = z.2 }
@@ -152,13 +83,13 @@ module _ (v : Numbered) (a : Nodes) (m : FinMap nat_cmp ℕ) (e u : ℕ) (elemen
   module _ (none : trim_of l ≡ None) where
     -- a node with the pairs shows it
     pub made_found : (n : ℕ) → get a.linked n ≡ Some (u, l) → (ds : List (Diagram × Diagram)) →
-        IsPartitionAt (table_of v a m e) u elements ds → IsMade (table_of v a m e) (n + 2050) ds
+        IsPartitionAt (table_of v a m e g) u elements ds → IsMade (table_of v a m e g) (n + 2050) ds
     made_found n found ds split =
         let z = made-node v (get a.linked) (get a.linked) h.stored.table.numbered h.stored.table.keys u n
         elements l ds
         split h.order h.differ none (λ q k there. there) found in
         let code : 2050 + n ≡ n + 2050 = omega arith in
-        subst (λ c. IsMade (table_of v a m e) c ds) code (record { diagram = z.0; is = z.1; value = z.2 })
+        subst (λ c. IsMade (table_of v a m e g) c ds) code (record { diagram = z.0; is = z.1; value = z.2 })
 
     -- there are two pairs or more
     pub two_pairs : 2 ≤ length l
@@ -173,12 +104,12 @@ module _ (v : Numbered) (a : Nodes) (m : FinMap nat_cmp ℕ) (e u : ℕ) (elemen
         let most = few-pairs v (get a.linked) i.numbered (keys a.linked) (some_among a.linked) elements h.some.0
         h.some.1.shown h.differ in
         let own = sum_twos (λ (k : ℕ × List (ℕ × ℕ)). length k.1) a.linked
-        (λ q k there. i.several q k (linked_key (table_of v a m e) q k there)) in
+        (λ q k there. i.several q k (linked_key (table_of v a m e g) q k there)) in
         omega (arith, most, own, length-keys a.linked, i.total)
 
     -- where there is no room, the bound is passed by no more than the rule says
     pub past_bound : (n : ℕ) → a.bound < a.extent + length l → n ≡ a.extent + length l →
-        IsPastBound (table_of v a m e) n
+        IsPastBound (table_of v a m e g) n
     past_bound n full is = record {
       past = omega arith;
       least = omega (arith, two_pairs);
@@ -187,37 +118,42 @@ module _ (v : Numbered) (a : Nodes) (m : FinMap nat_cmp ℕ) (e u : ℕ) (elemen
 
     -- a refusal of the nodes is one of the table
     pub refused : (error : TakeError) → IsRefusalOfNodes a (length l) error →
-        IsRefusal (table_of v a m e) (length elements) error
+        IsRefusal (table_of v a m e g) (length elements) error
     refused error r =
         let same = length_permutation elements l h.order in
-        subst (λ n. IsRefusal (table_of v a m e) n error) same (go error r)
+        subst (λ n. IsRefusal (table_of v a m e g) n error) same (go error r)
       where
-        go : (error : TakeError) → IsRefusalOfNodes a (length l) error → IsRefusal (table_of v a m e) (length l) error
+        go : (error : TakeError) → IsRefusalOfNodes a (length l) error → IsRefusal (table_of v a m e g) (length l) error
         go (ArenaFull n) r = r
         go OutOfMemory r = tt
 
     -- and it keeps the arena's rule
-    pub kept_rule : (error : TakeError) → IsRefusalOfNodes a (length l) error → KeepsRule (table_of v a m e) error
+    pub kept_rule : (error : TakeError) → IsRefusalOfNodes a (length l) error → KeepsRule (table_of v a m e g) error
     kept_rule (ArenaFull n) r = past_bound n r.0.1 r.1
     kept_rule OutOfMemory r = tt
 
     -- a new node
 
     module _ (n : ℕ) (number : IsNewNumber a n) where
-      -- no linked node has the number
-      pub absent : get a.linked n ≡ None
-      absent = go number (get a.linked n) refl
+      -- no node has the number
+      no_key : key_of_nodes a n ≡ None
+      no_key = go number (key_of_nodes a n) refl
         where
-          no_key : {X : Type 0} (o p : Option X) (x : X) → o ≡ Some x → or_else_of_nodes o p ≡ None → o ≡ None
-          no_key None p x e g = refl
-          no_key (Some y) p x e g = absurd (cc)
+          go : IsNewNumber a n → (k : Option (ℕ × List (ℕ × ℕ))) → key_of_nodes a n ≡ k → key_of_nodes a n ≡ None
+          go (inl free) k is = free.1
+          go (inr end) None is = is
+          go (inr end) (Some k) is = absurd (omega (arith, h.stored.valid.numbered n k is, end.0))
 
-          go : IsNewNumber a n → (o : Option (ℕ × List (ℕ × ℕ))) → get a.linked n ≡ o → get a.linked n ≡ None
-          go number None is = is
-          go (inl free) (Some k) is = no_key (get a.linked n) (get a.detached n) k is free.1
-          go (inr end) (Some k) is =
-              let there : key_of_nodes a n ≡ Some k = ap (λ o. or_else_of_nodes o (get a.detached n)) is in
-              absurd (omega (arith, h.stored.valid.numbered n k there, end.0))
+      -- neither a linked one nor a detached one
+      neither : (get a.linked n ≡ None) × (get a.detached n ≡ None)
+      neither = go (get a.linked n) (get a.detached n) no_key
+        where
+          go : {X : Type 0} (x y : Option X) → or_else_of_nodes x y ≡ None → (x ≡ None) × (y ≡ None)
+          go None y none = (refl, none)
+          go (Some k) y none = absurd (cc)
+
+      pub absent : get a.linked n ≡ None
+      absent = neither.0
 
       -- the node is linked
       pub linked_new : get (insert a.linked n (u, l)) n ≡ Some (u, l)
@@ -231,48 +167,85 @@ module _ (v : Numbered) (a : Nodes) (m : FinMap nat_cmp ℕ) (e u : ℕ) (elemen
           (λ ne. get-insert_other a.linked n (u, l) q ne ∙ there)
           (cases_eq q n)
 
-      -- the codes of the list are counted
-      shown_pairs : (k : List (ℕ × ℕ)) (ds : List (Diagram × Diagram)) → ShowPairs v (get a.linked) k ds →
-          AreCounted (inserted a n u l) k
-      shown_pairs [] ds s = tt
-      shown_pairs (pair ∷ k) [] s = absurd s
-      shown_pairs (pair ∷ k) (d ∷ ds) s = (
-        (
-          counted_after pair.0 (shown_counted v a pair.0 d.0 h.stored.table.numbered s.0.0),
-          counted_after pair.1 (shown_counted v a pair.1 d.1 h.stored.table.numbered s.0.1),
-        ),
-        shown_pairs k ds s.1,
-      )
+      -- the table with the new node
+      abbrev grown : Table
+      grown = table_of v (inserted a n u l) m e g
+
+      -- the key of a node is that of the new one, or what it was
+      pub key_split : (q : ℕ) (k : ℕ × List (ℕ × ℕ)) → key_at grown q ≡ Some k →
+          ((q ≡ n) × ((u, l) ≡ k)) ⊎ (key_at (table_of v a m e g) q ≡ Some k)
+      key_split q k there =
+          by_cases
+          (λ same.
+          let both : Some (u, l) ≡ Some k =
+          sym (linked_key grown n (u, l) linked_new) ∙ ap (key_at grown) (sym same) ∙ there in
+          inl (same, same_key (u, l) k both))
+          (λ ne.
+          let rest : Option (ℕ × List (ℕ × ℕ)) → Option (ℕ × List (ℕ × ℕ)) = λ x. or_else x (get a.detached q) in
+          inr (sym (ap rest (get-insert_other a.linked n (u, l) q ne)) ∙ there))
+          (cases_eq q n)
         where
-          some_after : (q : ℕ) (o : Option (ℕ × List (ℕ × ℕ))) → get a.linked q ≡ o → IsSome o →
-              IsSome (get (insert a.linked n (u, l)) q)
-          some_after q None is s = cc
-          some_after q (Some k) is s = subst IsSome (sym (keeps q k is)) s
+          same_key : (x y : ℕ × List (ℕ × ℕ)) → ◌≡◌ {A = Option (ℕ × List (ℕ × ℕ))} (Some x) (Some y) → x ≡ y
+          same_key x y e = ap (λ k. unwrap_or k x) e
 
-          counted_after : (c : ℕ) → IsCounted a c → IsCounted (inserted a n u l) c
-          counted_after c counted least = some_after (c - 2050) (get a.linked (c - 2050)) refl (counted least)
+      -- an old node is not the new one
+      not_new : (q : ℕ) (k : ℕ × List (ℕ × ℕ)) → key_at (table_of v a m e g) q ≡ Some k → ¬ (q ≡ n)
+      not_new q k old same =
+          let bad : None ≡ Some k =
+          sym no_key ∙ ap (key_of_nodes a) (sym same) ∙ key_again (get a.linked q) (get a.detached q) ∙ old in
+          absurd (cc)
 
+      -- each old node keeps its key
+      key_kept : (q : ℕ) (k : ℕ × List (ℕ × ℕ)) → key_at (table_of v a m e g) q ≡ Some k → key_at grown q ≡ Some k
+      key_kept q k old =
+          let rest : Option (ℕ × List (ℕ × ℕ)) → Option (ℕ × List (ℕ × ℕ)) = λ x. or_else x (get a.detached q) in
+          ap rest (get-insert_other a.linked n (u, l) q (not_new q k old)) ∙ old
+
+      -- a code that is there stays there
+      there_kept : (c : ℕ) → HasNode (table_of v a m e g) c → HasNode grown c
+      there_kept c (inl low) = inl low
+      there_kept c (inr k) =
+          inr (k.0, go (c - 2050) (key_at (table_of v a m e g) (c - 2050)) refl k.1)
+        where
+          go : (q : ℕ) (x : Option (ℕ × List (ℕ × ℕ))) → key_at (table_of v a m e g) q ≡ x → IsSome x →
+              IsSome (key_at grown q)
+          go q None is some = cc
+          go q (Some k) is some = subst IsSome (sym (key_kept q k is)) refl
+
+      -- and so do the codes of a list
+      all_kept : (k : List (ℕ × ℕ)) → AreThere (table_of v a m e g) k → AreThere grown k
+      all_kept k there =
+          all-weaker (λ (p : ℕ × ℕ). HasNode (table_of v a m e g) p.0 × HasNode (table_of v a m e g) p.1)
+          (λ (p : ℕ × ℕ). HasNode grown p.0 × HasNode grown p.1)
+          (λ p both. (there_kept p.0 both.0, there_kept p.1 both.1)) k there
+
+      -- the codes of the list are there
+      pub list_there : AreThere grown l
+      list_there =
+          let f = split-permuted v (get a.linked) u elements l h.some.0 h.some.1 h.order in
+          all_kept l (go l f.0 f.2.shown)
+        where
+          go : (k : List (ℕ × ℕ)) (ds : List (Diagram × Diagram)) → ShowPairs v (get a.linked) k ds →
+              AreThere (table_of v a m e g) k
+          go [] ds s = tt
+          go (pair ∷ k) [] s = absurd s
+          go (pair ∷ k) (d ∷ ds) s = (
+            (
+              shown_has_node (table_of v a m e g) h.stored.table.numbered pair.0 d.0 s.0.0,
+              shown_has_node (table_of v a m e g) h.stored.table.numbered pair.1 d.1 s.0.1,
+            ),
+            go k ds s.1,
+          )
+
+      -- so they are counted
       pub list_counted : AreCounted (inserted a n u l) l
       list_counted =
-          let f = split-permuted v (get a.linked) u elements l h.some.0 h.some.1 h.order in
-          shown_pairs l f.0 f.2.shown
-
-      -- the count of each linked node
-      count_old : (q k : ℕ) → get a.uses q ≡ Some k → k ≡ uses_of (table_of v a m e) (2050 + q)
-      count_old q k is =
-          let key = some_key (key_of_nodes a q) (h.stored.valid.counted_only q (subst IsSome (sym is) refl)) in
-          let there : get a.linked q ≡ Some key.0 = linked_alone (get a.linked q) (get a.detached q) key.0 key.1
-          (ap (λ f. get f q) (h.stored.table.at_rest refl) ∙ get-empty nat_cmp q) in
-          let both : Some k ≡ Some (uses_of (table_of v a m e) (2050 + q)) = sym is ∙ h.stored.uses q key.0 there in
-          cc
-        where
-          some_key : {X : Type 0} (o : Option X) → IsSome o → (x : X) × (o ≡ Some x)
-          some_key None s = cc
-          some_key (Some x) s = (x, refl)
-
-          linked_alone : {X : Type 0} (o p : Option X) (x : X) → or_else_of_nodes o p ≡ Some x → p ≡ None → o ≡ Some x
-          linked_alone None p x g none = let bad : None ≡ Some x = sym none ∙ g in absurd (cc)
-          linked_alone (Some y) p x g none = g
+          all-weaker (λ (p : ℕ × ℕ). HasNode grown p.0 × HasNode grown p.1)
+          (λ (p : ℕ × ℕ). IsCounted (inserted a n u l) p.0 × IsCounted (inserted a n u l) p.1)
+          (λ p both. (
+            there_counted v (inserted a n u l) m e g p.0 h.stored.table.numbered both.0,
+            there_counted v (inserted a n u l) m e g p.1 h.stored.table.numbered both.1,
+          )) l list_there
 
       -- there is room for their uses
       pub list_room : length l < 2 ^ 31 → (q k : ℕ) → get (insert a.uses n 0) q ≡ Some k →
@@ -285,8 +258,8 @@ module _ (v : Numbered) (a : Nodes) (m : FinMap nat_cmp ℕ) (e u : ℕ) (elemen
           let none : 0 ≡ k = cc in
           omega (arith, uses_in-le (2050 + q) l))
           (λ ne.
-          let old = count_old q k (sym (get-insert_other a.uses n 0 q ne) ∙ is) in
-          omega (arith, old, uses_fit (table_of v a m e) (2050 + q) h.stored.table, uses_in-le (2050 + q) l))
+          let old = count_is v a m e g h.stored q k (sym (get-insert_other a.uses n 0 q ne) ∙ is) in
+          omega (arith, old, uses_fit (table_of v a m e g) (2050 + q) h.stored.table, uses_in-le (2050 + q) l))
           (cases_eq q n)
 
       -- the manager with the new node, whose uses are w
@@ -295,8 +268,8 @@ module _ (v : Numbered) (a : Nodes) (m : FinMap nat_cmp ℕ) (e u : ℕ) (elemen
           (counts : (q : ℕ) → get w q ≡ option_map (λ k. k + uses_in (2050 + q) l) (get (insert a.uses n 0) q))
           (valid : IsNodes (record (inserted a n u l) { uses = w })) where
         -- what was known is known
-        known_kept : (c : ℕ) → IsKnown (table_of v a m e) c →
-            IsKnown (table_of v (record (inserted a n u l) { uses = w }) m e) c
+        known_kept : (c : ℕ) → IsKnown (table_of v a m e g) c →
+            IsKnown (table_of v (record (inserted a n u l) { uses = w }) m e g) c
         known_kept c k = record {
           diagram = k.diagram;
           is = record {
@@ -306,123 +279,120 @@ module _ (v : Numbered) (a : Nodes) (m : FinMap nat_cmp ℕ) (e u : ℕ) (elemen
         }
 
         -- the new node shows the partition
-        pub made_new : (ds : List (Diagram × Diagram)) → IsPartitionAt (table_of v a m e) u elements ds →
-            IsMade (table_of v (record (inserted a n u l) { uses = w }) m e) (n + 2050) ds
+        pub made_new : (ds : List (Diagram × Diagram)) → IsPartitionAt (table_of v a m e g) u elements ds →
+            IsMade (table_of v (record (inserted a n u l) { uses = w }) m e g) (n + 2050) ds
         made_new ds split =
             let z = made-node v (get a.linked) (get (insert a.linked n (u, l))) h.stored.table.numbered
             h.stored.table.keys u n elements l ds split h.order h.differ none keeps linked_new in
             let code : 2050 + n ≡ n + 2050 = omega arith in
-            subst (λ c. IsMade (table_of v (record (inserted a n u l) { uses = w }) m e) c ds) code
+            subst (λ c. IsMade (table_of v (record (inserted a n u l) { uses = w }) m e g) c ds) code
             (record { diagram = z.0; is = z.1; value = z.2 })
 
         -- a fact on the new key, and on the old ones
         each_key : (P : ℕ → ℕ × List (ℕ × ℕ) → Type 0) → P n (u, l) →
+            ((q : ℕ) (k : ℕ × List (ℕ × ℕ)) → key_at (table_of v a m e g) q ≡ Some k → P q k) →
+            (q : ℕ) (k : ℕ × List (ℕ × ℕ)) → key_at grown q ≡ Some k → P q k
+        each_key P new old q k there =
+            by_cases (λ same. subst (λ r. P r k) (sym same.0) (subst (P n) same.1 new)) (old q k)
+            (key_split q k there)
+
+        -- the same for linked nodes
+        each_linked : (P : ℕ → ℕ × List (ℕ × ℕ) → Type 0) → P n (u, l) →
             ((q : ℕ) (k : ℕ × List (ℕ × ℕ)) → get a.linked q ≡ Some k → P q k) →
             (q : ℕ) (k : ℕ × List (ℕ × ℕ)) → get (insert a.linked n (u, l)) q ≡ Some k → P q k
-        each_key P new old q k there =
-            by_cases
-            (λ same.
-            let both : Some (u, l) ≡ Some k =
-            sym linked_new ∙ ap (get (insert a.linked n (u, l))) (sym same) ∙ there in
-            let key : (u, l) ≡ k = same_key (u, l) k both in
-            subst (λ r. P r k) (sym same) (subst (P n) key new))
-            (λ ne. old q k (sym (get-insert_other a.linked n (u, l) q ne) ∙ there))
-            (cases_eq q n)
+        each_linked P new old q k there =
+            by_cases (λ same. subst (λ r. P r k) (sym same.0) (subst (P n) same.1 new))
+            (λ before. old q k (linked_before q k there before))
+            (key_split q k (linked_key grown q k there))
           where
-            same_key : (x y : ℕ × List (ℕ × ℕ)) → ◌≡◌ {A = Option (ℕ × List (ℕ × ℕ))} (Some x) (Some y) → x ≡ y
-            same_key x y e = ap (λ o. unwrap_or o x) e
+            linked_before : (q : ℕ) (k : ℕ × List (ℕ × ℕ)) → get (insert a.linked n (u, l)) q ≡ Some k →
+                key_at (table_of v a m e g) q ≡ Some k → get a.linked q ≡ Some k
+            linked_before q k there before =
+                sym (get-insert_other a.linked n (u, l) q (not_new q k before)) ∙ there
 
-        -- the key of a node, linked or detached
-        key_split : (q : ℕ) (k : ℕ × List (ℕ × ℕ)) →
-            key_at (table_of v (record (inserted a n u l) { uses = w }) m e) q ≡ Some k →
-            get (insert a.linked n (u, l)) q ≡ Some k
-        key_split q k there =
-            go (get (insert a.linked n (u, l)) q) (get a.detached q) there
-            (ap (λ f. get f q) (h.stored.table.at_rest refl) ∙ get-empty nat_cmp q)
-          where
-            go : (o p : Option (ℕ × List (ℕ × ℕ))) → or_else o p ≡ Some k → p ≡ None → o ≡ Some k
-            go None p g none = let bad : None ≡ Some k = sym none ∙ g in absurd (cc)
-            go (Some x) p g none = g
-
-        pub new_table : IsTable (table_of v (record (inserted a n u l) { uses = w }) m e)
+        pub new_table : IsTable (table_of v (record (inserted a n u l) { uses = w }) m e g)
         new_table = record {
           numbered = h.stored.table.numbered;
           keys = record {
             distinct = λ q r k there here. valid.unique q r k there here;
-            ascending = each_key (λ q k. IsStrictlySortedBy nat_cmp (map (λ e. e.0) k.1))
+            ascending = each_linked (λ q k. IsStrictlySortedBy nat_cmp (map (λ e. e.0) k.1))
                 (sorted-codes v (get a.linked) h.stored.table.numbered u elements l h.some.0 h.some.1 h.order h.up)
                 h.stored.table.keys.ascending;
           };
-          canonical = λ q k there settled. each_key
-              (λ q k. IsKnown (table_of v (record (inserted a n u l) { uses = w }) m e) (2050 + q))
-              (let made = made_new h.some.0 h.some.1 in
+          canonical = λ q k there settled. each_linked
+              (λ q k. IsSettled (table_of v a m e g) k.0 →
+              IsKnown (table_of v (record (inserted a n u l) { uses = w }) m e g) (2050 + q))
+              (λ here.
+              let made = made_new h.some.0 h.some.1 in
               let code : n + 2050 ≡ 2050 + n = omega arith in
-              subst (IsKnown (table_of v (record (inserted a n u l) { uses = w }) m e)) code
+              subst (IsKnown (table_of v (record (inserted a n u l) { uses = w }) m e g)) code
               (record { diagram = made.diagram; is = made.is }))
-              (λ q k old. known_kept (2050 + q)
-              (h.stored.table.canonical q k old (no_move k.0)))
-              q k there;
+              (λ q k old here. known_kept (2050 + q) (h.stored.table.canonical q k old here))
+              q k there settled;
           held = λ still root c there. known_kept c (h.stored.table.held still root c there);
           few_roots = h.stored.table.few_roots;
           either = valid.either;
           at_rest = λ still. h.stored.table.at_rest still;
           within = λ q k there. valid.numbered q k
               (key_again (get (insert a.linked n (u, l)) q) (get a.detached q) ∙ there);
-          several = λ q k there. each_key (λ q k. 2 ≤ length k.1) two_pairs
-              (λ q k old. h.stored.table.several q k (linked_key (table_of v a m e) q k old))
-              q k (key_split q k there);
+          several = λ q k there. each_key (λ q k. 2 ≤ length k.1) two_pairs h.stored.table.several q k there;
           marked = λ q k there. valid.marked q k
               (key_again (get (insert a.linked n (u, l)) q) (get a.detached q) ∙ there);
+          closed = λ q k there. each_key (λ q k. AreThere grown k.1) list_there
+              (λ q k old. all_kept k.1 (h.stored.table.closed q k old)) q k there;
+          closed_runs = λ start k there. all_kept k (h.stored.table.closed_runs start k there);
+          closed_roots = λ root c there. there_kept c (h.stored.table.closed_roots root c there);
+          several_runs = h.stored.table.several_runs;
           total = valid.total;
           records_fit = valid.records_fit;
           bounded = valid.bounded;
           bound_fits = h.stored.table.bound_fits;
         }
-          where
-            no_move : (place x : ℕ) → None ≡ Some x → (x ≡ place) ⊎ (¬ IsUnder v x place)
-            no_move place x moves = absurd (cc)
 
         -- how often each node is used
-        new_uses : (q : ℕ) (k : ℕ × List (ℕ × ℕ)) → get (insert a.linked n (u, l)) q ≡ Some k →
-            get w q ≡ Some (uses_of (table_of v (record (inserted a n u l) { uses = w }) m e) (2050 + q))
+        new_uses : (q : ℕ) (k : ℕ × List (ℕ × ℕ)) → key_at grown q ≡ Some k →
+            get w q ≡ Some (uses_of (table_of v (record (inserted a n u l) { uses = w }) m e g) (2050 + q))
         new_uses =
             each_key
-            (λ q k. get w q ≡ Some (uses_of (table_of v (record (inserted a n u l) { uses = w }) m e) (2050 + q)))
+            (λ q k. get w q ≡ Some (uses_of (table_of v (record (inserted a n u l) { uses = w }) m e g) (2050 + q)))
             (counts n ∙ ap (option_map (λ k. k + uses_in (2050 + n) l)) (get-insert_same a.uses n 0)
-            ∙ ap Some (omega (arith, more n, no_uses v a m e n h.stored absent)))
+            ∙ ap Some (omega (arith, more n, unused)))
             (λ q k old.
-            let ne : ¬ (q ≡ n) = λ same.
-            (let bad : None ≡ Some k = sym absent ∙ ap (get a.linked) (sym same) ∙ old in absurd (cc)) in
             counts q ∙ ap (option_map (λ k. k + uses_in (2050 + q) l))
-            (get-insert_other a.uses n 0 q ne ∙ h.stored.uses q k old)
+            (get-insert_other a.uses n 0 q (not_new q k old) ∙ h.stored.uses q k old)
             ∙ ap Some (omega (arith, more q)))
           where
-            more : (q : ℕ) → uses_of (table_of v (record (inserted a n u l) { uses = w }) m e) (2050 + q)
-                ≡ uses_in (2050 + q) l + uses_of (table_of v a m e) (2050 + q)
+            more : (q : ℕ) → uses_of (table_of v (record (inserted a n u l) { uses = w }) m e g) (2050 + q)
+                ≡ uses_in (2050 + q) l + uses_of (table_of v a m e g) (2050 + q)
             more q =
                 omega (
                   arith,
                   total_new (λ (k : ℕ × List (ℕ × ℕ)). uses_in (2050 + q) k.1) a.linked n (u, l) absent,
                 )
 
+            unused : uses_of (table_of v a m e g) (2050 + n) ≡ 0
+            unused =
+                not_used (table_of v a m e g) h.stored.table (2050 + n)
+                (not_there (table_of v a m e g) h.stored.table.numbered n
+                (sym (key_again (get a.linked n) (get a.detached n)) ∙ no_key))
+
         pub stored_new : IsStored (record (inserted a n u l) { uses = w })
-            (table_of v (record (inserted a n u l) { uses = w }) m e)
+            (table_of v (record (inserted a n u l) { uses = w }) m e g)
         stored_new = record {
           table = new_table;
           valid = valid;
-          none_loose = h.stored.none_loose;
           uses = new_uses;
         }
 
         -- all else is as before
-        pub kept_new : Extends (table_of v a m e) (table_of v (record (inserted a n u l) { uses = w }) m e)
+        pub kept_new : Extends (table_of v a m e g) (table_of v (record (inserted a n u l) { uses = w }) m e g)
         kept_new = record {
           vtree = refl;
           nodes = keeps;
-          marks = λ q k old.
-              let ne : ¬ (q ≡ n) = λ same.
-              (let bad : None ≡ Some k = sym absent ∙ ap (get a.linked) (sym same) ∙ old in absurd (cc)) in
-              get-insert_other a.marks n 0 q ne;
+          marks = λ q k old. get-insert_other a.marks n 0 q
+              (not_new q k (linked_key (table_of v a m e g) q k old));
+          detached_marks = λ q k old. get-insert_other a.marks n 0 q
+              (not_new q k (detached_key (table_of v a m e g) h.stored.table q k old));
           detached = refl;
           loose = refl;
           roots = refl;
@@ -439,7 +409,7 @@ module _ (v : Numbered) (a : Nodes) (m : FinMap nat_cmp ℕ) (e u : ℕ) (elemen
 
         -- and one node was linked
         pub grown_new : (¬ IsFullOfNodes a (length l)) →
-            HasNewNode (table_of v a m e) (table_of v (record (inserted a n u l) { uses = w }) m e) u elements
+            HasNewNode (table_of v a m e g) (table_of v (record (inserted a n u l) { uses = w }) m e g) u elements
             (n + 2050)
         grown_new room = record {
           number = n;
@@ -451,8 +421,19 @@ module _ (v : Numbered) (a : Nodes) (m : FinMap nat_cmp ℕ) (e u : ℕ) (elemen
           mark = get-insert_same a.marks n 0;
           room = λ full.
               let same = length_permutation elements l h.order in
-              room (subst (λ k. IsFull (table_of v a m e) k) (sym same) full);
+              room (subst (λ k. IsFull (table_of v a m e g) k) (sym same) full);
+          new_number = of_nodes number;
+          is = refl;
         }
+          where
+            -- the nodes' own word for a new number is the table's
+            of_nodes : IsNewNumber a n → IsNewNumberOfTable (table_of v a m e g) n
+            of_nodes (inl free) = inl (free.0, sym (key_again (get a.linked n) (get a.detached n)) ∙ free.1)
+            of_nodes (inr end) =
+                inr (
+                  end.0,
+                  λ q below. subst IsSome (key_again (get a.linked q) (get a.detached q)) (end.1 q below),
+                )
 
       -- the new list is short
       pub new_short : (b : Nodes) → b ≡ inserted a n u l → IsNodes b → length l < 2 ^ 31
@@ -487,13 +468,13 @@ partition_inside s t q p l ds same at h =
     subst (λ x. IsPartitionAt x q l ds) (sym same) (subst (λ x. IsPartitionAt t x l ds) (sym at) h)
 
 -- what is asked for, by the names of the code
-pub asked : (v : Numbered) (a : Nodes) (m : FinMap nat_cmp ℕ) (e : ℕ) (t : Table) (u place : ℕ)
-    (elements l items : List (ℕ × ℕ)) → IsStored a (table_of v a m e) → table_of v a m e ≡ t → u ≡ place →
+pub asked : (v : Numbered) (a : Nodes) (m : FinMap nat_cmp ℕ) (e : ℕ) (g : Option ℕ) (t : Table) (u place : ℕ)
+    (elements l items : List (ℕ × ℕ)) → IsStored a (table_of v a m e g) → table_of v a m e g ≡ t → u ≡ place →
     (ds : List (Diagram × Diagram)) × IsPartitionAt t place elements ds → AreDistinct (map (λ e. e.1) elements) →
-    IsPermutation elements items → IsSorted pair_cmp items → l ≡ items → IsAsked v a m e u elements l
-asked v a m e t u place elements l items stored same at some differ order up list = record {
+    IsPermutation elements items → IsSorted pair_cmp items → l ≡ items → IsAsked v a m e g u elements l
+asked v a m e g t u place elements l items stored same at some differ order up list = record {
   stored = stored;
-  some = (some.0, partition_inside (table_of v a m e) t u place elements some.0 same at some.1);
+  some = (some.0, partition_inside (table_of v a m e g) t u place elements some.0 same at some.1);
   differ = differ;
   order = subst (λ x. IsPermutation elements x) (sym list) order;
   up = subst (λ x. IsSorted pair_cmp x) (sym list) up;

@@ -1,9 +1,8 @@
 -- Where the sorted pairs are not trimmed and no node has them, no node has the value of the partition.
-use Rattle.std.proofs.Common.{◌≡◌, ◌⊎◌, inl, inr, ℕ, ◌+◌, ◌-◌, List, map, Option, Some, None}
+use Rattle.std.proofs.Common.{◌≡◌, ◌⊎◌, inl, inr, ℕ, ◌+◌, List, map, Option, Some, None}
 use Rattle.std.proofs.Common.{unwrap_or, refl, sym, ap, subst, ◌∙◌, arith}
 use Rattle.std.proofs.lemmas.Bool.{cases_eq}
 use Rattle.std.specs.List.Sorted.{IsStrictlySortedBy}
-use Rattle.std.specs.Option.{IsSome}
 use Rattle.std.specs.Ordering.{nat_cmp}
 use Rattle.std.specs.FinMap.{FinMap, get, insert}
 use Rattle.sd_runs.proofs.Maps.{get-insert_same, get-insert_other}
@@ -19,15 +18,17 @@ use Rattle.sd_laws.specs.Trimming.{trim_of}
 use Rattle.sd_laws.proofs.Codes.{shows-kept, one-code}
 use Rattle.sd_laws.proofs.Joining.{same_values}
 use Rattle.sd_laws.proofs.Made.{made-node, sorted-codes}
-use Rattle.sd_manager.specs.Shown.{IsPartitionAt}
+use Rattle.sd_manager.specs.Table.{key_at}
+use Rattle.sd_manager.specs.Shown.{IsPartitionAt, HasNode}
 use Rattle.sd_manager.specs.Making.{IsMade, IsNeeded}
 use Rattle.sd_manager.specs.Stored.{table_of}
-use Rattle.sd_manager.proofs.Holding.{shown_counted}
+use Rattle.sd_manager.proofs.Holding.{some_value}
 use Rattle.sd_manager.proofs.Linking.{IsAsked}
-use Rattle.sd_manager.proofs.Reading.{linked_key}
+use Rattle.sd_manager.proofs.Reading.{linked_key, shown_has_node, node_of_code}
 
-module _ (v : Numbered) (a : Nodes) (m : FinMap nat_cmp ℕ) (e u : ℕ) (elements l : List (ℕ × ℕ))
-    (h : IsAsked v a m e u elements l) where
+module _ (v : Numbered) (a : Nodes) (m : FinMap nat_cmp ℕ) (e : ℕ) (g : Option ℕ) (u : ℕ)
+    (elements l : List (ℕ × ℕ))
+    (h : IsAsked v a m e g u elements l) where
   -- no linked node has the number that comes after those of all records
   past_end : get a.linked a.records ≡ None
   past_end = go (get a.linked a.records) refl
@@ -35,7 +36,7 @@ module _ (v : Numbered) (a : Nodes) (m : FinMap nat_cmp ℕ) (e u : ℕ) (elemen
       go : (o : Option (ℕ × List (ℕ × ℕ))) → get a.linked a.records ≡ o → o ≡ None
       go None is = refl
       go (Some k) is =
-          absurd (omega (arith, h.stored.table.within a.records k (linked_key (table_of v a m e) a.records k is)))
+          absurd (omega (arith, h.stored.table.within a.records k (linked_key (table_of v a m e g) a.records k is)))
 
   -- the nodes with one more that has the list
   abbrev more : FinMap nat_cmp (ℕ × List (ℕ × ℕ))
@@ -84,8 +85,8 @@ module _ (v : Numbered) (a : Nodes) (m : FinMap nat_cmp ℕ) (e u : ℕ) (elemen
         up n k (inr x) = h.stored.table.keys.ascending n k x
 
     -- a code that has the value is that of the one more, which is not there
-    pub no_node : (c : ℕ) (ds : List (Diagram × Diagram)) → IsPartitionAt (table_of v a m e) u elements ds →
-        ¬ (IsMade (table_of v a m e) c ds)
+    pub no_node : (c : ℕ) (ds : List (Diagram × Diagram)) → IsPartitionAt (table_of v a m e g) u elements ds →
+        ¬ (IsMade (table_of v a m e g) c ds)
     no_node c ds split made =
         let z = made-node v (get a.linked) (get more) h.stored.table.numbered h.stored.table.keys u a.records
         elements l ds split h.order h.differ none others has_list in
@@ -96,14 +97,14 @@ module _ (v : Numbered) (a : Nodes) (m : FinMap nat_cmp ℕ) (e u : ℕ) (elemen
         one-code v (get more) keys_more z.0 c (2050 + a.records)
         (subst (λ d. Shows v (get more) c d) same
         (shows-kept v (get a.linked) (get more) others made.diagram c made.is.shows)) z.1.shows in
-        let number : c - 2050 ≡ a.records = omega (arith, code) in
-        let some : IsSome (get a.linked a.records) =
-        subst (λ q. IsSome (get a.linked q)) number
-        (shown_counted v a c made.diagram h.stored.table.numbered made.is.shows (omega (arith, code))) in
-        let gone : IsSome {T = ℕ × List (ℕ × ℕ)} None = subst IsSome past_end some in
-        absurd (cc)
+        let there : HasNode (table_of v a m e g) c =
+        shown_has_node (table_of v a m e g) h.stored.table.numbered c made.diagram made.is.shows in
+        let key = some_value (key_at (table_of v a m e g) a.records)
+        (node_of_code (table_of v a m e g) h.stored.table.numbered a.records
+        (subst (HasNode (table_of v a m e g)) code there)) in
+        absurd (omega (arith, h.stored.table.within a.records key.0 key.1))
 
     -- so a full arena is answered only where a node is needed
-    pub needed : (error : TakeError) → IsNeeded (table_of v a m e) u elements error
+    pub needed : (error : TakeError) → IsNeeded (table_of v a m e g) u elements error
     needed (ArenaFull n) = no_node
     needed OutOfMemory = tt

@@ -32,6 +32,15 @@ use Rattle.sd_manager.proofs.Totals.{total_without}
 pub linked_key : (t : Table) (n : ℕ) (k : ℕ × List (ℕ × ℕ)) → get t.linked n ≡ Some k → key_at t n ≡ Some k
 linked_key t n k e = ap (λ o. or_else o (get t.detached n)) e
 
+-- the key of a detached node
+pub detached_key : (t : Table) → IsTable t → (n : ℕ) (k : ℕ × List (ℕ × ℕ)) → get t.detached n ≡ Some k →
+    key_at t n ≡ Some k
+detached_key t i n k e = go (get t.linked n) refl
+  where
+    go : (o : Option (ℕ × List (ℕ × ℕ))) → get t.linked n ≡ o → key_at t n ≡ Some k
+    go None none = ap (λ o. or_else o (get t.detached n)) none ∙ e
+    go (Some l) some = let bad : None ≡ Some k = sym (i.either n l some) ∙ e in absurd (cc)
+
 -- what is read by code
 
 -- of a literal's code
@@ -131,6 +140,19 @@ shown_has_node t v c d h = go (code-of_node t.vtree (get t.linked) v c d h)
         let number : k.0 ≡ c - 2050 = omega (arith, k.1) in
         inr (omega (arith, k.1), subst (λ n. IsSome (key_at t n)) number (some_key k.0 (get t.linked k.0) refl k.2))
 
+-- a number whose code is there is that of a node
+pub node_of_code : (t : Table) → IsNumbered t.vtree → (n : ℕ) → HasNode t (2050 + n) → IsSome (key_at t n)
+node_of_code t v n (inl low) = absurd (omega (arith, v.few))
+node_of_code t v n (inr h) =
+    let number : 2050 + n - 2050 ≡ n = omega arith in
+    subst (λ q. IsSome (key_at t q)) number h.1
+
+-- so the code of a number without a node is not there
+pub not_there : (t : Table) → IsNumbered t.vtree → (n : ℕ) → key_at t n ≡ None → ¬ HasNode t (2050 + n)
+not_there t v n none h =
+    let gone : IsSome {T = ℕ × List (ℕ × ℕ)} None = subst IsSome none (node_of_code t v n h) in
+    cc
+
 -- the list of a node is not longer than all lists together
 pub list_within : (t : Table) (n : ℕ) (k : ℕ × List (ℕ × ℕ)) → key_at t n ≡ Some k → length k.1 ≤ total_length t
 list_within t n k e = go (get t.linked n) refl
@@ -185,12 +207,12 @@ option_map_some f None y e = cc
 option_map_some f (Some x) y e = let same : f x ≡ y = cc in (x, refl, same)
 
 -- a list that is read of the nodes is short
-pub list_short : (v : Numbered) (a : Nodes) (m : FinMap nat_cmp ℕ) (e n : ℕ) (l : List (ℕ × ℕ)) →
-    IsTable (table_of v a m e) → option_map (λ (k : ℕ × List (ℕ × ℕ)). k.1) (key_of_nodes a n) ≡ Some l →
-    length l < 2 ^ 31
-list_short v a m e n l i is =
+pub list_short : (v : Numbered) (a : Nodes) (m : FinMap nat_cmp ℕ) (e : ℕ) (g : Option ℕ) (n : ℕ)
+    (l : List (ℕ × ℕ)) → IsTable (table_of v a m e g) →
+    option_map (λ (k : ℕ × List (ℕ × ℕ)). k.1) (key_of_nodes a n) ≡ Some l → length l < 2 ^ 31
+list_short v a m e g n l i is =
     let second : ℕ × List (ℕ × ℕ) → List (ℕ × ℕ) = λ k. k.1 in
     let k = option_map_some second (key_of_nodes a n) l is in
-    let there : key_at (table_of v a m e) n ≡ Some k.0 =
+    let there : key_at (table_of v a m e g) n ≡ Some k.0 =
     sym (key_again (get a.linked n) (get a.detached n)) ∙ k.1 in
-    omega (arith, list_within (table_of v a m e) n k.0 there, i.total, i.bounded, i.bound_fits, ap length k.2)
+    omega (arith, list_within (table_of v a m e g) n k.0 there, i.total, i.bounded, i.bound_fits, ap length k.2)

@@ -61,7 +61,7 @@ found_first {X} m e es is =
     ∙ ap (λ b. cond b (Some e.1) (find nat_cmp e.0 es)) (tied e.0)
 
 -- what is left in a map without a key was in it
-left_was : {X : Type 0} (m : FinMap nat_cmp X) (k q : ℕ) (x : X) → get (remove m k) q ≡ Some x → get m q ≡ Some x
+pub left_was : {X : Type 0} (m : FinMap nat_cmp X) (k q : ℕ) (x : X) → get (remove m k) q ≡ Some x → get m q ≡ Some x
 left_was {X} m k q x e =
     by_cases
     (λ same.

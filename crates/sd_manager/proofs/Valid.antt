@@ -12,6 +12,7 @@ use Rattle.sd_manager.specs.Table.{Table, no_table, key_at, uses_of}
 use Rattle.sd_manager.specs.Shown.{IsKnown}
 use Rattle.sd_manager.specs.Valid.{IsTable}
 use Rattle.sd_manager.specs.Stored.{table_of, IsStored}
+use Rattle.sd_manager.proofs.Reading.{shown_has_node}
 
 -- nothing stands in the empty map
 pub nothing : {X : Type 0} (n : ℕ) (x : X) → get (empty {X = X} {R = nat_cmp}) n ≡ Some x → ⊥
@@ -44,6 +45,10 @@ empty_valid v bound numbered small = record {
   within = λ n k e. absurd (no_key v bound n k e);
   several = λ n k e. absurd (no_key v bound n k e);
   marked = λ n k e. absurd (no_key v bound n k e);
+  closed = λ n k e. absurd (no_key v bound n k e);
+  closed_runs = λ start list e. absurd (nothing start list e);
+  closed_roots = λ root c e. absurd (nothing root c e);
+  several_runs = λ start list e. absurd (nothing start list e);
   total = omega (
     arith,
     no_total (λ (k : ℕ × List (ℕ × ℕ)). length k.1),
@@ -56,16 +61,15 @@ empty_valid v bound numbered small = record {
 
 -- so a manager of no nodes and no roots may be made
 pub empty_stored : (v : Numbered) (bound : ℕ) (a : Nodes) (m : FinMap nat_cmp ℕ) → IsNumbered v → bound < 2 ^ 31 →
-    IsNodes a → a ≡ no_nodes bound → m ≡ empty → IsStored a (table_of v a m 0)
+    IsNodes a → a ≡ no_nodes bound → m ≡ empty → IsStored a (table_of v a m 0 None)
 empty_stored v bound a m numbered small valid none no_roots =
-    subst (λ r. IsStored a (table_of v a r 0)) (sym no_roots)
-    (subst (λ b. IsNodes b → IsStored b (table_of v b empty 0)) (sym none)
+    subst (λ r. IsStored a (table_of v a r 0 None)) (sym no_roots)
+    (subst (λ b. IsNodes b → IsStored b (table_of v b empty 0 None)) (sym none)
     (λ valid.
     record {
       table = empty_valid v bound numbered small;
       valid = valid;
-      none_loose = refl;
-      uses = λ n k e. absurd (nothing n k e);
+      uses = λ n k e. absurd (no_key v bound n k e);
     }) valid)
 
 -- what a code shows does not hang on the roots
@@ -86,6 +90,10 @@ valid_roots t m i held few = record {
   within = i.within;
   several = i.several;
   marked = i.marked;
+  closed = i.closed;
+  closed_runs = i.closed_runs;
+  closed_roots = λ root c e. let k = held root c e in shown_has_node t i.numbered c k.diagram k.is.shows;
+  several_runs = i.several_runs;
   total = i.total;
   records_fit = i.records_fit;
   bounded = i.bounded;
@@ -93,15 +101,15 @@ valid_roots t m i held few = record {
 }
 
 -- nodes of which only the uses changed stand for the same table
-pub stored_with : (v : Numbered) (a b : Nodes) (m : FinMap nat_cmp ℕ) (e : ℕ) → b ≡ record a { uses = b.uses } →
-    IsNodes b → a.loose ≡ empty → IsTable (table_of v a m e) → ((n : ℕ) (k : ℕ × List (ℕ × ℕ)) →
-    get a.linked n ≡ Some k → get b.uses n ≡ Some (uses_of (table_of v a m e) (2050 + n))) →
-    IsStored b (table_of v b m e)
-stored_with v a b m e rest valid loose i uses =
-    let Good : Nodes → Type 0 = λ x. IsNodes x → ((n : ℕ) (k : ℕ × List (ℕ × ℕ)) → get a.linked n ≡ Some k →
-    get x.uses n ≡ Some (uses_of (table_of v a m e) (2050 + n))) → IsStored x (table_of v x m e) in
-    subst Good (sym rest) (λ valid uses. record { table = i; valid = valid; none_loose = loose; uses = uses })
-    valid uses
+pub stored_with : (v : Numbered) (a b : Nodes) (m : FinMap nat_cmp ℕ) (e : ℕ) (g : Option ℕ) →
+    b ≡ record a { uses = b.uses } → IsNodes b → IsTable (table_of v a m e g) →
+    ((n : ℕ) (k : ℕ × List (ℕ × ℕ)) → key_at (table_of v a m e g) n ≡ Some k →
+    get b.uses n ≡ Some (uses_of (table_of v a m e g) (2050 + n))) → IsStored b (table_of v b m e g)
+stored_with v a b m e g rest valid i uses =
+    let Good : Nodes → Type 0 = λ x. IsNodes x → ((n : ℕ) (k : ℕ × List (ℕ × ℕ)) →
+    key_at (table_of v a m e g) n ≡ Some k → get x.uses n ≡ Some (uses_of (table_of v a m e g) (2050 + n))) →
+    IsStored x (table_of v x m e g) in
+    subst Good (sym rest) (λ valid uses. record { table = i; valid = valid; uses = uses }) valid uses
 
 -- what a code shows in a table that is the same
 pub known_inside : (t u : Table) (c d : ℕ) → t ≡ u → c ≡ d → IsKnown u d → IsKnown t c

@@ -1,17 +1,21 @@
 -- The uses of the nodes, as they are counted.
-use Rattle.std.specs.Prelude.{◌≡◌, ℕ, ◌+◌, ◌-◌, ◌≤◌, List, ◌==◌, if◌then◌else◌}
+use Rattle.std.specs.Prelude.{◌≡◌, ℕ, ◌+◌, ◌-◌, ◌≤◌, List, [], ◌==◌, if◌then◌else◌, unwrap_or}
 use Rattle.std.specs.List.{AllByRecursion}
 use Rattle.std.specs.Option.{IsSome, option_map}
 use Rattle.std.specs.FinMap.{get}
-use Rattle.sd_unique.specs.Nodes.{Nodes}
+use Rattle.sd_unique.specs.Nodes.{Nodes, key_at}
 
 -- 1 where the codes are equal
 abbrev pub counts_one : ℕ → ℕ → ℕ
 counts_one c code = if code == c then 1 else 0
 
--- the code is of a constant, a literal or a linked node
+-- the code is of a constant, a literal or a node, linked or detached
 abbrev pub IsCounted : Nodes → ℕ → Type 0
-IsCounted a code = 2050 ≤ code → IsSome (get a.linked (code - 2050))
+IsCounted a code = 2050 ≤ code → IsSome (key_at a (code - 2050))
+
+-- the list of a node, linked or detached
+abbrev pub list_at : Nodes → ℕ → List (ℕ × ℕ)
+list_at a n = unwrap_or (option_map (λ k. k.1) (key_at a n)) []
 
 -- the codes in the list are so
 abbrev pub AreCounted : Nodes → List (ℕ × ℕ) → Type 0
@@ -26,3 +30,8 @@ pub record AddsUses (old new : Nodes) (more : ℕ → ℕ) : Type 0 where
 pub record DropsUse (old new : Nodes) (code : ℕ) : Type 0 where
   pub rest : new ≡ record old { uses = new.uses }
   pub uses : (n : ℕ) → get new.uses n ≡ option_map (λ k. k - counts_one (2050 + n) code) (get old.uses n)
+
+-- only the uses changed, and each fell by as much as its code says
+pub record DropsUses (old new : Nodes) (less : ℕ → ℕ) : Type 0 where
+  pub rest : new ≡ record old { uses = new.uses }
+  pub uses : (n : ℕ) → get new.uses n ≡ option_map (λ k. k - less (2050 + n)) (get old.uses n)

@@ -1,5 +1,6 @@
 -- What making a node and holding one do to a manager, and when there is no room.
-use Rattle.std.specs.Prelude.{◌≡◌, ℕ, ◌+◌, ◌*◌, ◌/◌, ◌<◌, ◌≤◌, List, length, Some, None}
+use Rattle.std.specs.Prelude.{◌≡◌, ◌⊎◌, ℕ, ◌+◌, ◌-◌, ◌*◌, ◌/◌, ◌<◌, ◌≤◌, max, List, length, Some, None}
+use Rattle.std.specs.Option.{IsSome}
 use Rattle.std.specs.List.Sorted.{IsPermutation}
 use Rattle.std.specs.FinMap.{get, insert, remove}
 use Rattle.sd_runs.specs.declared.error.TakeError.{TakeError}
@@ -9,14 +10,18 @@ use Rattle.sd_model.specs.Diagram.{Diagram, meaning}
 use Rattle.sd_vtree.specs.Numbered.{forget}
 use Rattle.sd_laws.specs.Pairs.{HasValue}
 use Rattle.sd_laws.specs.Shown.{Keeps}
-use Rattle.sd_manager.specs.Table.{Table, free_count}
+use Rattle.sd_unique.specs.Inserting.{with_count, extent_after}
+use Rattle.sd_manager.specs.Table.{Table, key_at, free_count}
 use Rattle.sd_manager.specs.Shown.{IsShown, IsPartitionAt}
 
--- Every linked node stays as it was, and so do the vtree, the roots and all else but what new nodes take.
+-- Every node, linked or detached, stays as it was with its mark, and so do the vtree, the roots and all else but what
+-- new nodes take.
 pub record Extends (old new : Table) : Type 0 where
   pub vtree : new.vtree ≡ old.vtree
   pub nodes : Keeps (get old.linked) (get new.linked)
   pub marks : (n : ℕ) (k : ℕ × List (ℕ × ℕ)) → get old.linked n ≡ Some k → get new.marks n ≡ get old.marks n
+  pub detached_marks : (n : ℕ) (k : ℕ × List (ℕ × ℕ)) → get old.detached n ≡ Some k →
+      get new.marks n ≡ get old.marks n
   pub detached : new.detached ≡ old.detached
   pub loose : new.loose ≡ old.loose
   pub roots : new.roots ≡ old.roots
@@ -59,7 +64,25 @@ IsNeeded t place pairs (ArenaFull elements) =
     (c : ℕ) (ds : List (Diagram × Diagram)) → IsPartitionAt t place pairs ds → ¬ (IsMade t c ds)
 IsNeeded t place pairs OutOfMemory = Unit {0}
 
--- one new node was linked at the place, with the elements by ascending codes and mark 0, and there was room for it
+-- a number below `records` that no node has, or `records` where each number below it is that of a node
+abbrev pub IsNewNumber : Table → ℕ → Type 0
+IsNewNumber t n =
+    ((n < t.records) × (key_at t n ≡ None)) ⊎ ((n ≡ t.records) × ((m : ℕ) → m < n → IsSome (key_at t m)))
+
+-- The table with a new linked node of this number, with mark 0. Its run was a free one of that length where there was
+-- one, and else the extent has grown by it.
+abbrev pub with_node : Table → ℕ → ℕ → List (ℕ × ℕ) → Table
+with_node t number place list =
+    record t {
+      linked = insert t.linked number (place, list);
+      marks = insert t.marks number 0;
+      free = with_count t.free (length list) (free_count t (length list) - 1);
+      records = max t.records (number + 1);
+      extent = extent_after (free_count t (length list)) t.extent (length list);
+    }
+
+-- One new node was linked at the place, with the elements by ascending codes and mark 0, and there was room for it.
+-- Nothing else changed.
 pub record HasNewNode (old new : Table) (place : ℕ) (elements : List (ℕ × ℕ)) (c : ℕ) : Type 0 where
   pub number : ℕ
   pub list : List (ℕ × ℕ)
@@ -69,6 +92,8 @@ pub record HasNewNode (old new : Table) (place : ℕ) (elements : List (ℕ × �
   pub linked : new.linked ≡ insert old.linked number (place, list)
   pub mark : get new.marks number ≡ Some 0
   pub room : ¬ IsFull old (length elements)
+  pub new_number : IsNewNumber old number
+  pub is : new ≡ with_node old number place list
 
 -- the table in which this root holds the node with this code
 abbrev pub with_root : Table → ℕ → ℕ → Table

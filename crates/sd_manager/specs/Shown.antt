@@ -1,5 +1,6 @@
 -- The diagrams that codes and roots of a manager show.
 use Rattle.std.specs.Prelude.{◌≡◌, ◌⊎◌, ℕ, ◌+◌, ◌-◌, ◌*◌, ◌<◌, ◌≤◌, Bool, true, false, List, Some}
+use Rattle.std.specs.List.{AllByRecursion}
 use Rattle.std.specs.Option.{IsSome}
 use Rattle.std.specs.FinMap.{get}
 use Rattle.sd_model.specs.Tree.{leaves}
@@ -37,6 +38,10 @@ IsPartitionAt t place pairs ds = IsSplitAt t.vtree (get t.linked) place pairs ds
 -- the code is that of a constant, of a literal of the vtree, or of a node, linked or detached
 abbrev pub HasNode : Table → ℕ → Type 0
 HasNode t c = (c < 2 * leaves (forget t.vtree) + 2) ⊎ ((2050 ≤ c) × IsSome (key_at t (c - 2050)))
+
+-- both codes of each pair in the list are so
+abbrev pub AreThere : Table → List (ℕ × ℕ) → Type 0
+AreThere t list = AllByRecursion (λ (e : ℕ × ℕ). HasNode t e.0 × HasNode t e.1) list
 
 -- the pair of codes shows one of the elements
 pub record ShowsElement (t : Table) (pair : ℕ × ℕ) (elements : Elements) : Type 0 where

@@ -1,10 +1,10 @@
 -- How a manager is kept: its nodes with their uses, and its roots in slots.
 use Rattle.std.specs.Prelude.{◌≡◌, ℕ, ◌+◌, List, [], ◌∷◌, Option, Some, None}
 use Rattle.std.specs.Ordering.{nat_cmp}
-use Rattle.std.specs.FinMap.{FinMap, empty, get, from_entries}
+use Rattle.std.specs.FinMap.{FinMap, get, from_entries}
 use Rattle.sd_unique.specs.Nodes.{Nodes, IsNodes}
 use Rattle.sd_vtree.specs.Numbered.{Numbered}
-use Rattle.sd_manager.specs.Table.{Table, uses_of}
+use Rattle.sd_manager.specs.Table.{Table, key_at, uses_of}
 use Rattle.sd_manager.specs.Valid.{IsTable}
 
 -- the codes in slots with the numbers of the slots, the first at this number
@@ -18,8 +18,8 @@ abbrev pub held_map : List (Option ℕ) → FinMap nat_cmp ℕ
 held_map slots = from_entries (held_from 0 slots)
 
 -- the table that these parts stand for
-abbrev pub table_of : Numbered → Nodes → FinMap nat_cmp ℕ → ℕ → Table
-table_of vtree nodes roots epoch =
+abbrev pub table_of : Numbered → Nodes → FinMap nat_cmp ℕ → ℕ → Option ℕ → Table
+table_of vtree nodes roots epoch moving =
     record {
       vtree = vtree;
       linked = nodes.linked;
@@ -32,13 +32,11 @@ table_of vtree nodes roots epoch =
       records = nodes.records;
       extent = nodes.extent;
       bound = nodes.bound;
-      moving = None;
+      moving = moving;
     }
 
--- the parts stand for a valid table, no run is loose, and the uses of each node are counted
+-- the parts stand for a valid table, and the uses of each node, linked or detached, are counted
 pub record IsStored (nodes : Nodes) (t : Table) : Type 0 where
   pub table : IsTable t
   pub valid : IsNodes nodes
-  pub none_loose : nodes.loose ≡ empty
-  pub uses : (n : ℕ) (k : ℕ × List (ℕ × ℕ)) → get nodes.linked n ≡ Some k →
-      get nodes.uses n ≡ Some (uses_of t (2050 + n))
+  pub uses : (n : ℕ) (k : ℕ × List (ℕ × ℕ)) → key_at t n ≡ Some k → get nodes.uses n ≡ Some (uses_of t (2050 + n))

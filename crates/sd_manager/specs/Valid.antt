@@ -6,7 +6,7 @@ use Rattle.std.specs.FinMap.{empty, get, len, values}
 use Rattle.sd_vtree.specs.Numbered.{IsNumbered, IsUnder}
 use Rattle.sd_laws.specs.Shown.{AreKeys}
 use Rattle.sd_manager.specs.Table.{Table, key_at}
-use Rattle.sd_manager.specs.Shown.{IsKnown}
+use Rattle.sd_manager.specs.Shown.{IsKnown, HasNode, AreThere}
 
 -- the place is not above the vtree node at which a move is going on
 abbrev pub IsSettled : Table → ℕ → Type 0
@@ -21,6 +21,7 @@ total_length t =
 
 -- Every linked node shows a diagram that is canonical for the vtree, but for those above the place of a move that is
 -- going on. No two linked nodes have one place and one list, and each list ascends by the codes of its primes.
+-- The codes that stand in lists and loose runs and that roots hold are of constants, literals of the vtree and nodes.
 pub record IsTable (t : Table) : Type 0 where
   pub numbered : IsNumbered t.vtree
   pub keys : AreKeys (get t.linked)
@@ -34,6 +35,14 @@ pub record IsTable (t : Table) : Type 0 where
   pub within : (n : ℕ) (k : ℕ × List (ℕ × ℕ)) → key_at t n ≡ Some k → n < t.records
   pub several : (n : ℕ) (k : ℕ × List (ℕ × ℕ)) → key_at t n ≡ Some k → 2 ≤ length k.1
   pub marked : (n : ℕ) (k : ℕ × List (ℕ × ℕ)) → key_at t n ≡ Some k → IsSome (get t.marks n)
+  -- the codes in the list of a node, linked or detached, are there
+  pub closed : (n : ℕ) (k : ℕ × List (ℕ × ℕ)) → key_at t n ≡ Some k → AreThere t k.1
+  -- so are those in a loose run
+  pub closed_runs : (start : ℕ) (list : List (ℕ × ℕ)) → get t.loose start ≡ Some list → AreThere t list
+  -- and so is the code that a root holds
+  pub closed_roots : (root c : ℕ) → get t.roots root ≡ Some c → HasNode t c
+  -- a loose run has two elements or more, as the list of a node has
+  pub several_runs : (start : ℕ) (list : List (ℕ × ℕ)) → get t.loose start ≡ Some list → 2 ≤ length list
   pub total : total_length t ≤ t.extent
   pub records_fit : t.records ≤ t.extent
   pub bounded : t.extent ≤ t.bound

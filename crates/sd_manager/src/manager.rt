@@ -1,7 +1,7 @@
 //! Diagrams under one vtree.
 
 ghost use Rattle.std.specs.Prelude.{◌≡◌, ◌≢◌, ◌↔◌, ◌⊎◌, ℕ, ◌+◌, ◌-◌, ◌<◌, ◌≤◌, ◌^◌, Bool, List, length, map};
-ghost use Rattle.std.specs.Prelude.{Some, None, IfOk, IfErr, OnOk, OnErr, IsTrue, slice_get, cond};
+ghost use Rattle.std.specs.Prelude.{Some, None, IfOk, IfErr, IfSome, IfNone, OnOk, OnErr, IsTrue, slice_get, cond};
 ghost use Rattle.std.specs.Option.{IsSome};
 ghost use Rattle.std.specs.FinMap.{get, len};
 ghost use Rattle.sd_model.specs.Tree.{leaves, AreDistinct};
@@ -17,14 +17,16 @@ ghost use Rattle.sd_manager.specs.Views.{view_of, pairs_at, IsViewOf};
 ghost use Rattle.sd_manager.specs.Valid.{IsTable};
 ghost use Rattle.sd_manager.specs.Making.{Extends, IsMade, IsFull, IsRefusal, KeepsRule, IsNeeded, HasNewNode};
 ghost use Rattle.sd_manager.specs.Making.{with_root, without_root};
+ghost use Rattle.sd_manager.specs.Moving.{next_epoch};
+ghost use Rattle.sd_manager.specs.Retiring.{IsIdle, IsRetired};
 
 use crate::node_id::NodeId;
 use crate::pairs::{sort_into, trimmed};
 use crate::roots::{Root, Roots};
-use crate::uses::{add_use, add_uses, drop_use};
+use crate::uses::{add_use, add_uses, drop_use, drop_uses};
 use crate::view::{View, literal_code, literal_value};
 use sd_runs::TakeError;
-use sd_unique::Nodes;
+use sd_unique::{Found, Nodes};
 use sd_vtree::{VNode, Vtree};
 use std::alloc::{AllocError, Global};
 use std::marker::Model;
@@ -38,6 +40,8 @@ pub struct Manager {
     nodes: Nodes,
     roots: Roots,
     epoch: u64,
+    // The vtree node at which a move is going on.
+    moving: Option<VNode>,
     // Room for the list of a node that is made.
     sorted: Vec<(u32, u32)>,
 }
@@ -50,9 +54,9 @@ impl Model for Manager {
 
     ghost coded = { table_code };
 
-    ghost view = { λ a. table_of a.vtree a.nodes a.roots a.epoch };
+    ghost view = { λ a. table_of a.vtree a.nodes a.roots a.epoch a.moving };
 
-    ghost invariant = { λ a. IsStored a.nodes (table_of a.vtree a.nodes a.roots a.epoch) };
+    ghost invariant = { λ a. IsStored a.nodes (table_of a.vtree a.nodes a.roots a.epoch a.moving) };
 }
 
 impl Manager {
@@ -68,6 +72,7 @@ impl Manager {
             nodes: Nodes::new(alloc, bound)?,
             roots: Roots::new(alloc),
             epoch: 0,
+            moving: None,
             sorted: Vec::new(alloc),
         })
     }
@@ -80,7 +85,7 @@ impl Manager {
         &self.vtree
     }
 
-    /// How often a sweep removed a node or the vtree was moved.
+    /// How often a node was taken away or the vtree was moved. At the greatest `u64` it stays.
     pub fn epoch(&self) -> u64
         ensures epoch { result ≡ self.now.epoch }
         ensures table { IsTable self.now }
@@ -289,14 +294,46 @@ impl Manager {
         if let Some(code) = trimmed(list) {
             return Ok(NodeId(code));
         }
-        if let Some(number) = self.nodes.find(place.0, list) {
-            return Ok(NodeId(number + 2050));
-        }
-        let number = match self.nodes.insert(place.0, list) {
-            Ok(number) => number,
+        let found = match self.nodes.find_or_insert(place.0, list) {
+            Ok(found) => found,
             Err(error) => return Err(error),
+        };
+        let number = match found {
+            Found::Present(number) => return Ok(NodeId(number + 2050)),
+            Found::New(number) => number,
         };
         add_uses(&mut self.nodes, list);
         Ok(NodeId(number + 2050))
     }
+
+    /// The number of a linked node that nothing uses, where there is one. Its code is the number and 2,050. A call goes
+    /// on where the last one stopped.
+    pub fn idle(&mut self) -> Option<u32>
+        ensures some { IfSome result (λ n. IsIdle self.new n) }
+        ensures none { IfNone result ((n : ℕ) → ¬ IsIdle self.new n) }
+        ensures same { self.new ≡ self.old }
+        ensures table { IsTable self.new }
+    {
+        self.nodes.idle()
+    }
+
+    /// Takes a linked node away that nothing uses. Its number and its run in the arena are free then, and nothing else
+    /// is changed but the epoch. Takes no memory.
+    pub fn retire(&mut self, number: u32)
+        requires idle { IsIdle self.old number }
+        ensures retired { IsRetired self.old self.new number }
+        ensures table { IsTable self.new }
+    {
+        drop_uses(&mut self.nodes, number);
+        self.nodes.unlink(number);
+        self.nodes.remove(number);
+        self.epoch = epoch_after(self.epoch);
+    }
+}
+
+// The epoch after this one; the last one stays.
+fn epoch_after(epoch: u64) -> u64
+    ensures { result ≡ next_epoch epoch }
+{
+    if epoch < u64::MAX { epoch + 1 } else { epoch }
 }

@@ -83,3 +83,39 @@ fn a_root(rt: HostRuntime) -> Result<(), Fail> {
     assert_eq!(rt; m.node_of(&held), yes);
     Ok(())
 }
+
+// Takes a node away that nothing uses, where there is one, and answers its number.
+fn retire_one(m: &mut Manager, root: VNode) -> Option<u32>
+    requires { IsOverTwo m.old root }
+    ensures over { IsOverTwo m.new root }
+{
+    let number = m.idle()?;
+    m.retire(number);
+    Some(number)
+}
+
+/// A made node that no root holds is taken away, at the next epoch; its number is that of the next new node.
+#[test]
+fn a_retired_node(rt: HostRuntime) -> Result<(), Fail> {
+    let (mut m, root) = over_two(rt.alloc(), 3)?;
+    let clause = one_or_two(&mut m, root)?;
+    assert_eq!(rt; clause, NodeId(2050));
+    assert_eq!(rt; retire_one(&mut m, root), Some(0));
+    assert_eq!(rt; m.epoch(), 1);
+    assert_eq!(rt; retire_one(&mut m, root), None);
+    let again = one_or_two(&mut m, root)?;
+    assert_eq!(rt; again, clause);
+    Ok(())
+}
+
+/// A node is idle when no root holds it.
+#[test]
+fn a_held_node(rt: HostRuntime) -> Result<(), Fail> {
+    let (mut m, root) = over_two(rt.alloc(), 3)?;
+    let clause = one_or_two(&mut m, root)?;
+    let held = m.hold(clause)?;
+    assert_eq!(rt; m.idle(), None);
+    m.release(held);
+    assert_eq!(rt; m.idle(), Some(0));
+    Ok(())
+}

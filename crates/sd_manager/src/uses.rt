@@ -3,9 +3,9 @@
 ghost use Rattle.std.specs.Prelude.{◌≡◌, ◌+◌, ◌-◌, ◌<◌, ◌≤◌, ◌^◌, ℕ, Some};
 ghost use Rattle.std.specs.Option.{IsSome};
 ghost use Rattle.std.specs.FinMap.{get};
-ghost use Rattle.sd_unique.specs.Nodes.{IsNodes, uses_at};
+ghost use Rattle.sd_unique.specs.Nodes.{IsNodes, key_at, uses_at};
 ghost use Rattle.sd_manager.specs.Table.{uses_in, uses_of_pair};
-ghost use Rattle.sd_manager.specs.Counting.{counts_one, AddsUses, AreCounted, DropsUse, IsCounted};
+ghost use Rattle.sd_manager.specs.Counting.{counts_one, AddsUses, AreCounted, DropsUse, DropsUses, IsCounted, list_at};
 
 use sd_unique::Nodes;
 
@@ -58,5 +58,35 @@ pub(crate) fn add_uses(nodes: &mut Nodes, list: &[(u32, u32)])
 {
     for pair in list {
         add_pair(nodes, *pair);
+    }
+}
+
+// Counts one use less of both codes of a pair.
+fn drop_pair(nodes: &mut Nodes, pair: (u32, u32))
+    requires valid { IsNodes nodes.old }
+    requires first { IsCounted nodes.old pair.0 }
+    requires second { IsCounted nodes.old pair.1 }
+    requires used { (n k : ℕ) → get nodes.old.uses n ≡ Some k → uses_of_pair (2050 + n) pair ≤ k }
+    ensures uses { DropsUses nodes.old nodes.new (λ c. uses_of_pair c pair) }
+    ensures valid { IsNodes nodes.new }
+{
+    drop_use(nodes, pair.0);
+    drop_use(nodes, pair.1);
+}
+
+// Counts one use less of each code in the list of a node, as often as it stands there.
+pub(crate) fn drop_uses(nodes: &mut Nodes, number: u32)
+    requires valid { IsNodes nodes.old }
+    requires node { IsSome (key_at nodes.old number) }
+    requires counted { AreCounted nodes.old (list_at nodes.old number) }
+    requires used { (n k : ℕ) → get nodes.old.uses n ≡ Some k →
+        uses_in (2050 + n) (list_at nodes.old number) ≤ k }
+    ensures uses { DropsUses nodes.old nodes.new (λ c. uses_in c (list_at nodes.old number)) }
+    ensures valid { IsNodes nodes.new }
+{
+    let count = nodes.list(number).len();
+    for index in 0..count {
+        let pair = nodes.list(number)[index];
+        drop_pair(nodes, pair);
     }
 }

@@ -32,3 +32,4 @@ mod Pushed
 mod Rechained
 mod Growing
 mod Nothing
+mod Retiring

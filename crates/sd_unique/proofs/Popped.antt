@@ -8,13 +8,13 @@ use Rattle.std.specs.Option.{option_and_then}
 use Rattle.sd_runs.proofs.Places.{by_cases}
 use Rattle.sd_unique.specs.declared.record.Record.{Record}
 use Rattle.sd_unique.specs.declared.record.Links.{Links}
-use Rattle.sd_unique.specs.Filed.{Has, passing, unfiled}
+use Rattle.sd_unique.specs.Filed.{Has, unfiled}
 use Rattle.sd_unique.specs.Chains.{waiting_of, stack_under, top_of, no_record, waiting_count, IsUnused}
 use Rattle.sd_unique.specs.Chains.{AreStacked, KeepsLists}
 use Rattle.sd_unique.proofs.Both.{unfiled_here, unfiled_other}
 use Rattle.sd_unique.proofs.Cut.{not_first}
 use Rattle.sd_unique.proofs.Entries.{slice_get_at}
-use Rattle.sd_unique.proofs.Filed.{filed_out, passing_same, passing_other}
+use Rattle.sd_unique.proofs.Filed.{passing, filed_out, passing_same, passing_other}
 use Rattle.sd_unique.proofs.Numbered.{picked_from}
 use Rattle.sd_unique.proofs.Stacked.{head_has, link_same, stack_there, stack_other}
 use Rattle.sd_unique.proofs.Standing.{read_inside}
@@ -92,15 +92,6 @@ pub record AreLeft (records : List Record) (old new : List Links) (top : ℕ) : 
   pub lists : KeepsLists old new
   pub others : (n : ℕ) (r : Record) → slice_get records n ≡ Some r → IsUnused r → stack_under old n ≡ Some 0
       → stack_under new n ≡ Some 0
-
-pub left_first : (records : List Record) (links : List Links) (top : ℕ) → AreStacked links top
-    → AreLeft records links links top
-left_first records links top stacked =
-    record {
-      stacked = stacked;
-      lists = record { size = refl; after = λ n. refl; before = λ n. refl };
-      others = λ n r e unused there. there;
-    }
 
 -- the top has a record
 pub left_inside : (records : List Record) (old links : List Links) (top : ℕ) → length old ≡ length records

@@ -28,16 +28,19 @@ bucket_of key count = bit_and (hash_of key / 2 ^ 32) (count - 1)
 abbrev pub no_record : ℕ
 no_record = 2 ^ 32 - 1
 
--- a link of the record of this number
+-- what follows the record of this number in its chain
 abbrev pub next_of : List Record → ℕ → ℕ
 next_of records n = get_or (map (λ r. r.next) records) n 0
 
+-- what follows it in its list
 abbrev pub after_of : List Links → ℕ → ℕ
 after_of links n = get_or (map (λ l. l.after) links) n 0
 
+-- what leads back to it in the list
 abbrev pub before_of : List Links → ℕ → ℕ
 before_of links n = get_or (map (λ l. l.before) links) n 0
 
+-- what follows it in the stack
 abbrev pub waiting_of : List Links → ℕ → ℕ
 waiting_of links n = get_or (map (λ l. l.waiting) links) n 0
 
@@ -62,10 +65,12 @@ list_by Free b = None
 list_by Linked b = Some (suc b)
 list_by Detached b = Some 0
 
+-- under which head the number of a record is filed, among the chains
 abbrev pub chain_under : Arena → ℕ → List Record → ℕ → Option ℕ
 chain_under arena count records n =
     option_and_then (λ r. chain_by r.state (bucket_of (key_of arena r) count)) (slice_get records n)
 
+-- and among the lists
 abbrev pub list_under : List Record → ℕ → Option ℕ
 list_under records n = option_and_then (λ r. list_by r.state (bit_and r.place 2047)) (slice_get records n)
 

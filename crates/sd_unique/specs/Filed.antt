@@ -21,15 +21,6 @@ abbrev pub IsOnce : List ℕ → Type 0
 IsOnce [] = Unit {0}
 IsOnce (x ∷ xs) = (¬ Has x xs) × IsOnce xs
 
--- the number, or what comes in place of x
-abbrev pub passing : ℕ → ℕ → ℕ → ℕ
-passing x instead n = if n == x then instead else n
-
--- the list without x
-abbrev pub without : ℕ → List ℕ → List ℕ
-without x [] = []
-without x (y ∷ ys) = if y == x then without x ys else (y ∷ without x ys)
-
 -- Each number stands once in the chain of the head under which it is filed, and in no other; one that is filed under no
 -- head stands in none.
 pub record IsFiled (next : ℕ → ℕ) (none : ℕ) (head : ℕ → ℕ) (under : ℕ → Option ℕ) : Type 0 where
@@ -43,22 +34,6 @@ pub record IsFiled (next : ℕ → ℕ) (none : ℕ) (head : ℕ → ℕ) (under
 pub record IsFiledBoth (next prev : ℕ → ℕ) (none : ℕ) (head : ℕ → ℕ) (under : ℕ → Option ℕ) : Type 0 where
   pub forth : IsFiled next none head under
   pub back : (b : ℕ) → IsBack prev none (forth.lists b)
-
--- The links, heads and places after x was taken out: what led to x leads to what followed it.
-pub record IsTakenOut (next next' : ℕ → ℕ) (head head' : ℕ → ℕ) (under under' : ℕ → Option ℕ) (x : ℕ) : Type 0 where
-  pub after : (y b : ℕ) → under y ≡ Some b → y ≢ x → next' y ≡ passing x (next x) (next y)
-  pub heads : (b : ℕ) → head' b ≡ passing x (next x) (head b)
-  pub gone : under' x ≡ None
-  pub others : (y : ℕ) → y ≢ x → under' y ≡ under y
-
--- the links, heads and places after x was put first under b
-pub record IsPutFirst (next next' : ℕ → ℕ) (head head' : ℕ → ℕ) (under under' : ℕ → Option ℕ) (b x : ℕ) : Type 0 where
-  pub after : next' x ≡ head b
-  pub kept : (y c : ℕ) → under y ≡ Some c → y ≢ x → next' y ≡ next y
-  pub first : head' b ≡ x
-  pub heads : (c : ℕ) → c ≢ b → head' c ≡ head c
-  pub there : under' x ≡ Some b
-  pub others : (y : ℕ) → y ≢ x → under' y ≡ under y
 
 -- the places where x is filed under no head
 abbrev pub unfiled : ℕ → (ℕ → Option ℕ) → ℕ → Option ℕ

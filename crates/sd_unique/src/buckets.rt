@@ -38,7 +38,8 @@ fn link(runs: &Runs, records: &mut [Record], heads: &mut [u32], number: usize)
     requires some { 1 < length heads.old }
     requires linked { IsLinkedBelow runs.now (length heads.old - 1) number records.old heads.old }
     ensures kept { KeepsRecords records.old records.new }
-    ensures linked { IsLinkedBelow runs.now (length heads.new - 1) (number + 1) records.new heads.new }
+    ensures linked { IsLinkedBelow runs.now (length heads.new - 1) (number + 1) records.new
+        heads.new }
 {
     let mut record = records[number];
     let State::Linked = record.state else {

@@ -1,4 +1,25 @@
 //! Numbered nodes, found by their place and list: no two linked nodes have the same place and list.
+//!
+//! Each number has a record and its links. A record is free, linked or detached, and stands where its
+//! state says: `next` chains the free records and those of each bucket, `before` and `after` the
+//! linked ones of each place and the detached ones, `waiting` the candidates for removal.
+//!
+//! ```text
+//! heads     [ free | bucket 0 | bucket 1 | .. ]        places  [ detached | 0 | 1 | .. | 2047 ]
+//!               \       \ next                                     \ before, after
+//! records   [ place start length next uses mark state ]   links  [ before after waiting is_waiting ]
+//!                    \                                             / candidates: the top of a stack
+//! runs      [ .. | (2, 3) (4, 5) | .. ]
+//! ```
+//!
+//! A look-up reads a head, then of each record of its bucket the record, and the list where place and
+//! length agree. It takes the length of the list and of the chain, and so do `insert` and `unlink`;
+//! `relink`, `take_run` and `remove` take the length of the list at most, `first_at` that of the list
+//! of its place, `idle` one step for each number pushed, and all else a few loads. The buckets double
+//! where they are as few as the records, which takes a step for each record.
+//!
+//! A node of two elements has a record of 32 bytes, links of 16, a run of 16 with its length of 4, and
+//! 4 to 8 of the buckets: 72 to 76 bytes, beside the room that vectors keep for growth.
 #![tactic(auto)]
 
 mod buckets;
@@ -13,3 +34,6 @@ mod states;
 
 pub use found::Found;
 pub use nodes::Nodes;
+
+#[cfg(test)]
+mod tests;

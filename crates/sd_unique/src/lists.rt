@@ -11,9 +11,11 @@ pub(crate) fn take_out(links: &mut [Links], places: &mut [u32], head: usize, num
     requires inside { number < length links.old }
     requires head { head < length places.old }
     requires listed { (under : ℕ → Option ℕ) × (under number ≡ Some head)
-        × ((n b : ℕ) → under n ≡ Some b → n < length links.old) × AreListed links.old places.old under }
+        × ((n b : ℕ) → under n ≡ Some b → n < length links.old)
+        × AreListed links.old places.old under }
     ensures listed { (under : ℕ → Option ℕ) → under number ≡ Some head
-        → AreListed links.old places.old under → AreListed links.new places.new (unfiled number under) }
+        → AreListed links.old places.old under
+        → AreListed links.new places.new (unfiled number under) }
     ensures stack { KeepsStack links.old links.new }
 {
     let link = links[number as usize];
@@ -55,9 +57,11 @@ pub(crate) fn put_first(links: &mut [Links], places: &mut [u32], head: usize, nu
     requires some { number ≢ no_record }
     requires head { head < length places.old }
     requires listed { (under : ℕ → Option ℕ) × (under number ≡ None)
-        × ((n b : ℕ) → under n ≡ Some b → n < length links.old) × AreListed links.old places.old under }
+        × ((n b : ℕ) → under n ≡ Some b → n < length links.old)
+        × AreListed links.old places.old under }
     ensures listed { (under : ℕ → Option ℕ) → under number ≡ None
-        → AreListed links.old places.old under → AreListed links.new places.new (filed_at number head under) }
+        → AreListed links.old places.old under
+        → AreListed links.new places.new (filed_at number head under) }
     ensures stack { KeepsStack links.old links.new }
 {
     let first = places[head];

@@ -16,10 +16,13 @@ use std::marker::Model;
 /// Nodes with a number, a place and a list, in one arena.
 #[derive(Drop)]
 pub struct Nodes {
+    /// Takes the memory of more buckets.
     alloc: Global,
+    /// The lists of the nodes, and the loose runs.
     runs: Runs,
-    /// The records and their links, by number.
+    /// The records, by number.
     records: Vec<Record>,
+    /// The links of each record, at its number.
     links: Vec<Links>,
     /// The first free record, then the first number of the chain of each bucket. There are about as
     /// many buckets as records, or more.
@@ -130,13 +133,17 @@ impl Nodes {
     /// element or more. After an error nothing is changed.
     pub fn find_or_insert(&mut self, place: u32, list: &[(u32, u32)]) -> Result<Found, TakeError>
         requires some { 0 < length list.now }
-        ensures present { IfOk result (λ found. IfPresent found (λ n. get self.old.linked n ≡ Some (place, list.now))) }
+        ensures present { IfOk result (λ found. IfPresent found
+            (λ n. get self.old.linked n ≡ Some (place, list.now))) }
         ensures same { IfOk result (λ found. IfPresent found (λ n. self.new ≡ self.old)) }
-        ensures absent { IfOk result (λ found. IfNew found (λ n. IsAbsent self.old (place, list.now))) }
+        ensures absent { IfOk result (λ found. IfNew found
+            (λ n. IsAbsent self.old (place, list.now))) }
         ensures number { IfOk result (λ found. IfNew found (λ n. IsNewNumber self.old n)) }
-        ensures ok { IfOk result (λ found. IfNew found (λ n. self.new ≡ inserted self.old n place list.now)) }
+        ensures ok { IfOk result (λ found. IfNew found
+            (λ n. self.new ≡ inserted self.old n place list.now)) }
         ensures nodes { IsNodes self.new }
-        ensures room { IfOk result (λ found. IfNew found (λ n. ¬ IsFull self.old (length list.now))) }
+        ensures room { IfOk result (λ found. IfNew found
+            (λ n. ¬ IsFull self.old (length list.now))) }
         ensures err { OnErr result (self.new ≡ self.old) }
         ensures refused { OnErr result (IsAbsent self.old (place, list.now)) }
         ensures full { IfErr result (λ e. IsRefusal self.old (length list.now) e) }
@@ -216,8 +223,8 @@ impl Nodes {
     // Makes the first free record that of a linked node with this place and the list of a loose run,
     // with no uses and mark 0, and answers its number.
     fn occupy(&mut self, hash: u64, place: u32, run: (u32, u32)) -> u32
-        requires run { (list : List (ℕ × ℕ)) × IsLoose self.old run.0 run.1 list × (hash ≡ hash_of (place, list))
-            × IsAbsent self.old (place, list) }
+        requires run { (list : List (ℕ × ℕ)) × IsLoose self.old run.0 run.1 list
+            × (hash ≡ hash_of (place, list)) × IsAbsent self.old (place, list) }
         requires free { (n : ℕ) × IsFreeNumber self.old n }
         ensures number { IsFreeNumber self.old result }
         ensures ok { (list : List (ℕ × ℕ)) → IsLoose self.old run.0 run.1 list
@@ -343,7 +350,8 @@ impl Nodes {
     pub fn take_run(&mut self, list: &[(u32, u32)]) -> Result<(u32, u32), TakeError>
         requires some { 0 < length list.now }
         ensures fresh { IfOk result (λ run. get self.old.loose run.0 ≡ None) }
-        ensures ok { IfOk result (λ run. (run.1 ≡ length list.now) × (self.new ≡ with_loose self.old run.0 list.now)) }
+        ensures ok { IfOk result (λ run. (run.1 ≡ length list.now)
+            × (self.new ≡ with_loose self.old run.0 list.now)) }
         ensures nodes { IsNodes self.new }
         ensures room { OnOk result (¬ IsFull self.old (length list.now)) }
         ensures err { OnErr result (self.new ≡ self.old) }
@@ -368,8 +376,8 @@ impl Nodes {
     pub fn replace_run(&mut self, node: u32, run: (u32, u32)) -> (u32, u32)
         requires node { IsSome (get self.old.detached node) }
         requires run { (list : List (ℕ × ℕ)) × IsLoose self.old run.0 run.1 list }
-        ensures exchanged { (k : ℕ × List (ℕ × ℕ)) (list : List (ℕ × ℕ)) → get self.old.detached node ≡ Some k
-            → IsLoose self.old run.0 run.1 list → (result.1 ≡ length k.1)
+        ensures exchanged { (k : ℕ × List (ℕ × ℕ)) (list : List (ℕ × ℕ))
+            → get self.old.detached node ≡ Some k → IsLoose self.old run.0 run.1 list → (result.1 ≡ length k.1)
             × (self.new ≡ exchanged self.old node k.0 run.0 list result.0 k.1) }
         ensures fresh { get self.old.loose result.0 ≡ None }
         ensures nodes { IsNodes self.new }

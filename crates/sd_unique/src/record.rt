@@ -17,8 +17,9 @@ pub(crate) enum State {
 pub(crate) struct Record {
     /// A number that the layer above gives; part of the node's key.
     pub(crate) place: u32,
-    /// The run of the node's list starts here.
+    /// The run of the node's list starts here, and no other node's does.
     pub(crate) start: u32,
+    /// The length of that run.
     pub(crate) length: u32,
     /// The number that follows in the chain of the node's bucket, or among the free records.
     pub(crate) next: u32,
@@ -26,18 +27,21 @@ pub(crate) struct Record {
     pub(crate) uses: u64,
     /// A word of the layer above.
     pub(crate) mark: u32,
+    /// Says in which chain and in which list the record stands.
     pub(crate) state: State,
 }
 
 /// The links of a record that no look-up follows.
 #[derive(Clone, Copy, Drop)]
 pub(crate) struct Links {
-    /// The numbers before and after in the list of the node's place, or in that of the detached.
+    /// The number before in the list of the node's place, or in that of the detached.
     pub(crate) before: u32,
+    /// The number after in that list.
     pub(crate) after: u32,
     /// The number that follows in the stack of candidates.
     pub(crate) waiting: u32,
-    /// Whether the number stands in the stack of candidates.
+    /// Whether the number stands in the stack of candidates: a linked node without uses does, and one
+    /// that is used, detached or free may.
     pub(crate) is_waiting: bool,
 }
 

@@ -1,5 +1,6 @@
 use Rattle.std.proofs.Common.{◌≡◌, inr, ℕ, ◌+◌, ◌<◌, ◌^◌, Some, length, refl, sym, subst, ◌∙◌, arith}
 use Rattle.std.specs.FinMap.{get}
+use Rattle.sd_unique.specs.Inserting.{inserted, IsNewNumber, IsFull}
 use Rattle.sd_manager.specs.Table.{uses_in}
 use Rattle.sd_manager.specs.Making.{Extends, IsMade, IsRefusal, KeepsRule, IsNeeded, HasNewNode}
 use Rattle.sd_manager.specs.Counting.{AreCounted}
@@ -8,185 +9,246 @@ use Rattle.sd_manager.proofs.Linking.{asked, partition_inside, made_trimmed, mad
 use Rattle.sd_manager.proofs.Linking.{list_counted, list_room, new_short, at_new, stored_new, made_new, kept_new}
 use Rattle.sd_manager.proofs.Linking.{grown_new}
 use Rattle.sd_manager.proofs.Needed.{needed}
+use Rattle.sd_manager.proofs.Found.{if_present, if_new}
 use Rattle.sd_manager.proofs.manager.Manager.make.Goals as goal
 
 pub returns-in-Some-clause-ok : goal.returns-in-Some-clause-ok
 returns-in-Some-clause-ok c = λ ds split.
     let s = c.self.inside in
-    let h = asked s.vtree s.nodes s.roots s.epoch c.args.self.now c.args.place c.args.place c.args.elements.now
+    let h = asked s.vtree s.nodes s.roots s.epoch s.moving c.args.self.now c.args.place c.args.place c.args.elements.now
     c.as_slice-list.result.now c.sort_into.new.list.items c.self.invariant c.self.view_is refl
     c.requires.partition c.requires.differ c.in_ok-sort_into.ensures.permutation c.in_ok-sort_into.ensures.sorted
     c.as_slice-list.ensures.value in
-    made_trimmed s.vtree s.nodes s.roots s.epoch c.args.place c.args.elements.now c.as_slice-list.result.now h
+    made_trimmed s.vtree s.nodes s.roots s.epoch s.moving c.args.place c.args.elements.now c.as_slice-list.result.now h
     c.in-Some.code (sym c.trimmed.ensures ∙ c.in-Some.is) ds
-    (partition_inside (table_of s.vtree s.nodes s.roots s.epoch) c.args.self.now c.args.place c.args.place
+    (partition_inside (table_of s.vtree s.nodes s.roots s.epoch s.moving) c.args.self.now c.args.place c.args.place
     c.args.elements.now ds c.self.view_is refl split)
 
-pub returns-in-Some-find-clause-ok : goal.returns-in-Some-find-clause-ok
-returns-in-Some-find-clause-ok c = λ ds split.
+pub returns-in-Present-clause-ok : goal.returns-in-Present-clause-ok
+returns-in-Present-clause-ok c = λ ds split.
     let s = c.self.inside in
-    let h = asked s.vtree s.nodes s.roots s.epoch c.args.self.now c.place.inside.0 c.args.place c.args.elements.now
+    let h = asked s.vtree s.nodes s.roots s.epoch s.moving c.args.self.now c.place.inside.0 c.args.place
+    c.args.elements.now
     c.as_slice-list.result.now c.sort_into.new.list.items c.self.invariant c.self.view_is c.place.view_is
     c.requires.partition c.requires.differ c.in_ok-sort_into.ensures.permutation c.in_ok-sort_into.ensures.sorted
     c.as_slice-list.ensures.value in
     let none = sym c.trimmed.ensures ∙ c.in_default.is in
-    made_found s.vtree s.nodes s.roots s.epoch c.place.inside.0 c.args.elements.now c.as_slice-list.result.now h none
-    c.in-Some-find.number c.in-Some-find.ensures.some ds
-    (partition_inside (table_of s.vtree s.nodes s.roots s.epoch) c.args.self.now c.place.inside.0 c.args.place
-    c.args.elements.now ds c.self.view_is c.place.view_is split)
+    let same = if_present c.in-Ok.found c.in-Present.number (λ n. c.find_or_insert.new.self ≡ s.nodes)
+    c.in-Present.is c.in-Ok.ensures.same in
+    let there = if_present c.in-Ok.found c.in-Present.number
+    (λ n. get s.nodes.linked n ≡ Some (c.place.inside.0, c.as_slice-list.result.now)) c.in-Present.is
+    c.in-Ok.ensures.present in
+    subst (λ x. IsMade (table_of s.vtree x s.roots s.epoch s.moving) (c.in-Present.number + 2050) ds) (sym same)
+    (made_found s.vtree s.nodes s.roots s.epoch s.moving c.place.inside.0 c.args.elements.now
+    c.as_slice-list.result.now h none c.in-Present.number there ds
+    (partition_inside (table_of s.vtree s.nodes s.roots s.epoch s.moving) c.args.self.now c.place.inside.0 c.args.place
+    c.args.elements.now ds c.self.view_is c.place.view_is split))
 
-pub insert-requires-clause-some : goal.insert-requires-clause-some
-insert-requires-clause-some c =
+pub find_or_insert-requires : goal.find_or_insert-requires
+find_or_insert-requires c =
     let s = c.self.inside in
-    let h = asked s.vtree s.nodes s.roots s.epoch c.args.self.now c.place.inside.0 c.args.place c.args.elements.now
+    let h = asked s.vtree s.nodes s.roots s.epoch s.moving c.args.self.now c.place.inside.0 c.args.place
+    c.args.elements.now
     c.as_slice-list.result.now c.sort_into.new.list.items c.self.invariant c.self.view_is c.place.view_is
     c.requires.partition c.requires.differ c.in_ok-sort_into.ensures.permutation c.in_ok-sort_into.ensures.sorted
     c.as_slice-list.ensures.value in
     let none = sym c.trimmed.ensures ∙ c.in_default.is in
-    omega (
-      arith,
-      two_pairs s.vtree s.nodes s.roots s.epoch c.place.inside.0 c.args.elements.now c.as_slice-list.result.now
-          h none,
-    )
+    record {
+      some = omega (
+        arith,
+        two_pairs s.vtree s.nodes s.roots s.epoch s.moving c.place.inside.0 c.args.elements.now
+            c.as_slice-list.result.now h none,
+      );
+    }
 
 pub returns-in-Err-clause-full : goal.returns-in-Err-clause-full
 returns-in-Err-clause-full c =
     let s = c.self.inside in
-    let h = asked s.vtree s.nodes s.roots s.epoch c.args.self.now c.place.inside.0 c.args.place c.args.elements.now
+    let h = asked s.vtree s.nodes s.roots s.epoch s.moving c.args.self.now c.place.inside.0 c.args.place
+    c.args.elements.now
     c.as_slice-list.result.now c.sort_into.new.list.items c.self.invariant c.self.view_is c.place.view_is
     c.requires.partition c.requires.differ c.in_ok-sort_into.ensures.permutation c.in_ok-sort_into.ensures.sorted
     c.as_slice-list.ensures.value in
     let none = sym c.trimmed.ensures ∙ c.in_default.is in
     subst (λ t. IsRefusal t (length c.args.elements.now) c.in-Err.error) c.self.view_is
-    (refused s.vtree s.nodes s.roots s.epoch c.place.inside.0 c.args.elements.now c.as_slice-list.result.now h none
+    (refused s.vtree s.nodes s.roots s.epoch s.moving c.place.inside.0 c.args.elements.now
+    c.as_slice-list.result.now h none
     c.in-Err.error c.in-Err.ensures.full)
 
 pub returns-in-Err-clause-rule : goal.returns-in-Err-clause-rule
 returns-in-Err-clause-rule c =
     let s = c.self.inside in
-    let h = asked s.vtree s.nodes s.roots s.epoch c.args.self.now c.place.inside.0 c.args.place c.args.elements.now
+    let h = asked s.vtree s.nodes s.roots s.epoch s.moving c.args.self.now c.place.inside.0 c.args.place
+    c.args.elements.now
     c.as_slice-list.result.now c.sort_into.new.list.items c.self.invariant c.self.view_is c.place.view_is
     c.requires.partition c.requires.differ c.in_ok-sort_into.ensures.permutation c.in_ok-sort_into.ensures.sorted
     c.as_slice-list.ensures.value in
     let none = sym c.trimmed.ensures ∙ c.in_default.is in
-    subst (λ x. KeepsRule (table_of s.vtree x s.roots s.epoch) c.in-Err.error) (sym c.in-Err.ensures.err)
-    (kept_rule s.vtree s.nodes s.roots s.epoch c.place.inside.0 c.args.elements.now c.as_slice-list.result.now h none
+    subst (λ x. KeepsRule (table_of s.vtree x s.roots s.epoch s.moving) c.in-Err.error) (sym c.in-Err.ensures.err)
+    (kept_rule s.vtree s.nodes s.roots s.epoch s.moving c.place.inside.0 c.args.elements.now
+    c.as_slice-list.result.now h none
     c.in-Err.error c.in-Err.ensures.full)
 
 pub returns-in-Err-clause-needed : goal.returns-in-Err-clause-needed
 returns-in-Err-clause-needed c =
     let s = c.self.inside in
-    let h = asked s.vtree s.nodes s.roots s.epoch c.args.self.now c.place.inside.0 c.args.place c.args.elements.now
+    let h = asked s.vtree s.nodes s.roots s.epoch s.moving c.args.self.now c.place.inside.0 c.args.place
+    c.args.elements.now
     c.as_slice-list.result.now c.sort_into.new.list.items c.self.invariant c.self.view_is c.place.view_is
     c.requires.partition c.requires.differ c.in_ok-sort_into.ensures.permutation c.in_ok-sort_into.ensures.sorted
     c.as_slice-list.ensures.value in
     let none = sym c.trimmed.ensures ∙ c.in_default.is in
     subst (λ t. IsNeeded t c.args.place c.args.elements.now c.in-Err.error) c.self.view_is
-    (subst (λ p. IsNeeded (table_of s.vtree s.nodes s.roots s.epoch) p c.args.elements.now c.in-Err.error)
+    (subst (λ p. IsNeeded (table_of s.vtree s.nodes s.roots s.epoch s.moving) p c.args.elements.now c.in-Err.error)
     c.place.view_is
-    (needed s.vtree s.nodes s.roots s.epoch c.place.inside.0 c.args.elements.now c.as_slice-list.result.now h none
-    c.in_default-find.ensures.none c.in-Err.error))
+    (needed s.vtree s.nodes s.roots s.epoch s.moving c.place.inside.0 c.args.elements.now c.as_slice-list.result.now
+    h none
+    c.in-Err.ensures.refused c.in-Err.error))
 
 pub add_uses-requires-clause-counted : goal.add_uses-requires-clause-counted
 add_uses-requires-clause-counted c =
     let s = c.self.inside in
-    let h = asked s.vtree s.nodes s.roots s.epoch c.args.self.now c.place.inside.0 c.args.place c.args.elements.now
+    let h = asked s.vtree s.nodes s.roots s.epoch s.moving c.args.self.now c.place.inside.0 c.args.place
+    c.args.elements.now
     c.as_slice-list.result.now c.sort_into.new.list.items c.self.invariant c.self.view_is c.place.view_is
     c.requires.partition c.requires.differ c.in_ok-sort_into.ensures.permutation c.in_ok-sort_into.ensures.sorted
     c.as_slice-list.ensures.value in
     let none = sym c.trimmed.ensures ∙ c.in_default.is in
-    subst (λ x. AreCounted x c.as_slice-list.result.now) (sym c.in-Ok.ensures.ok)
-    (list_counted s.vtree s.nodes s.roots s.epoch c.place.inside.0 c.args.elements.now
+    let number = if_new c.in-Ok.found c.in-New.number (λ n. IsNewNumber s.nodes n) c.in-New.is
+    c.in-Ok.ensures.number in
+    let is = if_new c.in-Ok.found c.in-New.number
+    (λ n. c.find_or_insert.new.self ≡ inserted s.nodes n c.place.inside.0 c.as_slice-list.result.now) c.in-New.is
+    c.in-Ok.ensures.ok in
+    subst (λ x. AreCounted x c.as_slice-list.result.now) (sym is)
+    (list_counted s.vtree s.nodes s.roots s.epoch s.moving c.place.inside.0 c.args.elements.now
     c.as_slice-list.result.now h none
-    c.in-Ok.number c.in-Ok.ensures.number)
+    c.in-New.number number)
 
 pub add_uses-requires-clause-room : goal.add_uses-requires-clause-room
 add_uses-requires-clause-room c =
     let s = c.self.inside in
-    let h = asked s.vtree s.nodes s.roots s.epoch c.args.self.now c.place.inside.0 c.args.place c.args.elements.now
+    let h = asked s.vtree s.nodes s.roots s.epoch s.moving c.args.self.now c.place.inside.0 c.args.place
+    c.args.elements.now
     c.as_slice-list.result.now c.sort_into.new.list.items c.self.invariant c.self.view_is c.place.view_is
     c.requires.partition c.requires.differ c.in_ok-sort_into.ensures.permutation c.in_ok-sort_into.ensures.sorted
     c.as_slice-list.ensures.value in
     let none = sym c.trimmed.ensures ∙ c.in_default.is in
+    let number = if_new c.in-Ok.found c.in-New.number (λ n. IsNewNumber s.nodes n) c.in-New.is
+    c.in-Ok.ensures.number in
+    let is = if_new c.in-Ok.found c.in-New.number
+    (λ n. c.find_or_insert.new.self ≡ inserted s.nodes n c.place.inside.0 c.as_slice-list.result.now) c.in-New.is
+    c.in-Ok.ensures.ok in
     subst (λ x. (q k : ℕ) → get x.uses q ≡ Some k → k + uses_in (2050 + q) c.as_slice-list.result.now < 2 ^ 64)
-    (sym c.in-Ok.ensures.ok)
-    (list_room s.vtree s.nodes s.roots s.epoch c.place.inside.0 c.args.elements.now c.as_slice-list.result.now h none
-    c.in-Ok.number c.in-Ok.ensures.number
-    (new_short s.vtree s.nodes s.roots s.epoch c.place.inside.0 c.args.elements.now c.as_slice-list.result.now h none
-    c.in-Ok.number c.in-Ok.ensures.number c.insert.new.self c.in-Ok.ensures.ok c.in-Ok.ensures.nodes))
+    (sym is)
+    (list_room s.vtree s.nodes s.roots s.epoch s.moving c.place.inside.0 c.args.elements.now
+    c.as_slice-list.result.now h none
+    c.in-New.number number
+    (new_short s.vtree s.nodes s.roots s.epoch s.moving c.place.inside.0 c.args.elements.now
+    c.as_slice-list.result.now h none
+    c.in-New.number number c.find_or_insert.new.self is c.in-Ok.ensures.nodes))
 
 pub invariant_of-self-2 : goal.invariant_of-self-2
 invariant_of-self-2 c =
     let s = c.self.inside in
-    let h = asked s.vtree s.nodes s.roots s.epoch c.args.self.now c.place.inside.0 c.args.place c.args.elements.now
+    let h = asked s.vtree s.nodes s.roots s.epoch s.moving c.args.self.now c.place.inside.0 c.args.place
+    c.args.elements.now
     c.as_slice-list.result.now c.sort_into.new.list.items c.self.invariant c.self.view_is c.place.view_is
     c.requires.partition c.requires.differ c.in_ok-sort_into.ensures.permutation c.in_ok-sort_into.ensures.sorted
     c.as_slice-list.ensures.value in
     let none = sym c.trimmed.ensures ∙ c.in_default.is in
-    at_new s.vtree s.nodes s.roots s.epoch c.place.inside.0 c.args.elements.now c.as_slice-list.result.now h none
-    c.in-Ok.number c.in-Ok.ensures.number c.insert.new.self c.add_uses.new.nodes c.in-Ok.ensures.ok
+    let number = if_new c.in-Ok.found c.in-New.number (λ n. IsNewNumber s.nodes n) c.in-New.is
+    c.in-Ok.ensures.number in
+    let is = if_new c.in-Ok.found c.in-New.number
+    (λ n. c.find_or_insert.new.self ≡ inserted s.nodes n c.place.inside.0 c.as_slice-list.result.now) c.in-New.is
+    c.in-Ok.ensures.ok in
+    at_new s.vtree s.nodes s.roots s.epoch s.moving c.place.inside.0 c.args.elements.now c.as_slice-list.result.now
+    h none
+    c.in-New.number number c.find_or_insert.new.self c.add_uses.new.nodes is
     c.add_uses.ensures.uses c.add_uses.ensures.valid
-    (λ d. IsStored d (table_of s.vtree d s.roots s.epoch))
-    (λ w counts valid. stored_new s.vtree s.nodes s.roots s.epoch c.place.inside.0 c.args.elements.now
+    (λ d. IsStored d (table_of s.vtree d s.roots s.epoch s.moving))
+    (λ w counts valid. stored_new s.vtree s.nodes s.roots s.epoch s.moving c.place.inside.0 c.args.elements.now
     c.as_slice-list.result.now h none
-    c.in-Ok.number c.in-Ok.ensures.number w counts valid)
+    c.in-New.number number w counts valid)
 
 pub returns-clause-ok : goal.returns-clause-ok
 returns-clause-ok c = λ ds split.
     let s = c.self.inside in
-    let h = asked s.vtree s.nodes s.roots s.epoch c.args.self.now c.place.inside.0 c.args.place c.args.elements.now
+    let h = asked s.vtree s.nodes s.roots s.epoch s.moving c.args.self.now c.place.inside.0 c.args.place
+    c.args.elements.now
     c.as_slice-list.result.now c.sort_into.new.list.items c.self.invariant c.self.view_is c.place.view_is
     c.requires.partition c.requires.differ c.in_ok-sort_into.ensures.permutation c.in_ok-sort_into.ensures.sorted
     c.as_slice-list.ensures.value in
     let none = sym c.trimmed.ensures ∙ c.in_default.is in
-    at_new s.vtree s.nodes s.roots s.epoch c.place.inside.0 c.args.elements.now c.as_slice-list.result.now h none
-    c.in-Ok.number c.in-Ok.ensures.number c.insert.new.self c.add_uses.new.nodes c.in-Ok.ensures.ok
+    let number = if_new c.in-Ok.found c.in-New.number (λ n. IsNewNumber s.nodes n) c.in-New.is
+    c.in-Ok.ensures.number in
+    let is = if_new c.in-Ok.found c.in-New.number
+    (λ n. c.find_or_insert.new.self ≡ inserted s.nodes n c.place.inside.0 c.as_slice-list.result.now) c.in-New.is
+    c.in-Ok.ensures.ok in
+    at_new s.vtree s.nodes s.roots s.epoch s.moving c.place.inside.0 c.args.elements.now c.as_slice-list.result.now
+    h none
+    c.in-New.number number c.find_or_insert.new.self c.add_uses.new.nodes is
     c.add_uses.ensures.uses c.add_uses.ensures.valid
-    (λ d. IsMade (table_of s.vtree d s.roots s.epoch) (c.in-Ok.number + 2050) ds)
-    (λ w counts valid. made_new s.vtree s.nodes s.roots s.epoch c.place.inside.0 c.args.elements.now
+    (λ d. IsMade (table_of s.vtree d s.roots s.epoch s.moving) (c.in-New.number + 2050) ds)
+    (λ w counts valid. made_new s.vtree s.nodes s.roots s.epoch s.moving c.place.inside.0 c.args.elements.now
     c.as_slice-list.result.now h none
-    c.in-Ok.number c.in-Ok.ensures.number w counts valid ds
-    (partition_inside (table_of s.vtree s.nodes s.roots s.epoch) c.args.self.now c.place.inside.0 c.args.place
+    c.in-New.number number w counts valid ds
+    (partition_inside (table_of s.vtree s.nodes s.roots s.epoch s.moving) c.args.self.now c.place.inside.0 c.args.place
     c.args.elements.now ds c.self.view_is c.place.view_is split))
 
 pub returns-clause-kept : goal.returns-clause-kept
 returns-clause-kept c =
     let s = c.self.inside in
-    let h = asked s.vtree s.nodes s.roots s.epoch c.args.self.now c.place.inside.0 c.args.place c.args.elements.now
+    let h = asked s.vtree s.nodes s.roots s.epoch s.moving c.args.self.now c.place.inside.0 c.args.place
+    c.args.elements.now
     c.as_slice-list.result.now c.sort_into.new.list.items c.self.invariant c.self.view_is c.place.view_is
     c.requires.partition c.requires.differ c.in_ok-sort_into.ensures.permutation c.in_ok-sort_into.ensures.sorted
     c.as_slice-list.ensures.value in
     let none = sym c.trimmed.ensures ∙ c.in_default.is in
-    subst (λ t. Extends t (table_of s.vtree c.add_uses.new.nodes s.roots s.epoch)) c.self.view_is
-    (at_new s.vtree s.nodes s.roots s.epoch c.place.inside.0 c.args.elements.now c.as_slice-list.result.now h none
-    c.in-Ok.number c.in-Ok.ensures.number c.insert.new.self c.add_uses.new.nodes c.in-Ok.ensures.ok
+    let number = if_new c.in-Ok.found c.in-New.number (λ n. IsNewNumber s.nodes n) c.in-New.is
+    c.in-Ok.ensures.number in
+    let is = if_new c.in-Ok.found c.in-New.number
+    (λ n. c.find_or_insert.new.self ≡ inserted s.nodes n c.place.inside.0 c.as_slice-list.result.now) c.in-New.is
+    c.in-Ok.ensures.ok in
+    subst (λ t. Extends t (table_of s.vtree c.add_uses.new.nodes s.roots s.epoch s.moving)) c.self.view_is
+    (at_new s.vtree s.nodes s.roots s.epoch s.moving c.place.inside.0 c.args.elements.now c.as_slice-list.result.now
+    h none
+    c.in-New.number number c.find_or_insert.new.self c.add_uses.new.nodes is
     c.add_uses.ensures.uses c.add_uses.ensures.valid
-    (λ d. Extends (table_of s.vtree s.nodes s.roots s.epoch) (table_of s.vtree d s.roots s.epoch))
-    (λ w counts valid. kept_new s.vtree s.nodes s.roots s.epoch c.place.inside.0 c.args.elements.now
+    (λ d. Extends (table_of s.vtree s.nodes s.roots s.epoch s.moving) (table_of s.vtree d s.roots s.epoch s.moving))
+    (λ w counts valid. kept_new s.vtree s.nodes s.roots s.epoch s.moving c.place.inside.0 c.args.elements.now
     c.as_slice-list.result.now h none
-    c.in-Ok.number c.in-Ok.ensures.number w counts valid))
+    c.in-New.number number w counts valid))
 
 pub returns-clause-grown : goal.returns-clause-grown
 returns-clause-grown c =
     let s = c.self.inside in
-    let h = asked s.vtree s.nodes s.roots s.epoch c.args.self.now c.place.inside.0 c.args.place c.args.elements.now
+    let h = asked s.vtree s.nodes s.roots s.epoch s.moving c.args.self.now c.place.inside.0 c.args.place
+    c.args.elements.now
     c.as_slice-list.result.now c.sort_into.new.list.items c.self.invariant c.self.view_is c.place.view_is
     c.requires.partition c.requires.differ c.in_ok-sort_into.ensures.permutation c.in_ok-sort_into.ensures.sorted
     c.as_slice-list.ensures.value in
     let none = sym c.trimmed.ensures ∙ c.in_default.is in
-    inr (subst (λ t. HasNewNode t (table_of s.vtree c.add_uses.new.nodes s.roots s.epoch) c.args.place
-    c.args.elements.now (c.in-Ok.number + 2050)) c.self.view_is
-    (subst (λ p. HasNewNode (table_of s.vtree s.nodes s.roots s.epoch)
-    (table_of s.vtree c.add_uses.new.nodes s.roots s.epoch) p c.args.elements.now (c.in-Ok.number + 2050))
+    let number = if_new c.in-Ok.found c.in-New.number (λ n. IsNewNumber s.nodes n) c.in-New.is
+    c.in-Ok.ensures.number in
+    let is = if_new c.in-Ok.found c.in-New.number
+    (λ n. c.find_or_insert.new.self ≡ inserted s.nodes n c.place.inside.0 c.as_slice-list.result.now) c.in-New.is
+    c.in-Ok.ensures.ok in
+    let room = if_new c.in-Ok.found c.in-New.number (λ n. ¬ IsFull s.nodes (length c.as_slice-list.result.now))
+    c.in-New.is c.in-Ok.ensures.room in
+    inr (subst (λ t. HasNewNode t (table_of s.vtree c.add_uses.new.nodes s.roots s.epoch s.moving) c.args.place
+    c.args.elements.now (c.in-New.number + 2050)) c.self.view_is
+    (subst (λ p. HasNewNode (table_of s.vtree s.nodes s.roots s.epoch s.moving)
+    (table_of s.vtree c.add_uses.new.nodes s.roots s.epoch s.moving) p c.args.elements.now (c.in-New.number + 2050))
     c.place.view_is
-    (at_new s.vtree s.nodes s.roots s.epoch c.place.inside.0 c.args.elements.now c.as_slice-list.result.now h none
-    c.in-Ok.number c.in-Ok.ensures.number c.insert.new.self c.add_uses.new.nodes c.in-Ok.ensures.ok
+    (at_new s.vtree s.nodes s.roots s.epoch s.moving c.place.inside.0 c.args.elements.now c.as_slice-list.result.now
+    h none
+    c.in-New.number number c.find_or_insert.new.self c.add_uses.new.nodes is
     c.add_uses.ensures.uses c.add_uses.ensures.valid
-    (λ d. HasNewNode (table_of s.vtree s.nodes s.roots s.epoch) (table_of s.vtree d s.roots s.epoch)
-    c.place.inside.0 c.args.elements.now (c.in-Ok.number + 2050))
-    (λ w counts valid. grown_new s.vtree s.nodes s.roots s.epoch c.place.inside.0 c.args.elements.now
+    (λ d. HasNewNode (table_of s.vtree s.nodes s.roots s.epoch s.moving) (table_of s.vtree d s.roots s.epoch s.moving)
+    c.place.inside.0 c.args.elements.now (c.in-New.number + 2050))
+    (λ w counts valid. grown_new s.vtree s.nodes s.roots s.epoch s.moving c.place.inside.0 c.args.elements.now
     c.as_slice-list.result.now h none
-    c.in-Ok.number c.in-Ok.ensures.number w counts valid c.in-Ok.ensures.room))))
+    c.in-New.number number w counts valid room))))
 
 pub returns-clause-table : goal.returns-clause-table
 returns-clause-table c = (invariant_of-self-2 c).table

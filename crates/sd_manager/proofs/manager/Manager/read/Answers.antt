@@ -7,6 +7,7 @@ overflow_cast-result c =
     let s = c.self.inside in
     omega (
       arith,
-      list_short s.vtree s.nodes s.roots s.epoch (c.node.inside.0 - 2050) c.list.result.now c.self.invariant.table
+      list_short s.vtree s.nodes s.roots s.epoch s.moving (c.node.inside.0 - 2050) c.list.result.now
+          c.self.invariant.table
           c.list.ensures,
     )

@@ -1,4 +1,4 @@
-use Rattle.std.proofs.Common.{subst, sym, refl, arith}
+use Rattle.std.proofs.Common.{ap, subst, sym, ◌∙◌, arith}
 use Rattle.sd_manager.specs.Stored.{table_of, IsStored}
 use Rattle.sd_manager.proofs.Valid.{known_inside}
 use Rattle.sd_manager.proofs.Holding.{known_counted, room_for_use, counted_is, held_is_used, stored_rebind}
@@ -9,46 +9,51 @@ use Rattle.sd_manager.proofs.manager.Manager.rebind.Goals as goal
 pub add_use-requires-clause-counted : goal.add_use-requires-clause-counted
 add_use-requires-clause-counted c =
     let s = c.self.inside in
-    known_counted s.vtree s.nodes s.roots s.epoch c.node.inside.0 c.self.invariant.table.numbered
-    (known_inside (table_of s.vtree s.nodes s.roots s.epoch) c.args.self.now c.node.inside.0 c.args.node
+    known_counted s.vtree s.nodes s.roots s.epoch s.moving c.node.inside.0 c.self.invariant.table.numbered
+    (known_inside (table_of s.vtree s.nodes s.roots s.epoch s.moving) c.args.self.now c.node.inside.0 c.args.node
     c.self.view_is c.node.view_is c.requires.known)
 
 pub add_use-requires-clause-room : goal.add_use-requires-clause-room
 add_use-requires-clause-room c =
     let s = c.self.inside in
-    room_for_use s.vtree s.nodes s.roots s.epoch c.node.inside.0 c.self.invariant
-    (known_counted s.vtree s.nodes s.roots s.epoch c.node.inside.0 c.self.invariant.table.numbered
-    (known_inside (table_of s.vtree s.nodes s.roots s.epoch) c.args.self.now c.node.inside.0 c.args.node
+    room_for_use s.vtree s.nodes s.roots s.epoch s.moving c.node.inside.0 c.self.invariant
+    (known_counted s.vtree s.nodes s.roots s.epoch s.moving c.node.inside.0 c.self.invariant.table.numbered
+    (known_inside (table_of s.vtree s.nodes s.roots s.epoch s.moving) c.args.self.now c.node.inside.0 c.args.node
     c.self.view_is c.node.view_is c.requires.known))
 
 pub drop_use-requires-clause-counted : goal.drop_use-requires-clause-counted
 drop_use-requires-clause-counted c =
     let s = c.self.inside in
+    let still = ap (λ t. t.moving) c.self.view_is ∙ c.requires.still in
     still_counted s.nodes c.add_use.new.nodes c.rebind-former.result c.add_use.ensures.uses
-    (known_counted s.vtree s.nodes s.roots s.epoch c.rebind-former.result c.self.invariant.table.numbered
-    (c.self.invariant.table.held refl c.args.root.now c.rebind-former.result c.rebind-former.ensures.held))
+    (known_counted s.vtree s.nodes s.roots s.epoch s.moving c.rebind-former.result c.self.invariant.table.numbered
+    (c.self.invariant.table.held still c.args.root.now c.rebind-former.result c.rebind-former.ensures.held))
 
 pub drop_use-requires-clause-used : goal.drop_use-requires-clause-used
 drop_use-requires-clause-used c = λ least.
     let s = c.self.inside in
-    let counted = known_counted s.vtree s.nodes s.roots s.epoch c.rebind-former.result c.self.invariant.table.numbered
-    (c.self.invariant.table.held refl c.args.root.now c.rebind-former.result c.rebind-former.ensures.held) in
+    let still = ap (λ t. t.moving) c.self.view_is ∙ c.requires.still in
+    let counted = known_counted s.vtree s.nodes s.roots s.epoch s.moving c.rebind-former.result
+    c.self.invariant.table.numbered
+    (c.self.invariant.table.held still c.args.root.now c.rebind-former.result c.rebind-former.ensures.held) in
     used_still s.nodes c.add_use.new.nodes c.rebind-former.result c.add_use.ensures.uses
     (omega (
       arith,
-      counted_is s.vtree s.nodes s.roots s.epoch c.rebind-former.result c.self.invariant counted least,
-      held_is_used (table_of s.vtree s.nodes s.roots s.epoch) c.args.root.now c.rebind-former.result
+      counted_is s.vtree s.nodes s.roots s.epoch s.moving c.rebind-former.result c.self.invariant counted least,
+      held_is_used (table_of s.vtree s.nodes s.roots s.epoch s.moving) c.args.root.now c.rebind-former.result
           c.rebind-former.ensures.held,
     ))
 
 pub invariant_of-self : goal.invariant_of-self
 invariant_of-self c =
     let s = c.self.inside in
-    subst (λ m. IsStored c.drop_use.new.nodes (table_of s.vtree c.drop_use.new.nodes m s.epoch))
+    let still = ap (λ t. t.moving) c.self.view_is ∙ c.requires.still in
+    subst (λ m. IsStored c.drop_use.new.nodes (table_of s.vtree c.drop_use.new.nodes m s.epoch s.moving))
     (sym c.rebind-former.ensures.bound)
-    (stored_rebind s.vtree s.nodes s.roots s.epoch c.self.invariant c.add_use.new.nodes c.drop_use.new.nodes
+    (stored_rebind s.vtree s.nodes s.roots s.epoch s.moving c.self.invariant
+    still c.add_use.new.nodes c.drop_use.new.nodes
     c.args.root.now c.rebind-former.result c.node.inside.0 c.rebind-former.ensures.held
-    (known_inside (table_of s.vtree s.nodes s.roots s.epoch) c.args.self.now c.node.inside.0 c.args.node
+    (known_inside (table_of s.vtree s.nodes s.roots s.epoch s.moving) c.args.self.now c.node.inside.0 c.args.node
     c.self.view_is c.node.view_is c.requires.known) c.add_use.ensures.uses c.drop_use.ensures.uses
     c.drop_use.ensures.valid)
 

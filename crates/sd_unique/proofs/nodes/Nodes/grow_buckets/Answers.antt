@@ -5,7 +5,8 @@ use Rattle.sd_unique.specs.Chains.{KeepsRecords, no_record}
 use Rattle.sd_unique.specs.Growing.{IsLinkedBelow}
 use Rattle.sd_unique.specs.Record.{nodes_of}
 use Rattle.sd_unique.proofs.Growing.{linked_none}
-use Rattle.sd_unique.proofs.Rechained.{keeps_nodes, kept_rechained, kept_tables}
+use Rattle.sd_unique.proofs.Rechained.{kept_rechained, kept_tables}
+use Rattle.sd_unique.proofs.Relinked.{nodes_kept}
 use Rattle.sd_unique.proofs.Stacked.{get_or_any, whole_slice}
 use Rattle.sd_unique.proofs.nodes.Nodes.grow_buckets.Goals as goal
 
@@ -52,6 +53,7 @@ returns-in-Ok c =
     let records = whole_slice c.link_all.new.records c.self.inside.records.items c.self.inside.records.len
     (c.link_all.auto.records ∙ c.deref_mut.ensures.len) in
     ap (nodes_of c.self.inside.runs) records
-    ∙ keeps_nodes c.self.inside.runs c.self.inside.records.items c.link_all.new.records
+    ∙ nodes_kept c.self.inside.records.items c.link_all.new.records
     (subst (λ rs. KeepsRecords rs c.link_all.new.records) c.deref_mut.ensures.value c.link_all.ensures.kept)
+    c.self.inside.runs
     ∙ c.self.view_is

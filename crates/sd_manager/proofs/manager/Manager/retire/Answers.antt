@@ -1,0 +1,54 @@
+use Rattle.std.proofs.Common.{sym, subst}
+use Rattle.sd_manager.specs.Stored.{table_of}
+use Rattle.sd_manager.specs.Retiring.{IsIdle, IsRetired}
+use Rattle.sd_manager.proofs.Leaving.{leaving_counted, leaving_used, leaving_detached, leaving_unused}
+use Rattle.sd_manager.proofs.Leaving.{left_stored, left_retired}
+use Rattle.sd_manager.proofs.manager.Manager.retire.Goals as goal
+
+pub drop_uses-requires-clause-counted : goal.drop_uses-requires-clause-counted
+drop_uses-requires-clause-counted c =
+    let s = c.self.inside in
+    leaving_counted s.vtree s.nodes s.roots s.epoch s.moving c.self.invariant c.args.number
+    (subst (λ t. IsIdle t c.args.number) (sym c.self.view_is) c.requires.idle)
+
+pub drop_uses-requires-clause-used : goal.drop_uses-requires-clause-used
+drop_uses-requires-clause-used c =
+    let s = c.self.inside in
+    leaving_used s.vtree s.nodes s.roots s.epoch s.moving c.self.invariant c.args.number
+    (subst (λ t. IsIdle t c.args.number) (sym c.self.view_is) c.requires.idle)
+
+pub remove-requires-clause-node : goal.remove-requires-clause-node
+remove-requires-clause-node c =
+    let s = c.self.inside in
+    leaving_detached s.vtree s.nodes s.roots s.epoch s.moving c.self.invariant c.args.number
+    (subst (λ t. IsIdle t c.args.number) (sym c.self.view_is) c.requires.idle)
+    c.drop_uses.new.nodes c.drop_uses.ensures.uses c.unlink.new.self c.unlink.ensures.unlinked
+
+pub remove-requires-clause-unused : goal.remove-requires-clause-unused
+remove-requires-clause-unused c =
+    let s = c.self.inside in
+    leaving_unused s.vtree s.nodes s.roots s.epoch s.moving c.self.invariant c.args.number
+    (subst (λ t. IsIdle t c.args.number) (sym c.self.view_is) c.requires.idle)
+    c.drop_uses.new.nodes c.drop_uses.ensures.uses c.unlink.new.self c.unlink.ensures.unlinked
+
+pub invariant_of-self : goal.invariant_of-self
+invariant_of-self c =
+    let s = c.self.inside in
+    left_stored s.vtree s.nodes s.roots s.epoch s.moving c.self.invariant c.args.number
+    (subst (λ t. IsIdle t c.args.number) (sym c.self.view_is) c.requires.idle)
+    c.drop_uses.new.nodes c.drop_uses.ensures.uses c.unlink.new.self c.unlink.ensures.unlinked c.remove.new.self
+    c.remove.ensures.removed c.remove.ensures.nodes c.epoch_after-self-inside.result c.epoch_after-self-inside.ensures
+
+pub returns-clause-retired : goal.returns-clause-retired
+returns-clause-retired c =
+    let s = c.self.inside in
+    subst (λ t. IsRetired t (table_of s.vtree c.remove.new.self s.roots c.epoch_after-self-inside.result s.moving)
+    c.args.number) c.self.view_is
+    (left_retired s.vtree s.nodes s.roots s.epoch s.moving c.self.invariant c.args.number
+    (subst (λ t. IsIdle t c.args.number) (sym c.self.view_is) c.requires.idle)
+    c.drop_uses.new.nodes c.drop_uses.ensures.uses c.unlink.new.self c.unlink.ensures.unlinked c.remove.new.self
+    c.remove.ensures.removed c.remove.ensures.nodes c.epoch_after-self-inside.result
+    c.epoch_after-self-inside.ensures)
+
+pub returns-clause-table : goal.returns-clause-table
+returns-clause-table c = (invariant_of-self c).table

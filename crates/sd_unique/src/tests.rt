@@ -1,0 +1,184 @@
+ghost use Rattle.std.specs.Prelude.{◌<◌, length};
+ghost use Rattle.std.specs.Option.{IsSome};
+ghost use Rattle.std.specs.FinMap.{get};
+ghost use Rattle.sd_unique.specs.Relinking.{IsIdle};
+
+use super::*;
+use sd_runs::TakeError;
+use std::test::Fail;
+
+/// Of an arena of three elements a list of two is taken, is found by its key alone, and leaves no
+/// room for two more.
+#[test]
+fn three_elements(rt: HostRuntime) -> Result<(), Fail> {
+    let mut nodes = Nodes::new(rt.alloc(), 3)?;
+    assert_eq!(rt; nodes.records(), 0);
+    assert_eq!(rt; nodes.find(1, &[(2, 3), (4, 5)]), None);
+    let node = match nodes.find(1, &[(2, 3), (4, 5)]) {
+        Some(node) => node,
+        None => nodes.insert(1, &[(2, 3), (4, 5)])?,
+    };
+    assert_eq!(rt; node, 0);
+    assert_eq!(rt; nodes.find(1, &[(2, 3), (4, 5)]), Some(0));
+    assert_eq!(rt; nodes.find(1, &[(2, 3)]), None);
+    assert_eq!(rt; nodes.find(2, &[(2, 3), (4, 5)]), None);
+    let other = nodes.find(1, &[(2, 5), (4, 3)]);
+    assert_eq!(rt; other, None);
+    if other.is_none() {
+        let full = nodes.insert(1, &[(2, 5), (4, 3)]);
+        assert_eq!(rt; full, Err(TakeError::ArenaFull { elements: 4 }));
+    }
+    let run = nodes.take_run(&[(6, 7), (8, 9)]);
+    assert_eq!(rt; run, Err(TakeError::ArenaFull { elements: 4 }));
+    assert_eq!(rt; nodes.records(), 1);
+    Ok(())
+}
+
+/// Nodes are found again after the sixteen buckets of a new table have doubled twice.
+#[test]
+fn more_nodes_than_buckets(rt: HostRuntime) -> Result<(), Fail> {
+    let mut nodes = Nodes::new(rt.alloc(), 100)?;
+    for place in 0..40 {
+        let list = [(place, 1)];
+        if nodes.find(place, &list).is_none() {
+            assert_eq!(rt; nodes.insert(place, &list), Ok(place));
+        }
+    }
+    for place in 0..40 {
+        assert_eq!(rt; nodes.find(place, &[(place, 1)]), Some(place));
+    }
+    assert_eq!(rt; nodes.records(), 40);
+    Ok(())
+}
+
+/// Of 100,000 nodes over 4,096 places each is made once, and found again when all are made.
+#[test]
+fn many_nodes(rt: HostRuntime) -> Result<(), Fail> {
+    let mut nodes = Nodes::new(rt.alloc(), 200_000)?;
+    for number in 0..100_000_u32 {
+        let found = nodes.find_or_insert(number & 4095, &[(number, 1), (number, 0)])?;
+        assert_eq!(rt; found, Found::New(number));
+    }
+    for number in 0..100_000_u32 {
+        let found = nodes.find_or_insert(number & 4095, &[(number, 1), (number, 0)])?;
+        assert_eq!(rt; found, Found::Present(number));
+    }
+    Ok(())
+}
+
+/// A node that gets another place, in the list of the same remainder, is found there and not where
+/// it was, with its number, its list and its mark.
+#[test]
+fn another_place(rt: HostRuntime) -> Result<(), Fail> {
+    let mut nodes = Nodes::new(rt.alloc(), 100)?;
+    let list = [(2, 3), (4, 5)];
+    assert_eq!(rt; nodes.find_or_insert(7, &list)?, Found::New(0));
+    if let Some(node) = nodes.find(7, &list) {
+        assert_eq!(rt; nodes.mark(node), 0);
+        nodes.set_mark(node, 9);
+    }
+    if let Some(node) = nodes.find(7, &list) {
+        nodes.unlink(node);
+    }
+    assert_eq!(rt; (nodes.find(7, &list), nodes.first_at(7)), (None, None));
+    assert_eq!(rt; nodes.first_detached(), Some(0));
+    if let Some(node) = nodes.first_detached() {
+        nodes.retag(node, 2055);
+    }
+    if let Some(node) = nodes.first_detached() {
+        link_again(&mut nodes, node);
+    }
+    assert_eq!(rt; nodes.find(2055, &list), Some(0));
+    assert_eq!(rt; nodes.find(7, &list), None);
+    assert_eq!(rt; nodes.first_at(2055), Some(0));
+    assert_eq!(rt; nodes.first_at(7), None);
+    assert_eq!(rt; nodes.first_detached(), None);
+    if let Some(node) = nodes.find(2055, &list) {
+        assert_eq!(rt; nodes.mark(node), 9);
+    }
+    Ok(())
+}
+
+// Links a detached node, where no linked node has its key.
+fn link_again(nodes: &mut Nodes, node: u32)
+    requires { IsSome (get nodes.old.detached node) }
+{
+    if nodes.find(nodes.place(node), nodes.list(node)).is_none() {
+        nodes.relink(node);
+    }
+}
+
+/// A node without uses is idle, one that is used is not. The number and the run of a removed node
+/// are used again: the arena has no room for more than the four lists.
+#[test]
+fn idle_nodes(rt: HostRuntime) -> Result<(), Fail> {
+    let mut nodes = Nodes::new(rt.alloc(), 8)?;
+    for place in 0..4 {
+        nodes.find_or_insert(place, &[(1, 2), (3, 4)])?;
+    }
+    if let Some(node) = nodes.find(2, &[(1, 2), (3, 4)]) {
+        if nodes.uses(node) == 0 {
+            nodes.add_use(node);
+        }
+    }
+    let full = nodes.find_or_insert(9, &[(5, 6), (7, 8)]);
+    assert_eq!(rt; full, Err(TakeError::ArenaFull { elements: 10 }));
+    for _step in 0..3 {
+        if let Some(node) = nodes.idle() {
+            assert!(rt; node != 2);
+            retire(&mut nodes, node);
+        }
+    }
+    assert_eq!(rt; nodes.idle(), None);
+    for place in 10..13 {
+        nodes.find_or_insert(place, &[(5, 6), (7, 8)])?;
+    }
+    assert_eq!(rt; nodes.records(), 4);
+    assert_eq!(rt; nodes.find(2, &[(1, 2), (3, 4)]), Some(2));
+    if let Some(node) = nodes.find(2, &[(1, 2), (3, 4)]) {
+        if nodes.uses(node) > 0 {
+            nodes.drop_use(node);
+        }
+    }
+    assert_eq!(rt; nodes.idle(), Some(2));
+    Ok(())
+}
+
+// Removes an idle node.
+fn retire(nodes: &mut Nodes, node: u32)
+    requires { IsIdle nodes.old node }
+{
+    nodes.unlink(node);
+    nodes.remove(node);
+}
+
+/// A detached node gets another list, and its own run is free then.
+#[test]
+fn another_list(rt: HostRuntime) -> Result<(), Fail> {
+    let mut nodes = Nodes::new(rt.alloc(), 3)?;
+    assert_eq!(rt; nodes.find_or_insert(1, &[(2, 3), (4, 5)])?, Found::New(0));
+    if let Some(node) = nodes.find(1, &[(2, 3), (4, 5)]) {
+        nodes.unlink(node);
+    }
+    if let Some(node) = nodes.first_detached() {
+        give_list(&mut nodes, node, &[(6, 7)])?;
+    }
+    if let Some(node) = nodes.first_detached() {
+        link_again(&mut nodes, node);
+    }
+    assert_eq!(rt; nodes.find(1, &[(6, 7)]), Some(0));
+    assert_eq!(rt; nodes.find(1, &[(2, 3), (4, 5)]), None);
+    assert_eq!(rt; nodes.find_or_insert(1, &[(2, 3), (4, 5)])?, Found::New(1));
+    Ok(())
+}
+
+// Gives a detached node this list over a run of its own, and its old run back.
+fn give_list(nodes: &mut Nodes, node: u32, list: &[(u32, u32)]) -> Result<(), TakeError>
+    requires node { IsSome (get nodes.old.detached node) }
+    requires some { 0 < length list.now }
+{
+    let run = nodes.take_run(list)?;
+    let old = nodes.replace_run(node, run);
+    nodes.give_run(old);
+    Ok(())
+}
