@@ -14,37 +14,37 @@ use Rattle.sd_model.specs.Tree.{Tree, Node, leaves, variables, position, right_b
 use Rattle.sd_model.specs.Diagram.{Diagram, Bottom, Top, Literal, Decomposition, Elements, meaning}
 use Rattle.sd_model.specs.Canonical.{IsCanonical, canonical_top}
 use Rattle.sd_model.specs.Expression.{combine}
-use Rattle.sd_vtree.specs.Numbered.{forget, numbers}
+use Rattle.sd_vtree.specs.Numbered.{plain_tree, numbers}
 use Rattle.sd_vtree.specs.Numbered.{or_else}
 use Rattle.sd_vtree.proofs.Times.{one_place}
 use Rattle.sd_vtree.proofs.Subtrees.{once_numbered}
 use Rattle.sd_laws.specs.Pairs.{answers}
 use Rattle.sd_laws.specs.Parts.{here, IsInner, HasPosition}
-use Rattle.sd_laws.specs.Shown.{ShowPairs, HasPairs, IsNode}
-use Rattle.sd_laws.proofs.Codes.{literal-range}
-use Rattle.sd_laws.proofs.Expanded.{stored-split}
-use Rattle.sd_laws.proofs.Places.{same-diagram, canonical-in, position-within, leaves-positive}
+use Rattle.sd_laws.specs.Shown.{ShowPairs, HasPairs, ShowsCanonical as ShowsCanonicalBy}
+use Rattle.sd_laws.proofs.Codes.{literal_range}
+use Rattle.sd_laws.proofs.Expanded.{stored_partition}
+use Rattle.sd_laws.proofs.Places.{same_diagram, canonical_in, position_within, leaves_positive}
 use Rattle.sd_manager.specs.Table.{Table, key_at}
-use Rattle.sd_manager.specs.Shown.{Shows, IsShown}
+use Rattle.sd_manager.specs.Shown.{Shows, ShowsCanonical}
 use Rattle.sd_manager.specs.Views.{pairs_at}
 use Rattle.sd_manager.specs.Making.{Extends}
 use Rattle.sd_manager.specs.Valid.{IsTable}
-use Rattle.sd_apply.specs.Places.{IsUnder, IsNodeUnder, IsBelow}
+use Rattle.sd_apply.specs.Places.{IsCanonicalUnder, IsNodeUnder, IsBelow}
 use Rattle.sd_apply.specs.Places.{HasPlace, HasChildren}
-use Rattle.sd_apply.specs.Elements.{IsPair, Lists, IsSplit, HasList, AreListed}
-use Rattle.sd_apply.specs.Elements.{ArePartition, products}
-use Rattle.sd_apply.specs.Calls.{Applies, Complements, Expands, Multiplies, Joins, Flips}
-use Rattle.sd_apply.proofs.Trees.{Fork, fork, apart, not-under, canonical-below}
-use Rattle.sd_apply.proofs.Trees.{below-canonical, left_tree, right_tree}
-use Rattle.sd_apply.proofs.Trees.{left_part, right_part, bottom-under, top-under}
-use Rattle.sd_apply.proofs.Listed.{node-on, lists-on}
-use Rattle.sd_apply.proofs.Rows.{not-bottom}
+use Rattle.sd_apply.specs.Elements.{IsPair, ListsElements, IsPartitionUnder, HasList, AreListedElements}
+use Rattle.sd_apply.specs.Elements.{IsPartitionBelow, products}
+use Rattle.sd_apply.specs.Calls.{Applies, NegatesAt, Expands, Multiplies, Joins, NegatesSubs}
+use Rattle.sd_apply.proofs.Trees.{ChildrenOf, children_of, apart, not_under, canonical_below}
+use Rattle.sd_apply.proofs.Trees.{below_canonical, left_tree, right_tree}
+use Rattle.sd_apply.proofs.Trees.{left_part, right_part, bottom_under, top_under}
+use Rattle.sd_apply.proofs.Listed.{node_on, lists_on}
+use Rattle.sd_apply.proofs.Rows.{not_bottom}
 
 -- the list of a node
-pairs-of_key : (t : Table) (c n place : ℕ) (list : List (ℕ × ℕ)) → c ≡ 2050 + n →
+pairs_of_key : (t : Table) (c n place : ℕ) (list : List (ℕ × ℕ)) → c ≡ 2050 + n →
     get t.linked n ≡ Some (place, list) →
     pairs_at t c ≡ list
-pairs-of_key t c n place list e k =
+pairs_of_key t c n place list e k =
     let low : nat_lt c 2050 ≡ false = grind (arith, nat_tests) in
     let at : c - 2050 ≡ n = omega (arith, e) in
     let found : key_at t (c - 2050) ≡ Some (place, list) = ap (key_at t) at
@@ -55,8 +55,8 @@ pairs-of_key t c n place list e k =
 
 -- what is shown with the elements' conditions is a list of elements
 pub listed : (t : Table) (u w : ℕ) (P Q R : Diagram × Diagram → Type 0) →
-    ((d : Diagram × Diagram) → P d → IsUnder t.vtree u d.0) →
-    ((d : Diagram × Diagram) → Q d → IsUnder t.vtree w d.1) → ((d : Diagram × Diagram) → R d →
+    ((d : Diagram × Diagram) → P d → IsCanonicalUnder t.vtree u d.0) →
+    ((d : Diagram × Diagram) → Q d → IsCanonicalUnder t.vtree w d.1) → ((d : Diagram × Diagram) → R d →
     d.0 ≢ Bottom) →
     (l : List (ℕ × ℕ)) (ds : List (Diagram × Diagram)) → ShowPairs t.vtree (get t.linked) l ds →
     AllByRecursion P ds →
@@ -76,108 +76,108 @@ listed t u w P Q R p q r (e ∷ l) (d ∷ ds) h a b c = (
 )
 
 -- the elements of a node at its own place
-own-shows : (t : Table) → IsTable t → (p u w c : ℕ) → HasChildren t.vtree p u w →
+own_shows : (t : Table) → IsTable t → (p u w c : ℕ) → HasChildren t.vtree p u w →
     (q : ℕ) (es : Elements) →
-    IsShown t c (Decomposition q es) → HasPlace t.vtree p (Decomposition q es) →
+    ShowsCanonical t c (Decomposition q es) → HasPlace t.vtree p (Decomposition q es) →
     HasList t u w (pairs_at t c) (λ g. meaning (Decomposition q es) g ∷ [])
-own-shows t i p u w c e q es h place =
+own_shows t i p u w c e q es h place =
     let v = i.numbered in
     let k : HasPairs t.vtree (get t.linked) c q h.shows.0 = h.shows.1 in
-    let f = fork t.vtree v p u w e in
+    let f = children_of t.vtree v p u w e in
     let at : slice_get (numbers t.vtree) q ≡ Some p = ap (slice_get (numbers t.vtree))
     place.stands ∙ place.number in
     let same : k.place ≡ p = same_Some k.place p (sym k.position ∙ at) in
-    let inner : IsInner t.vtree k.place (forget f.left) (forget f.right) f.base =
-    subst (λ x. IsInner t.vtree x (forget f.left) (forget f.right) f.base) (sym same) f.inner in
-    let node : IsNode t.vtree (get t.linked) c (Decomposition q es) = record {
+    let inner : IsInner t.vtree k.place (plain_tree f.left) (plain_tree f.right) f.base =
+    subst (λ x. IsInner t.vtree x (plain_tree f.left) (plain_tree f.right) f.base) (sym same) f.inner in
+    let node : ShowsCanonicalBy t.vtree (get t.linked) c (Decomposition q es) = record {
       shows = h.shows;
       canonical = h.canonical;
     } in
-    let s = stored-split t.vtree (get t.linked) v c q es node k.number k.place k.list k.code
+    let s = stored_partition t.vtree (get t.linked) v c q es node k.number k.place k.list k.code
     k.stored
-    (forget f.left) (forget f.right) f.base inner in
-    let list = pairs-of_key t c k.number k.place k.list k.code k.stored in
-    let lists : Lists t u w k.list s.pairs = record {
+    (plain_tree f.left) (plain_tree f.right) f.base inner in
+    let list = pairs_of_key t c k.number k.place k.list k.code k.stored in
+    let lists : ListsElements t u w k.list s.pairs = record {
       pairs = listed t u w _ _ _
-          (λ d a. below-canonical t.vtree u (forget f.left) f.base d.0 (left_tree t.vtree p u w f)
+          (λ d a. below_canonical t.vtree u (plain_tree f.left) f.base d.0 (left_tree t.vtree p u w f)
           (left_part t.vtree p u w f) a)
-          (λ d a. below-canonical t.vtree w (forget f.right) _ d.1 (right_tree t.vtree p u w f)
+          (λ d a. below_canonical t.vtree w (plain_tree f.right) _ d.1 (right_tree t.vtree p u w f)
           (right_part t.vtree p u w f) a)
-          (λ d a. a) k.list s.pairs s.shown s.split.elements.primes s.split.elements.subs
-          s.split.elements.possible;
+          (λ d a. a) k.list s.pairs s.shown s.partition.elements.primes s.partition.elements.subs
+          s.partition.elements.possible;
     } in
     record {
       shown = s.pairs;
-      lists = subst (λ l. Lists t u w l s.pairs) (sym list) lists;
+      lists = subst (λ l. ListsElements t u w l s.pairs) (sym list) lists;
       value = s.value;
     }
 
-pub own-list : (t : Table) → IsTable t → (p u w c : ℕ) → HasChildren t.vtree p u w →
-    (x : Diagram) → IsShown t c x →
+pub own_list : (t : Table) → IsTable t → (p u w c : ℕ) → HasChildren t.vtree p u w →
+    (x : Diagram) → ShowsCanonical t c x →
     HasPlace t.vtree p x → 2050 ≤ c → HasList t u w (pairs_at t c) (λ g. meaning x g ∷ [])
-own-list t i p u w c e Bottom h place code = absurd place.stands
-own-list t i p u w c e Top h place code = absurd place.stands
-own-list t i p u w c e (Literal q y s) h place code =
+own_list t i p u w c e Bottom h place code = absurd place.stands
+own_list t i p u w c e Top h place code = absurd place.stands
+own_list t i p u w c e (Literal q y s) h place code =
     absurd (omega (
       arith,
-      (literal-range t.vtree (get t.linked) i.numbered c q y s h.shows).2,
+      (literal_range t.vtree (get t.linked) i.numbered c q y s h.shows).2,
       code,
     ))
-own-list t i p u w c e (Decomposition q es) h place code = own-shows t i p u w c e q es h place
+own_list t i p u w c e (Decomposition q es) h place code = own_shows t i p u w c e q es h place
 
 -- a node at an inner place is no literal
-pub own-code : (t : Table) → IsTable t → (p u w c : ℕ) → HasChildren t.vtree p u w →
-    (x : Diagram) → IsShown t c x →
+pub own_code : (t : Table) → IsTable t → (p u w c : ℕ) → HasChildren t.vtree p u w →
+    (x : Diagram) → ShowsCanonical t c x →
     HasPlace t.vtree p x → 2050 ≤ c
-own-code t i p u w c e Bottom h place = absurd place.stands
-own-code t i p u w c e Top h place = absurd place.stands
-own-code t i p u w c e (Decomposition q es) h place = omega (arith, h.shows.1.code)
-own-code t i p u w c e (Literal q y s) h place =
-    let f = fork t.vtree i.numbered p u w e in
+own_code t i p u w c e Bottom h place = absurd place.stands
+own_code t i p u w c e Top h place = absurd place.stands
+own_code t i p u w c e (Decomposition q es) h place = omega (arith, h.shows.1.code)
+own_code t i p u w c e (Literal q y s) h place =
+    let f = children_of t.vtree i.numbered p u w e in
     let at : slice_get (numbers t.vtree) q ≡ Some p = ap (slice_get (numbers t.vtree))
     place.stands ∙ place.number in
-    let same : q ≡ position (Node (forget f.left) (forget f.right)) f.base =
-    one_place (numbers t.vtree) p q (position (Node (forget f.left) (forget f.right)) f.base)
+    let same : q ≡ position (Node (plain_tree f.left) (plain_tree f.right)) f.base =
+    one_place (numbers t.vtree) p q (position (Node (plain_tree f.left) (plain_tree f.right)) f.base)
     (once_numbered t.vtree i.numbered p) at f.inner.number in
-    absurd (no_literal (canonical-in f.inner.part h.canonical refl
-    (omega (arith, same, leaves-positive (forget f.left)))
+    absurd (no_literal (canonical_in f.inner.part h.canonical refl
+    (omega (arith, same, leaves_positive (plain_tree f.left)))
     (omega (
       arith,
       same,
-      leaves-positive (forget f.left),
-      leaves-positive (forget f.right),
-      length-append (variables (forget f.left)) (variables (forget f.right)),
+      leaves_positive (plain_tree f.left),
+      leaves_positive (plain_tree f.right),
+      length-append (variables (plain_tree f.left)) (variables (plain_tree f.right)),
     ))) same)
   where
     no_literal : {l r : Tree} {b q y : ℕ} {s : Bool} → IsCanonical (Node l r) b (Literal q y s) →
         q ≡ position (Node l r) b → ⊥
     no_literal (Rattle.sd_model.specs.Canonical.canonical_in_left {l = l} n k) e =
-        omega (arith, (position-within k refl).1, e, leaves-positive l)
+        omega (arith, (position_within k refl).1, e, leaves_positive l)
     no_literal (Rattle.sd_model.specs.Canonical.canonical_in_right {l = l} n k) e =
-        omega (arith, (position-within k refl).0, e, leaves-positive l)
+        omega (arith, (position_within k refl).0, e, leaves_positive l)
 
 -- where a diagram below a vtree node stands
-record StandsAt (t : Table) (p u w own po pp : ℕ) (x : Diagram) (f : Fork t.vtree p u w) : Type 0
+record StandsAt (t : Table) (p u w own po pp : ℕ) (x : Diagram) (f : ChildrenOf t.vtree p u w) : Type 0
   where
     stands : HasPosition x po
-    middle : pp ≡ position (Node (forget f.left) (forget f.right)) f.base
+    middle : pp ≡ position (Node (plain_tree f.left) (plain_tree f.right)) f.base
     low : f.base ≤ po
-    high : po + 1 < f.base + 2 * leaves (Node (forget f.left) (forget f.right))
+    high : po + 1 < f.base + 2 * leaves (Node (plain_tree f.left) (plain_tree f.right))
 
 -- positions of a diagram and of the vtree node below which it stands
-stands_at : (t : Table) → IsTable t → (p u w own po pp : ℕ) (f : Fork t.vtree p u w) (x : Diagram)
-    → IsUnder t.vtree p x →
+stands_at : (t : Table) → IsTable t → (p u w own po pp : ℕ) (f : ChildrenOf t.vtree p u w) (x : Diagram)
+    → IsCanonicalUnder t.vtree p x →
     HasPlace t.vtree own x → slice_get (numbers t.vtree) pp ≡ Some p → slice_get (numbers t.vtree)
     po ≡ Some own →
     StandsAt t p u w own po pp x f
 stands_at t i p u w own po pp f x h k np ao =
     let v = i.numbered in
-    let whole = Node (forget f.left) (forget f.right) in
-    let c = canonical-below t.vtree v p whole f.base x f.whole f.inner.part h in
+    let whole = Node (plain_tree f.left) (plain_tree f.right) in
+    let c = canonical_below t.vtree v p whole f.base x f.whole f.inner.part h in
     let same : k.position ≡ po = one_place (numbers t.vtree) own k.position po (once_numbered
     t.vtree v own) k.number ao in
     let stands : HasPosition x po = subst (HasPosition x) same k.stands in
-    let r = position-within c stands in
+    let r = position_within c stands in
     record {
       stands = stands;
       middle = one_place (numbers t.vtree) p pp (position whole f.base) (once_numbered t.vtree v
@@ -187,43 +187,43 @@ stands_at t i p u w own po pp f x h k np ao =
     }
 
 -- a diagram that stands behind a vtree node below which it is, is below the right child
-pub right-under : (t : Table) → IsTable t → (p u w own pp po : ℕ) → HasChildren t.vtree p u w →
+pub right_under : (t : Table) → IsTable t → (p u w own pp po : ℕ) → HasChildren t.vtree p u w →
     (x : Diagram) →
-    IsUnder t.vtree p x → HasPlace t.vtree own x → slice_get (numbers t.vtree) pp ≡ Some p →
-    slice_get (numbers t.vtree) po ≡ Some own → pp < po → IsUnder t.vtree w x
-right-under t i p u w own pp po e x h k np ao lt =
-    let f = fork t.vtree i.numbered p u w e in
+    IsCanonicalUnder t.vtree p x → HasPlace t.vtree own x → slice_get (numbers t.vtree) pp ≡ Some p →
+    slice_get (numbers t.vtree) po ≡ Some own → pp < po → IsCanonicalUnder t.vtree w x
+right_under t i p u w own pp po e x h k np ao lt =
+    let f = children_of t.vtree i.numbered p u w e in
     let s = stands_at t i p u w own po pp f x h k np ao in
-    let c = canonical-in (right_part t.vtree p u w f) h.canonical s.stands
-    (omega (arith, s.middle, leaves-positive (forget f.left)))
+    let c = canonical_in (right_part t.vtree p u w f) h.canonical s.stands
+    (omega (arith, s.middle, leaves_positive (plain_tree f.left)))
     (omega (
       arith,
       s.high,
-      length-append (variables (forget f.left))
-          (variables (forget f.right)),
+      length-append (variables (plain_tree f.left))
+          (variables (plain_tree f.right)),
     )) in
-    below-canonical t.vtree w (forget f.right) (right_base (forget f.left) f.base) x
+    below_canonical t.vtree w (plain_tree f.right) (right_base (plain_tree f.left) f.base) x
     (right_tree t.vtree p u w f)
     (right_part t.vtree p u w f) c
 
 -- and one that stands before it is below the left child
-pub left-under : (t : Table) → IsTable t → (p u w own pp po : ℕ) → HasChildren t.vtree p u w →
+pub left_under : (t : Table) → IsTable t → (p u w own pp po : ℕ) → HasChildren t.vtree p u w →
     (x : Diagram) →
-    IsUnder t.vtree p x → HasPlace t.vtree own x → slice_get (numbers t.vtree) pp ≡ Some p →
-    slice_get (numbers t.vtree) po ≡ Some own → po < pp → IsUnder t.vtree u x
-left-under t i p u w own pp po e x h k np ao lt =
-    let f = fork t.vtree i.numbered p u w e in
+    IsCanonicalUnder t.vtree p x → HasPlace t.vtree own x → slice_get (numbers t.vtree) pp ≡ Some p →
+    slice_get (numbers t.vtree) po ≡ Some own → po < pp → IsCanonicalUnder t.vtree u x
+left_under t i p u w own pp po e x h k np ao lt =
+    let f = children_of t.vtree i.numbered p u w e in
     let s = stands_at t i p u w own po pp f x h k np ao in
-    let c = canonical-in (left_part t.vtree p u w f) h.canonical s.stands s.low
-    (omega (arith, s.middle, leaves-positive (forget f.left))) in
-    below-canonical t.vtree u (forget f.left) f.base x (left_tree t.vtree p u w f)
+    let c = canonical_in (left_part t.vtree p u w f) h.canonical s.stands s.low
+    (omega (arith, s.middle, leaves_positive (plain_tree f.left))) in
+    below_canonical t.vtree u (plain_tree f.left) f.base x (left_tree t.vtree p u w f)
     (left_part t.vtree p u w f) c
 
 -- a node below the right child beside the prime true
-pub expand-right : (t : Table) → IsTable t → (v u w a : ℕ) → ((x : Diagram) →
-    IsNodeUnder t v a x → IsUnder t.vtree w x) →
+pub expand_right : (t : Table) → IsTable t → (v u w a : ℕ) → ((x : Diagram) →
+    IsNodeUnder t v a x → IsCanonicalUnder t.vtree w x) →
     Expands t t v u w a ((1, a) ∷ [])
-expand-right t i v u w a under = record {
+expand_right t i v u w a under = record {
   each = λ x h. record {
     shown = (Top, x) ∷ [];
     lists = record {
@@ -231,7 +231,7 @@ expand-right t i v u w a under = record {
         record {
           prime_shows = refl;
           sub_shows = h.shows;
-          prime = top-under t.vtree u;
+          prime = top_under t.vtree u;
           sub = under x h;
           possible = λ e. cc;
         },
@@ -254,25 +254,25 @@ not_false true e = refl
 not_false false e = absurd (cc)
 
 -- what is not true has a negation that is not false
-not_top : (t : Table) → IsTable t → (a : ℕ) (x z : Diagram) → IsShown t a x → 2 ≤ a →
+not_top : (t : Table) → IsTable t → (a : ℕ) (x z : Diagram) → ShowsCanonical t a x → 2 ≤ a →
     ((g : List Bool) → meaning z g ≡ not (meaning x g)) → z ≢ Bottom
 not_top t i a x z h two value e =
     let always : (g : List Bool) → meaning x g ≡ true = λ g. not_false (meaning x g)
     (sym (value g) ∙ ap (λ d. meaning d g) e) in
-    let top : x ≡ Top = same-diagram (leaves (forget t.vtree)) (apart t.vtree i.numbered) here x
+    let top : x ≡ Top = same_diagram (leaves (plain_tree t.vtree)) (apart t.vtree i.numbered) here x
     Top h.canonical canonical_top always in
     let one : a ≡ 1 = subst (λ d. Shows t a d) top h.shows in
     omega (arith, one, two)
 
 -- a node below the left child and its negation
-pub expand-left : (t t1 : Table) → IsTable t → Extends t t1 → (v u w a other : ℕ) → 2 ≤ a →
-    ((x : Diagram) → IsNodeUnder t v a x → IsUnder t.vtree u x) → Complements t t1 u a other →
+pub expand_left : (t t1 : Table) → IsTable t → Extends t t1 → (v u w a other : ℕ) → 2 ≤ a →
+    ((x : Diagram) → IsNodeUnder t v a x → IsCanonicalUnder t.vtree u x) → NegatesAt t t1 u a other →
     Expands t t1 v u w a ((a, 1) ∷ (other, 0) ∷ [])
-expand-left t t1 i x v u w a other two under k = record {
+expand_left t t1 i x v u w a other two under k = record {
   each = λ d h.
       let node : IsNodeUnder t u a d = record { shows = h.shows; under = under d h } in
       let z = k.each d node in
-      let next = node-on t t1 x u a d node in
+      let next = node_on t t1 x u a d node in
       record {
         shown = (d, Top) ∷ (z.diagram, Bottom) ∷ [];
         lists = record {
@@ -281,15 +281,15 @@ expand-left t t1 i x v u w a other two under k = record {
               prime_shows = next.shows;
               sub_shows = refl;
               prime = next.under;
-              sub = top-under t1.vtree w;
-              possible = not-bottom t a d h.shows (λ e. omega (arith, e));
+              sub = top_under t1.vtree w;
+              possible = not_bottom t a d h.shows (λ e. omega (arith, e));
             },
             (
               record {
                 prime_shows = z.is.shows;
                 sub_shows = refl;
-                prime = not-under t1.vtree u d z.diagram next.under z.is.canonical z.value;
-                sub = bottom-under t1.vtree w;
+                prime = not_under t1.vtree u d z.diagram next.under z.is.canonical z.value;
+                sub = bottom_under t1.vtree w;
                 possible = not_top t i a d z.diagram (record {
                   shows = h.shows;
                   canonical = h.under.canonical;
@@ -304,38 +304,38 @@ expand-left t t1 i x v u w a other two under k = record {
 }
 
 -- a node at the place itself
-pub expand-own : (t : Table) → IsTable t → (p u w c : ℕ) → HasChildren t.vtree p u w →
-    ((x : Diagram) → IsShown t c x → HasPlace t.vtree p x) → Expands t t p u w c (pairs_at t c)
-expand-own t i p u w c e place = record {
+pub expand_own : (t : Table) → IsTable t → (p u w c : ℕ) → HasChildren t.vtree p u w →
+    ((x : Diagram) → ShowsCanonical t c x → HasPlace t.vtree p x) → Expands t t p u w c (pairs_at t c)
+expand_own t i p u w c e place = record {
   each = λ x h.
-      let shown : IsShown t c x = record { shows = h.shows; canonical = h.under.canonical } in
-      own-list t i p u w c e x shown (place x shown) (own-code t i p u w c e x shown
+      let shown : ShowsCanonical t c x = record { shows = h.shows; canonical = h.under.canonical } in
+      own_list t i p u w c e x shown (place x shown) (own_code t i p u w c e x shown
       (place x shown));
 }
 
 -- expansions are partitions, also later
-pub expanded-partition : (m0 m1 m2 : Table) (p u w a : ℕ) (l : List (ℕ × ℕ)) →
+pub expanded_partition : (m0 m1 m2 : Table) (p u w a : ℕ) (l : List (ℕ × ℕ)) →
     Expands m0 m1 p u w a l → Extends m1 m2 →
-    (x : Diagram) → IsNodeUnder m0 p a x → ArePartition m2 u w l
-expanded-partition m0 m1 m2 p u w a l h x d k =
+    (x : Diagram) → IsNodeUnder m0 p a x → IsPartitionBelow m2 u w l
+expanded_partition m0 m1 m2 p u w a l h x d k =
     let e = h.each d k in
     record {
       shown = e.shown;
       is = record {
-        lists = lists-on m1 m2 x u w l e.shown e.lists;
+        lists = lists_on m1 m2 x u w l e.shown e.lists;
         one_true = λ g. ap length (e.value g);
       };
     }
 
-pub partition-listed : (t : Table) (u w : ℕ) (l : List (ℕ × ℕ)) → ArePartition t u w l →
-    AreListed t u w l
-partition-listed t u w l h = record { shown = h.shown; is = h.is.lists }
+pub partition_listed : (t : Table) (u w : ℕ) (l : List (ℕ × ℕ)) → IsPartitionBelow t u w l →
+    AreListedElements t u w l
+partition_listed t u w l h = record { shown = h.shown; is = h.is.lists }
 
 -- the products of two expansions
 record HasProducts (t : Table) (o : Operation) (u w : ℕ) (q : List (ℕ × ℕ)) (x y : Diagram) : Type
     0 where
   shown : List (Diagram × Diagram)
-  is : IsSplit t u w q shown
+  is : IsPartitionUnder t u w q shown
   value : (g : List Bool) → answers g shown ≡ combine o (meaning x g) (meaning y g) ∷ []
 
 has_products : (m0 m1 m2 m3 : Table) (o : Operation) (p u w a b : ℕ) (l k q : List (ℕ × ℕ)) →
@@ -345,8 +345,8 @@ has_products : (m0 m1 m2 m3 : Table) (o : Operation) (p u w a b : ℕ) (l k q : 
     Multiplies m2 m3 o u w l k q → HasProducts m3 o u w q x y
 has_products m0 m1 m2 m3 o p u w a b l k q e1 e2 x y px py first second product =
     let ds = first.each x px in
-    let fs = second.each y (node-on m0 m1 e1 p b y py) in
-    let gs = product.each ds.shown fs.shown (lists-on m1 m2 e2 u w l ds.shown ds.lists)
+    let fs = second.each y (node_on m0 m1 e1 p b y py) in
+    let gs = product.each ds.shown fs.shown (lists_on m1 m2 e2 u w l ds.shown ds.lists)
     (record { lists = fs.lists; one_true = λ g. ap length (fs.value g) }) in
     let value : (g : List Bool) → answers g gs.shown ≡ combine o (meaning x g) (meaning y g) ∷
     [] = λ g.
@@ -361,20 +361,20 @@ has_products m0 m1 m2 m3 o p u w a b l k q e1 e2 x y px py first second product 
       value = value;
     }
 
-pub products-partition : (m0 m1 m2 m3 : Table) (o : Operation) (p u w a b : ℕ)
+pub products_partition : (m0 m1 m2 m3 : Table) (o : Operation) (p u w a b : ℕ)
     (l k q : List (ℕ × ℕ)) → Extends m0 m1 →
     Extends m1 m2 → (x y : Diagram) → IsNodeUnder m0 p a x → IsNodeUnder m0 p b y →
     Expands m0 m1 p u w a l →
-    Expands m1 m2 p u w b k → Multiplies m2 m3 o u w l k q → ArePartition m3 u w q
-products-partition m0 m1 m2 m3 o p u w a b l k q e1 e2 x y px py first second product =
+    Expands m1 m2 p u w b k → Multiplies m2 m3 o u w l k q → IsPartitionBelow m3 u w q
+products_partition m0 m1 m2 m3 o p u w a b l k q e1 e2 x y px py first second product =
     let h = has_products m0 m1 m2 m3 o p u w a b l k q e1 e2 x y px py first second product in
     record { shown = h.shown; is = h.is }
 
 -- a node below a vtree node v is below the node p that was chosen for it
-pub node-at : (t : Table) (v p a : ℕ) (x : Diagram) → ((d : Diagram) → IsShown t a d →
-    IsUnder t.vtree p d) →
+pub node_at : (t : Table) (v p a : ℕ) (x : Diagram) → ((d : Diagram) → ShowsCanonical t a d →
+    IsCanonicalUnder t.vtree p d) →
     IsNodeUnder t v a x → IsNodeUnder t p a x
-node-at t v p a x under h =
+node_at t v p a x under h =
     record {
       shows = h.shows;
       under = under x (record {
@@ -383,39 +383,39 @@ node-at t v p a x under h =
       });
     }
 
-pub below-at : (t : Table) (v p a : ℕ) → ((d : Diagram) → IsShown t a d → IsUnder t.vtree p d) →
+pub below_at : (t : Table) (v p a : ℕ) → ((d : Diagram) → ShowsCanonical t a d → IsCanonicalUnder t.vtree p d) →
     IsBelow t v a → IsBelow t p a
-below-at t v p a under h = record { diagram = h.diagram; is = node-at t v p a h.diagram under h.is }
+below_at t v p a under h = record { diagram = h.diagram; is = node_at t v p a h.diagram under h.is }
 
 -- the answer of an operation at two expansions
-pub split-applies : (m0 m1 m2 m3 m4 : Table) (o : Operation) (v p u w a b r : ℕ)
+pub applied_at_lca : (m0 m1 m2 m3 m4 : Table) (o : Operation) (v p u w a b r : ℕ)
     (l k q : List (ℕ × ℕ)) → Extends m0 m1 →
-    Extends m1 m2 → ((d : Diagram) → IsShown m0 a d → IsUnder m0.vtree p d) →
-    ((d : Diagram) → IsShown m0 b d → IsUnder m0.vtree p d) → Expands m0 m1 p u w a l →
+    Extends m1 m2 → ((d : Diagram) → ShowsCanonical m0 a d → IsCanonicalUnder m0.vtree p d) →
+    ((d : Diagram) → ShowsCanonical m0 b d → IsCanonicalUnder m0.vtree p d) → Expands m0 m1 p u w a l →
     Expands m1 m2 p u w b k →
     Multiplies m2 m3 o u w l k q → Joins m3 m4 u w q r → Applies m0 m4 o v a b r
-split-applies m0 m1 m2 m3 m4 o v p u w a b r l k q e1 e2 under_a under_b first second product
+applied_at_lca m0 m1 m2 m3 m4 o v p u w a b r l k q e1 e2 under_a under_b first second product
     join = record {
       each = λ x y px py.
-          let h = has_products m0 m1 m2 m3 o p u w a b l k q e1 e2 x y (node-at m0 v p a x under_a
+          let h = has_products m0 m1 m2 m3 o p u w a b l k q e1 e2 x y (node_at m0 v p a x under_a
           px)
-          (node-at m0 v p b y under_b py) first second product in
+          (node_at m0 v p b y under_b py) first second product in
           join.each h.shown h.is (λ g. combine o (meaning x g) (meaning y g)) h.value;
     }
 
 -- the negated elements of a decomposition
 record HasFlips (t : Table) (u w : ℕ) (k : List (ℕ × ℕ)) (x : Diagram) : Type 0 where
   shown : List (Diagram × Diagram)
-  is : IsSplit t u w k shown
+  is : IsPartitionUnder t u w k shown
   value : (g : List Bool) → answers g shown ≡ not (meaning x g) ∷ []
 
-has_flips : (m0 m1 : Table) → IsTable m0 → (p u w c : ℕ) (k : List (ℕ × ℕ)) →
+has_negated_subs : (m0 m1 : Table) → IsTable m0 → (p u w c : ℕ) (k : List (ℕ × ℕ)) →
     HasChildren m0.vtree p u w → (x : Diagram) →
-    IsShown m0 c x → HasPlace m0.vtree p x → 2050 ≤ c → Flips m0 m1 u w (pairs_at m0 c) k →
+    ShowsCanonical m0 c x → HasPlace m0.vtree p x → 2050 ≤ c → NegatesSubs m0 m1 u w (pairs_at m0 c) k →
     HasFlips m1 u w k x
-has_flips m0 m1 i p u w c k e x h place code flip =
-    let ds = own-list m0 i p u w c e x h place code in
-    let gs = flip.each ds.shown ds.lists in
+has_negated_subs m0 m1 i p u w c k e x h place code negated_subs =
+    let ds = own_list m0 i p u w c e x h place code in
+    let gs = negated_subs.each ds.shown ds.lists in
     let value : (g : List Bool) → answers g gs.shown ≡ not (meaning x g) ∷ [] = λ g. gs.value g
     ∙ ap (map not) (ds.value g) in
     record {
@@ -427,31 +427,31 @@ has_flips m0 m1 i p u w c k e x h place code flip =
       value = value;
     }
 
-pub flips-partition : (m0 m1 : Table) → IsTable m0 → (p u w c : ℕ) (k : List (ℕ × ℕ)) →
+pub negated_subs_partition : (m0 m1 : Table) → IsTable m0 → (p u w c : ℕ) (k : List (ℕ × ℕ)) →
     HasChildren m0.vtree p u w →
-    (x : Diagram) → IsShown m0 c x → HasPlace m0.vtree p x → 2050 ≤ c →
-    Flips m0 m1 u w (pairs_at m0 c) k →
-    ArePartition m1 u w k
-flips-partition m0 m1 i p u w c k e x h place code flip =
-    let q = has_flips m0 m1 i p u w c k e x h place code flip in
+    (x : Diagram) → ShowsCanonical m0 c x → HasPlace m0.vtree p x → 2050 ≤ c →
+    NegatesSubs m0 m1 u w (pairs_at m0 c) k →
+    IsPartitionBelow m1 u w k
+negated_subs_partition m0 m1 i p u w c k e x h place code negated_subs =
+    let q = has_negated_subs m0 m1 i p u w c k e x h place code negated_subs in
     record { shown = q.shown; is = q.is }
 
-pub own-listed : (t : Table) → IsTable t → (p u w c : ℕ) → HasChildren t.vtree p u w →
-    (x : Diagram) → IsShown t c x →
-    HasPlace t.vtree p x → 2050 ≤ c → AreListed t u w (pairs_at t c)
-own-listed t i p u w c e x h place code =
-    let q = own-list t i p u w c e x h place code in
+pub own_listed : (t : Table) → IsTable t → (p u w c : ℕ) → HasChildren t.vtree p u w →
+    (x : Diagram) → ShowsCanonical t c x →
+    HasPlace t.vtree p x → 2050 ≤ c → AreListedElements t u w (pairs_at t c)
+own_listed t i p u w c e x h place code =
+    let q = own_list t i p u w c e x h place code in
     record { shown = q.shown; is = q.lists }
 
 -- the answer of negation at a decomposition
-pub flip-complements : (m0 m1 m2 : Table) → IsTable m0 → (v p u w c r : ℕ) (k : List (ℕ × ℕ)) →
+pub negate_subs_negates : (m0 m1 m2 : Table) → IsTable m0 → (v p u w c r : ℕ) (k : List (ℕ × ℕ)) →
     HasChildren m0.vtree p u w →
-    ((d : Diagram) → IsShown m0 c d → HasPlace m0.vtree p d) → 2050 ≤ c →
-    Flips m0 m1 u w (pairs_at m0 c) k →
-    Joins m1 m2 u w k r → Complements m0 m2 v c r
-flip-complements m0 m1 m2 i v p u w c r k e place code flip join = record {
+    ((d : Diagram) → ShowsCanonical m0 c d → HasPlace m0.vtree p d) → 2050 ≤ c →
+    NegatesSubs m0 m1 u w (pairs_at m0 c) k →
+    Joins m1 m2 u w k r → NegatesAt m0 m2 v c r
+negate_subs_negates m0 m1 m2 i v p u w c r k e place code negated_subs join = record {
   each = λ x h.
-      let shown : IsShown m0 c x = record { shows = h.shows; canonical = h.under.canonical } in
-      let q = has_flips m0 m1 i p u w c k e x shown (place x shown) code flip in
+      let shown : ShowsCanonical m0 c x = record { shows = h.shows; canonical = h.under.canonical } in
+      let q = has_negated_subs m0 m1 i p u w c k e x shown (place x shown) code negated_subs in
       join.each q.shown q.is (λ g. not (meaning x g)) q.value;
 }

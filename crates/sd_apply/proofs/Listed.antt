@@ -10,20 +10,20 @@ use Rattle.std.proofs.Math.Seq.{take-length, take-suc}
 use Rattle.std.proofs.lemmas.Option.{slice_get_within, get_or_from_slice_get}
 use Rattle.sd_model.specs.Diagram.{Diagram, meaning}
 use Rattle.sd_laws.specs.Pairs.{answers}
-use Rattle.sd_laws.proofs.Codes.{shows-kept}
-use Rattle.sd_laws.proofs.Lists.{first-permuted}
+use Rattle.sd_laws.proofs.Codes.{shows_kept}
+use Rattle.sd_laws.proofs.Lists.{first_permuted}
 use Rattle.sd_manager.specs.Table.{Table}
-use Rattle.sd_manager.specs.Shown.{Shows, IsShown}
+use Rattle.sd_manager.specs.Shown.{Shows, ShowsCanonical}
 use Rattle.sd_manager.specs.Making.{Extends}
 use Rattle.sd_apply.specs.Answers.{HasAnswer}
-use Rattle.sd_apply.specs.Places.{width, IsUnder, IsNodeUnder, IsBelow, IsThere, HasChildren}
-use Rattle.sd_apply.specs.Elements.{IsPair, Lists, IsSplit, IsPaired, AreListed}
-use Rattle.sd_apply.specs.Elements.{ArePartition}
+use Rattle.sd_apply.specs.Places.{width, IsCanonicalUnder, IsNodeUnder, IsBelow, IsThere, HasChildren}
+use Rattle.sd_apply.specs.Elements.{IsPair, ListsElements, IsPartitionUnder, IsPaired, AreListedElements}
+use Rattle.sd_apply.specs.Elements.{IsPartitionBelow}
 
 -- tables that grow
 
-pub extends-self : (t : Table) → Extends t t
-extends-self t =
+pub extends_self : (t : Table) → Extends t t
+extends_self t =
     record {
       vtree = refl;
       nodes = λ n k e. e;
@@ -39,8 +39,8 @@ extends-self t =
       extent = omega arith;
     }
 
-pub extends-on : (a b c : Table) → Extends a b → Extends b c → Extends a c
-extends-on a b c h k =
+pub extends_on : (a b c : Table) → Extends a b → Extends b c → Extends a c
+extends_on a b c h k =
     record {
       vtree = k.vtree ∙ h.vtree;
       nodes = λ n key e. k.nodes n key (h.nodes n key e);
@@ -57,102 +57,102 @@ extends-on a b c h k =
       extent = omega (arith, h.extent, k.extent);
     }
 
-pub shows-on : (old new : Table) → Extends old new → (c : ℕ) (d : Diagram) → Shows old c d →
+pub shows_on : (old new : Table) → Extends old new → (c : ℕ) (d : Diagram) → Shows old c d →
     Shows new c d
-shows-on old new x c d h = rw x.vtree (shows-kept old.vtree (get old.linked) (get new.linked)
+shows_on old new x c d h = rw x.vtree (shows_kept old.vtree (get old.linked) (get new.linked)
     x.nodes d c h)
 
-pub under-on : (old new : Table) → Extends old new → (u : ℕ) (d : Diagram) →
-    IsUnder old.vtree u d → IsUnder new.vtree u d
-under-on old new x u d h = rw x.vtree h
+pub under_on : (old new : Table) → Extends old new → (u : ℕ) (d : Diagram) →
+    IsCanonicalUnder old.vtree u d → IsCanonicalUnder new.vtree u d
+under_on old new x u d h = rw x.vtree h
 
-pub shown-on : (old new : Table) → Extends old new → (c : ℕ) (d : Diagram) → IsShown old c d →
-    IsShown new c d
-shown-on old new x c d h = record {
-  shows = shows-on old new x c d h.shows;
+pub shown_on : (old new : Table) → Extends old new → (c : ℕ) (d : Diagram) → ShowsCanonical old c d →
+    ShowsCanonical new c d
+shown_on old new x c d h = record {
+  shows = shows_on old new x c d h.shows;
   canonical = rw x.vtree h.canonical;
 }
 
-pub answer-on : (old new : Table) → Extends old new → (f : List Bool → Bool) (c : ℕ) →
+pub answer_on : (old new : Table) → Extends old new → (f : List Bool → Bool) (c : ℕ) →
     HasAnswer old f c → HasAnswer new f c
-answer-on old new x f c h = record {
+answer_on old new x f c h = record {
   diagram = h.diagram;
-  is = shown-on old new x c h.diagram
+  is = shown_on old new x c h.diagram
       h.is;
   value = h.value;
 }
 
-pub node-on : (old new : Table) → Extends old new → (u c : ℕ) (d : Diagram) →
+pub node_on : (old new : Table) → Extends old new → (u c : ℕ) (d : Diagram) →
     IsNodeUnder old u c d → IsNodeUnder new u c d
-node-on old new x u c d h = record {
-  shows = shows-on old new x c d h.shows;
-  under = under-on old new x u d h.under;
+node_on old new x u c d h = record {
+  shows = shows_on old new x c d h.shows;
+  under = under_on old new x u d h.under;
 }
 
-pub below-on : (old new : Table) → Extends old new → (u c : ℕ) → IsBelow old u c → IsBelow new u c
-below-on old new x u c h = record { diagram = h.diagram; is = node-on old new x u c h.diagram h.is }
+pub below_on : (old new : Table) → Extends old new → (u c : ℕ) → IsBelow old u c → IsBelow new u c
+below_on old new x u c h = record { diagram = h.diagram; is = node_on old new x u c h.diagram h.is }
 
-pub pair-on : (old new : Table) → Extends old new → (u w : ℕ) (e : ℕ × ℕ) (d : Diagram × Diagram)
+pub pair_on : (old new : Table) → Extends old new → (u w : ℕ) (e : ℕ × ℕ) (d : Diagram × Diagram)
     → IsPair old u w e d →
     IsPair new u w e d
-pair-on old new x u w e d h =
+pair_on old new x u w e d h =
     record {
-      prime_shows = shows-on old new x e.0 d.0 h.prime_shows;
-      sub_shows = shows-on old new x e.1 d.1 h.sub_shows;
-      prime = under-on old new x u d.0 h.prime;
-      sub = under-on old new x w d.1 h.sub;
+      prime_shows = shows_on old new x e.0 d.0 h.prime_shows;
+      sub_shows = shows_on old new x e.1 d.1 h.sub_shows;
+      prime = under_on old new x u d.0 h.prime;
+      sub = under_on old new x w d.1 h.sub;
       possible = h.possible;
     }
 
-zip-on : (old new : Table) → Extends old new → (u w : ℕ) (l : List (ℕ × ℕ))
+zip_on : (old new : Table) → Extends old new → (u w : ℕ) (l : List (ℕ × ℕ))
     (ds : List (Diagram × Diagram)) →
     AllZip (IsPair old u w) l ds → AllZip (IsPair new u w) l ds
-zip-on old new x u w [] [] h = h
-zip-on old new x u w [] (d ∷ ds) h = h
-zip-on old new x u w (e ∷ l) [] h = h
-zip-on old new x u w (e ∷ l) (d ∷ ds) h = (
-  pair-on old new x u w e d h.0,
-  zip-on old new x u w l
+zip_on old new x u w [] [] h = h
+zip_on old new x u w [] (d ∷ ds) h = h
+zip_on old new x u w (e ∷ l) [] h = h
+zip_on old new x u w (e ∷ l) (d ∷ ds) h = (
+  pair_on old new x u w e d h.0,
+  zip_on old new x u w l
       ds h.1,
 )
 
-pub lists-on : (old new : Table) → Extends old new → (u w : ℕ) (l : List (ℕ × ℕ))
+pub lists_on : (old new : Table) → Extends old new → (u w : ℕ) (l : List (ℕ × ℕ))
     (ds : List (Diagram × Diagram)) →
-    Lists old u w l ds → Lists new u w l ds
-lists-on old new x u w l ds h = record { pairs = zip-on old new x u w l ds h.pairs }
+    ListsElements old u w l ds → ListsElements new u w l ds
+lists_on old new x u w l ds h = record { pairs = zip_on old new x u w l ds h.pairs }
 
-pub split-on : (old new : Table) → Extends old new → (u w : ℕ) (l : List (ℕ × ℕ))
+pub partition_under_on : (old new : Table) → Extends old new → (u w : ℕ) (l : List (ℕ × ℕ))
     (ds : List (Diagram × Diagram)) →
-    IsSplit old u w l ds → IsSplit new u w l ds
-split-on old new x u w l ds h = record {
-  lists = lists-on old new x u w l ds h.lists;
+    IsPartitionUnder old u w l ds → IsPartitionUnder new u w l ds
+partition_under_on old new x u w l ds h = record {
+  lists = lists_on old new x u w l ds h.lists;
   one_true = h.one_true;
 }
 
-pub listed-on : (old new : Table) → Extends old new → (u w : ℕ) (l : List (ℕ × ℕ)) →
-    AreListed old u w l → AreListed new u w l
-listed-on old new x u w l h = record { shown = h.shown; is = lists-on old new x u w l h.shown h.is }
+pub listed_on : (old new : Table) → Extends old new → (u w : ℕ) (l : List (ℕ × ℕ)) →
+    AreListedElements old u w l → AreListedElements new u w l
+listed_on old new x u w l h = record { shown = h.shown; is = lists_on old new x u w l h.shown h.is }
 
-pub partition-on : (old new : Table) → Extends old new → (u w : ℕ) (l : List (ℕ × ℕ)) →
-    ArePartition old u w l →
-    ArePartition new u w l
-partition-on old new x u w l h = record {
+pub partition_on : (old new : Table) → Extends old new → (u w : ℕ) (l : List (ℕ × ℕ)) →
+    IsPartitionBelow old u w l →
+    IsPartitionBelow new u w l
+partition_on old new x u w l h = record {
   shown = h.shown;
-  is = split-on old new x u w l h.shown
+  is = partition_under_on old new x u w l h.shown
       h.is;
 }
 
-pub paired-on : (old new : Table) → Extends old new → (u w : ℕ) (e : ℕ × ℕ) → IsPaired old u w e →
+pub paired_on : (old new : Table) → Extends old new → (u w : ℕ) (e : ℕ × ℕ) → IsPaired old u w e →
     IsPaired new u w e
-paired-on old new x u w e h = record { shown = h.shown; is = pair-on old new x u w e h.shown h.is }
+paired_on old new x u w e h = record { shown = h.shown; is = pair_on old new x u w e h.shown h.is }
 
 -- the answer of one element
 abbrev pub one_answer : List Bool → Diagram × Diagram → List Bool
 one_answer a d = cond (meaning d.0 a) (meaning d.1 a ∷ []) []
 
-pub answers-cons : (a : List Bool) (d : Diagram × Diagram) (ds : List (Diagram × Diagram)) →
+pub answers_cons : (a : List Bool) (d : Diagram × Diagram) (ds : List (Diagram × Diagram)) →
     answers a (d ∷ ds) ≡ one_answer a d ++ answers a ds
-answers-cons a d ds =
+answers_cons a d ds =
     elim (meaning d.0 a)
     as (λ v. cond v (meaning d.1 a ∷ answers a ds) (answers a ds) ≡ cond v (meaning d.1 a ∷ [])
     [] ++ answers a ds) [
@@ -160,38 +160,38 @@ answers-cons a d ds =
       | false ↦ refl
     ]
 
-pub answers-append : (a : List Bool) (ds fs : List (Diagram × Diagram)) →
+pub answers_append : (a : List Bool) (ds fs : List (Diagram × Diagram)) →
     answers a (ds ++ fs) ≡ answers a ds ++ answers a fs
-answers-append a [] fs = refl
-answers-append a (d ∷ ds) fs =
-    answers-cons a d (ds ++ fs) ∙ ap (λ l. one_answer a d ++ l) (answers-append a ds fs)
+answers_append a [] fs = refl
+answers_append a (d ∷ ds) fs =
+    answers_cons a d (ds ++ fs) ∙ ap (λ l. one_answer a d ++ l) (answers_append a ds fs)
     ∙ sym (append_assoc (one_answer a d) (answers a ds) (answers a fs))
-    ∙ ap (λ l. l ++ answers a fs) (sym (answers-cons a d ds))
+    ∙ ap (λ l. l ++ answers a fs) (sym (answers_cons a d ds))
 
-pub answers-push : (a : List Bool) (ds : List (Diagram × Diagram)) (d : Diagram × Diagram) →
+pub answers_push : (a : List Bool) (ds : List (Diagram × Diagram)) (d : Diagram × Diagram) →
     answers a (ds ++ d ∷ []) ≡ answers a ds ++ one_answer a d
-answers-push a ds d = answers-append a ds (d ∷ []) ∙ ap (λ l. answers a ds ++ l) (answers-cons a d
+answers_push a ds d = answers_append a ds (d ∷ []) ∙ ap (λ l. answers a ds ++ l) (answers_cons a d
     [] ∙ append-nil (one_answer a d))
 
 -- one more element behind a list
-zip-push : (t : Table) (u w : ℕ) (l : List (ℕ × ℕ)) (ds : List (Diagram × Diagram)) (e : ℕ × ℕ)
+zip_push : (t : Table) (u w : ℕ) (l : List (ℕ × ℕ)) (ds : List (Diagram × Diagram)) (e : ℕ × ℕ)
     (d : Diagram × Diagram) →
     AllZip (IsPair t u w) l ds → IsPair t u w e d → AllZip (IsPair t u w) (l ++ e ∷ [])
     (ds ++ d ∷ [])
-zip-push t u w [] [] e d h k = (k, tt)
-zip-push t u w [] (f ∷ ds) e d h k = absurd h
-zip-push t u w (g ∷ l) [] e d h k = absurd h
-zip-push t u w (g ∷ l) (f ∷ ds) e d h k = (h.0, zip-push t u w l ds e d h.1 k)
+zip_push t u w [] [] e d h k = (k, tt)
+zip_push t u w [] (f ∷ ds) e d h k = absurd h
+zip_push t u w (g ∷ l) [] e d h k = absurd h
+zip_push t u w (g ∷ l) (f ∷ ds) e d h k = (h.0, zip_push t u w l ds e d h.1 k)
 
-pub lists-push : (t : Table) (u w : ℕ) (l : List (ℕ × ℕ)) (ds : List (Diagram × Diagram))
+pub lists_push : (t : Table) (u w : ℕ) (l : List (ℕ × ℕ)) (ds : List (Diagram × Diagram))
     (e : ℕ × ℕ)
-    (d : Diagram × Diagram) → Lists t u w l ds → IsPair t u w e d → Lists t u w (l ++ e ∷ [])
+    (d : Diagram × Diagram) → ListsElements t u w l ds → IsPair t u w e d → ListsElements t u w (l ++ e ∷ [])
     (ds ++ d ∷ [])
-lists-push t u w l ds e d h k = record { pairs = zip-push t u w l ds e d h.pairs k }
+lists_push t u w l ds e d h k = record { pairs = zip_push t u w l ds e d h.pairs k }
 
 -- no elements
-pub lists-none : (t : Table) (u w : ℕ) → Lists t u w [] []
-lists-none t u w = record { pairs = tt }
+pub lists_none : (t : Table) (u w : ℕ) → ListsElements t u w [] []
+lists_none t u w = record { pairs = tt }
 
 -- the element at an index
 pub record IsAt (t : Table) (u w : ℕ) (e : ℕ × ℕ) (ds : List (Diagram × Diagram)) (i : ℕ)
@@ -199,94 +199,94 @@ pub record IsAt (t : Table) (u w : ℕ) (e : ℕ × ℕ) (ds : List (Diagram × 
   pub pair : IsPair t u w e d
   pub more : take (suc i) ds ≡ take i ds ++ d ∷ []
 
-zip-at : (t : Table) (u w : ℕ) (l : List (ℕ × ℕ)) (ds : List (Diagram × Diagram)) →
+zip_at : (t : Table) (u w : ℕ) (l : List (ℕ × ℕ)) (ds : List (Diagram × Diagram)) →
     AllZip (IsPair t u w) l ds → (i : ℕ) →
     i < length l → (e : ℕ × ℕ) → e ≡ get_or l i (0, 0) → (d : Diagram × Diagram) × IsAt t u w e ds
     i d
-zip-at t u w [] ds h i lt e same = absurd (omega arith)
-zip-at t u w (x ∷ l) [] h i lt e same = absurd h
-zip-at t u w (x ∷ l) (d ∷ ds) h zero lt e same =
+zip_at t u w [] ds h i lt e same = absurd (omega arith)
+zip_at t u w (x ∷ l) [] h i lt e same = absurd h
+zip_at t u w (x ∷ l) (d ∷ ds) h zero lt e same =
     let P : ℕ × ℕ → Type 0 = λ y. IsPair t u w y d in
     (d, record { pair = subst P (sym same) h.0; more = refl })
-zip-at t u w (x ∷ l) (d ∷ ds) h (suc i) lt e same =
-    let r = zip-at t u w l ds h.1 i (omega arith) e same in
+zip_at t u w (x ∷ l) (d ∷ ds) h (suc i) lt e same =
+    let r = zip_at t u w l ds h.1 i (omega arith) e same in
     (r.0, record { pair = r.1.pair; more = ap (λ m. d ∷ m) r.1.more })
 
-pub lists-at : (t : Table) (u w : ℕ) (l : List (ℕ × ℕ)) (ds : List (Diagram × Diagram)) →
-    Lists t u w l ds → (i : ℕ) →
+pub lists_at : (t : Table) (u w : ℕ) (l : List (ℕ × ℕ)) (ds : List (Diagram × Diagram)) →
+    ListsElements t u w l ds → (i : ℕ) →
     i < length l → (e : ℕ × ℕ) → e ≡ get_or l i (0, 0) → (d : Diagram × Diagram) × IsAt t u w e ds
     i d
-lists-at t u w l ds h i lt e same = zip-at t u w l ds h.pairs i lt e same
+lists_at t u w l ds h i lt e same = zip_at t u w l ds h.pairs i lt e same
 
 -- as many elements as pairs
-zip-length : (t : Table) (u w : ℕ) (l : List (ℕ × ℕ)) (ds : List (Diagram × Diagram)) →
+zip_length : (t : Table) (u w : ℕ) (l : List (ℕ × ℕ)) (ds : List (Diagram × Diagram)) →
     AllZip (IsPair t u w) l ds →
     length l ≡ length ds
-zip-length t u w [] [] h = refl
-zip-length t u w [] (d ∷ ds) h = absurd h
-zip-length t u w (e ∷ l) [] h = absurd h
-zip-length t u w (e ∷ l) (d ∷ ds) h = ap suc (zip-length t u w l ds h.1)
+zip_length t u w [] [] h = refl
+zip_length t u w [] (d ∷ ds) h = absurd h
+zip_length t u w (e ∷ l) [] h = absurd h
+zip_length t u w (e ∷ l) (d ∷ ds) h = ap suc (zip_length t u w l ds h.1)
 
-pub lists-length : (t : Table) (u w : ℕ) (l : List (ℕ × ℕ)) (ds : List (Diagram × Diagram)) →
-    Lists t u w l ds →
+pub lists_length : (t : Table) (u w : ℕ) (l : List (ℕ × ℕ)) (ds : List (Diagram × Diagram)) →
+    ListsElements t u w l ds →
     length l ≡ length ds
-lists-length t u w l ds h = zip-length t u w l ds h.pairs
+lists_length t u w l ds h = zip_length t u w l ds h.pairs
 
 -- all elements
-pub take-all : (t : Table) (u w : ℕ) (l : List (ℕ × ℕ)) (ds : List (Diagram × Diagram)) (i : ℕ) →
-    Lists t u w l ds →
+pub take_all : (t : Table) (u w : ℕ) (l : List (ℕ × ℕ)) (ds : List (Diagram × Diagram)) (i : ℕ) →
+    ListsElements t u w l ds →
     length l ≤ i → i ≤ length l → take i ds ≡ ds
-take-all t u w l ds i h a b =
-    let n : i ≡ length ds = omega (arith, lists-length t u w l ds h) in
+take_all t u w l ds i h a b =
+    let n : i ≡ length ds = omega (arith, lists_length t u w l ds h) in
     ap (λ k. take k ds) n ∙ take-length ds
 
 -- the answers up to the next index
-pub take-answers : (a : List Bool) (t : Table) (u w : ℕ) (e : ℕ × ℕ)
+pub take_answers : (a : List Bool) (t : Table) (u w : ℕ) (e : ℕ × ℕ)
     (ds : List (Diagram × Diagram)) (i : ℕ)
     (d : Diagram × Diagram) → IsAt t u w e ds i d → answers a (take (i + 1) ds) ≡ answers a
     (take i ds) ++ one_answer a d
-take-answers a t u w e ds i d h =
+take_answers a t u w e ds i d h =
     let next : i + 1 ≡ suc i = omega arith in
-    ap (λ k. answers a (take k ds)) next ∙ ap (answers a) h.more ∙ answers-push a (take i ds) d
+    ap (λ k. answers a (take k ds)) next ∙ ap (answers a) h.more ∙ answers_push a (take i ds) d
 
 -- the pairs in another order
-pub lists-permuted : (t : Table) (u w : ℕ) (l k : List (ℕ × ℕ)) (ds : List (Diagram × Diagram)) →
-    Lists t u w l ds →
-    IsPermutation l k → (fs : List (Diagram × Diagram)) × IsPermutation ds fs × Lists t u w k fs
-lists-permuted t u w l k ds h p =
-    let r = first-permuted (IsPair t u w) l ds k h.pairs p in
+pub lists_permuted : (t : Table) (u w : ℕ) (l k : List (ℕ × ℕ)) (ds : List (Diagram × Diagram)) →
+    ListsElements t u w l ds →
+    IsPermutation l k → (fs : List (Diagram × Diagram)) × IsPermutation ds fs × ListsElements t u w k fs
+lists_permuted t u w l k ds h p =
+    let r = first_permuted (IsPair t u w) l ds k h.pairs p in
     (r.0, r.1, record { pairs = r.2 })
 
 -- one more element of a list, as it is read
-pub take-next : (l : List (ℕ × ℕ)) (i : ℕ) (x : ℕ × ℕ) → slice_get l i ≡ Some x →
+pub take_next : (l : List (ℕ × ℕ)) (i : ℕ) (x : ℕ × ℕ) → slice_get l i ≡ Some x →
     take (i + 1) l ≡ take i l ++ x ∷ []
-take-next l i x e =
+take_next l i x e =
     let next : i + 1 ≡ suc i = omega arith in
     ap (λ k. take k l) next ∙ take-suc l i (0, 0) (slice_get_within l i x e)
     ∙ ap (λ y. take i l ++ y ∷ []) (get_or_from_slice_get l i x (0, 0) e)
 
 -- vtree nodes of a table that has grown
 
-pub width-on : (old new : Table) → Extends old new → (u : ℕ) → width new.vtree u ≡ width old.vtree u
-width-on old new x u = ap (λ t. width t u) x.vtree
+pub width_on : (old new : Table) → Extends old new → (u : ℕ) → width new.vtree u ≡ width old.vtree u
+width_on old new x u = ap (λ t. width t u) x.vtree
 
-pub there-on : (old new : Table) → Extends old new → (u : ℕ) → IsThere old.vtree u →
+pub there_on : (old new : Table) → Extends old new → (u : ℕ) → IsThere old.vtree u →
     IsThere new.vtree u
-there-on old new x u h = rw x.vtree h
+there_on old new x u h = rw x.vtree h
 
-pub children-on : (old new : Table) → Extends old new → (p u w : ℕ) → HasChildren old.vtree p u w
+pub children_on : (old new : Table) → Extends old new → (p u w : ℕ) → HasChildren old.vtree p u w
     → HasChildren new.vtree p u w
-children-on old new x p u w h = rw x.vtree h
+children_on old new x p u w h = rw x.vtree h
 
 -- an element of a list, whatever would stand for one past its end
 
-same-at : (l : List (ℕ × ℕ)) (i : ℕ) (d e : ℕ × ℕ) → i < length l → get_or l i d ≡ get_or l i e
-same-at [] i d e lt = absurd (omega arith)
-same-at (x ∷ l) zero d e lt = refl
-same-at (x ∷ l) (suc i) d e lt = same-at l i d e (omega arith)
+same_at : (l : List (ℕ × ℕ)) (i : ℕ) (d e : ℕ × ℕ) → i < length l → get_or l i d ≡ get_or l i e
+same_at [] i d e lt = absurd (omega arith)
+same_at (x ∷ l) zero d e lt = refl
+same_at (x ∷ l) (suc i) d e lt = same_at l i d e (omega arith)
 
-pub pair-at : (l : List (ℕ × ℕ)) (i : ℕ) (d e : ℕ × ℕ) → i < length l →
+pub pair_at : (l : List (ℕ × ℕ)) (i : ℕ) (d e : ℕ × ℕ) → i < length l →
     ◌≡◌ {A = ℕ × ℕ} ((get_or l i d).0, (get_or l i e).1) (get_or l i (0, 0))
-pair-at l i d e lt =
-    ap {B = ℕ × ℕ} (λ (x : ℕ × ℕ). (x.0, (get_or l i e).1)) (same-at l i d (0, 0) lt)
-    ∙ ap {B = ℕ × ℕ} (λ (x : ℕ × ℕ). ((get_or l i (0, 0)).0, x.1)) (same-at l i e (0, 0) lt)
+pair_at l i d e lt =
+    ap {B = ℕ × ℕ} (λ (x : ℕ × ℕ). (x.0, (get_or l i e).1)) (same_at l i d (0, 0) lt)
+    ∙ ap {B = ℕ × ℕ} (λ (x : ℕ × ℕ). ((get_or l i (0, 0)).0, x.1)) (same_at l i e (0, 0) lt)

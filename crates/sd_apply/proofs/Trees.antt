@@ -12,34 +12,34 @@ use Rattle.sd_model.specs.Canonical.{IsCanonical, canonical_bottom, canonical_to
 use Rattle.sd_model.specs.Expression.{combine}
 use Rattle.sd_model.proofs.Blend.{IsApart, depends}
 use Rattle.sd_model.proofs.OverVtree.{vtree_apart}
-use Rattle.sd_vtree.specs.Numbered.{Numbered, forget, numbers, subtree, times}
+use Rattle.sd_vtree.specs.Numbered.{Numbered, plain_tree, numbers, subtree, times}
 use Rattle.sd_vtree.specs.Numbered.{IsNumbered}
 use Rattle.sd_vtree.specs.Numbered.{IsUnder as StandsUnder}
 use Rattle.sd_vtree.proofs.Subtrees.{InnerPart, inner_part}
-use Rattle.sd_vtree.proofs.Times.{slice_get-append, slice_get-left, times-same}
+use Rattle.sd_vtree.proofs.Times.{slice_get_append, slice_get_left, times_same}
 use Rattle.sd_laws.specs.Parts.{IsPart, here, in_left, in_right, IsInner}
-use Rattle.sd_laws.proofs.Places.{canonical-lifts, part_trans, narrowed, leaves-positive}
+use Rattle.sd_laws.proofs.Places.{canonical_lifts, part_trans, narrowed, leaves_positive}
 use Rattle.sd_laws.proofs.Places.{part_range}
-use Rattle.sd_laws.proofs.Places.{position-within, position-from}
+use Rattle.sd_laws.proofs.Places.{position_within, position_from}
 use Rattle.sd_laws.specs.Depends.{DependsOn}
-use Rattle.sd_laws.proofs.Numbers.{part-of_subtree, part_within, length-numbers, inner-at}
-use Rattle.sd_laws.proofs.Numbers.{under-canonical}
-use Rattle.sd_apply.specs.Places.{tree_at, plain, width, IsUnder, HasPlace, HasChildren, IsThere}
+use Rattle.sd_laws.proofs.Numbers.{part_of_subtree, part_within, length_numbers, inner_at}
+use Rattle.sd_laws.proofs.Numbers.{under_canonical}
+use Rattle.sd_apply.specs.Places.{tree_at, plain, width, IsCanonicalUnder, HasPlace, HasChildren, IsThere}
 
 -- a node of the vtree with its children and their subtrees
-pub record Fork (t : Numbered) (p u w : ℕ) : Type 0 where
+pub record ChildrenOf (t : Numbered) (p u w : ℕ) : Type 0 where
   pub left : Numbered
   pub right : Numbered
   pub base : ℕ
-  pub inner : IsInner t p (forget left) (forget right) base
-  pub whole : tree_at t p ≡ Node (forget left) (forget right)
+  pub inner : IsInner t p (plain_tree left) (plain_tree right) base
+  pub whole : tree_at t p ≡ Node (plain_tree left) (plain_tree right)
   pub left_is : subtree t u ≡ Some left
   pub right_is : subtree t w ≡ Some right
 
-pub fork : (t : Numbered) → IsNumbered t → (p u w : ℕ) → HasChildren t p u w → Fork t p u w
-fork t v p u w e =
+pub children_of : (t : Numbered) → IsNumbered t → (p u w : ℕ) → HasChildren t p u w → ChildrenOf t p u w
+children_of t v p u w e =
     let i : InnerPart t p u w = inner_part t v p u w e in
-    let h = inner-at t p p i.left i.right i.is refl in
+    let h = inner_at t p p i.left i.right i.is refl in
     record {
       left = i.left;
       right = i.right;
@@ -51,55 +51,55 @@ fork t v p u w e =
     }
 
 -- the left child's tree, and its part of the vtree
-pub left_tree : (t : Numbered) (p u w : ℕ) (f : Fork t p u w) → tree_at t u ≡ forget f.left
+pub left_tree : (t : Numbered) (p u w : ℕ) (f : ChildrenOf t p u w) → tree_at t u ≡ plain_tree f.left
 left_tree t p u w f = ap plain f.left_is
 
-pub right_tree : (t : Numbered) (p u w : ℕ) (f : Fork t p u w) → tree_at t w ≡ forget f.right
+pub right_tree : (t : Numbered) (p u w : ℕ) (f : ChildrenOf t p u w) → tree_at t w ≡ plain_tree f.right
 right_tree t p u w f = ap plain f.right_is
 
-pub left_part : (t : Numbered) (p u w : ℕ) (f : Fork t p u w) → IsPart (forget f.left) f.base
-    (forget t) 0
+pub left_part : (t : Numbered) (p u w : ℕ) (f : ChildrenOf t p u w) → IsPart (plain_tree f.left) f.base
+    (plain_tree t) 0
 left_part t p u w f = part_trans (in_left here) f.inner.part
 
-pub right_part : (t : Numbered) (p u w : ℕ) (f : Fork t p u w) →
-    IsPart (forget f.right) (right_base (forget f.left) f.base) (forget t) 0
+pub right_part : (t : Numbered) (p u w : ℕ) (f : ChildrenOf t p u w) →
+    IsPart (plain_tree f.right) (right_base (plain_tree f.left) f.base) (plain_tree t) 0
 right_part t p u w f = part_trans (in_right here) f.inner.part
 
 -- the vtree's children share no variable
-pub apart : (t : Numbered) → IsNumbered t → IsApart (leaves (forget t)) (forget t)
-apart t v = vtree_apart (forget t) v.vtree
+pub apart : (t : Numbered) → IsNumbered t → IsApart (leaves (plain_tree t)) (plain_tree t)
+apart t v = vtree_apart (plain_tree t) v.vtree
 
 -- a diagram below a part that is the tree of a number is canonical for the part
-pub canonical-below : (t : Numbered) → IsNumbered t → (u : ℕ) (s : Tree) (c : ℕ) (d : Diagram) →
+pub canonical_below : (t : Numbered) → IsNumbered t → (u : ℕ) (s : Tree) (c : ℕ) (d : Diagram) →
     tree_at t u ≡ s →
-    IsPart s c (forget t) 0 → IsUnder t u d → IsCanonical s c d
-canonical-below t v u s c d e part h =
-    narrowed (leaves (forget t)) part (apart t v) h.canonical
+    IsPart s c (plain_tree t) 0 → IsCanonicalUnder t u d → IsCanonical s c d
+canonical_below t v u s c d e part h =
+    narrowed (leaves (plain_tree t)) part (apart t v) h.canonical
     (subst (λ s. DependsOn s (meaning d)) e h.depends)
 
 -- and the other way round
-pub below-canonical : (t : Numbered) (u : ℕ) (s : Tree) (c : ℕ) (d : Diagram) → tree_at t u ≡ s →
-    IsPart s c (forget t) 0 → IsCanonical s c d → IsUnder t u d
-below-canonical t u s c d e part k =
+pub below_canonical : (t : Numbered) (u : ℕ) (s : Tree) (c : ℕ) (d : Diagram) → tree_at t u ≡ s →
+    IsPart s c (plain_tree t) 0 → IsCanonical s c d → IsCanonicalUnder t u d
+below_canonical t u s c d e part k =
     record {
-      canonical = canonical-lifts part d k;
+      canonical = canonical_lifts part d k;
       depends = subst (λ s. DependsOn s (meaning d))
           (sym e) (depends k);
     }
 
 -- constants are below each node
-pub bottom-under : (t : Numbered) (u : ℕ) → IsUnder t u Bottom
-bottom-under t u = record { canonical = canonical_bottom; depends = λ a b h. refl }
+pub bottom_under : (t : Numbered) (u : ℕ) → IsCanonicalUnder t u Bottom
+bottom_under t u = record { canonical = canonical_bottom; depends = λ a b h. refl }
 
-pub top-under : (t : Numbered) (u : ℕ) → IsUnder t u Top
-top-under t u = record { canonical = canonical_top; depends = λ a b h. refl }
+pub top_under : (t : Numbered) (u : ℕ) → IsCanonicalUnder t u Top
+top_under t u = record { canonical = canonical_top; depends = λ a b h. refl }
 
 -- the answer of a connective at diagrams below a node is below it
-pub answer-under : (t : Numbered) (u : ℕ) (o : Operation) (x y z : Diagram) → IsUnder t u x →
-    IsUnder t u y →
-    IsCanonical (forget t) 0 z → ((a : List Bool) → meaning z a ≡ combine o (meaning x a)
-    (meaning y a)) → IsUnder t u z
-answer-under t u o x y z h k c e =
+pub answer_under : (t : Numbered) (u : ℕ) (o : Operation) (x y z : Diagram) → IsCanonicalUnder t u x →
+    IsCanonicalUnder t u y →
+    IsCanonical (plain_tree t) 0 z → ((a : List Bool) → meaning z a ≡ combine o (meaning x a)
+    (meaning y a)) → IsCanonicalUnder t u z
+answer_under t u o x y z h k c e =
     record {
       canonical = c;
       depends = λ a b g. e a ∙ ap (λ v. combine o v (meaning y a)) (h.depends a b g)
@@ -107,10 +107,10 @@ answer-under t u o x y z h k c e =
     }
 
 -- and so is that of negation
-pub not-under : (t : Numbered) (u : ℕ) (x z : Diagram) → IsUnder t u x →
-    IsCanonical (forget t) 0 z →
-    ((a : List Bool) → meaning z a ≡ not (meaning x a)) → IsUnder t u z
-not-under t u x z h c e =
+pub not_under : (t : Numbered) (u : ℕ) (x z : Diagram) → IsCanonicalUnder t u x →
+    IsCanonical (plain_tree t) 0 z →
+    ((a : List Bool) → meaning z a ≡ not (meaning x a)) → IsCanonicalUnder t u z
+not_under t u x z h c e =
     record { canonical = c; depends = λ a b g. e a ∙ ap not (h.depends a b g) ∙ sym (e b) }
 
 -- of two parts of a tree, one whose root stands among the other's positions is a part of the other
@@ -119,72 +119,72 @@ pub nested : {s r t : Tree} {c e b : ℕ} → IsPart s c t b → IsPart r e t b 
 nested p here low high = p
 nested here (in_left {l = l} {r = r} {b = b} q) low high =
     let k = part_range q in
-    absurd (omega (arith, k.1, leaves-positive l))
+    absurd (omega (arith, k.1, leaves_positive l))
 nested (in_left p) (in_left q) low high = nested p q low high
 nested {s} {c = c} (in_right {l = l} p) (in_left q) low high =
     let k = part_range q in
     let j = part_range p in
-    absurd (omega (arith, k.1, j.0, position-from s c))
+    absurd (omega (arith, k.1, j.0, position_from s c))
 nested here (in_right {l = l} {b = b} q) low high =
     let k = part_range q in
-    absurd (omega (arith, k.0, leaves-positive l))
+    absurd (omega (arith, k.0, leaves_positive l))
 nested {s} {c = c} (in_left {l = l} p) (in_right q) low high =
     let k = part_range q in
     let j = part_range p in
-    absurd (omega (arith, k.0, j.1, position-from s c, position-last s))
+    absurd (omega (arith, k.0, j.1, position_from s c, position_last s))
   where
-    position-last : (s : Tree) → position s 0 + 1 < 2 * leaves s + 1
-    position-last (Leaf x) = omega arith
-    position-last (Node l r) = omega (
+    position_last : (s : Tree) → position s 0 + 1 < 2 * leaves s + 1
+    position_last (Leaf x) = omega arith
+    position_last (Node l r) = omega (
       arith,
-      leaves-positive l,
-      leaves-positive r,
+      leaves_positive l,
+      leaves_positive r,
       length-append
           (variables l) (variables r),
     )
 nested (in_right p) (in_right q) low high = nested p q low high
 
 -- a number that stands in a list occurs in it
-pub times-at : (xs : List ℕ) (i n : ℕ) → slice_get xs i ≡ Some n → 1 ≤ times n xs
-times-at [] i n e = absurd (none-some n e)
-times-at (x ∷ xs) zero n e = omega (arith, times-same n x xs (same_Some x n e))
-times-at (x ∷ xs) (suc i) n e = omega (arith, times-at xs i n e)
+pub times_at : (xs : List ℕ) (i n : ℕ) → slice_get xs i ≡ Some n → 1 ≤ times n xs
+times_at [] i n e = absurd (none-some n e)
+times_at (x ∷ xs) zero n e = omega (arith, times_same n x xs (same_Some x n e))
+times_at (x ∷ xs) (suc i) n e = omega (arith, times_at xs i n e)
 
 -- what is below a node stands at a number of its subtree
-pub stands-under : (t : Numbered) → IsNumbered t → (v f : ℕ) (x : Diagram) → IsThere t v →
-    IsUnder t v x →
+pub stands_under : (t : Numbered) → IsNumbered t → (v f : ℕ) (x : Diagram) → IsThere t v →
+    IsCanonicalUnder t v x →
     HasPlace t f x → StandsUnder t f v
-stands-under t n v f x w h k =
-    let p = part-of_subtree t v w.part 0 w.is in
-    let c : IsCanonical (forget w.part) (0 + p.skip) x =
-    canonical-below t n v (forget w.part) (0 + p.skip) x (ap plain w.is) p.part h in
-    let r = position-within c k.stands in
+stands_under t n v f x w h k =
+    let p = part_of_subtree t v w.part 0 w.is in
+    let c : IsCanonical (plain_tree w.part) (0 + p.skip) x =
+    canonical_below t n v (plain_tree w.part) (0 + p.skip) x (ap plain w.is) p.part h in
+    let r = position_within c k.stands in
     let j = k.position - p.skip in
     let same : k.position ≡ length p.front + j = omega (arith, r.0, p.starts) in
-    let small : j < length (numbers w.part) = omega (arith, r.0, r.1, length-numbers w.part) in
+    let small : j < length (numbers w.part) = omega (arith, r.0, r.1, length_numbers w.part) in
     let found : slice_get (numbers w.part) j ≡ Some f =
-    sym (slice_get-left (numbers w.part) p.back j small)
-    ∙ sym (slice_get-append p.front (numbers w.part ++ p.back) j)
+    sym (slice_get_left (numbers w.part) p.back j small)
+    ∙ sym (slice_get_append p.front (numbers w.part ++ p.back) j)
     ∙ sym (ap (λ xs. slice_get xs (length p.front + j)) p.split)
     ∙ sym (ap (slice_get (numbers t)) same) ∙ k.number in
-    record { part = w.part; is = w.is; has = times-at (numbers w.part) j f found }
+    record { part = w.part; is = w.is; has = times_at (numbers w.part) j f found }
 
 -- what stands at a number of a node's subtree is below the node
-pub under-number : (t : Numbered) → IsNumbered t → (v f : ℕ) (x : Diagram) → StandsUnder t f v →
-    IsCanonical (forget t) 0 x → HasPlace t f x → IsUnder t v x
-under-number t n v f x h c k =
-    let p = part-of_subtree t v h.part 0 h.is in
-    below-canonical t v (forget h.part) (0 + p.skip) x (ap plain h.is) p.part
-    (under-canonical t n v f k.position h.part x p h.has k.number k.stands c)
+pub under_number : (t : Numbered) → IsNumbered t → (v f : ℕ) (x : Diagram) → StandsUnder t f v →
+    IsCanonical (plain_tree t) 0 x → HasPlace t f x → IsCanonicalUnder t v x
+under_number t n v f x h c k =
+    let p = part_of_subtree t v h.part 0 h.is in
+    below_canonical t v (plain_tree h.part) (0 + p.skip) x (ap plain h.is) p.part
+    (under_canonical t n v f k.position h.part x p h.has k.number k.stands c)
 
 -- the children of a node that stands under another have together no more variables
-pub fork-width : (t : Numbered) → IsNumbered t → (p u w v : ℕ) → HasChildren t p u w →
+pub children_width : (t : Numbered) → IsNumbered t → (p u w v : ℕ) → HasChildren t p u w →
     StandsUnder t p v →
     width t u + width t w ≤ width t v
-fork-width t n p u w v e h =
-    let f = fork t n p u w e in
-    let q = part-of_subtree t v h.part 0 h.is in
-    let at = part_within t n v p h.part q (position (Node (forget f.left) (forget f.right))
+children_width t n p u w v e h =
+    let f = children_of t n p u w e in
+    let q = part_of_subtree t v h.part 0 h.is in
+    let at = part_within t n v p h.part q (position (Node (plain_tree f.left) (plain_tree f.right))
     f.base) h.has f.inner.number in
     let inside = nested f.inner.part q.part at.0 at.1 in
     let r = part_range inside in
@@ -194,25 +194,25 @@ fork-width t n p u w v e h =
       r.1,
       ap leaves (left_tree t p u w f),
       ap leaves (right_tree t p u w f),
-      ap leaves (let e : tree_at t v ≡ forget h.part = ap plain h.is in e),
-      length-append (variables (forget f.left)) (variables (forget f.right)),
+      ap leaves (let e : tree_at t v ≡ plain_tree h.part = ap plain h.is in e),
+      length-append (variables (plain_tree f.left)) (variables (plain_tree f.right)),
     )
 
 -- each node has a variable
-pub width-positive : (t : Numbered) (u : ℕ) → 1 ≤ width t u
-width-positive t u = leaves-positive (tree_at t u)
+pub width_positive : (t : Numbered) (u : ℕ) → 1 ≤ width t u
+width_positive t u = leaves_positive (tree_at t u)
 
 -- the children of a node are there
-pub left-there : (t : Numbered) → IsNumbered t → (p u w : ℕ) → HasChildren t p u w → IsThere t u
-left-there t v p u w e = let f = fork t v p u w e in record { part = f.left; is = f.left_is }
+pub left_there : (t : Numbered) → IsNumbered t → (p u w : ℕ) → HasChildren t p u w → IsThere t u
+left_there t v p u w e = let f = children_of t v p u w e in record { part = f.left; is = f.left_is }
 
-pub right-there : (t : Numbered) → IsNumbered t → (p u w : ℕ) → HasChildren t p u w → IsThere t w
-right-there t v p u w e = let f = fork t v p u w e in record { part = f.right; is = f.right_is }
+pub right_there : (t : Numbered) → IsNumbered t → (p u w : ℕ) → HasChildren t p u w → IsThere t w
+right_there t v p u w e = let f = children_of t v p u w e in record { part = f.right; is = f.right_is }
 
 -- of two positions with different numbers one is before the other
-pub place-before : (t : Numbered) (pp po p own : ℕ) → slice_get (numbers t) pp ≡ Some p →
+pub place_before : (t : Numbered) (pp po p own : ℕ) → slice_get (numbers t) pp ≡ Some p →
     slice_get (numbers t) po ≡ Some own → po ≤ pp → (own ≡ p → ⊥) → po < pp
-place-before t pp po p own np ao le differ = elim (cases_lt po pp) [
+place_before t pp po p own np ao le differ = elim (cases_lt po pp) [
   | inl lt ↦ lt
   | inr ge ↦
       let same : po ≡ pp = omega (arith, le, ge) in

@@ -6,7 +6,7 @@ use Rattle.sd_model.specs.Tree.{Leaf, Node}
 use Rattle.sd_model.specs.Diagram.{Diagram, Literal}
 use Rattle.sd_model.specs.Canonical.{canonical_literal}
 use Rattle.sd_vtree.specs.Numbered.{Numbered, NumberedLeaf, NumberedNode, number_of, numbers}
-use Rattle.sd_vtree.specs.Numbered.{forget}
+use Rattle.sd_vtree.specs.Numbered.{plain_tree}
 use Rattle.sd_laws.specs.Parts.{IsPart, here, leaf_position, IsInner}
 use Rattle.sd_cache.specs.Entries.{Entries}
 use Rattle.sd_manager.specs.Table.{Table}
@@ -15,8 +15,8 @@ use Rattle.sd_manager.specs.OverTwo.{IsOverTwo}
 use Rattle.sd_apply.specs.Serving.{Serves}
 
 -- a new cache serves each manager
-pub empty-serves : (c : Entries) (t : Table) → c ≡ [] → Serves c t
-empty-serves c t e =
+pub empty_serves : (c : Entries) (t : Table) → c ≡ [] → Serves c t
+empty_serves c t e =
     subst (λ es. Serves es t) (sym e)
     (record {
       early = λ x m. absurd (omega (arith, m.1));
@@ -24,14 +24,14 @@ empty-serves c t e =
     })
 
 -- the root is the inner node over both leaves
-root_inner : (v : Numbered) (root : ℕ) → forget v ≡ Node (Leaf 1) (Leaf 2) → root ≡ number_of v →
+root_inner : (v : Numbered) (root : ℕ) → plain_tree v ≡ Node (Leaf 1) (Leaf 2) → root ≡ number_of v →
     IsInner v root (Leaf 1) (Leaf 2) 0
 root_inner v root tree is = record {
   part = subst (λ t. IsPart (Node (Leaf 1) (Leaf 2)) 0 t 0) (sym tree) here;
   number = second v tree ∙ ap Some (sym is);
 }
   where
-    second : (v : Numbered) → forget v ≡ Node (Leaf 1) (Leaf 2) →
+    second : (v : Numbered) → plain_tree v ≡ Node (Leaf 1) (Leaf 2) →
         slice_get (numbers v) 1 ≡ Some (number_of v)
     second (NumberedLeaf n x) e = cc
     second (NumberedNode n (NumberedLeaf a x) r) e = refl
@@ -56,7 +56,7 @@ twice_partition t root h =
       base = 0;
       inner = root_inner t.vtree root h.vtree h.root_is;
       shown = (((refl, one), (refl, two)), (((refl, one), (refl, two)), tt));
-      split = record {
+      partition = record {
         elements = record {
           primes = (canonical_literal false, (canonical_literal true, tt));
           subs = (canonical_literal true, (canonical_literal true, tt));

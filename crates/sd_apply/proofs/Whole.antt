@@ -9,48 +9,48 @@ use Rattle.sd_model.specs.Tree.{Tree, Node, leaves, variables, position}
 use Rattle.sd_model.specs.Diagram.{Diagram, Bottom, meaning}
 use Rattle.sd_model.specs.Expression.{combine}
 use Rattle.sd_model.proofs.Blend.{AgreeOn, agree_left, agree_right}
-use Rattle.sd_vtree.specs.Numbered.{Numbered, NumberedLeaf, number_of, forget, numbers, subtree}
+use Rattle.sd_vtree.specs.Numbered.{Numbered, NumberedLeaf, number_of, plain_tree, numbers, subtree}
 use Rattle.sd_vtree.specs.Numbered.{children_at, IsNumbered}
 use Rattle.sd_vtree.proofs.Subtrees.{subtree_root, subtree_some, once_numbered}
 use Rattle.sd_vtree.proofs.Times.{one_place}
 use Rattle.sd_laws.specs.Pairs.{answers, join}
 use Rattle.sd_laws.specs.Parts.{IsPart, here, in_left, in_right, IsInner}
 use Rattle.sd_laws.specs.Depends.{DependsOn}
-use Rattle.sd_laws.proofs.Joining.{join-value}
-use Rattle.sd_laws.proofs.Numbers.{part-of_subtree, part_number}
-use Rattle.sd_laws.proofs.Places.{narrowed, narrowed-by, part_trans, part_range}
-use Rattle.sd_laws.proofs.Places.{leaves-positive}
+use Rattle.sd_laws.proofs.Joining.{join_value}
+use Rattle.sd_laws.proofs.Numbers.{part_of_subtree, part_number}
+use Rattle.sd_laws.proofs.Places.{narrowed, narrowed_by, part_trans, part_range}
+use Rattle.sd_laws.proofs.Places.{leaves_positive}
 use Rattle.sd_manager.specs.Table.{Table}
-use Rattle.sd_manager.specs.Shown.{IsShown, IsKnown, IsPartitionAt}
+use Rattle.sd_manager.specs.Shown.{ShowsCanonical, IsNodeOf, IsPartitionAt}
 use Rattle.sd_manager.specs.Making.{Extends}
 use Rattle.sd_manager.specs.Valid.{IsTable}
 use Rattle.sd_apply.specs.Answers.{Combines, Negates, Compresses}
 use Rattle.sd_apply.specs.Places.{plain, tree_at, IsNodeUnder, IsBelow, IsThere}
 use Rattle.sd_apply.specs.Places.{HasChildren}
-use Rattle.sd_apply.specs.Elements.{IsPair, IsSplit}
-use Rattle.sd_apply.specs.Calls.{Applies, Complements, Joins}
-use Rattle.sd_apply.proofs.Trees.{Fork, fork, apart, nested, below-canonical, left_tree}
-use Rattle.sd_apply.proofs.Trees.{right_tree, times-at}
-use Rattle.sd_apply.proofs.Standing.{leaf-of_none, shown-there}
+use Rattle.sd_apply.specs.Elements.{IsPair, IsPartitionUnder}
+use Rattle.sd_apply.specs.Calls.{Applies, NegatesAt, Joins}
+use Rattle.sd_apply.proofs.Trees.{ChildrenOf, children_of, apart, nested, below_canonical, left_tree}
+use Rattle.sd_apply.proofs.Trees.{right_tree, times_at}
+use Rattle.sd_apply.proofs.Standing.{leaf_of_none, shown_there}
 use Rattle.sd_apply.proofs.Expanding.{listed}
 
 -- the root is there, and all canonical diagrams are below it
-pub root-there : (t : Numbered) (u : ℕ) → u ≡ number_of t → IsThere t u
-root-there t u e = record { part = t; is = ap (subtree t) e ∙ subtree_root t }
+pub root_there : (t : Numbered) (u : ℕ) → u ≡ number_of t → IsThere t u
+root_there t u e = record { part = t; is = ap (subtree t) e ∙ subtree_root t }
 
-pub root-under : (t : Table) (u c : ℕ) (d : Diagram) → u ≡ number_of t.vtree → IsShown t c d →
+pub root_under : (t : Table) (u c : ℕ) (d : Diagram) → u ≡ number_of t.vtree → ShowsCanonical t c d →
     IsNodeUnder t u c d
-unfolding root-there
-root-under t u c d e h =
-    let w = root-there t.vtree u e in
+unfolding root_there
+root_under t u c d e h =
+    let w = root_there t.vtree u e in
     record {
       shows = h.shows;
-      under = below-canonical t.vtree u (forget t.vtree) 0 d
+      under = below_canonical t.vtree u (plain_tree t.vtree) 0 d
           (ap plain w.is) here h.canonical;
     }
 
-pub root-below : (t : Table) (u c : ℕ) → u ≡ number_of t.vtree → IsKnown t c → IsBelow t u c
-root-below t u c e h = record { diagram = h.diagram; is = root-under t u c h.diagram e h.is }
+pub root_below : (t : Table) (u c : ℕ) → u ≡ number_of t.vtree → IsNodeOf t c → IsBelow t u c
+root_below t u c e h = record { diagram = h.diagram; is = root_under t u c h.diagram e h.is }
 
 -- what a connective answers at the root
 pub combines : (old new : Table) → IsTable new → (o : Operation) (u a b c : ℕ) →
@@ -58,13 +58,13 @@ pub combines : (old new : Table) → IsTable new → (o : Operation) (u a b c : 
     Applies old new o u a b c → Combines old new o a b c
 combines old new i o u a b c e h = record {
   each = λ x y p q.
-      let z = h.each x y (root-under old u a x e p) (root-under old u b y e q) in
+      let z = h.each x y (root_under old u a x e p) (root_under old u b y e q) in
       record {
         diagram = z.diagram;
         is = z.is;
         value = z.value;
         below = λ s base part k j.
-            narrowed-by (leaves (forget new.vtree)) z.diagram x y (combine o) part
+            narrowed_by (leaves (plain_tree new.vtree)) z.diagram x y (combine o) part
             (apart new.vtree i.numbered)
             z.is.canonical k j z.value;
       };
@@ -72,40 +72,40 @@ combines old new i o u a b c e h = record {
 
 -- and negation
 pub negates : (old new : Table) → IsTable new → (u a c : ℕ) → u ≡ number_of old.vtree →
-    Complements old new u a c →
+    NegatesAt old new u a c →
     Negates old new a c
 negates old new i u a c e h = record {
   each = λ x p.
-      let z = h.each x (root-under old u a x e p) in
+      let z = h.each x (root_under old u a x e p) in
       record {
         diagram = z.diagram;
         is = z.is;
         value = z.value;
         below = λ s base part k.
-            narrowed-by (leaves (forget new.vtree)) z.diagram x x (λ v w. not v) part
+            narrowed_by (leaves (plain_tree new.vtree)) z.diagram x x (λ v w. not v) part
             (apart new.vtree i.numbered)
             z.is.canonical k k z.value;
       };
 }
 
 -- a part with as many leaves is the whole
-part-whole : {s t : Tree} {c b : ℕ} → IsPart s c t b → leaves t ≤ leaves s → s ≡ t
-part-whole here h = refl
-part-whole (in_left {l = l} {r = r} p) h =
+part_whole : {s t : Tree} {c b : ℕ} → IsPart s c t b → leaves t ≤ leaves s → s ≡ t
+part_whole here h = refl
+part_whole (in_left {l = l} {r = r} p) h =
     absurd (omega (
       arith,
       part_range p,
       h,
-      leaves-positive r,
+      leaves_positive r,
       length-append (variables l)
           (variables r),
     ))
-part-whole (in_right {l = l} {r = r} p) h =
+part_whole (in_right {l = l} {r = r} p) h =
     absurd (omega (
       arith,
       part_range p,
       h,
-      leaves-positive l,
+      leaves_positive l,
       length-append (variables l)
           (variables r),
     ))
@@ -114,62 +114,62 @@ part-whole (in_right {l = l} {r = r} p) h =
 around : (l r : Tree) (b : ℕ) → (b ≤ position (Node l r) b) × (position (Node l r) b + 1 < b + 2 *
     leaves (Node l r))
 around l r b = (
-  omega (arith, leaves-positive l),
+  omega (arith, leaves_positive l),
   omega (
     arith,
-    leaves-positive l,
-    leaves-positive r,
+    leaves_positive l,
+    leaves_positive r,
     length-append (variables l) (variables r),
   ),
 )
 
 -- the children's trees of a node are determined by its number
-same-node : (t : Numbered) → IsNumbered t → (p u w : ℕ) (f : Fork t p u w) (left right : Tree)
+same_node : (t : Numbered) → IsNumbered t → (p u w : ℕ) (f : ChildrenOf t p u w) (left right : Tree)
     (base : ℕ) →
-    IsInner t p left right base → Node left right ≡ Node (forget f.left) (forget f.right)
-same-node t v p u w f left right base h =
+    IsInner t p left right base → Node left right ≡ Node (plain_tree f.left) (plain_tree f.right)
+same_node t v p u w f left right base h =
     let one = position (Node left right) base in
-    let two = position (Node (forget f.left) (forget f.right)) f.base in
+    let two = position (Node (plain_tree f.left) (plain_tree f.right)) f.base in
     let same : one ≡ two = one_place (numbers t) p one two (once_numbered t v p) h.number
     f.inner.number in
     let a = around left right base in
-    let b = around (forget f.left) (forget f.right) f.base in
+    let b = around (plain_tree f.left) (plain_tree f.right) f.base in
     let there = nested h.part f.inner.part (omega (arith, b.0, same)) (omega (arith, b.1, same)) in
     let back = nested f.inner.part h.part (omega (arith, a.0, same)) (omega (arith, a.1, same)) in
-    part-whole there (omega (arith, part_range there, part_range back))
+    part_whole there (omega (arith, part_range there, part_range back))
 
 -- a partition that a caller hands in
-pub split-from : (t : Table) → IsTable t → (p u w : ℕ) → HasChildren t.vtree p u w →
+pub partition_from : (t : Table) → IsTable t → (p u w : ℕ) → HasChildren t.vtree p u w →
     (l : List (ℕ × ℕ))
-    (ds : List (Diagram × Diagram)) → IsPartitionAt t p l ds → IsSplit t u w l ds
-split-from t i p u w e l ds h =
-    let f = fork t.vtree i.numbered p u w e in
-    let same = same-node t.vtree i.numbered p u w f h.left h.right h.base h.inner in
+    (ds : List (Diagram × Diagram)) → IsPartitionAt t p l ds → IsPartitionUnder t u w l ds
+partition_from t i p u w e l ds h =
+    let f = children_of t.vtree i.numbered p u w e in
+    let same = same_node t.vtree i.numbered p u w f h.left h.right h.base h.inner in
     let left : tree_at t.vtree u ≡ h.left = left_tree t.vtree p u w f ∙ cc in
     let right : tree_at t.vtree w ≡ h.right = right_tree t.vtree p u w f ∙ cc in
     record {
       lists = record {
         pairs = listed t u w _ _ _
-            (λ d a. below-canonical t.vtree u h.left h.base d.0 left (part_trans (in_left here)
+            (λ d a. below_canonical t.vtree u h.left h.base d.0 left (part_trans (in_left here)
             h.inner.part) a)
-            (λ d a. below-canonical t.vtree w h.right _ d.1 right (part_trans (in_right here)
+            (λ d a. below_canonical t.vtree w h.right _ d.1 right (part_trans (in_right here)
             h.inner.part) a)
-            (λ d a. a) l ds h.shown h.split.elements.primes h.split.elements.subs
-            h.split.elements.possible;
+            (λ d a. a) l ds h.shown h.partition.elements.primes h.partition.elements.subs
+            h.partition.elements.possible;
       };
-      one_true = h.split.one_true;
+      one_true = h.partition.one_true;
     }
 
 -- the vtree node of a partition has children
-pub inner-children : (t : Table) → IsTable t → (p : ℕ) (l : List (ℕ × ℕ))
+pub inner_children : (t : Table) → IsTable t → (p : ℕ) (l : List (ℕ × ℕ))
     (ds : List (Diagram × Diagram)) →
     IsPartitionAt t p l ds → children_at t.vtree p ≡ None → ⊥
-inner-children t i p l ds h none =
+inner_children t i p l ds h none =
     let v = i.numbered in
     let at = position (Node h.left h.right) h.base in
-    let s = subtree_some t.vtree p (times-at (numbers t.vtree) at p h.inner.number) in
-    let k = leaf-of_none t.vtree p s.0 s.1 none in
-    let q = part-of_subtree t.vtree p (NumberedLeaf k.0 k.1) 0 k.2 in
+    let s = subtree_some t.vtree p (times_at (numbers t.vtree) at p h.inner.number) in
+    let k = leaf_of_none t.vtree p s.0 s.1 none in
+    let q = part_of_subtree t.vtree p (NumberedLeaf k.0 k.1) 0 k.2 in
     let number = part_number t.vtree p (NumberedLeaf k.0 k.1) q in
     let root : k.0 ≡ p = Rattle.sd_vtree.proofs.Subtrees.subtree_number t.vtree p
     (NumberedLeaf k.0 k.1) k.2 in
@@ -179,15 +179,15 @@ inner-children t i p l ds h none =
     omega (
       arith,
       part_range inside,
-      leaves-positive h.left,
-      leaves-positive h.right,
+      leaves_positive h.left,
+      leaves_positive h.right,
       length-append (variables h.left) (variables h.right),
     )
 
-pub inner-there : (t : Table) → IsTable t → (p : ℕ) (l : List (ℕ × ℕ))
+pub inner_there : (t : Table) → IsTable t → (p : ℕ) (l : List (ℕ × ℕ))
     (ds : List (Diagram × Diagram)) →
     IsPartitionAt t p l ds → p < length (numbers t.vtree)
-inner-there t i p l ds h = shown-there t i p (position (Node h.left h.right) h.base) Bottom
+inner_there t i p l ds h = shown_there t i p (position (Node h.left h.right) h.base) Bottom
     h.inner.number
 
 -- answers look at the variables below the node alone
@@ -213,22 +213,22 @@ pub compresses : (old new : Table) → IsTable old → IsTable new → Extends o
     Compresses old new p l c
 compresses old new i j x p u w e l c h = record {
   each = λ ds part.
-      let s = split-from old i p u w e l ds part in
-      let z = h.each ds s (meaning (join p ds)) (join-value p ds part.split.one_true) in
+      let s = partition_from old i p u w e l ds part in
+      let z = h.each ds s (meaning (join p ds)) (join_value p ds part.partition.one_true) in
       let value : (a : List Bool) → answers a ds ≡ meaning z.diagram a ∷ [] = λ a.
-      join-value p ds part.split.one_true a ∙ ap (λ v. v ∷ []) (sym (z.value a)) in
+      join_value p ds part.partition.one_true a ∙ ap (λ v. v ∷ []) (sym (z.value a)) in
       record {
         diagram = z.diagram;
         is = z.is;
         value = value;
         below = λ left right base inner.
-            let f = fork old.vtree i.numbered p u w e in
+            let f = children_of old.vtree i.numbered p u w e in
             let at : IsInner old.vtree p left right base = subst (λ t. IsInner t p left right
             base) x.vtree inner in
-            let same = same-node old.vtree i.numbered p u w f left right base at in
-            let lt : left ≡ tree_at old.vtree u = (let q : left ≡ forget f.left = cc in q)
+            let same = same_node old.vtree i.numbered p u w f left right base at in
+            let lt : left ≡ tree_at old.vtree u = (let q : left ≡ plain_tree f.left = cc in q)
             ∙ sym (left_tree old.vtree p u w f) in
-            let rt : right ≡ tree_at old.vtree w = (let q : right ≡ forget f.right = cc in q)
+            let rt : right ≡ tree_at old.vtree w = (let q : right ≡ plain_tree f.right = cc in q)
             ∙ sym (right_tree old.vtree p u w f) in
             let look : DependsOn (Node left right) (meaning z.diagram) = λ a b g.
             head_same (meaning z.diagram a) (meaning z.diagram b)
@@ -237,7 +237,7 @@ compresses old new i j x p u w e l c h = record {
             g))
             (subst (λ t. AgreeOn t a b) rt (agree_right left right a b g)) l ds s.lists.pairs
             ∙ value b) in
-            narrowed (leaves (forget new.vtree)) inner.part (apart new.vtree j.numbered)
+            narrowed (leaves (plain_tree new.vtree)) inner.part (apart new.vtree j.numbered)
             z.is.canonical look;
       };
 }

@@ -8,10 +8,10 @@ use Rattle.sd_model.specs.Diagram.{Diagram, Literal, meaning}
 use Rattle.sd_model.specs.Expression.{combine}
 
 -- the number of a connective
-abbrev pub number_of : Operation → ℕ
-number_of And = 0
-number_of Or = 1
-number_of Xor = 2
+abbrev pub operation_number : Operation → ℕ
+operation_number And = 0
+operation_number Or = 1
+operation_number Xor = 2
 
 -- the value of x where the literal y holds
 abbrev pub given_value : Diagram → Diagram → List Bool → Bool

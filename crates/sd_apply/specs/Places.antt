@@ -3,7 +3,7 @@ use Rattle.std.specs.Prelude.{◌≡◌, ℕ, Option, Some, None, slice_get}
 use Rattle.sd_model.specs.Tree.{Tree, Leaf, leaves}
 use Rattle.sd_model.specs.Diagram.{Diagram, meaning}
 use Rattle.sd_model.specs.Canonical.{IsCanonical}
-use Rattle.sd_vtree.specs.Numbered.{Numbered, forget, numbers, subtree, children_at}
+use Rattle.sd_vtree.specs.Numbered.{Numbered, plain_tree, numbers, subtree, children_at}
 use Rattle.sd_laws.specs.Parts.{HasPosition}
 use Rattle.sd_laws.specs.Depends.{DependsOn}
 use Rattle.sd_manager.specs.Table.{Table}
@@ -11,7 +11,7 @@ use Rattle.sd_manager.specs.Shown.{Shows}
 
 -- the plain tree of a subtree that is there
 abbrev pub plain : Option Numbered → Tree
-plain (Some s) = forget s
+plain (Some s) = plain_tree s
 plain None = Leaf 0
 
 -- the subtree at the vtree node with this number
@@ -23,14 +23,14 @@ abbrev pub width : Numbered → ℕ → ℕ
 width t u = leaves (tree_at t u)
 
 -- the diagram is canonical for the vtree, and looks at the variables below the vtree node alone
-pub record IsUnder (t : Numbered) (u : ℕ) (d : Diagram) : Type 0 where
-  pub canonical : IsCanonical (forget t) 0 d
+pub record IsCanonicalUnder (t : Numbered) (u : ℕ) (d : Diagram) : Type 0 where
+  pub canonical : IsCanonical (plain_tree t) 0 d
   pub depends : DependsOn (tree_at t u) (meaning d)
 
 -- the code shows such a diagram
 pub record IsNodeUnder (t : Table) (u c : ℕ) (d : Diagram) : Type 0 where
   pub shows : Shows t c d
-  pub under : IsUnder t.vtree u d
+  pub under : IsCanonicalUnder t.vtree u d
 
 -- the code shows a canonical diagram below the vtree node
 pub record IsBelow (t : Table) (u c : ℕ) : Type 0 where

@@ -3,14 +3,14 @@ use Rattle.std.specs.Prelude.{◌≡◌, ℕ, ◌≤◌, true, Contains}
 use Rattle.sd_model.specs.Diagram.{Diagram, Literal}
 use Rattle.sd_cache.specs.Entries.{Call, Entries}
 use Rattle.sd_manager.specs.Table.{Table}
-use Rattle.sd_manager.specs.Shown.{IsShown}
+use Rattle.sd_manager.specs.Shown.{ShowsCanonical}
 use Rattle.sd_apply.specs.Operations.{operation_value}
 use Rattle.sd_apply.specs.Answers.{HasAnswer}
 
 -- the diagram is a literal
-abbrev pub IsLiteral : Diagram → Type 0
-IsLiteral (Literal p v positive) = Unit {0}
-IsLiteral d = ⊥
+abbrev pub IsLiteralDiagram : Diagram → Type 0
+IsLiteralDiagram (Literal p v positive) = Unit {0}
+IsLiteralDiagram d = ⊥
 
 -- the diagram is a variable
 abbrev pub IsVariable : Diagram → Type 0
@@ -21,17 +21,17 @@ IsVariable d = ⊥
 -- forget
 pub record IsArgument (operation b : ℕ) (second : Diagram) : Type 0 where
   pub negation : operation ≡ 3 → b ≡ 0
-  pub given : operation ≡ 4 → IsLiteral second
+  pub given : operation ≡ 4 → IsLiteralDiagram second
   pub forget : operation ≡ 5 → IsVariable second
 
 -- an entry is of one of the six operations, and names nodes that show canonical diagrams, and an
 -- answer with the value of the operation at them
 pub record IsRight (t : Table) (e : Call × ℕ) : Type 0 where
-  pub known : e.0.operation ≤ 5
+  pub served : e.0.operation ≤ 5
   pub first : Diagram
   pub second : Diagram
-  pub first_is : IsShown t e.0.a first
-  pub second_is : IsShown t e.0.b second
+  pub first_is : ShowsCanonical t e.0.a first
+  pub second_is : ShowsCanonical t e.0.b second
   pub argument : IsArgument e.0.operation e.0.b second
   pub answer : HasAnswer t (operation_value e.0.operation first second) e.1
 

@@ -1,9 +1,9 @@
 ghost use Rattle.std.specs.Prelude.{◌≡◌, ◌^◌, ◌<◌, ◌≤◌, IfOk};
 ghost use Rattle.sd_model.specs.Tree.{leaves};
-ghost use Rattle.sd_vtree.specs.Numbered.{forget};
+ghost use Rattle.sd_vtree.specs.Numbered.{plain_tree};
 ghost use Rattle.sd_manager.specs.Literals.{IsLiteralTo};
 ghost use Rattle.sd_manager.specs.OverTwo.{IsOverTwo};
-ghost use Rattle.sd_manager.specs.Shown.{IsKnown};
+ghost use Rattle.sd_manager.specs.Shown.{IsNodeOf};
 ghost use Rattle.sd_manager.specs.Valid.{IsTable};
 ghost use Rattle.sd_manager.specs.Making.{Extends};
 ghost use Rattle.sd_apply.specs.Serving.{Serves};
@@ -104,11 +104,11 @@ fn with_all(
     down: bool,
     start: NodeId,
 ) -> Result<NodeId, TakeError>
-    requires variables { leaves (forget m.old.vtree) ≡ 1024 }
-    requires start { IsKnown m.old start }
+    requires variables { leaves (plain_tree m.old.vtree) ≡ 1024 }
+    requires start { IsNodeOf m.old start }
     requires serves { Serves c.old m.old }
     requires table { IsTable m.old }
-    ensures ok { IfOk result (λ node. IsKnown m.new node) }
+    ensures ok { IfOk result (λ node. IsNodeOf m.new node) }
     ensures kept { Extends m.old m.new }
     ensures serves { Serves c.new m.new }
     ensures table { IsTable m.new }

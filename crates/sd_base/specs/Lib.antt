@@ -4,7 +4,7 @@ pub mod Lines
 pub mod Memory
 pub mod MemoryShown
 pub mod Numbers
-pub mod Plan
+pub mod FaultPlan
 pub mod Reading
 pub mod Shelf
 pub mod Sink

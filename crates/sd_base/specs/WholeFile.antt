@@ -5,7 +5,7 @@ use Rattle.sd_base.specs.Shelf.{Hand, NoFile, Reading, IsReading}
 use Rattle.sd_base.specs.declared.read_whole.ReadError.{ReadError}
 use Rattle.sd_base.specs.declared.read_whole.ReadError.TheVariants.{ReadFault, TooLong, OutOfMemory}
 
--- All bytes of a file, or that they are more than so many; want of memory may come instead.
+-- All bytes of a file, or that they are more than so many; memory may run out instead.
 abbrev pub IsReadingOf : List ℕ → ℕ → Result (List ℕ) ReadError → Type 0
 IsReadingOf bytes most (Ok read) = (read ≡ bytes) × (length bytes ≤ most)
 IsReadingOf bytes most (Err ReadFault) = ⊥

@@ -27,7 +27,7 @@ pub enum ReadError {
 }
 
 /// Reads the whole file of this name, and leaves no file in hand.
-/// A byte past the limit makes it too long: no more is read then. There, and after want of memory,
+/// A byte past the limit makes it too long: no more is read then. There, and after running out of memory,
 /// a fault of `finish` changes nothing.
 pub fn read_all<F: Shelf>(alloc: Global, shelf: &mut F, name: &str) -> Result<Bytes, ReadError>
     requires { F.hand shelf.old ≡ NoFile }
@@ -74,7 +74,8 @@ fn take_in<F: Shelf>(shelf: &mut F, name: &str, bytes: &mut Vec<u8>) -> Result<(
     requires free { F.hand shelf.old ≡ NoFile }
     requires empty { bytes.old.items ≡ [] }
     ensures hand { IsHeldAfter result (F.hand shelf.new) }
-    ensures place { IsPlacedAfter name.now LONGEST_FILE bytes.new.items result (F.hand shelf.new) }
+    ensures position { IsPlacedAfter name.now LONGEST_FILE bytes.new.items result
+        (F.hand shelf.new) }
     ensures unfinished { F.unfinished shelf.new ≡ F.unfinished shelf.old }
     ensures files { F.files shelf.new ≡ F.files shelf.old }
     ensures ok { OnOk result (HasBytes (F.files shelf.old) name.now bytes.new.items) }

@@ -215,8 +215,8 @@ fn places_of_lines_and_words(rt: HostRuntime) {
 fn lines_that_count_keep_their_numbers(rt: HostRuntime) {
     let text = b"c first\n\n \tp cnf 1\r\n\tc \xff\n1 -1 0";
     let mut seen = [(0, 0); 3];
-    for (place, line) in seen.iter_mut().zip(ContentLines::new(text, b'c')) {
-        *place = (line.number, line.words().count());
+    for (slot, line) in seen.iter_mut().zip(ContentLines::new(text, b'c')) {
+        *slot = (line.number, line.words().count());
     }
     assert_eq!(rt; seen, [(3, 3), (5, 3), (0, 0)]);
     assert_eq!(rt; Lines::new(text).count(), 5);

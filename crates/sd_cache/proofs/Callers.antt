@@ -32,18 +32,18 @@ same_call c d e =
     }
 
 -- an answer that is found is one of an entry
-pub found-entry : (es : Entries) (c : Call) (r : ℕ) → lookup (is_call c) es ≡ Some r →
+pub found_entry : (es : Entries) (c : Call) (r : ℕ) → lookup (is_call c) es ≡ Some r →
     (d : Call) × Contains es (d, r) × AreOne c d
-found-entry es c r e = let m = Contains-lookup (is_call c) es r e in (m.0, m.1, one_call c m.0 m.2)
+found_entry es c r e = let m = Contains-lookup (is_call c) es r e in (m.0, m.1, one_call c m.0 m.2)
 
 -- a look-up adds no entry
-pub looked-entry : (es : Entries) (c : Call) (e : Call × ℕ) → Contains (looked es c) e → Contains es e
-looked-entry es c e m = Contains-promoted (is_call c) es e m
+pub looked_entry : (es : Entries) (c : Call) (e : Call × ℕ) → Contains (looked es c) e → Contains es e
+looked_entry es c e m = Contains-promoted (is_call c) es e m
 
 -- keeping an answer adds the entry of the call alone
-pub kept-entry : (es : Entries) (c : Call) (r : ℕ) (e : Call × ℕ) → Contains (kept es c r) e →
+pub kept_entry : (es : Entries) (c : Call) (r : ℕ) (e : Call × ℕ) → Contains (kept es c r) e →
     Contains es e ⊎ ((e.1 ≡ r) × AreOne c e.0)
-kept-entry es c r e m = elim (Contains-put_entries is_call (lru_cache es 65536) c r e m) [
+kept_entry es c r e m = elim (Contains-put_entries is_call (lru_cache es 65536) c r e m) [
   | inl old ↦ inl old
   | inr put ↦ elim put.1 [
     | inl same ↦ inr (put.0, same_call c e.0 same)

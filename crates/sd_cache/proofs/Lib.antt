@@ -1,3 +1,3 @@
 pub mod Callers
 pub mod Early
-pub mod Kept
+pub mod Keeping

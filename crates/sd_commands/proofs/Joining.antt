@@ -14,9 +14,9 @@ use Rattle.sd_formula.specs.declared.formula.Kind.TheVariants.{Cnf, Dnf}
 use Rattle.sd_formula.specs.Dimacs.{Groups}
 use Rattle.sd_formula.specs.Formulas.{IsLiteral, expression_of}
 use Rattle.sd_formula.proofs.GroupLaws.{drop_at}
-use Rattle.sd_laws.proofs.Codes.{shows-kept}
+use Rattle.sd_laws.proofs.Codes.{shows_kept}
 use Rattle.sd_manager.specs.Table.{Table}
-use Rattle.sd_manager.specs.Shown.{IsShown, IsKnown, constant_diagram}
+use Rattle.sd_manager.specs.Shown.{ShowsCanonical, IsNodeOf, constant_diagram}
 use Rattle.sd_manager.specs.Literals.{IsLiteralTo}
 use Rattle.sd_manager.specs.Making.{Extends}
 use Rattle.sd_vtree.specs.Numbered.{Numbered}
@@ -40,20 +40,20 @@ joined_same o p q (x ∷ xs) same =
     ap (λ b. combine o b (joined o p xs)) (same x) ∙ ap (combine o (q x)) (joined_same o p q xs same)
 
 -- the value of a formula, by its connectives
-pub formula_joined : (f : Groups) (given : List Bool)
-    → joined (outer f.kind) (λ g. joined (inner f.kind) (literal_holds given) g) f.groups
-    ≡ expression_value (expression_of f) given
-formula_joined f given = go f.kind f.groups
+pub formula_joined : (f : Groups) (assignment : List Bool)
+    → joined (outer f.kind) (λ g. joined (inner f.kind) (literal_holds assignment) g) f.groups
+    ≡ expression_value (expression_of f) assignment
+formula_joined f assignment = go f.kind f.groups
   where
     go : (kind : Kind) (groups : List (List ℤ))
-        → joined (outer kind) (λ g. joined (inner kind) (literal_holds given) g) groups
-        ≡ expression_value (expression_of (record { kind = kind; variables = f.variables; groups = groups })) given
+        → joined (outer kind) (λ g. joined (inner kind) (literal_holds assignment) g) groups
+        ≡ expression_value (expression_of (record { kind = kind; variables = f.variables; groups = groups })) assignment
     go Cnf groups =
-        joined_same And _ _ groups (λ g. sym (any_joined (literal_holds given) g))
-        ∙ sym (all_joined (λ g. list_any (literal_holds given) g) groups)
+        joined_same And _ _ groups (λ g. sym (any_joined (literal_holds assignment) g))
+        ∙ sym (all_joined (λ g. list_any (literal_holds assignment) g) groups)
     go Dnf groups =
-        joined_same Or _ _ groups (λ g. sym (all_joined (literal_holds given) g))
-        ∙ sym (any_joined (λ g. list_all (literal_holds given) g) groups)
+        joined_same Or _ _ groups (λ g. sym (all_joined (literal_holds assignment) g))
+        ∙ sym (any_joined (λ g. list_all (literal_holds assignment) g) groups)
 
 -- connectives are associative, and have a neutral value
 grouped : (o : Operation) (a b c : Bool) → combine o a (combine o b c) ≡ combine o (combine o a b) c
@@ -81,18 +81,19 @@ joined_push o p [] x = alone o (p x)
 joined_push o p (y ∷ xs) x = ap (combine o (p y)) (joined_push o p xs x) ∙ grouped o (p y) (joined o p xs) (p x)
 
 -- a node that shows a value is known
-pub known : (t : Table) (f : List Bool → Bool) (c : ℕ) → HasAnswer t f c → IsKnown t c
+pub known : (t : Table) (f : List Bool → Bool) (c : ℕ) → HasAnswer t f c → IsNodeOf t c
 known t f c h = record { diagram = h.diagram; is = h.is }
 
 -- a node shows the same in a later table
-pub shown_on : (old new : Table) (d : Diagram) (c : ℕ) → Extends old new → IsShown old c d → IsShown new c d
+pub shown_on : (old new : Table) (d : Diagram) (c : ℕ) → Extends old new → ShowsCanonical old c d
+    → ShowsCanonical new c d
 shown_on old new d c kept is = subst IsShownBy (sym kept.vtree) record {
-  shows = shows-kept old.vtree (get old.linked) (get new.linked) kept.nodes d c is.shows;
+  shows = shows_kept old.vtree (get old.linked) (get new.linked) kept.nodes d c is.shows;
   canonical = is.canonical;
 }
   where
     IsShownBy : Numbered → Type 0
-    IsShownBy v = IsShown (record new { vtree = v }) c d
+    IsShownBy v = ShowsCanonical (record new { vtree = v }) c d
 
 -- so does one that shows a value
 pub answer_on : (old new : Table) (f : List Bool → Bool) (c : ℕ) → Extends old new → HasAnswer old f c
@@ -101,37 +102,41 @@ answer_on old new f c kept h =
     record { diagram = h.diagram; is = shown_on old new h.diagram c kept h.is; value = h.value }
 
 -- and with an equal value
-pub answer_same : (t : Table) (f g : List Bool → Bool) (c : ℕ) → ((given : List Bool) → f given ≡ g given)
+pub answer_same : (t : Table) (f g : List Bool → Bool) (c : ℕ)
+    → ((assignment : List Bool) → f assignment ≡ g assignment)
     → HasAnswer t f c → HasAnswer t g c
 answer_same t f g c same h = record {
   diagram = h.diagram;
   is = h.is;
-  value = λ given. h.value given ∙ same given;
+  value = λ assignment. h.value assignment ∙ same assignment;
 }
 
 -- the answer of a connective
 pub combined : (old new : Table) (o : Operation) (f g : List Bool → Bool) (a b c : ℕ) → HasAnswer old f a
-    → HasAnswer old g b → Combines old new o a b c → HasAnswer new (λ given. combine o (f given) (g given)) c
+    → HasAnswer old g b → Combines old new o a b c
+    → HasAnswer new (λ assignment. combine o (f assignment) (g assignment)) c
 combined old new o f g a b c p q combines =
     let r = combines.each p.diagram q.diagram p.is q.is in record {
       diagram = r.diagram;
       is = r.is;
-      value = λ given. r.value given ∙ ap (λ v. combine o v (meaning q.diagram given)) (p.value given)
-          ∙ ap (combine o (f given)) (q.value given);
+      value = λ assignment. r.value assignment
+          ∙ ap (λ v. combine o v (meaning q.diagram assignment)) (p.value assignment)
+          ∙ ap (combine o (f assignment)) (q.value assignment);
     }
 
 -- the constant of no operands
-pub none_joined : (t : Table) (o : Operation) (c : ℕ) (b : Bool) → b ≡ neutral o → IsShown t c (constant_diagram b)
-    → HasAnswer t (λ given. neutral o) c
+pub none_joined : (t : Table) (o : Operation) (c : ℕ) (b : Bool) → b ≡ neutral o
+    → ShowsCanonical t c (constant_diagram b)
+    → HasAnswer t (λ assignment. neutral o) c
 none_joined t o c b is shown = record {
   diagram = constant_diagram b;
   is = shown;
-  value = λ given. constant b given ∙ is;
+  value = λ assignment. constant b assignment ∙ is;
 }
   where
-    constant : (b : Bool) (given : List Bool) → meaning (constant_diagram b) given ≡ b
-    constant true given = refl
-    constant false given = refl
+    constant : (b : Bool) (assignment : List Bool) → meaning (constant_diagram b) assignment ≡ b
+    constant true assignment = refl
+    constant false assignment = refl
 
 -- one table after another
 pub extends_on : (a b c : Table) → Extends a b → Extends b c → Extends a c
@@ -185,17 +190,19 @@ from_before xs i j x below is at =
 -- one literal more in front
 pub literal_more : (old new : Table) (o : Operation) (xs : List ℤ) (i j : ℕ) (x : ℤ) (a b c : ℕ) → i < length xs
     → j ≡ length xs - 1 - i → slice_get xs j ≡ Some x
-    → (d : Diagram) × IsShown old a d × ((given : List Bool) → meaning d given ≡ literal_holds given x)
-    → HasAnswer old (λ given. joined o (literal_holds given) (drop (length xs - i) xs)) b
+    → (d : Diagram) × ShowsCanonical old a d
+    × ((assignment : List Bool) → meaning d assignment ≡ literal_holds assignment x)
+    → HasAnswer old (λ assignment. joined o (literal_holds assignment) (drop (length xs - i) xs)) b
     → Combines old new o a b c
-    → HasAnswer new (λ given. joined o (literal_holds given) (drop (length xs - (i + 1)) xs)) c
+    → HasAnswer new (λ assignment. joined o (literal_holds assignment) (drop (length xs - (i + 1)) xs)) c
 literal_more old new o xs i j x a b c below is at first rest combines =
     answer_same new
-    (λ given. combine o (literal_holds given x) (joined o (literal_holds given) (drop (length xs - i) xs)))
-    (λ given. joined o (literal_holds given) (drop (length xs - (i + 1)) xs)) c
-    (λ given. ap (joined o (literal_holds given)) (sym (from_before xs i j x below is at)))
-    (combined old new o (λ given. literal_holds given x)
-    (λ given. joined o (literal_holds given) (drop (length xs - i) xs)) a b c
+    (λ assignment. combine o (literal_holds assignment x)
+    (joined o (literal_holds assignment) (drop (length xs - i) xs)))
+    (λ assignment. joined o (literal_holds assignment) (drop (length xs - (i + 1)) xs)) c
+    (λ assignment. ap (joined o (literal_holds assignment)) (sym (from_before xs i j x below is at)))
+    (combined old new o (λ assignment. literal_holds assignment x)
+    (λ assignment. joined o (literal_holds assignment) (drop (length xs - i) xs)) a b c
     (record { diagram = first.0; is = first.1; value = first.2 }) rest combines)
 
 -- ---- the groups
@@ -214,24 +221,26 @@ take_all (y ∷ ys) (suc i) h = ap (λ l. y ∷ l) (take_all ys i (omega (arith,
 
 -- the value of the first groups
 abbrev pub front_value : Groups → ℕ → List Bool → Bool
-front_value f i given =
-    joined (outer f.kind) (λ group. joined (inner f.kind) (literal_holds given) group) (take i f.groups)
+front_value f i assignment =
+    joined (outer f.kind) (λ group. joined (inner f.kind) (literal_holds assignment) group) (take i f.groups)
 
 -- one group more
 pub group_more : (f : Groups) (old mid new : Table) (between within : Operation) (i : ℕ) (g : List ℤ) (a b c : ℕ)
     → between ≡ outer f.kind → within ≡ inner f.kind → slice_get f.groups i ≡ Some g → Extends old mid
-    → HasAnswer old (front_value f i) a → HasAnswer mid (λ given. joined within (literal_holds given) g) b
+    → HasAnswer old (front_value f i) a → HasAnswer mid (λ assignment. joined within (literal_holds assignment) g) b
     → Combines mid new between a b c → HasAnswer new (front_value f (i + 1)) c
 group_more f old mid new between within i g a b c outside inside at kept front group combines =
-    answer_same new (λ given. combine (outer f.kind) (front_value f i given)
-    (joined (inner f.kind) (literal_holds given) g)) (front_value f (i + 1)) c
-    (λ given.
-    sym (joined_push (outer f.kind) (λ group. joined (inner f.kind) (literal_holds given) group) (take i f.groups) g)
-    ∙ ap (joined (outer f.kind) (λ group. joined (inner f.kind) (literal_holds given) group))
+    answer_same new (λ assignment. combine (outer f.kind) (front_value f i assignment)
+    (joined (inner f.kind) (literal_holds assignment) g)) (front_value f (i + 1)) c
+    (λ assignment.
+    sym (joined_push (outer f.kind) (λ group. joined (inner f.kind) (literal_holds assignment) group) (take i f.groups)
+    g)
+    ∙ ap (joined (outer f.kind) (λ group. joined (inner f.kind) (literal_holds assignment) group))
     (sym (ap (λ n. take n f.groups) (add-one i) ∙ take_at f.groups i g at)))
-    (combined mid new (outer f.kind) (front_value f i) (λ given. joined (inner f.kind) (literal_holds given) g) a b c
+    (combined mid new (outer f.kind) (front_value f i)
+    (λ assignment. joined (inner f.kind) (literal_holds assignment) g) a b c
     (answer_on old mid (front_value f i) a kept front)
-    (subst (λ o. HasAnswer mid (λ given. joined o (literal_holds given) g) b) inside group)
+    (subst (λ o. HasAnswer mid (λ assignment. joined o (literal_holds assignment) g) b) inside group)
     (subst (λ o. Combines mid new o a b c) outside combines))
 
 -- all groups
@@ -239,6 +248,7 @@ pub all_groups : (f : Groups) (t : Table) (i : ℕ) (c : ℕ) → length f.group
     → HasAnswer t (expression_value (expression_of f)) c
 all_groups f t i c all h =
     answer_same t (front_value f i) (expression_value (expression_of f)) c
-    (λ given.
-    ap (joined (outer f.kind) (λ group. joined (inner f.kind) (literal_holds given) group)) (take_all f.groups i all)
-    ∙ formula_joined f given) h
+    (λ assignment.
+    ap (joined (outer f.kind) (λ group. joined (inner f.kind) (literal_holds assignment) group))
+    (take_all f.groups i all)
+    ∙ formula_joined f assignment) h

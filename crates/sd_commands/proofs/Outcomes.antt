@@ -8,12 +8,12 @@ use Rattle.sd_model.specs.Text.{sdd_text}
 use Rattle.sd_model.specs.Expression.{Expression}
 use Rattle.sd_model.proofs.Determined.{diagram_determined, size_determined}
 use Rattle.sd_commands.specs.Effects.{Effect, Write, Print}
-use Rattle.sd_commands.specs.Commands.{State, Outcome, Done, Step, Compares, IsTextOf, bound, formula_of}
+use Rattle.sd_commands.specs.Commands.{State, Outcome, Done, Step, Compares, IsTextOf, with_name, formula_named}
 use Rattle.sd_commands.specs.Commands.{size_line, same_line}
 use Rattle.sd_commands.specs.Fits.{Fits, AllFit, has, bound_after}
 use Rattle.sd_commands.specs.Standing.{names_of}
-use Rattle.sd_commands.specs.declared.command.Command.{Command}
-use Rattle.sd_commands.specs.declared.command.Command.TheVariants as commands
+use Rattle.sd_commands.specs.declared.command.RunCommand.{RunCommand}
+use Rattle.sd_commands.specs.declared.command.RunCommand.TheVariants as commands
 
 -- ---- one outcome
 
@@ -29,7 +29,7 @@ one_answer tree f g true false p q = absurd (q p)
 one_answer tree f g false true p q = absurd (p q)
 one_answer tree f g false false p q = refl
 
-pub one_outcome : (input : Expression) (state : State) (command : Command) (a b : Outcome) → IsVtree state.tree
+pub one_outcome : (input : Expression) (state : State) (command : RunCommand) (a b : Outcome) → IsVtree state.tree
     → Step input state command a → Step input state command b → a ≡ b
 one_outcome input state (commands.Input n) a b valid p q = p ∙ sym q
 one_outcome input state (commands.Load n file) a b valid p q = p ∙ sym q
@@ -40,22 +40,22 @@ one_outcome input state (commands.Negate n x) a b valid p q = p ∙ sym q
 one_outcome input state (commands.Drop x) a b valid p q = p ∙ sym q
 one_outcome input state (commands.Same x y) a b valid p q =
     p.2 ∙ ap (λ r. Done state (Print (same_line r) ∷ []))
-    (one_answer state.tree (formula_of state x) (formula_of state y) p.0 q.0 p.1 q.1)
+    (one_answer state.tree (formula_named state x) (formula_named state y) p.0 q.0 p.1 q.1)
     ∙ sym q.2
 one_outcome input state (commands.Size x) a b valid p q =
     p.2 ∙ ap (λ n. Done state (Print (size_line n) ∷ []))
-    (size_determined state.tree (formula_of state x ∷ []) p.0 q.0 valid p.1 q.1)
+    (size_determined state.tree (formula_named state x ∷ []) p.0 q.0 valid p.1 q.1)
     ∙ sym q.2
 one_outcome input state (commands.Value x bits) a b valid p q = p ∙ sym q
 one_outcome input state (commands.Write x file) a b valid p q =
     p.2 ∙ ap (λ text. Done state (Write file text ∷ []))
-    (one_text state.tree (formula_of state x) p.0 q.0 valid p.1 q.1)
+    (one_text state.tree (formula_named state x) p.0 q.0 valid p.1 q.1)
     ∙ sym q.2
 one_outcome input state (commands.WriteVtree file) a b valid p q = p ∙ sym q
 
 -- ---- it is done
 
-pub always_done : (input : Expression) (state : State) (command : Command) (outcome : Outcome)
+pub always_done : (input : Expression) (state : State) (command : RunCommand) (outcome : Outcome)
     → Step input state command outcome → (next : State) × (effects : List Effect) × (outcome ≡ Done next effects)
 always_done input state (commands.Input n) outcome p = (_, _, p)
 always_done input state (commands.Load n file) outcome p = (_, _, p)
@@ -93,13 +93,13 @@ names_left (e ∷ es) a = elim (cases_eq e.0 a) [
 
 -- what a state is after a name was bound, or after nothing
 module _ (state next : State) (effects : List Effect) where
-  bound_tree : (n : ℕ) (f : Expression) → Done next effects ≡ Done (bound state n f) [] → next.tree ≡ state.tree
+  bound_tree : (n : ℕ) (f : Expression) → Done next effects ≡ Done (with_name state n f) [] → next.tree ≡ state.tree
   bound_tree n f e = ap (λ s. s.tree) (same_next _ _ _ _ e)
 
   kept_tree : (effect : Effect) → Done next effects ≡ Done state (effect ∷ []) → next.tree ≡ state.tree
   kept_tree effect e = ap (λ s. s.tree) (same_next _ _ _ _ e)
 
-  bound_names : (n : ℕ) (f : Expression) → Done next effects ≡ Done (bound state n f) []
+  bound_names : (n : ℕ) (f : Expression) → Done next effects ≡ Done (with_name state n f) []
       → names_of next ≡ n ∷ filter (λ m. not (has [] m)) (names_of state)
   bound_names n f e = ap names_of (same_next _ _ _ _ e) ∙ ap (λ l. n ∷ l) (sym (all_stay (names_of state)))
 
@@ -107,7 +107,7 @@ module _ (state next : State) (effects : List Effect) where
       → names_of next ≡ filter (λ m. not (has [] m)) (names_of state)
   kept_names effect e = ap names_of (same_next _ _ _ _ e) ∙ sym (all_stay (names_of state))
 
-pub same_tree : (input : Expression) (state next : State) (command : Command) (effects : List Effect)
+pub same_tree : (input : Expression) (state next : State) (command : RunCommand) (effects : List Effect)
     → Step input state command (Done next effects) → next.tree ≡ state.tree
 same_tree input state next (commands.Input n) effects p = bound_tree state next effects n _ p
 same_tree input state next (commands.Load n file) effects p = bound_tree state next effects n _ p
@@ -122,7 +122,7 @@ same_tree input state next (commands.Value x bits) effects p = kept_tree state n
 same_tree input state next (commands.Write x file) effects p = kept_tree state next effects _ p.2
 same_tree input state next (commands.WriteVtree file) effects p = kept_tree state next effects _ p
 
-pub names_after : (input : Expression) (state next : State) (command : Command) (effects : List Effect)
+pub names_after : (input : Expression) (state next : State) (command : RunCommand) (effects : List Effect)
     → Step input state command (Done next effects) → names_of next ≡ bound_after (names_of state) command
 names_after input state next (commands.Input n) effects p = bound_names state next effects n _ p
 names_after input state next (commands.Load n file) effects p = bound_names state next effects n _ p
@@ -141,7 +141,7 @@ names_after input state next (commands.WriteVtree file) effects p = kept_names s
 -- ---- commands one after another
 
 -- a command of a list that can be done, and so can those after it
-pub fit_at : (v : ℕ) (names : List ℕ) (commands : List Command) (i : ℕ) (c : Command) → i < length commands
+pub fit_at : (v : ℕ) (names : List ℕ) (commands : List RunCommand) (i : ℕ) (c : RunCommand) → i < length commands
     → c ≡ get_or commands i c → AllFit v names (drop i commands)
     → Fits v names c × AllFit v (bound_after names c) (drop (i + 1) commands)
 fit_at v names commands i c below at fit = subst (AllFit v names) here fit

@@ -1,4 +1,4 @@
--- The state that the code holds at the start, and after each command.
+-- The state that the code represents at the start, and after each command.
 use Rattle.std.proofs.Common.{◌≡◌, ℕ, ◌+◌, ◌-◌, ◌≤◌, Bool, true, false, not, cond, eqb, Contains, List, [], ◌∷◌, filter}
 use Rattle.std.proofs.Common.{Option, Some, None, refl, sym, ap, subst, ◌∙◌, arith}
 use Rattle.std.proofs.Common.{inl, inr}
@@ -11,18 +11,18 @@ use Rattle.std.specs.Map.{lookup}
 use Rattle.std.specs.FinMap.{FinMap, get, insert, remove, len, len-insert, len-remove}
 use Rattle.std.specs.Option.{IsSome, unwrap_or}
 use Rattle.std.specs.Ordering.{nat_cmp}
-use Rattle.sd_runs.proofs.Maps.{get-insert_same, get-insert_other, get-remove_other}
+use Rattle.sd_runs.proofs.Maps.{get_insert_same, get_insert_other, get_remove_other}
 use Rattle.sd_model.specs.Expression.{Expression, Constant}
 use Rattle.sd_model.specs.Size.{IsDiagramOf}
-use Rattle.sd_vtree.specs.Numbered.{Numbered, forget}
+use Rattle.sd_vtree.specs.Numbered.{Numbered, plain_tree}
 use Rattle.sd_cache.specs.Entries.{Call, Entries}
 use Rattle.sd_manager.specs.Table.{Table, no_table}
-use Rattle.sd_manager.specs.Shown.{IsShown}
+use Rattle.sd_manager.specs.Shown.{ShowsCanonical}
 use Rattle.sd_manager.specs.Making.{Extends, with_root, without_root}
 use Rattle.sd_apply.specs.Serving.{Serves}
-use Rattle.sd_commands.specs.Commands.{State, named, bound, dropped, formula_of}
-use Rattle.sd_commands.specs.Standing.{Stands, HoldsName, HoldsValue, ShowsValue, start}
-use Rattle.sd_commands.specs.declared.state.State.{State as CodeState}
+use Rattle.sd_commands.specs.Commands.{State, named, with_name, dropped, formula_named}
+use Rattle.sd_commands.specs.Standing.{Represents, HoldsName, HoldsValue, ShowsFormula, start}
+use Rattle.sd_commands.specs.declared.state.RunState.{RunState}
 use Rattle.sd_commands.proofs.Joining.{shown_on}
 
 -- ---- the start
@@ -32,16 +32,16 @@ none : (e : Call × ℕ) → Contains [] e → ⊥
 none e c = omega (arith, c.1)
 
 -- a new manager and no names hold the start
-pub stands_first : (code : CodeState) (vtree : Numbered) (limit : ℕ) → code.manager ≡ no_table vtree 2147483647
-    → code.cache ≡ [] → code.names.entries ≡ [] → Stands code (start (forget vtree) limit)
+pub stands_first : (code : RunState) (vtree : Numbered) (limit : ℕ) → code.manager ≡ no_table vtree 2147483647
+    → code.cache ≡ [] → code.names.entries ≡ [] → Represents code (start (plain_tree vtree) limit)
 stands_first code vtree limit is empty_ no_names = record {
-  tree = ap (λ t. forget t.vtree) (sym is);
+  tree = ap (λ t. plain_tree t.vtree) (sym is);
   holds = λ name. subst (λ r. HoldsName code.manager r None) (sym (no_root name)) tt;
   apart = λ a b root first second. let bad : ◌≡◌ {A = Option ℕ} None (Some root) = sym (no_root a) ∙ first in absurd cc;
   serves = subst (λ c. Serves c code.manager) (sym empty_)
       (record { early = λ e c. absurd (none e c); right = λ some e c same. absurd (none e c) });
   bound = ap (λ t. t.bound) is;
-  still = ap (λ t. t.moving) is;
+  no_move = ap (λ t. t.moving) is;
 }
   where
     no_root : (name : ℕ) → maps.get nat_cmp code.names name ≡ None
@@ -66,22 +66,22 @@ held_value t (Some r) None root holds is = absurd holds
 held_value t (Some r) (Some value) root holds is =
     let same : r ≡ root = cc in subst (λ n. HoldsValue t n value) same holds
 
-pub name_held : (code : CodeState) (seen : State) (name root : ℕ) → Stands code seen
-    → maps.get nat_cmp code.names name ≡ Some root → HoldsValue code.manager root (formula_of seen name)
+pub name_held : (code : RunState) (seen : State) (name root : ℕ) → Represents code seen
+    → maps.get nat_cmp code.names name ≡ Some root → HoldsValue code.manager root (formula_named seen name)
 name_held code seen name root was is = held_value code.manager _ _ root (was.holds name) is
 
-pub name_in : (code : CodeState) (seen : State) (name root : ℕ) → Stands code seen
+pub name_in : (code : RunState) (seen : State) (name root : ℕ) → Represents code seen
     → maps.get nat_cmp code.names name ≡ Some root → IsSome (get code.manager.roots root)
 name_in code seen name root was is = held_node code.manager _ _ root (was.holds name) is
 
 -- the node of a root shows the formula that is held
 pub shows_held : (t : Table) (root node : ℕ) (f : Expression) → HoldsValue t root f → get t.roots root ≡ Some node
-    → ShowsValue t node f
+    → ShowsFormula t node f
 shows_held t root node f holds is =
     let same : holds.is.code ≡ node = let e = holds.is.held in cc in
     record {
       diagram = holds.diagram;
-      is = subst (λ n. IsShown t n holds.diagram) same holds.is.is;
+      is = subst (λ n. ShowsCanonical t n holds.diagram) same holds.is.is;
       of_value = holds.of_value;
     }
 
@@ -97,7 +97,7 @@ holds_with t root node (Some r) (Some value) other holds = record {
   diagram = holds.diagram;
   is = record {
     code = holds.is.code;
-    held = get-insert_other t.roots root node r (other r refl) ∙ holds.is.held;
+    held = get_insert_other t.roots root node r (other r refl) ∙ holds.is.held;
     is = holds.is.is;
   };
   of_value = holds.of_value;
@@ -113,7 +113,7 @@ holds_without t root (Some r) (Some value) other holds = record {
   diagram = holds.diagram;
   is = record {
     code = holds.is.code;
-    held = get-remove_other t.roots root r (other r refl) ∙ holds.is.held;
+    held = get_remove_other t.roots root r (other r refl) ∙ holds.is.held;
     is = holds.is.is;
   };
   of_value = holds.of_value;
@@ -126,7 +126,7 @@ serves_roots cache t roots serves = record {
   early = serves.early;
   right = λ some e c same.
       let was = serves.right some e c same in record {
-        known = was.known;
+        served = was.served;
         first = was.first;
         second = was.second;
         first_is = was.first_is;
@@ -150,7 +150,7 @@ not_absent t r v n root holds is absent = λ same.
 
 -- ---- one name more
 
-module _ (code new : CodeState) (seen : State) (name node root : ℕ) (f : Expression) (was : Stands code seen)
+module _ (code new : RunState) (seen : State) (name node root : ℕ) (f : Expression) (was : Represents code seen)
     (absent : get code.manager.roots root ≡ None) (is : new.manager ≡ with_root code.manager root node)
     (names : (q : ℕ) → maps.get nat_cmp new.names q
     ≡ cond (is_at (nat_cmp name) q) (Some root) (maps.get nat_cmp code.names q)) where
@@ -190,15 +190,15 @@ held_by : (b : Bool) (t : Table) (root : ℕ) (f : Expression) (r : Option ℕ) 
 held_by true t root f r v value holds = value
 held_by false t root f r v value holds = holds
 
--- the code holds the state with one more name
-pub stands_bound : (code new : CodeState) (seen : State) (name node root : ℕ) (f : Expression)
-    → Stands code seen → ShowsValue code.manager node f → get code.manager.roots root ≡ None
+-- the code represents the state with one more name
+pub stands_bound : (code new : RunState) (seen : State) (name node root : ℕ) (f : Expression)
+    → Represents code seen → ShowsFormula code.manager node f → get code.manager.roots root ≡ None
     → new.manager ≡ with_root code.manager root node → new.cache ≡ code.cache
     → ((q : ℕ) → maps.get nat_cmp new.names q
     ≡ cond (is_at (nat_cmp name) q) (Some root) (maps.get nat_cmp code.names q))
-    → Stands new (bound seen name f)
+    → Represents new (with_name seen name f)
 stands_bound code new seen name node root f was shows absent is same_cache names = record {
-  tree = was.tree ∙ ap (λ t. forget t.vtree) (sym is);
+  tree = was.tree ∙ ap (λ t. plain_tree t.vtree) (sym is);
   holds = λ q.
       subst (λ t. HoldsName t (maps.get nat_cmp new.names q) (named ((name, f) ∷ seen.names) q)) (sym is)
       (subst (λ r. HoldsName (with_root code.manager root node) r (named ((name, f) ∷ seen.names) q))
@@ -212,13 +212,13 @@ stands_bound code new seen name node root f was shows absent is same_cache names
       (subst (λ c. Serves c (with_root code.manager root node)) (sym same_cache)
       (serves_roots code.cache code.manager (insert code.manager.roots root node) was.serves));
   bound = ap (λ t. t.bound) is ∙ was.bound;
-  still = ap (λ t. t.moving) is ∙ was.still;
+  no_move = ap (λ t. t.moving) is ∙ was.no_move;
 }
   where
     held : HoldsValue (with_root code.manager root node) root f
     held = record {
       diagram = shows.diagram;
-      is = record { code = node; held = get-insert_same code.manager.roots root node; is = shows.is };
+      is = record { code = node; held = get_insert_same code.manager.roots root node; is = shows.is };
       of_value = shows.of_value;
     }
 
@@ -274,14 +274,14 @@ freed_by : (b : Bool) (t : Table) (r : Option ℕ) (v : Option Expression) → (
 freed_by true t r v holds = tt
 freed_by false t r v holds = holds refl
 
--- the code holds the state without a name
-stands_freed : (code new : CodeState) (seen : State) (name : ℕ) (roots : FinMap nat_cmp ℕ) → Stands code seen
+-- the code represents the state without a name
+stands_freed : (code new : RunState) (seen : State) (name : ℕ) (roots : FinMap nat_cmp ℕ) → Represents code seen
     → new.manager ≡ record code.manager { roots = roots } → new.cache ≡ code.cache
     → ((q : ℕ) → maps.get nat_cmp new.names q ≡ cond (is_at (nat_cmp name) q) None (maps.get nat_cmp code.names q))
     → ((q : ℕ) → ¬ (name ≡ q) → HoldsName (record code.manager { roots = roots }) (maps.get nat_cmp code.names q)
-    (named seen.names q)) → Stands new (dropped seen name)
+    (named seen.names q)) → Represents new (dropped seen name)
 stands_freed code new seen name roots was is same_cache names holds = record {
-  tree = was.tree ∙ ap (λ t. forget t.vtree) (sym is);
+  tree = was.tree ∙ ap (λ t. plain_tree t.vtree) (sym is);
   holds = λ q.
       subst (λ t. HoldsName t (maps.get nat_cmp new.names q) (named (dropped seen name).names q)) (sym is)
       (subst (λ r. HoldsName (record code.manager { roots = roots }) r (named (dropped seen name).names q))
@@ -294,7 +294,7 @@ stands_freed code new seen name roots was is same_cache names holds = record {
       (subst (λ c. Serves c (record code.manager { roots = roots })) (sym same_cache)
       (serves_roots code.cache code.manager roots was.serves));
   bound = ap (λ t. t.bound) is ∙ was.bound;
-  still = ap (λ t. t.moving) is ∙ was.still;
+  no_move = ap (λ t. t.moving) is ∙ was.no_move;
 }
   where
     names_now : (q : ℕ) → maps.get nat_cmp new.names q ≡ cond (eqb name q) None (maps.get nat_cmp code.names q)
@@ -311,21 +311,21 @@ stands_freed code new seen name roots was is same_cache names holds = record {
     had q n e = kept (eqb name q) _ n (sym (names_now q) ∙ e)
 
 -- its root is released
-pub stands_released : (code new : CodeState) (seen : State) (name root : ℕ) → Stands code seen
+pub stands_released : (code new : RunState) (seen : State) (name root : ℕ) → Represents code seen
     → maps.get nat_cmp code.names name ≡ Some root → new.manager ≡ without_root code.manager root
     → new.cache ≡ code.cache
     → ((q : ℕ) → maps.get nat_cmp new.names q ≡ cond (is_at (nat_cmp name) q) None (maps.get nat_cmp code.names q))
-    → Stands new (dropped seen name)
+    → Represents new (dropped seen name)
 stands_released code new seen name root was at is same_cache names =
     stands_freed code new seen name (remove code.manager.roots root) was is same_cache names
     (λ q differ. holds_without code.manager root _ _
     (λ n is same. differ (was.apart name q root at (is ∙ ap Some same))) (was.holds q))
 
 -- it had no root
-pub stands_without : (code new : CodeState) (seen : State) (name : ℕ) → Stands code seen
+pub stands_without : (code new : RunState) (seen : State) (name : ℕ) → Represents code seen
     → new.manager ≡ code.manager → new.cache ≡ code.cache
     → ((q : ℕ) → maps.get nat_cmp new.names q ≡ cond (is_at (nat_cmp name) q) None (maps.get nat_cmp code.names q))
-    → Stands new (dropped seen name)
+    → Represents new (dropped seen name)
 stands_without code new seen name was is same_cache names =
     stands_freed code new seen name code.manager.roots was is same_cache names (λ q differ. was.holds q)
 
@@ -344,18 +344,18 @@ holds_on old new (Some r) (Some value) kept holds = record {
     held = ap (λ roots. get roots r) kept.roots ∙ holds.is.held;
     is = shown_on old new holds.diagram holds.is.code kept holds.is.is;
   };
-  of_value = subst (λ v. IsDiagramOf (forget v) value holds.diagram) (sym kept.vtree) holds.of_value;
+  of_value = subst (λ v. IsDiagramOf (plain_tree v) value holds.diagram) (sym kept.vtree) holds.of_value;
 }
 
--- the code holds the state after more nodes were made
-pub stands_on : (code : CodeState) (t : Table) (cache : Entries) (seen : State) → Stands code seen
+-- the code represents the state after more nodes were made
+pub stands_on : (code : RunState) (t : Table) (cache : Entries) (seen : State) → Represents code seen
     → Extends code.manager t → Serves cache t
-    → Stands (record { manager = t; cache = cache; names = code.names }) seen
+    → Represents (record { manager = t; cache = cache; names = code.names }) seen
 stands_on code t cache seen was kept serves = record {
-  tree = was.tree ∙ ap forget (sym kept.vtree);
+  tree = was.tree ∙ ap plain_tree (sym kept.vtree);
   holds = λ q. holds_on code.manager t _ _ kept (was.holds q);
   apart = was.apart;
   serves = serves;
   bound = kept.bound ∙ was.bound;
-  still = kept.moving ∙ was.still;
+  no_move = kept.moving ∙ was.no_move;
 }

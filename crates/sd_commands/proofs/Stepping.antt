@@ -9,58 +9,60 @@ use Rattle.std.proofs.lemmas.Bool.{cases_Bool, and_parts}
 use Rattle.sd_runs.specs.declared.error.TakeError.{TakeError}
 use Rattle.sd_model.specs.Expression.{Expression}
 use Rattle.sd_commands.specs.Effects.{Write, Print}
-use Rattle.sd_commands.specs.Commands.{State, Done, Step, named, bound}
+use Rattle.sd_commands.specs.Commands.{State, Done, Step, named, with_name}
 use Rattle.sd_commands.specs.Fits.{Fits, has, uses}
-use Rattle.sd_commands.specs.Standing.{Stands, HoldsName, HasRoot, BindsTo, HandsOut, StepsTo}
+use Rattle.sd_commands.specs.Standing.{Represents, HoldsName, HasRoot, BindsTo, HandsOut, StepsTo}
 use Rattle.sd_commands.specs.Standing.{names_of, effects_of}
-use Rattle.sd_commands.specs.declared.command.Command.{Command}
-use Rattle.sd_commands.specs.declared.command.Act.{Act}
-use Rattle.sd_commands.specs.declared.command.Act.TheVariants.{WriteFile, PrintLine}
-use Rattle.sd_commands.specs.declared.state.State.{State as CodeState}
+use Rattle.sd_commands.specs.declared.command.RunCommand.{RunCommand}
+use Rattle.sd_commands.specs.declared.command.Effect.{Effect as CodeEffect}
+use Rattle.sd_commands.specs.declared.command.Effect.TheVariants.{WriteFile, PrintLine}
+use Rattle.sd_commands.specs.declared.state.RunState.{RunState}
 
 -- ---- a name is bound
 
-pub bound_steps : (input : Expression) (seen : State) (command : Command) (name : ℕ) (f : Expression)
-    (code : CodeState) (result : Result (Option Act) TakeError) → Step input seen command (Done (bound seen name f) [])
-    → IfOk result (λ act. BindsTo seen name f code act) → IfOk result (λ act. StepsTo input seen command code act)
+pub bound_steps : (input : Expression) (seen : State) (command : RunCommand) (name : ℕ) (f : Expression)
+    (code : RunState) (result : Result (Option CodeEffect) TakeError)
+    → Step input seen command (Done (with_name seen name f) [])
+    → IfOk result (λ effect. BindsTo seen name f code effect)
+    → IfOk result (λ effect. StepsTo input seen command code effect)
 bound_steps input seen command name f code (Err e) step binds = tt
-bound_steps input seen command name f code (Ok act) step binds = record {
-  next = bound seen name f;
-  step = subst (λ a. Step input seen command (Done (bound seen name f) (effects_of a))) (sym binds.quiet) step;
-  stands = binds.stands;
+bound_steps input seen command name f code (Ok effect) step binds = record {
+  next = with_name seen name f;
+  step = subst (λ a. Step input seen command (Done (with_name seen name f) (effects_of a))) (sym binds.quiet) step;
+  represents = binds.represents;
 }
 
--- ---- an act is handed out
+-- ---- an effect is handed out
 
 -- a line is printed
-pub printed : (input : Expression) (seen : State) (command : Command) (code : CodeState) (line said : List ℕ)
-    → Stands code seen → Step input seen command (Done seen (Print said ∷ [])) → line ≡ said
+pub printed : (input : Expression) (seen : State) (command : RunCommand) (code : RunState) (line said : List ℕ)
+    → Represents code seen → Step input seen command (Done seen (Print said ∷ [])) → line ≡ said
     → StepsTo input seen command code (Some (PrintLine line))
 printed input seen command code line said was step is = record {
   next = seen;
   step = subst (λ l. Step input seen command (Done seen (Print l ∷ []))) (sym is) step;
-  stands = was;
+  represents = was;
 }
 
 -- a file is written
-pub written : (input : Expression) (seen : State) (command : Command) (code : CodeState)
-    (name file text said : List ℕ) → Stands code seen → Step input seen command (Done seen (Write file said ∷ []))
+pub written : (input : Expression) (seen : State) (command : RunCommand) (code : RunState)
+    (name file text said : List ℕ) → Represents code seen → Step input seen command (Done seen (Write file said ∷ []))
     → name ≡ file → text ≡ said → StepsTo input seen command code (Some (WriteFile name text))
 written input seen command code name file text said was step names is = record {
   next = seen;
   step = subst (λ n. Step input seen command (Done seen (Write n text ∷ []))) (sym names)
       (subst (λ l. Step input seen command (Done seen (Write file l ∷ []))) (sym is) step);
-  stands = was;
+  represents = was;
 }
 
 -- what is handed out is the command's
-pub handed_steps : (input : Expression) (seen : State) (command : Command) (code : CodeState)
-    (act : Result Act AllocError) (result : Result (Option Act) TakeError)
-    → IfOk act (λ a. StepsTo input seen command code (Some a)) → HandsOut act result
+pub handed_steps : (input : Expression) (seen : State) (command : RunCommand) (code : RunState)
+    (effect : Result CodeEffect AllocError) (result : Result (Option CodeEffect) TakeError)
+    → IfOk effect (λ a. StepsTo input seen command code (Some a)) → HandsOut effect result
     → IfOk result (λ a. StepsTo input seen command code a)
 handed_steps input seen command code (Err e) result steps out =
     subst (λ r. IfOk r (λ a. StepsTo input seen command code a)) (sym out) tt
-handed_steps input seen command code (Ok act) result steps out =
+handed_steps input seen command code (Ok effect) result steps out =
     subst (λ r. IfOk r (λ a. StepsTo input seen command code a)) (sym out) steps
 
 -- ---- what a command needs
@@ -76,7 +78,7 @@ named_has (e ∷ es) n h = elim (cases_Bool (eqb e.0 n)) [
 ]
 
 -- so it has a root
-has_root : (code : CodeState) (seen : State) (name : ℕ) → Stands code seen → has (names_of seen) name ≡ true
+has_root : (code : RunState) (seen : State) (name : ℕ) → Represents code seen → has (names_of seen) name ≡ true
     → HasRoot code name
 has_root code seen name was h = both _ _ (was.holds name) (named_has seen.names name h)
   where
@@ -86,16 +88,16 @@ has_root code seen name was h = both _ _ (was.holds name) (named_has seen.names 
     both None (Some value) holds some = absurd holds
 
 -- the first name that a command uses
-pub first_used : (code : CodeState) (seen : State) (v : ℕ) (command : Command) (a : ℕ) (others : List ℕ)
-    → Stands code seen → Fits v (names_of seen) command → uses command ≡ a ∷ others → HasRoot code a
+pub first_used : (code : RunState) (seen : State) (v : ℕ) (command : RunCommand) (a : ℕ) (others : List ℕ)
+    → Represents code seen → Fits v (names_of seen) command → uses command ≡ a ∷ others → HasRoot code a
 first_used code seen v command a others was fits is =
     let all : list_all (has (names_of seen)) (a ∷ others) ≡ true =
     ap (list_all (has (names_of seen))) (sym is) ∙ fits.known in
     has_root code seen a was (and_parts _ _ all).0
 
 -- and the second one
-pub second_used : (code : CodeState) (seen : State) (v : ℕ) (command : Command) (a b : ℕ) (others : List ℕ)
-    → Stands code seen → Fits v (names_of seen) command → uses command ≡ a ∷ b ∷ others → HasRoot code b
+pub second_used : (code : RunState) (seen : State) (v : ℕ) (command : RunCommand) (a b : ℕ) (others : List ℕ)
+    → Represents code seen → Fits v (names_of seen) command → uses command ≡ a ∷ b ∷ others → HasRoot code b
 second_used code seen v command a b others was fits is =
     let all : list_all (has (names_of seen)) (a ∷ b ∷ others) ≡ true =
     ap (list_all (has (names_of seen))) (sym is) ∙ fits.known in

@@ -8,94 +8,97 @@ use Rattle.sd_model.specs.Diagram.{Diagram, meaning}
 use Rattle.sd_model.specs.Expression.{Expression, Constant, Atom, Combined, Negated, combine, expression_value}
 use Rattle.sd_model.specs.Size.{IsDiagramOf, HasSize, size_of}
 use Rattle.sd_model.specs.Text.{sdd_text}
-use Rattle.sd_vtree.specs.Numbered.{forget}
+use Rattle.sd_vtree.specs.Numbered.{plain_tree}
 use Rattle.sd_manager.specs.Table.{Table}
-use Rattle.sd_manager.specs.Shown.{IsShown, IsKnown, HoldsDiagram, constant_diagram}
+use Rattle.sd_manager.specs.Shown.{ShowsCanonical, IsNodeOf, HoldsDiagram, constant_diagram}
 use Rattle.sd_manager.specs.Making.{Extends}
 use Rattle.sd_apply.specs.Answers.{HasAnswer, Combines, Negates}
 use Rattle.sd_commands.specs.Commands.{Compares, IsTextOf}
-use Rattle.sd_commands.specs.Standing.{HoldsValue, ShowsValue}
+use Rattle.sd_commands.specs.Standing.{HoldsValue, ShowsFormula}
 
 -- a node that shows a formula is known
-pub value_known : (t : Table) (c : ℕ) (f : Expression) → ShowsValue t c f → IsKnown t c
+pub value_known : (t : Table) (c : ℕ) (f : Expression) → ShowsFormula t c f → IsNodeOf t c
 value_known t c f h = record { diagram = h.diagram; is = h.is }
 
 -- a node with the value of a formula shows its diagram
-pub answer_value : (t : Table) (c : ℕ) (f : Expression) → HasAnswer t (expression_value f) c → ShowsValue t c f
+pub answer_value : (t : Table) (c : ℕ) (f : Expression) → HasAnswer t (expression_value f) c → ShowsFormula t c f
 answer_value t c f h = record {
   diagram = h.diagram;
   is = h.is;
-  of_value = record { canonical = h.is.canonical; same_value = λ a given. h.value a };
+  of_value = record { canonical = h.is.canonical; same_value = λ a assignment. h.value a };
 }
 
 -- the node of a literal
 pub literal_value : (t : Table) (c : ℕ) (z : ℤ)
-    → (d : Diagram) × IsShown t c d × ((given : List Bool) → meaning d given ≡ literal_holds given z)
-    → ShowsValue t c (Atom z)
+    → (d : Diagram) × ShowsCanonical t c d
+    × ((assignment : List Bool) → meaning d assignment ≡ literal_holds assignment z)
+    → ShowsFormula t c (Atom z)
 literal_value t c z h = answer_value t c (Atom z) (record { diagram = h.0; is = h.1; value = h.2 })
 
 -- the node of a constant
-pub constant_value : (t : Table) (c : ℕ) (b : Bool) → IsShown t c (constant_diagram b) → ShowsValue t c (Constant b)
+pub constant_value : (t : Table) (c : ℕ) (b : Bool) → ShowsCanonical t c (constant_diagram b)
+    → ShowsFormula t c (Constant b)
 constant_value t c b h =
     answer_value t c (Constant b) (record { diagram = constant_diagram b; is = h; value = constant b })
   where
-    constant : (b : Bool) (given : List Bool) → meaning (constant_diagram b) given ≡ b
-    constant true given = refl
-    constant false given = refl
+    constant : (b : Bool) (assignment : List Bool) → meaning (constant_diagram b) assignment ≡ b
+    constant true assignment = refl
+    constant false assignment = refl
 
 -- an assignment has the same length over a later table
-length_before : (old new : Table) (a : List Bool) → Extends old new → length a ≡ leaves (forget new.vtree)
-    → length a ≡ leaves (forget old.vtree)
-length_before old new a kept given = given ∙ ap (λ v. leaves (forget v)) kept.vtree
+length_before : (old new : Table) (a : List Bool) → Extends old new → length a ≡ leaves (plain_tree new.vtree)
+    → length a ≡ leaves (plain_tree old.vtree)
+length_before old new a kept assignment = assignment ∙ ap (λ v. leaves (plain_tree v)) kept.vtree
 
 -- the node of two formulas that are joined
 pub combined_value : (old new : Table) (o : Operation) (f g : Expression) (a b c : ℕ) → Extends old new
-    → ShowsValue old a f → ShowsValue old b g → Combines old new o a b c → ShowsValue new c (Combined o f g)
+    → ShowsFormula old a f → ShowsFormula old b g → Combines old new o a b c → ShowsFormula new c (Combined o f g)
 combined_value old new o f g a b c kept p q combines =
     let r = combines.each p.diagram q.diagram p.is q.is in record {
       diagram = r.diagram;
       is = r.is;
       of_value = record {
         canonical = r.is.canonical;
-        same_value = λ given fits.
-            let before = length_before old new given kept fits in
-            r.value given
-            ∙ ap (λ v. combine o v (meaning q.diagram given)) (p.of_value.same_value given before)
-            ∙ ap (combine o (expression_value f given)) (q.of_value.same_value given before);
+        same_value = λ assignment fits.
+            let before = length_before old new assignment kept fits in
+            r.value assignment
+            ∙ ap (λ v. combine o v (meaning q.diagram assignment)) (p.of_value.same_value assignment before)
+            ∙ ap (combine o (expression_value f assignment)) (q.of_value.same_value assignment before);
       };
     }
 
 -- the node of a formula that is negated
-pub negated_value : (old new : Table) (f : Expression) (a c : ℕ) → Extends old new → ShowsValue old a f
-    → Negates old new a c → ShowsValue new c (Negated f)
+pub negated_value : (old new : Table) (f : Expression) (a c : ℕ) → Extends old new → ShowsFormula old a f
+    → Negates old new a c → ShowsFormula new c (Negated f)
 negated_value old new f a c kept p negates =
     let r = negates.each p.diagram p.is in record {
       diagram = r.diagram;
       is = r.is;
       of_value = record {
         canonical = r.is.canonical;
-        same_value = λ given fits.
-            r.value given ∙ ap not (p.of_value.same_value given (length_before old new given kept fits));
+        same_value = λ assignment fits.
+            r.value assignment ∙ ap not (p.of_value.same_value assignment (length_before old new assignment kept fits));
       };
     }
 
 -- ---- what a root answers
 
 -- the diagram that is held is that of the tree
-of_tree : (t : Table) (tree : Tree) (root : ℕ) (f : Expression) → tree ≡ forget t.vtree → (h : HoldsValue t root f)
+of_tree : (t : Table) (tree : Tree) (root : ℕ) (f : Expression) → tree ≡ plain_tree t.vtree → (h : HoldsValue t root f)
     → IsDiagramOf tree f h.diagram
 of_tree t tree root f same h = subst (λ s. IsDiagramOf s f h.diagram) (sym same) h.of_value
 
 -- whether two roots hold one function
-pub compared : (t : Table) (tree : Tree) (r s : ℕ) (f g : Expression) (answer : Bool) → tree ≡ forget t.vtree
+pub compared : (t : Table) (tree : Tree) (r s : ℕ) (f g : Expression) (answer : Bool) → tree ≡ plain_tree t.vtree
     → HoldsValue t r f → HoldsValue t s g
-    → ((x y : Diagram) → HoldsDiagram t r x → HoldsDiagram t s y → IsTrue answer ↔ ((given : List Bool)
-    → length given ≡ leaves (forget t.vtree) → meaning x given ≡ meaning y given)) → Compares tree f g answer
+    → ((x y : Diagram) → HoldsDiagram t r x → HoldsDiagram t s y → IsTrue answer ↔ ((assignment : List Bool)
+    → length assignment ≡ leaves (plain_tree t.vtree) → meaning x assignment ≡ meaning y assignment))
+    → Compares tree f g answer
 compared t tree r s f g answer same p q says = subst (λ u. Compares u f g answer) (sym same)
     (here answer (says p.diagram q.diagram p.is q.is))
   where
-    here : (b : Bool) → IsTrue b ↔ ((given : List Bool) → length given ≡ leaves (forget t.vtree)
-        → meaning p.diagram given ≡ meaning q.diagram given) → Compares (forget t.vtree) f g b
+    here : (b : Bool) → IsTrue b ↔ ((assignment : List Bool) → length assignment ≡ leaves (plain_tree t.vtree)
+        → meaning p.diagram assignment ≡ meaning q.diagram assignment) → Compares (plain_tree t.vtree) f g b
     here true iff = λ a fits.
         sym (p.of_value.same_value a fits) ∙ iff.0 refl a fits ∙ q.of_value.same_value a fits
     here false iff = λ one.
@@ -105,12 +108,12 @@ compared t tree r s f g answer same p q says = subst (λ u. Compares u f g answe
 
 -- the value of a root
 pub evaluated : (t : Table) (root : ℕ) (f : Expression) (bits : List Bool) (value : Bool)
-    → length bits ≡ leaves (forget t.vtree) → HoldsValue t root f
+    → length bits ≡ leaves (plain_tree t.vtree) → HoldsValue t root f
     → ((d : Diagram) → HoldsDiagram t root d → value ≡ meaning d bits) → value ≡ expression_value f bits
 evaluated t root f bits value fits h is = is h.diagram h.is ∙ h.of_value.same_value bits fits
 
 -- the size of a root
-pub sized : (t : Table) (tree : Tree) (root : ℕ) (f : Expression) (n : ℕ) → tree ≡ forget t.vtree
+pub sized : (t : Table) (tree : Tree) (root : ℕ) (f : Expression) (n : ℕ) → tree ≡ plain_tree t.vtree
     → HoldsValue t root f → ((d : Diagram) → HoldsDiagram t root d → n ≡ size_of (d ∷ [])) → HasSize (f ∷ []) tree n
 sized t tree root f n same h is = record {
   diagrams = h.diagram ∷ [];
@@ -119,7 +122,7 @@ sized t tree root f n same h is = record {
 }
 
 -- the text of a root
-pub worded : (t : Table) (tree : Tree) (root : ℕ) (f : Expression) (text : List ℕ) → tree ≡ forget t.vtree
+pub worded : (t : Table) (tree : Tree) (root : ℕ) (f : Expression) (text : List ℕ) → tree ≡ plain_tree t.vtree
     → HoldsValue t root f → ((d : Diagram) → HoldsDiagram t root d → text ≡ sdd_text d) → IsTextOf tree f text
 worded t tree root f text same h is =
     record { diagram = h.diagram; of_value = of_tree t tree root f same h; is = is h.diagram h.is }

@@ -1,4 +1,4 @@
--- The commands of a run, and what each comes to. A later command is a case more of `Command` and of `Step`.
+-- The commands of a run, and what each comes to. A later command is a case more of `RunCommand` and of `Step`.
 use Rattle.std.specs.Prelude.{◌≡◌, ℕ, Bool, true, false, not, ◌==◌, List, [], ◌∷◌, ◌++◌, filter, codes}
 use Rattle.std.specs.Prelude.{Option, Some, None, unwrap_or, if◌then◌else◌}
 use Rattle.sd_model.specs.Expression.{Expression, Constant, Atom, Combined, Negated, expression_value, AreOneFunction}
@@ -6,10 +6,10 @@ use Rattle.sd_model.specs.Tree.{Tree, leaves}
 use Rattle.sd_model.specs.Diagram.{Diagram}
 use Rattle.sd_model.specs.Size.{IsDiagramOf, HasSize}
 use Rattle.sd_model.specs.Text.{number_text, sdd_text, vtree_text}
-use Rattle.sd_file.specs.Reads.{expression_of}
+use Rattle.sd_file.specs.Reads.{expression_of_file}
 use Rattle.sd_commands.specs.Effects.{Effect, Write, Print}
-use Rattle.sd_commands.specs.declared.command.Command.{Command}
-use Rattle.sd_commands.specs.declared.command.Command.TheVariants as commands
+use Rattle.sd_commands.specs.declared.command.RunCommand.{RunCommand}
+use Rattle.sd_commands.specs.declared.command.RunCommand.TheVariants as commands
 
 -- what a run holds between two commands: the bound names with their formulas, the last one first, the tree, and the
 -- limit of the total size
@@ -31,12 +31,12 @@ named [] name = None
 named (entry ∷ entries) name = if entry.0 == name then Some entry.1 else named entries name
 
 -- the formula of a bound name
-abbrev pub formula_of : State → ℕ → Expression
-formula_of state name = unwrap_or (named state.names name) (Constant false)
+abbrev pub formula_named : State → ℕ → Expression
+formula_named state name = unwrap_or (named state.names name) (Constant false)
 
 -- the state with one more name
-abbrev pub bound : State → ℕ → Expression → State
-bound state name f = record state { names = (name, f) ∷ state.names }
+abbrev pub with_name : State → ℕ → Expression → State
+with_name state name f = record state { names = (name, f) ∷ state.names }
 
 -- the state without a name
 abbrev pub dropped : State → ℕ → State
@@ -44,7 +44,7 @@ dropped state name = record state { names = filter (λ entry. not (entry.0 == na
 
 -- the name is bound to the formula, and nothing is done outside
 abbrev pub Binds : State → ℕ → Expression → Outcome → Type 0
-Binds state name f outcome = outcome ≡ Done (bound state name f) []
+Binds state name f outcome = outcome ≡ Done (with_name state name f) []
 
 -- the command writes or prints this, and the state stays
 abbrev pub Does : State → Effect → Outcome → Type 0
@@ -76,28 +76,28 @@ value_line true = codes "value 1" ++ 10 ∷ []
 value_line false = codes "value 0" ++ 10 ∷ []
 
 -- what a command comes to in a state, where this formula is the input
-abbrev pub Step : Expression → State → Command → Outcome → Type 0
+abbrev pub Step : Expression → State → RunCommand → Outcome → Type 0
 Step input state (commands.Input n) outcome = Binds state n input outcome
-Step input state (commands.Load n file) outcome = Binds state n (expression_of file) outcome
+Step input state (commands.Load n file) outcome = Binds state n (expression_of_file file) outcome
 Step input state (commands.Literal n literal) outcome = Binds state n (Atom literal) outcome
 Step input state (commands.Constant n value) outcome = Binds state n (Constant value) outcome
 Step input state (commands.Combine operation n a b) outcome =
-    Binds state n (Combined operation (formula_of state a) (formula_of state b)) outcome
-Step input state (commands.Negate n a) outcome = Binds state n (Negated (formula_of state a)) outcome
+    Binds state n (Combined operation (formula_named state a) (formula_named state b)) outcome
+Step input state (commands.Negate n a) outcome = Binds state n (Negated (formula_named state a)) outcome
 Step input state (commands.Drop a) outcome = outcome ≡ Done (dropped state a) []
 Step input state (commands.Same a b) outcome =
-    (answer : Bool) × Compares state.tree (formula_of state a) (formula_of state b) answer
+    (answer : Bool) × Compares state.tree (formula_named state a) (formula_named state b) answer
     × Does state (Print (same_line answer)) outcome
 Step input state (commands.Size a) outcome =
-    (n : ℕ) × HasSize (formula_of state a ∷ []) state.tree n × Does state (Print (size_line n)) outcome
+    (n : ℕ) × HasSize (formula_named state a ∷ []) state.tree n × Does state (Print (size_line n)) outcome
 Step input state (commands.Value a bits) outcome =
-    Does state (Print (value_line (expression_value (formula_of state a) bits))) outcome
+    Does state (Print (value_line (expression_value (formula_named state a) bits))) outcome
 Step input state (commands.Write a file) outcome =
-    (text : List ℕ) × IsTextOf state.tree (formula_of state a) text × Does state (Write file text) outcome
+    (text : List ℕ) × IsTextOf state.tree (formula_named state a) text × Does state (Write file text) outcome
 Step input state (commands.WriteVtree file) outcome = Does state (Write file (vtree_text state.tree)) outcome
 
 -- the command may need the arena of the diagrams
-abbrev pub MayFill : Command → Type 0
+abbrev pub MayFill : RunCommand → Type 0
 MayFill (commands.Input n) = Unit {0}
 MayFill (commands.Load n file) = Unit {0}
 MayFill (commands.Combine operation n a b) = Unit {0}
@@ -105,7 +105,7 @@ MayFill (commands.Negate n a) = Unit {0}
 MayFill command = ⊥
 
 -- these commands are all done, one after another, with these effects
-abbrev pub Steps : Expression → State → List Command → List Effect → State → Type 0
+abbrev pub Steps : Expression → State → List RunCommand → List Effect → State → Type 0
 Steps input old [] effects new = (effects ≡ []) × (new ≡ old)
 Steps input old (command ∷ commands) effects new =
     (mid : State) × (first : List Effect) × (others : List Effect)

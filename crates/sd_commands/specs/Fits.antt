@@ -2,15 +2,15 @@
 use Rattle.std.specs.Prelude.{◌≡◌, ℕ, Bool, true, not, ◌==◌, ◌&&◌, nat_le, List, [], ◌∷◌, ◌++◌, filter, length}
 use Rattle.std.specs.Prelude.{unsigned_abs}
 use Rattle.std.specs.List.{list_any, list_all}
-use Rattle.sd_commands.specs.declared.command.Command.{Command}
-use Rattle.sd_commands.specs.declared.command.Command.TheVariants as commands
+use Rattle.sd_commands.specs.declared.command.RunCommand.{RunCommand}
+use Rattle.sd_commands.specs.declared.command.RunCommand.TheVariants as commands
 
 -- a number is in a list
 abbrev pub has : List ℕ → ℕ → Bool
 has numbers n = list_any (λ m. m == n) numbers
 
 -- the names that must be bound
-abbrev pub uses : Command → List ℕ
+abbrev pub uses : RunCommand → List ℕ
 uses (commands.Combine operation n a b) = a ∷ b ∷ []
 uses (commands.Negate n a) = a ∷ []
 uses (commands.Drop a) = a ∷ []
@@ -21,7 +21,7 @@ uses (commands.Write a file) = a ∷ []
 uses command = []
 
 -- the name that is bound then
-abbrev pub binds : Command → List ℕ
+abbrev pub binds : RunCommand → List ℕ
 binds (commands.Input n) = n ∷ []
 binds (commands.Load n file) = n ∷ []
 binds (commands.Literal n literal) = n ∷ []
@@ -31,27 +31,27 @@ binds (commands.Negate n a) = n ∷ []
 binds command = []
 
 -- the name that is free then
-abbrev pub frees : Command → List ℕ
+abbrev pub frees : RunCommand → List ℕ
 frees (commands.Drop a) = a ∷ []
 frees command = []
 
 -- the bound names after one more command
-abbrev pub bound_after : List ℕ → Command → List ℕ
+abbrev pub bound_after : List ℕ → RunCommand → List ℕ
 bound_after names c = binds c ++ filter (λ n. not (has (frees c) n)) names
 
 -- a literal is of a variable of 1 to v, a file is over v variables, and a value has v bits
-abbrev pub in_range : ℕ → Command → Bool
+abbrev pub in_range : ℕ → RunCommand → Bool
 in_range v (commands.Load n file) = file.variables == v
 in_range v (commands.Literal n literal) = nat_le 1 (unsigned_abs literal) && nat_le (unsigned_abs literal) v
 in_range v (commands.Value a bits) = length bits == v
 in_range v command = true
 
 -- the command can be done over v variables, where these names are bound
-pub record Fits (v : ℕ) (names : List ℕ) (c : Command) : Type 0 where
+pub record Fits (v : ℕ) (names : List ℕ) (c : RunCommand) : Type 0 where
   pub known : list_all (has names) (uses c) ≡ true
   pub ranges : in_range v c ≡ true
 
 -- so can each of these commands, after those before it
-abbrev pub AllFit : ℕ → List ℕ → List Command → Type 0
+abbrev pub AllFit : ℕ → List ℕ → List RunCommand → Type 0
 AllFit v names [] = Unit {0}
 AllFit v names (c ∷ cs) = Fits v names c × AllFit v (bound_after names c) cs

@@ -6,7 +6,7 @@ use sd_model::Operation;
 
 /// A command of a run. Names are numbers; each name that a command uses has to be bound by an earlier one.
 #[derive(Drop)]
-pub enum Command {
+pub enum RunCommand {
     /// Binds a name to the input's formula.
     Input(u32),
     /// Binds a name to the value of an SDD file.
@@ -35,7 +35,7 @@ pub enum Command {
 
 /// What a command does outside.
 #[derive(Drop)]
-pub enum Act {
+pub enum Effect {
     /// The named file is written whole with these bytes.
     WriteFile(Name, Bytes),
     /// This line, with its end, is printed.

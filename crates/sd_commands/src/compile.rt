@@ -3,10 +3,10 @@ ghost use Rattle.std.specs.Prelude.{◌≡◌, IfOk, IfErr};
 ghost use Rattle.sd_model.specs.Tree.{leaves};
 ghost use Rattle.sd_model.specs.Assignment.{literal_holds};
 ghost use Rattle.sd_model.specs.Expression.{expression_value};
-ghost use Rattle.sd_vtree.specs.Numbered.{forget};
+ghost use Rattle.sd_vtree.specs.Numbered.{plain_tree};
 ghost use Rattle.sd_formula.specs.Formulas.{AreLiterals, expression_of};
 ghost use Rattle.sd_manager.specs.Valid.{IsTable};
-ghost use Rattle.sd_manager.specs.Shown.{IsKnown};
+ghost use Rattle.sd_manager.specs.Shown.{IsNodeOf};
 ghost use Rattle.sd_manager.specs.Making.{Extends, KeepsRule};
 ghost use Rattle.sd_apply.specs.Answers.{HasAnswer, Combines};
 ghost use Rattle.sd_apply.specs.Serving.{Serves};
@@ -27,9 +27,10 @@ pub(crate) fn formula_node(
     c: &mut Cache,
     formula: &Formula,
 ) -> Result<NodeId, TakeError>
-    requires variables { leaves (forget m.old.vtree) ≡ formula.now.variables }
+    requires variables { leaves (plain_tree m.old.vtree) ≡ formula.now.variables }
     requires serves { Serves c.old m.old }
-    ensures ok { IfOk result (λ node. HasAnswer m.new (expression_value (expression_of formula.now)) node) }
+    ensures ok { IfOk result
+        (λ node. HasAnswer m.new (expression_value (expression_of formula.now)) node) }
     ensures kept { Extends m.old m.new }
     ensures serves { Serves c.new m.new }
     ensures rule { IfErr result (λ e. KeepsRule m.new e) }
@@ -37,7 +38,7 @@ pub(crate) fn formula_node(
 {
     let between = between_groups(formula.kind());
     let within = within_group(formula.kind());
-    let mut node = m.constant(value_of_none(between));
+    let mut node = m.constant(neutral_value(between));
     for index in 0..formula.groups() {
         let group = group_node(alloc, m, c, within, formula.group(index))?;
         node = connect(alloc, m, c, between, node, group)?;
@@ -53,16 +54,17 @@ fn group_node(
     operation: Operation,
     literals: &[i32],
 ) -> Result<NodeId, TakeError>
-    requires literals { AreLiterals (leaves (forget m.old.vtree)) literals.now }
+    requires literals { AreLiterals (leaves (plain_tree m.old.vtree)) literals.now }
     requires serves { Serves c.old m.old }
     ensures ok { IfOk result (λ node.
-        HasAnswer m.new (λ given. joined operation (literal_holds given) literals.now) node) }
+        HasAnswer m.new (λ assignment. joined operation (literal_holds assignment) literals.now)
+        node) }
     ensures kept { Extends m.old m.new }
     ensures serves { Serves c.new m.new }
     ensures rule { IfErr result (λ e. KeepsRule m.new e) }
     ensures table { IsTable m.new }
 {
-    let mut node = m.constant(value_of_none(operation));
+    let mut node = m.constant(neutral_value(operation));
     let count = literals.len();
     for index in 0..count {
         let literal = literals[count - 1 - index];
@@ -81,8 +83,8 @@ pub(crate) fn connect(
     a: NodeId,
     b: NodeId,
 ) -> Result<NodeId, TakeError>
-    requires first { IsKnown m.old a }
-    requires second { IsKnown m.old b }
+    requires first { IsNodeOf m.old a }
+    requires second { IsNodeOf m.old b }
     requires serves { Serves c.old m.old }
     ensures ok { IfOk result (λ r. Combines m.old m.new operation a b r) }
     ensures kept { Extends m.old m.new }
@@ -116,7 +118,7 @@ fn within_group(kind: Kind) -> Operation
 }
 
 // The value of no operands.
-fn value_of_none(operation: Operation) -> bool
+fn neutral_value(operation: Operation) -> bool
     ensures { result ≡ neutral operation }
 {
     matches!(operation, Operation::And)

@@ -2,15 +2,15 @@
 //! to be written or printed. What a command does outside is handed out as a value.
 #![tactic(auto)]
 
-mod acts;
-mod binds;
+mod bind;
 mod command;
 mod compile;
+mod effects;
 mod state;
 mod steps;
 #[cfg(test)]
 mod tests;
 
-pub use command::{Act, Command};
-pub use state::State;
+pub use command::{Effect, RunCommand};
+pub use state::RunState;
 pub use steps::step;

@@ -3,9 +3,9 @@ ghost use Rattle.std.specs.Prelude.{◌≡◌, ℕ, ◌<◌, ◌≤◌, ◌+◌,
 ghost use Rattle.std.specs.BTreeMap as maps;
 ghost use Rattle.std.specs.Ordering.{nat_cmp};
 ghost use Rattle.sd_model.specs.Expression.{Expression};
-ghost use Rattle.sd_vtree.specs.Numbered.{forget};
-ghost use Rattle.sd_commands.specs.Commands.{State as Seen, bound, dropped, formula_of};
-ghost use Rattle.sd_commands.specs.Standing.{Stands, HoldsValue, ShowsValue, HasRoot};
+ghost use Rattle.sd_vtree.specs.Numbered.{plain_tree};
+ghost use Rattle.sd_commands.specs.Commands.{State, with_name, dropped, formula_named};
+ghost use Rattle.sd_commands.specs.Standing.{Represents, HoldsValue, ShowsFormula, HasRoot};
 ghost use Rattle.sd_commands.specs.Standing.{start, root_count};
 
 use sd_cache::Cache;
@@ -19,22 +19,23 @@ const BOUND: u32 = 2_147_483_647;
 
 /// The diagrams of a run, and a root for each bound name.
 #[derive(Drop)]
-pub struct State {
+pub struct RunState {
     pub manager: Manager,
     pub cache: Cache,
     pub(crate) names: BTreeMap<u32, Root>,
 }
 
-impl State {
-    /// No name is bound. The only error is want of memory.
-    pub fn new(alloc: Global, vtree: Vtree) -> Result<State, AllocError>
-        ensures stands { IfOk result (λ state. (limit : ℕ) → Stands state (start (forget vtree) limit)) }
+impl RunState {
+    /// No name is bound. The only error: out of memory.
+    pub fn new(alloc: Global, vtree: Vtree) -> Result<RunState, AllocError>
+        ensures represents { IfOk result (λ state. (limit : ℕ)
+            → Represents state (start (plain_tree vtree) limit)) }
         ensures vtree { IfOk result (λ state. state.manager.vtree ≡ vtree) }
         ensures roots { IfOk result (λ state. root_count state ≡ 0) }
     {
         let manager = Manager::new(alloc, vtree, BOUND)?;
         let cache = Cache::new(alloc)?;
-        Ok(State {
+        Ok(RunState {
             manager,
             cache,
             names: BTreeMap::new(alloc),
@@ -45,8 +46,8 @@ impl State {
     pub(crate) fn root(&self, name: u32) -> &Root
         requires bound { HasRoot self.now name }
         ensures root { maps.get nat_cmp self.now.names name ≡ Some result.now }
-        ensures value { (seen : Seen) → Stands self.now seen →
-            HoldsValue self.now.manager result.now (formula_of seen name) }
+        ensures value { (seen : State) → Represents self.now seen →
+            HoldsValue self.now.manager result.now (formula_named seen name) }
     {
         let Some(root) = self.names.get(&name) else {
             unreachable!()
@@ -56,21 +57,21 @@ impl State {
 
     /// The node of a bound name.
     pub(crate) fn node(&self, name: u32) -> NodeId
-        requires stands { (seen : Seen) × Stands self.now seen }
+        requires represents { (seen : State) × Represents self.now seen }
         requires bound { HasRoot self.now name }
-        ensures { (seen : Seen) → Stands self.now seen →
-            ShowsValue self.now.manager result (formula_of seen name) }
+        ensures { (seen : State) → Represents self.now seen →
+            ShowsFormula self.now.manager result (formula_named seen name) }
     {
         self.manager.node_of(self.root(name))
     }
 
-    /// Binds a name to a node that shows the diagram of a formula. The only error is want of memory.
+    /// Binds a name to a node that shows the diagram of a formula. The only error: out of memory.
     pub(crate) fn bind(&mut self, name: u32, node: NodeId) -> Result<(), AllocError>
-        requires stands { (seen : Seen) × Stands self.old seen }
-        requires known { (f : Expression) × ShowsValue self.old.manager node f }
+        requires represents { (seen : State) × Represents self.old seen }
+        requires known { (f : Expression) × ShowsFormula self.old.manager node f }
         requires room { root_count self.old < 2 ^ 32 - 1 }
-        ensures stands { OnOk result ((seen : Seen) (f : Expression) → Stands self.old seen
-            → ShowsValue self.old.manager node f → Stands self.new (bound seen name f)) }
+        ensures represents { OnOk result ((seen : State) (f : Expression) → Represents self.old seen
+            → ShowsFormula self.old.manager node f → Represents self.new (with_name seen name f)) }
         ensures vtree { self.new.manager.vtree ≡ self.old.manager.vtree }
         ensures roots { root_count self.new ≤ root_count self.old + 1 }
     {
@@ -86,8 +87,9 @@ impl State {
 
     /// Frees a bound name, and releases its root.
     pub(crate) fn free(&mut self, name: u32)
-        requires stands { (seen : Seen) × Stands self.old seen }
-        ensures stands { (seen : Seen) → Stands self.old seen → Stands self.new (dropped seen name) }
+        requires represents { (seen : State) × Represents self.old seen }
+        ensures represents { (seen : State) → Represents self.old seen
+            → Represents self.new (dropped seen name) }
         ensures vtree { self.new.manager.vtree ≡ self.old.manager.vtree }
         ensures roots { root_count self.new ≤ root_count self.old }
     {

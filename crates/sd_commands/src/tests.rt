@@ -24,29 +24,29 @@ fn one_or_two(alloc: Global) -> Result<Formula, TakeError>
     Ok(formula)
 }
 
-// Puts what an act prints or writes behind the others.
-fn push(text: &mut Vec<u8>, act: &Option<Act>) -> Result<(), AllocError> {
-    match act {
-        Some(Act::PrintLine(line)) => text.extend_from_slice(line.as_slice()),
-        Some(Act::WriteFile(_, bytes)) => text.extend_from_slice(bytes.as_slice()),
+// Puts what an effect prints or writes behind the others.
+fn push(text: &mut Vec<u8>, effect: &Option<Effect>) -> Result<(), AllocError> {
+    match effect {
+        Some(Effect::PrintLine(line)) => text.extend_from_slice(line.as_slice()),
+        Some(Effect::WriteFile(_, bytes)) => text.extend_from_slice(bytes.as_slice()),
         None => Ok(()),
     }
 }
 
 // The lines that the commands print and the texts that they write, one after another.
-fn said(alloc: Global, input: &Formula, commands: &[Command]) -> Result<Vec<u8>, TakeError>
+fn said(alloc: Global, input: &Formula, commands: &[RunCommand]) -> Result<Vec<u8>, TakeError>
     requires two { input.now.variables ≡ 2 }
     requires fit { AllFit 2 [] commands.now }
-    requires few { length commands.now < 1000 }
+    requires within_limit { length commands.now < 1000 }
 {
-    let mut state = State::new(alloc, Vtree::balanced(alloc, 2)?)?;
+    let mut state = RunState::new(alloc, Vtree::balanced(alloc, 2)?)?;
     let mut text = Vec::new(alloc);
     for command in commands {
-        let act = match step(alloc, input, &mut state, command) {
-            Ok(act) => act,
+        let effect = match step(alloc, input, &mut state, command) {
+            Ok(effect) => effect,
             Err(e) => return Err(e),
         };
-        push(&mut text, &act)?;
+        push(&mut text, &effect)?;
     }
     Ok(text)
 }
@@ -56,14 +56,14 @@ fn said(alloc: Global, input: &Formula, commands: &[Command]) -> Result<Vec<u8>,
 fn formulas_are_compared(rt: HostRuntime) -> Result<(), Fail> {
     let input = one_or_two(rt.alloc())?;
     let commands = [
-        Command::Input(0),
-        Command::Literal(1, 1),
-        Command::Literal(2, 2),
-        Command::Combine(Operation::Or, 3, 1, 2),
-        Command::Same(0, 3),
-        Command::Drop(3),
-        Command::Negate(3, 0),
-        Command::Same(0, 3),
+        RunCommand::Input(0),
+        RunCommand::Literal(1, 1),
+        RunCommand::Literal(2, 2),
+        RunCommand::Combine(Operation::Or, 3, 1, 2),
+        RunCommand::Same(0, 3),
+        RunCommand::Drop(3),
+        RunCommand::Negate(3, 0),
+        RunCommand::Same(0, 3),
     ];
     let text = said(rt.alloc(), &input, &commands)?;
     assert_eq!(rt; text.as_slice(), b"same\ndiffer\n".as_slice());
@@ -75,12 +75,12 @@ fn formulas_are_compared(rt: HostRuntime) -> Result<(), Fail> {
 fn values_and_the_vtree(rt: HostRuntime) -> Result<(), Fail> {
     let input = one_or_two(rt.alloc())?;
     let commands = [
-        Command::Literal(1, 1),
-        Command::Literal(2, 2),
-        Command::Combine(Operation::Xor, 3, 1, 2),
-        Command::Value(3, Bits::new(vec![in rt.alloc(); true, false]?)),
-        Command::Value(3, Bits::new(vec![in rt.alloc(); true, true]?)),
-        Command::WriteVtree(Name::copy_of(rt.alloc(), "v")?),
+        RunCommand::Literal(1, 1),
+        RunCommand::Literal(2, 2),
+        RunCommand::Combine(Operation::Xor, 3, 1, 2),
+        RunCommand::Value(3, Bits::new(vec![in rt.alloc(); true, false]?)),
+        RunCommand::Value(3, Bits::new(vec![in rt.alloc(); true, true]?)),
+        RunCommand::WriteVtree(Name::copy_of(rt.alloc(), "v")?),
     ];
     let text = said(rt.alloc(), &input, &commands)?;
     let want = b"value 1\nvalue 0\nvtree 3\nL 0 1\nL 2 2\nI 1 0 2\n";
@@ -93,11 +93,11 @@ fn values_and_the_vtree(rt: HostRuntime) -> Result<(), Fail> {
 fn size_and_text(rt: HostRuntime) -> Result<(), Fail> {
     let input = one_or_two(rt.alloc())?;
     let commands = [
-        Command::Literal(1, 1),
-        Command::Literal(2, 2),
-        Command::Combine(Operation::And, 3, 1, 2),
-        Command::Size(3),
-        Command::Write(3, Name::copy_of(rt.alloc(), "d")?),
+        RunCommand::Literal(1, 1),
+        RunCommand::Literal(2, 2),
+        RunCommand::Combine(Operation::And, 3, 1, 2),
+        RunCommand::Size(3),
+        RunCommand::Write(3, Name::copy_of(rt.alloc(), "d")?),
     ];
     let text = said(rt.alloc(), &input, &commands)?;
     let want = b"size 2\nsdd 5\nL 0 0 -1\nF 1\nL 2 0 1\nL 3 2 2\nD 4 1 2 0 1 2 3\n";

@@ -9,7 +9,7 @@ use Rattle.std.specs.declared.cmp.Ordering.TheVariants.{Less, Equal, Greater}
 use Rattle.std.specs.Cmp.{IsTotalOrder}
 use Rattle.std.proofs.lemmas.List.Sorted.{ranks_by, sorted_far, IsPermutation-sym}
 use Rattle.std.proofs.lemmas.Map.Keys.{IsDistinct-from_sorted, IsDistinct-IsPermutation}
-use Rattle.sd_laws.proofs.Lists.{IsAmong, IsWithin, within-permuted}
+use Rattle.sd_laws.proofs.Lists.{IsAmong, IsWithin, within_permuted}
 
 -- the order of two things that are not equal by it and of which the second is not less
 less : {X : Type 0} {cmp : X → X → Ordering} (o : IsTotalOrder cmp) (x y : X) → eq_by_cmp cmp x y ≡ false →
@@ -107,7 +107,7 @@ sorted_same {X} {cmp} o xs ys up order sorted =
     ascending_same o xs ys up
     (strict o ys sorted
     (IsDistinct-IsPermutation (eq_by_cmp cmp) (flips o) xs ys order (IsDistinct-from_sorted cmp xs up)))
-    (within-permuted ys xs (IsPermutation-sym xs ys order)) (within-permuted xs ys order)
+    (within_permuted ys xs (IsPermutation-sym xs ys order)) (within_permuted xs ys order)
 
 -- a list that is sorted and has distinct elements ascends strictly, also where it had them in another order
 pub sorted_strict : {X : Type 0} {cmp : X → X → Ordering} → IsTotalOrder cmp → (xs ys : List X) →

@@ -16,56 +16,60 @@ use Rattle.sd_model.specs.Diagram.{Diagram, meaning}
 use Rattle.sd_model.specs.Expression.{FileNode, FileConstant, FileLiteral, FileDecomposition}
 use Rattle.sd_model.specs.Expression.{combine, node_value, expression_value}
 use Rattle.sd_manager.specs.Table.{Table}
-use Rattle.sd_manager.specs.Shown.{IsShown, IsKnown, constant_diagram}
+use Rattle.sd_manager.specs.Shown.{ShowsCanonical, IsNodeOf, constant_diagram}
 use Rattle.sd_manager.specs.Making.{Extends}
 use Rattle.sd_apply.specs.Answers.{HasAnswer, Combines}
-use Rattle.sd_apply.proofs.Listed.{shown-on, answer-on}
+use Rattle.sd_apply.proofs.Listed.{shown_on, answer_on}
 use Rattle.sd_file.specs.Built.{values_of, value_at, pair_value, AreBuilt}
 use Rattle.sd_file.specs.declared.file.FileNode.TheVariants as kinds
-use Rattle.sd_file.specs.Files.{IsFile, entry_at, pairs_in, pairs_at, kind_of}
-use Rattle.sd_file.specs.Reads.{Node, Constant, Literal, Decomposition, File, plain, expression_of}
+use Rattle.sd_file.specs.Files.{IsFile, entry_at, pairs_in, entry_pairs, kind_of}
+use Rattle.sd_file.specs.Reads.{Node, Constant, Literal, Decomposition, File, without_ids, expression_of_file}
 use Rattle.sd_file.proofs.Values.{value_there, last_value}
 
 -- ---- answers
 
 -- a node that shows a value is known
-pub known : (t : Table) (f : List Bool → Bool) (c : ℕ) → HasAnswer t f c → IsKnown t c
+pub known : (t : Table) (f : List Bool → Bool) (c : ℕ) → HasAnswer t f c → IsNodeOf t c
 known t f c h = record { diagram = h.diagram; is = h.is }
 
 -- it stays known in a larger table
-pub known_on : (old new : Table) (c : ℕ) → Extends old new → IsKnown old c → IsKnown new c
-known_on old new c kept k = record { diagram = k.diagram; is = shown-on old new kept c k.diagram k.is }
+pub known_on : (old new : Table) (c : ℕ) → Extends old new → IsNodeOf old c → IsNodeOf new c
+known_on old new c kept k = record { diagram = k.diagram; is = shown_on old new kept c k.diagram k.is }
 
 -- the answer of a connective is known
-pub known_combined : (old new : Table) (o : Operation) (a b c : ℕ) → Combines old new o a b c → IsKnown old a
-    → IsKnown old b → IsKnown new c
+pub known_combined : (old new : Table) (o : Operation) (a b c : ℕ) → Combines old new o a b c → IsNodeOf old a
+    → IsNodeOf old b → IsNodeOf new c
 known_combined old new o a b c combines p q =
     let r = combines.each p.diagram q.diagram p.is q.is in record { diagram = r.diagram; is = r.is }
 
 -- a node shows each equal value
-pub answer_same : (t : Table) (f g : List Bool → Bool) (c : ℕ) → ((given : List Bool) → f given ≡ g given)
+pub answer_same : (t : Table) (f g : List Bool → Bool) (c : ℕ)
+    → ((assignment : List Bool) → f assignment ≡ g assignment)
     → HasAnswer t f c → HasAnswer t g c
 answer_same t f g c same h = record {
   diagram = h.diagram;
   is = h.is;
-  value = λ given. h.value given ∙ same given;
+  value = λ assignment. h.value assignment ∙ same assignment;
 }
 
 -- the answer of a connective
 combined : (old new : Table) (o : Operation) (f g : List Bool → Bool) (a b c : ℕ) → HasAnswer old f a
-    → HasAnswer old g b → Combines old new o a b c → HasAnswer new (λ given. combine o (f given) (g given)) c
+    → HasAnswer old g b → Combines old new o a b c
+    → HasAnswer new (λ assignment. combine o (f assignment) (g assignment)) c
 combined old new o f g a b c p q combines =
     let r = combines.each p.diagram q.diagram p.is q.is in record {
       diagram = r.diagram;
       is = r.is;
-      value = λ given. r.value given ∙ ap (λ v. combine o v (meaning q.diagram given)) (p.value given)
-          ∙ ap (combine o (f given)) (q.value given);
+      value = λ assignment. r.value assignment
+          ∙ ap (λ v. combine o v (meaning q.diagram assignment)) (p.value assignment)
+          ∙ ap (combine o (f assignment)) (q.value assignment);
     }
 
 -- the answer of a constant
-pub constant_answer : (t : Table) (b : Bool) (c : ℕ) → IsShown t c (constant_diagram b) → HasAnswer t (λ given. b) c
-constant_answer t true c is = record { diagram = constant_diagram true; is = is; value = λ given. refl }
-constant_answer t false c is = record { diagram = constant_diagram false; is = is; value = λ given. refl }
+pub constant_answer : (t : Table) (b : Bool) (c : ℕ) → ShowsCanonical t c (constant_diagram b)
+    → HasAnswer t (λ assignment. b) c
+constant_answer t true c is = record { diagram = constant_diagram true; is = is; value = λ assignment. refl }
+constant_answer t false c is = record { diagram = constant_diagram false; is = is; value = λ assignment. refl }
 
 -- ---- the nodes of a file
 
@@ -77,7 +81,7 @@ built_at f old new built count index node kept are all below is =
     let within : index < length built = omega (arith, all, below) in
     let same = is ∙ get_or_default_zero built index node within in
     subst (HasAnswer new (value_at f index)) (sym same)
-    (answer-on old new kept (value_at f index) (slice_index_or built index 0) (are.each index within))
+    (answer_on old new kept (value_at f index) (slice_index_or built index 0) (are.each index within))
 
 -- one node more
 pub built_more : (f : File) (old new : Table) (built later : List ℕ) (count c : ℕ) → Extends old new
@@ -91,7 +95,7 @@ built_more f old new built later count c kept are all is same =
     at index below = elim (cases_lt index (length built)) [
       | inl earlier ↦
           subst (HasAnswer new (value_at f index)) (sym (get_or_append_left built (c ∷ []) 0 index earlier))
-          (answer-on old new kept (value_at f index) (slice_index_or built index 0) (are.each index earlier))
+          (answer_on old new kept (value_at f index) (slice_index_or built index 0) (are.each index earlier))
       | inr last ↦
           let here : length built ≡ index = omega (arith, length-append built (c ∷ []), below, last) in
           subst (λ n. HasAnswer new (value_at f n) (slice_index_or (built ++ c ∷ []) n 0)) here
@@ -102,92 +106,98 @@ built_more f old new built later count c kept are all is same =
 -- ---- what each kind of node shows
 
 -- a node of one kind is one of the formula's nodes
-plain_constant : (node : Node) (b : Bool) → kinds.Constant b ≡ kind_of node → plain node ≡ FileConstant b
+plain_constant : (node : Node) (b : Bool) → kinds.Constant b ≡ kind_of node → without_ids node ≡ FileConstant b
 plain_constant (Constant value) b is = let same : value ≡ b = cc in ap FileConstant same
 plain_constant (Literal vtree z) b is = absurd cc
 plain_constant (Decomposition vtree pairs) b is = absurd cc
 
-plain_literal : (node : Node) (vtree : ℕ) (z : ℤ) → kinds.Literal vtree z ≡ kind_of node → plain node ≡ FileLiteral z
+plain_literal : (node : Node) (vtree : ℕ) (z : ℤ) → kinds.Literal vtree z ≡ kind_of node
+    → without_ids node ≡ FileLiteral z
 plain_literal (Constant value) vtree z is = absurd cc
 plain_literal (Literal own literal) vtree z is = let same : literal ≡ z = cc in ap FileLiteral same
 plain_literal (Decomposition own pairs) vtree z is = absurd cc
 
 plain_decomposition : (node : Node) (vtree count : ℕ) → kinds.Decomposition vtree count ≡ kind_of node
-    → plain node ≡ FileDecomposition (pairs_in node)
+    → without_ids node ≡ FileDecomposition (pairs_in node)
 plain_decomposition (Constant value) vtree count is = absurd cc
 plain_decomposition (Literal own literal) vtree count is = absurd cc
 plain_decomposition (Decomposition own pairs) vtree count is = refl
 
 -- the value of a node that is this one of the formula's
-value_of_plain : (f : File) (index : ℕ) (given : List Bool) (node : FileNode) → IsFile f → index < length f.nodes
-    → plain (entry_at f index).node ≡ node → node_value (values_of f given) node given ≡ value_at f index given
-value_of_plain f index given node is below same =
-    sym (value_there f index given is below ∙ ap (λ n. node_value (values_of f given) n given) same)
+value_of_plain : (f : File) (index : ℕ) (assignment : List Bool) (node : FileNode) → IsFile f → index < length f.nodes
+    → without_ids (entry_at f index).node ≡ node → node_value (values_of f assignment) node assignment
+    ≡ value_at f index assignment
+value_of_plain f index assignment node is below same =
+    sym (value_there f index assignment is below ∙ ap (λ n. node_value (values_of f assignment) n assignment) same)
 
 -- a constant
 pub constant_built : (t : Table) (f : File) (index : ℕ) (b : Bool) (c : ℕ) → IsFile f → index < length f.nodes
-    → kinds.Constant b ≡ kind_of (entry_at f index).node → IsShown t c (constant_diagram b)
+    → kinds.Constant b ≡ kind_of (entry_at f index).node → ShowsCanonical t c (constant_diagram b)
     → HasAnswer t (value_at f index) c
 constant_built t f index b c is below kind shown =
     let same = plain_constant (entry_at f index).node b kind in
-    answer_same t (λ given. b) (value_at f index) c
-    (λ given. value_of_plain f index given (FileConstant b) is below same) (constant_answer t b c shown)
+    answer_same t (λ assignment. b) (value_at f index) c
+    (λ assignment. value_of_plain f index assignment (FileConstant b) is below same) (constant_answer t b c shown)
 
 -- a literal
 pub literal_built : (t : Table) (f : File) (index vtree : ℕ) (z : ℤ) (c : ℕ) → IsFile f → index < length f.nodes
     → kinds.Literal vtree z ≡ kind_of (entry_at f index).node
-    → (d : Diagram) × IsShown t c d × ((given : List Bool) → meaning d given ≡ literal_holds given z)
+    → (d : Diagram) × ShowsCanonical t c d
+    × ((assignment : List Bool) → meaning d assignment ≡ literal_holds assignment z)
     → HasAnswer t (value_at f index) c
 literal_built t f index vtree z c is below kind shown =
     let same = plain_literal (entry_at f index).node vtree z kind in
-    answer_same t (λ given. literal_holds given z) (value_at f index) c
-    (λ given. value_of_plain f index given (FileLiteral z) is below same)
+    answer_same t (λ assignment. literal_holds assignment z) (value_at f index) c
+    (λ assignment. value_of_plain f index assignment (FileLiteral z) is below same)
     (record { diagram = shown.0; is = shown.1; value = shown.2 })
 
 -- a decomposition
 pub decomposition_built : (t : Table) (f : File) (index vtree count : ℕ) → IsFile f → index < length f.nodes
     → kinds.Decomposition vtree count ≡ kind_of (entry_at f index).node → (c : ℕ)
-    → HasAnswer t (λ given. list_any (pair_value f given) (pairs_at f index)) c → HasAnswer t (value_at f index) c
+    → HasAnswer t (λ assignment. list_any (pair_value f assignment) (entry_pairs f index)) c
+    → HasAnswer t (value_at f index) c
 decomposition_built t f index vtree count is below kind c shown =
     let same = plain_decomposition (entry_at f index).node vtree count kind in
-    answer_same t (λ given. list_any (pair_value f given) (pairs_at f index)) (value_at f index) c
-    (λ given. value_of_plain f index given (FileDecomposition (pairs_at f index)) is below same) shown
+    answer_same t (λ assignment. list_any (pair_value f assignment) (entry_pairs f index)) (value_at f index) c
+    (λ assignment. value_of_plain f index assignment (FileDecomposition (entry_pairs f index)) is below same) shown
 
 -- the last of all nodes is the file's
-pub last_built : (f : File) (t : Table) (built : List ℕ) (place node : ℕ) → AreBuilt t f built
-    → length built ≡ length f.nodes → place + 1 ≡ length built → node ≡ slice_index_or built place node
-    → HasAnswer t (expression_value (expression_of f)) node
-last_built f t built place node are all last is =
-    let within : place < length built = omega (arith, last) in
-    let end : place + 1 ≡ length f.nodes = omega (arith, last, all) in
-    let same = is ∙ get_or_default_zero built place node within in
-    answer_same t (value_at f place) (expression_value (expression_of f)) node (λ given. last_value f place given end)
-    (subst (HasAnswer t (value_at f place)) (sym same) (are.each place within))
+pub last_built : (f : File) (t : Table) (built : List ℕ) (last_index node : ℕ) → AreBuilt t f built
+    → length built ≡ length f.nodes → last_index + 1 ≡ length built → node ≡ slice_index_or built last_index node
+    → HasAnswer t (expression_value (expression_of_file f)) node
+last_built f t built last_index node are all last is =
+    let within : last_index < length built = omega (arith, last) in
+    let end : last_index + 1 ≡ length f.nodes = omega (arith, last, all) in
+    let same = is ∙ get_or_default_zero built last_index node within in
+    answer_same t (value_at f last_index) (expression_value (expression_of_file f)) node
+    (λ assignment. last_value f last_index assignment end)
+    (subst (HasAnswer t (value_at f last_index)) (sym same) (are.each last_index within))
 
 -- ---- the pairs of a decomposition
 
 -- the value of its first pairs
 abbrev pub front_value : File → ℕ → ℕ → List Bool → Bool
-front_value f index count given = list_any (pair_value f given) (take count (pairs_at f index))
+front_value f index count assignment = list_any (pair_value f assignment) (take count (entry_pairs f index))
 
 -- the conjunction of a prime and a sub
 pub pair_answer : (f : File) (old new : Table) (pair : ℕ × ℕ) (prime sub product : ℕ)
     → HasAnswer old (value_at f pair.0) prime → HasAnswer old (value_at f pair.1) sub
-    → Combines old new And prime sub product → HasAnswer new (λ given. pair_value f given pair) product
+    → Combines old new And prime sub product → HasAnswer new (λ assignment. pair_value f assignment pair) product
 pair_answer f old new pair prime sub product first second both =
     combined old new And (value_at f pair.0) (value_at f pair.1) prime sub product first second both
 
 -- one pair more
 pub pair_more : (f : File) (old mid new : Table) (index i : ℕ) (pair : ℕ × ℕ) (node product c : ℕ)
-    → slice_get (pairs_at f index) i ≡ Some pair → Extends old mid
-    → HasAnswer old (front_value f index i) node → HasAnswer mid (λ given. pair_value f given pair) product
+    → slice_get (entry_pairs f index) i ≡ Some pair → Extends old mid
+    → HasAnswer old (front_value f index i) node → HasAnswer mid (λ assignment. pair_value f assignment pair) product
     → Combines mid new Or node product c → HasAnswer new (front_value f index (i + 1)) c
 pair_more f old mid new index i pair node product c at kept front one more =
-    let xs = pairs_at f index in
+    let xs = entry_pairs f index in
     let below = slice_get_within xs i pair at in
     let here = get_or_from_slice_get xs i pair pair at in
-    answer_same new (λ given. front_value f index i given || pair_value f given pair) (front_value f index (i + 1)) c
-    (λ given. sym (list_any_more (pair_value f given) xs i pair below
-    ∙ ap (λ x. front_value f index i given || pair_value f given x) here))
-    (combined mid new Or (front_value f index i) (λ given. pair_value f given pair) node product c
-    (answer-on old mid kept (front_value f index i) node front) one more)
+    answer_same new (λ assignment. front_value f index i assignment || pair_value f assignment pair)
+    (front_value f index (i + 1)) c
+    (λ assignment. sym (list_any_more (pair_value f assignment) xs i pair below
+    ∙ ap (λ x. front_value f index i assignment || pair_value f assignment x) here))
+    (combined mid new Or (front_value f index i) (λ assignment. pair_value f assignment pair) node product c
+    (answer_on old mid kept (front_value f index i) node front) one more)

@@ -19,14 +19,14 @@ use Rattle.std.specs.declared.cmp.Ordering.TheVariants.{Less, Equal, Greater}
 use Rattle.sd_model.specs.Tree.{Tree, leaves, right_base}
 use Rattle.sd_model.specs.Diagram.{Diagram, Bottom, Top, Literal, Decomposition, Elements, End, Pair, diagram_cmp}
 use Rattle.sd_model.specs.Canonical.{IsCanonical, canonical_literal, canonical_in_left, canonical_in_right}
-use Rattle.sd_vtree.specs.Numbered.{Numbered, IsNumbered, numbers, forget, variable_at}
+use Rattle.sd_vtree.specs.Numbered.{Numbered, IsNumbered, numbers, plain_tree, variable_at}
 use Rattle.sd_vtree.proofs.Subtrees.{once_numbered, node_within}
-use Rattle.sd_vtree.proofs.Times.{one_place, times-slice_get}
+use Rattle.sd_vtree.proofs.Times.{one_place, times_slice_get}
 use Rattle.sd_laws.specs.Shown.{ShowElements}
-use Rattle.sd_laws.proofs.Codes.{one-code, leaf-range}
-use Rattle.sd_laws.proofs.Leaves.{leaf-number}
-use Rattle.sd_laws.proofs.Numbers.{literal-canonical}
-use Rattle.sd_laws.proofs.Places.{position-within}
+use Rattle.sd_laws.proofs.Codes.{one_code, leaf_range}
+use Rattle.sd_laws.proofs.Leaves.{leaf_number}
+use Rattle.sd_laws.proofs.Numbers.{literal_canonical}
+use Rattle.sd_laws.proofs.Places.{position_within}
 use Rattle.sd_manager.specs.Table.{Table}
 use Rattle.sd_manager.specs.Shown.{Shows}
 use Rattle.sd_manager.specs.declared.view.View.TheVariants.{Literal as LiteralView}
@@ -44,7 +44,7 @@ use Rattle.sd_file.proofs.Ranking.{nat_same, if_tells, some_of}
 -- a node that stands at a position is one of the vtree
 pub stands_within : (t : Numbered) → IsNumbered t → (p u : ℕ) → slice_get (numbers t) p ≡ Some u →
     u < length (numbers t)
-stands_within t v p u e = node_within t v u (times-slice_get (numbers t) p u e)
+stands_within t v p u e = node_within t v u (times_slice_get (numbers t) p u e)
 
 -- it stands at one position
 pub same_position : (t : Numbered) → IsNumbered t → (u p q : ℕ) → slice_get (numbers t) p ≡ Some u →
@@ -67,12 +67,12 @@ literal_read x s l fits h e =
 -- the variable of a literal that is read is one of the vtree
 pub literal_range : (t : Table) → IsTable t → (tree : Numbered) → tree ≡ t.vtree → (l : ℤ) → SFits w32 l → (y : ℕ) →
     y ≡ nat_abs (to_z w32 (of_z w32 l)) → (d : Diagram) → IsViewOf t (LiteralView l) d →
-    (1 ≤ y) × (y ≤ leaves (forget tree))
+    (1 ≤ y) × (y ≤ leaves (plain_tree tree))
 literal_range t table tree same l fits y e d h =
-    let r = leaf-range (forget t.vtree) table.numbered.vtree 0 h.1 h.0 h.5 in
+    let r = leaf_range (plain_tree t.vtree) table.numbered.vtree 0 h.1 h.0 h.5 in
     let k = literal_read h.1 h.2 l fits r.0 h.4 in (
       omega (arith, e, k.0, r.0),
-      omega (arith, e, k.0, r.1, ap (λ z. leaves (forget z)) same),
+      omega (arith, e, k.0, r.1, ap (λ z. leaves (plain_tree z)) same),
     )
 
 -- the literal at the leaf of its variable is the one that is shown
@@ -81,12 +81,12 @@ pub literal_shown : (t : Table) → IsTable t → (tree : Numbered) → tree ≡
     slice_get (numbers tree) q ≡ Some u → (d : Diagram) → IsViewOf t (LiteralView l) d →
     Literal q y (lt_z (pos 0) (to_z w32 (of_z w32 l))) ≡ d
 literal_shown t table tree same l fits u y q e leaf at d h =
-    let r = leaf-range (forget t.vtree) table.numbered.vtree 0 h.1 h.0 h.5 in
+    let r = leaf_range (plain_tree t.vtree) table.numbered.vtree 0 h.1 h.0 h.5 in
     let k = literal_read h.1 h.2 l fits r.0 h.4 in
     let variable : y ≡ h.1 = e ∙ k.0 in
     let has : variable_at t.vtree u ≡ Some h.1 =
     subst (λ z. variable_at z u ≡ Some y) same leaf ∙ ap (λ x. Some x) variable in
-    let n = leaf-number t.vtree table.numbered u h.1 has in
+    let n = leaf_number t.vtree table.numbered u h.1 has in
     let place : q ≡ h.0 =
     same_position t.vtree table.numbered u q n.0 (subst (λ z. slice_get (numbers z) q ≡ Some u) same at) n.1
     ∙ same_Some n.0 h.0 (sym n.2 ∙ h.5) in
@@ -107,9 +107,9 @@ one_variable (canonical_literal s) (canonical_literal u) e f = refl
 one_variable (canonical_in_left m k) (canonical_in_left n j) e f = one_variable k j e f
 one_variable (canonical_in_right {l = l} m k) (canonical_in_right n j) e f = one_variable k j (ap (right_base l) e) f
 one_variable (canonical_in_left m k) (canonical_in_right n j) e f =
-    absurd (omega (arith, e, f, (position-within k refl).1, (position-within j refl).0))
+    absurd (omega (arith, e, f, (position_within k refl).1, (position_within j refl).0))
 one_variable (canonical_in_right m k) (canonical_in_left n j) e f =
-    absurd (omega (arith, e, f, (position-within j refl).1, (position-within k refl).0))
+    absurd (omega (arith, e, f, (position_within j refl).1, (position_within k refl).0))
 
 -- signs are compared as truth values
 sign_cmp : (s u : Bool) → nat_cmp (cond s 1 0) (cond u 1 0) ≡ bool_cmp s u
@@ -150,7 +150,8 @@ plain_order t table c b r s (Literal p x v) (Literal q y u) f g h k =
     (λ e.
     let at : p ≡ q = exact_unsigned p q e in
     nat_same x y
-    (one_variable (literal-canonical (forget t.vtree) 0 x p v h.1) (literal-canonical (forget t.vtree) 0 y q u k.1) refl
+    (one_variable (literal_canonical (plain_tree t.vtree) 0 x p v h.1)
+    (literal_canonical (plain_tree t.vtree) 0 y q u k.1) refl
     at))
 plain_order t table c b r s (Decomposition p es) e f g h k = absurd f
 plain_order t table c b r s Bottom (Decomposition q fs) f g h k = absurd g
@@ -207,7 +208,7 @@ mutual
             record {
               list = l.list;
               is =
-                  ap (list_of o) (one-code t.vtree (get t.linked) table.keys (Decomposition p es) b c seen shows)
+                  ap (list_of o) (one_code t.vtree (get t.linked) table.keys (Decomposition p es) b c seen shows)
                   ∙ l.is;
               shown = l.shown;
             },

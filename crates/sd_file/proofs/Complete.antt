@@ -8,23 +8,23 @@ use Rattle.sd_model.specs.Diagram.{Diagram, Bottom, Top, Literal, Decomposition,
 use Rattle.sd_model.specs.Canonical.{IsElement, first, later}
 use Rattle.sd_model.specs.Size.{is_same, walk, walk_elements}
 use Rattle.sd_model.specs.Listing.{is_among, add_one, add}
-use Rattle.sd_model.specs.Text.{place_of, element_words, node_words, line_text}
+use Rattle.sd_model.specs.Text.{index_of, element_words, node_words, line_text}
 use Rattle.sd_model.proofs.Blend.{or_left, or_right}
-use Rattle.sd_model.proofs.Adding.{equal_from_same, same_itself, add-append, add_pair, is_among-append}
+use Rattle.sd_model.proofs.Adding.{equal_from_same, same_itself, add_append, add_pair, is_among_append}
 use Rattle.sd_model.proofs.ClosedLists.{ChildrenAmong}
 use Rattle.sd_laws.specs.Depth.{depth, depth_of}
-use Rattle.sd_file.specs.Lines.{AreComplete, lines_of}
+use Rattle.sd_file.specs.Lines.{AreComplete, diagram_lines}
 
 -- what stands in a list
 
 -- what stands in a list stands in a longer one
 pub among_more : (x : Diagram) (ds es : List Diagram) → is_among x ds ≡ true → is_among x (ds ++ es) ≡ true
-among_more x ds es h = is_among-append x ds es ∙ or_left (is_among x ds) (is_among x es) h
+among_more x ds es h = is_among_append x ds es ∙ or_left (is_among x ds) (is_among x es) h
 
 -- so does the last
 pub among_last : (ds : List Diagram) (d : Diagram) → is_among d (ds ++ d ∷ []) ≡ true
 among_last ds d =
-    is_among-append d ds (d ∷ [])
+    is_among_append d ds (d ∷ [])
     ∙ or_right (is_among d ds) (is_among d (d ∷ [])) (or_left (is_same d d) false (same_itself d))
 
 -- one of two tests holds
@@ -35,7 +35,7 @@ either_test false c h = inr h
 -- what stands in two joined lists stands in one of them
 among_either : (x : Diagram) (ds es : List Diagram) → is_among x (ds ++ es) ≡ true →
     (is_among x ds ≡ true) ⊎ (is_among x es ≡ true)
-among_either x ds es h = either_test (is_among x ds) (is_among x es) (sym (is_among-append x ds es) ∙ h)
+among_either x ds es h = either_test (is_among x ds) (is_among x es) (sym (is_among_append x ds es) ∙ h)
 
 -- what stands in a list of one is that one
 among_one : (x d : Diagram) → is_among x (d ∷ []) ≡ true → x ≡ d
@@ -119,7 +119,7 @@ mutual
   walk_there ds c Top h = add_there ds Top h
   walk_there ds c (Literal p x s) h = add_there ds (Literal p x s) h
   walk_there ds c (Decomposition q es) h =
-      add-append ds (walk_elements es) (Decomposition q es ∷ [])
+      add_append ds (walk_elements es) (Decomposition q es ∷ [])
       ∙ ap (λ l. add l (Decomposition q es ∷ [])) (walks_there ds c es (c q es h))
       ∙ add_there ds (Decomposition q es) h
 
@@ -147,13 +147,13 @@ walks_have : {p s : Diagram} {es : Elements} → IsElement p s es →
 walks_have {p} {s} (first {rest = rest}) = (
   among_more p (walk p ++ walk s) (walk_elements rest) (among_more p (walk p) (walk s) (walk_has p)),
   among_more s (walk p ++ walk s) (walk_elements rest)
-      (is_among-append s (walk p) (walk s) ∙ or_right (is_among s (walk p)) (is_among s (walk s)) (walk_has s)),
+      (is_among_append s (walk p) (walk s) ∙ or_right (is_among s (walk p)) (is_among s (walk s)) (walk_has s)),
 )
 walks_have {p} {s} (later {q = q} {t = t} {rest = rest} m) =
     let h = walks_have m in (
-      is_among-append p (walk q ++ walk t) (walk_elements rest)
+      is_among_append p (walk q ++ walk t) (walk_elements rest)
           ∙ or_right (is_among p (walk q ++ walk t)) (is_among p (walk_elements rest)) h.0,
-      is_among-append s (walk q ++ walk t) (walk_elements rest)
+      is_among_append s (walk q ++ walk t) (walk_elements rest)
           ∙ or_right (is_among s (walk q ++ walk t)) (is_among s (walk_elements rest)) h.1,
     )
 
@@ -205,29 +205,29 @@ still_new ds q es h = go (is_among (Decomposition q es) (add ds (walk_elements e
 pub walk_new : (ds : List Diagram) (q : ℕ) (es : Elements) → is_among (Decomposition q es) ds ≡ false →
     add ds (walk (Decomposition q es)) ≡ add ds (walk_elements es) ++ Decomposition q es ∷ []
 walk_new ds q es h =
-    add-append ds (walk_elements es) (Decomposition q es ∷ [])
+    add_append ds (walk_elements es) (Decomposition q es ∷ [])
     ∙ add_new (add ds (walk_elements es)) (Decomposition q es) (still_new ds q es h)
 
 -- places and lines
 
 -- a diagram keeps its place when others follow
-pub place_kept : (d : Diagram) (ds es : List Diagram) → is_among d ds ≡ true →
-    place_of d (ds ++ es) ≡ place_of d ds
-place_kept d [] es h = cc
-place_kept d (x ∷ ds) es h = go (is_same d x) refl (place_kept d ds es)
+pub index_kept : (d : Diagram) (ds es : List Diagram) → is_among d ds ≡ true →
+    index_of d (ds ++ es) ≡ index_of d ds
+index_kept d [] es h = cc
+index_kept d (x ∷ ds) es h = go (is_same d x) refl (index_kept d ds es)
   where
-    go : (b : Bool) → is_same d x ≡ b → (is_among d ds ≡ true → place_of d (ds ++ es) ≡ place_of d ds) →
-        cond b 0 (suc (place_of d (ds ++ es))) ≡ cond b 0 (suc (place_of d ds))
+    go : (b : Bool) → is_same d x ≡ b → (is_among d ds ≡ true → index_of d (ds ++ es) ≡ index_of d ds) →
+        cond b 0 (suc (index_of d (ds ++ es))) ≡ cond b 0 (suc (index_of d ds))
     go true e ih = refl
     go false e ih = ap suc (ih (rw e at h))
 
 -- the place of a new one is the number of those before
-pub place_last : (d : Diagram) (ds : List Diagram) → is_among d ds ≡ false → place_of d (ds ++ d ∷ []) ≡ length ds
-place_last d [] h = rw (same_itself d)
-place_last d (x ∷ ds) h = go (is_same d x) refl (place_last d ds)
+pub index_last : (d : Diagram) (ds : List Diagram) → is_among d ds ≡ false → index_of d (ds ++ d ∷ []) ≡ length ds
+index_last d [] h = rw (same_itself d)
+index_last d (x ∷ ds) h = go (is_same d x) refl (index_last d ds)
   where
-    go : (b : Bool) → is_same d x ≡ b → (is_among d ds ≡ false → place_of d (ds ++ d ∷ []) ≡ length ds) →
-        cond b 0 (suc (place_of d (ds ++ d ∷ []))) ≡ suc (length ds)
+    go : (b : Bool) → is_same d x ≡ b → (is_among d ds ≡ false → index_of d (ds ++ d ∷ []) ≡ length ds) →
+        cond b 0 (suc (index_of d (ds ++ d ∷ []))) ≡ suc (length ds)
     go true e ih = absurd (let k : true ≡ false = rw e at h in cc)
     go false e ih = ap suc (ih (rw e at h))
 
@@ -238,19 +238,19 @@ elements_kept : (ds fs : List Diagram) (es : Elements) →
 elements_kept ds fs End h = refl
 elements_kept ds fs (Pair p s rest) h =
     rw (
-      place_kept p ds fs (h p s first).0,
-      place_kept s ds fs (h p s first).1,
+      index_kept p ds fs (h p s first).0,
+      index_kept s ds fs (h p s first).1,
       elements_kept ds fs rest (λ x y m. h x y (later m)),
     )
 
 -- and so does the line of a node
 words_kept : (ds fs : List Diagram) → AreComplete ds → (d : Diagram) → is_among d ds ≡ true →
     node_words (ds ++ fs) d ≡ node_words ds d
-words_kept ds fs c Bottom h = rw (place_kept Bottom ds fs h)
-words_kept ds fs c Top h = rw (place_kept Top ds fs h)
-words_kept ds fs c (Literal p x s) h = rw (place_kept (Literal p x s) ds fs h)
+words_kept ds fs c Bottom h = rw (index_kept Bottom ds fs h)
+words_kept ds fs c Top h = rw (index_kept Top ds fs h)
+words_kept ds fs c (Literal p x s) h = rw (index_kept (Literal p x s) ds fs h)
 words_kept ds fs c (Decomposition q es) h =
-    rw (place_kept (Decomposition q es) ds fs h, elements_kept ds fs es (c q es h))
+    rw (index_kept (Decomposition q es) ds fs h, elements_kept ds fs es (c q es h))
 
 -- and so do the lines of several
 lines_kept : (ds fs : List Diagram) → AreComplete ds → (es : List Diagram) →
@@ -265,10 +265,10 @@ lines_kept ds fs c (e ∷ es) h =
 
 -- the lines of one diagram more
 pub lines_push : (ds : List Diagram) (d : Diagram) → AreComplete ds →
-    lines_of (ds ++ d ∷ []) ≡ lines_of ds ++ line_text (node_words (ds ++ d ∷ []) d)
+    diagram_lines (ds ++ d ∷ []) ≡ diagram_lines ds ++ line_text (node_words (ds ++ d ∷ []) d)
 lines_push ds d c =
     let new : List Diagram = ds ++ d ∷ [] in
     ap (flat_map line_text) (map-append (node_words new) ds (d ∷ []))
     ∙ flat_map-append line_text (map (node_words new) ds) (node_words new d ∷ [])
     ∙ ap (λ l. flat_map line_text l ++ (line_text (node_words new d) ++ [])) (lines_kept ds (d ∷ []) c ds (λ x m. m))
-    ∙ ap (λ l. lines_of ds ++ l) (append-nil (line_text (node_words new d)))
+    ∙ ap (λ l. diagram_lines ds ++ l) (append-nil (line_text (node_words new d)))

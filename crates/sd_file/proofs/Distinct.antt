@@ -5,7 +5,7 @@ use Rattle.std.specs.Prelude.{is_some}
 use Rattle.std.specs.List.{AllByRecursion, position_or_len}
 use Rattle.std.proofs.lemmas.Bool.{cases_lt, lt-ltb, eq-eqb}
 use Rattle.sd_model.specs.Tree.{AreDistinct}
-use Rattle.sd_file.specs.Reads.{place_of}
+use Rattle.sd_file.specs.Reads.{index_of_id}
 
 -- one more of a kind
 all_push : {X : Type 0} (P : X → Type 0) (xs : List X) (y : X) → AllByRecursion P xs → P y
@@ -34,10 +34,10 @@ past_end id (x ∷ xs) past = go (past_end id xs) (eqb x id) refl past
         (λ same. let equal = eq-eqb x id same in absurd (cc (equal, is)), later (omega (arith, past)))
 
 -- and so is one that has no place
-pub not_among : (id : ℕ) (ids : List ℕ) → is_some (place_of id ids) ≡ false → AllByRecursion (λ x. x ≢ id) ids
+pub not_among : (id : ℕ) (ids : List ℕ) → is_some (index_of_id id ids) ≡ false → AllByRecursion (λ x. x ≢ id) ids
 not_among id ids none = elim (cases_lt (position_or_len (λ i. i == id) ids) (length ids)) [
   | inl found ↦
-      let has : is_some (place_of id ids) ≡ true =
+      let has : is_some (index_of_id id ids) ≡ true =
       ap (λ b. is_some (cond b (Some (position_or_len (λ i. i == id) ids)) None)) (lt-ltb _ _ found) in
       absurd (cc (has, none))
   | inr past ↦ past_end id ids past

@@ -8,13 +8,13 @@ use Rattle.sd_model.specs.Tree.{leaves}
 use Rattle.sd_model.specs.Diagram.{Diagram, Bottom, Top, Literal, Decomposition, Elements, End, Pair}
 use Rattle.sd_model.specs.Size.{walk, walk_elements, completed}
 use Rattle.sd_model.specs.Text.{sdd_text}
-use Rattle.sd_model.proofs.Adding.{completed-add}
-use Rattle.sd_vtree.specs.Numbered.{Numbered, forget, or_else}
+use Rattle.sd_model.proofs.Adding.{completed_add}
+use Rattle.sd_vtree.specs.Numbered.{Numbered, plain_tree, or_else}
 use Rattle.sd_laws.specs.Shown.{Lookup, Shows, ShowElements}
-use Rattle.sd_laws.proofs.Codes.{one-diagram}
-use Rattle.sd_laws.proofs.Nodes.{code-of_node}
+use Rattle.sd_laws.proofs.Codes.{one_diagram}
+use Rattle.sd_laws.proofs.Nodes.{code_of_node}
 use Rattle.sd_manager.specs.Table.{Table}
-use Rattle.sd_manager.specs.Shown.{IsShown, HoldsDiagram}
+use Rattle.sd_manager.specs.Shown.{ShowsCanonical, HoldsDiagram}
 use Rattle.sd_manager.specs.Valid.{IsTable}
 use Rattle.sd_file.specs.RoundTrip.{ReadsBack}
 use Rattle.sd_file.proofs.DiagramPlaces.{new_completed, all_differ}
@@ -61,38 +61,38 @@ linked_below t n table some = go (get t.linked n) refl some
 
 -- a code that shows a diagram is below 2,050 and the number of records
 code_below : (t : Table) → IsTable t → AreBelow t.vtree (get t.linked) (2050 + t.records)
-code_below t table c d h = elim (code-of_node t.vtree (get t.linked) table.numbered c d h) [
-  | inl low ↦ (let few = table.numbered.few in omega arith)
+code_below t table c d h = elim (code_of_node t.vtree (get t.linked) table.numbered c d h) [
+  | inl low ↦ (let within_limit = table.numbered.within_limit in omega arith)
   | inr node ↦ omega (arith, node.1, linked_below t node.0 table node.2)
 ]
 
 -- the diagrams under one that is shown
-pub few_nodes : (t : Table) (c : ℕ) (d : Diagram) → IsTable t → IsShown t c d
+pub few_nodes : (t : Table) (c : ℕ) (d : Diagram) → IsTable t → ShowsCanonical t c d
     → length (completed (d ∷ [])) ≤ 2050 + t.records
 few_nodes t c d table is =
     let at : Lookup = get t.linked in
     let n = 2050 + t.records in
     let one = λ (c : ℕ) (d e : Diagram) (h : Shows t.vtree at c d) (k : Shows t.vtree at c e).
-    one-diagram t.vtree at table.numbered d c e h k in
+    one_diagram t.vtree at table.numbered d c e h k in
     let shown = walk_shown t.vtree at n (code_below t table) d c is.shows in
     let coded : HaveCodes (Shows t.vtree at) n (completed (d ∷ [])) =
-    subst (AllByRecursion (HasCode t.vtree at n)) (sym (completed-add d))
+    subst (AllByRecursion (HasCode t.vtree at n)) (sym (completed_add d))
     (all_add (HasCode t.vtree at n) [] (walk d) tt shown) in
     few_coded (Shows t.vtree at) n one (completed (d ∷ [])) (all_differ [] (completed (d ∷ [])) (new_completed d)) coded
 
 -- a diagram that a root holds is read back from its text
 pub held_reads_back : (t : Table) (root : ℕ) (d : Diagram) → IsTable t → HoldsDiagram t root d
-    → ReadsBack (leaves (forget t.vtree)) (sdd_text d) d
+    → ReadsBack (leaves (plain_tree t.vtree)) (sdd_text d) d
 held_reads_back t root d table held =
-    let few = few_nodes t held.code d table held.is in
+    let within_limit = few_nodes t held.code d table held.is in
     let records = table.records_fit in
     let extent = table.bounded in
     let bound = table.bound_fits in
-    reads_back (forget t.vtree) d table.numbered.vtree table.numbered.few held.is.canonical (omega arith)
+    reads_back (plain_tree t.vtree) d table.numbered.vtree table.numbered.within_limit held.is.canonical (omega arith)
 
 -- so is one from a text that is its own
 pub written_reads_back : (t : Table) (root : ℕ) (text : List ℕ) → IsTable t
     → ((d : Diagram) → HoldsDiagram t root d → text ≡ sdd_text d) → (d : Diagram) → HoldsDiagram t root d
-    → ReadsBack (leaves (forget t.vtree)) text d
+    → ReadsBack (leaves (plain_tree t.vtree)) text d
 written_reads_back t root text table is d held =
-    subst (λ x. ReadsBack (leaves (forget t.vtree)) x d) (sym (is d held)) (held_reads_back t root d table held)
+    subst (λ x. ReadsBack (leaves (plain_tree t.vtree)) x d) (sym (is d held)) (held_reads_back t root d table held)

@@ -4,7 +4,7 @@ use Rattle.std.proofs.Common.{filter, refl, ap, arith, inl, inr}
 use Rattle.std.specs.List.{slice_split, onto_first}
 use Rattle.std.proofs.lemmas.Bool.{cases_Bool}
 use Rattle.sd_base.specs.Words.{words_of, lines_of, is_filled, is_separator, is_line_end, without_empty_end}
-use Rattle.sd_base.specs.Lines.{TextLine, numbered_from, content_of, is_content}
+use Rattle.sd_base.specs.Lines.{TextLine, numbered_lines_from, content_of, is_content}
 use Rattle.sd_file.specs.Steps.{word_count}
 
 -- ---- pieces of a list
@@ -14,18 +14,18 @@ abbrev total : {X : Type 0} → List (List X) → ℕ
 total [] = 0
 total (piece ∷ pieces) = length piece + total pieces
 
-total-onto : {X : Type 0} (x : X) (pieces : List (List X)) → total (onto_first x pieces) ≡ 1 + total pieces
-total-onto x [] = refl
-total-onto x (piece ∷ pieces) = omega arith
+total_onto : {X : Type 0} (x : X) (pieces : List (List X)) → total (onto_first x pieces) ≡ 1 + total pieces
+total_onto x [] = refl
+total_onto x (piece ∷ pieces) = omega arith
 
 -- what ends a piece is in none
-total-split : {X : Type 0} (p : X → Bool) (xs : List X) → total (slice_split p xs) ≤ length xs
-total-split p [] = omega arith
-total-split p (x ∷ xs) =
-    let later = total-split p xs in
+total_split : {X : Type 0} (p : X → Bool) (xs : List X) → total (slice_split p xs) ≤ length xs
+total_split p [] = omega arith
+total_split p (x ∷ xs) =
+    let later = total_split p xs in
     elim (cases_Bool (p x)) [
       | inl ends ↦ rw ends (omega (arith, later))
-      | inr inside ↦ rw inside (omega (arith, later, total-onto x (slice_split p xs)))
+      | inr inside ↦ rw inside (omega (arith, later, total_onto x (slice_split p xs)))
     ]
 
 -- each filled piece has an element
@@ -35,19 +35,19 @@ filled ([] ∷ pieces) = omega (arith, filled pieces)
 filled ((b ∷ bs) ∷ pieces) = omega (arith, filled pieces)
 
 -- an empty piece at the end has none
-total-without : (pieces : List (List ℕ)) → total (without_empty_end pieces) ≤ total pieces
-total-without [] = omega arith
-total-without ([] ∷ []) = omega arith
-total-without ([] ∷ next ∷ pieces) = omega (arith, total-without (next ∷ pieces))
-total-without ((b ∷ bs) ∷ pieces) = omega (arith, total-without pieces)
+total_without : (pieces : List (List ℕ)) → total (without_empty_end pieces) ≤ total pieces
+total_without [] = omega arith
+total_without ([] ∷ []) = omega arith
+total_without ([] ∷ next ∷ pieces) = omega (arith, total_without (next ∷ pieces))
+total_without ((b ∷ bs) ∷ pieces) = omega (arith, total_without pieces)
 
 -- ---- the words of lines
 
 words_few : (line : List ℕ) → length (words_of line) ≤ length line
-words_few line = omega (arith, filled (slice_split is_separator line), total-split is_separator line)
+words_few line = omega (arith, filled (slice_split is_separator line), total_split is_separator line)
 
 -- and so have all lines together
-numbered : (n : ℕ) (lines : List (List ℕ)) → word_count (numbered_from n lines) ≤ total lines
+numbered : (n : ℕ) (lines : List (List ℕ)) → word_count (numbered_lines_from n lines) ≤ total lines
 numbered n [] = omega arith
 numbered n (line ∷ lines) = omega (arith, words_few line, numbered (n + 1) lines)
 
@@ -67,6 +67,6 @@ pub few_words : (bytes : List ℕ) (header : TextLine) (lines : List TextLine) �
 few_words bytes header lines e =
     let pieces = slice_split is_line_end bytes in
     let content : word_count (content_of 99 bytes) ≡ length header.words + word_count lines = ap word_count e in
-    let counts = kept (is_content 99) (numbered_from 1 (lines_of bytes)) in
+    let counts = kept (is_content 99) (numbered_lines_from 1 (lines_of bytes)) in
     let lengths = numbered 1 (lines_of bytes) in
-    omega (arith, content, counts, lengths, total-without pieces, total-split is_line_end bytes)
+    omega (arith, content, counts, lengths, total_without pieces, total_split is_line_end bytes)

@@ -15,9 +15,9 @@ use Rattle.sd_file.specs.declared.fault.SddFault.TheVariants.{BadLine, IdTwice, 
 use Rattle.sd_model.specs.Tree.{AreDistinct}
 use Rattle.sd_file.specs.declared.file.FileNode.{FileNode}
 use Rattle.sd_file.specs.Files.{IsEarlier, FitsAt, FitFrom, IsFile, IsKindOver, kind_of}
-use Rattle.sd_file.specs.Files.{no_entry, entry_at, pairs_in, pairs_at}
+use Rattle.sd_file.specs.Files.{no_entry, entry_at, pairs_in, entry_pairs}
 use Rattle.sd_file.specs.Reads.{Node, Constant, Literal, Decomposition, Entry, Form, ConstantForm, LiteralForm}
-use Rattle.sd_file.specs.Reads.{DecompositionForm, id_of, form_of, place_of, pair_at, is_literal, node_of}
+use Rattle.sd_file.specs.Reads.{DecompositionForm, id_of, form_of, index_of_id, pair_at, is_literal, node_of}
 use Rattle.sd_file.specs.Reads.{File, entry_with, entry_of}
 use Rattle.sd_file.proofs.Growing.{two, each_length}
 use Rattle.sd_file.proofs.FormPairs.{HasPairs, form_pairs}
@@ -56,9 +56,9 @@ ends_at x y h = cc
 
 -- ---- the pairs of a decomposition
 
--- the place of an id is below their number
-place_below : (ids : List ℕ) (line id p : ℕ) → ok_or (place_of id ids) (ChildUnknown line) ≡ Ok p → p < length ids
-place_below ids line id p h = (position-Some (λ i. i == id) ids p 0 (had _ _ p h)).0
+-- the index of an id is below their number
+index_below : (ids : List ℕ) (line id p : ℕ) → ok_or (index_of_id id ids) (ChildUnknown line) ≡ Ok p → p < length ids
+index_below ids line id p h = (position-Some (λ i. i == id) ids p 0 (had _ _ p h)).0
 
 -- two readings of numbers gave them
 two_gave : (r t : Result ℕ SddFault) (pair : ℕ × ℕ) → two r t ≡ Ok pair → (r ≡ Ok pair.0) × (t ≡ Ok pair.1)
@@ -73,9 +73,10 @@ two_gave (Err e) t pair h = absurd cc
 pair_below : (ids : List ℕ) (line : ℕ) (named pair : ℕ × ℕ) → pair_at ids line named ≡ Ok pair
     → IsEarlier (length ids) pair
 pair_below ids line (prime, sub) pair h =
-    let gave = two_gave (ok_or (place_of prime ids) (ChildUnknown line)) (ok_or (place_of sub ids) (ChildUnknown line))
+    let gave =
+    two_gave (ok_or (index_of_id prime ids) (ChildUnknown line)) (ok_or (index_of_id sub ids) (ChildUnknown line))
     pair h in
-    record { prime = place_below ids line prime _ gave.0; sub = place_below ids line sub _ gave.1 }
+    record { prime = index_below ids line prime _ gave.0; sub = index_below ids line sub _ gave.1 }
 
 -- what holds of each result
 each_all : {A B : Type 0} (f : A → Result B SddFault) (P : B → Type 0) → ((x : A) (y : B) → f x ≡ Ok y → P y)
@@ -119,14 +120,14 @@ node_fits v ids line (DecompositionForm id vtree pairs) node some h =
 -- an entry that fits behind others, and has an id of its own
 record IsNext (v : ℕ) (ids : List ℕ) (e : Entry) : Type 0 where
   pub fits : FitsAt v (length ids) e.node
-  pub new : is_some (place_of e.id ids) ≡ false
+  pub new : is_some (index_of_id e.id ids) ≡ false
 
 -- the entry of a line does
 entry_fits : (v : ℕ) (ids : List ℕ) (line : TextLine) (e : Entry) → entry_with v ids line ≡ Ok e → IsNext v ids e
 entry_fits v ids line e h =
     let node = λ (form : Form). node_of v ids line.number form in
     let entry : Form → Node → Result Entry SddFault = λ form node. Ok (record { id = id_of form; node = node }) in
-    let known = λ (form : Form). is_some (place_of (id_of form) ids) in
+    let known = λ (form : Form). is_some (index_of_id (id_of form) ids) in
     let rest = λ (form : Form). fault_if (known form) (IdTwice line.number) >> (node form >>= entry form) in
     let formed = through (ok_or (form_of line.words) (BadLine line.number)) rest e h in
     let form = formed.middle in
@@ -188,7 +189,7 @@ fit_at v index (e ∷ es) (suc i) fit below =
     let later = fit_at v (1 + index) es i fit.1 (omega (arith, below)) in
     subst (λ n. FitsAt v n (slice_index_or es i no_entry).node) (omega arith) later
 
--- what holds of each element of a list holds of the one at a place
+-- what holds of each element of a list holds of the one at an index
 all_at : {X : Type 0} (P : X → Type 0) (xs : List X) (i : ℕ) (x : X) → AllByRecursion P xs → slice_get xs i ≡ Some x
     → P x
 all_at P [] i x all at = absurd cc
@@ -216,9 +217,9 @@ kind_at f i kind is below same =
 
 -- the pair of an element
 pub earlier_at : (f : File) (i j : ℕ) (pair : ℕ × ℕ) → IsFile f → i < length f.nodes
-    → slice_get (pairs_at f i) j ≡ Some pair → IsEarlier i pair
+    → slice_get (entry_pairs f i) j ≡ Some pair → IsEarlier i pair
 earlier_at f i j pair is below at =
     let fit = fit_at f.variables 0 f.nodes i is.fit below in
     let earlier = pairs_earlier f.variables (0 + i) (entry_at f i).node fit in
-    let numbered = subst (λ n. AllByRecursion (IsEarlier n) (pairs_at f i)) (omega arith) earlier in
-    all_at (IsEarlier i) (pairs_at f i) j pair numbered at
+    let numbered = subst (λ n. AllByRecursion (IsEarlier n) (entry_pairs f i)) (omega arith) earlier in
+    all_at (IsEarlier i) (entry_pairs f i) j pair numbered at

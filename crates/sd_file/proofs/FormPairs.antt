@@ -6,7 +6,7 @@ use Rattle.std.specs.Prelude.{nat_le, if◌then◌else◌, option_and_then}
 use Rattle.std.proofs.lemmas.Bool.{leb-true, eqb-true}
 use Rattle.sd_base.specs.Numbers.{natural_value, integer_value}
 use Rattle.sd_file.specs.Reads.{Form, ConstantForm, LiteralForm, DecompositionForm, constant_form, literal_from}
-use Rattle.sd_file.specs.Reads.{literal_form, pairs_of, decomposition_form, all_values, form_of}
+use Rattle.sd_file.specs.Reads.{literal_form, two_by_two, decomposition_form, all_values, form_of}
 
 -- a decomposition has pairs
 abbrev pub HasPairs : Form → Type 0
@@ -54,7 +54,7 @@ literal_pairs (id ∷ vtree ∷ literal ∷ []) = go (natural_value id) (natural
 literal_pairs (id ∷ vtree ∷ literal ∷ word ∷ words) = gives_none
 
 -- two numbers are a pair
-pairs_some : (ns : List ℕ) → 2 ≤ length ns → 1 ≤ length (pairs_of ns)
+pairs_some : (ns : List ℕ) → 2 ≤ length ns → 1 ≤ length (two_by_two ns)
 pairs_some [] some = absurd (omega (arith, some))
 pairs_some (p ∷ []) some = absurd (omega (arith, some))
 pairs_some (p ∷ s ∷ others) some = omega arith
@@ -68,11 +68,12 @@ decomposition_pairs (id ∷ vtree ∷ k ∷ children) =
     go (nat_le 1 k) (length children == 2 * k) (leb-true 1 k) (eqb-true (length children) (2 * k))
   where
     go : (some even : Bool) → (some ≡ true → 1 ≤ k) → (even ≡ true → length children ≡ 2 * k)
-        → Gives (if some && even then Some (DecompositionForm id vtree (pairs_of children)) else None)
+        → Gives (if some && even then Some (DecompositionForm id vtree (two_by_two children)) else None)
     go true true least count =
-        let few = least refl in
+        let within_limit = least refl in
         let all = count refl in
-        gives_some (DecompositionForm id vtree (pairs_of children)) (pairs_some children (omega (arith, few, all)))
+        gives_some (DecompositionForm id vtree (two_by_two children))
+        (pairs_some children (omega (arith, within_limit, all)))
     go true false least count = gives_none
     go false even least count = gives_none
 

@@ -23,16 +23,16 @@ use Rattle.std.proofs.lemmas.List.{map_push, take_all, take_more}
 use Rattle.std.proofs.lemmas.List.Sorted.{IsPermutation-sym}
 use Rattle.std.proofs.lemmas.Map.Keys.{IsDistinct-push}
 use Rattle.std.proofs.lemmas.Option.{same_Some}
-use Rattle.sd_laws.proofs.Lists.{all-permuted, all-weaker}
+use Rattle.sd_laws.proofs.Lists.{all_permuted, all_weaker}
 use Rattle.sd_manager.specs.Table.{Table}
 use Rattle.sd_manager.specs.Views.{pairs_at}
 use Rattle.sd_manager.specs.Valid.{IsTable}
 use Rattle.sd_file.specs.declared.order.Ordered.{Ordered}
 use Rattle.sd_file.specs.declared.order.Found.{Found}
 use Rattle.sd_file.specs.Ordered.{rank_of}
-use Rattle.sd_file.specs.Ranks.{Ranked, Entry, ranked_cmp, entry_cmp, codes_of}
+use Rattle.sd_file.specs.Ranks.{Ranked, RankedNode, ranked_cmp, entry_cmp, codes_of}
 use Rattle.sd_file.specs.Ranks.{IsRanked, AreRanks, IsEntry, IsPast, IsFresh}
-use Rattle.sd_file.specs.Ranks.{IsGiving, IsGiven, IsAt, IsGroup, AreLeft, NoneAt, AreFound, IsAdded, was_seen}
+use Rattle.sd_file.specs.Ranks.{IsGiving, HasNewRank, IsNodeAt, IsGroup, AreLeft, NoneAt, AreFound, IsAdded, was_seen}
 use Rattle.sd_file.specs.Ranks.{items_of, HasRankedTo, HasEntries, HasGiven, IsLeft, IsFoundAlso}
 use Rattle.sd_file.specs.Ranks.{HaveRanksTo, KeepRanks}
 use Rattle.sd_file.proofs.Ascending.{sorted_strict}
@@ -72,18 +72,18 @@ ranked_more t o c i v w e x h at a b r s same =
     pair = ap {B = ℕ × ℕ} (λ n. (n, x.3)) a ∙ ap {B = ℕ × ℕ} (λ n. (e.0, n)) b
 
 -- one entry more
-pub entries_more : (t : Table) (o : Ordered) (group : List ℕ) (i d : ℕ) (v w : List Entry) (x : Entry) →
+pub entries_more : (t : Table) (o : Ordered) (group : List ℕ) (i d : ℕ) (v w : List RankedNode) (x : RankedNode) →
     HasEntries t o group i v → i < length group → x.2 ≡ get_or group i d →
-    ((p : ℕ) → IsAt t p (get_or group i d) → IsEntry t o p x) → w ≡ v ++ x ∷ [] → HasEntries t o group (i + 1) w
+    ((p : ℕ) → IsNodeAt t p (get_or group i d) → IsEntry t o p x) → w ≡ v ++ x ∷ [] → HasEntries t o group (i + 1) w
 entries_more t o group i d v w x h lt code is same =
     record {
       codes =
-          ap (map (λ (e : Entry). e.2)) same ∙ map_push (λ (e : Entry). e.2) v x
+          ap (map (λ (e : RankedNode). e.2)) same ∙ map_push (λ (e : RankedNode). e.2) v x
           ∙ ap (λ l. l ++ x.2 ∷ []) h.codes ∙ ap (λ n. take i group ++ n ∷ []) code
           ∙ sym (take_more group i d lt);
       entries = λ p each.
           subst (AllByRecursion (IsEntry t o p)) (sym same)
-          (all_pushed (IsEntry t o p) v x (h.entries p each) (is p (all_or (IsAt t p) group i each lt)));
+          (all_pushed (IsEntry t o p) v x (h.entries p each) (is p (all_or (IsNodeAt t p) group i each lt)));
     }
   where
     all_or : (P : ℕ → Type 0) (xs : List ℕ) (i : ℕ) → AllByRecursion P xs → i < length xs → P (get_or xs i d)
@@ -94,26 +94,26 @@ entries_more t o group i d v w x h lt code is same =
 -- the entry of a decomposition
 pub entry_is : (t : Table) (o : Ordered) → AreRanks t o → (code n : ℕ) (ks : List Ranked) (ls : Vec Ranked Global) →
     map codes_of ks ≡ pairs_at t code → AllByRecursion (IsRanked o) ks → IsPermutation ks ls.items →
-    IsSorted ranked_cmp ls.items → n ≡ length ls.items → (p : ℕ) → IsAt t p code → IsEntry t o p (n, ls, code)
+    IsSorted ranked_cmp ls.items → n ≡ length ls.items → (p : ℕ) → IsNodeAt t p code → IsEntry t o p (n, ls, code)
 entry_is t o ranks code n ks ls pairs ranked order up count p at =
     let e = elements_sorted t o ranks code p at.0 ks ls.items at.1.shows pairs ranked order up in
     record { elements = at.0; shown = at.1.shows; list = e.0; ranked = e.1; count = count }
 
 -- the next entry gets its rank and its list
-pub given_more : (old o new : Ordered) (p i : ℕ) (xs : List Entry) (x : Entry) (list : List (ℕ × ℕ)) →
+pub given_more : (old o new : Ordered) (p i : ℕ) (xs : List RankedNode) (x : RankedNode) (list : List (ℕ × ℕ)) →
     HasGiven old o p i xs → i < length xs → x ≡ get_or xs i x → list ≡ map codes_of x.1.items →
-    IsGiven o new x.2 (2, p, i) list → HasGiven old new p (i + 1) xs
+    HasNewRank o new x.2 (2, p, i) list → HasGiven old new p (i + 1) xs
 given_more old o new p i xs x list h lt is pairs given t groups table start =
     let split : drop i xs ≡ x ∷ drop (suc i) xs =
     drop-cons xs i x lt ∙ ap (λ z. z ∷ drop (suc i) xs) (sym is) in
     let next : suc i ≡ i + 1 = omega arith in
     subst (λ n. IsGiving t new groups p (i + 1) (drop n xs)) next
     (given_one t table o new groups p i x (drop (suc i) xs)
-    (subst (λ l. IsGiven o new x.2 (2, p, i) l) pairs given)
+    (subst (λ l. HasNewRank o new x.2 (2, p, i) l) pairs given)
     (subst (IsGiving t o groups p i) split (h t groups table start)))
 
 -- at the end none is left
-pub given_all : (old new : Ordered) (p i : ℕ) (xs : List Entry) → HasGiven old new p i xs → i ≡ length xs →
+pub given_all : (old new : Ordered) (p i : ℕ) (xs : List RankedNode) → HasGiven old new p i xs → i ≡ length xs →
     (t : Table) (groups : BTreeMap ℕ (Vec ℕ Global)) → IsTable t → IsGiving t old groups p 0 xs →
     IsGiving t new groups p (length xs) []
 given_all old new p i xs h e t groups table start =
@@ -121,25 +121,25 @@ given_all old new p i xs h e t groups table start =
     (subst (IsGiving t new groups p i) (drop_of_length-le xs (omega (arith, e))) (h t groups table start))
 
 -- no entry has a rank yet
-pub ranks_none : (o : Ordered) (xs : List Entry) → HaveRanksTo o o 0 xs
+pub ranks_none : (o : Ordered) (xs : List RankedNode) → HaveRanksTo o o 0 xs
 ranks_none o xs = record { kept = λ c s. s; given = none xs }
   where
-    none : (xs : List Entry) → AllByRecursion (λ (e : Entry). IsSome (rank_of o e.2)) (take 0 xs)
+    none : (xs : List RankedNode) → AllByRecursion (λ (e : RankedNode). IsSome (rank_of o e.2)) (take 0 xs)
     none [] = tt
     none (x ∷ xs) = tt
 
 -- the next entry has one
-pub ranks_more : (old o new : Ordered) (p i : ℕ) (xs : List Entry) (x : Entry) (list : List (ℕ × ℕ)) →
-    HaveRanksTo old o i xs → i < length xs → x ≡ get_or xs i x → IsGiven o new x.2 (2, p, i) list →
+pub ranks_more : (old o new : Ordered) (p i : ℕ) (xs : List RankedNode) (x : RankedNode) (list : List (ℕ × ℕ)) →
+    HaveRanksTo old o i xs → i < length xs → x ≡ get_or xs i x → HasNewRank o new x.2 (2, p, i) list →
     HaveRanksTo old new (i + 1) xs
 ranks_more old o new p i xs x list h lt is given =
     record {
       kept = λ c s. keeps c (h.kept c s);
       given =
-          subst (AllByRecursion (λ (e : Entry). IsSome (rank_of new e.2)))
+          subst (AllByRecursion (λ (e : RankedNode). IsSome (rank_of new e.2)))
           (sym (take_more xs i x lt ∙ ap (λ z. take i xs ++ z ∷ []) (sym is)))
-          (all_pushed (λ (e : Entry). IsSome (rank_of new e.2)) (take i xs) x
-          (all-weaker (λ (e : Entry). IsSome (rank_of o e.2)) (λ (e : Entry). IsSome (rank_of new e.2))
+          (all_pushed (λ (e : RankedNode). IsSome (rank_of new e.2)) (take i xs) x
+          (all_weaker (λ (e : RankedNode). IsSome (rank_of o e.2)) (λ (e : RankedNode). IsSome (rank_of new e.2))
           (λ e s. keeps e.2 s) (take i xs) h.given) (given_has o new x.2 (2, p, i) given.ranks));
     }
   where
@@ -147,21 +147,21 @@ ranks_more old o new p i xs x list h lt is given =
     keeps = given_keeps o new x.2 (2, p, i) given.ranks
 
 -- at the end all have
-pub ranks_all : (old o : Ordered) (i : ℕ) (xs : List Entry) → HaveRanksTo old o i xs → i ≡ length xs →
-    AllByRecursion (λ (e : Entry). IsSome (rank_of o e.2)) xs
+pub ranks_all : (old o : Ordered) (i : ℕ) (xs : List RankedNode) → HaveRanksTo old o i xs → i ≡ length xs →
+    AllByRecursion (λ (e : RankedNode). IsSome (rank_of o e.2)) xs
 ranks_all old o i xs h e =
-    subst (AllByRecursion (λ (e : Entry). IsSome (rank_of o e.2))) (take_all i xs (omega (arith, e))) h.given
+    subst (AllByRecursion (λ (e : RankedNode). IsSome (rank_of o e.2))) (take_all i xs (omega (arith, e))) h.given
 
 -- so have the codes of the entries, in any order
-pub ranks_codes : (o : Ordered) (group : List ℕ) (v w : List Entry) → map (λ (e : Entry). e.2) v ≡ group →
-    IsPermutation v w → AllByRecursion (λ (e : Entry). IsSome (rank_of o e.2)) w →
+pub ranks_codes : (o : Ordered) (group : List ℕ) (v w : List RankedNode) → map (λ (e : RankedNode). e.2) v ≡ group →
+    IsPermutation v w → AllByRecursion (λ (e : RankedNode). IsSome (rank_of o e.2)) w →
     AllByRecursion (λ c. IsSome (rank_of o c)) group
 ranks_codes o group v w codes order h =
     subst (AllByRecursion (λ c. IsSome (rank_of o c))) codes
-    (over v (all-permuted (λ (e : Entry). IsSome (rank_of o e.2)) w v (IsPermutation-sym v w order) h))
+    (over v (all_permuted (λ (e : RankedNode). IsSome (rank_of o e.2)) w v (IsPermutation-sym v w order) h))
   where
-    over : (v : List Entry) → AllByRecursion (λ (e : Entry). IsSome (rank_of o e.2)) v →
-        AllByRecursion (λ c. IsSome (rank_of o c)) (map (λ (e : Entry). e.2) v)
+    over : (v : List RankedNode) → AllByRecursion (λ (e : RankedNode). IsSome (rank_of o e.2)) v →
+        AllByRecursion (λ c. IsSome (rank_of o c)) (map (λ (e : RankedNode). e.2) v)
     over [] h = tt
     over (x ∷ v) h = (h.0, over v h.1)
 
@@ -174,13 +174,14 @@ then_apart Equal y h = h
 then_apart Greater y h = refl
 
 -- entries of distinct codes are distinct
-distinct_from : (x : Entry) (ys : List Entry) → AllByRecursion (λ c. eqb x.2 c ≡ false) (map (λ (e : Entry). e.2) ys) →
+distinct_from : (x : RankedNode) (ys : List RankedNode)
+    → AllByRecursion (λ c. eqb x.2 c ≡ false) (map (λ (e : RankedNode). e.2) ys) →
     AllByRecursion (λ y. eq_by_cmp entry_cmp x y ≡ false) ys
 distinct_from x [] h = tt
 distinct_from x (y ∷ ys) h =
     (then_apart _ (nat_cmp x.2 y.2) (nat_other x.2 y.2 (eqb-false x.2 y.2 h.0)), distinct_from x ys h.1)
 
-distinct_entries : (xs : List Entry) → IsDistinct eqb (map (λ (e : Entry). e.2) xs) →
+distinct_entries : (xs : List RankedNode) → IsDistinct eqb (map (λ (e : RankedNode). e.2) xs) →
     IsDistinct (eq_by_cmp entry_cmp) xs
 unfolding IsDistinct
 distinct_entries [] h = tt
@@ -188,7 +189,7 @@ distinct_entries (x ∷ xs) h = (distinct_from x xs h.0, distinct_entries xs h.1
 
 -- the start of giving ranks at a position at which none has a rank
 pub giving_start : (t : Table) (o : Ordered) (groups : BTreeMap ℕ (Vec ℕ Global)) (p : ℕ) (group : List ℕ)
-    (v w : List Entry) → AreRanks t o → IsGroup t p group → map (λ (e : Entry). e.2) v ≡ group →
+    (v w : List RankedNode) → AreRanks t o → IsGroup t p group → map (λ (e : RankedNode). e.2) v ≡ group →
     AllByRecursion (IsEntry t o p) v → IsPermutation v w → IsSorted entry_cmp w → IsFresh t o groups →
     NoneAt t o p → tree.get nat_cmp groups p ≡ None → IsGiving t o groups p 0 w
 giving_start t o groups p group v w ranks is codes entries order up fresh none gone =
@@ -198,12 +199,12 @@ giving_start t o groups p group v w ranks is codes entries order up fresh none g
       gone = λ u e. absurd (cc);
       below = λ c r es at shows. absurd (none c r es at shows);
       past = all_past w;
-      entries = all-permuted (IsEntry t o p) v w order entries;
+      entries = all_permuted (IsEntry t o p) v w order entries;
       ascending =
           sorted_strict entry_total v w (distinct_entries v (subst (IsDistinct eqb) (sym codes) is.distinct)) order up;
     }
   where
-    all_past : (xs : List Entry) → AllByRecursion (IsPast t o p) xs
+    all_past : (xs : List RankedNode) → AllByRecursion (IsPast t o p) xs
     all_past [] = tt
     all_past (x ∷ xs) = ((λ c r es fs at shows seen. absurd (none c r es at shows)), all_past xs)
 
@@ -242,7 +243,7 @@ unfolding IsDistinct
 no_group t p = record { each = tt; distinct = tt }
 
 -- the groups with one code more
-pub added_found : (t : Table) (old new : Found) (p c : ℕ) → AreFound t old → IsAdded old new p c → IsAt t p c →
+pub added_found : (t : Table) (old new : Found) (p c : ℕ) → AreFound t old → IsAdded old new p c → IsNodeAt t p c →
     was_seen old c ≡ false → AreFound t new
 added_found t old new p c h k at fresh =
     record { each = λ q v e. each q v e; seen = λ q v e. seen q v e; among = among }
@@ -283,7 +284,7 @@ added_found t old new p c h k at fresh =
     grown =
         let g = had (tree.get nat_cmp old.groups p) refl in
         record {
-          each = all_pushed (IsAt t p) (items_of (tree.get nat_cmp old.groups p)) c g.0.each at;
+          each = all_pushed (IsNodeAt t p) (items_of (tree.get nat_cmp old.groups p)) c g.0.each at;
           distinct =
               IsDistinct-push nat_eq_equiv (items_of (tree.get nat_cmp old.groups p)) c g.0.distinct
               (none_of old c (items_of (tree.get nat_cmp old.groups p)) fresh g.1);
@@ -310,8 +311,8 @@ added_found t old new p c h k at fresh =
             let g = had (tree.get nat_cmp old.groups p) refl in
             subst (AllByRecursion (λ b. was_seen new b ≡ true)) (sym k.items ∙ ap (λ z. z.items) same)
             (all_pushed (λ b. was_seen new b ≡ true) (items_of (tree.get nat_cmp old.groups p)) c
-            (all-weaker (λ b. was_seen old b ≡ true) (λ b. was_seen new b ≡ true) was
+            (all_weaker (λ b. was_seen old b ≡ true) (λ b. was_seen new b ≡ true) was
             (items_of (tree.get nat_cmp old.groups p)) g.1) now)
         go (inr w) =
-            all-weaker (λ b. was_seen old b ≡ true) (λ b. was_seen new b ≡ true) was v.items
+            all_weaker (λ b. was_seen old b ≡ true) (λ b. was_seen new b ≡ true) was v.items
             (h.seen q v (sym (k.others q w.1) ∙ e))

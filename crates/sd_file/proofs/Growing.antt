@@ -10,8 +10,8 @@ use Rattle.sd_file.specs.declared.fault.SddFault.{SddFault}
 use Rattle.sd_file.specs.declared.fault.SddFault.TheVariants.{ChildUnknown, OutOfMemory}
 use Rattle.sd_file.specs.declared.file.FileNode.{FileNode}
 use Rattle.sd_file.specs.declared.file.FileNode.TheVariants as kinds
-use Rattle.sd_file.specs.declared.file.Kept.{Kept}
-use Rattle.sd_file.specs.Reads.{Decomposition, Fails, pairs_of, place_of, pair_at}
+use Rattle.sd_file.specs.declared.file.FileEntry.{FileEntry}
+use Rattle.sd_file.specs.Reads.{Decomposition, Fails, two_by_two, index_of_id, pair_at}
 use Rattle.sd_file.specs.Steps.{node_in, entry_in, entries_of, count_of, IsWithin, IsPutIn, put_before}
 
 -- ---- one more pair
@@ -31,23 +31,23 @@ two r t = do
 
 -- they have no fault
 both : {A B E : Type 0} (r : Result A E) (t : Result B E) (x : A) (y : B) → r ≡ Ok x → t ≡ Ok y → two r t ≡ Ok (x, y)
-both (Ok a) (Ok b) x y r-is t-is = cc
-both (Ok a) (Err e) x y r-is t-is = absurd cc
-both (Err e) t x y r-is t-is = absurd cc
+both (Ok a) (Ok b) x y r_is t_is = cc
+both (Ok a) (Err e) x y r_is t_is = absurd cc
+both (Err e) t x y r_is t_is = absurd cc
 
 -- the first two of the numbers are a pair
 pub pair_step : (ids : List ℕ) (line : ℕ) (rest : List ℕ) (front : List (ℕ × ℕ)) (p s : ℕ) → 2 ≤ length rest
-    → ok_or (place_of (slice_index_or rest 0 0) ids) (ChildUnknown line) ≡ Ok p
-    → ok_or (place_of (slice_index_or rest 1 0) ids) (ChildUnknown line) ≡ Ok s
-    → put_before (front ++ (p, s) ∷ []) (each (pair_at ids line) (pairs_of (take (length rest - 2) (drop 2 rest))))
-    ≡ put_before front (each (pair_at ids line) (pairs_of rest))
-pair_step ids line [] front p s h prime-is sub-is = absurd (omega arith)
-pair_step ids line (prime ∷ []) front p s h prime-is sub-is = absurd (omega arith)
-pair_step ids line (prime ∷ sub ∷ others) front p s h prime-is sub-is =
-    let here : pair_at ids line (prime, sub) ≡ Ok (p, s) = both _ _ p s prime-is sub-is in
-    let later = each (pair_at ids line) (pairs_of others) in
+    → ok_or (index_of_id (slice_index_or rest 0 0) ids) (ChildUnknown line) ≡ Ok p
+    → ok_or (index_of_id (slice_index_or rest 1 0) ids) (ChildUnknown line) ≡ Ok s
+    → put_before (front ++ (p, s) ∷ []) (each (pair_at ids line) (two_by_two (take (length rest - 2) (drop 2 rest))))
+    ≡ put_before front (each (pair_at ids line) (two_by_two rest))
+pair_step ids line [] front p s h prime_is sub_is = absurd (omega arith)
+pair_step ids line (prime ∷ []) front p s h prime_is sub_is = absurd (omega arith)
+pair_step ids line (prime ∷ sub ∷ others) front p s h prime_is sub_is =
+    let here : pair_at ids line (prime, sub) ≡ Ok (p, s) = both _ _ p s prime_is sub_is in
+    let later = each (pair_at ids line) (two_by_two others) in
     let all : take (length (prime ∷ sub ∷ others) - 2) others ≡ others = take_all _ others (omega arith) in
-    ap (λ ns. put_before (front ++ (p, s) ∷ []) (each (pair_at ids line) (pairs_of ns))) all
+    ap (λ ns. put_before (front ++ (p, s) ∷ []) (each (pair_at ids line) (two_by_two ns))) all
     ∙ put_more front (p, s) later
     ∙ ap (λ (r : Result (ℕ × ℕ) SddFault). put_before front (r >>= λ y. later >>= λ ys. Ok (y ∷ ys))) (sym here)
 
@@ -68,7 +68,7 @@ each_length {A} {B} {E} f (x ∷ xs) ys h = go_on (f x) (each f xs) (each_length
     go_on (Err e) rest shorter h = absurd cc
 
 -- no more pairs than numbers
-pairs_short : (ns : List ℕ) → length (pairs_of ns) ≤ length ns
+pairs_short : (ns : List ℕ) → length (two_by_two ns) ≤ length ns
 pairs_short [] = omega arith
 pairs_short (p ∷ []) = omega arith
 pairs_short (p ∷ s ∷ others) = omega (arith, pairs_short others)
@@ -78,18 +78,18 @@ pub record IsTaken (before after : List (ℕ × ℕ)) (vtree : ℕ) (children : 
     (reading : Result (List (ℕ × ℕ)) SddFault) : Type 0 where
   pub put : IsPutIn before after
   pub longer : length before ≤ length after
-  pub few : length after - length before ≤ length children
+  pub within_limit : length after - length before ≤ length children
   pub node : (reading >>= λ places. Ok (Decomposition vtree places))
       ≡ Ok (Decomposition vtree (take (length after - length before) (drop (length before) after)))
 
 pub taken : (f : ℕ × ℕ → Result (ℕ × ℕ) SddFault) (before after : List (ℕ × ℕ)) (vtree : ℕ) (children : List ℕ)
-    → put_before before (each f (pairs_of children)) ≡ Ok after
-    → IsTaken before after vtree children (each f (pairs_of children))
+    → put_before before (each f (two_by_two children)) ≡ Ok after
+    → IsTaken before after vtree children (each f (two_by_two children))
 taken f before after vtree children h =
-    of_reading (each f (pairs_of children)) (each_length f (pairs_of children)) h
+    of_reading (each f (two_by_two children)) (each_length f (two_by_two children)) h
   where
     of_reading : (reading : Result (List (ℕ × ℕ)) SddFault)
-        → ((ys : List (ℕ × ℕ)) → reading ≡ Ok ys → length ys ≡ length (pairs_of children))
+        → ((ys : List (ℕ × ℕ)) → reading ≡ Ok ys → length ys ≡ length (two_by_two children))
         → put_before before reading ≡ Ok after → IsTaken before after vtree children reading
     of_reading (Err e) counts h = absurd cc
     of_reading (Ok ys) counts h =
@@ -101,7 +101,7 @@ taken f before after vtree children h =
         record {
           put = record { more = ys; is = is };
           longer = omega (arith, lengths);
-          few = omega (arith, lengths, counts ys refl, pairs_short children);
+          within_limit = omega (arith, lengths, counts ys refl, pairs_short children);
           node = ap (λ zs. Ok (Decomposition vtree zs)) (sym all);
         }
 
@@ -126,7 +126,7 @@ node_same before more start (kinds.Decomposition vtree count) within =
     ap (Decomposition vtree) (ap (take count) from ∙ behind)
 
 -- each node keeps its pairs
-entries_same : (before more : List (ℕ × ℕ)) (kept : List Kept) → AllByRecursion (IsWithin (length before)) kept
+entries_same : (before more : List (ℕ × ℕ)) (kept : List FileEntry) → AllByRecursion (IsWithin (length before)) kept
     → entries_of kept (before ++ more) ≡ entries_of kept before
 entries_same before more [] within = refl
 entries_same before more (k ∷ kept) within =
@@ -134,7 +134,7 @@ entries_same before more (k ∷ kept) within =
     rw (here, entries_same before more kept within.1) refl
 
 -- one more node behind the others
-pub entries_push : (before after : List (ℕ × ℕ)) (kept : List Kept) (k : Kept)
+pub entries_push : (before after : List (ℕ × ℕ)) (kept : List FileEntry) (k : FileEntry)
     → AllByRecursion (IsWithin (length before)) kept → IsPutIn before after
     → entries_of (kept ++ k ∷ []) after ≡ entries_of kept before ++ entry_in after k ∷ []
 entries_push before after kept k within put =
@@ -143,13 +143,13 @@ entries_push before after kept k within put =
     map_push (entry_in after) kept k ∙ ap (λ es. es ++ entry_in after k ∷ []) same
 
 -- pairs stay in a longer list
-within_more : (total more : ℕ) (kept : List Kept) → total ≤ more → AllByRecursion (IsWithin total) kept
+within_more : (total more : ℕ) (kept : List FileEntry) → total ≤ more → AllByRecursion (IsWithin total) kept
     → AllByRecursion (IsWithin more) kept
 within_more total more [] h within = tt
 within_more total more (k ∷ kept) h within = (omega (arith, h, within.0), within_more total more kept h within.1)
 
 -- and so do those of one more node
-pub within_push : (before after : List (ℕ × ℕ)) (kept : List Kept) (k : Kept)
+pub within_push : (before after : List (ℕ × ℕ)) (kept : List FileEntry) (k : FileEntry)
     → AllByRecursion (IsWithin (length before)) kept → IsPutIn before after → IsWithin (length after) k
     → AllByRecursion (IsWithin (length after)) (kept ++ k ∷ [])
 within_push before after [] k within put last = (last, tt)
@@ -158,7 +158,7 @@ within_push before after (x ∷ kept) k within put last =
     (omega (arith, longer, within.0), within_push before after kept k within.1 put last)
 
 -- the ids of nodes do not depend on pairs
-pub ids_same : (kept : List Kept) (pairs : List (ℕ × ℕ))
+pub ids_same : (kept : List FileEntry) (pairs : List (ℕ × ℕ))
     → map (λ e. e.id) (entries_of kept pairs) ≡ map (λ k. k.id) kept
 ids_same [] pairs = refl
 ids_same (k ∷ kept) pairs = ap (λ ids. k.id ∷ ids) (ids_same kept pairs)

@@ -3,13 +3,13 @@ use Rattle.std.proofs.Common.{◌≡◌, ℕ, ◌<◌, ◌≤◌, List, [], ◌�
 use Rattle.std.proofs.Common.{inl, inr, eq-eqb, ne_eqb}
 use Rattle.std.proofs.lemmas.Bool.{cases_eq}
 use Rattle.std.proofs.lemmas.List.{length_push}
-use Rattle.sd_file.specs.Reads.{place_of}
-use Rattle.sd_file.proofs.Places.{place_push}
+use Rattle.sd_file.specs.Reads.{index_of_id}
+use Rattle.sd_file.proofs.Places.{index_push}
 
 -- an id below their number stands at that place, and no other stands there
 pub record AreOwnPlaces (ids : List ℕ) : Type 0 where
-  pub known : (id : ℕ) → id < length ids → place_of id ids ≡ Some id
-  pub new : (id : ℕ) → length ids ≤ id → place_of id ids ≡ None
+  pub known : (id : ℕ) → id < length ids → index_of_id id ids ≡ Some id
+  pub new : (id : ℕ) → length ids ≤ id → index_of_id id ids ≡ None
 
 -- none is so
 pub no_ids : AreOwnPlaces []
@@ -22,10 +22,10 @@ next_id ids own =
     let fresh = own.new n (omega arith) in
     let longer = length_push ids n in
     record {
-      known = λ id h. place_push id ids n fresh ∙ elim (cases_eq n id) [
+      known = λ id h. index_push id ids n fresh ∙ elim (cases_eq n id) [
         | inl same ↦ rw (eq-eqb n id same) (ap Some same)
         | inr other ↦ rw (ne_eqb n id other) (own.known id (omega (arith, longer, other)))
       ];
-      new = λ id h. place_push id ids n fresh
+      new = λ id h. index_push id ids n fresh
           ∙ rw (ne_eqb n id (λ e. omega (arith, longer))) (own.new id (omega (arith, longer)));
     }

@@ -8,14 +8,14 @@ use Rattle.sd_base.specs.Lines.{content_of}
 use Rattle.sd_base.specs.Reading.{each_after}
 use Rattle.sd_model.specs.Diagram.{Diagram, Bottom, Top, Literal, Decomposition, Elements, End, Pair, count}
 use Rattle.sd_model.specs.Text.{number_text, literal_text, line_text, element_words, node_words}
-use Rattle.sd_model.specs.Text.{place_of as place_in}
+use Rattle.sd_model.specs.Text.{index_of as index_in}
 use Rattle.sd_model.proofs.ClosedLists.{IsClosed}
 use Rattle.sd_model.proofs.Words.{number_is_word}
 use Rattle.sd_vfile.proofs.Texts.{IsFullWord, IsTextLine, numbered, full_number, natural_back, text_back}
 use Rattle.sd_file.specs.Reads.{Entry, entry_of, file_of_lines}
 use Rattle.sd_file.proofs.IdPlaces.{AreOwnPlaces, no_ids, next_id}
-use Rattle.sd_file.proofs.DiagramPlaces.{AreNew, place_new, place_below, place_most}
-use Rattle.sd_file.proofs.NodeLines.{written_entry, IsReadable, AreKnown, line_back}
+use Rattle.sd_file.proofs.DiagramPlaces.{AreNew, index_new, index_below, index_most}
+use Rattle.sd_file.proofs.NodeLines.{written_entry, IsReadable, HaveIds, line_back}
 
 -- ---- the lines are lines of words
 
@@ -24,8 +24,8 @@ element_lines : (nodes : List Diagram) (es : Elements) → length nodes < 10 ^ 1
     → AllByRecursion IsFullWord (element_words nodes es)
 element_lines nodes End small = tt
 element_lines nodes (Pair p s rest) small = (
-  full_number (place_in p nodes) (omega (arith, place_most p nodes)),
-  (full_number (place_in s nodes) (omega (arith, place_most s nodes)), element_lines nodes rest small),
+  full_number (index_in p nodes) (omega (arith, index_most p nodes)),
+  (full_number (index_in s nodes) (omega (arith, index_most s nodes)), element_lines nodes rest small),
 )
 
 -- the text of a literal
@@ -41,28 +41,28 @@ letter b h = record { bytes = (h, tt); filled = refl }
 node_line : (v : ℕ) (nodes : List Diagram) (d : Diagram) → length nodes < 10 ^ 18 → IsReadable v d
     → IsTextLine 99 (node_words nodes d)
 node_line v nodes Bottom small fits =
-    let id = full_number (place_in Bottom nodes) (omega (arith, place_most Bottom nodes)) in
-    record { words = (letter 70 (omega arith), (id, tt)); some = refl; plain = refl }
+    let id = full_number (index_in Bottom nodes) (omega (arith, index_most Bottom nodes)) in
+    record { words = (letter 70 (omega arith), (id, tt)); not_blank = refl; plain = refl }
 node_line v nodes Top small fits =
-    let id = full_number (place_in Top nodes) (omega (arith, place_most Top nodes)) in
-    record { words = (letter 84 (omega arith), (id, tt)); some = refl; plain = refl }
+    let id = full_number (index_in Top nodes) (omega (arith, index_most Top nodes)) in
+    record { words = (letter 84 (omega arith), (id, tt)); not_blank = refl; plain = refl }
 node_line v nodes (Literal p x positive) small fits =
     let d = Literal p x positive in
-    let id = full_number (place_in d nodes) (omega (arith, place_most d nodes)) in
+    let id = full_number (index_in d nodes) (omega (arith, index_most d nodes)) in
     record {
       words = (letter 76 (omega arith), (id, (full_number p fits.0, (full_literal x positive fits.3, tt))));
-      some = refl;
+      not_blank = refl;
       plain = refl;
     }
 node_line v nodes (Decomposition p es) small fits =
     let d = Decomposition p es in
-    let id = full_number (place_in d nodes) (omega (arith, place_most d nodes)) in
+    let id = full_number (index_in d nodes) (omega (arith, index_most d nodes)) in
     record {
       words = (
         letter 68 (omega arith),
         (id, (full_number p fits.0, (full_number (count es) fits.2, element_lines nodes es small))),
       );
-      some = refl;
+      not_blank = refl;
       plain = refl;
     }
 
@@ -89,14 +89,14 @@ lines_read v n nodes before (d ∷ ds) earlier is small closed new fit own same 
     let ids = ids_of earlier in
     let entry = written_entry nodes d in
     let count : length ids ≡ length before = length-map earlier (λ (e : Entry). e.id) ∙ same in
-    let place : place_in d nodes ≡ length ids =
-    ap (place_in d) is ∙ place_new d before ds new.0 ∙ sym count in
-    let known : AreKnown before nodes ids = λ x there.
-    own.known (place_in x nodes) (omega (arith, count, ap (place_in x) is, place_below x before (d ∷ ds) there)) in
-    let fresh = own.new (place_in d nodes) (omega (arith, place)) in
+    let index : index_in d nodes ≡ length ids =
+    ap (index_in d) is ∙ index_new d before ds new.0 ∙ sym count in
+    let known : HaveIds before nodes ids = λ x there.
+    own.known (index_in x nodes) (omega (arith, count, ap (index_in x) is, index_below x before (d ∷ ds) there)) in
+    let fresh = own.new (index_in d nodes) (omega (arith, index)) in
     let line = line_back v n before nodes ids d small fit.0 closed.0 known fresh in
     let pushed : ids_of (earlier ++ entry ∷ []) ≡ ids ++ length ids ∷ [] =
-    map_push (λ (e : Entry). e.id) earlier entry ∙ ap (λ i. ids ++ i ∷ []) place in
+    map_push (λ (e : Entry). e.id) earlier entry ∙ ap (λ i. ids ++ i ∷ []) index in
     let longer : length (earlier ++ entry ∷ []) ≡ length (before ++ d ∷ []) =
     length_push earlier entry ∙ ap (λ k. k + 1) same ∙ sym (length_push before d) in
     let rest = lines_read v (n + 1) nodes (before ++ d ∷ []) ds (earlier ++ entry ∷ [])
@@ -117,7 +117,7 @@ text_read v nodes some small closed new fit =
     let name : IsFullWord (codes "sdd") =
     record { bytes = (omega arith, (omega arith, (omega arith, tt))); filled = refl } in
     let head : IsTextLine 99 header =
-    record { words = (name, (full_number (length nodes) small, tt)); some = refl; plain = refl } in
+    record { words = (name, (full_number (length nodes) small, tt)); not_blank = refl; plain = refl } in
     let read = lines_read v 2 nodes [] nodes [] refl small closed new fit no_ids refl in
     let count : length nodes ≡ length entries = sym (length-map nodes (written_entry nodes)) in
     ap (file_of_lines v) (text_back 99 (header ∷ lines) (head, node_lines v nodes nodes small fit))

@@ -10,11 +10,11 @@ use Rattle.std.proofs.lemmas.Bool.Decides.{nat_tests}
 use Rattle.std.proofs.lemmas.Option.{same_Some}
 use Rattle.sd_model.specs.Diagram.{Diagram, Literal}
 use Rattle.sd_model.specs.Tree.{leaves}
-use Rattle.sd_vtree.specs.Numbered.{Numbered, IsNumbered, numbers, forget, variable_at}
+use Rattle.sd_vtree.specs.Numbered.{Numbered, IsNumbered, numbers, plain_tree, variable_at}
 use Rattle.sd_vtree.proofs.Subtrees.{once_numbered}
 use Rattle.sd_vtree.proofs.Times.{one_place}
-use Rattle.sd_laws.proofs.Codes.{leaf-range}
-use Rattle.sd_laws.proofs.Leaves.{leaf-number}
+use Rattle.sd_laws.proofs.Codes.{leaf_range}
+use Rattle.sd_laws.proofs.Leaves.{leaf_number}
 use Rattle.sd_manager.specs.Table.{Table}
 use Rattle.sd_manager.specs.declared.view.View.TheVariants.{Literal as LiteralView}
 use Rattle.sd_manager.specs.Literals.{literal_of}
@@ -41,12 +41,12 @@ literal_read x s l fits h e =
 -- the variable of a literal that is read is one of the vtree
 pub literal_range : (t : Table) → IsTable t → (tree : Numbered) → tree ≡ t.vtree → (l : ℤ) → SFits w32 l → (y : ℕ) →
     y ≡ nat_abs (to_z w32 (of_z w32 l)) → (d : Diagram) → IsViewOf t (LiteralView l) d →
-    (1 ≤ y) × (y ≤ leaves (forget tree))
+    (1 ≤ y) × (y ≤ leaves (plain_tree tree))
 literal_range t table tree same l fits y e d h =
-    let r = leaf-range (forget t.vtree) table.numbered.vtree 0 h.1 h.0 h.5 in
+    let r = leaf_range (plain_tree t.vtree) table.numbered.vtree 0 h.1 h.0 h.5 in
     let k = literal_read h.1 h.2 l fits r.0 h.4 in (
       omega (arith, e, k.0, r.0),
-      omega (arith, e, k.0, r.1, ap (λ z. leaves (forget z)) same),
+      omega (arith, e, k.0, r.1, ap (λ z. leaves (plain_tree z)) same),
     )
 
 -- the literal at the leaf of its variable is the one that is shown
@@ -55,12 +55,12 @@ pub literal_shown : (t : Table) → IsTable t → (tree : Numbered) → tree ≡
     slice_get (numbers tree) q ≡ Some u → (d : Diagram) → IsViewOf t (LiteralView l) d →
     Literal q y (lt_z (pos 0) (to_z w32 (of_z w32 l))) ≡ d
 literal_shown t table tree same l fits u y q e leaf at d h =
-    let r = leaf-range (forget t.vtree) table.numbered.vtree 0 h.1 h.0 h.5 in
+    let r = leaf_range (plain_tree t.vtree) table.numbered.vtree 0 h.1 h.0 h.5 in
     let k = literal_read h.1 h.2 l fits r.0 h.4 in
     let variable : y ≡ h.1 = e ∙ k.0 in
     let has : variable_at t.vtree u ≡ Some h.1 =
     subst (λ z. variable_at z u ≡ Some y) same leaf ∙ ap (λ x. Some x) variable in
-    let n = leaf-number t.vtree table.numbered u h.1 has in
+    let n = leaf_number t.vtree table.numbered u h.1 has in
     let place : q ≡ h.0 =
     same_position t.vtree table.numbered u q n.0 (subst (λ z. slice_get (numbers z) q ≡ Some u) same at) n.1
     ∙ same_Some n.0 h.0 (sym n.2 ∙ h.5) in

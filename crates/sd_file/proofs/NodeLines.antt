@@ -10,25 +10,25 @@ use Rattle.sd_model.specs.Diagram.{Diagram, Bottom, Top, Literal, Decomposition,
 use Rattle.sd_model.specs.Canonical.{IsElement, first, later}
 use Rattle.sd_model.specs.Listing.{is_among}
 use Rattle.sd_model.specs.Text.{number_text, literal_text, element_words, node_words}
-use Rattle.sd_model.specs.Text.{place_of as place_in}
+use Rattle.sd_model.specs.Text.{index_of as index_in}
 use Rattle.sd_model.proofs.ClosedLists.{ChildrenAmong}
 use Rattle.sd_vfile.proofs.Texts.{natural_back}
 use Rattle.sd_file.specs.Reads.{Node, Entry, DecompositionForm, form_of}
 use Rattle.sd_file.specs.Reads.{Constant as ConstantNode, Literal as LiteralNode, Decomposition as DecompositionNode}
-use Rattle.sd_file.specs.Reads.{all_values, pairs_of, is_literal, place_of, pair_at, entry_with}
-use Rattle.sd_file.proofs.DiagramPlaces.{place_most}
+use Rattle.sd_file.specs.Reads.{all_values, two_by_two, is_literal, index_of_id, pair_at, entry_with}
+use Rattle.sd_file.proofs.DiagramPlaces.{index_most}
 
 -- ---- the node of a diagram in a list
 
 -- the places of the primes and subs
 abbrev pub written_numbers : List Diagram → Elements → List ℕ
 written_numbers nodes End = []
-written_numbers nodes (Pair p s rest) = place_in p nodes ∷ place_in s nodes ∷ written_numbers nodes rest
+written_numbers nodes (Pair p s rest) = index_in p nodes ∷ index_in s nodes ∷ written_numbers nodes rest
 
 -- two by two
 abbrev pub written_pairs : List Diagram → Elements → List (ℕ × ℕ)
 written_pairs nodes End = []
-written_pairs nodes (Pair p s rest) = (place_in p nodes, place_in s nodes) ∷ written_pairs nodes rest
+written_pairs nodes (Pair p s rest) = (index_in p nodes, index_in s nodes) ∷ written_pairs nodes rest
 
 -- the literal of a variable
 abbrev pub signed : ℕ → Bool → ℤ
@@ -44,7 +44,7 @@ written_node nodes (Decomposition p es) = DecompositionNode p (written_pairs nod
 
 -- its entry
 abbrev pub written_entry : List Diagram → Diagram → Entry
-written_entry nodes d = record { id = place_in d nodes; node = written_node nodes d }
+written_entry nodes d = record { id = index_in d nodes; node = written_node nodes d }
 
 -- literals are of the variables 1 to v, decompositions have an element, and numbers have at most 18 digits
 abbrev pub IsReadable : ℕ → Diagram → Type 0
@@ -85,8 +85,8 @@ numbers_back : (nodes : List Diagram) (es : Elements) → length nodes < 10 ^ 18
     → all_values natural_value (element_words nodes es) ≡ Some (written_numbers nodes es)
 numbers_back nodes End small = refl
 numbers_back nodes (Pair p s rest) small =
-    let prime = natural_back (place_in p nodes) (omega (arith, place_most p nodes)) in
-    let sub = natural_back (place_in s nodes) (omega (arith, place_most s nodes)) in
+    let prime = natural_back (index_in p nodes) (omega (arith, index_most p nodes)) in
+    let sub = natural_back (index_in s nodes) (omega (arith, index_most s nodes)) in
     rw (prime, sub, numbers_back nodes rest small) refl
 
 -- are two for each element
@@ -95,17 +95,17 @@ numbers_twice nodes End = refl
 numbers_twice nodes (Pair p s rest) = omega (arith, numbers_twice nodes rest)
 
 -- its prime and its sub
-numbers_paired : (nodes : List Diagram) (es : Elements) → pairs_of (written_numbers nodes es) ≡ written_pairs nodes es
+numbers_paired : (nodes : List Diagram) (es : Elements) → two_by_two (written_numbers nodes es) ≡ written_pairs nodes es
 numbers_paired nodes End = refl
-numbers_paired nodes (Pair p s rest) = ap (λ ps. (place_in p nodes, place_in s nodes) ∷ ps) (numbers_paired nodes rest)
+numbers_paired nodes (Pair p s rest) = ap (λ ps. (index_in p nodes, index_in s nodes) ∷ ps) (numbers_paired nodes rest)
 
 -- an id of a diagram in the list is its place
-abbrev pub AreKnown : List Diagram → List Diagram → List ℕ → Type 0
-AreKnown before nodes ids =
-    (d : Diagram) → is_among d before ≡ true → place_of (place_in d nodes) ids ≡ Some (place_in d nodes)
+abbrev pub HaveIds : List Diagram → List Diagram → List ℕ → Type 0
+HaveIds before nodes ids =
+    (d : Diagram) → is_among d before ≡ true → index_of_id (index_in d nodes) ids ≡ Some (index_in d nodes)
 
 -- the primes and subs are found at their places
-pairs_found : (before nodes : List Diagram) (ids : List ℕ) (line : ℕ) (es : Elements) → AreKnown before nodes ids
+pairs_found : (before nodes : List Diagram) (ids : List ℕ) (line : ℕ) (es : Elements) → HaveIds before nodes ids
     → ((q s : Diagram) → IsElement q s es → (is_among q before ≡ true) × (is_among s before ≡ true))
     → each (pair_at ids line) (written_pairs nodes es) ≡ Ok (written_pairs nodes es)
 pairs_found before nodes ids line End known there = refl
@@ -121,11 +121,11 @@ decomposition_back : (nodes : List Diagram) (id p : ℕ) (es : Elements) → len
     → p < 10 ^ 18 → 1 ≤ count es → count es < 10 ^ 18
     → form_of (codes "D" ∷ number_text id ∷ number_text p ∷ number_text (count es) ∷ element_words nodes es)
     ≡ Some (DecompositionForm id p (written_pairs nodes es))
-decomposition_back nodes id p es small small_id small_p some few =
+decomposition_back nodes id p es small small_id small_p some within_limit =
     rw (
       natural_back id small_id,
       natural_back p small_p,
-      natural_back (count es) few,
+      natural_back (count es) within_limit,
       numbers_back nodes es small,
       le-leb 1 (count es) some,
       eq-eqb (length (written_numbers nodes es)) (2 * count es) (numbers_twice nodes es),
@@ -134,23 +134,23 @@ decomposition_back nodes id p es small small_id small_p some few =
 
 -- the line of a diagram whose primes and subs are known, and whose id is new
 pub line_back : (v n : ℕ) (before nodes : List Diagram) (ids : List ℕ) (d : Diagram) → length nodes < 10 ^ 18
-    → IsReadable v d → ChildrenAmong before d → AreKnown before nodes ids → place_of (place_in d nodes) ids ≡ None
+    → IsReadable v d → ChildrenAmong before d → HaveIds before nodes ids → index_of_id (index_in d nodes) ids ≡ None
     → entry_with v ids (record { number = n; words = node_words nodes d }) ≡ Ok (written_entry nodes d)
 line_back v n before nodes ids Bottom small fits there known new =
-    rw (natural_back (place_in Bottom nodes) (omega (arith, place_most Bottom nodes)), new) refl
+    rw (natural_back (index_in Bottom nodes) (omega (arith, index_most Bottom nodes)), new) refl
 line_back v n before nodes ids Top small fits there known new =
-    rw (natural_back (place_in Top nodes) (omega (arith, place_most Top nodes)), new) refl
+    rw (natural_back (index_in Top nodes) (omega (arith, index_most Top nodes)), new) refl
 line_back v n before nodes ids (Literal p x positive) small fits there known new =
-    let id = place_in (Literal p x positive) nodes in
+    let id = index_in (Literal p x positive) nodes in
     rw (
-      natural_back id (omega (arith, place_most (Literal p x positive) nodes)),
+      natural_back id (omega (arith, index_most (Literal p x positive) nodes)),
       natural_back p fits.0,
       literal_back x positive fits.3,
       new,
       literal_within v x positive fits.1 fits.2,
     ) refl
 line_back v n before nodes ids (Decomposition p es) small fits there known new =
-    let id = place_in (Decomposition p es) nodes in
-    let form = decomposition_back nodes id p es small (omega (arith, place_most (Decomposition p es) nodes)) fits.0
+    let id = index_in (Decomposition p es) nodes in
+    let form = decomposition_back nodes id p es small (omega (arith, index_most (Decomposition p es) nodes)) fits.0
     fits.1 fits.2 in
     rw (form, new, pairs_found before nodes ids n es known there) refl

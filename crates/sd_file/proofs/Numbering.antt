@@ -10,26 +10,26 @@ use Rattle.sd_model.specs.Diagram.{Diagram, Elements, End, Pair}
 use Rattle.sd_model.specs.Canonical.{IsElement, first, later}
 use Rattle.sd_model.specs.Size.{is_same}
 use Rattle.sd_model.specs.Listing.{is_among}
-use Rattle.sd_model.specs.Text.{place_of, element_words, node_words}
-use Rattle.sd_model.proofs.Adding.{is_among-append, equal_from_same}
+use Rattle.sd_model.specs.Text.{index_of, element_words, node_words}
+use Rattle.sd_model.proofs.Adding.{is_among_append, equal_from_same}
 use Rattle.sd_model.proofs.ClosedLists.{ChildrenAmong}
 use Rattle.sd_laws.specs.Shown.{ShowElements}
-use Rattle.sd_laws.proofs.Codes.{one-diagram}
+use Rattle.sd_laws.proofs.Codes.{one_diagram}
 use Rattle.sd_laws.proofs.Codes as codes
-use Rattle.sd_laws.proofs.Nodes.{code-of_node}
+use Rattle.sd_laws.proofs.Nodes.{code_of_node}
 use Rattle.sd_manager.specs.Table.{Table}
 use Rattle.sd_manager.specs.Shown.{Shows}
 use Rattle.sd_manager.specs.Valid.{IsTable}
 use Rattle.sd_manager.proofs.Reading.{linked_key}
 use Rattle.sd_file.specs.declared.lines.Listing.{Listing}
 use Rattle.sd_file.specs.declared.numbers.Numbers.{Numbers}
-use Rattle.sd_file.specs.Numbers.{mark_at, CanGive, IsGiven, HaveNumbers, pair_words}
-use Rattle.sd_file.specs.Lines.{mark_in, AreNumbered, IsWritten, HasLine}
-use Rattle.sd_file.proofs.Complete.{among_more, among_last, complete_push, place_kept, place_last, lines_push}
+use Rattle.sd_file.specs.Numbers.{mark_at, CanGive, HasNextNumber, HaveNumbers, pair_words}
+use Rattle.sd_file.specs.Lines.{mark_in, AreNumbered, HasNodeLines, HasNodeLine}
+use Rattle.sd_file.proofs.Complete.{among_more, among_last, complete_push, index_kept, index_last, lines_push}
 
 -- the mark of a new diagram
 mark_last : (ds : List Diagram) (d : Diagram) → is_among d ds ≡ false → mark_in (ds ++ d ∷ []) d ≡ suc (length ds)
-mark_last ds d h = rw (among_last ds d) (ap suc (place_last d ds h))
+mark_last ds d h = rw (among_last ds d) (ap suc (index_last d ds h))
 
 -- the marks of others stay
 mark_kept : (ds : List Diagram) (d x : Diagram) → (x ≡ d → ⊥) → mark_in (ds ++ d ∷ []) x ≡ mark_in ds x
@@ -40,17 +40,18 @@ mark_kept ds d x differ = go (is_among x ds) refl
     lacks false e = refl
 
     go : (b : Bool) → is_among x ds ≡ b → mark_in (ds ++ d ∷ []) x ≡ mark_in ds x
-    go true e = rw (among_more x ds (d ∷ []) e, e) (ap suc (place_kept x ds (d ∷ []) e))
-    go false e = rw (is_among-append x ds (d ∷ []), e, lacks (is_same x d) refl)
+    go true e = rw (among_more x ds (d ∷ []) e, e) (ap suc (index_kept x ds (d ∷ []) e))
+    go false e = rw (is_among_append x ds (d ∷ []), e, lacks (is_same x d) refl)
 
 -- the numbers of one diagram more
 pub numbered_more : (t : Table) → IsTable t → (old new : Numbers) (c : ℕ) (d : Diagram) (ds : List Diagram) →
-    Shows t c d → AreNumbered t old ds → is_among d ds ≡ false → IsGiven old new c → AreNumbered t new (ds ++ d ∷ [])
+    Shows t c d → AreNumbered t old ds → is_among d ds ≡ false → HasNextNumber old new c
+    → AreNumbered t new (ds ++ d ∷ [])
 numbered_more t table old new c d ds shown h lacks given =
     record {
       marks = λ b x k. elim (cases_eq b c) [
         | inl same ↦
-            let is : d ≡ x = one-diagram t.vtree (get t.linked) table.numbered d c x shown
+            let is : d ≡ x = one_diagram t.vtree (get t.linked) table.numbered d c x shown
             (subst (λ y. Shows t y x) same k) in
             let test : (b == c) ≡ true = eq-eqb b c same in
             given.marks b ∙ rw test (omega (arith, h.count))
@@ -64,7 +65,7 @@ numbered_more t table old new c d ds shown h lacks given =
     }
   where
     one_code : (b : ℕ) (x : Diagram) → Shows t b x → x ≡ d → b ≡ c
-    one_code b x k e = codes.one-code t.vtree (get t.linked) table.keys d b c (subst (Shows t b) e k) shown
+    one_code b x k e = codes.one_code t.vtree (get t.linked) table.keys d b c (subst (Shows t b) e k) shown
 
 -- the code of a new diagram can get a number
 pub can_give : (t : Table) → IsTable t → (numbers : Numbers) (c : ℕ) (d : Diagram) (ds : List Diagram) →
@@ -78,14 +79,14 @@ can_give t table numbers c d ds shown h lacks =
         omega (arith, table.within n k (linked_key t n k e), table.records_fit, table.bounded, table.bound_fits)
 
     low : c < 2 ^ 32 - 1
-    low = elim (code-of_node t.vtree (get t.linked) table.numbered c d shown) [
-      | inl small ↦ omega (arith, small, table.numbered.few)
+    low = elim (code_of_node t.vtree (get t.linked) table.numbered c d shown) [
+      | inl small ↦ omega (arith, small, table.numbered.within_limit)
       | inr k ↦ omega (arith, k.1, within k.0 (get t.linked k.0) refl k.2)
     ]
 
 -- what stands among the complete ones has a number
 pub has_number : (t : Table) (numbers : Numbers) (ds : List Diagram) → AreNumbered t numbers ds → (c : ℕ)
-    (d : Diagram) → Shows t c d → is_among d ds ≡ true → mark_at numbers c ≡ suc (place_of d ds)
+    (d : Diagram) → Shows t c d → is_among d ds ≡ true → mark_at numbers c ≡ suc (index_of d ds)
 has_number t numbers ds h c d shown there = h.marks c d shown ∙ rw there
 
 -- the codes of primes and subs that are there have numbers
@@ -112,16 +113,16 @@ words_are t numbers ds h [] End shown there = refl
 words_are t numbers ds h [] (Pair p s rest) shown there = absurd shown
 words_are t numbers ds h (e ∷ l) End shown there = absurd shown
 words_are t numbers ds h (e ∷ l) (Pair p s rest) shown there =
-    let prime : mark_at numbers e.0 - 1 ≡ place_of p ds =
+    let prime : mark_at numbers e.0 - 1 ≡ index_of p ds =
     omega (arith, has_number t numbers ds h e.0 p shown.0 (there p s first).0) in
-    let sub : mark_at numbers e.1 - 1 ≡ place_of s ds =
+    let sub : mark_at numbers e.1 - 1 ≡ index_of s ds =
     omega (arith, has_number t numbers ds h e.1 s shown.1 (there p s first).1) in
     rw (prime, sub, words_are t numbers ds h l rest shown.2 (λ x y m. there x y (later m)))
 
 -- the line of a new diagram
 pub line_written : (t : Table) → IsTable t → (old new : Listing) (c : ℕ) (d : Diagram) (ds : List Diagram) →
-    Shows t c d → IsWritten t old ds → is_among d ds ≡ false → ChildrenAmong ds d → (words : List (List ℕ)) →
-    HasLine old new c words → words ≡ node_words (ds ++ d ∷ []) d → IsWritten t new (ds ++ d ∷ [])
+    Shows t c d → HasNodeLines t old ds → is_among d ds ≡ false → ChildrenAmong ds d → (words : List (List ℕ)) →
+    HasNodeLine old new c words → words ≡ node_words (ds ++ d ∷ []) d → HasNodeLines t new (ds ++ d ∷ [])
 line_written t table old new c d ds shown h lacks children words line is =
     record {
       numbered = numbered_more t table old.numbers new.numbers c d ds shown h.numbered lacks line.given;

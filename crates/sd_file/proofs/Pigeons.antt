@@ -7,8 +7,8 @@ use Rattle.std.proofs.lemmas.List.FromFn.{length-range_with_len}
 use Rattle.sd_model.specs.Tree.{AreDistinct}
 use Rattle.sd_model.specs.Diagram.{Diagram}
 use Rattle.sd_model.specs.Canonical.{AreDifferent}
-use Rattle.sd_laws.proofs.Lists.{IsAmong, all-from, all-at}
-use Rattle.sd_laws.proofs.Pigeons.{length-within}
+use Rattle.sd_laws.proofs.Lists.{IsAmong, all_from, all_at}
+use Rattle.sd_laws.proofs.Pigeons.{length_within}
 
 -- a number of a range stands in it
 in_range : (x a k : ℕ) → a ≤ x → x < a + k → IsAmong x (range_with_len a k)
@@ -22,9 +22,9 @@ in_range x a (suc k) low high = elim (cases_eq x a) [
 few_below : (n : ℕ) (xs : List ℕ) → AreDistinct xs → AllByRecursion (λ x. x < n) xs → length xs ≤ n
 few_below n xs distinct low =
     let range = range_with_len 0 n in
-    let within : AllByRecursion (λ x. IsAmong x range) xs = all-from (λ x. IsAmong x range) xs
-    (λ x m. in_range x 0 n (omega arith) (let below = all-at (λ y. y < n) xs x low m in omega arith)) in
-    omega (arith, length-within xs range distinct within, length-range_with_len 0 n)
+    let within : AllByRecursion (λ x. IsAmong x range) xs = all_from (λ x. IsAmong x range) xs
+    (λ x m. in_range x 0 n (omega arith) (let below = all_at (λ y. y < n) xs x low m in omega arith)) in
+    omega (arith, length_within xs range distinct within, length-range_with_len 0 n)
 
 -- each diagram has a code below n
 abbrev pub HaveCodes : (ℕ → Diagram → Type 0) → ℕ → List Diagram → Type 0
@@ -36,11 +36,11 @@ codes_of IsCode n [] have = []
 codes_of IsCode n (d ∷ ds) have = have.0.0 ∷ codes_of IsCode n ds have.1
 
 -- one for each diagram
-length-codes : (IsCode : ℕ → Diagram → Type 0) (n : ℕ) (ds : List Diagram) (have : HaveCodes IsCode n ds)
+length_codes : (IsCode : ℕ → Diagram → Type 0) (n : ℕ) (ds : List Diagram) (have : HaveCodes IsCode n ds)
     → length (codes_of IsCode n ds have) ≡ length ds
 unfolding codes_of
-length-codes IsCode n [] have = refl
-length-codes IsCode n (d ∷ ds) have = ap suc (length-codes IsCode n ds have.1)
+length_codes IsCode n [] have = refl
+length_codes IsCode n (d ∷ ds) have = ap suc (length_codes IsCode n ds have.1)
 
 -- all are below n
 codes_low : (IsCode : ℕ → Diagram → Type 0) (n : ℕ) (ds : List Diagram) (have : HaveCodes IsCode n ds)
@@ -77,5 +77,5 @@ pub few_coded : (IsCode : ℕ → Diagram → Type 0) (n : ℕ) → AreCodes IsC
     → HaveCodes IsCode n ds → length ds ≤ n
 few_coded IsCode n one ds differ have =
     let codes = codes_of IsCode n ds have in
-    let few = few_below n codes (codes_distinct IsCode n one ds differ have) (codes_low IsCode n ds have) in
-    omega (arith, few, length-codes IsCode n ds have)
+    let within_limit = few_below n codes (codes_distinct IsCode n one ds differ have) (codes_low IsCode n ds have) in
+    omega (arith, within_limit, length_codes IsCode n ds have)

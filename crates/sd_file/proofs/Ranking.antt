@@ -24,8 +24,8 @@ use Rattle.sd_model.specs.Diagram.{Diagram, Bottom, Top, Literal, Decomposition,
 use Rattle.sd_model.specs.Diagram.{primes, count, diagram_cmp, elements_cmp}
 use Rattle.sd_model.proofs.Order.{antisymm, exact, irreflexive, reflexive}
 use Rattle.sd_laws.specs.Shown.{ShowElements, AreKeys}
-use Rattle.sd_laws.proofs.Codes.{one-code, one-diagram}
-use Rattle.sd_laws.proofs.Lists.{all-permuted, all-weaker, lifted}
+use Rattle.sd_laws.proofs.Codes.{one_code, one_diagram}
+use Rattle.sd_laws.proofs.Lists.{all_permuted, all_weaker, lifted}
 use Rattle.sd_manager.specs.Table.{Table}
 use Rattle.sd_manager.specs.Shown.{Shows}
 use Rattle.sd_manager.specs.Views.{pairs_at}
@@ -33,9 +33,9 @@ use Rattle.sd_manager.specs.Valid.{IsTable}
 use Rattle.sd_manager.proofs.Reading.{linked_key, pairs_node, pairs_count}
 use Rattle.sd_file.specs.declared.order.Ordered.{Ordered}
 use Rattle.sd_file.specs.Ordered.{Rank, rank_of, list_of}
-use Rattle.sd_file.specs.Ranks.{Ranked, Entry, rank_cmp, ranked_cmp}
+use Rattle.sd_file.specs.Ranks.{Ranked, RankedNode, rank_cmp, ranked_cmp}
 use Rattle.sd_file.specs.Ranks.{entry_cmp, codes_of, FitsRank, HasRanks, IsRanked}
-use Rattle.sd_file.specs.Ranks.{IsListed, AreRanks, IsEntry, IsPast, IsFresh, IsGiving, IsGiven}
+use Rattle.sd_file.specs.Ranks.{IsListed, AreRanks, IsEntry, IsPast, IsFresh, IsGiving, HasNewRank}
 use Rattle.sd_file.proofs.Ascending.{sorted_same}
 
 -- orders
@@ -57,9 +57,9 @@ ranked_total =
 pub entry_total : IsTotalOrder entry_cmp
 entry_total =
     then_total
-    (then_total (on_total (λ (x : Entry). x.0) nat_cmp_total)
-    (on_total (λ (x : Entry). x.1.items) (lists_total ranked_total)))
-    (on_total (λ (x : Entry). x.2) nat_cmp_total)
+    (then_total (on_total (λ (x : RankedNode). x.0) nat_cmp_total)
+    (on_total (λ (x : RankedNode). x.1.items) (lists_total ranked_total)))
+    (on_total (λ (x : RankedNode). x.2) nat_cmp_total)
 
 -- equal numbers
 pub nat_same : (m n : ℕ) → m ≡ n → nat_cmp m n ≡ Equal
@@ -113,9 +113,9 @@ compared t keys o ranks (k ∷ ks) (l ∷ ls) (Pair p s es) (Pair q u fs) rk rl 
     let c : slice_cmp ranked_cmp ks ls ≡ elements_cmp es fs =
     compared t keys o ranks ks ls es fs rk.1 rl.1 hk.2 hl.2 in
     then_skip (rank_cmp k.0 l.0) (rank_cmp k.1 l.1) (nat_cmp k.2 l.2) (nat_cmp k.3 l.3) (slice_cmp ranked_cmp ks ls)
-    (λ e. nat_same k.2 l.2 (one-code t.vtree (get t.linked) keys p k.2 l.2 hk.0
+    (λ e. nat_same k.2 l.2 (one_code t.vtree (get t.linked) keys p k.2 l.2 hk.0
     (subst (Shows t l.2) (sym (exact p q (sym a ∙ e))) hl.0)))
-    (λ e. nat_same k.3 l.3 (one-code t.vtree (get t.linked) keys s k.3 l.3 hk.1
+    (λ e. nat_same k.3 l.3 (one_code t.vtree (get t.linked) keys s k.3 l.3 hk.1
     (subst (Shows t l.3) (sym (exact s u (sym b ∙ e))) hl.1)))
     ∙ ap (λ x. ordering_then x (ordering_then (rank_cmp k.1 l.1) (slice_cmp ranked_cmp ks ls))) a
     ∙ ap (λ x. ordering_then (diagram_cmp p q) (ordering_then x (slice_cmp ranked_cmp ks ls))) b
@@ -157,7 +157,7 @@ elements_sorted t o ranks c p es ks ls h pairs rk order up =
     let stored : pairs_at t c ≡ k.list =
     pairs_node t c k.number (k.place, k.list) k.code (linked_key t k.number (k.place, k.list) k.stored) in
     let f = lifted codes_of ks h.0 (subst (λ l. IsPermutation l h.0) (sym (pairs ∙ stored)) k.order) in
-    let ranked : AllByRecursion (IsRanked o) f.0 = all-permuted (IsRanked o) ks f.0 f.1 rk in
+    let ranked : AllByRecursion (IsRanked o) f.0 = all_permuted (IsRanked o) ks f.0 f.1 rk in
     let shown : ShowElements t.vtree (get t.linked) (map codes_of f.0) es =
     subst (λ l. ShowElements t.vtree (get t.linked) l es) (sym f.2) h.2 in
     let same : f.0 ≡ ls =
@@ -170,7 +170,7 @@ elements_sorted t o ranks c p es ks ls h pairs rk order up =
 -- entries of one position
 
 -- two entries are compared as the decompositions that they show
-pub entry_compared : (t : Table) → AreKeys (get t.linked) → (o : Ordered) → AreRanks t o → (p : ℕ) (x y : Entry)
+pub entry_compared : (t : Table) → AreKeys (get t.linked) → (o : Ordered) → AreRanks t o → (p : ℕ) (x y : RankedNode)
     (a : IsEntry t o p x) (b : IsEntry t o p y) →
     entry_cmp x y ≡ diagram_cmp (Decomposition p a.elements) (Decomposition p b.elements)
 entry_compared t keys o ranks p x y a b =
@@ -193,7 +193,7 @@ entry_compared t keys o ranks p x y a b =
     ∙ ap (λ v. ordering_then v (ordering_then (nat_cmp (count a.elements) (count b.elements))
     (elements_cmp a.elements b.elements))) (sym (nat_same p p refl)) in
     then_last (ordering_then (nat_cmp x.0 y.0) (slice_cmp ranked_cmp x.1.items y.1.items)) (nat_cmp x.2 y.2)
-    (λ same. nat_same x.2 y.2 (one-code t.vtree (get t.linked) keys (Decomposition p a.elements) x.2 y.2 a.shown
+    (λ same. nat_same x.2 y.2 (one_code t.vtree (get t.linked) keys (Decomposition p a.elements) x.2 y.2 a.shown
     (subst (Shows t y.2) (sym (exact (Decomposition p a.elements) (Decomposition p b.elements) (sym whole ∙ same)))
     b.shown)))
     ∙ whole
@@ -218,13 +218,13 @@ pub is_there : {A : Type 0} (x : A) → IsSome (Some x)
 is_there x = refl
 
 -- a rank of another kind or position is compared as the diagrams are
-cross : (t : Table) (d : Diagram) (r : Rank) (p place : ℕ) (es : Elements) → FitsRank d r →
-    ((fs : Elements) → d ≡ Decomposition p fs → (diagram_cmp d (Decomposition p es) ≡ Less) × (r.2 < place)) →
-    rank_cmp r (2, p, place) ≡ diagram_cmp d (Decomposition p es)
-cross t Bottom r p place es fits past = ap (λ s. rank_cmp s (2, p, place)) fits
-cross t Top r p place es fits past = ap (λ s. rank_cmp s (2, p, place)) fits
-cross t (Literal q x s) r p place es fits past = ap (λ s. rank_cmp s (2, p, place)) fits
-cross t (Decomposition q fs) r p place es fits past = go (nat_cmp q p) refl
+cross : (t : Table) (d : Diagram) (r : Rank) (p index : ℕ) (es : Elements) → FitsRank d r →
+    ((fs : Elements) → d ≡ Decomposition p fs → (diagram_cmp d (Decomposition p es) ≡ Less) × (r.2 < index)) →
+    rank_cmp r (2, p, index) ≡ diagram_cmp d (Decomposition p es)
+cross t Bottom r p index es fits past = ap (λ s. rank_cmp s (2, p, index)) fits
+cross t Top r p index es fits past = ap (λ s. rank_cmp s (2, p, index)) fits
+cross t (Literal q x s) r p index es fits past = ap (λ s. rank_cmp s (2, p, index)) fits
+cross t (Decomposition q fs) r p index es fits past = go (nat_cmp q p) refl
   where
     kinds : nat_cmp r.0 2 ≡ Equal
     kinds = nat_same r.0 2 fits.0
@@ -232,20 +232,20 @@ cross t (Decomposition q fs) r p place es fits past = go (nat_cmp q p) refl
     lead : ordering_then (nat_cmp r.0 2) (nat_cmp r.1 p) ≡ nat_cmp q p
     lead = ap (λ o. ordering_then o (nat_cmp r.1 p)) kinds ∙ ap (λ k. nat_cmp k p) fits.1
 
-    whole : rank_cmp r (2, p, place) ≡ ordering_then (nat_cmp q p) (nat_cmp r.2 place)
-    whole = ap (λ o. ordering_then o (nat_cmp r.2 place)) lead
+    whole : rank_cmp r (2, p, index) ≡ ordering_then (nat_cmp q p) (nat_cmp r.2 index)
+    whole = ap (λ o. ordering_then o (nat_cmp r.2 index)) lead
 
     go : (o : Ordering) → nat_cmp q p ≡ o →
-        rank_cmp r (2, p, place) ≡ diagram_cmp (Decomposition q fs) (Decomposition p es)
+        rank_cmp r (2, p, index) ≡ diagram_cmp (Decomposition q fs) (Decomposition p es)
     go Less e =
-        whole ∙ ap (λ o. ordering_then o (nat_cmp r.2 place)) e
+        whole ∙ ap (λ o. ordering_then o (nat_cmp r.2 index)) e
         ∙ sym (ap (λ o. ordering_then o (ordering_then (nat_cmp (count fs) (count es)) (elements_cmp fs es))) e)
     go Greater e =
-        whole ∙ ap (λ o. ordering_then o (nat_cmp r.2 place)) e
+        whole ∙ ap (λ o. ordering_then o (nat_cmp r.2 index)) e
         ∙ sym (ap (λ o. ordering_then o (ordering_then (nat_cmp (count fs) (count es)) (elements_cmp fs es))) e)
     go Equal e =
         let k = past fs (ap (λ q. Decomposition q fs) (exact_unsigned q p e)) in
-        whole ∙ ap (λ o. ordering_then o (nat_cmp r.2 place)) e ∙ sym (nat_cmp_is r.2 place Less k.1) ∙ sym k.0
+        whole ∙ ap (λ o. ordering_then o (nat_cmp r.2 index)) e ∙ sym (nat_cmp_is r.2 index Less k.1) ∙ sym k.0
 
 -- what an `if` by numbers gives: the one where they are equal, and else the other
 pub if_tells : {A : Type 0} (b c : ℕ) (x y : A) →
@@ -259,20 +259,21 @@ if_tells {A} b c x y = go (eqb_tells b c)
 
 -- decompositions of one position are equal only with equal elements
 elements_equal : (p q : ℕ) (es fs : Elements) → Decomposition p es ≡ Decomposition q fs → (p ≡ q) × (es ≡ fs)
-elements_equal p q es fs e = (ap place_in e, ap elements_in e)
+elements_equal p q es fs e = (ap index_in e, ap elements_in e)
   where
-    place_in : Diagram → ℕ
-    place_in (Decomposition p es) = p
-    place_in _ = 0
+    index_in : Diagram → ℕ
+    index_in (Decomposition p es) = p
+    index_in _ = 0
 
     elements_in : Diagram → Elements
     elements_in (Decomposition p es) = es
     elements_in _ = End
 
 -- the step for the first entry that is left
-module _ (t : Table) (table : IsTable t) (old new : Ordered) (groups : BTreeMap ℕ (Vec ℕ Global)) (p place : ℕ)
-    (entry : Entry) (left : List Entry) (given : IsGiven old new entry.2 (2, p, place) (map codes_of entry.1.items))
-    (h : IsGiving t old groups p place (entry ∷ left)) where
+module _ (t : Table) (table : IsTable t) (old new : Ordered) (groups : BTreeMap ℕ (Vec ℕ Global)) (p index : ℕ)
+    (entry : RankedNode) (left : List RankedNode)
+    (given : HasNewRank old new entry.2 (2, p, index) (map codes_of entry.1.items))
+    (h : IsGiving t old groups p index (entry ∷ left)) where
   -- the diagram that the entry shows
   whole : Diagram
   whole = Decomposition p h.entries.0.elements
@@ -286,23 +287,23 @@ module _ (t : Table) (table : IsTable t) (old new : Ordered) (groups : BTreeMap 
 
   -- what has a rank keeps it
   keeps : (b : ℕ) (r : Rank) → rank_of old b ≡ Some r → rank_of new b ≡ Some r
-  keeps b r is = go (if_tells b entry.2 (Some (2, p, place)) (rank_of old b))
+  keeps b r is = go (if_tells b entry.2 (Some (2, p, index)) (rank_of old b))
     where
-      go : ((b ≡ entry.2) × ((if b == entry.2 then Some (2, p, place) else rank_of old b) ≡ Some (2, p, place)))
-          ⊎ ((b ≢ entry.2) × ((if b == entry.2 then Some (2, p, place) else rank_of old b) ≡ rank_of old b)) →
+      go : ((b ≡ entry.2) × ((if b == entry.2 then Some (2, p, index) else rank_of old b) ≡ Some (2, p, index)))
+          ⊎ ((b ≢ entry.2) × ((if b == entry.2 then Some (2, p, index) else rank_of old b) ≡ rank_of old b)) →
           rank_of new b ≡ Some r
       go (inl k) = absurd (absent r (ap (rank_of old) (sym k.0) ∙ is))
       go (inr k) = given.ranks b ∙ k.1 ∙ is
 
   -- what has a rank had it, or is the entry
   ways : (b : ℕ) (r : Rank) → rank_of new b ≡ Some r →
-      (rank_of old b ≡ Some r) ⊎ ((b ≡ entry.2) × (r ≡ (2, p, place)))
-  ways b r is = go (if_tells b entry.2 (Some (2, p, place)) (rank_of old b))
+      (rank_of old b ≡ Some r) ⊎ ((b ≡ entry.2) × (r ≡ (2, p, index)))
+  ways b r is = go (if_tells b entry.2 (Some (2, p, index)) (rank_of old b))
     where
-      go : ((b ≡ entry.2) × ((if b == entry.2 then Some (2, p, place) else rank_of old b) ≡ Some (2, p, place)))
-          ⊎ ((b ≢ entry.2) × ((if b == entry.2 then Some (2, p, place) else rank_of old b) ≡ rank_of old b)) →
-          (rank_of old b ≡ Some r) ⊎ ((b ≡ entry.2) × (r ≡ (2, p, place)))
-      go (inl k) = inr (k.0, same_Some r (2, p, place) (sym is ∙ given.ranks b ∙ k.1))
+      go : ((b ≡ entry.2) × ((if b == entry.2 then Some (2, p, index) else rank_of old b) ≡ Some (2, p, index)))
+          ⊎ ((b ≢ entry.2) × ((if b == entry.2 then Some (2, p, index) else rank_of old b) ≡ rank_of old b)) →
+          (rank_of old b ≡ Some r) ⊎ ((b ≡ entry.2) × (r ≡ (2, p, index)))
+      go (inl k) = inr (k.0, same_Some r (2, p, index) (sym is ∙ given.ranks b ∙ k.1))
       go (inr k) = inl (sym k.1 ∙ sym (given.ranks b) ∙ is)
 
   -- what has a rank keeps its list
@@ -354,15 +355,15 @@ module _ (t : Table) (table : IsTable t) (old new : Ordered) (groups : BTreeMap 
   only : (d : Diagram) → Shows t entry.2 d → whole ≡ d
   unfolding whole
   only d shows =
-      one-diagram t.vtree (get t.linked) table.numbered (Decomposition p h.entries.0.elements) entry.2 d
+      one_diagram t.vtree (get t.linked) table.numbered (Decomposition p h.entries.0.elements) entry.2 d
       h.entries.0.shown shows
 
   -- its rank is compared with an earlier one as the diagrams are
   before : (c : ℕ) (r : Rank) (d : Diagram) → rank_of old c ≡ Some r → Shows t c d →
-      rank_cmp r (2, p, place) ≡ diagram_cmp d whole
+      rank_cmp r (2, p, index) ≡ diagram_cmp d whole
   unfolding whole
   before c r d is shows =
-      cross t d r p place h.entries.0.elements (h.ranks.fits c r d is shows)
+      cross t d r p index h.entries.0.elements (h.ranks.fits c r d is shows)
       (λ fs e.
       let at : Shows t c (Decomposition p fs) = subst (Shows t c) e shows in (
         ap (λ x. diagram_cmp x (Decomposition p h.entries.0.elements)) e
@@ -375,7 +376,7 @@ module _ (t : Table) (table : IsTable t) (old new : Ordered) (groups : BTreeMap 
   unfolding whole
   fits_after c r d is shows = go (ways c r is)
     where
-      go : (rank_of old c ≡ Some r) ⊎ ((c ≡ entry.2) × (r ≡ (2, p, place))) → FitsRank d r
+      go : (rank_of old c ≡ Some r) ⊎ ((c ≡ entry.2) × (r ≡ (2, p, index))) → FitsRank d r
       go (inl k) = h.ranks.fits c r d k shows
       go (inr k) =
           subst (λ x. FitsRank x r) (only d (subst (λ b. Shows t b d) k.0 shows))
@@ -385,14 +386,14 @@ module _ (t : Table) (table : IsTable t) (old new : Ordered) (groups : BTreeMap 
       Shows t c d → Shows t b e → rank_cmp r s ≡ diagram_cmp d e
   order_after c b r s d e is at shows seen = go (ways c r is) (ways b s at)
     where
-      go : (rank_of old c ≡ Some r) ⊎ ((c ≡ entry.2) × (r ≡ (2, p, place))) →
-          (rank_of old b ≡ Some s) ⊎ ((b ≡ entry.2) × (s ≡ (2, p, place))) → rank_cmp r s ≡ diagram_cmp d e
+      go : (rank_of old c ≡ Some r) ⊎ ((c ≡ entry.2) × (r ≡ (2, p, index))) →
+          (rank_of old b ≡ Some s) ⊎ ((b ≡ entry.2) × (s ≡ (2, p, index))) → rank_cmp r s ≡ diagram_cmp d e
       go (inl k) (inl l) = h.ranks.order c b r s d e k l shows seen
       go (inl k) (inr l) =
           ap (rank_cmp r) l.1 ∙ before c r d k shows
           ∙ ap (diagram_cmp d) (only e (subst (λ x. Shows t x e) l.0 seen))
       go (inr k) (inl l) =
-          ap (λ x. rank_cmp x s) k.1 ∙ rank_total.antisymm (2, p, place) s
+          ap (λ x. rank_cmp x s) k.1 ∙ rank_total.antisymm (2, p, index) s
           ∙ ap ordering_reverse (before b s e l seen) ∙ sym (antisymm whole e)
           ∙ ap (λ x. diagram_cmp x e) (only d (subst (λ x. Shows t x d) k.0 shows))
       go (inr k) (inr l) =
@@ -405,14 +406,14 @@ module _ (t : Table) (table : IsTable t) (old new : Ordered) (groups : BTreeMap 
   unfolding whole
   lists_after c q r es is shows = go (ways c r is)
     where
-      go : (rank_of old c ≡ Some r) ⊎ ((c ≡ entry.2) × (r ≡ (2, p, place))) → IsListed t new c es
+      go : (rank_of old c ≡ Some r) ⊎ ((c ≡ entry.2) × (r ≡ (2, p, index))) → IsListed t new c es
       go (inl k) =
           let l = h.ranks.lists c q r es k shows in
           record {
             list = l.list;
             is = keeps_list c r k ∙ l.is;
             shown = l.shown;
-            ranked = all-weaker (HasRanks old) (HasRanks new) keeps_pair l.list l.ranked;
+            ranked = all_weaker (HasRanks old) (HasRanks new) keeps_pair l.list l.ranked;
           }
       go (inr k) =
           record {
@@ -430,59 +431,59 @@ module _ (t : Table) (table : IsTable t) (old new : Ordered) (groups : BTreeMap 
   fresh_after : IsFresh t new groups
   fresh_after c q r es v is shows = go (ways c r is)
     where
-      go : (rank_of old c ≡ Some r) ⊎ ((c ≡ entry.2) × (r ≡ (2, p, place))) →
+      go : (rank_of old c ≡ Some r) ⊎ ((c ≡ entry.2) × (r ≡ (2, p, index))) →
           tree.get nat_cmp groups q ≡ Some v → ⊥
       go (inl k) e = h.fresh c q r es v k shows e
       go (inr k) e =
           let at : p ≡ q =
           (elements_equal p q h.entries.0.elements es
-          (one-diagram t.vtree (get t.linked) table.numbered (Decomposition p h.entries.0.elements) entry.2
+          (one_diagram t.vtree (get t.linked) table.numbered (Decomposition p h.entries.0.elements) entry.2
           (Decomposition q es) h.entries.0.shown (subst (λ b. Shows t b (Decomposition q es)) k.0 shows))).0 in
           h.gone v (ap (tree.get nat_cmp groups) at ∙ e)
 
   below_after : (c : ℕ) (r : Rank) (es : Elements) → rank_of new c ≡ Some r → Shows t c (Decomposition p es) →
-      r.2 < place + 1
+      r.2 < index + 1
   below_after c r es is shows = go (ways c r is)
     where
-      go : (rank_of old c ≡ Some r) ⊎ ((c ≡ entry.2) × (r ≡ (2, p, place))) → r.2 < place + 1
+      go : (rank_of old c ≡ Some r) ⊎ ((c ≡ entry.2) × (r ≡ (2, p, index))) → r.2 < index + 1
       go (inl k) = let lt = h.below c r es k shows in omega arith
-      go (inr k) = let e : r.2 ≡ place = ap (λ (x : Rank). x.2) k.1 in omega arith
+      go (inr k) = let e : r.2 ≡ index = ap (λ (x : Rank). x.2) k.1 in omega arith
 
   -- an entry that is less comes before
-  past_after : (e : Entry) → entry_cmp entry e ≡ Less → IsEntry t old p e → IsPast t old p e → IsPast t new p e
+  past_after : (e : RankedNode) → entry_cmp entry e ≡ Less → IsEntry t old p e → IsPast t old p e → IsPast t new p e
   past_after e less at past c r es fs is shows seen = go (ways c r is)
     where
-      go : (rank_of old c ≡ Some r) ⊎ ((c ≡ entry.2) × (r ≡ (2, p, place))) →
+      go : (rank_of old c ≡ Some r) ⊎ ((c ≡ entry.2) × (r ≡ (2, p, index))) →
           diagram_cmp (Decomposition p es) (Decomposition p fs) ≡ Less
       go (inl k) = past c r es fs k shows seen
       go (inr k) =
           let mine : Decomposition p h.entries.0.elements ≡ Decomposition p es =
-          one-diagram t.vtree (get t.linked) table.numbered (Decomposition p h.entries.0.elements) entry.2
+          one_diagram t.vtree (get t.linked) table.numbered (Decomposition p h.entries.0.elements) entry.2
           (Decomposition p es) h.entries.0.shown (subst (λ b. Shows t b (Decomposition p es)) k.0 shows) in
           let other : Decomposition p at.elements ≡ Decomposition p fs =
-          one-diagram t.vtree (get t.linked) table.numbered (Decomposition p at.elements) e.2 (Decomposition p fs)
+          one_diagram t.vtree (get t.linked) table.numbered (Decomposition p at.elements) e.2 (Decomposition p fs)
           at.shown seen in
           ap (λ x. diagram_cmp x (Decomposition p fs)) (sym mine)
           ∙ ap (diagram_cmp (Decomposition p h.entries.0.elements)) (sym other)
           ∙ sym (entry_compared t table.keys old h.ranks p entry e h.entries.0 at) ∙ less
 
-  all_past : (es : List Entry) → AllByRecursion (λ e. entry_cmp entry e ≡ Less) es →
+  all_past : (es : List RankedNode) → AllByRecursion (λ e. entry_cmp entry e ≡ Less) es →
       AllByRecursion (IsEntry t old p) es → AllByRecursion (IsPast t old p) es → AllByRecursion (IsPast t new p) es
   all_past [] a b k = tt
   all_past (e ∷ es) a b k = (past_after e a.0 b.0 k.0, all_past es a.1 b.1 k.1)
 
-  keeps_entry : (e : Entry) → IsEntry t old p e → IsEntry t new p e
+  keeps_entry : (e : RankedNode) → IsEntry t old p e → IsEntry t new p e
   keeps_entry e k =
       record {
         elements = k.elements;
         shown = k.shown;
         list = k.list;
-        ranked = all-weaker (IsRanked old) (IsRanked new) keeps_ranked e.1.items k.ranked;
+        ranked = all_weaker (IsRanked old) (IsRanked new) keeps_ranked e.1.items k.ranked;
         count = k.count;
       }
 
   -- the entries that are left after the step
-  pub given_one : IsGiving t new groups p (place + 1) left
+  pub given_one : IsGiving t new groups p (index + 1) left
   unfolding IsStrictlySortedBy
   given_one =
       record {
@@ -491,6 +492,6 @@ module _ (t : Table) (table : IsTable t) (old new : Ordered) (groups : BTreeMap 
         gone = h.gone;
         below = below_after;
         past = all_past left h.ascending.0 h.entries.1 h.past.1;
-        entries = all-weaker (IsEntry t old p) (IsEntry t new p) keeps_entry left h.entries.1;
+        entries = all_weaker (IsEntry t old p) (IsEntry t new p) keeps_entry left h.entries.1;
         ascending = h.ascending.1;
       }

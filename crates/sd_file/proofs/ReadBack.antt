@@ -21,14 +21,14 @@ use Rattle.sd_file.proofs.Readable.{readable_completed}
 pub readable_back : (v : ℕ) (d : Diagram) → AllByRecursion (IsReadable v) (completed (d ∷ []))
     → length (completed (d ∷ [])) < 10 ^ 18 → ReadsBack v (sdd_text d) d
 unfolding sdd_file sdd_text
-readable_back v d readable few =
+readable_back v d readable within_limit =
     let nodes = completed (d ∷ []) in
     let closed = closed_completed d in
     let ends = ends_completed d in
     let some : 1 ≤ length nodes = omega (arith, ap length ends.whole ∙ length_push ends.before d) in
     record {
       file = record { variables = v; nodes = map (written_entry nodes) nodes };
-      reads = text_read v nodes some few closed (new_completed d) readable;
+      reads = text_read v nodes some within_limit closed (new_completed d) readable;
       value = file_means v nodes ends.before d closed readable ends.whole;
     }
 
@@ -36,11 +36,11 @@ readable_back v d readable few =
 pub canonical_back : (t : Tree) (v : ℕ) (d : Diagram) → AllByRecursion (λ x. (1 ≤ x) × (x ≤ v)) (variables t)
     → v < 10 ^ 18 → 2 * leaves t ≤ 10 ^ 18 → IsCanonical t 0 d → length (completed (d ∷ [])) < 10 ^ 18
     → ReadsBack v (sdd_text d) d
-canonical_back t v d range small room k few =
-    readable_back v d (readable_completed t d v k range small room few (closed_completed d)) few
+canonical_back t v d range small room k within_limit =
+    readable_back v d (readable_completed t d v k range small room within_limit (closed_completed d)) within_limit
 
 -- one over a vtree of at most 1,024 variables, with at most 2^32 nodes
 pub reads_back : (t : Tree) (d : Diagram) → IsVtree t → leaves t ≤ 1024 → IsCanonical t 0 d
     → length (completed (d ∷ [])) ≤ 2 ^ 32 → ReadsBack (leaves t) (sdd_text d) d
-reads_back t d vtree most k few =
+reads_back t d vtree most k within_limit =
     canonical_back t (leaves t) d vtree.in_range (omega arith) (omega arith) k (omega arith)

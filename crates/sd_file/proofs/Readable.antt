@@ -14,12 +14,12 @@ use Rattle.sd_model.specs.Canonical.{canonical_literal, canonical_in_left, canon
 use Rattle.sd_model.specs.Canonical.{canonical_decomposition}
 use Rattle.sd_model.specs.Size.{walk, walk_elements, completed}
 use Rattle.sd_model.specs.Listing.{is_among, add}
-use Rattle.sd_model.specs.Text.{place_of}
-use Rattle.sd_model.proofs.Adding.{completed-add}
+use Rattle.sd_model.specs.Text.{index_of}
+use Rattle.sd_model.proofs.Adding.{completed_add}
 use Rattle.sd_model.proofs.ClosedLists.{ChildrenAmong, IsClosed}
 use Rattle.sd_model.proofs.Order.{irreflexive}
-use Rattle.sd_vtree.proofs.Building.{leaves_positive, leaves-node}
-use Rattle.sd_file.proofs.DiagramPlaces.{place_below, value_at_place}
+use Rattle.sd_vtree.proofs.Building.{leaves_positive, leaves_node}
+use Rattle.sd_file.proofs.DiagramPlaces.{index_below, value_at_index}
 use Rattle.sd_file.proofs.NodeLines.{IsReadable}
 use Rattle.sd_file.proofs.Pigeons.{HaveCodes, few_coded}
 
@@ -82,14 +82,14 @@ walk_plain canonical_top v n range room = (tt, tt)
 walk_plain (canonical_literal positive) v n range room = ((omega (arith, room), range.0.0, range.0.1), tt)
 walk_plain (canonical_in_left {l = l} {r = r} c k) v n range room =
     walk_plain k v n (all_front (λ x. (1 ≤ x) × (x ≤ v)) (variables l) (variables r) range)
-    (omega (arith, room, leaves-node l r))
+    (omega (arith, room, leaves_node l r))
 walk_plain (canonical_in_right {l = l} {r = r} c k) v n range room =
     walk_plain k v n (all_back (λ x. (1 ≤ x) × (x ≤ v)) (variables l) (variables r) range)
-    (omega (arith, room, leaves-node l r))
+    (omega (arith, room, leaves_node l r))
 walk_plain (canonical_decomposition {l = l} {r = r} {base = base} {elements = es} left right part) v n range room =
     let front = all_front (λ x. (1 ≤ x) × (x ≤ v)) (variables l) (variables r) range in
     let back = all_back (λ x. (1 ≤ x) × (x ≤ v)) (variables l) (variables r) range in
-    let both = leaves-node l r in
+    let both = leaves_node l r in
     let room_l : base + 2 * leaves l ≤ n = omega (arith, room, both) in
     let room_r : right_base l base + 2 * leaves r ≤ n = omega (arith, room, both) in
     let below : position (Node l r) base < n =
@@ -104,22 +104,22 @@ plain_completed : (t : Tree) (d : Diagram) (v n : ℕ) → IsCanonical t 0 d
     → AllByRecursion (λ x. (1 ≤ x) × (x ≤ v)) (variables t) → 2 * leaves t ≤ n
     → AllByRecursion (IsPlain v n) (completed (d ∷ []))
 plain_completed t d v n k range room =
-    subst (AllByRecursion (IsPlain v n)) (sym (completed-add d))
+    subst (AllByRecursion (IsPlain v n)) (sym (completed_add d))
     (all_add (IsPlain v n) [] (walk d) tt (walk_plain k v n range (omega (arith, room))))
 
 -- ---- the number of elements
 
--- the place of an earlier diagram
+-- the index of an earlier diagram
 abbrev IsPlaceOf : List Diagram → ℕ → Diagram → Type 0
-IsPlaceOf before i d = (place_of d (before ++ []) ≡ i) × (is_among d before ≡ true)
+IsPlaceOf before i d = (index_of d (before ++ []) ≡ i) × (is_among d before ≡ true)
 
--- two diagrams at one place are equal
+-- two diagrams at one index are equal
 one_place : (before : List Diagram) (i : ℕ) (d e : Diagram) → IsPlaceOf before i d → IsPlaceOf before i e → d ≡ e
 one_place before i d e is_d is_e =
     let own : Diagram → Diagram = λ x. x in
-    sym (value_at_place own Bottom d before [] is_d.1)
+    sym (value_at_index own Bottom d before [] is_d.1)
     ∙ ap (λ i. slice_index_or (map own before) i Bottom) (is_d.0 ∙ sym is_e.0)
-    ∙ value_at_place own Bottom e before [] is_e.1
+    ∙ value_at_index own Bottom e before [] is_e.1
 
 -- a prime is not one of those that are greater
 below_differ : (p : Diagram) (ds : List Diagram) → AllByRecursion (λ d. diagram_cmp p d ≡ Less) ds
@@ -142,45 +142,46 @@ primes_placed before End there = tt
 primes_placed before (Pair p s rest) there =
     let is = (there p s first).0 in
     let others = primes_placed before rest (λ q t m. there q t (later m)) in
-    ((place_of p (before ++ []), (refl, is), place_below p before [] is), others)
+    ((index_of p (before ++ []), (refl, is), index_below p before [] is), others)
 
 -- as many primes as elements
-length-primes : (es : Elements) → length (primes es) ≡ count es
-length-primes End = refl
-length-primes (Pair p s rest) = omega (arith, length-primes rest)
+length_primes : (es : Elements) → length (primes es) ≡ count es
+length_primes End = refl
+length_primes (Pair p s rest) = omega (arith, length_primes rest)
 
 -- so there are no more elements than earlier diagrams
 few_elements : (before : List Diagram) (es : Elements) → IsStrictlySortedBy diagram_cmp (primes es)
     → ((q s : Diagram) → IsElement q s es → (is_among q before ≡ true) × (is_among s before ≡ true))
     → count es ≤ length before
 few_elements before es sorted there =
-    let few = few_coded (IsPlaceOf before) (length before) (one_place before) (primes es)
+    let within_limit = few_coded (IsPlaceOf before) (length before) (one_place before) (primes es)
     (ascending_differ (primes es) sorted) (primes_placed before es there) in
-    omega (arith, few, length-primes es)
+    omega (arith, within_limit, length_primes es)
 
 -- ---- all of them can be read
 
 -- one behind earlier ones
 one_readable : (v n : ℕ) (before : List Diagram) (d : Diagram) → v < 10 ^ 18 → n ≤ 10 ^ 18 → length before < 10 ^ 18
     → ChildrenAmong before d → IsPlain v n d → IsReadable v d
-one_readable v n before Bottom small room few there plain = tt
-one_readable v n before Top small room few there plain = tt
-one_readable v n before (Literal p x positive) small room few there plain =
+one_readable v n before Bottom small room within_limit there plain = tt
+one_readable v n before Top small room within_limit there plain = tt
+one_readable v n before (Literal p x positive) small room within_limit there plain =
     (omega (arith, plain.0, room), plain.1, plain.2, omega (arith, plain.2, small))
-one_readable v n before (Decomposition p es) small room few there plain = (
+one_readable v n before (Decomposition p es) small room within_limit there plain = (
   omega (arith, plain.0, room),
   omega (arith, plain.1),
-  omega (arith, few_elements before es plain.2 there, few),
+  omega (arith, few_elements before es plain.2 there, within_limit),
 )
 
 -- a closed list
 all_readable : (v n : ℕ) (before ds : List Diagram) → v < 10 ^ 18 → n ≤ 10 ^ 18 → length (before ++ ds) < 10 ^ 18
     → IsClosed before ds → AllByRecursion (IsPlain v n) ds → AllByRecursion (IsReadable v) ds
-all_readable v n before [] small room few closed plain = tt
-all_readable v n before (d ∷ ds) small room few closed plain =
+all_readable v n before [] small room within_limit closed plain = tt
+all_readable v n before (d ∷ ds) small room within_limit closed plain =
     let joined = ap length (append_assoc before (d ∷ []) ds) in (
-      one_readable v n before d small room (omega (arith, few, length-append before (d ∷ ds))) closed.0 plain.0,
-      all_readable v n (before ++ d ∷ []) ds small room (omega (arith, joined, few)) closed.1 plain.1,
+      one_readable v n before d small room (omega (arith, within_limit, length-append before (d ∷ ds))) closed.0
+          plain.0,
+      all_readable v n (before ++ d ∷ []) ds small room (omega (arith, joined, within_limit)) closed.1 plain.1,
     )
 
 -- the diagrams under one that is canonical for a tree of variables from 1 to v
@@ -188,6 +189,6 @@ pub readable_completed : (t : Tree) (d : Diagram) (v : ℕ) → IsCanonical t 0 
     → AllByRecursion (λ x. (1 ≤ x) × (x ≤ v)) (variables t) → v < 10 ^ 18 → 2 * leaves t ≤ 10 ^ 18
     → length (completed (d ∷ [])) < 10 ^ 18 → IsClosed [] (completed (d ∷ []))
     → AllByRecursion (IsReadable v) (completed (d ∷ []))
-readable_completed t d v k range small room few closed =
-    all_readable v (10 ^ 18) [] (completed (d ∷ [])) small (omega arith) few closed
+readable_completed t d v k range small room within_limit closed =
+    all_readable v (10 ^ 18) [] (completed (d ∷ [])) small (omega arith) within_limit closed
     (plain_completed t d v (10 ^ 18) k range room)

@@ -9,7 +9,7 @@ use Rattle.sd_model.specs.Expression.{expression_value}
 use Rattle.sd_model.specs.Size.{completed}
 use Rattle.sd_model.specs.Text.{number_text, sdd_text}
 use Rattle.sd_file.specs.Reads.{Constant as ConstantNode, Literal as LiteralNode, Decomposition as DecompositionNode}
-use Rattle.sd_file.specs.Reads.{File, sdd_file, expression_of}
+use Rattle.sd_file.specs.Reads.{File, sdd_file, expression_of_file}
 use Rattle.sd_file.specs.RoundTrip.{ReadsBack}
 
 -- not compressed, ids with a gap, and ids of another vtree
@@ -73,7 +73,7 @@ both_back = record {
         ∷ record { id = 4; node = DecompositionNode 1 ((0, 1) ∷ (2, 3) ∷ []) } ∷ [];
   };
   reads = refl;
-  value = λ given. refl;
+  value = λ assignment. refl;
 }
 
 -- the text of true is not one of false
@@ -83,5 +83,5 @@ true_not_false back =
     let file : File = record { variables = 2; nodes = record { id = 0; node = ConstantNode true } ∷ [] } in
     let read : ◌≡◌ {A = Result File SddFault} (Ok file) (Ok back.file) = back.reads in
     let is : file ≡ back.file = cc in
-    let value : true ≡ false = ap (λ f. expression_value (expression_of f) []) is ∙ back.value [] in
+    let value : true ≡ false = ap (λ f. expression_value (expression_of_file f) []) is ∙ back.value [] in
     cc

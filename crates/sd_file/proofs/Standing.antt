@@ -12,11 +12,11 @@ use Rattle.std.specs.declared.alloc.Global.{Global}
 use Rattle.std.proofs.Math.Dec.{eqb}
 use Rattle.std.proofs.lemmas.Bool.Decides.{eqb_tells}
 use Rattle.std.proofs.lemmas.Option.{same_Some}
-use Rattle.sd_laws.proofs.Lists.{IsAmong, all-weaker}
+use Rattle.sd_laws.proofs.Lists.{IsAmong, all_weaker}
 use Rattle.sd_file.specs.declared.order.Ordered.{Ordered}
 use Rattle.sd_file.specs.declared.order.Found.{Found}
 use Rattle.sd_file.specs.Ordered.{Rank, rank_of}
-use Rattle.sd_file.specs.Ranks.{IsLeft, BothStand, StandStill, KeepRanks, IsAdded, IsFoundAlso, items_of}
+use Rattle.sd_file.specs.Ranks.{IsLeft, BothHaveRankOrGroup, KeepRankOrGroup, KeepRanks, IsAdded, IsFoundAlso, items_of}
 use Rattle.sd_file.proofs.Ranking.{if_tells, is_there}
 
 -- one code more in a list
@@ -132,13 +132,14 @@ given_has old new c r given = go (if_tells c c (Some r) (rank_of old c))
 -- what has a rank or stands in a group, after a step
 
 pub stand_again : (old new : Ordered) (before after : BTreeMap ℕ (Vec ℕ Global)) → KeepRanks old new →
-    ((c : ℕ) → IsLeft before c → IsLeft after c) → StandStill old new before after
+    ((c : ℕ) → IsLeft before c → IsLeft after c) → KeepRankOrGroup old new before after
 stand_again old new before after ranks left c (inl r) = inl (ranks c r)
 stand_again old new before after ranks left c (inr l) = inr (left c l)
 
 -- pairs that stood still do
 pub pairs_still : (old new : Ordered) (before after : BTreeMap ℕ (Vec ℕ Global)) →
-    StandStill old new before after → (l : List (ℕ × ℕ)) → AllByRecursion (BothStand old before) l →
-    AllByRecursion (BothStand new after) l
-pairs_still old new before after still l h =
-    all-weaker (BothStand old before) (BothStand new after) (λ e b. (still e.0 b.0, still e.1 b.1)) l h
+    KeepRankOrGroup old new before after → (l : List (ℕ × ℕ)) → AllByRecursion (BothHaveRankOrGroup old before) l →
+    AllByRecursion (BothHaveRankOrGroup new after) l
+pairs_still old new before after keeps_all l h =
+    all_weaker (BothHaveRankOrGroup old before) (BothHaveRankOrGroup new after)
+    (λ e b. (keeps_all e.0 b.0, keeps_all e.1 b.1)) l h

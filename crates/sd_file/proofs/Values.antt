@@ -8,11 +8,11 @@ use Rattle.sd_model.specs.Expression as formulas
 use Rattle.sd_model.specs.Expression.{node_value, node_values, expression_value}
 use Rattle.sd_file.specs.Built.{values_of, value_at}
 use Rattle.sd_file.specs.Files.{IsEarlier, FitsAt, FitFrom, IsFile, no_entry, entry_at}
-use Rattle.sd_file.specs.Reads.{Node, Constant, Literal, Decomposition, Entry, File, plain, expression_of}
+use Rattle.sd_file.specs.Reads.{Node, Constant, Literal, Decomposition, Entry, File, without_ids, expression_of_file}
 
 -- the nodes of entries
 abbrev plains : List Entry → List formulas.FileNode
-plains es = map (λ e. plain e.node) es
+plains es = map (λ e. without_ids e.node) es
 
 -- ---- values stay
 
@@ -35,7 +35,7 @@ any_same p q P same (x ∷ xs) all =
 -- a node has the same value over all values as over the earlier ones
 value_stays : (v : ℕ) (earlier all : List Bool) (node : Node) (a : List Bool) → FitsAt v (length earlier) node
     → ((i : ℕ) → i < length earlier → slice_index_or all i false ≡ slice_index_or earlier i false)
-    → node_value earlier (plain node) a ≡ node_value all (plain node) a
+    → node_value earlier (without_ids node) a ≡ node_value all (without_ids node) a
 value_stays v earlier all (Constant value) a fits same = refl
 value_stays v earlier all (Literal vtree literal) a fits same = refl
 value_stays v earlier all (Decomposition vtree pairs) a fits same =
@@ -50,19 +50,19 @@ value_stays v earlier all (Decomposition vtree pairs) a fits same =
 value_behind : (v : ℕ) (earlier : List Bool) (es : List Entry) (a : List Bool) (i : ℕ)
     → FitFrom v (length earlier) es → i < length es
     → slice_index_or (node_values earlier (plains es) a) (length earlier + i) false
-    ≡ node_value (node_values earlier (plains es) a) (plain (slice_index_or es i no_entry).node) a
+    ≡ node_value (node_values earlier (plains es) a) (without_ids (slice_index_or es i no_entry).node) a
 value_behind v earlier [] a i fits below = absurd (omega (arith, below))
 value_behind v earlier (e ∷ es) a zero fits below =
-    let value = node_value earlier (plain e.node) a in
+    let value = node_value earlier (without_ids e.node) a in
     let longer = length-append earlier (value ∷ []) in
     let place : length earlier + 0 ≡ length earlier = omega arith in
     let all = node_values (earlier ++ value ∷ []) (plains es) a in
     ap (λ n. slice_index_or all n false) place
     ∙ values_stay (earlier ++ value ∷ []) (plains es) a (length earlier) (omega (arith, longer))
     ∙ get_or-append_seam earlier value [] false
-    ∙ value_stays v earlier all e.node a fits.0 (values_stay earlier (plain e.node ∷ plains es) a)
+    ∙ value_stays v earlier all e.node a fits.0 (values_stay earlier (without_ids e.node ∷ plains es) a)
 value_behind v earlier (e ∷ es) a (suc i) fits below =
-    let value = node_value earlier (plain e.node) a in
+    let value = node_value earlier (without_ids e.node) a in
     let longer : length (earlier ++ value ∷ []) ≡ 1 + length earlier =
     omega (arith, length-append earlier (value ∷ [])) in
     let place : length earlier + suc i ≡ length (earlier ++ value ∷ []) + i = omega (arith, longer) in
@@ -72,13 +72,13 @@ value_behind v earlier (e ∷ es) a (suc i) fits below =
 
 -- the value of a node is that of what it is, over the values of all nodes
 pub value_there : (f : File) (index : ℕ) (a : List Bool) → IsFile f → index < length f.nodes
-    → value_at f index a ≡ node_value (values_of f a) (plain (entry_at f index).node) a
+    → value_at f index a ≡ node_value (values_of f a) (without_ids (entry_at f index).node) a
 value_there f index a is below =
     let place : index ≡ length {A = Bool} [] + index = omega arith in
     ap (λ n. slice_index_or (values_of f a) n false) place ∙ value_behind f.variables [] f.nodes a index is.fit below
 
 -- the value of the last node is that of the file
 pub last_value : (f : File) (index : ℕ) (a : List Bool) → index + 1 ≡ length f.nodes
-    → value_at f index a ≡ expression_value (expression_of f) a
+    → value_at f index a ≡ expression_value (expression_of_file f) a
 last_value f index a last =
-    ap (λ n. slice_index_or (values_of f a) n false) (omega (arith, last, length-map f.nodes (λ e. plain e.node)))
+    ap (λ n. slice_index_or (values_of f a) n false) (omega (arith, last, length-map f.nodes (λ e. without_ids e.node)))

@@ -11,24 +11,24 @@ use Rattle.sd_model.specs.Canonical.{IsCanonical, IsElement, first, later}
 use Rattle.sd_model.specs.Size.{walk, walk_elements}
 use Rattle.sd_model.specs.Listing.{add}
 use Rattle.sd_model.proofs.Adding.{add_pair}
-use Rattle.sd_vtree.specs.Numbered.{Numbered, IsNumbered, numbers, forget}
+use Rattle.sd_vtree.specs.Numbered.{Numbered, IsNumbered, numbers, plain_tree}
 use Rattle.sd_vtree.proofs.Subtrees.{node_within}
-use Rattle.sd_vtree.proofs.Times.{times-slice_get}
+use Rattle.sd_vtree.proofs.Times.{times_slice_get}
 use Rattle.sd_laws.specs.Depth.{depth, depth_of}
 use Rattle.sd_laws.specs.Shown.{ShowElements}
-use Rattle.sd_laws.proofs.Nodes.{elements-canonical}
+use Rattle.sd_laws.proofs.Nodes.{elements_canonical}
 use Rattle.sd_manager.specs.Table.{Table}
-use Rattle.sd_manager.specs.Shown.{Shows, IsShown}
+use Rattle.sd_manager.specs.Shown.{Shows, ShowsCanonical}
 use Rattle.sd_file.specs.declared.lines.Listing.{Listing}
 use Rattle.sd_manager.specs.declared.view.View.TheVariants.{Decomposition as DecompositionView}
 use Rattle.sd_manager.specs.Views.{IsViewOf}
 use Rattle.sd_file.specs.Ordered.{Lists, IsOrdered, AreOrdered, HasElements}
-use Rattle.sd_file.specs.Lines.{IsWritten, CanBeWalked, BothCanBeWalked}
+use Rattle.sd_file.specs.Lines.{HasNodeLines, CanBeWalked, BothCanBeWalked}
 
 -- the primes and subs of elements may be visited
 pub all_walkable : (t : Table) (lists : Lists) (levels : ℕ) (l : List (ℕ × ℕ)) (es : Elements) →
     ShowElements t.vtree (get t.linked) l es →
-    ((p s : Diagram) → IsElement p s es → IsCanonical (forget t.vtree) 0 p × IsCanonical (forget t.vtree) 0 s) →
+    ((p s : Diagram) → IsElement p s es → IsCanonical (plain_tree t.vtree) 0 p × IsCanonical (plain_tree t.vtree) 0 s) →
     AreOrdered t es lists → depth_of es ≤ levels → AllByRecursion (BothCanBeWalked t lists levels) l
 all_walkable t lists levels [] es shown fits order deep = tt
 all_walkable t lists levels (e ∷ l) End shown fits order deep = absurd shown
@@ -42,40 +42,41 @@ all_walkable t lists levels (e ∷ l) (Pair p s rest) shown fits order deep = (
 
 -- so may those of a decomposition that is shown
 pub elements_walkable : (t : Table) (lists : Lists) (levels c q : ℕ) (es : Elements) (l : List (ℕ × ℕ)) →
-    IsShown t c (Decomposition q es) → ShowElements t.vtree (get t.linked) l es → AreOrdered t es lists →
+    ShowsCanonical t c (Decomposition q es) → ShowElements t.vtree (get t.linked) l es → AreOrdered t es lists →
     depth (Decomposition q es) ≤ levels → AllByRecursion (BothCanBeWalked t lists (levels - 1)) l
 elements_walkable t lists levels c q es l h shown order deep =
-    all_walkable t lists (levels - 1) l es shown (elements-canonical h.canonical) order (omega arith)
+    all_walkable t lists (levels - 1) l es shown (elements_canonical h.canonical) order (omega arith)
 
 -- what is complete, and the elements that are left
 pub record WalkLeft (t : Table) (pairs : List (ℕ × ℕ)) (new : Listing) (whole : List Diagram) : Type 0 where
   pub now : List Diagram
   pub rest : Elements
-  pub written : IsWritten t new now
+  pub written : HasNodeLines t new now
   pub shown : ShowElements t.vtree (get t.linked) pairs rest
   pub is : add now (walk_elements rest) ≡ whole
 
 -- the elements before this place are walked
 pub record HasWalked (t : Table) (pairs : List (ℕ × ℕ)) (i : ℕ) (old new : Listing) : Type 0 where
-  pub some : (ds : List Diagram) × IsWritten t new ds
-  pub each : (es : Elements) (ds : List Diagram) → ShowElements t.vtree (get t.linked) pairs es → IsWritten t old ds →
+  pub listed : (ds : List Diagram) × HasNodeLines t new ds
+  pub each : (es : Elements) (ds : List Diagram) → ShowElements t.vtree (get t.linked) pairs es
+      → HasNodeLines t old ds →
       WalkLeft t (drop i pairs) new (add ds (walk_elements es))
 
 -- none is walked yet
 pub walked_none : (t : Table) (pairs : List (ℕ × ℕ)) (listing : Listing) →
-    (ds : List Diagram) × IsWritten t listing ds →
+    (ds : List Diagram) × HasNodeLines t listing ds →
     HasWalked t pairs 0 listing listing
 walked_none t pairs listing some =
     record {
-      some = some;
+      listed = some;
       each = λ es ds shown h. record { now = ds; rest = es; written = h; shown = shown; is = refl };
     }
 
 -- what is left after one element more
 left_more : (t : Table) (e : ℕ × ℕ) (l : List (ℕ × ℕ)) (a b c : Listing) (whole : List Diagram) →
     WalkLeft t (e ∷ l) a whole →
-    ((d : Diagram) (ds : List Diagram) → Shows t e.0 d → IsWritten t a ds → IsWritten t b (add ds (walk d))) →
-    ((d : Diagram) (ds : List Diagram) → Shows t e.1 d → IsWritten t b ds → IsWritten t c (add ds (walk d))) →
+    ((d : Diagram) (ds : List Diagram) → Shows t e.0 d → HasNodeLines t a ds → HasNodeLines t b (add ds (walk d))) →
+    ((d : Diagram) (ds : List Diagram) → Shows t e.1 d → HasNodeLines t b ds → HasNodeLines t c (add ds (walk d))) →
     WalkLeft t l c whole
 left_more t e l a b c whole w prime sub = go w.rest w.shown w.is
   where
@@ -95,14 +96,14 @@ left_more t e l a b c whole w prime sub = go w.rest w.shown w.is
 pub walked_more : (t : Table) (lists : Lists) (levels : ℕ) (pairs : List (ℕ × ℕ)) (i : ℕ) (e : ℕ × ℕ)
     (old a b c : Listing) → HasWalked t pairs i old a → drop i pairs ≡ e ∷ drop (i + 1) pairs →
     BothCanBeWalked t lists levels e →
-    ((d : Diagram) (ds : List Diagram) → Shows t e.0 d → IsWritten t a ds → IsWritten t b (add ds (walk d))) →
-    ((d : Diagram) (ds : List Diagram) → Shows t e.1 d → IsWritten t b ds → IsWritten t c (add ds (walk d))) →
+    ((d : Diagram) (ds : List Diagram) → Shows t e.0 d → HasNodeLines t a ds → HasNodeLines t b (add ds (walk d))) →
+    ((d : Diagram) (ds : List Diagram) → Shows t e.1 d → HasNodeLines t b ds → HasNodeLines t c (add ds (walk d))) →
     HasWalked t pairs (i + 1) old c
 walked_more t lists levels pairs i e old a b c h next can prime sub =
     record {
-      some = (
-        add (add h.some.0 (walk can.0.0)) (walk can.1.0),
-        sub can.1.0 (add h.some.0 (walk can.0.0)) can.1.1.shows (prime can.0.0 h.some.0 can.0.1.shows h.some.1),
+      listed = (
+        add (add h.listed.0 (walk can.0.0)) (walk can.1.0),
+        sub can.1.0 (add h.listed.0 (walk can.0.0)) can.1.1.shows (prime can.0.0 h.listed.0 can.0.1.shows h.listed.1),
       );
       each = λ es ds shown w.
           left_more t e (drop (i + 1) pairs) a b c (add ds (walk_elements es))
@@ -112,17 +113,17 @@ walked_more t lists levels pairs i e old a b c h next can prime sub =
 -- all are walked
 pub walked_all : (t : Table) (pairs : List (ℕ × ℕ)) (i : ℕ) (old new : Listing) → HasWalked t pairs i old new →
     drop i pairs ≡ [] → (es : Elements) (ds : List Diagram) → ShowElements t.vtree (get t.linked) pairs es →
-    IsWritten t old ds → IsWritten t new (add ds (walk_elements es))
+    HasNodeLines t old ds → HasNodeLines t new (add ds (walk_elements es))
 walked_all t pairs i old new h done es ds shown w =
     let left = subst (λ l. WalkLeft t l new (add ds (walk_elements es))) done (h.each es ds shown w) in
     go left.rest left.now left.written left.shown left.is
   where
-    go : (rest : Elements) (now : List Diagram) → IsWritten t new now → ShowElements t.vtree (get t.linked) [] rest →
-        add now (walk_elements rest) ≡ add ds (walk_elements es) → IsWritten t new (add ds (walk_elements es))
-    go End now written left is = subst (IsWritten t new) is written
+    go : (rest : Elements) (now : List Diagram) → HasNodeLines t new now → ShowElements t.vtree (get t.linked) [] rest →
+        add now (walk_elements rest) ≡ add ds (walk_elements es) → HasNodeLines t new (add ds (walk_elements es))
+    go End now written left is = subst (HasNodeLines t new) is written
     go (Pair p s more) now written left is = absurd left
 
--- the element at a place
+-- the element at an index
 
 -- it may be visited
 pub both_at : (t : Table) (lists : Lists) (levels : ℕ) (pairs : List (ℕ × ℕ)) (i : ℕ) (e : ℕ × ℕ) →
@@ -150,7 +151,7 @@ pub record IsInside (t : Table) (lists : Lists) (levels c place : ℕ) (d : Diag
   pub position : ℕ
   pub elements : Elements
   pub is : d ≡ Decomposition position elements
-  pub shown : IsShown t c (Decomposition position elements)
+  pub shown : ShowsCanonical t c (Decomposition position elements)
   pub deep : depth (Decomposition position elements) ≤ levels
   pub kept : HasElements t lists c elements
   pub ordered : AreOrdered t elements lists
@@ -160,7 +161,7 @@ pub record IsInside (t : Table) (lists : Lists) (levels c place : ℕ) (d : Diag
 pub inside : (t : Table) (lists : Lists) (levels c place n : ℕ) → (k : CanBeWalked t lists levels c) →
     IsViewOf t (DecompositionView place n) k.0 → IsInside t lists levels c place k.0
 inside t lists levels c place n k w =
-    let shown : IsShown t c (Decomposition w.0 w.1) = subst (IsShown t c) w.2 k.1 in
+    let shown : ShowsCanonical t c (Decomposition w.0 w.1) = subst (ShowsCanonical t c) w.2 k.1 in
     let ordered : IsOrdered t (Decomposition w.0 w.1) lists = subst (λ d. IsOrdered t d lists) w.2 k.3 in
     record {
       position = w.0;
@@ -191,4 +192,4 @@ inside_walkable t lists levels c place d l i is =
 -- a node that stands at a position is one of the vtree
 pub stands_within : (t : Numbered) → IsNumbered t → (p u : ℕ) → slice_get (numbers t) p ≡ Some u →
     u < length (numbers t)
-stands_within t v p u e = node_within t v u (times-slice_get (numbers t) p u e)
+stands_within t v p u e = node_within t v u (times_slice_get (numbers t) p u e)

@@ -3,19 +3,19 @@ use Rattle.std.specs.Prelude.{ℕ, ◌<◌, Bool, false, ◌&&◌, List, [], map
 use Rattle.sd_model.specs.Expression.{node_values}
 use Rattle.sd_manager.specs.Table.{Table}
 use Rattle.sd_apply.specs.Answers.{HasAnswer}
-use Rattle.sd_file.specs.Reads.{File, plain}
+use Rattle.sd_file.specs.Reads.{File, without_ids}
 
 -- the values of all nodes of a file
 abbrev pub values_of : File → List Bool → List Bool
-values_of f given = node_values [] (map (λ e. plain e.node) f.nodes) given
+values_of f assignment = node_values [] (map (λ e. without_ids e.node) f.nodes) assignment
 
 -- the value of the node of a number, counted from 0
 abbrev pub value_at : File → ℕ → List Bool → Bool
-value_at f index given = slice_index_or (values_of f given) index false
+value_at f index assignment = slice_index_or (values_of f assignment) index false
 
 -- the value of a prime and a sub
 abbrev pub pair_value : File → List Bool → ℕ × ℕ → Bool
-pair_value f given pair = value_at f pair.0 given && value_at f pair.1 given
+pair_value f assignment pair = value_at f pair.0 assignment && value_at f pair.1 assignment
 
 -- the first nodes of the file have these answers
 pub record AreBuilt (t : Table) (f : File) (built : List ℕ) : Type 0 where

@@ -21,8 +21,8 @@ pairs_in (Literal vtree literal) = []
 pairs_in (Decomposition vtree pairs) = pairs
 
 -- the pairs of the node of a number
-abbrev pub pairs_at : File → ℕ → List (ℕ × ℕ)
-pairs_at f index = pairs_in (entry_at f index).node
+abbrev pub entry_pairs : File → ℕ → List (ℕ × ℕ)
+entry_pairs f index = pairs_in (entry_at f index).node
 
 -- what a node is, with the number of its pairs
 abbrev pub kind_of : Node → FileNode
@@ -50,8 +50,8 @@ FitFrom v index (e ∷ es) = FitsAt v index e.node × FitFrom v (1 + index) es
 
 -- 1 to 1,024 variables, 1 to 67,108,864 nodes of distinct ids, and each fits behind the earlier ones
 pub record IsFile (f : File) : Type 0 where
-  pub some : 1 ≤ f.variables
-  pub few : f.variables ≤ 1024
+  pub at_least_one : 1 ≤ f.variables
+  pub within_limit : f.variables ≤ 1024
   pub filled : 1 ≤ length f.nodes
   pub count : length f.nodes ≤ 67108864
   pub fit : FitFrom f.variables 0 f.nodes

@@ -10,13 +10,13 @@ abbrev pub mark_at : Numbers → ℕ → ℕ
 mark_at numbers c = slice_index_or numbers.marks.items c 0
 
 -- how many marks are 0
-abbrev pub zeros : List ℕ → ℕ
-zeros marks = sum_by (λ n. if n == 0 then 1 else 0) marks
+abbrev pub count_of_zeros : List ℕ → ℕ
+count_of_zeros marks = sum_by (λ n. if n == 0 then 1 else 0) marks
 
 -- as many numbers were given as there are other marks, and there are no more marks than codes of a u32
 pub record HaveRoom (numbers : Numbers) : Type 0 where
-  pub counted : numbers.count + zeros numbers.marks.items ≡ length numbers.marks.items
-  pub few : length numbers.marks.items < 2 ^ 32
+  pub counted : numbers.count + count_of_zeros numbers.marks.items ≡ length numbers.marks.items
+  pub within_limit : length numbers.marks.items < 2 ^ 32
 
 -- the code may get the next number
 pub record CanGive (numbers : Numbers) (code : ℕ) : Type 0 where
@@ -25,7 +25,7 @@ pub record CanGive (numbers : Numbers) (code : ℕ) : Type 0 where
   pub room : HaveRoom numbers
 
 -- the code got the next number
-pub record IsGiven (old new : Numbers) (code : ℕ) : Type 0 where
+pub record HasNextNumber (old new : Numbers) (code : ℕ) : Type 0 where
   pub count : new.count ≡ old.count + 1
   pub marks : (c : ℕ) → mark_at new c ≡ (if c == code then old.count + 1 else mark_at old c)
   pub room : HaveRoom new

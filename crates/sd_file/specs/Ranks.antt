@@ -17,12 +17,12 @@ use Rattle.std.specs.declared.vec.Vec.{Vec}
 use Rattle.std.specs.declared.alloc.Global.{Global}
 use Rattle.sd_model.specs.Diagram.{Diagram, Bottom, Top, Literal, Decomposition, Elements, diagram_cmp}
 use Rattle.sd_model.specs.Canonical.{IsCanonical}
-use Rattle.sd_vtree.specs.Numbered.{Numbered, forget, subtree}
+use Rattle.sd_vtree.specs.Numbered.{Numbered, plain_tree, subtree}
 use Rattle.sd_laws.specs.Shown.{ShowElements}
 use Rattle.sd_laws.proofs.Lists.{IsAmong}
 use Rattle.sd_laws.proofs.Numbers.{PartAt}
 use Rattle.sd_manager.specs.Table.{Table}
-use Rattle.sd_manager.specs.Shown.{Shows, IsShown}
+use Rattle.sd_manager.specs.Shown.{Shows, ShowsCanonical}
 use Rattle.sd_manager.specs.Views.{pairs_at}
 use Rattle.sd_manager.specs.Valid.{IsTable}
 use Rattle.sd_file.specs.declared.order.Ordered.{Ordered}
@@ -34,8 +34,8 @@ abbrev pub Ranked : Type 0
 Ranked = Rank × Rank × ℕ × ℕ
 
 -- a decomposition: the number of its elements, these, and its code
-abbrev pub Entry : Type 0
-Entry = ℕ × Vec Ranked Global × ℕ
+abbrev pub RankedNode : Type 0
+RankedNode = ℕ × Vec Ranked Global × ℕ
 
 -- the order of ranks
 abbrev pub rank_cmp : Rank → Rank → Ordering
@@ -48,7 +48,7 @@ ranked_cmp e f =
     (nat_cmp e.3 f.3)
 
 -- the order of decompositions of one position
-abbrev pub entry_cmp : Entry → Entry → Ordering
+abbrev pub entry_cmp : RankedNode → RankedNode → Ordering
 entry_cmp x y =
     ordering_then (ordering_then (nat_cmp x.0 y.0) (slice_cmp ranked_cmp x.1.items y.1.items)) (nat_cmp x.2 y.2)
 
@@ -88,7 +88,7 @@ pub record AreRanks (t : Table) (o : Ordered) : Type 0 where
       IsListed t o c es
 
 -- the entry has the elements of its decomposition at the position, in the structural order
-pub record IsEntry (t : Table) (o : Ordered) (p : ℕ) (entry : Entry) : Type 0 where
+pub record IsEntry (t : Table) (o : Ordered) (p : ℕ) (entry : RankedNode) : Type 0 where
   pub elements : Elements
   pub shown : Shows t entry.2 (Decomposition p elements)
   pub list : ShowElements t.vtree (get t.linked) (map codes_of entry.1.items) elements
@@ -96,7 +96,7 @@ pub record IsEntry (t : Table) (o : Ordered) (p : ℕ) (entry : Entry) : Type 0 
   pub count : entry.0 ≡ length entry.1.items
 
 -- each decomposition with a rank at the position is less than that of the entry
-abbrev pub IsPast : Table → Ordered → ℕ → Entry → Type 0
+abbrev pub IsPast : Table → Ordered → ℕ → RankedNode → Type 0
 IsPast t o p entry =
     (c : ℕ) (r : Rank) (es fs : Elements) → rank_of o c ≡ Some r → Shows t c (Decomposition p es) →
     Shows t entry.2 (Decomposition p fs) → diagram_cmp (Decomposition p es) (Decomposition p fs) ≡ Less
@@ -108,28 +108,28 @@ IsFresh t o groups =
     Shows t c (Decomposition p es) → ¬ (tree.get nat_cmp groups p ≡ Some v)
 
 -- the entries that are left of a position are to have ranks with this place and the next ones
-pub record IsGiving (t : Table) (o : Ordered) (groups : BTreeMap ℕ (Vec ℕ Global)) (p place : ℕ)
-    (left : List Entry) : Type 0 where
+pub record IsGiving (t : Table) (o : Ordered) (groups : BTreeMap ℕ (Vec ℕ Global)) (p index : ℕ)
+    (left : List RankedNode) : Type 0 where
   pub ranks : AreRanks t o
   pub fresh : IsFresh t o groups
   pub gone : (v : Vec ℕ Global) → ¬ (tree.get nat_cmp groups p ≡ Some v)
-  pub below : (c : ℕ) (r : Rank) (es : Elements) → rank_of o c ≡ Some r → Shows t c (Decomposition p es) → r.2 < place
+  pub below : (c : ℕ) (r : Rank) (es : Elements) → rank_of o c ≡ Some r → Shows t c (Decomposition p es) → r.2 < index
   pub past : AllByRecursion (IsPast t o p) left
   pub entries : AllByRecursion (IsEntry t o p) left
   pub ascending : IsStrictlySortedBy entry_cmp left
 
 -- only this code got a rank and a list
-pub record IsGiven (old new : Ordered) (c : ℕ) (r : Rank) (list : List (ℕ × ℕ)) : Type 0 where
+pub record HasNewRank (old new : Ordered) (c : ℕ) (r : Rank) (list : List (ℕ × ℕ)) : Type 0 where
   pub ranks : (b : ℕ) → rank_of new b ≡ (if b == c then Some r else rank_of old b)
   pub lists : (b : ℕ) → list_of new b ≡ (if b == c then Some list else list_of old b)
 
 -- the code is of a decomposition at the position
-abbrev pub IsAt : Table → ℕ → ℕ → Type 0
-IsAt t p c = (es : Elements) × IsShown t c (Decomposition p es)
+abbrev pub IsNodeAt : Table → ℕ → ℕ → Type 0
+IsNodeAt t p c = (es : Elements) × ShowsCanonical t c (Decomposition p es)
 
 -- codes of distinct decompositions at the position
 pub record IsGroup (t : Table) (p : ℕ) (group : List ℕ) : Type 0 where
-  pub each : AllByRecursion (IsAt t p) group
+  pub each : AllByRecursion (IsNodeAt t p) group
   pub distinct : IsDistinct eqb group
 
 -- each group is one of its position
@@ -144,28 +144,28 @@ pub record IsLeft (groups : BTreeMap ℕ (Vec ℕ Global)) (c : ℕ) : Type 0 wh
   pub among : IsAmong c group.items
 
 -- the code has a rank or stands in a group
-abbrev pub Stands : Ordered → BTreeMap ℕ (Vec ℕ Global) → ℕ → Type 0
-Stands o groups c = IsSome (rank_of o c) ⊎ IsLeft groups c
+abbrev pub HasRankOrGroup : Ordered → BTreeMap ℕ (Vec ℕ Global) → ℕ → Type 0
+HasRankOrGroup o groups c = IsSome (rank_of o c) ⊎ IsLeft groups c
 
 -- so do both codes of a pair
-abbrev pub BothStand : Ordered → BTreeMap ℕ (Vec ℕ Global) → ℕ × ℕ → Type 0
-BothStand o groups e = Stands o groups e.0 × Stands o groups e.1
+abbrev pub BothHaveRankOrGroup : Ordered → BTreeMap ℕ (Vec ℕ Global) → ℕ × ℕ → Type 0
+BothHaveRankOrGroup o groups e = HasRankOrGroup o groups e.0 × HasRankOrGroup o groups e.1
 
 -- so do those of the pairs of each code in a group
 abbrev pub AreClosed : Table → Ordered → BTreeMap ℕ (Vec ℕ Global) → Type 0
-AreClosed t o groups = (c : ℕ) → IsLeft groups c → AllByRecursion (BothStand o groups) (pairs_at t c)
+AreClosed t o groups = (c : ℕ) → IsLeft groups c → AllByRecursion (BothHaveRankOrGroup o groups) (pairs_at t c)
 
 -- what had a rank or stood in a group still does
-abbrev pub StandStill : Ordered → Ordered → BTreeMap ℕ (Vec ℕ Global) → BTreeMap ℕ (Vec ℕ Global) → Type 0
-StandStill old new before after = (c : ℕ) → Stands old before c → Stands new after c
+abbrev pub KeepRankOrGroup : Ordered → Ordered → BTreeMap ℕ (Vec ℕ Global) → BTreeMap ℕ (Vec ℕ Global) → Type 0
+KeepRankOrGroup old new before after = (c : ℕ) → HasRankOrGroup old before c → HasRankOrGroup new after c
 
 -- what had a rank still has one
 abbrev pub KeepRanks : Ordered → Ordered → Type 0
 KeepRanks old new = (c : ℕ) → IsSome (rank_of old c) → IsSome (rank_of new c)
 
 -- the codes of all pairs of the code have ranks
-abbrev pub IsReady : Table → Ordered → ℕ → Type 0
-IsReady t o c = AllByRecursion (HasRanks o) (pairs_at t c)
+abbrev pub HasRankedPairs : Table → Ordered → ℕ → Type 0
+HasRankedPairs t o c = AllByRecursion (HasRanks o) (pairs_at t c)
 
 -- the groups of decompositions that have no ranks yet, by their positions
 pub record AreLeft (t : Table) (o : Ordered) (groups : BTreeMap ℕ (Vec ℕ Global)) : Type 0 where
@@ -175,19 +175,19 @@ pub record AreLeft (t : Table) (o : Ordered) (groups : BTreeMap ℕ (Vec ℕ Glo
   pub closed : AreClosed t o groups
 
 -- the diagram is canonical for the subtree of the vtree node with the number u
-pub record IsBelow (t : Numbered) (u : ℕ) (d : Diagram) : Type 0 where
+pub record IsCanonicalForSubtree (t : Numbered) (u : ℕ) (d : Diagram) : Type 0 where
   pub part : Numbered
   pub is : subtree t u ≡ Some part
   pub at : PartAt t u part 0
-  pub canonical : IsCanonical (forget part) (0 + at.skip) d
+  pub canonical : IsCanonical (plain_tree part) (0 + at.skip) d
 
 -- the decompositions at and below a vtree node got ranks
 pub record AreRankedBelow (t : Table) (old new : Ordered) (before after : BTreeMap ℕ (Vec ℕ Global))
     (u : ℕ) : Type 0 where
   pub left : AreLeft t new after
-  pub still : StandStill old new before after
+  pub keeps_all : KeepRankOrGroup old new before after
   pub fewer : (c : ℕ) → IsLeft after c → IsLeft before c
-  pub none : (c : ℕ) (d : Diagram) → IsLeft after c → Shows t c d → ¬ IsBelow t.vtree u d
+  pub none : (c : ℕ) (d : Diagram) → IsLeft after c → Shows t c d → ¬ IsCanonicalForSubtree t.vtree u d
 
 -- no decomposition at the position has a rank
 abbrev pub NoneAt : Table → Ordered → ℕ → Type 0
@@ -221,8 +221,8 @@ pub record AreCollected (t : Table) (o : Ordered) (f : Found) : Type 0 where
   pub closed : AreClosed t o f.groups
 
 -- what was found or had a rank still is or does
-abbrev pub CollectStill : Ordered → Ordered → Found → Found → Type 0
-CollectStill o p f g = StandStill o p f.groups g.groups
+abbrev pub KeepCollected : Ordered → Ordered → Found → Found → Type 0
+KeepCollected o p f g = KeepRankOrGroup o p f.groups g.groups
 
 -- the codes in a group, or none
 abbrev pub items_of : Option (Vec ℕ Global) → List ℕ
@@ -243,12 +243,12 @@ pub record HasRankedTo (t : Table) (o : Ordered) (c i : ℕ) (so_far : List Rank
   pub ranked : AllByRecursion (IsRanked o) so_far
 
 -- the entries so far are those of the first codes of the group
-pub record HasEntries (t : Table) (o : Ordered) (group : List ℕ) (i : ℕ) (so_far : List Entry) : Type 0 where
-  pub codes : map (λ (e : Entry). e.2) so_far ≡ take i group
-  pub entries : (p : ℕ) → AllByRecursion (IsAt t p) group → AllByRecursion (IsEntry t o p) so_far
+pub record HasEntries (t : Table) (o : Ordered) (group : List ℕ) (i : ℕ) (so_far : List RankedNode) : Type 0 where
+  pub codes : map (λ (e : RankedNode). e.2) so_far ≡ take i group
+  pub entries : (p : ℕ) → AllByRecursion (IsNodeAt t p) group → AllByRecursion (IsEntry t o p) so_far
 
 -- the first entries of a position have their ranks
-abbrev pub HasGiven : Ordered → Ordered → ℕ → ℕ → List Entry → Type 0
+abbrev pub HasGiven : Ordered → Ordered → ℕ → ℕ → List RankedNode → Type 0
 HasGiven old new p i entries =
     (t : Table) (groups : BTreeMap ℕ (Vec ℕ Global)) → IsTable t → IsGiving t old groups p 0 entries →
     IsGiving t new groups p i (drop i entries)
@@ -260,12 +260,12 @@ pub record IsFoundAlso (old new : Found) (c : ℕ) : Type 0 where
   pub only : (b : ℕ) → IsLeft new.groups b → (b ≡ c) ⊎ IsLeft old.groups b
 
 -- the first entries of a position have ranks, and what had a rank still has one
-pub record HaveRanksTo (old new : Ordered) (i : ℕ) (entries : List Entry) : Type 0 where
+pub record HaveRanksTo (old new : Ordered) (i : ℕ) (entries : List RankedNode) : Type 0 where
   pub kept : KeepRanks old new
-  pub given : AllByRecursion (λ (e : Entry). IsSome (rank_of new e.2)) (take i entries)
+  pub given : AllByRecursion (λ (e : RankedNode). IsSome (rank_of new e.2)) (take i entries)
 
 -- the codes of the first pairs of a node have ranks or are found
 pub record HasCollectedTo (t : Table) (old new : Ordered) (f g : Found) (c i : ℕ) : Type 0 where
   pub collected : AreCollected t new g
-  pub still : CollectStill old new f g
-  pub stand : AllByRecursion (BothStand new g.groups) (take i (pairs_at t c))
+  pub keeps_all : KeepCollected old new f g
+  pub stand : AllByRecursion (BothHaveRankOrGroup new g.groups) (take i (pairs_at t c))

@@ -56,14 +56,14 @@ literal_form (id ∷ vtree ∷ literal ∷ []) =
 literal_form words = None
 
 -- two by two
-abbrev pub pairs_of : List ℕ → List (ℕ × ℕ)
-pairs_of (p ∷ s ∷ others) = (p, s) ∷ pairs_of others
-pairs_of others = []
+abbrev pub two_by_two : List ℕ → List (ℕ × ℕ)
+two_by_two (p ∷ s ∷ others) = (p, s) ∷ two_by_two others
+two_by_two others = []
 
 -- the numbers after D: an id, a vtree id, k, and k pairs, at least one
 abbrev pub decomposition_form : List ℕ → Option Form
 decomposition_form (id ∷ vtree ∷ k ∷ children) =
-    if nat_le 1 k && length children == 2 * k then Some (DecompositionForm id vtree (pairs_of children)) else None
+    if nat_le 1 k && length children == 2 * k then Some (DecompositionForm id vtree (two_by_two children)) else None
 decomposition_form numbers = None
 
 -- each element where all have a value
@@ -83,9 +83,9 @@ form_of (letter ∷ words) =
 
 -- ---- a node line after earlier ones, of which the ids are known
 
--- the place of an id
-abbrev pub place_of : ℕ → List ℕ → Option ℕ
-place_of id ids = position (λ i. i == id) ids
+-- the index of an id
+abbrev pub index_of_id : ℕ → List ℕ → Option ℕ
+index_of_id id ids = position (λ i. i == id) ids
 
 -- the literal is one of a variable of 1 to v
 abbrev pub is_literal : ℕ → ℤ → Bool
@@ -94,8 +94,8 @@ is_literal v z = nat_le 1 (unsigned_abs z) && nat_le (unsigned_abs z) v
 -- the places of a prime and a sub
 abbrev pub pair_at : List ℕ → ℕ → ℕ × ℕ → Result (ℕ × ℕ) SddFault
 pair_at ids line (prime, sub) = do
-  p ← ok_or (place_of prime ids) (ChildUnknown line)
-  s ← ok_or (place_of sub ids) (ChildUnknown line)
+  p ← ok_or (index_of_id prime ids) (ChildUnknown line)
+  s ← ok_or (index_of_id sub ids) (ChildUnknown line)
   Ok (p, s)
 
 -- the decomposition of these pairs of ids
@@ -116,7 +116,7 @@ node_of v ids line (DecompositionForm id vtree pairs) = decomposition_of ids lin
 abbrev pub entry_with : ℕ → List ℕ → TextLine → Result Entry SddFault
 entry_with v ids line = do
   form ← ok_or (form_of line.words) (BadLine line.number)
-  fault_if (is_some (place_of (id_of form) ids)) (IdTwice line.number)
+  fault_if (is_some (index_of_id (id_of form) ids)) (IdTwice line.number)
   node ← node_of v ids line.number form
   Ok (record { id = id_of form; node = node })
 
@@ -154,18 +154,18 @@ sdd_file v bytes = file_of_lines v (content_of 99 bytes)
 -- ---- the value of a file
 
 -- a node without ids
-abbrev pub plain : Node → FileNode
-plain (Constant value) = FileConstant value
-plain (Literal vtree literal) = FileLiteral literal
-plain (Decomposition vtree pairs) = FileDecomposition pairs
+abbrev pub without_ids : Node → FileNode
+without_ids (Constant value) = FileConstant value
+without_ids (Literal vtree literal) = FileLiteral literal
+without_ids (Decomposition vtree pairs) = FileDecomposition pairs
 
 -- the propositional formula of a file: that of its last node
-abbrev pub expression_of : File → Expression
-expression_of f = OfFile (map (λ e. plain e.node) f.nodes)
+abbrev pub expression_of_file : File → Expression
+expression_of_file f = OfFile (map (λ e. without_ids e.node) f.nodes)
 
 -- ---- what a reader answers
 
--- a reading has this fault; want of memory says nothing of it
+-- a reading has this fault; OutOfMemory says nothing of it
 abbrev pub Fails : {Y : Type 0} → SddFault → Result Y SddFault → Type 0
 Fails OutOfMemory reading = Unit {0}
 Fails fault reading = reading ≡ Err fault

@@ -7,19 +7,19 @@ use Rattle.sd_base.specs.Lines.{TextLine}
 use Rattle.sd_base.specs.Reading.{◌>>=◌}
 use Rattle.sd_file.specs.declared.file.FileNode.{FileNode}
 use Rattle.sd_file.specs.declared.file.FileNode.TheVariants as kinds
-use Rattle.sd_file.specs.declared.file.Kept.{Kept}
+use Rattle.sd_file.specs.declared.file.FileEntry.{FileEntry}
 use Rattle.sd_file.specs.declared.form.Form as forms
 use Rattle.sd_file.specs.declared.form.Form.TheVariants.{ConstantLine, LiteralLine, DecompositionLine}
-use Rattle.sd_file.specs.declared.known.Known.{Known}
+use Rattle.sd_file.specs.declared.id_table.IdTable.{IdTable}
 use Rattle.sd_file.specs.declared.reader.Nodes.{Nodes}
-use Rattle.sd_file.specs.Reads.{Form, ConstantForm, LiteralForm, DecompositionForm, pairs_of, place_of}
+use Rattle.sd_file.specs.Reads.{Form, ConstantForm, LiteralForm, DecompositionForm, two_by_two, index_of_id}
 use Rattle.sd_file.specs.Reads.{Node, Constant, Literal, Decomposition, Entry, File}
 
 -- the form of a line
 abbrev pub form_view : forms.Form → Form
 form_view (ConstantLine id value) = ConstantForm id value
 form_view (LiteralLine id vtree literal) = LiteralForm id vtree literal
-form_view (DecompositionLine id vtree children) = DecompositionForm id vtree (pairs_of children.items)
+form_view (DecompositionLine id vtree children) = DecompositionForm id vtree (two_by_two children.items)
 
 -- how many ids of children it has
 abbrev pub children_count : forms.Form → ℕ
@@ -29,7 +29,7 @@ children_count (DecompositionLine id vtree children) = length children.items
 
 -- ---- nodes over one list of pairs
 
--- a node whose pairs begin at a place
+-- a node whose pairs begin at an index
 abbrev pub node_in : List (ℕ × ℕ) → ℕ → FileNode → Node
 node_in pairs start (kinds.Constant value) = Constant value
 node_in pairs start (kinds.Literal vtree literal) = Literal vtree literal
@@ -42,11 +42,11 @@ count_of (kinds.Literal vtree literal) = 0
 count_of (kinds.Decomposition vtree count) = count
 
 -- a node as it is kept
-abbrev pub entry_in : List (ℕ × ℕ) → Kept → Entry
+abbrev pub entry_in : List (ℕ × ℕ) → FileEntry → Entry
 entry_in pairs k = record { id = k.id; node = node_in pairs k.start k.node }
 
 -- nodes as they are kept
-abbrev pub entries_of : List Kept → List (ℕ × ℕ) → List Entry
+abbrev pub entries_of : List FileEntry → List (ℕ × ℕ) → List Entry
 entries_of kept pairs = map (entry_in pairs) kept
 
 -- a file of these nodes
@@ -54,7 +54,7 @@ abbrev pub file_of : ℕ → List Entry → File
 file_of variables entries = record { variables = variables; nodes = entries }
 
 -- the pairs of a node are among a number of them
-abbrev pub IsWithin : ℕ → Kept → Type 0
+abbrev pub IsWithin : ℕ → FileEntry → Type 0
 IsWithin total k = k.start + count_of k.node ≤ total
 
 -- pairs with others put behind them
@@ -71,21 +71,21 @@ put_before front reading = do
 -- ---- the nodes that were read
 
 -- their ids
-abbrev pub ids_of : Known → List ℕ
-ids_of known = map (λ k. k.id) known.kept.items
+abbrev pub ids_of : IdTable → List ℕ
+ids_of table = map (λ k. k.id) table.entries.items
 
--- the map has the place of each id
-pub record IsIndexed (known : Known) : Type 0 where
-  pub places : (id : ℕ) → tree.get nat_cmp known.places id ≡ place_of id (ids_of known)
+-- the map has the index of each id
+pub record IsIndexed (table : IdTable) : Type 0 where
+  pub indices : (id : ℕ) → tree.get nat_cmp table.indices id ≡ index_of_id id (ids_of table)
 
 -- the nodes
 abbrev pub nodes_view : Nodes → List Entry
-nodes_view n = entries_of n.known.kept.items n.pairs.items
+nodes_view n = entries_of n.id_table.entries.items n.pairs.items
 
--- the map has the place of each id, and pairs are in the list
+-- the map has the index of each id, and pairs are in the list
 pub record IsRead (n : Nodes) : Type 0 where
-  pub indexed : IsIndexed n.known
-  pub within : AllByRecursion (IsWithin (length n.pairs.items)) n.known.kept.items
+  pub indexed : IsIndexed n.id_table
+  pub within : AllByRecursion (IsWithin (length n.pairs.items)) n.id_table.entries.items
 
 -- how many words the lines have
 abbrev pub word_count : List TextLine → ℕ

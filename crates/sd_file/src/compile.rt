@@ -4,14 +4,14 @@ ghost use Rattle.std.specs.Prelude.{◌≡◌, ◌≤◌, ◌<◌, length, IfOk,
 ghost use Rattle.std.specs.List.{list_any};
 ghost use Rattle.sd_model.specs.Tree.{leaves};
 ghost use Rattle.sd_model.specs.Expression.{expression_value};
-ghost use Rattle.sd_vtree.specs.Numbered.{forget};
+ghost use Rattle.sd_vtree.specs.Numbered.{plain_tree};
 ghost use Rattle.sd_manager.specs.Valid.{IsTable};
 ghost use Rattle.sd_manager.specs.Making.{Extends, KeepsRule};
 ghost use Rattle.sd_apply.specs.Answers.{HasAnswer};
 ghost use Rattle.sd_apply.specs.Serving.{Serves};
 ghost use Rattle.sd_file.specs.Built.{AreBuilt, value_at, pair_value};
-ghost use Rattle.sd_file.specs.Files.{pairs_at, IsFile};
-ghost use Rattle.sd_file.specs.Reads.{expression_of};
+ghost use Rattle.sd_file.specs.Files.{entry_pairs, IsFile};
+ghost use Rattle.sd_file.specs.Reads.{expression_of_file};
 
 use crate::file::{FileNode, SddFile};
 use sd_apply::{and, or};
@@ -28,9 +28,10 @@ pub fn build(
     c: &mut Cache,
     file: &SddFile,
 ) -> Result<NodeId, TakeError>
-    requires variables { leaves (forget m.old.vtree) ≡ file.now.variables }
+    requires variables { leaves (plain_tree m.old.vtree) ≡ file.now.variables }
     requires serves { Serves c.old m.old }
-    ensures ok { IfOk result (λ node. HasAnswer m.new (expression_value (expression_of file.now)) node) }
+    ensures ok { IfOk result
+        (λ node. HasAnswer m.new (expression_value (expression_of_file file.now)) node) }
     ensures kept { Extends m.old m.new }
     ensures serves { Serves c.new m.new }
     ensures rule { IfErr result (λ e. KeepsRule m.new e) }
@@ -47,7 +48,7 @@ fn build_nodes(
     c: &mut Cache,
     file: &SddFile,
 ) -> Result<Vec<NodeId>, TakeError>
-    requires variables { leaves (forget m.old.vtree) ≡ file.now.variables }
+    requires variables { leaves (plain_tree m.old.vtree) ≡ file.now.variables }
     requires serves { Serves c.old m.old }
     ensures ok { IfOk result (λ built. AreBuilt m.new file.now built.items) }
     ensures all { IfOk result (λ built. length built.items ≡ length file.now.nodes) }
@@ -76,7 +77,7 @@ fn node_of(
     index: u32,
     built: &[NodeId],
 ) -> Result<NodeId, TakeError>
-    requires variables { leaves (forget m.old.vtree) ≡ file.now.variables }
+    requires variables { leaves (plain_tree m.old.vtree) ≡ file.now.variables }
     requires file { IsFile file.now }
     requires index { index < length file.now.nodes }
     requires built { AreBuilt m.old file.now built.now }
@@ -106,12 +107,13 @@ fn join(
     built: &[NodeId],
 ) -> Result<NodeId, TakeError>
     requires index { index < length file.now.nodes }
-    requires count { count ≡ length (pairs_at file.now index) }
+    requires count { count ≡ length (entry_pairs file.now index) }
     requires built { AreBuilt m.old file.now built.now }
     requires all { length built.now ≡ index }
     requires serves { Serves c.old m.old }
     ensures ok { IfOk result (λ node.
-        HasAnswer m.new (λ given. list_any (pair_value file.now given) (pairs_at file.now index)) node) }
+        HasAnswer m.new (λ assignment. list_any (pair_value file.now assignment)
+        (entry_pairs file.now index)) node) }
     ensures kept { Extends m.old m.new }
     ensures serves { Serves c.new m.new }
     ensures rule { IfErr result (λ e. KeepsRule m.new e) }

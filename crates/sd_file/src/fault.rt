@@ -5,7 +5,7 @@ ghost use Rattle.std.specs.Prelude.{◌≡◌};
 use std::alloc::{AllocError, AllocFailed};
 use thiserror::Error;
 
-/// The first fault of a text, or want of memory. Lines are counted from 1, over all lines of the
+/// The first fault of a text, or that memory ran out. Lines are counted from 1, over all lines of the
 /// text.
 #[derive(Clone, Copy, Debug, PartialEq, Eq, Error)]
 pub enum SddFault {
@@ -30,7 +30,7 @@ pub enum SddFault {
     /// The header states that there is no node, and there is none.
     #[error("Empty")]
     Empty,
-    /// Want of memory, whatever the text.
+    /// Out of memory, whatever the text.
     #[error("OutOfMemory")]
     OutOfMemory,
 }

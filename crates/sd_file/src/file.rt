@@ -1,7 +1,7 @@
 //! The nodes of an SDD file.
 
 ghost use Rattle.std.specs.Prelude.{◌≡◌, ◌<◌, ◌≤◌, length, slice_get, Some};
-ghost use Rattle.sd_file.specs.Files.{entry_at, pairs_at, kind_of, IsEarlier, IsFile, IsKindOver};
+ghost use Rattle.sd_file.specs.Files.{entry_at, entry_pairs, kind_of, IsEarlier, IsFile, IsKindOver};
 
 use std::marker::Model;
 
@@ -18,7 +18,7 @@ pub enum FileNode {
 
 /// A node as it is kept: its id, what it is, and where its pairs begin in the list of all pairs.
 #[derive(Clone, Copy, Debug)]
-pub(crate) struct Kept {
+pub(crate) struct FileEntry {
     pub(crate) id: u64,
     pub(crate) node: FileNode,
     pub(crate) start: usize,
@@ -28,7 +28,7 @@ pub(crate) struct Kept {
 #[derive(Debug, Drop)]
 pub struct SddFile {
     pub(crate) variables: u32,
-    pub(crate) kept: Vec<Kept>,
+    pub(crate) entries: Vec<FileEntry>,
     /// The pairs of all decompositions, one decomposition after another.
     pub(crate) pairs: Vec<(u32, u32)>,
 }
@@ -42,10 +42,10 @@ impl Model for SddFile {
 
     ghost Value = { File };
 
-    ghost view = { λ f. file_of f.variables (entries_of f.kept.items f.pairs.items) };
+    ghost view = { λ f. file_of f.variables (entries_of f.entries.items f.pairs.items) };
 
-    ghost invariant = { λ f. AllByRecursion (IsWithin (length f.pairs.items)) f.kept.items
-        × IsFile (file_of f.variables (entries_of f.kept.items f.pairs.items)) };
+    ghost invariant = { λ f. AllByRecursion (IsWithin (length f.pairs.items)) f.entries.items
+        × IsFile (file_of f.variables (entries_of f.entries.items f.pairs.items)) };
 }
 
 impl SddFile {
@@ -63,7 +63,7 @@ impl SddFile {
         ensures range { (1 ≤ result) × (result ≤ 67108864) }
         ensures file { IsFile self.now }
     {
-        self.kept.len() as u32
+        self.entries.len() as u32
     }
 
     /// The id of a node, counted from 0.
@@ -71,7 +71,7 @@ impl SddFile {
         requires { index < length self.now.nodes }
         ensures { result ≡ (entry_at self.now index).id }
     {
-        self.kept[index as usize].id
+        self.entries[index as usize].id
     }
 
     /// What a node is, counted from 0: a literal is in range, and a decomposition has pairs.
@@ -89,14 +89,14 @@ impl SddFile {
         ensures value { result ≡ kind_of (entry_at self.now index).node }
         ensures file { IsFile self.now }
     {
-        self.kept[index as usize].node
+        self.entries[index as usize].node
     }
 
     /// The prime and the sub of an element of a decomposition: both are numbers of earlier nodes.
     pub fn pair(&self, index: u32, element: u32) -> (u32, u32)
         requires node { index < length self.now.nodes }
-        requires element { element < length (pairs_at self.now index) }
-        ensures value { slice_get (pairs_at self.now index) element ≡ Some result }
+        requires element { element < length (entry_pairs self.now index) }
+        ensures value { slice_get (entry_pairs self.now index) element ≡ Some result }
         ensures earlier { IsEarlier index result }
     {
         self.pair_in(index, element)
@@ -105,11 +105,11 @@ impl SddFile {
     /// The pair of an element.
     fn pair_in(&self, index: u32, element: u32) -> (u32, u32)
         requires node { index < length self.now.nodes }
-        requires element { element < length (pairs_at self.now index) }
-        ensures value { slice_get (pairs_at self.now index) element ≡ Some result }
+        requires element { element < length (entry_pairs self.now index) }
+        ensures value { slice_get (entry_pairs self.now index) element ≡ Some result }
         ensures file { IsFile self.now }
     {
-        let kept = self.kept[index as usize];
-        self.pairs[kept.start + element as usize]
+        let entry = self.entries[index as usize];
+        self.pairs[entry.start + element as usize]
     }
 }

@@ -50,7 +50,7 @@ impl Form {
 pub(crate) fn form_of(alloc: Global, line: &Line<'_>) -> Result<Option<Form>, AllocError>
     ensures form { IfOk result (λ form. option_map form_view form
         ≡ texts.form_of (line_view line.now).words) }
-    ensures few { IfOk result (λ form. IfSome form
+    ensures within_limit { IfOk result (λ form. IfSome form
         (λ f. children_count f ≤ length (line_view line.now).words)) }
 {
     let mut words = line.words();
@@ -95,7 +95,7 @@ fn literal_form(mut words: Words<'_>) -> Option<Form>
 fn naturals(alloc: Global, words: Words<'_>) -> Result<Option<Vec<u64>>, AllocError>
     ensures values { IfOk result (λ numbers. option_map (λ v. v.items) numbers
         ≡ all_values natural_value (words_left words.entry)) }
-    ensures few { IfOk result (λ numbers. IfSome numbers
+    ensures within_limit { IfOk result (λ numbers. IfSome numbers
         (λ v. length v.items ≤ length (words_left words.entry))) }
 {
     let mut numbers = Vec::new(alloc);
@@ -113,7 +113,7 @@ fn decomposition_form(alloc: Global, words: Words<'_>) -> Result<Option<Form>, A
     ensures form { IfOk result (λ form. option_map form_view form
         ≡ option_and_then texts.decomposition_form
         (all_values natural_value (words_left words.entry))) }
-    ensures few { IfOk result (λ form. IfSome form
+    ensures within_limit { IfOk result (λ form. IfSome form
         (λ f. children_count f ≤ length (words_left words.entry))) }
 {
     let Some(numbers) = naturals(alloc, words)? else {

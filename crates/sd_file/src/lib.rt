@@ -8,7 +8,7 @@ mod compile;
 mod fault;
 mod file;
 mod form;
-mod known;
+mod id_table;
 mod lines;
 mod numbers;
 mod order;

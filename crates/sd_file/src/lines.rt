@@ -3,8 +3,8 @@
 ghost use Rattle.std.specs.Prelude.{◌≡◌, ◌∷◌, [], ◌++◌, length, codes, cond, OnOk};
 ghost use Rattle.std.specs.List.{AllByRecursion};
 ghost use Rattle.sd_model.specs.Text.{number_text, literal_text, line_text, spaced};
-ghost use Rattle.sd_file.specs.Numbers.{CanGive, HaveNumbers, IsGiven, pair_words};
-ghost use Rattle.sd_file.specs.Lines.{HasLine};
+ghost use Rattle.sd_file.specs.Numbers.{CanGive, HaveNumbers, HasNextNumber, pair_words};
+ghost use Rattle.sd_file.specs.Lines.{HasNodeLine};
 
 use crate::numbers::Numbers;
 use itoa::Buffer;
@@ -36,7 +36,7 @@ impl Listing {
     /// The line of a constant.
     pub(crate) fn add_constant(&mut self, node: NodeId, value: bool) -> Result<(), AllocError>
         requires { CanGive self.old.numbers node }
-        ensures { OnOk result (HasLine self.old self.new node
+        ensures { OnOk result (HasNodeLine self.old self.new node
             (cond value (codes "T") (codes "F") ∷ number_text self.old.numbers.count ∷ [])) }
     {
         self.start(if value { b'T' } else { b'F' }, node)?;
@@ -46,7 +46,7 @@ impl Listing {
     /// The line of a literal at a position.
     pub(crate) fn add_literal(&mut self, node: NodeId, leaf: Leaf) -> Result<(), AllocError>
         requires { CanGive self.old.numbers node }
-        ensures { OnOk result (HasLine self.old self.new node
+        ensures { OnOk result (HasNodeLine self.old self.new node
             (codes "L" ∷ number_text self.old.numbers.count ∷ number_text leaf.position
             ∷ literal_text leaf.variable leaf.positive ∷ [])) }
     {
@@ -65,7 +65,7 @@ impl Listing {
     ) -> Result<(), AllocError>
         requires given { CanGive self.old.numbers node }
         requires complete { AllByRecursion (HaveNumbers self.old.numbers) elements.now }
-        ensures { OnOk result (HasLine self.old self.new node
+        ensures { OnOk result (HasNodeLine self.old self.new node
             (codes "D" ∷ number_text self.old.numbers.count ∷ number_text position ∷ number_text (length elements.now)
             ∷ pair_words self.new.numbers elements.now)) }
     {
@@ -79,7 +79,7 @@ impl Listing {
     // Gives a node its number, and writes the letter of its line and the number.
     fn start(&mut self, letter: u8, node: NodeId) -> Result<(), AllocError>
         requires { CanGive self.old.numbers node }
-        ensures given { OnOk result (IsGiven self.old.numbers self.new.numbers node) }
+        ensures given { OnOk result (HasNextNumber self.old.numbers self.new.numbers node) }
         ensures text { OnOk result (self.new.text.items
             ≡ self.old.text.items ++ letter ∷ 32 ∷ number_text self.old.numbers.count) }
     {
@@ -104,7 +104,8 @@ fn push_pairs(
     pairs: &[(NodeId, NodeId)],
 ) -> Result<(), AllocError>
     requires { AllByRecursion (HaveNumbers numbers.now) pairs.now }
-    ensures { OnOk result (text.new.items ≡ text.old.items ++ spaced (pair_words numbers.now pairs.now)) }
+    ensures { OnOk result (text.new.items ≡ text.old.items
+        ++ spaced (pair_words numbers.now pairs.now)) }
 {
     for pair in pairs {
         push_number(text, u64::from(numbers.number(pair.0.0)))?;

@@ -1,7 +1,7 @@
 //! The numbers that nodes get when they are complete.
 
 ghost use Rattle.std.specs.Prelude.{◌≡◌, ℕ, ◌+◌, ◌-◌, ◌<◌, ◌^◌, [], length, OnOk, IfOk, nat_lt};
-ghost use Rattle.sd_file.specs.Numbers.{mark_at, CanGive, HaveRoom, IsGiven};
+ghost use Rattle.sd_file.specs.Numbers.{mark_at, CanGive, HaveRoom, HasNextNumber};
 
 use std::alloc::{AllocError, Global};
 
@@ -52,9 +52,9 @@ impl Numbers {
     pub(crate) fn give(&mut self, code: u32) -> Result<u32, AllocError>
         requires { CanGive self.old code }
         ensures number { IfOk result (λ n. n ≡ self.old.count) }
-        ensures given { OnOk result (IsGiven self.old self.new code) }
+        ensures given { OnOk result (HasNextNumber self.old self.new code) }
     {
-        self.reach(code)?;
+        self.ensure_index(code)?;
         let number = self.count;
         self.count = number + 1;
         self.marks[code as usize] = number + 1;
@@ -62,7 +62,7 @@ impl Numbers {
     }
 
     // Makes room for the mark of a code.
-    fn reach(&mut self, code: u32) -> Result<(), AllocError>
+    fn ensure_index(&mut self, code: u32) -> Result<(), AllocError>
         requires low { code < 2 ^ 32 - 1 }
         requires room { HaveRoom self.old }
         ensures inside { OnOk result (code < length self.new.marks.items) }

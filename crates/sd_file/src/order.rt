@@ -13,16 +13,16 @@ ghost use Rattle.std.specs.List.{AllByRecursion};
 ghost use Rattle.std.specs.List.Sorted.{IsPermutation, IsSorted};
 ghost use Rattle.sd_model.specs.Diagram.{Diagram, Decomposition, Elements};
 ghost use Rattle.sd_manager.specs.Table.{Table};
-ghost use Rattle.sd_manager.specs.Shown.{Shows, IsShown, constant_diagram};
+ghost use Rattle.sd_manager.specs.Shown.{Shows, ShowsCanonical, constant_diagram};
 ghost use Rattle.sd_manager.specs.Views.{pairs_at};
 ghost use Rattle.sd_manager.specs.Valid.{IsTable};
 ghost use Rattle.sd_file.specs.Ordered.{IsOrdered, list_of, rank_of, Rank};
-ghost use Rattle.sd_file.specs.Ranks.{IsRanked, AreRanks, IsEntry, IsGiven};
+ghost use Rattle.sd_file.specs.Ranks.{IsRanked, AreRanks, IsEntry, HasNewRank};
 ghost use Rattle.sd_file.specs.Ranks.{IsGiving, codes_of, ranked_cmp, entry_cmp};
-ghost use Rattle.sd_file.specs.Ranks.{IsAt, IsGroup, IsFresh, NoneAt};
+ghost use Rattle.sd_file.specs.Ranks.{IsNodeAt, IsGroup, IsFresh, NoneAt};
 ghost use Rattle.sd_file.specs.Ranks.{AreLeft, FitsPlain, AreFound, IsAdded, was_seen, items_of};
-ghost use Rattle.sd_file.specs.Ranks.{KeepRanks, IsReady, HasRanks, AreRankedBelow, AreCollected};
-ghost use Rattle.sd_file.specs.Ranks.{BothStand, CollectStill, IsFoundAlso, Stands};
+ghost use Rattle.sd_file.specs.Ranks.{KeepRanks, HasRankedPairs, HasRanks, AreRankedBelow, AreCollected};
+ghost use Rattle.sd_file.specs.Ranks.{BothHaveRankOrGroup, KeepCollected, IsFoundAlso, HasRankOrGroup};
 
 use sd_manager::{Manager, NodeId, View};
 use sd_vtree::VNode;
@@ -66,7 +66,8 @@ impl Ordered {
     // Gives a constant or a literal its rank.
     #[tactic(auto, unfolding(crate::specs::Ordered::rank_of))]
     fn give_plain(&mut self, code: u32, rank: Rank) -> Result<(), AllocError>
-        ensures { OnOk result ((b : ℕ) → rank_of self.new b ≡ (if b == code then Some rank else rank_of self.old b)) }
+        ensures { OnOk result ((b : ℕ)
+            → rank_of self.new b ≡ (if b == code then Some rank else rank_of self.old b)) }
     {
         self.ranks.insert(code, rank)?;
         Ok(())
@@ -83,18 +84,19 @@ impl Ordered {
             IsGiving t self.old groups position 0 entries.now →
             IsGiving t self.new groups position (length entries.now) []) }
         ensures kept { OnOk result (KeepRanks self.old self.new) }
-        ensures given { OnOk result (AllByRecursion (λ e. IsSome (rank_of self.new e.2)) entries.now) }
+        ensures given { OnOk result
+            (AllByRecursion (λ e. IsSome (rank_of self.new e.2)) entries.now) }
     {
-        for (place, entry) in entries.iter().enumerate() {
+        for (index, entry) in entries.iter().enumerate() {
             let list = pairs_of(alloc, &entry.1)?;
-            self.give(entry.2, (2, position, place), list)?;
+            self.give(entry.2, (2, position, index), list)?;
         }
         Ok(())
     }
 
     // Gives a node its rank and its list.
     fn give(&mut self, code: u32, rank: Rank, list: Vec<(NodeId, NodeId)>) -> Result<(), AllocError>
-        ensures { OnOk result (IsGiven self.old self.new code rank list.items) }
+        ensures { OnOk result (HasNewRank self.old self.new code rank list.items) }
     {
         self.ranks.insert(code, rank)?;
         self.lists.insert(code, list)?;
@@ -155,7 +157,7 @@ fn ranked_elements(
 // How many elements a decomposition has.
 fn count_of(m: &Manager, node: NodeId) -> u32
     requires table { IsTable m.now }
-    requires known { (p : ℕ) × IsAt m.now p node }
+    requires known { (p : ℕ) × IsNodeAt m.now p node }
     ensures { length (pairs_at m.now node) ≡ result }
 {
     match m.view(node) {
@@ -168,10 +170,10 @@ fn count_of(m: &Manager, node: NodeId) -> u32
 fn entry_of(alloc: Global, m: &Manager, o: &Ordered, code: u32) -> Result<Entry, AllocError>
     requires table { IsTable m.now }
     requires ranks { AreRanks m.now o.now }
-    requires known { (p : ℕ) × IsAt m.now p code }
-    requires ready { IsReady m.now o.now code }
+    requires known { (p : ℕ) × IsNodeAt m.now p code }
+    requires ready { HasRankedPairs m.now o.now code }
     ensures code { IfOk result (λ e. e.2 ≡ code) }
-    ensures entry { IfOk result (λ e. (p : ℕ) → IsAt m.now p code → IsEntry m.now o.now p e) }
+    ensures entry { IfOk result (λ e. (p : ℕ) → IsNodeAt m.now p code → IsEntry m.now o.now p e) }
 {
     let node = NodeId(code);
     let count = count_of(m, node);
@@ -189,10 +191,10 @@ fn entries_of(
 ) -> Result<Vec<Entry>, AllocError>
     requires table { IsTable m.now }
     requires ranks { AreRanks m.now o.now }
-    requires known { (p : ℕ) × AllByRecursion (IsAt m.now p) group.now }
-    requires ready { AllByRecursion (IsReady m.now o.now) group.now }
+    requires known { (p : ℕ) × AllByRecursion (IsNodeAt m.now p) group.now }
+    requires ready { AllByRecursion (HasRankedPairs m.now o.now) group.now }
     ensures codes { IfOk result (λ v. map (λ e. e.2) v.items ≡ group.now) }
-    ensures entries { IfOk result (λ v. (p : ℕ) → AllByRecursion (IsAt m.now p) group.now →
+    ensures entries { IfOk result (λ v. (p : ℕ) → AllByRecursion (IsNodeAt m.now p) group.now →
         AllByRecursion (IsEntry m.now o.now p) v.items) }
 {
     let mut entries = Vec::with_capacity(alloc, group.len())?;
@@ -213,9 +215,11 @@ fn rank_group(
     requires table { IsTable m.now }
     requires ranks { AreRanks m.now o.old }
     requires group { IsGroup m.now position group.now }
-    requires ready { AllByRecursion (IsReady m.now o.old) group.now }
-    ensures ranks { OnOk result ((groups : _) → IsFresh m.now o.old groups → NoneAt m.now o.old position →
-        tree.get nat_cmp groups position ≡ None → AreRanks m.now o.new × IsFresh m.now o.new groups) }
+    requires ready { AllByRecursion (HasRankedPairs m.now o.old) group.now }
+    ensures ranks { OnOk result ((groups : _) → IsFresh m.now o.old groups
+        → NoneAt m.now o.old position →
+        tree.get nat_cmp groups position ≡ None
+        → AreRanks m.now o.new × IsFresh m.now o.new groups) }
     ensures kept { OnOk result (KeepRanks o.old o.new) }
     ensures given { OnOk result (AllByRecursion (λ c. IsSome (rank_of o.new c)) group.now) }
 {
@@ -230,7 +234,8 @@ fn take_group(groups: &mut BTreeMap<u32, Vec<u32>>, position: u32) -> Option<Vec
     ensures gone { tree.get nat_cmp groups.new position ≡ None }
     ensures rest { (q : ℕ) (v : _) → tree.get nat_cmp groups.new q ≡ Some v →
         tree.get nat_cmp groups.old q ≡ Some v }
-    ensures others { (q : ℕ) → (q ≡ position → ⊥) → tree.get nat_cmp groups.new q ≡ tree.get nat_cmp groups.old q }
+    ensures others { (q : ℕ) → (q ≡ position → ⊥)
+        → tree.get nat_cmp groups.new q ≡ tree.get nat_cmp groups.old q }
 {
     groups.remove(&position)
 }
@@ -262,7 +267,8 @@ fn rank_below(
 // Takes the group of a position out, or makes an empty one.
 fn taken_or_new(alloc: Global, groups: &mut BTreeMap<u32, Vec<u32>>, position: u32) -> Vec<u32>
     ensures items { result.items ≡ items_of (tree.get nat_cmp groups.old position) }
-    ensures others { (q : ℕ) → (q ≡ position → ⊥) → tree.get nat_cmp groups.new q ≡ tree.get nat_cmp groups.old q }
+    ensures others { (q : ℕ) → (q ≡ position → ⊥)
+        → tree.get nat_cmp groups.new q ≡ tree.get nat_cmp groups.old q }
 {
     match groups.remove(&position) {
         Some(group) => group,
@@ -287,8 +293,10 @@ impl Found {
 
     // Adds a decomposition at a position where it was not found yet.
     fn add(&mut self, alloc: Global, position: u32, code: u32) -> Result<(), AllocError>
-        ensures found { OnOk result ((t : Table) → AreFound t self.old → IsAt t position code → AreFound t self.new) }
-        ensures more { OnOk result ((t : Table) → AreFound t self.old → IsFoundAlso self.old self.new code) }
+        ensures found { OnOk result ((t : Table) → AreFound t self.old → IsNodeAt t position code
+            → AreFound t self.new) }
+        ensures more { OnOk result ((t : Table) → AreFound t self.old
+            → IsFoundAlso self.old self.new code) }
     {
         if self.has(code) {
             Ok(())
@@ -345,10 +353,10 @@ fn collect(
 ) -> Result<(), AllocError>
     requires table { IsTable m.now }
     requires collected { AreCollected m.now o.old found.old }
-    requires known { (d : Diagram) × IsShown m.now node d × (depth d ≤ levels) }
+    requires known { (d : Diagram) × ShowsCanonical m.now node d × (depth d ≤ levels) }
     ensures collected { OnOk result (AreCollected m.now o.new found.new) }
-    ensures still { OnOk result (CollectStill o.old o.new found.old found.new) }
-    ensures stands { OnOk result (Stands o.new found.new.groups node) }
+    ensures keeps_all { OnOk result (KeepCollected o.old o.new found.old found.new) }
+    ensures stands { OnOk result (HasRankOrGroup o.new found.new.groups node) }
 {
     match m.view(node) {
         View::Constant(value) => o.give_plain(node.0, constant_rank(value)),
@@ -377,11 +385,12 @@ fn collect_below(
     requires table { IsTable m.now }
     requires collected { AreCollected m.now o.old found.old }
     requires count { length (pairs_at m.now node) ≡ count }
-    requires known { (p : ℕ) × (es : Elements) × IsShown m.now node (Decomposition p es)
+    requires known { (p : ℕ) × (es : Elements) × ShowsCanonical m.now node (Decomposition p es)
         × (depth (Decomposition p es) ≤ levels) }
     ensures collected { OnOk result (AreCollected m.now o.new found.new) }
-    ensures still { OnOk result (CollectStill o.old o.new found.old found.new) }
-    ensures stand { OnOk result (AllByRecursion (BothStand o.new found.new.groups) (pairs_at m.now node)) }
+    ensures keeps_all { OnOk result (KeepCollected o.old o.new found.old found.new) }
+    ensures stand { OnOk result
+        (AllByRecursion (BothHaveRankOrGroup o.new found.new.groups) (pairs_at m.now node)) }
 {
     for index in 0..count {
         let (prime, sub) = m.element(node, index);
@@ -393,8 +402,9 @@ fn collect_below(
 
 /// The elements of the decompositions at and below a node.
 pub(crate) fn in_order(alloc: Global, m: &Manager, node: NodeId) -> Result<Ordered, AllocError>
-    requires { (d : Diagram) × IsShown m.now node d }
-    ensures { IfOk result (λ o. (d : Diagram) → IsShown m.now node d → IsOrdered m.now d (list_of o)) }
+    requires { (d : Diagram) × ShowsCanonical m.now node d }
+    ensures { IfOk result (λ o. (d : Diagram) → ShowsCanonical m.now node d
+        → IsOrdered m.now d (list_of o)) }
 {
     let mut o = Ordered {
         lists: BTreeMap::new(alloc),

@@ -11,9 +11,9 @@ ghost use Rattle.sd_file.specs.Reads.{Fails, Gives, sdd_file};
 ghost use Rattle.sd_file.specs.Steps.{nodes_view, entries_of, IsRead, word_count};
 
 use crate::fault::SddFault;
-use crate::file::{Kept, SddFile};
+use crate::file::{FileEntry, SddFile};
 use crate::form::form_of;
-use crate::known::Known;
+use crate::id_table::IdTable;
 use sd_base::{ContentLines, Line, natural};
 use std::alloc::Global;
 
@@ -21,7 +21,7 @@ use std::alloc::Global;
 #[derive(Drop)]
 struct Nodes {
     alloc: Global,
-    known: Known,
+    id_table: IdTable,
     pairs: Vec<(u32, u32)>,
 }
 
@@ -29,12 +29,12 @@ impl Nodes {
     /// None yet.
     fn new(alloc: Global) -> Self
         ensures none { nodes_view result ≡ [] }
-        ensures empty { result.known.kept.items ≡ [] }
+        ensures empty { result.id_table.entries.items ≡ [] }
         ensures read { IsRead result }
     {
         Nodes {
             alloc,
-            known: Known::new(alloc),
+            id_table: IdTable::new(alloc),
             pairs: Vec::new(alloc),
         }
     }
@@ -42,28 +42,29 @@ impl Nodes {
     /// Puts the node of one more line behind the others.
     fn read_line(&mut self, variables: u32, line: &Line<'_>) -> Result<(), SddFault>
         requires range { variables ≤ 1024 }
-        requires few { length self.old.known.kept.items + length (line_view line.now).words
+        requires within_limit { length self.old.id_table.entries.items + length
+            (line_view line.now).words
             ≤ 67108864 }
         requires read { IsRead self.old }
         ensures value { Gives (λ _. nodes_view self.new) result
             (read_more (texts.entry_of variables) (nodes_view self.old) (line_view line.now)) }
         ensures read { OnOk result (IsRead self.new) }
-        ensures few { OnOk result (length self.new.known.kept.items
-            ≤ length self.old.known.kept.items + length (line_view line.now).words) }
+        ensures within_limit { OnOk result (length self.new.id_table.entries.items
+            ≤ length self.old.id_table.entries.items + length (line_view line.now).words) }
     {
         let number = line.number;
         let Some(form) = form_of(self.alloc, line)? else {
             return Err(SddFault::BadLine { line: number });
         };
         let id = form.id();
-        if self.known.has(id) {
+        if self.id_table.has(id) {
             return Err(SddFault::IdTwice { line: number });
         }
         let start = self.pairs.len();
         let node = self
-            .known
+            .id_table
             .node_of(&mut self.pairs, variables, number, &form)?;
-        self.known.add(Kept { id, node, start })?;
+        self.id_table.add(FileEntry { id, node, start })?;
         Ok(())
     }
 }
@@ -71,11 +72,11 @@ impl Nodes {
 /// The nodes of all lines.
 fn read_nodes(alloc: Global, variables: u32, lines: ContentLines<'_>) -> Result<Nodes, SddFault>
     requires range { variables ≤ 1024 }
-    requires few { word_count (content_left lines) ≤ 67108864 }
+    requires within_limit { word_count (content_left lines) ≤ 67108864 }
     ensures value { Gives nodes_view result
         (each_after (texts.entry_of variables) [] (content_left lines.entry)) }
     ensures read { IfOk result IsRead }
-    ensures few { IfOk result (λ n. length n.known.kept.items ≤ 67108864) }
+    ensures within_limit { IfOk result (λ n. length n.id_table.entries.items ≤ 67108864) }
 {
     let mut nodes = Nodes::new(alloc);
     for line in lines {
@@ -106,9 +107,9 @@ fn stated_by(line: &Line<'_>) -> Option<u64>
 /// `L id vtree literal` or `D id vtree k p1 s1 ..` with k pairs of ids of earlier lines, at least
 /// one. Blank lines and lines that begin with `c` do not count. Any text may answer `OutOfMemory`.
 pub fn read_sdd(alloc: Global, bytes: &[u8], variables: u32) -> Result<SddFile, SddFault>
-    requires some { 1 ≤ variables }
-    requires few { variables ≤ 1024 }
-    requires short { length bytes.now ≤ 67108864 }
+    requires at_least_one { 1 ≤ variables }
+    requires within_limit { variables ≤ 1024 }
+    requires fits { length bytes.now ≤ 67108864 }
     ensures ok { IfOk result (λ f. sdd_file variables bytes.now ≡ Ok f) }
     ensures fault { IfErr result (λ e. Fails e (sdd_file variables bytes.now)) }
     ensures variables { IfOk result (λ f. f.variables ≡ variables) }
@@ -120,9 +121,9 @@ pub fn read_sdd(alloc: Global, bytes: &[u8], variables: u32) -> Result<SddFile, 
 /// The file of a text.
 #[tactic(auto, unfolding(crate::specs::Reads::sdd_file))]
 fn read_text(alloc: Global, bytes: &[u8], variables: u32) -> Result<SddFile, SddFault>
-    requires some { 1 ≤ variables }
-    requires few { variables ≤ 1024 }
-    requires short { length bytes.now ≤ 67108864 }
+    requires at_least_one { 1 ≤ variables }
+    requires within_limit { variables ≤ 1024 }
+    requires fits { length bytes.now ≤ 67108864 }
     ensures value { Gives (λ f. f) result (sdd_file variables bytes.now) }
     ensures variables { IfOk result (λ f. f.variables ≡ variables) }
 {
@@ -139,18 +140,18 @@ fn read_text(alloc: Global, bytes: &[u8], variables: u32) -> Result<SddFile, Sdd
 
 /// The file of these nodes, where the header states their number.
 fn finish(variables: u32, stated: u64, nodes: Nodes) -> Result<SddFile, SddFault>
-    requires some { 1 ≤ variables }
+    requires at_least_one { 1 ≤ variables }
     requires range { variables ≤ 1024 }
-    requires few { length nodes.known.kept.items ≤ 67108864 }
+    requires within_limit { length nodes.id_table.entries.items ≤ 67108864 }
     requires fit { FitFrom variables 0 (nodes_view nodes) }
     requires distinct { AreDistinct (map (λ e. e.id) (nodes_view nodes)) }
     requires read { IsRead nodes }
     ensures value { Gives (λ f. f) result (texts.finish variables stated (nodes_view nodes)) }
     ensures variables { IfOk result (λ f. f.variables ≡ variables) }
 {
-    let known = nodes.known;
-    let kept = known.kept;
-    let found = kept.len() as u64;
+    let id_table = nodes.id_table;
+    let entries = id_table.entries;
+    let found = entries.len() as u64;
     if stated != found {
         return Err(SddFault::CountDiffers { stated, found });
     }
@@ -159,7 +160,7 @@ fn finish(variables: u32, stated: u64, nodes: Nodes) -> Result<SddFile, SddFault
     }
     Ok(SddFile {
         variables,
-        kept,
+        entries,
         pairs: nodes.pairs,
     })
 }

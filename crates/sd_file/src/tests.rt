@@ -2,7 +2,7 @@ ghost use Rattle.std.specs.Prelude.{◌≡◌, ◌≤◌, ◌<◌, ◌^◌, None
 ghost use Rattle.std.specs.FinMap.{empty};
 ghost use Rattle.sd_model.specs.Tree.{leaves};
 ghost use Rattle.sd_model.specs.StartTrees.{balanced_tree};
-ghost use Rattle.sd_vtree.specs.Numbered.{forget};
+ghost use Rattle.sd_vtree.specs.Numbered.{plain_tree};
 ghost use Rattle.sd_apply.specs.Serving.{Serves};
 
 use super::*;
@@ -164,12 +164,12 @@ fn nothing_missing(rt: HostRuntime) {
 
 /// A manager over the balanced vtree of the variables, without roots, and a new cache.
 fn balanced(alloc: Global, variables: u32, bound: u32) -> Result<(Manager, Cache), AllocError>
-    requires some { 1 ≤ variables }
-    requires few { variables ≤ 1024 }
+    requires at_least_one { 1 ≤ variables }
+    requires within_limit { variables ≤ 1024 }
     requires bound { bound < 2 ^ 31 }
-    ensures tree { IfOk result (λ r. forget r.0.vtree ≡ balanced_tree variables) }
+    ensures tree { IfOk result (λ r. plain_tree r.0.vtree ≡ balanced_tree variables) }
     ensures serves { IfOk result (λ r. Serves r.1 r.0) }
-    ensures still { IfOk result (λ r. r.0.moving ≡ None) }
+    ensures keeps_all { IfOk result (λ r. r.0.moving ≡ None) }
     ensures no_roots { IfOk result (λ r. r.0.roots ≡ empty) }
 {
     let vtree = Vtree::balanced(alloc, variables)?;
@@ -191,7 +191,7 @@ fn value_of_a_literal(rt: HostRuntime) -> Result<(), Fail> {
 
 /// The node of `(1 and 2) or (3 and 4)`.
 fn two_pairs(alloc: Global, m: &mut Manager, c: &mut Cache) -> Result<NodeId, TakeError>
-    requires four { leaves (forget m.old.vtree) ≡ 4 }
+    requires four { leaves (plain_tree m.old.vtree) ≡ 4 }
     requires serves { Serves c.old m.old }
 {
     let (one, two) = (m.literal(1), m.literal(2));

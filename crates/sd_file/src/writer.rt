@@ -8,13 +8,13 @@ ghost use Rattle.sd_model.specs.Listing.{add};
 ghost use Rattle.sd_model.specs.Size.{walk, walk_elements};
 ghost use Rattle.sd_model.specs.Text.{sdd_text, number_text};
 ghost use Rattle.sd_model.specs.Tree.{leaves};
-ghost use Rattle.sd_vtree.specs.Numbered.{forget};
+ghost use Rattle.sd_vtree.specs.Numbered.{plain_tree};
 ghost use Rattle.sd_laws.specs.Shown.{ShowElements};
 ghost use Rattle.sd_manager.specs.declared.view.View.TheVariants.{Literal as LiteralView};
 ghost use Rattle.sd_manager.specs.Shown.{Shows, HoldsDiagram};
 ghost use Rattle.sd_manager.specs.Valid.{IsTable};
 ghost use Rattle.sd_manager.specs.Views.{IsViewOf};
-ghost use Rattle.sd_file.specs.Lines.{IsWritten, CanBeWalked, BothCanBeWalked};
+ghost use Rattle.sd_file.specs.Lines.{HasNodeLines, CanBeWalked, BothCanBeWalked};
 ghost use Rattle.sd_file.specs.Ordered.{list_of};
 ghost use Rattle.sd_file.specs.RoundTrip.{ReadsBack};
 
@@ -27,12 +27,13 @@ use std::alloc::{AllocError, Global};
 /// The text of the diagram that a root shows, in the form of the SDD Package 2.0: the line `sdd N`, then a line for
 /// each of the N distinct diagrams in it, numbered from 0 in the order in which they are first complete. Its own line
 /// is the last, and the text is read back as a file with the diagram's value. Each node is visited once. The only error
-/// is want of memory.
+/// is running out of memory.
 pub fn write_sdd(alloc: Global, m: &Manager, root: &Root) -> Result<Bytes, AllocError>
     requires held { (d : Diagram) × HoldsDiagram m.now root.now d }
-    ensures text { IfOk result (λ text. (d : Diagram) → HoldsDiagram m.now root.now d → text ≡ sdd_text d) }
+    ensures text { IfOk result (λ text. (d : Diagram) → HoldsDiagram m.now root.now d
+        → text ≡ sdd_text d) }
     ensures read_back { IfOk result (λ text. (d : Diagram) → HoldsDiagram m.now root.now d →
-        ReadsBack (leaves (forget m.now.vtree)) text d) }
+        ReadsBack (leaves (plain_tree m.now.vtree)) text d) }
 {
     let node = m.node_of(root);
     let ordered = in_order(alloc, m, node)?;
@@ -45,7 +46,8 @@ pub fn write_sdd(alloc: Global, m: &Manager, root: &Root) -> Result<Bytes, Alloc
 
 // The first line of a text with so many nodes.
 fn header(alloc: Global, count: u32) -> Result<Vec<u8>, AllocError>
-    ensures { IfOk result (λ v. v.items ≡ (115 ∷ 100 ∷ 100 ∷ []) ++ 32 ∷ number_text count ++ 10 ∷ []) }
+    ensures { IfOk result (λ v. v.items ≡ (115 ∷ 100 ∷ 100 ∷ []) ++ 32 ∷ number_text count ++ 10
+        ∷ []) }
 {
     let mut text = Vec::from_slice(alloc, b"sdd")?;
     push_number(&mut text, u64::from(count))?;
@@ -65,9 +67,10 @@ fn add_node(
 ) -> Result<(), AllocError>
     requires table { IsTable m.now }
     requires known { CanBeWalked m.now (list_of ordered.now) levels node }
-    requires written { (ds : List Diagram) × IsWritten m.now listing.old ds }
-    ensures { (d : Diagram) (ds : List Diagram) → Shows m.now node d → IsWritten m.now listing.old ds →
-        OnOk result (IsWritten m.now listing.new (add ds (walk d))) }
+    requires written { (ds : List Diagram) × HasNodeLines m.now listing.old ds }
+    ensures { (d : Diagram) (ds : List Diagram) → Shows m.now node d
+        → HasNodeLines m.now listing.old ds →
+        OnOk result (HasNodeLines m.now listing.new (add ds (walk d))) }
 {
     if listing.numbers.has(node.0) {
         return Ok(());
@@ -93,10 +96,13 @@ fn add_elements(
     listing: &mut Listing,
 ) -> Result<(), AllocError>
     requires table { IsTable m.now }
-    requires known { AllByRecursion (BothCanBeWalked m.now (list_of ordered.now) levels) elements.now }
-    requires written { (ds : List Diagram) × IsWritten m.now listing.old ds }
-    ensures { (es : Elements) (ds : List Diagram) → ShowElements m.now.vtree (get m.now.linked) elements.now es →
-        IsWritten m.now listing.old ds → OnOk result (IsWritten m.now listing.new (add ds (walk_elements es))) }
+    requires known { AllByRecursion (BothCanBeWalked m.now (list_of ordered.now) levels)
+        elements.now }
+    requires written { (ds : List Diagram) × HasNodeLines m.now listing.old ds }
+    ensures { (es : Elements) (ds : List Diagram)
+        → ShowElements m.now.vtree (get m.now.linked) elements.now es →
+        HasNodeLines m.now listing.old ds
+        → OnOk result (HasNodeLines m.now listing.new (add ds (walk_elements es))) }
 {
     for element in elements {
         add_node(m, ordered, element.0, levels, listing)?;

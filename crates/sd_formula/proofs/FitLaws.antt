@@ -7,7 +7,7 @@ use Rattle.sd_base.specs.Numbers.{integer_value}
 use Rattle.sd_base.specs.Reading.{◌>>=◌, ◌>>◌, fault_if}
 use Rattle.sd_formula.specs.declared.error.FormulaError.{FormulaError}
 use Rattle.sd_formula.specs.declared.error.FormulaError.TheVariants.{BadWord, LiteralRange}
-use Rattle.sd_formula.specs.Dimacs.{Word, literal_of, is_zero}
+use Rattle.sd_formula.specs.Dimacs.{BodyWord, literal_of_word, is_zero}
 use Rattle.sd_formula.specs.Formulas.{IsLiteral, AreLiterals}
 use Rattle.sd_formula.specs.Steps.{Parts, put_literal, put_words, PartsFit}
 
@@ -44,7 +44,7 @@ small_after v line (Some y) z e = elim (cases_Bool (ltb v (unsigned_abs y))) [
       subst (λ x. unsigned_abs x ≤ v) is (ltb-false v (unsigned_abs y) within)
 ]
 
-words_fit_after : (v : ℕ) (p q : Parts) (r : Result ℤ FormulaError) (words : List Word) → PartsFit v p
+words_fit_after : (v : ℕ) (p q : Parts) (r : Result ℤ FormulaError) (words : List BodyWord) → PartsFit v p
     → ((z : ℤ) → r ≡ Ok z → unsigned_abs z ≤ v)
     → ((z : ℤ) → PartsFit v (put_literal p z) → put_words v (put_literal p z) words ≡ Ok q → PartsFit v q)
     → (r >>= λ z. put_words v (put_literal p z) words) ≡ Ok q → PartsFit v q
@@ -52,12 +52,12 @@ words_fit_after v p q (Ok z) words fit small others e = others z (put_fits v p z
 words_fit_after v p q (Err f) words fit small others e = absurd cc
 
 -- literals in range are kept after words that have no fault
-pub words_fit : (v : ℕ) (p q : Parts) (words : List Word) → PartsFit v p → put_words v p words ≡ Ok q → PartsFit v q
+pub words_fit : (v : ℕ) (p q : Parts) (words : List BodyWord) → PartsFit v p → put_words v p words ≡ Ok q → PartsFit v q
 words_fit v p q [] fit e =
     let same : done p ≡ done q = e in
     let is : p ≡ q = cc in
     subst (PartsFit v) is fit
 words_fit v p q (word ∷ words) fit e =
-    words_fit_after v p q (literal_of v word) words fit
+    words_fit_after v p q (literal_of_word v word) words fit
     (λ z is. small_after v word.line (integer_value word.bytes) z is)
     (λ z fits is. words_fit v (put_literal p z) q words fits is) e

@@ -8,9 +8,9 @@ use Rattle.sd_formula.specs.Flat.{AreEnds, last_end, start_at, cut}
 use Rattle.sd_formula.specs.Steps.{parts_of, ended, extended}
 
 -- as many groups as ends
-pub length-cut : (from : ℕ) (ends : List ℕ) (zs : List ℤ) → length (cut from ends zs) ≡ length ends
-length-cut from [] zs = refl
-length-cut from (e ∷ es) zs = ap suc (length-cut e es zs)
+pub length_cut : (from : ℕ) (ends : List ℕ) (zs : List ℤ) → length (cut from ends zs) ≡ length ends
+length_cut from [] zs = refl
+length_cut from (e ∷ es) zs = ap suc (length_cut e es zs)
 
 -- the last end is among the places
 pub last_within : (from : ℕ) (ends : List ℕ) (total : ℕ) → AreEnds from ends total
@@ -23,22 +23,22 @@ last_within from (e ∷ es) total rise =
 -- ---- one more literal
 
 -- a part is the same of a longer list
-slice_range-push : (zs : List ℤ) (z : ℤ) (from to : ℕ) → from ≤ to → to ≤ length zs
+slice_range_push : (zs : List ℤ) (z : ℤ) (from to : ℕ) → from ≤ to → to ≤ length zs
     → slice_range (zs ++ z ∷ []) from to ≡ slice_range zs from to
-slice_range-push zs z from to order within =
+slice_range_push zs z from to order within =
     let begins : from ≤ length zs = omega arith in
     let short : to - from ≤ length (drop from zs) = omega (arith, length-drop from zs) in
     let behind = take-append-le (to - from) (drop from zs) (z ∷ []) short in
     ap (take (to - from)) (drop-append-le from zs (z ∷ []) begins) ∙ behind
 
 -- and so are the groups
-cut-push : (from : ℕ) (ends : List ℕ) (zs : List ℤ) (z : ℤ) → AreEnds from ends (length zs)
+cut_push : (from : ℕ) (ends : List ℕ) (zs : List ℤ) (z : ℤ) → AreEnds from ends (length zs)
     → cut from ends (zs ++ z ∷ []) ≡ cut from ends zs
-cut-push from [] zs z rise = refl
-cut-push from (e ∷ es) zs z rise =
+cut_push from [] zs z rise = refl
+cut_push from (e ∷ es) zs z rise =
     let within = last_within e es (length zs) rise.1 in
-    let here = slice_range-push zs z from e rise.0 (omega (arith, within.0, within.1)) in
-    let later = cut-push e es zs z rise.1 in
+    let here = slice_range_push zs z from e rise.0 (omega (arith, within.0, within.1)) in
+    let later = cut_push e es zs z rise.1 in
     rw (here, later) refl
 
 -- a literal goes behind the open part
@@ -46,7 +46,7 @@ pub literal_is : (ends : List ℕ) (zs : List ℤ) (z : ℤ) → AreEnds 0 ends 
     → parts_of ends (zs ++ z ∷ []) ≡ extended (parts_of ends zs) z
 literal_is ends zs z rise =
     let within = last_within 0 ends (length zs) rise in
-    rw (cut-push 0 ends zs z rise, drop-append-le (last_end 0 ends) zs (z ∷ []) within.1) refl
+    rw (cut_push 0 ends zs z rise, drop-append-le (last_end 0 ends) zs (z ∷ []) within.1) refl
 
 -- the ends stay below a longer list
 pub ends_more : (from : ℕ) (ends : List ℕ) (total : ℕ) → AreEnds from ends total → AreEnds from ends (total + 1)
@@ -64,19 +64,19 @@ ends_after false ends zs later z rise is = subst (λ (l : List ℤ). AreEnds 0 e
 -- ---- one more end
 
 -- the open part is one more group
-cut-end : (from : ℕ) (ends : List ℕ) (zs : List ℤ)
+cut_end : (from : ℕ) (ends : List ℕ) (zs : List ℤ)
     → cut from (ends ++ length zs ∷ []) zs ≡ cut from ends zs ++ drop (last_end from ends) zs ∷ []
-cut-end from [] zs = ap (λ part. part ∷ []) (take_rest zs from)
-cut-end from (e ∷ es) zs = ap (λ groups. slice_range zs from e ∷ groups) (cut-end e es zs)
+cut_end from [] zs = ap (λ part. part ∷ []) (take_rest zs from)
+cut_end from (e ∷ es) zs = ap (λ groups. slice_range zs from e ∷ groups) (cut_end e es zs)
 
 -- and the next begins at the new end
-last_end-push : (from : ℕ) (ends : List ℕ) (e : ℕ) → last_end from (ends ++ e ∷ []) ≡ e
-last_end-push from [] e = refl
-last_end-push from (x ∷ xs) e = last_end-push x xs e
+last_end_push : (from : ℕ) (ends : List ℕ) (e : ℕ) → last_end from (ends ++ e ∷ []) ≡ e
+last_end_push from [] e = refl
+last_end_push from (x ∷ xs) e = last_end_push x xs e
 
 -- an end closes the open part
 pub end_is : (ends : List ℕ) (zs : List ℤ) → parts_of (ends ++ length zs ∷ []) zs ≡ ended (parts_of ends zs)
-end_is ends zs = rw (cut-end 0 ends zs, last_end-push 0 ends (length zs), drop_all (length zs) zs (omega arith)) refl
+end_is ends zs = rw (cut_end 0 ends zs, last_end_push 0 ends (length zs), drop_all (length zs) zs (omega arith)) refl
 
 -- an end at the total rises
 pub ends_push : (from : ℕ) (ends : List ℕ) (total : ℕ) → AreEnds from ends total
@@ -111,17 +111,17 @@ part_at from (suc i) (e ∷ es) zs rise h =
 -- ---- the open part
 
 -- it begins where one more group would
-start_at-length : (from : ℕ) (ends : List ℕ) → start_at from ends (length ends) ≡ last_end from ends
-start_at-length from [] = refl
-start_at-length from (e ∷ es) = start_at-length e es
+start_at_length : (from : ℕ) (ends : List ℕ) → start_at from ends (length ends) ≡ last_end from ends
+start_at_length from [] = refl
+start_at_length from (e ∷ es) = start_at_length e es
 
 -- it has literals where the list goes on there
 pub open_is : (ends : List ℕ) (zs : List ℤ) (start : ℕ) → AreEnds 0 ends (length zs)
     → start ≡ start_at 0 ends (length ends)
     → (length (drop (last_end 0 ends) zs) == 0) ≡ (start == length zs)
-open_is ends zs start rise start-is =
+open_is ends zs start rise same_start =
     let within = last_within 0 ends (length zs) rise in
-    let last : start ≡ last_end 0 ends = start-is ∙ start_at-length 0 ends in
+    let last : start ≡ last_end 0 ends = same_start ∙ start_at_length 0 ends in
     rw (length-drop, last) (tests (last_end 0 ends) (length zs) within.1)
   where
     tests : (a b : ℕ) → a ≤ b → (b - a == 0) ≡ (a == b)

@@ -1,10 +1,10 @@
--- The group at a place, and the groups from a place on.
+-- The group at an index, and the groups from an index on.
 use Rattle.std.proofs.Common.{◌≡◌, ℕ, zero, suc, ◌+◌, List, [], ◌∷◌, drop, slice_get, Some, ℤ, ap, subst, add-one}
 use Rattle.std.specs.List.{AllByRecursion}
 use Rattle.sd_formula.specs.Formulas.{AreLiterals, IsFormula}
 use Rattle.sd_formula.specs.Dimacs.{Groups}
 
--- what holds of each element holds of the one at a place
+-- what holds of each element holds of the one at an index
 pub all_at : {X : Type 0} (P : X → Type 0) (xs : List X) (i : ℕ) (x : X) → AllByRecursion P xs
     → slice_get xs i ≡ Some x → P x
 all_at P [] i x all at = absurd cc

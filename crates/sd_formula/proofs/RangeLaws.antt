@@ -9,10 +9,11 @@ use Rattle.sd_base.specs.Reading.{◌>>=◌, ◌>>◌, fault_if}
 use Rattle.sd_formula.specs.declared.formula.Kind.{Kind}
 use Rattle.sd_formula.specs.declared.error.FormulaError.TheVariants.{NoHeader, BadHeader, VariablesRange}
 use Rattle.sd_formula.specs.declared.error.FormulaError.TheVariants.{Unterminated, CountDiffers, TooManyGroups}
-use Rattle.sd_formula.specs.Dimacs.{Groups, Stated, dimacs, formula_of, header_of, in_range, numbers_of, is_header}
+use Rattle.sd_formula.specs.Dimacs.{Groups, Stated, dimacs, formula_of, header_of, counts_in_range}
+use Rattle.sd_formula.specs.Dimacs.{numbers_of, is_header}
 use Rattle.sd_formula.specs.Dimacs.{groups_of, body_of, all_but_last, last_part}
 use Rattle.sd_formula.specs.Formulas.{AreLiterals, IsFormula}
-use Rattle.sd_formula.specs.Steps.{Parts, no_parts, put_words, list_of, InRange, PartsFit}
+use Rattle.sd_formula.specs.Steps.{Parts, no_parts, put_words, all_groups, InRange, PartsFit}
 use Rattle.sd_formula.proofs.FitLaws.{words_fit}
 use Rattle.sd_formula.proofs.PartsLaws.{by_parts}
 use Rattle.sd_formula.proofs.ReaderLaws.{all_but_last_push}
@@ -35,7 +36,7 @@ past true fault rest end e = cc
 past false fault rest end e = (refl, e)
 
 -- the numbers of a header are in range
-numbers_fit : (s t : Stated) → in_range s ≡ Ok t → InRange t
+numbers_fit : (s t : Stated) → counts_in_range s ≡ Ok t → InRange t
 numbers_fit s t e =
     let low = nat_le 1 s.variables in
     let high = nat_le s.variables 1024 in
@@ -45,8 +46,8 @@ numbers_fit s t e =
     let within = and_parts low high (not-false (low && high) first.0) in
     let is : s ≡ t = (let same = second.1 in cc) in
     let fits : InRange s = record {
-      some = leb-true 1 s.variables within.0;
-      few = leb-true s.variables 1024 within.1;
+      at_least_one = leb-true 1 s.variables within.0;
+      within_limit = leb-true s.variables 1024 within.1;
       count = ltb-false 1000000 s.groups second.0;
     } in
     subst InRange is fits
@@ -54,18 +55,18 @@ numbers_fit s t e =
 header_fits : (kind : Kind) (line : TextLine) (t : Stated) → header_of kind line ≡ Ok t → InRange t
 header_fits kind line t e =
     let numbers = ok_or (numbers_of kind (drop 1 line.words)) (BadHeader line.number) in
-    let first = past (not (is_header line.words)) NoHeader (numbers >>= in_range) t e in
-    let second = through numbers in_range t first.1 in
+    let first = past (not (is_header line.words)) NoHeader (numbers >>= counts_in_range) t e in
+    let second = through numbers counts_in_range t first.1 in
     numbers_fit second.middle t second.led
 
 -- the groups are as many as the header states, and their literals are in range
 groups_fit : (kind : Kind) (s : Stated) (p : Parts) (f : Groups) → InRange s → PartsFit s.variables p
-    → groups_of kind s (list_of p) ≡ Ok f → IsFormula f
+    → groups_of kind s (all_groups p) ≡ Ok f → IsFormula f
 groups_fit kind s p f range fit e =
-    let groups = all_but_last (list_of p) in
+    let groups = all_but_last (all_groups p) in
     let formula : Groups = record { kind = kind; variables = s.variables; groups = groups } in
     let same = s.groups == length groups in
-    let first = past (not (length (last_part (list_of p)) == 0)) Unterminated
+    let first = past (not (length (last_part (all_groups p)) == 0)) Unterminated
     (fault_if (not same) (CountDiffers s.groups (length groups)) >> Ok formula) f e in
     let second = past (not same) (CountDiffers s.groups (length groups)) (Ok formula) f first.1 in
     let whole : Ok formula ≡ Ok f = second.1 in
@@ -73,8 +74,8 @@ groups_fit kind s p f range fit e =
     let count = eqb-true s.groups (length groups) (not-false same second.0) in
     let closed : groups ≡ p.closed = all_but_last_push p.closed p.open_part in
     let fits : IsFormula formula = record {
-      some = range.some;
-      few = range.few;
+      at_least_one = range.at_least_one;
+      within_limit = range.within_limit;
       count = omega (arith, range.count, count);
       literals = subst (AllByRecursion (AreLiterals s.variables)) (sym closed) fit.closed;
     } in
@@ -87,7 +88,7 @@ lines_fit kind (header ∷ lines) f e =
     let s = head.middle in
     let words = body_of lines in
     let by = sym (by_parts s.variables words (groups_of kind s)) ∙ head.led in
-    let body = through (put_words s.variables no_parts words) (λ p. groups_of kind s (list_of p)) f by in
+    let body = through (put_words s.variables no_parts words) (λ p. groups_of kind s (all_groups p)) f by in
     let fit = words_fit s.variables no_parts body.middle words (record { closed = tt; open_part = tt }) body.gave in
     groups_fit kind s body.middle f (header_fits kind header s head.gave) fit body.led
 

@@ -37,19 +37,19 @@ is_header [] = false
 is_header (word ∷ words) = bytes_eq word (codes "p")
 
 -- two numbers, where both are there
-abbrev pub both : Option ℕ → Option ℕ → Option Stated
-both (Some v) (Some g) = Some (record { variables = v; groups = g })
-both v g = None
+abbrev pub stated_counts : Option ℕ → Option ℕ → Option Stated
+stated_counts (Some v) (Some g) = Some (record { variables = v; groups = g })
+stated_counts v g = None
 
 -- the numbers in the words after the first
 abbrev pub numbers_of : Kind → List (List ℕ) → Option Stated
 numbers_of kind (name ∷ variables ∷ groups ∷ []) =
-    if bytes_eq name (kind_word kind) then both (natural_value variables) (natural_value groups) else None
+    if bytes_eq name (kind_word kind) then stated_counts (natural_value variables) (natural_value groups) else None
 numbers_of kind words = None
 
 -- 1 to 1,024 variables, and at most 1,000,000 groups
-abbrev pub in_range : Stated → Result Stated FormulaError
-in_range s = do
+abbrev pub counts_in_range : Stated → Result Stated FormulaError
+counts_in_range s = do
   fault_if (not (nat_le 1 s.variables && nat_le s.variables 1024)) (VariablesRange s.variables)
   fault_if (nat_lt 1000000 s.groups) (TooManyGroups s.groups)
   Ok s
@@ -59,27 +59,27 @@ abbrev pub header_of : Kind → TextLine → Result Stated FormulaError
 header_of kind line = do
   fault_if (not (is_header line.words)) NoHeader
   stated ← ok_or (numbers_of kind (drop 1 line.words)) (BadHeader line.number)
-  in_range stated
+  counts_in_range stated
 
 -- ---- the body: the lines before the first that begins with %, which ends the files of the collection SATLIB;
 -- ---- as words with their lines
 
 -- a word of the body, with the number of its line
-pub record Word : Type 0 where
+pub record BodyWord : Type 0 where
   pub line : ℕ
   pub bytes : List ℕ
 
 -- the words of a line
-abbrev pub words_at : TextLine → List Word
+abbrev pub words_at : TextLine → List BodyWord
 words_at line = map (λ word. record { line = line.number; bytes = word }) line.words
 
 -- the words of the lines up to the first that begins with %
-abbrev pub body_of : List TextLine → List Word
+abbrev pub body_of : List TextLine → List BodyWord
 body_of lines = flat_map words_at (take_while (λ line. not (begins_with 37 line.words)) lines)
 
 -- the literal, or the zero, of a word
-abbrev pub literal_of : ℕ → Word → Result ℤ FormulaError
-literal_of variables word = do
+abbrev pub literal_of_word : ℕ → BodyWord → Result ℤ FormulaError
+literal_of_word variables word = do
   z ← ok_or (integer_value word.bytes) (BadWord word.line)
   fault_if (nat_lt variables (unsigned_abs z)) (LiteralRange word.line z)
   Ok z
@@ -118,7 +118,7 @@ abbrev pub formula_of : Kind → List TextLine → Result Groups FormulaError
 formula_of kind [] = Err NoHeader
 formula_of kind (header ∷ lines) = do
   stated ← header_of kind header
-  literals ← each (literal_of stated.variables) (body_of lines)
+  literals ← each (literal_of_word stated.variables) (body_of lines)
   groups_of kind stated (slice_split is_zero literals)
 
 -- The formula of a text, or its first fault. Blank lines and comments, which begin with c, are passed over.
@@ -127,7 +127,7 @@ dimacs kind bytes = formula_of kind (content_of 99 bytes)
 
 -- ---- what a reader answers
 
--- a reading has this fault; want of memory says nothing of it
+-- a reading has this fault; OutOfMemory says nothing of it
 abbrev pub Fails : {Y : Type 0} → FormulaError → Result Y FormulaError → Type 0
 Fails OutOfMemory reading = Unit {0}
 Fails fault reading = reading ≡ Err fault

@@ -9,9 +9,9 @@ AreEnds from [] total = from ≤ total
 AreEnds from (end ∷ ends) total = (from ≤ end) × AreEnds end ends total
 
 -- a fact with one proof at most, as a field of facts asks
-pub AreEnds-prop : (from : ℕ) (ends : List ℕ) (total : ℕ) → IsProp (AreEnds from ends total)
-AreEnds-prop from [] total = le_prop
-AreEnds-prop from (end ∷ ends) total = ×_prop le_prop (AreEnds-prop end ends total)
+pub AreEnds_prop : (from : ℕ) (ends : List ℕ) (total : ℕ) → IsProp (AreEnds from ends total)
+AreEnds_prop from [] total = le_prop
+AreEnds_prop from (end ∷ ends) total = ×_prop le_prop (AreEnds_prop end ends total)
 
 -- where the group after the last begins
 abbrev pub last_end : ℕ → List ℕ → ℕ

@@ -19,8 +19,8 @@ AreLiterals v zs = AllByRecursion (IsLiteral v) zs
 
 -- 1 to 1,024 variables, at most 1,000,000 groups, and literals of these variables
 pub record IsFormula (f : Groups) : Type 0 where
-  pub some : 1 ≤ f.variables
-  pub few : f.variables ≤ 1024
+  pub at_least_one : 1 ≤ f.variables
+  pub within_limit : f.variables ≤ 1024
   pub count : length f.groups ≤ 1000000
   pub literals : AllByRecursion (AreLiterals f.variables) f.groups
 

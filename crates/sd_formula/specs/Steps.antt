@@ -5,7 +5,7 @@ use Rattle.sd_base.specs.Reading.{◌>>=◌}
 use Rattle.sd_formula.specs.declared.error.FormulaError.{FormulaError}
 use Rattle.sd_formula.specs.declared.header.Header.{Header}
 use Rattle.sd_formula.specs.declared.parts.Body.{Body}
-use Rattle.sd_formula.specs.Dimacs.{Stated, Word, literal_of, is_zero}
+use Rattle.sd_formula.specs.Dimacs.{Stated, BodyWord, literal_of_word, is_zero}
 use Rattle.sd_formula.specs.Flat.{cut, last_end}
 use Rattle.sd_formula.specs.Formulas.{AreLiterals}
 
@@ -47,22 +47,22 @@ abbrev pub put_literal : Parts → ℤ → Parts
 put_literal p z = if is_zero z then ended p else extended p z
 
 -- words are put, up to the first that has a fault
-abbrev pub put_words : ℕ → Parts → List Word → Result Parts FormulaError
+abbrev pub put_words : ℕ → Parts → List BodyWord → Result Parts FormulaError
 put_words variables p [] = Ok p
 put_words variables p (word ∷ words) = do
-  z ← literal_of variables word
+  z ← literal_of_word variables word
   put_words variables (put_literal p z) words
 
 -- the parts as one list
-abbrev pub list_of : Parts → List (List ℤ)
-list_of p = p.closed ++ p.open_part ∷ []
+abbrev pub all_groups : Parts → List (List ℤ)
+all_groups p = p.closed ++ p.open_part ∷ []
 
 -- ---- what is known of what was read
 
 -- the numbers of a header are in range
 pub record InRange (s : Stated) : Type 0 where
-  pub some : 1 ≤ s.variables
-  pub few : s.variables ≤ 1024
+  pub at_least_one : 1 ≤ s.variables
+  pub within_limit : s.variables ≤ 1024
   pub count : s.groups ≤ 1000000
 
 -- the literals are of variables 1 to v

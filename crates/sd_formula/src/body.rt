@@ -15,7 +15,7 @@ use std::alloc::Global;
 fn literal_of(variables: u32, line: u32, word: &[u8]) -> Result<i32, FormulaError>
     requires { variables ≤ 1024 }
     ensures { Gives (λ z. z) result
-        (texts.literal_of variables (record { line = line; bytes = word.now })) }
+        (texts.literal_of_word variables (record { line = line; bytes = word.now })) }
 {
     let literal = integer(word).ok_or(FormulaError::BadWord { line })?;
     if literal.unsigned_abs() > u64::from(variables) {
@@ -27,9 +27,10 @@ fn literal_of(variables: u32, line: u32, word: &[u8]) -> Result<i32, FormulaErro
 /// Puts the literals of a line; after a fault those before it are put.
 fn read_line(body: &mut Body, variables: u32, line: &Line<'_>) -> Result<(), FormulaError>
     requires range { variables ≤ 1024 }
-    requires few { length body.old.literals.items + length (texts.words_at (line_view line.now))
+    requires within_limit { length body.old.literals.items + length
+        (texts.words_at (line_view line.now))
         ≤ 67108864 }
-    ensures few { length body.new.literals.items
+    ensures within_limit { length body.new.literals.items
         ≤ length body.old.literals.items + length (texts.words_at (line_view line.now)) }
     ensures read { Gives (λ _. body_view body.new) result
         (put_words variables (body_view body.old) (texts.words_at (line_view line.now))) }
@@ -49,7 +50,7 @@ pub(crate) fn read_body(
     lines: ContentLines<'_>,
 ) -> Result<Body, FormulaError>
     requires range { variables ≤ 1024 }
-    requires few { length (texts.body_of (content_left lines)) ≤ 67108864 }
+    requires within_limit { length (texts.body_of (content_left lines)) ≤ 67108864 }
     ensures { Gives body_view result
         (put_words variables no_parts (texts.body_of (content_left lines.entry))) }
 {

@@ -5,7 +5,7 @@ ghost use Rattle.std.specs.Prelude.{◌≡◌};
 use std::alloc::{AllocError, AllocFailed};
 use thiserror::Error;
 
-/// The first fault of a text, or want of memory. Lines are counted from 1, over all lines.
+/// The first fault of a text, or that memory ran out. Lines are counted from 1, over all lines.
 ///
 /// The header is tested first, in the order of the first four variants. Then the words of the body
 /// are tested one after another, each for `BadWord` and then for `LiteralRange`. At the end the
@@ -36,7 +36,7 @@ pub enum FormulaError {
     /// The number of groups is not the one that the header states.
     #[error("CountDiffers")]
     CountDiffers { stated: u64, found: u64 },
-    /// Want of memory, whatever the text.
+    /// Out of memory, whatever the text.
     #[error("OutOfMemory")]
     OutOfMemory,
 }

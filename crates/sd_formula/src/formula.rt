@@ -77,7 +77,7 @@ impl Formula {
     /// How many clauses or terms there are.
     pub fn groups(&self) -> usize
         ensures value { result ≡ length self.now.groups }
-        ensures few { result ≤ 1000000 }
+        ensures within_limit { result ≤ 1000000 }
     {
         self.ends.len()
     }

@@ -54,7 +54,7 @@ fn numbers_of(kind: Kind, mut words: Words<'_>) -> Option<(u64, u64)>
 /// The header of two numbers.
 fn in_range(variables: u64, groups: u64) -> Result<Header, FormulaError>
     ensures value { Gives header_view result
-        (texts.in_range (record { variables = variables; groups = groups })) }
+        (texts.counts_in_range (record { variables = variables; groups = groups })) }
     ensures range { IfOk result (λ header. InRange (header_view header)) }
 {
     if variables < 1 || variables > MAX_VARIABLES {

@@ -2,7 +2,7 @@
 
 ghost use Rattle.std.specs.Prelude.{◌≡◌, ◌==◌, ◌<◌, ◌≤◌, ◌+◌, ◌^◌, [], ◌∷◌, ◌++◌, not, length};
 ghost use Rattle.std.specs.Prelude.{if◌then◌else◌, is_ok, OnOk, OnErr};
-ghost use Rattle.sd_formula.specs.Flat.{AreEnds, AreEnds-prop};
+ghost use Rattle.sd_formula.specs.Flat.{AreEnds, AreEnds_prop};
 
 use crate::flat::start_of;
 use std::alloc::{AllocError, Global};
@@ -16,7 +16,7 @@ pub(crate) struct Body {
     pub(crate) literals: Vec<i32>,
     /// For each zero how many literals stood before it.
     pub(crate) ends: Vec<u32>,
-    ghost rise: { AreEnds 0 ends.items (length literals.items) } by { AreEnds-prop _ _ _ },
+    ghost rise: { AreEnds 0 ends.items (length literals.items) } by { AreEnds_prop _ _ _ },
 }
 
 impl Body {
@@ -36,14 +36,14 @@ impl Body {
     /// Ends the group in hand at a zero, or puts a literal into it.
     pub(crate) fn put(&mut self, literal: i32) -> Result<(), AllocError>
         requires { length self.old.literals.items < 2 ^ 32 }
-        ensures few { length self.new.literals.items ≤ length self.old.literals.items + 1 }
+        ensures within_limit { length self.new.literals.items ≤ length self.old.literals.items + 1 }
         ensures ok { OnOk result (body_view self.new ≡ put_literal (body_view self.old) literal) }
         ensures err { OnErr result (body_view self.new ≡ body_view self.old) }
     {
         if literal == 0 {
             self.end_group()
         } else {
-            self.put_behind(literal)
+            self.push(literal)
         }
     }
 
@@ -61,8 +61,8 @@ impl Body {
 
     /// Puts a literal into the group in hand.
     #[tactic(auto, using(crate::proofs::FlatLaws::literal_is, crate::proofs::FlatLaws::ends_more))]
-    fn put_behind(&mut self, literal: i32) -> Result<(), AllocError>
-        ensures few { length self.new.literals.items ≤ length self.old.literals.items + 1 }
+    fn push(&mut self, literal: i32) -> Result<(), AllocError>
+        ensures within_limit { length self.new.literals.items ≤ length self.old.literals.items + 1 }
         ensures ok { OnOk result (body_view self.new ≡ extended (body_view self.old) literal) }
         ensures err { OnErr result (body_view self.new ≡ body_view self.old) }
     {

@@ -3,7 +3,7 @@
 ghost use Rattle.std.specs.Prelude.{◌≡◌, ◌≤◌, length, IfOk, IfErr};
 ghost use Rattle.sd_formula.specs.Dimacs.{Fails, Gives, dimacs, groups_of};
 ghost use Rattle.sd_formula.specs.Formulas.{IsFormula};
-ghost use Rattle.sd_formula.specs.Steps.{header_view, body_view, list_of, PartsFit, InRange};
+ghost use Rattle.sd_formula.specs.Steps.{header_view, body_view, all_groups, PartsFit, InRange};
 
 use crate::body::read_body;
 use crate::error::FormulaError;
@@ -50,7 +50,7 @@ fn finish(kind: Kind, header: Header, body: Body) -> Result<Formula, FormulaErro
     requires range { InRange (header_view header) }
     requires literals { PartsFit header.variables (body_view body) }
     ensures { Gives (λ f. f) result
-        (groups_of kind (header_view header) (list_of (body_view body))) }
+        (groups_of kind (header_view header) (all_groups (body_view body))) }
 {
     if body.is_open() {
         return Err(FormulaError::Unterminated);

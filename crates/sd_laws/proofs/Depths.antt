@@ -6,44 +6,44 @@ use Rattle.sd_model.specs.Canonical.{IsElement, first, later, IsCanonical, canon
 use Rattle.sd_model.specs.Canonical.{canonical_literal, canonical_in_left, canonical_in_right}
 use Rattle.sd_model.specs.Canonical.{canonical_decomposition}
 use Rattle.sd_laws.specs.Depth.{depth, depth_of}
-use Rattle.sd_laws.proofs.Places.{leaves-positive}
+use Rattle.sd_laws.proofs.Places.{leaves_positive}
 
 -- a prime and a sub are no deeper than the elements
-depth-within : {p s : Diagram} {es : Elements} → IsElement p s es → (depth p ≤ depth_of es) × (depth s ≤ depth_of es)
-depth-within (first {rest = rest}) = (omega arith, omega arith)
-depth-within (later m) = let h = depth-within m in (omega (arith, h.0), omega (arith, h.1))
+depth_within : {p s : Diagram} {es : Elements} → IsElement p s es → (depth p ≤ depth_of es) × (depth s ≤ depth_of es)
+depth_within (first {rest = rest}) = (omega arith, omega arith)
+depth_within (later m) = let h = depth_within m in (omega (arith, h.0), omega (arith, h.1))
 
 -- and less deep than the decomposition
-pub depth-element : {p s : Diagram} {es : Elements} (q : ℕ) → IsElement p s es →
+pub depth_element : {p s : Diagram} {es : Elements} (q : ℕ) → IsElement p s es →
     (depth p < depth (Decomposition q es)) × (depth s < depth (Decomposition q es))
-depth-element q m = let h = depth-within m in (omega (arith, h.0), omega (arith, h.1))
+depth_element q m = let h = depth_within m in (omega (arith, h.0), omega (arith, h.1))
 
 -- elements are as deep as the deepest prime or sub
-depth-most : (es : Elements) (n : ℕ) → ((p s : Diagram) → IsElement p s es → (depth p ≤ n) × (depth s ≤ n)) →
+depth_most : (es : Elements) (n : ℕ) → ((p s : Diagram) → IsElement p s es → (depth p ≤ n) × (depth s ≤ n)) →
     depth_of es ≤ n
-depth-most End n h = omega arith
-depth-most (Pair p s rest) n h =
+depth_most End n h = omega arith
+depth_most (Pair p s rest) n h =
     let a = h p s first in
-    let b = depth-most rest n (λ q t m. h q t (later m)) in
+    let b = depth_most rest n (λ q t m. h q t (later m)) in
     omega (arith, a.0, a.1, b)
 
 -- a canonical diagram is less deep than its tree has leaves
-pub depth-canonical : {t : Tree} {b : ℕ} {d : Diagram} → IsCanonical t b d → depth d < leaves t
-depth-canonical {t = t} canonical_bottom = leaves-positive t
-depth-canonical {t = t} canonical_top = leaves-positive t
-depth-canonical (canonical_literal s) = omega arith
-depth-canonical (canonical_in_left {l = l} {r = r} e k) =
-    omega (arith, depth-canonical k, length-append (variables l) (variables r))
-depth-canonical (canonical_in_right {l = l} {r = r} e k) =
-    omega (arith, depth-canonical k, length-append (variables l) (variables r))
-depth-canonical (canonical_decomposition {l = l} {r = r} {elements = es} ps ss partition) =
-    let a = leaves-positive l in
-    let b = leaves-positive r in
+pub depth_canonical : {t : Tree} {b : ℕ} {d : Diagram} → IsCanonical t b d → depth d < leaves t
+depth_canonical {t = t} canonical_bottom = leaves_positive t
+depth_canonical {t = t} canonical_top = leaves_positive t
+depth_canonical (canonical_literal s) = omega arith
+depth_canonical (canonical_in_left {l = l} {r = r} e k) =
+    omega (arith, depth_canonical k, length-append (variables l) (variables r))
+depth_canonical (canonical_in_right {l = l} {r = r} e k) =
+    omega (arith, depth_canonical k, length-append (variables l) (variables r))
+depth_canonical (canonical_decomposition {l = l} {r = r} {elements = es} ps ss partition) =
+    let a = leaves_positive l in
+    let b = leaves_positive r in
     let sum = length-append (variables l) (variables r) in
     let most : depth_of es ≤ (leaves l + leaves r) - 2 =
-    depth-most es ((leaves l + leaves r) - 2)
+    depth_most es ((leaves l + leaves r) - 2)
     (λ p s m.
-    let x = depth-canonical (ps p s m) in
-    let y = depth-canonical (ss p s m) in
+    let x = depth_canonical (ps p s m) in
+    let y = depth_canonical (ss p s m) in
     (omega arith, omega arith)) in
     omega arith

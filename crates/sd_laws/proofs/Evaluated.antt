@@ -8,13 +8,13 @@ use Rattle.std.proofs.lemmas.List.Sorted.{IsPermutation-sym}
 use Rattle.sd_model.specs.Assignment.{value_in}
 use Rattle.sd_model.specs.Diagram.{Diagram, Bottom, Top, Literal, Decomposition, Elements, End, Pair}
 use Rattle.sd_model.specs.Diagram.{meaning, some_element}
-use Rattle.sd_vtree.specs.Numbered.{Numbered, forget, IsNumbered}
+use Rattle.sd_vtree.specs.Numbered.{Numbered, plain_tree, IsNumbered}
 use Rattle.sd_laws.specs.Depth.{depth, depth_of}
-use Rattle.sd_laws.specs.Shown.{Lookup, literal_code, HasPairs, Shows, ShowElements, IsNode}
+use Rattle.sd_laws.specs.Shown.{Lookup, literal_code, HasPairs, Shows, ShowElements, ShowsCanonical}
 use Rattle.sd_laws.specs.Values.{Valuation, IsSame, pairs_value, GivesLiterals, ShowsValue}
-use Rattle.sd_laws.proofs.Lists.{IsAmong, IsWithin, within-permuted}
-use Rattle.sd_laws.proofs.Codes.{leaf-range}
-use Rattle.sd_laws.proofs.Depths.{depth-canonical}
+use Rattle.sd_laws.proofs.Lists.{IsAmong, IsWithin, within_permuted}
+use Rattle.sd_laws.proofs.Codes.{leaf_range}
+use Rattle.sd_laws.proofs.Depths.{depth_canonical}
 
 -- values by recursion
 
@@ -69,9 +69,9 @@ pair_true v (x ∷ l) a e (inr m) h = or_true (v x.0 a && v x.1 a) (pairs_value 
     or_true false c h = h
 
 -- so a list with the same pairs has the same value
-pub value-within : (v : Valuation) (l k : List (ℕ × ℕ)) (a : List Bool) → IsWithin l k → IsWithin k l →
+pub value_within : (v : Valuation) (l k : List (ℕ × ℕ)) (a : List Bool) → IsWithin l k → IsWithin k l →
     pairs_value v l a ≡ pairs_value v k a
-value-within v l k a there back =
+value_within v l k a there back =
     both_ways (pairs_value v l a) (pairs_value v k a)
     (λ e. let i : IsTruePair v l a = true_pair v l a e in pair_true v k a i.pair (there i.pair i.among) i.holds)
     (λ e. let i : IsTruePair v k a = true_pair v k a e in pair_true v l a i.pair (back i.pair i.among) i.holds)
@@ -82,10 +82,10 @@ value-within v l k a there back =
     both_ways false false f g = refl
 
 -- a list in another order has the same value
-pub value-permuted : (v : Valuation) (l k : List (ℕ × ℕ)) (a : List Bool) → IsPermutation l k →
+pub value_permuted : (v : Valuation) (l k : List (ℕ × ℕ)) (a : List Bool) → IsPermutation l k →
     pairs_value v l a ≡ pairs_value v k a
-value-permuted v l k a h =
-    value-within v l k a (within-permuted k l (IsPermutation-sym l k h)) (within-permuted l k h)
+value_permuted v l k a h =
+    value_within v l k a (within_permuted k l (IsPermutation-sym l k h)) (within_permuted l k h)
 
 -- constants and literals
 
@@ -132,14 +132,14 @@ mutual
   computed t at n Bottom (suc k) c a h lt = ap (λ z. value_with (suc k) at z a) h
   computed t at n Top (suc k) c a h lt = ap (λ z. value_with (suc k) at z a) h
   computed t at n (Literal p x s) (suc k) c a h lt =
-      let few = n.few in
-      let r = leaf-range (forget t) n.vtree 0 x p h.1 in
+      let within_limit = n.within_limit in
+      let r = leaf_range (plain_tree t) n.vtree 0 x p h.1 in
       ap (λ z. value_with (suc k) at z a) h.0
-      ∙ literal_computed k at p x s a r.0 (omega (arith, r.1, few))
+      ∙ literal_computed k at p x s a r.0 (omega (arith, r.1, within_limit))
   computed t at n (Decomposition p es) (suc k) c a h lt =
       let i : HasPairs t at c p h.0 = h.1 in
       node_computed k at c i.number i.place i.list a i.code i.stored
-      ∙ value-permuted (value_with k at) i.list h.0 a i.order
+      ∙ value_permuted (value_with k at) i.list h.0 a i.order
       ∙ elements_computed t at n es h.0 k a h.2 (omega arith)
 
   -- and so is that of a list of pairs
@@ -163,8 +163,8 @@ abbrev pub value_of : Lookup → Valuation
 value_of at = value_with 1025 at
 
 -- it gives constants and literals their values
-pub literals-given : (at : Lookup) → GivesLiterals (value_of at)
-literals-given at =
+pub literals_given : (at : Lookup) → GivesLiterals (value_of at)
+literals_given at =
     record {
       bottom = λ a. refl;
       top = λ a. refl;
@@ -172,14 +172,14 @@ literals-given at =
     }
 
 -- and each code the value of the canonical diagram that it shows
-pub value-of_shown : (t : Numbered) (at : Lookup) → IsNumbered t → (c : ℕ) (d : Diagram) → IsNode t at c d →
+pub value_of_shown : (t : Numbered) (at : Lookup) → IsNumbered t → (c : ℕ) (d : Diagram) → ShowsCanonical t at c d →
     IsSame (meaning d) (value_of at c)
-value-of_shown t at n c d h a =
-    let few = n.few in
-    let deep = depth-canonical h.canonical in
-    sym (computed t at n d 1025 c a h.shows (omega (arith, deep, few)))
+value_of_shown t at n c d h a =
+    let within_limit = n.within_limit in
+    let deep = depth_canonical h.canonical in
+    sym (computed t at n d 1025 c a h.shows (omega (arith, deep, within_limit)))
 
 -- so it shows its value
-pub evaluated : (t : Numbered) (at : Lookup) → IsNumbered t → (c : ℕ) (d : Diagram) → IsNode t at c d →
+pub evaluated : (t : Numbered) (at : Lookup) → IsNumbered t → (c : ℕ) (d : Diagram) → ShowsCanonical t at c d →
     ShowsValue t at (value_of at) c
-evaluated t at n c d h = record { diagram = d; is = h; value = value-of_shown t at n c d h }
+evaluated t at n c d h = record { diagram = d; is = h; value = value_of_shown t at n c d h }

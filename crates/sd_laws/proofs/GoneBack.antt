@@ -6,9 +6,10 @@ use Rattle.std.specs.Option.{IsSome}
 use Rattle.std.proofs.lemmas.Bool.{cases_eq, cases_lt}
 use Rattle.std.proofs.lemmas.Option.{same_Some}
 use Rattle.sd_model.specs.Tree.{leaves}
-use Rattle.sd_vtree.specs.Numbered.{Numbered, NumberedLeaf, NumberedNode, number_of, forget, numbers, subtree, times}
+use Rattle.sd_vtree.specs.Numbered.{Numbered, NumberedLeaf, NumberedNode, number_of, plain_tree}
+use Rattle.sd_vtree.specs.Numbered.{numbers, subtree, times}
 use Rattle.sd_vtree.specs.Numbered.{IsNumbered, IsUnder}
-use Rattle.sd_vtree.proofs.Times.{times-node, times-other}
+use Rattle.sd_vtree.proofs.Times.{times_node, times_other}
 use Rattle.sd_vtree.proofs.Subtrees.{AtMostOnce, once_left, once_right, once_numbered, left_apart, right_apart}
 use Rattle.sd_vtree.proofs.Subtrees.{Here, Left, Right, way, subtree_some, subtree_once, subtree_trans}
 use Rattle.sd_vtree.proofs.Subtrees.{subtree_times, subtree_in, number_of_in}
@@ -17,11 +18,11 @@ use Rattle.sd_laws.specs.Shown.{Lookup, AreKeys}
 use Rattle.sd_laws.specs.Turned.{KeepsOthers}
 use Rattle.sd_laws.specs.Values.{Valuation, IsSame, pairs_value, StandsIn, IsWhole, IsPlaced, GivesLiterals, IsCodeOf}
 use Rattle.sd_laws.specs.Values.{AreOrderly, ShowsValue}
-use Rattle.sd_laws.proofs.Lists.{all-at, all-from}
-use Rattle.sd_laws.proofs.Placing.{placed-others}
-use Rattle.sd_laws.proofs.Users.{users-above}
-use Rattle.sd_laws.proofs.Within.{prime-stands, sub-stands}
-use Rattle.sd_laws.proofs.ByValues.{shown-by_values}
+use Rattle.sd_laws.proofs.Lists.{all_at, all_from}
+use Rattle.sd_laws.proofs.Placing.{placed_others}
+use Rattle.sd_laws.proofs.Users.{users_above}
+use Rattle.sd_laws.proofs.Within.{prime_stands, sub_stands}
+use Rattle.sd_laws.proofs.ByValues.{shown_by_values}
 
 -- no node stands strictly between a node and its child
 
@@ -30,7 +31,7 @@ pub root_below : (s z : Numbered) (p : ℕ) → AtMostOnce s → subtree s p ≡
     1 ≤ times (number_of s) (numbers z) → ⊥
 root_below (NumberedLeaf m y) z p once e d h = elim (cases_eq m p) [
   | inl k ↦ d (sym k)
-  | inr k ↦ (let i = subtree_in (NumberedLeaf m y) p z e in omega (arith, times-other p m [] k, i))
+  | inr k ↦ (let i = subtree_in (NumberedLeaf m y) p z e in omega (arith, times_other p m [] k, i))
 ]
 root_below (NumberedNode m l r) z p once e d h = elim (way m l r p z e) [
   | Here k f ↦ d (sym k)
@@ -93,14 +94,14 @@ between t once x w p l r e child px dx wp dw = go (cases_lt 0 (times p (numbers 
         let h : 1 ≤ times p (numbers (NumberedNode x l r)) =
         subst (λ z. 1 ≤ times p (numbers z)) (same_Some px.part (NumberedNode x l r) (sym px.is ∙ e)) px.has in
         in_right
-        (omega (arith, z, h, times-node p x (numbers l) (numbers r), times-other p x (numbers r) (λ i. dx (sym i))))
+        (omega (arith, z, h, times_node p x (numbers l) (numbers r), times_other p x (numbers r) (λ i. dx (sym i))))
         child
 
 -- the state gone back to
 
 -- the code is of a constant or a literal, or of a decomposition
 abbrev pub IsBaseOrNode : Numbered → ℕ → Type 0
-IsBaseOrNode t c = (c < 2 * leaves (forget t) + 2) ⊎ ((n : ℕ) × (c ≡ 2050 + n))
+IsBaseOrNode t c = (c < 2 * leaves (plain_tree t) + 2) ⊎ ((n : ℕ) × (c ≡ 2050 + n))
 
 -- What is known of the nodes before a move back to the vtree u: each has the function of its list, whole and placed in
 -- the present vtree t; those of K have in u the keys `old`, whose lists are whole and placed there and name nodes of K
@@ -141,11 +142,11 @@ pub codes_there : (u : Numbered) (final : Lookup) (l : List (ℕ × ℕ)) →
     ((i : ℕ) → StandsIn (2050 + i) l → IsSome (final i)) →
     AllByRecursion (λ (e : ℕ × ℕ). IsCodeOf u final AllNodes e.0 × IsCodeOf u final AllNodes e.1) l
 codes_there u final l cs h =
-    all-from (λ (e : ℕ × ℕ). IsCodeOf u final AllNodes e.0 × IsCodeOf u final AllNodes e.1) l
+    all_from (λ (e : ℕ × ℕ). IsCodeOf u final AllNodes e.0 × IsCodeOf u final AllNodes e.1) l
     (λ e m.
-    let c = all-at (λ (e : ℕ × ℕ). IsBaseOrNode u e.0 × IsBaseOrNode u e.1) l e cs m in (
-      code e.0 c.0 (λ i k. h i (prime-stands l e (2050 + i) m k)),
-      code e.1 c.1 (λ i k. h i (sub-stands l e (2050 + i) m k)),
+    let c = all_at (λ (e : ℕ × ℕ). IsBaseOrNode u e.0 × IsBaseOrNode u e.1) l e cs m in (
+      code e.0 c.0 (λ i k. h i (prime_stands l e (2050 + i) m k)),
+      code e.1 c.1 (λ i k. h i (sub_stands l e (2050 + i) m k)),
     ))
   where
     code : (c : ℕ) → IsBaseOrNode u c → ((i : ℕ) → c ≡ 2050 + i → IsSome (final i)) → IsCodeOf u final AllNodes c
@@ -172,7 +173,7 @@ stays t u num x w l r at child now old final K v g b n p i list stored under dx 
     let k = there (now i) (g.closed n p i list stored s) in
     let q = k.0.0 in
     let h =
-    users-above t num v i p q list k.0.1 (g.placed n p list stored) (g.whole i q k.0.1 k.1) (g.placed i q k.0.1 k.1)
+    users_above t num v i p q list k.0.1 (g.placed n p list stored) (g.whole i q k.0.1 k.1) (g.placed i q k.0.1 k.1)
     (g.value i q k.0.1 k.1) s in
     go k.0.0 k.0.1 k.1 h.0 h.1 (g.origin i q k.0.1 k.1)
   where
@@ -189,12 +190,12 @@ stays t u num x w l r at child now old final K v g b n p i list stored under dx 
     ]
 
 -- So the state gone back to is in order: a node of K has its old key, of which all is known in the old vtree, and each
--- other one stands strictly below the moved node, where `placed-others` carries it over.
-pub back-orderly : (t u : Numbered) → IsNumbered t → (x w : ℕ) (l r : Numbered) →
+-- other one stands strictly below the moved node, where `placed_others` carries it over.
+pub back_orderly : (t u : Numbered) → IsNumbered t → (x w : ℕ) (l r : Numbered) →
     subtree t x ≡ Some (NumberedNode x l r) → IsLowerOf t w l r → (now old final : Lookup)
     (K : ℕ → Type 0) (v : Valuation) → GoesBack t u x w now old K v → IsBack t x w now old final K →
     AreOrderly u final AllNodes v
-back-orderly t u num x w l r at child now old final K v g b =
+back_orderly t u num x w l r at child now old final K v g b =
     record {
       literals = g.literals;
       value = λ n p list is stored. value n p list stored (b.only n p list stored);
@@ -219,7 +220,7 @@ back-orderly t u num x w l r at child now old final K v g b =
         (K n × (old n ≡ Some (p, list))) ⊎ (IsUnder t p x × (p ≢ x) × (p ≢ w) × (now n ≡ Some (p, list))) →
         IsPlaced u v p list
     placed n p list e (inl k) = g.old_placed n p list k.0 k.1
-    placed n p list e (inr k) = placed-others t u x w v p list g.keeps k.1 k.2 (g.placed n p list k.3)
+    placed n p list e (inr k) = placed_others t u x w v p list g.keeps k.1 k.2 (g.placed n p list k.3)
 
     closed : (n p : ℕ) (list : List (ℕ × ℕ)) → final n ≡ Some (p, list) →
         (K n × (old n ≡ Some (p, list))) ⊎ (IsUnder t p x × (p ≢ x) × (p ≢ w) × (now n ≡ Some (p, list))) →
@@ -232,10 +233,10 @@ back-orderly t u num x w l r at child now old final K v g b =
         (λ i s. stays t u num x w l r at child now old final K v g b n p i list k.3 k.0 k.1 s)
 
 -- and each node that is there shows a canonical diagram of its function
-pub back-canonical : (t u : Numbered) → IsNumbered t → IsNumbered u → (x w : ℕ) (l r : Numbered) →
+pub back_canonical : (t u : Numbered) → IsNumbered t → IsNumbered u → (x w : ℕ) (l r : Numbered) →
     subtree t x ≡ Some (NumberedNode x l r) → IsLowerOf t w l r → (now old final : Lookup)
     (K : ℕ → Type 0) (v : Valuation) → GoesBack t u x w now old K v → IsBack t x w now old final K → AreKeys final →
     (n : ℕ) → IsSome (final n) → ShowsValue u final v (2050 + n)
-back-canonical t u num num' x w l r at child now old final K v g b keys n h =
-    shown-by_values u num' final AllNodes v keys
-    (back-orderly t u num x w l r at child now old final K v g b) (2050 + n) (inr (n, refl, tt, h))
+back_canonical t u num num' x w l r at child now old final K v g b keys n h =
+    shown_by_values u num' final AllNodes v keys
+    (back_orderly t u num x w l r at child now old final K v g b) (2050 + n) (inr (n, refl, tt, h))

@@ -7,16 +7,16 @@ use Rattle.std.proofs.lemmas.Bool.{le-ltb}
 use Rattle.std.proofs.lemmas.Option.{none-some}
 use Rattle.sd_model.specs.Tree.{Tree, Node, leaves}
 use Rattle.sd_model.specs.Diagram.{Diagram, meaning}
-use Rattle.sd_vtree.specs.Numbered.{Numbered, forget, IsNumbered, or_else}
-use Rattle.sd_laws.proofs.Nodes.{code-of_node}
+use Rattle.sd_vtree.specs.Numbered.{Numbered, plain_tree, IsNumbered, or_else}
+use Rattle.sd_laws.proofs.Nodes.{code_of_node}
 use Rattle.sd_laws.specs.Depends.{DependsOn}
-use Rattle.sd_laws.specs.Shown.{Lookup, AreKeys, Keeps, IsNode}
+use Rattle.sd_laws.specs.Shown.{Lookup, AreKeys, Keeps, ShowsCanonical}
 use Rattle.sd_laws.specs.Values.{Valuation, IsSame, ShowsValue, AreApart, KeepsValues, IsTwoSided}
-use Rattle.sd_laws.proofs.Evaluated.{value_of, value-of_shown, evaluated}
-use Rattle.sd_laws.proofs.Choosing.{depends-same}
-use Rattle.sd_laws.proofs.Placing.{depends-left, depends-right}
-use Rattle.sd_laws.proofs.Known.{IsShownNode}
-use Rattle.sd_laws.proofs.OneKey.{one-shown, still-apart}
+use Rattle.sd_laws.proofs.Evaluated.{value_of, value_of_shown, evaluated}
+use Rattle.sd_laws.proofs.Choosing.{depends_same}
+use Rattle.sd_laws.proofs.Placing.{depends_left, depends_right}
+use Rattle.sd_laws.proofs.Unturned.{IsShownNode}
+use Rattle.sd_laws.proofs.OneKey.{one_shown, still_apart}
 
 -- the nodes of two maps
 abbrev pub both_of : Lookup → Lookup → Lookup
@@ -34,9 +34,9 @@ abbrev pub joined_values : Lookup → Valuation → Valuation → Valuation
 joined_values at old new c a = if nat_lt c 2050 then old c a else where_there (at (c - 2050)) (old c a) (new c a)
 
 -- at a node that is there they are the old ones
-pub joined-old : (at : Lookup) (old new : Valuation) (n : ℕ) → IsSome (at n) →
+pub joined_old : (at : Lookup) (old new : Valuation) (n : ℕ) → IsSome (at n) →
     IsSame (joined_values at old new (2050 + n)) (old (2050 + n))
-joined-old at old new n h a = go (at n) refl h
+joined_old at old new n h a = go (at n) refl h
   where
     go : (o : Option (ℕ × List (ℕ × ℕ))) → at n ≡ o → IsSome o →
         joined_values at old new (2050 + n) a ≡ old (2050 + n) a
@@ -47,9 +47,9 @@ joined-old at old new n h a = go (at n) refl h
         rw (le-ltb (2050 + n) 2050 (omega arith), key) refl
 
 -- and elsewhere the new ones
-pub joined-new : (at : Lookup) (old new : Valuation) (n : ℕ) → at n ≡ None →
+pub joined_new : (at : Lookup) (old new : Valuation) (n : ℕ) → at n ≡ None →
     IsSame (joined_values at old new (2050 + n)) (new (2050 + n))
-joined-new at old new n e a =
+joined_new at old new n e a =
     let number : 2050 + n - 2050 ≡ n = omega arith in
     let key : at (2050 + n - 2050) ≡ None = ap at number ∙ e in
     rw (le-ltb (2050 + n) 2050 (omega arith), key) refl
@@ -65,8 +65,9 @@ pub record IsGrown (t : Numbered) (old new detached : Lookup) (v : Valuation) (l
   pub either : (n : ℕ) → IsSome (detached n) → new n ≡ None
   pub kind : (n : ℕ) → IsSome (new n) →
       IsShownNode t new n ⊎ (IsSome (old n) × (¬ DependsOn (Node left right) (v (2050 + n))))
-  pub same : (n : ℕ) (d : Diagram) → IsSome (old n) → IsNode t new (2050 + n) d → IsSame (meaning d) (v (2050 + n))
-  pub fresh : (n : ℕ) (d : Diagram) → old n ≡ None → IsNode t new (2050 + n) d →
+  pub same : (n : ℕ) (d : Diagram) → IsSome (old n) → ShowsCanonical t new (2050 + n) d
+      → IsSame (meaning d) (v (2050 + n))
+  pub fresh : (n : ℕ) (d : Diagram) → old n ≡ None → ShowsCanonical t new (2050 + n) d →
       DependsOn left (meaning d) ⊎ DependsOn right (meaning d)
   pub waiting : (n : ℕ) → IsSome (detached n) → IsTwoSided left right (v (2050 + n))
   pub apart : AreApart (both_of old detached) v
@@ -115,10 +116,10 @@ old_there old new keeps n h = go (old n) refl h
 
 -- a shown node is there
 shown_there : (t : Numbered) → IsNumbered t → (at : Lookup) (n : ℕ) → IsShownNode t at n → IsSome (at n)
-shown_there t num at n s = go (code-of_node t at num (2050 + n) s.diagram s.is.shows)
+shown_there t num at n s = go (code_of_node t at num (2050 + n) s.diagram s.is.shows)
   where
-    go : (2050 + n < 2 * leaves (forget t) + 2) ⊎ ((m : ℕ) × (2050 + n ≡ 2050 + m) × IsSome (at m)) → IsSome (at n)
-    go (inl lt) = let few = num.few in absurd (omega arith)
+    go : (2050 + n < 2 * leaves (plain_tree t) + 2) ⊎ ((m : ℕ) × (2050 + n ≡ 2050 + m) × IsSome (at m)) → IsSome (at n)
+    go (inl lt) = let within_limit = num.within_limit in absurd (omega arith)
     go (inr w) = let e : w.0 ≡ n = let f = w.1 in omega arith in subst (λ k. IsSome (at k)) e w.2
 
 -- the valuation of the grown table
@@ -126,10 +127,10 @@ abbrev pub grown_values : Lookup → Lookup → Lookup → Valuation → Valuati
 grown_values old new detached v = joined_values (both_of old detached) v (value_of new)
 
 -- a shown node shows its value
-pub grown-shown : (t : Numbered) (old new detached : Lookup) (v : Valuation) (left right : Tree) →
+pub grown_shown : (t : Numbered) (old new detached : Lookup) (v : Valuation) (left right : Tree) →
     IsGrown t old new detached v left right → (n : ℕ) → IsShownNode t new n →
     ShowsValue t new (grown_values old new detached v) (2050 + n)
-grown-shown t old new detached v left right g n s = go (is_there old n) (is_there detached n)
+grown_shown t old new detached v left right g n s = go (is_there old n) (is_there detached n)
   where
     go : IsThere old n → IsThere detached n → ShowsValue t new (grown_values old new detached v) (2050 + n)
     go (There h) k =
@@ -137,7 +138,7 @@ grown-shown t old new detached v left right g n s = go (is_there old n) (is_ther
           diagram = s.diagram;
           is = s.is;
           value = λ a. g.same n s.diagram h s.is a
-              ∙ sym (joined-old (both_of old detached) v (value_of new) n (first_both old detached n h) a);
+              ∙ sym (joined_old (both_of old detached) v (value_of new) n (first_both old detached n h) a);
         }
     go (Absent e) (There k) =
         let h : IsSome (new n) = shown_there t g.numbered new n s in absurd (cc (h, ap is_some (g.either n k)))
@@ -145,15 +146,15 @@ grown-shown t old new detached v left right g n s = go (is_there old n) (is_ther
         record {
           diagram = s.diagram;
           is = s.is;
-          value = λ a. value-of_shown t new g.numbered (2050 + n) s.diagram s.is a
-              ∙ sym (joined-new (both_of old detached) v (value_of new) n
+          value = λ a. value_of_shown t new g.numbered (2050 + n) s.diagram s.is a
+              ∙ sym (joined_new (both_of old detached) v (value_of new) n
               (ap (λ o. or_else o (detached n)) e ∙ f) a);
         }
 
 -- the old nodes keep their values
-pub grown-kept : (old new detached : Lookup) (v : Valuation) →
+pub grown_kept : (old new detached : Lookup) (v : Valuation) →
     KeepsValues (both_of old detached) v (grown_values old new detached v)
-grown-kept old new detached v n h = joined-old (both_of old detached) v (value_of new) n h
+grown_kept old new detached v n h = joined_old (both_of old detached) v (value_of new) n h
 
 -- what no map has the first one has not
 first_absent : (at other : Lookup) (n : ℕ) → both_of at other n ≡ None → at n ≡ None
@@ -200,13 +201,13 @@ looks_below t old new detached v left right g m h =
         DependsOn left (grown_values old new detached v (2050 + m))
         ⊎ DependsOn right (grown_values old new detached v (2050 + m))
     go (inl d) =
-        inl (depends-same left (grown_values old new detached v (2050 + m)) (meaning h.shown.diagram)
-        (λ a. joined-new (both_of old detached) v (value_of new) m h.absent a
-        ∙ sym (value-of_shown t new g.numbered (2050 + m) h.shown.diagram h.shown.is a)) d)
+        inl (depends_same left (grown_values old new detached v (2050 + m)) (meaning h.shown.diagram)
+        (λ a. joined_new (both_of old detached) v (value_of new) m h.absent a
+        ∙ sym (value_of_shown t new g.numbered (2050 + m) h.shown.diagram h.shown.is a)) d)
     go (inr d) =
-        inr (depends-same right (grown_values old new detached v (2050 + m)) (meaning h.shown.diagram)
-        (λ a. joined-new (both_of old detached) v (value_of new) m h.absent a
-        ∙ sym (value-of_shown t new g.numbered (2050 + m) h.shown.diagram h.shown.is a)) d)
+        inr (depends_same right (grown_values old new detached v (2050 + m)) (meaning h.shown.diagram)
+        (λ a. joined_new (both_of old detached) v (value_of new) m h.absent a
+        ∙ sym (value_of_shown t new g.numbered (2050 + m) h.shown.diagram h.shown.is a)) d)
 
 -- Each other node is none of these: one whose function looks beyond the moved node, or at both of its children, is no
 -- function of one child alone, as a new one is.
@@ -222,16 +223,16 @@ kind t old new detached v left right g n h = go (split_both new detached n h)
     far k not m new' same = side (looks_below t old new detached v left right g m new')
       where
         value : IsSame (v (2050 + n)) (grown_values old new detached v (2050 + m))
-        value a = sym (grown-kept old new detached v n (first_both old detached n k) a) ∙ sym (same a)
+        value a = sym (grown_kept old new detached v n (first_both old detached n k) a) ∙ sym (same a)
 
         side : DependsOn left (grown_values old new detached v (2050 + m))
             ⊎ DependsOn right (grown_values old new detached v (2050 + m)) → ⊥
         side (inl d) =
-            not (depends-left left right (v (2050 + n))
-            (depends-same left (v (2050 + n)) (grown_values old new detached v (2050 + m)) value d))
+            not (depends_left left right (v (2050 + n))
+            (depends_same left (v (2050 + n)) (grown_values old new detached v (2050 + m)) value d))
         side (inr d) =
-            not (depends-right left right (v (2050 + n))
-            (depends-same right (v (2050 + n)) (grown_values old new detached v (2050 + m)) value d))
+            not (depends_right left right (v (2050 + n))
+            (depends_same right (v (2050 + n)) (grown_values old new detached v (2050 + m)) value d))
 
     waits : IsSome (both_of old detached n) → IsTwoSided left right (v (2050 + n)) → (m : ℕ) →
         IsNewNode t old new detached m →
@@ -239,14 +240,14 @@ kind t old new detached v left right g n h = go (split_both new detached n h)
     waits k two m new' same = side (looks_below t old new detached v left right g m new')
       where
         value : IsSame (v (2050 + n)) (grown_values old new detached v (2050 + m))
-        value a = sym (grown-kept old new detached v n k a) ∙ sym (same a)
+        value a = sym (grown_kept old new detached v n k a) ∙ sym (same a)
 
         side : DependsOn left (grown_values old new detached v (2050 + m))
             ⊎ DependsOn right (grown_values old new detached v (2050 + m)) → ⊥
         side (inl d) =
-            two.not_left (depends-same left (v (2050 + n)) (grown_values old new detached v (2050 + m)) value d)
+            two.not_left (depends_same left (v (2050 + n)) (grown_values old new detached v (2050 + m)) value d)
         side (inr d) =
-            two.not_right (depends-same right (v (2050 + n)) (grown_values old new detached v (2050 + m)) value d)
+            two.not_right (depends_same right (v (2050 + n)) (grown_values old new detached v (2050 + m)) value d)
 
     linked : IsShownNode t new n ⊎ (IsSome (old n) × (¬ DependsOn (Node left right) (v (2050 + n)))) →
         IsShownNode t new n
@@ -267,22 +268,22 @@ kind t old new detached v left right g n h = go (split_both new detached n h)
     go (inr k) = inr (waits (there (is_there old n) k.1) (g.waiting n k.1))
 
 -- no two nodes, old or new, are one function
-pub grown-apart : (t : Numbered) (old new detached : Lookup) (v : Valuation) (left right : Tree) →
+pub grown_apart : (t : Numbered) (old new detached : Lookup) (v : Valuation) (left right : Tree) →
     IsGrown t old new detached v left right → AreApart (both_of new detached) (grown_values old new detached v)
-grown-apart t old new detached v left right g =
-    still-apart t g.numbered new (both_of new detached) (both_of old detached) g.keys (grown_values old new detached v)
-    (IsShownNode t new) (IsNewNode t old new detached) (grown-shown t old new detached v left right g)
+grown_apart t old new detached v left right g =
+    still_apart t g.numbered new (both_of new detached) (both_of old detached) g.keys (grown_values old new detached v)
+    (IsShownNode t new) (IsNewNode t old new detached) (grown_shown t old new detached v left right g)
     (origin t old new detached v left right g) (kind t old new detached v left right g)
     (λ m n hm hn same. g.apart m n hm hn
-    (λ a. sym (grown-kept old new detached v m hm a) ∙ same a ∙ grown-kept old new detached v n hn a))
+    (λ a. sym (grown_kept old new detached v m hm a) ∙ same a ∙ grown_kept old new detached v n hn a))
 
 -- at the start of a move all nodes are shown, and so no two are one function
-pub shown-apart : (t : Numbered) → IsNumbered t → (at : Lookup) → AreKeys at →
+pub shown_apart : (t : Numbered) → IsNumbered t → (at : Lookup) → AreKeys at →
     ((n : ℕ) → IsSome (at n) → IsShownNode t at n) → AreApart at (value_of at)
-shown-apart t num at keys shown m n hm hn same =
+shown_apart t num at keys shown m n hm hn same =
     let s = shown m hm in
     let r = shown n hn in
     let e : 2050 + m ≡ 2050 + n =
-    one-shown t num at keys (value_of at) (2050 + m) (2050 + n) (evaluated t at num (2050 + m) s.diagram s.is)
+    one_shown t num at keys (value_of at) (2050 + m) (2050 + n) (evaluated t at num (2050 + m) s.diagram s.is)
     (evaluated t at num (2050 + n) r.diagram r.is) same in
     omega (arith, e)

@@ -23,7 +23,7 @@ pub mod Placing
 pub mod OneKey
 pub mod Rewriting
 pub mod Within
-pub mod Known
+pub mod Unturned
 pub mod Users
 pub mod SameValues
 pub mod Growing

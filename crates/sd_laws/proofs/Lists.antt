@@ -20,15 +20,15 @@ use Rattle.sd_laws.specs.Pairs.{put, sort_by}
 -- what holds of each element
 
 -- what holds of each element holds of each in another order
-pub all-permuted : {X : Type 0} (P : X → Type 0) (xs ys : List X) → IsPermutation xs ys → AllByRecursion P xs →
+pub all_permuted : {X : Type 0} (P : X → Type 0) (xs ys : List X) → IsPermutation xs ys → AllByRecursion P xs →
     AllByRecursion P ys
-all-permuted P xs ys h a = recursion_from_All P ys (All-permutation P xs ys h (All-from_recursion P xs a))
+all_permuted P xs ys h a = recursion_from_All P ys (All-permutation P xs ys h (All-from_recursion P xs a))
 
 -- what follows of each element
-pub all-weaker : {X : Type 0} (P Q : X → Type 0) → ((x : X) → P x → Q x) → (xs : List X) → AllByRecursion P xs →
+pub all_weaker : {X : Type 0} (P Q : X → Type 0) → ((x : X) → P x → Q x) → (xs : List X) → AllByRecursion P xs →
     AllByRecursion Q xs
-all-weaker P Q f [] a = tt
-all-weaker P Q f (x ∷ xs) a = (f x a.0, all-weaker P Q f xs a.1)
+all_weaker P Q f [] a = tt
+all_weaker P Q f (x ∷ xs) a = (f x a.0, all_weaker P Q f xs a.1)
 
 -- x is one of the list
 abbrev pub IsAmong : {X : Type 0} → X → List X → Type 0
@@ -40,26 +40,26 @@ abbrev pub IsWithin : {X : Type 0} → List X → List X → Type 0
 IsWithin {X} xs ys = (x : X) → IsAmong x xs → IsAmong x ys
 
 -- what holds of each element holds of one of the list
-pub all-at : {X : Type 0} (P : X → Type 0) (xs : List X) (x : X) → AllByRecursion P xs → IsAmong x xs → P x
-all-at P [] x a m = absurd m
-all-at P (y ∷ ys) x a (inl e) = subst P (sym e) a.0
-all-at P (y ∷ ys) x a (inr m) = all-at P ys x a.1 m
+pub all_at : {X : Type 0} (P : X → Type 0) (xs : List X) (x : X) → AllByRecursion P xs → IsAmong x xs → P x
+all_at P [] x a m = absurd m
+all_at P (y ∷ ys) x a (inl e) = subst P (sym e) a.0
+all_at P (y ∷ ys) x a (inr m) = all_at P ys x a.1 m
 
 -- what holds of each one of the list holds of each element
-pub all-from : {X : Type 0} (P : X → Type 0) (xs : List X) → ((x : X) → IsAmong x xs → P x) → AllByRecursion P xs
-all-from P [] f = tt
-all-from P (x ∷ xs) f = (f x (inl refl), all-from P xs (λ y m. f y (inr m)))
+pub all_from : {X : Type 0} (P : X → Type 0) (xs : List X) → ((x : X) → IsAmong x xs → P x) → AllByRecursion P xs
+all_from P [] f = tt
+all_from P (x ∷ xs) f = (f x (inl refl), all_from P xs (λ y m. f y (inr m)))
 
 -- a list in another order has the same elements
-pub within-permuted : {X : Type 0} (xs ys : List X) → IsPermutation xs ys → IsWithin ys xs
-within-permuted xs ys h x m = all-at (λ y. IsAmong y xs) ys x
-    (all-permuted (λ y. IsAmong y xs) xs ys h (all-from (λ y. IsAmong y xs) xs (λ y k. k))) m
+pub within_permuted : {X : Type 0} (xs ys : List X) → IsPermutation xs ys → IsWithin ys xs
+within_permuted xs ys h x m = all_at (λ y. IsAmong y xs) ys x
+    (all_permuted (λ y. IsAmong y xs) xs ys h (all_from (λ y. IsAmong y xs) xs (λ y k. k))) m
 
 -- the same as std's word
-pub among-from_contains : {X : Type 0} (xs : List X) (x : X) → Contains xs x → IsAmong x xs
-among-from_contains xs x c =
+pub among_from_contains : {X : Type 0} (xs : List X) (x : X) → Contains xs x → IsAmong x xs
+among_from_contains xs x c =
     All-contains (λ y. IsAmong y xs) xs x
-    (All-from_recursion (λ y. IsAmong y xs) xs (all-from (λ y. IsAmong y xs) xs (λ y k. k))) c
+    (All-from_recursion (λ y. IsAmong y xs) xs (all_from (λ y. IsAmong y xs) xs (λ y k. k))) c
 
 -- two lists side by side
 
@@ -101,9 +101,9 @@ related_lists R [] h = tt
 related_lists R (z ∷ zs) h = (h.0, related_lists R zs h.1)
 
 -- an exchange and a function of each element
-map-swap : {X Y : Type 0} (f : X → Y) (xs : List X) (i j : ℕ) → map f (swap xs i j) ≡ swap (map f xs) i j
-map-swap f [] i j = refl
-map-swap f (x ∷ xs) i j =
+map_swap : {X Y : Type 0} (f : X → Y) (xs : List X) (i j : ℕ) → map f (swap xs i j) ≡ swap (map f xs) i j
+map_swap f [] i j = refl
+map_swap f (x ∷ xs) i j =
     map-set f (set (x ∷ xs) i (get_or (x ∷ xs) j x)) j (get_or (x ∷ xs) i x)
     ∙ ap (λ l. set l j (f (get_or (x ∷ xs) i x))) (map-set f (x ∷ xs) i (get_or (x ∷ xs) j x))
     ∙ ap (λ y. set (set (map f (x ∷ xs)) i y) j (f (get_or (x ∷ xs) i x)))
@@ -112,11 +112,11 @@ map-swap f (x ∷ xs) i j =
     (sym (std_list.get_or-map f (x ∷ xs) i x))
 
 -- the same for many exchanges
-map-swaps : {X Y : Type 0} (f : X → Y) (xs : List X) (moves : List (ℕ × ℕ)) →
+map_swaps : {X Y : Type 0} (f : X → Y) (xs : List X) (moves : List (ℕ × ℕ)) →
     map f (apply_swaps xs moves) ≡ apply_swaps (map f xs) moves
-map-swaps f xs [] = refl
-map-swaps f xs (m ∷ ms) =
-    map-swap f (apply_swaps xs ms) m.0 m.1 ∙ ap (λ l. swap l m.0 m.1) (map-swaps f xs ms)
+map_swaps f xs [] = refl
+map_swaps f xs (m ∷ ms) =
+    map_swap f (apply_swaps xs ms) m.0 m.1 ∙ ap (λ l. swap l m.0 m.1) (map_swaps f xs ms)
 
 -- an order of the parts is an order of the whole
 pub lifted : {X Y : Type 0} (f : X → Y) (xs : List X) (ys : List Y) → IsPermutation (map f xs) ys →
@@ -124,13 +124,13 @@ pub lifted : {X Y : Type 0} (f : X → Y) (xs : List X) (ys : List Y) → IsPerm
 lifted f xs ys h = (
   apply_swaps xs h.moves,
   record { moves = h.moves; below = subst (λ n. SwapsInRange n h.moves) (length-map xs f) h.below; is = refl },
-  map-swaps f xs h.moves ∙ sym h.is,
+  map_swaps f xs h.moves ∙ sym h.is,
 )
 
 -- where the first of two related lists is put in another order, so is the second
-pub first-permuted : {A B : Type 0} (R : A → B → Type 0) (xs : List A) (ys : List B) (ws : List A) →
+pub first_permuted : {A B : Type 0} (R : A → B → Type 0) (xs : List A) (ys : List B) (ws : List A) →
     AllZip R xs ys → IsPermutation xs ws → (vs : List B) × IsPermutation ys vs × AllZip R ws vs
-first-permuted {A} {B} R xs ys ws h p =
+first_permuted {A} {B} R xs ys ws h p =
     let zs = side_by_side xs ys in
     let l = lifted (λ (z : A × B). z.0) zs ws (subst (λ l. IsPermutation l ws) (sym (first_parts R xs ys h)) p) in (
       map (λ (z : A × B). z.1) l.0,
@@ -138,13 +138,13 @@ first-permuted {A} {B} R xs ys ws h p =
           (IsPermutation-map (λ (z : A × B). z.1) zs l.0 l.1),
       subst (λ l'. AllZip R l' (map (λ (z : A × B). z.1) l.0)) l.2
           (related_lists R l.0
-          (all-permuted (λ (z : A × B). R z.0 z.1) zs l.0 l.1 (each_related R xs ys h))),
+          (all_permuted (λ (z : A × B). R z.0 z.1) zs l.0 l.1 (each_related R xs ys h))),
     )
 
 -- and the other way round
-pub second-permuted : {A B : Type 0} (R : A → B → Type 0) (xs : List A) (ys : List B) (vs : List B) →
+pub second_permuted : {A B : Type 0} (R : A → B → Type 0) (xs : List A) (ys : List B) (vs : List B) →
     AllZip R xs ys → IsPermutation ys vs → (ws : List A) × IsPermutation xs ws × AllZip R ws vs
-second-permuted {A} {B} R xs ys vs h p =
+second_permuted {A} {B} R xs ys vs h p =
     let zs = side_by_side xs ys in
     let l = lifted (λ (z : A × B). z.1) zs vs (subst (λ l. IsPermutation l vs) (sym (second_parts R xs ys h)) p) in (
       map (λ (z : A × B). z.0) l.0,
@@ -152,7 +152,7 @@ second-permuted {A} {B} R xs ys vs h p =
           (IsPermutation-map (λ (z : A × B). z.0) zs l.0 l.1),
       subst (λ l'. AllZip R (map (λ (z : A × B). z.0) l.0) l') l.2
           (related_lists R l.0
-          (all-permuted (λ (z : A × B). R z.0 z.1) zs l.0 l.1 (each_related R xs ys h))),
+          (all_permuted (λ (z : A × B). R z.0 z.1) zs l.0 l.1 (each_related R xs ys h))),
     )
 
 -- two related lists are equally long
@@ -232,23 +232,23 @@ first_at R (x ∷ xs) (z ∷ ys) h y (inr m) = let r = first_at R xs ys h.1 y m 
 -- the sort by the structural order
 
 -- an element that is put into a list
-pub put-permutation : {X : Type 0} (key : X → Diagram) (x : X) (ys : List X) → IsPermutation (x ∷ ys) (put key x ys)
-put-permutation key x [] = IsPermutation-refl (x ∷ [])
-put-permutation key x (y ∷ ys) =
+pub put_permutation : {X : Type 0} (key : X → Diagram) (x : X) (ys : List X) → IsPermutation (x ∷ ys) (put key x ys)
+put_permutation key x [] = IsPermutation-refl (x ∷ [])
+put_permutation key x (y ∷ ys) =
     elim (is_lt (diagram_cmp (key x) (key y)))
     as (λ b. IsPermutation (x ∷ y ∷ ys) (cond b (x ∷ y ∷ ys) (y ∷ put key x ys))) [
       | true ↦ IsPermutation-refl (x ∷ y ∷ ys)
       | false ↦ IsPermutation-trans (x ∷ y ∷ ys) (y ∷ x ∷ ys) (y ∷ put key x ys)
           (IsPermutation-middle (x ∷ []) y ys)
-          (IsPermutation-cons y (x ∷ ys) (put key x ys) (put-permutation key x ys))
+          (IsPermutation-cons y (x ∷ ys) (put key x ys) (put_permutation key x ys))
     ]
 
 -- the sorted list is the list in another order
-pub sort_by-permutation : {X : Type 0} (key : X → Diagram) (xs : List X) → IsPermutation xs (sort_by key xs)
-sort_by-permutation key [] = IsPermutation-refl []
-sort_by-permutation key (x ∷ xs) =
+pub sort_by_permutation : {X : Type 0} (key : X → Diagram) (xs : List X) → IsPermutation xs (sort_by key xs)
+sort_by_permutation key [] = IsPermutation-refl []
+sort_by_permutation key (x ∷ xs) =
     IsPermutation-trans (x ∷ xs) (x ∷ sort_by key xs) (put key x (sort_by key xs))
-    (IsPermutation-cons x xs (sort_by key xs) (sort_by-permutation key xs)) (put-permutation key x (sort_by key xs))
+    (IsPermutation-cons x xs (sort_by key xs) (sort_by_permutation key xs)) (put_permutation key x (sort_by key xs))
 
 -- lists that ascend strictly by a number
 
@@ -274,15 +274,15 @@ rest_within key x y xs ys e a there z m = go (there z (inr m))
     go (inr k) = k
 
 -- two lists with the same elements that ascend strictly are equal
-pub ascending-same : {X : Type 0} (key : X → ℕ) (xs ys : List X) → IsStrictlySortedBy nat_cmp (map key xs) →
+pub ascending_same : {X : Type 0} (key : X → ℕ) (xs ys : List X) → IsStrictlySortedBy nat_cmp (map key xs) →
     IsStrictlySortedBy nat_cmp (map key ys) → IsWithin xs ys → IsWithin ys xs → xs ≡ ys
 unfolding IsStrictlySortedBy
-ascending-same key [] [] a b there back = refl
-ascending-same key [] (y ∷ ys) a b there back = absurd (back y (inl refl))
-ascending-same key (x ∷ xs) [] a b there back = absurd (there x (inl refl))
-ascending-same key (x ∷ xs) (y ∷ ys) a b there back =
+ascending_same key [] [] a b there back = refl
+ascending_same key [] (y ∷ ys) a b there back = absurd (back y (inl refl))
+ascending_same key (x ∷ xs) [] a b there back = absurd (there x (inl refl))
+ascending_same key (x ∷ xs) (y ∷ ys) a b there back =
     let e : x ≡ y = heads (there x (inl refl)) (back y (inl refl)) in
-    let r : xs ≡ ys = ascending-same key xs ys a.1 b.1 (rest_within key x y xs ys e a.0 there)
+    let r : xs ≡ ys = ascending_same key xs ys a.1 b.1 (rest_within key x y xs ys e a.0 there)
     (rest_within key y x ys xs (sym e) b.0 back) in
     cc
   where

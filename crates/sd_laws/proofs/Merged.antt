@@ -12,7 +12,7 @@ use Rattle.sd_model.specs.Canonical.{IsCanonical}
 use Rattle.sd_model.proofs.Blend.{IsApart}
 use Rattle.sd_model.proofs.Valued.{IsTrueSomewhere, true_somewhere}
 use Rattle.sd_laws.specs.Pairs.{answers, HasValue}
-use Rattle.sd_laws.proofs.Products.{answers-append}
+use Rattle.sd_laws.proofs.Products.{answers_append}
 
 -- where one value is chosen in all, two elements with one sub choose what their joined element chooses
 merged_values : (p q s : Bool) (xs ys : List Bool) (v : Bool) →
@@ -25,11 +25,11 @@ merged_values false true s xs ys v e = e
 merged_values false false s xs ys v e = e
 
 -- two neighbours with one sub become one element, at any place of the list
-pub merged-value : (xs ys : List (Diagram × Diagram)) (d e : Diagram × Diagram) (p : Diagram)
+pub merged_value : (xs ys : List (Diagram × Diagram)) (d e : Diagram × Diagram) (p : Diagram)
     (f : List Bool → Bool) → d.1 ≡ e.1 → ((a : List Bool) → meaning p a ≡ (meaning d.0 a || meaning e.0 a)) →
     HasValue (xs ++ d ∷ e ∷ ys) f → HasValue (xs ++ (p, d.1) ∷ ys) f
-merged-value xs ys d e p f same prime h a =
-    answers-append a xs ((p, d.1) ∷ ys)
+merged_value xs ys d e p f same prime h a =
+    answers_append a xs ((p, d.1) ∷ ys)
     ∙ ap (λ b. answers a xs ++ cond b (meaning d.1 a ∷ answers a ys) (answers a ys)) (prime a)
     ∙ merged_values (meaning d.0 a) (meaning e.0 a) (meaning d.1 a) (answers a xs) (answers a ys) (f a) whole
   where
@@ -44,26 +44,26 @@ merged-value xs ys d e p f same prime h a =
         ap (λ b. answers a xs
         ++ cond (meaning d.0 a) (meaning d.1 a ∷ cond (meaning e.0 a) (b ∷ answers a ys) (answers a ys))
         (cond (meaning e.0 a) (b ∷ answers a ys) (answers a ys))) (sym sub)
-        ∙ sym (answers-append a xs (d ∷ e ∷ ys)) ∙ h a
+        ∙ sym (answers_append a xs (d ∷ e ∷ ys)) ∙ h a
 
 -- the last of the merged elements takes the next one in
-pub merged-last : (gs rest : List (Diagram × Diagram)) (x d : Diagram × Diagram) (p : Diagram)
+pub merged_last : (gs rest : List (Diagram × Diagram)) (x d : Diagram × Diagram) (p : Diagram)
     (f : List Bool → Bool) → x.1 ≡ d.1 → ((a : List Bool) → meaning p a ≡ (meaning x.0 a || meaning d.0 a)) →
     HasValue ((gs ++ x ∷ []) ++ d ∷ rest) f → HasValue ((gs ++ (p, x.1) ∷ []) ++ rest) f
-merged-last gs rest x d p f same prime h =
+merged_last gs rest x d p f same prime h =
     subst (λ l. HasValue l f) (sym (append_assoc gs ((p, x.1) ∷ []) rest))
-    (merged-value gs rest x d p f same prime
+    (merged_value gs rest x d p f same prime
     (subst (λ l. HasValue l f) (append_assoc gs (x ∷ []) (d ∷ rest)) h))
 
 -- or the next one stands behind it
-pub merged-push : (gs rest : List (Diagram × Diagram)) (d : Diagram × Diagram) (f : List Bool → Bool) →
+pub merged_push : (gs rest : List (Diagram × Diagram)) (d : Diagram × Diagram) (f : List Bool → Bool) →
     HasValue (gs ++ d ∷ rest) f → HasValue ((gs ++ d ∷ []) ++ rest) f
-merged-push gs rest d f h = subst (λ l. HasValue l f) (sym (append_assoc gs (d ∷ []) rest)) h
+merged_push gs rest d f h = subst (λ l. HasValue l f) (sym (append_assoc gs (d ∷ []) rest)) h
 
 -- a disjunction with a prime that can be true can be true
-pub or-possible : (n : ℕ) (l : Tree) (base : ℕ) (x y p : Diagram) → IsApart n l → IsCanonical l base x → x ≢ Bottom →
+pub or_possible : (n : ℕ) (l : Tree) (base : ℕ) (x y p : Diagram) → IsApart n l → IsCanonical l base x → x ≢ Bottom →
     ((a : List Bool) → meaning p a ≡ (meaning x a || meaning y a)) → p ≢ Bottom
-or-possible n l base x y p apart k possible value e =
+or_possible n l base x y p apart k possible value e =
     let w : IsTrueSomewhere x true = true_somewhere n apart k possible in
     let a = w.assignment in
     let one : (meaning x a || meaning y a) ≡ true = rw w.value refl in
@@ -71,10 +71,10 @@ or-possible n l base x y p apart k possible value e =
     cc (one, value a, none)
 
 -- numbers that ascend strictly are different
-pub ascending-distinct : (xs : List ℕ) → IsStrictlySortedBy nat_cmp xs → AreDistinct xs
+pub ascending_distinct : (xs : List ℕ) → IsStrictlySortedBy nat_cmp xs → AreDistinct xs
 unfolding IsStrictlySortedBy
-ascending-distinct [] h = tt
-ascending-distinct (x ∷ xs) h = (each xs h.0, ascending-distinct xs h.1)
+ascending_distinct [] h = tt
+ascending_distinct (x ∷ xs) h = (each xs h.0, ascending_distinct xs h.1)
   where
     itself : (y : ℕ) → nat_cmp x y ≡ Less → x ≢ y
     itself y h e = not_itself y (subst (λ z. nat_cmp z y ≡ Less) e h)
@@ -87,11 +87,11 @@ ascending-distinct (x ∷ xs) h = (each xs h.0, ascending-distinct xs h.1)
     each (y ∷ ys) a = (itself y a.0, each ys a.1)
 
 -- numbers that ascend strictly to a last one go on with a greater one
-pub ascending-push : (xs : List ℕ) (last y : ℕ) → IsStrictlySortedBy nat_cmp (xs ++ last ∷ []) → nat_cmp last y ≡ Less →
+pub ascending_push : (xs : List ℕ) (last y : ℕ) → IsStrictlySortedBy nat_cmp (xs ++ last ∷ []) → nat_cmp last y ≡ Less →
     IsStrictlySortedBy nat_cmp ((xs ++ last ∷ []) ++ y ∷ [])
 unfolding IsStrictlySortedBy
-ascending-push [] last y h less = ((less, tt), (tt, tt))
-ascending-push (x ∷ xs) last y h less = (below xs h.0, ascending-push xs last y h.1 less)
+ascending_push [] last y h less = ((less, tt), (tt, tt))
+ascending_push (x ∷ xs) last y h less = (below xs h.0, ascending_push xs last y h.1 less)
   where
     below : (xs : List ℕ) → AllByRecursion (λ z. nat_cmp x z ≡ Less) (xs ++ last ∷ []) →
         AllByRecursion (λ z. nat_cmp x z ≡ Less) ((xs ++ last ∷ []) ++ y ∷ [])

@@ -11,23 +11,23 @@ use Rattle.sd_model.proofs.Blend.{IsApart, depends}
 use Rattle.sd_model.proofs.OverVtree.{vtree_apart}
 use Rattle.sd_model.proofs.Unique.{unique}
 use Rattle.sd_model.proofs.Valued.{IsTrueSomewhere, true_somewhere, false_somewhere, not_bottom, not_top}
-use Rattle.sd_vtree.specs.Numbered.{Numbered, NumberedLeaf, NumberedNode, number_of, forget, numbers, subtree}
+use Rattle.sd_vtree.specs.Numbered.{Numbered, NumberedLeaf, NumberedNode, number_of, plain_tree, numbers, subtree}
 use Rattle.sd_vtree.specs.Numbered.{IsNumbered}
-use Rattle.sd_vtree.proofs.Times.{one_place, times-slice_get}
+use Rattle.sd_vtree.proofs.Times.{one_place, times_slice_get}
 use Rattle.sd_vtree.proofs.Subtrees.{once_numbered, subtree_some, subtree_number}
 use Rattle.sd_laws.specs.Depends.{DependsOn}
 use Rattle.sd_laws.specs.Pairs.{from_pairs, answers}
 use Rattle.sd_laws.specs.Parts.{IsPart, here, in_left, in_right, IsInner}
-use Rattle.sd_laws.specs.Shown.{Lookup, Shows, ShowPairs, IsNode}
+use Rattle.sd_laws.specs.Shown.{Lookup, Shows, ShowPairs, ShowsCanonical}
 use Rattle.sd_laws.specs.Values.{Valuation, IsSame, pairs_value, chosen, Takes, SubsDiffer, HasInnerSub, IsWhole}
 use Rattle.sd_laws.specs.Values.{IsPlaced, ShowsValue}
 use Rattle.sd_laws.proofs.Lists.{zip_length}
-use Rattle.sd_laws.proofs.Nodes.{place-stored}
-use Rattle.sd_laws.proofs.Choosing.{chosen-value}
-use Rattle.sd_laws.proofs.Places.{part_apart, part_range, leaves-positive}
-use Rattle.sd_laws.proofs.Numbers.{PartAt, part-of_subtree, part_number}
-use Rattle.sd_laws.proofs.Codes.{one-diagram, literal-range}
-use Rattle.sd_laws.proofs.Expanded.{Stored, stored-split}
+use Rattle.sd_laws.proofs.Nodes.{place_stored}
+use Rattle.sd_laws.proofs.Choosing.{chosen_value}
+use Rattle.sd_laws.proofs.Places.{part_apart, part_range, leaves_positive}
+use Rattle.sd_laws.proofs.Numbers.{PartAt, part_of_subtree, part_number}
+use Rattle.sd_laws.proofs.Codes.{one_diagram, literal_range}
+use Rattle.sd_laws.proofs.Expanded.{Stored, stored_partition}
 
 -- a value that is chosen alone
 abbrev only_one : List Bool → Bool
@@ -46,18 +46,18 @@ part_position {s} {t} {c = c} {b = b} p =
     own_position : (s : Tree) (c : ℕ) → (c ≤ position s c) × (position s c + 1 < c + 2 * leaves s)
     own_position (Leaf x) c = (omega arith, omega arith)
     own_position (Node l r) c =
-        let a = leaves-positive l in
-        let b = leaves-positive r in
+        let a = leaves_positive l in
+        let b = leaves_positive r in
         (omega (arith, a), omega (arith, a, b, length-append (variables l) (variables r)))
 
 -- two subtrees whose roots stand at one position are one
 same_part : {s r t : Tree} {c e b : ℕ} → IsPart s c t b → IsPart r e t b → position s c ≡ position r e →
     (s ≡ r) × (c ≡ e)
 same_part here here h = (refl, refl)
-same_part here (in_left {l = l} q) h = absurd (omega (arith, h, (part_position q).1, leaves-positive l))
-same_part here (in_right {l = l} q) h = absurd (omega (arith, h, (part_position q).0, leaves-positive l))
-same_part (in_left {l = l} p) here h = absurd (omega (arith, h, (part_position p).1, leaves-positive l))
-same_part (in_right {l = l} p) here h = absurd (omega (arith, h, (part_position p).0, leaves-positive l))
+same_part here (in_left {l = l} q) h = absurd (omega (arith, h, (part_position q).1, leaves_positive l))
+same_part here (in_right {l = l} q) h = absurd (omega (arith, h, (part_position q).0, leaves_positive l))
+same_part (in_left {l = l} p) here h = absurd (omega (arith, h, (part_position p).1, leaves_positive l))
+same_part (in_right {l = l} p) here h = absurd (omega (arith, h, (part_position p).0, leaves_positive l))
 same_part (in_left p) (in_left q) h = same_part p q h
 same_part (in_right p) (in_right q) h = same_part p q h
 same_part (in_left p) (in_right q) h = absurd (omega (arith, h, (part_position p).1, (part_position q).0))
@@ -88,8 +88,8 @@ record InnerNode (t : Numbered) (u : ℕ) (l r : Tree) : Type 0 where
   pub left : Numbered
   pub right : Numbered
   pub at : subtree t u ≡ Some (NumberedNode u left right)
-  pub left_is : forget left ≡ l
-  pub right_is : forget right ≡ r
+  pub left_is : plain_tree left ≡ l
+  pub right_is : plain_tree right ≡ r
 
 -- the children of a plain tree
 abbrev left_of : Tree → Tree
@@ -103,17 +103,18 @@ right_of (Node a b) = b
 -- an inner node is there with its number
 inner_node : (t : Numbered) → IsNumbered t → (u : ℕ) (l r : Tree) (base : ℕ) → IsInner t u l r base → InnerNode t u l r
 inner_node t v u l r base i =
-    let there = subtree_some t u (times-slice_get (numbers t) (position (Node l r) base) u i.number) in
+    let there = subtree_some t u (times_slice_get (numbers t) (position (Node l r) base) u i.number) in
     let s = there.0 in
-    let h : PartAt t u s 0 = part-of_subtree t u s 0 there.1 in
+    let h : PartAt t u s 0 = part_of_subtree t u s 0 there.1 in
     let number : number_of s ≡ u = subtree_number t u s there.1 in
-    let at : slice_get (numbers t) (position (forget s) (0 + h.skip)) ≡ Some u = part_number t u s h ∙ ap Some number in
+    let at : slice_get (numbers t) (position (plain_tree s) (0 + h.skip)) ≡ Some u = part_number t u s h
+    ∙ ap Some number in
     let e = same_part h.part i.part
-    (one_place (numbers t) u (position (forget s) (0 + h.skip)) (position (Node l r) base) (once_numbered t v u) at
+    (one_place (numbers t) u (position (plain_tree s) (0 + h.skip)) (position (Node l r) base) (once_numbered t v u) at
     i.number) in
     go s there.1 number e.0
   where
-    go : (s : Numbered) → subtree t u ≡ Some s → number_of s ≡ u → forget s ≡ Node l r → InnerNode t u l r
+    go : (s : Numbered) → subtree t u ≡ Some s → number_of s ≡ u → plain_tree s ≡ Node l r → InnerNode t u l r
     go (NumberedLeaf m x) f n e = absurd (cc)
     go (NumberedNode m a b) f n e =
         record {
@@ -134,7 +135,7 @@ ShowValues t at v l = AllByRecursion (λ (e : ℕ × ℕ). ShowsValue t at v e.0
 value_shown : (t : Numbered) → IsNumbered t → (at : Lookup) (v : Valuation) (c : ℕ) (d : Diagram) →
     ShowsValue t at v c → Shows t at c d → IsSame (meaning d) (v c)
 value_shown t n at v c d h k a =
-    ap (λ z. meaning z a) (one-diagram t at n d c h.diagram k h.is.shows) ∙ h.value a
+    ap (λ z. meaning z a) (one_diagram t at n d c h.diagram k h.is.shows) ∙ h.value a
 
 -- what the diagrams choose the values choose
 chosen_answers : (t : Numbered) → IsNumbered t → (at : Lookup) (v : Valuation) (l : List (ℕ × ℕ))
@@ -242,44 +243,44 @@ pub record IsOrderly (t : Numbered) (v : Valuation) (n u : ℕ) (l : List (ℕ �
 -- A node's list has the values of a compressed and trimmed partition of its place. What it shows is a decomposition at
 -- its own place, and each field is that one's, carried from the shown diagrams to the values of their codes; unequal
 -- subs and subs that are no constants differ by values, since canonical diagrams are unique.
-pub node-orderly : (t : Numbered) → IsNumbered t → (at : Lookup) (v : Valuation) (n u : ℕ) (l : List (ℕ × ℕ)) →
+pub node_orderly : (t : Numbered) → IsNumbered t → (at : Lookup) (v : Valuation) (n u : ℕ) (l : List (ℕ × ℕ)) →
     at n ≡ Some (u, l) → ShowsValue t at v (2050 + n) → ShowValues t at v l → IsOrderly t v n u l
-node-orderly t num at v n u l stored h k = go h.diagram h.is h.value
+node_orderly t num at v n u l stored h k = go h.diagram h.is h.value
   where
-    decomposition : (p : ℕ) (es : Elements) → IsNode t at (2050 + n) (Decomposition p es) →
+    decomposition : (p : ℕ) (es : Elements) → ShowsCanonical t at (2050 + n) (Decomposition p es) →
         IsSame (meaning (Decomposition p es)) (v (2050 + n)) → IsOrderly t v n u l
     decomposition p es is same =
-        let m = leaves (forget t) in
-        let whole_apart : IsApart m (forget t) = vtree_apart (forget t) num.vtree in
-        let o : OwnNode (forget t) 0 p = own_node (forget t) 0 p es is.canonical in
+        let m = leaves (plain_tree t) in
+        let whole_apart : IsApart m (plain_tree t) = vtree_apart (plain_tree t) num.vtree in
+        let o : OwnNode (plain_tree t) 0 p = own_node (plain_tree t) 0 p es is.canonical in
         let place : slice_get (numbers t) p ≡ Some u =
-        place-stored t at (2050 + n) p es is.shows n u l refl stored in
+        place_stored t at (2050 + n) p es is.shows n u l refl stored in
         let inner : IsInner t u o.left o.right o.base =
         record { part = o.part; number = ap (slice_get (numbers t)) (sym o.stands) ∙ place } in
         let i : InnerNode t u o.left o.right = inner_node t num u o.left o.right o.base inner in
         let s : Stored t at u l o.left o.right o.base (Decomposition p es) =
-        stored-split t at num (2050 + n) p es is n u l refl stored o.left o.right o.base inner in
+        stored_partition t at num (2050 + n) p es is n u l refl stored o.left o.right o.base inner in
         let apart : IsApart m (Node o.left o.right) = part_apart m o.part whole_apart in
         let both : Sides v o.left o.right l =
-        sides m t num at v o.left o.right o.base apart.1 l s.pairs s.shown k s.split.elements.primes
-        s.split.elements.subs
-        s.split.elements.possible in
+        sides m t num at v o.left o.right o.base apart.1 l s.pairs s.shown k s.partition.elements.primes
+        s.partition.elements.subs
+        s.partition.elements.possible in
         let one : (a : List Bool) → length (chosen v l a) ≡ 1 =
-        λ a. ap length (chosen_answers t num at v l s.pairs s.shown k a) ∙ s.split.one_true a in
+        λ a. ap length (chosen_answers t num at v l s.pairs s.shown k a) ∙ s.partition.one_true a in
         let R : ℕ × ℕ → Diagram × Diagram → Type 0 = λ e d. Shows t at e.0 d.0 × Shows t at e.1 d.1 in
         record {
           value = λ a.
               let x : pairs_value v l a ∷ [] ≡ meaning (Decomposition p es) a ∷ [] =
-              sym (chosen-value v l a (one a)) ∙ chosen_answers t num at v l s.pairs s.shown k a ∙ s.value a in
+              sym (chosen_value v l a (one a)) ∙ chosen_answers t num at v l s.pairs s.shown k a ∙ s.value a in
               sym (ap only_one x ∙ same a);
           whole = record {
             several = omega (arith, s.several, zip_length R l s.pairs s.shown);
             one_true = one;
             possible = both.possible;
             differ = subs_differ m t num at v o.right (right_base o.left o.base) apart.2 l s.pairs s.shown k
-                s.split.elements.subs s.compressed;
+                s.partition.elements.subs s.compressed;
             inner = inner_sub m t num at v o.right (right_base o.left o.base) apart.2 l s.pairs s.shown k
-                s.split.elements.subs s.trimmed;
+                s.partition.elements.subs s.trimmed;
           };
           placed = record {
             left = i.left;
@@ -290,8 +291,8 @@ node-orderly t num at v n u l stored h k = go h.diagram h.is h.value
           };
         }
 
-    go : (d : Diagram) → IsNode t at (2050 + n) d → IsSame (meaning d) (v (2050 + n)) → IsOrderly t v n u l
+    go : (d : Diagram) → ShowsCanonical t at (2050 + n) d → IsSame (meaning d) (v (2050 + n)) → IsOrderly t v n u l
     go Bottom is same = absurd (omega (arith, is.shows))
     go Top is same = absurd (omega (arith, is.shows))
-    go (Literal p x s) is same = absurd (omega (arith, (literal-range t at num (2050 + n) p x s is.shows).2))
+    go (Literal p x s) is same = absurd (omega (arith, (literal_range t at num (2050 + n) p x s is.shows).2))
     go (Decomposition p es) is same = decomposition p es is same

@@ -19,10 +19,10 @@ use Rattle.sd_laws.proofs.Joining.{lift_left, lift_right}
 -- up and down
 
 -- what is canonical for a subtree is canonical for each tree above it
-pub canonical-lifts : {s t : Tree} {c b : ℕ} → IsPart s c t b → (d : Diagram) → IsCanonical s c d → IsCanonical t b d
-canonical-lifts here d k = k
-canonical-lifts (in_left {l = l} {r = r} {b = b} part) d k = lift_left l r b d (canonical-lifts part d k)
-canonical-lifts (in_right {l = l} {r = r} {b = b} part) d k = lift_right l r b d (canonical-lifts part d k)
+pub canonical_lifts : {s t : Tree} {c b : ℕ} → IsPart s c t b → (d : Diagram) → IsCanonical s c d → IsCanonical t b d
+canonical_lifts here d k = k
+canonical_lifts (in_left {l = l} {r = r} {b = b} part) d k = lift_left l r b d (canonical_lifts part d k)
+canonical_lifts (in_right {l = l} {r = r} {b = b} part) d k = lift_right l r b d (canonical_lifts part d k)
 
 -- a subtree has no variable on both sides of a node either
 pub part_apart : (n : ℕ) {s t : Tree} {c b : ℕ} → IsPart s c t b → IsApart n t → IsApart n s
@@ -37,9 +37,9 @@ part_trans p (in_left q) = in_left (part_trans p q)
 part_trans p (in_right q) = in_right (part_trans p q)
 
 -- two diagrams of a subtree with one meaning are equal
-pub same-diagram : (n : ℕ) {s t : Tree} {c b : ℕ} → IsApart n t → IsPart s c t b → (d e : Diagram) →
+pub same_diagram : (n : ℕ) {s t : Tree} {c b : ℕ} → IsApart n t → IsPart s c t b → (d e : Diagram) →
     IsCanonical s c d → IsCanonical s c e → ((a : List Bool) → meaning d a ≡ meaning e a) → d ≡ e
-same-diagram n apart part d e k j same = unique n (part_apart n part apart) k j same
+same_diagram n apart part d e k j same = unique n (part_apart n part apart) k j same
 
 -- what depends on a subtree's variables
 
@@ -101,10 +101,10 @@ narrowed n (in_right {l = l} {r = r} {b = b} part) apart (canonical_decompositio
     absurd (not_right n l r b es apart (parts ps ss partition) (depends_above part (some_element es) h))
 
 -- so the answer of an operation on two diagrams of a subtree is one of the subtree
-pub narrowed-by : (n : ℕ) {s t : Tree} {c b : ℕ} (z x y : Diagram) (op : Bool → Bool → Bool) → IsPart s c t b →
+pub narrowed_by : (n : ℕ) {s t : Tree} {c b : ℕ} (z x y : Diagram) (op : Bool → Bool → Bool) → IsPart s c t b →
     IsApart n t → IsCanonical t b z → IsCanonical s c x → IsCanonical s c y →
     ((a : List Bool) → meaning z a ≡ op (meaning x a) (meaning y a)) → IsCanonical s c z
-narrowed-by n {s} z x y op part apart k j i value = narrowed n part apart k below
+narrowed_by n {s} z x y op part apart k j i value = narrowed n part apart k below
   where
     below : DependsOn s (meaning z)
     below p q agree =
@@ -114,14 +114,14 @@ narrowed-by n {s} z x y op part apart k j i value = narrowed n part apart k belo
 -- positions
 
 -- a tree has a leaf
-pub leaves-positive : (t : Tree) → 1 ≤ leaves t
-leaves-positive (Leaf x) = omega arith
-leaves-positive (Node l r) = omega (arith, leaves-positive l, length-append (variables l) (variables r))
+pub leaves_positive : (t : Tree) → 1 ≤ leaves t
+leaves_positive (Leaf x) = omega arith
+leaves_positive (Node l r) = omega (arith, leaves_positive l, length-append (variables l) (variables r))
 
 -- a node's own position, counted from another base
-pub position-from : (t : Tree) (b : ℕ) → position t b ≡ b + position t 0
-position-from (Leaf x) b = omega arith
-position-from (Node l r) b = omega (arith, leaves-positive l)
+pub position_from : (t : Tree) (b : ℕ) → position t b ≡ b + position t 0
+position_from (Leaf x) b = omega arith
+position_from (Node l r) b = omega (arith, leaves_positive l)
 
 -- a subtree's positions are among the tree's
 pub part_range : {s t : Tree} {c b : ℕ} → IsPart s c t b → (b ≤ c) × (c + 2 * leaves s ≤ b + 2 * leaves t)
@@ -134,37 +134,37 @@ part_range (in_right {l = l} {r = r} {b = b} part) =
     (omega (arith, h.0), omega (arith, h.1, length-append (variables l) (variables r)))
 
 -- a canonical diagram stands among the tree's positions
-pub position-within : {t : Tree} {b p : ℕ} {d : Diagram} → IsCanonical t b d → HasPosition d p →
+pub position_within : {t : Tree} {b p : ℕ} {d : Diagram} → IsCanonical t b d → HasPosition d p →
     (b ≤ p) × (p + 1 < b + 2 * leaves t)
-position-within canonical_bottom h = absurd h
-position-within canonical_top h = absurd h
-position-within (canonical_literal s) h = (omega (arith, h), omega (arith, h))
-position-within (canonical_in_left {l = l} {r = r} e k) h =
-    let w = position-within k h in
+position_within canonical_bottom h = absurd h
+position_within canonical_top h = absurd h
+position_within (canonical_literal s) h = (omega (arith, h), omega (arith, h))
+position_within (canonical_in_left {l = l} {r = r} e k) h =
+    let w = position_within k h in
     (w.0, omega (arith, w.1, length-append (variables l) (variables r)))
-position-within (canonical_in_right {l = l} {r = r} e k) h =
-    let w = position-within k h in
+position_within (canonical_in_right {l = l} {r = r} e k) h =
+    let w = position_within k h in
     (omega (arith, w.0), omega (arith, w.1, length-append (variables l) (variables r)))
-position-within (canonical_decomposition {l = l} {r = r} ps ss partition) h =
-    let a = leaves-positive l in
-    let b = leaves-positive r in
+position_within (canonical_decomposition {l = l} {r = r} ps ss partition) h =
+    let a = leaves_positive l in
+    let b = leaves_positive r in
     (omega (arith, h), omega (arith, h, length-append (variables l) (variables r)))
 
 -- one that stands among a subtree's positions is canonical for the subtree
-pub canonical-in : {s t : Tree} {c b p : ℕ} {d : Diagram} → IsPart s c t b → IsCanonical t b d → HasPosition d p →
+pub canonical_in : {s t : Tree} {c b p : ℕ} {d : Diagram} → IsPart s c t b → IsCanonical t b d → HasPosition d p →
     c ≤ p → p + 1 < c + 2 * leaves s → IsCanonical s c d
-canonical-in here k h low high = k
-canonical-in (in_left part) canonical_bottom h low high = absurd h
-canonical-in (in_left part) canonical_top h low high = absurd h
-canonical-in (in_left part) (canonical_in_left e k) h low high = canonical-in part k h low high
-canonical-in (in_left part) (canonical_in_right e k) h low high =
-    absurd (omega (arith, high, (part_range part).1, (position-within k h).0))
-canonical-in (in_left {l = l} part) (canonical_decomposition ps ss partition) h low high =
-    absurd (omega (arith, h, high, (part_range part).1, leaves-positive l))
-canonical-in (in_right part) canonical_bottom h low high = absurd h
-canonical-in (in_right part) canonical_top h low high = absurd h
-canonical-in (in_right part) (canonical_in_left e k) h low high =
-    absurd (omega (arith, low, (part_range part).0, (position-within k h).1))
-canonical-in (in_right part) (canonical_in_right e k) h low high = canonical-in part k h low high
-canonical-in (in_right {l = l} part) (canonical_decomposition ps ss partition) h low high =
-    absurd (omega (arith, h, low, (part_range part).0, leaves-positive l))
+canonical_in here k h low high = k
+canonical_in (in_left part) canonical_bottom h low high = absurd h
+canonical_in (in_left part) canonical_top h low high = absurd h
+canonical_in (in_left part) (canonical_in_left e k) h low high = canonical_in part k h low high
+canonical_in (in_left part) (canonical_in_right e k) h low high =
+    absurd (omega (arith, high, (part_range part).1, (position_within k h).0))
+canonical_in (in_left {l = l} part) (canonical_decomposition ps ss partition) h low high =
+    absurd (omega (arith, h, high, (part_range part).1, leaves_positive l))
+canonical_in (in_right part) canonical_bottom h low high = absurd h
+canonical_in (in_right part) canonical_top h low high = absurd h
+canonical_in (in_right part) (canonical_in_left e k) h low high =
+    absurd (omega (arith, low, (part_range part).0, (position_within k h).1))
+canonical_in (in_right part) (canonical_in_right e k) h low high = canonical_in part k h low high
+canonical_in (in_right {l = l} part) (canonical_decomposition ps ss partition) h low high =
+    absurd (omega (arith, h, low, (part_range part).0, leaves_positive l))

@@ -7,13 +7,13 @@ use Rattle.std.proofs.lemmas.Option.{same_Some, none-some}
 use Rattle.sd_model.specs.declared.trees.Move.{Move}
 use Rattle.sd_model.specs.declared.trees.Move.TheVariants.{RotateLeft, RotateRight, Swap}
 use Rattle.sd_model.proofs.Blend.{occurs}
-use Rattle.sd_vtree.specs.Numbered.{Numbered, NumberedLeaf, NumberedNode, numbers, forget, subtree, times}
+use Rattle.sd_vtree.specs.Numbered.{Numbered, NumberedLeaf, NumberedNode, numbers, plain_tree, subtree, times}
 use Rattle.sd_vtree.specs.Numbered.{or_else, child_numbers, IsNumbered}
 use Rattle.sd_vtree.proofs.Put.{moved_none}
 use Rattle.sd_model.specs.Moves.{inverse_move}
 use Rattle.sd_vtree.specs.NumberedMoves.{moved_top, moved_number}
 use Rattle.sd_vtree.proofs.Parts.{subtree_left, subtree_right}
-use Rattle.sd_vtree.proofs.Times.{times-same, times-other, times-node}
+use Rattle.sd_vtree.proofs.Times.{times_same, times_other, times_node}
 use Rattle.sd_vtree.proofs.Subtrees.{AtMostOnce, once_left, once_right, left_apart, right_apart, Here, Left, Right}
 use Rattle.sd_vtree.proofs.Subtrees.{way, subtree_in, subtree_once, subtree_root, subtree_trans, number_of_in}
 use Rattle.sd_vtree.proofs.Subtrees.{once_numbered}
@@ -51,21 +51,22 @@ or_turned false true = refl
 or_turned false false = refl
 
 -- a rotation keeps the variables
-rotated_variables : (x w : ℕ) (a b c t u : Numbered) → Rotates x w a b c t u → HasVariablesOf (forget t) (forget u)
+rotated_variables : (x w : ℕ) (a b c t u : Numbered) → Rotates x w a b c t u
+    → HasVariablesOf (plain_tree t) (plain_tree u)
 rotated_variables x w a b c t u rotates_here z =
-    or_assoc (occurs (forget a) z) (occurs (forget b) z) (occurs (forget c) z)
+    or_assoc (occurs (plain_tree a) z) (occurs (plain_tree b) z) (occurs (plain_tree c) z)
 rotated_variables x w a b c t u (rotates_left {m = m} {l = l} {k = k} {r = r} d h) z =
-    ap (λ p. p || occurs (forget r) z) (rotated_variables x w a b c l k h z)
+    ap (λ p. p || occurs (plain_tree r) z) (rotated_variables x w a b c l k h z)
 rotated_variables x w a b c t u (rotates_right {m = m} {l = l} {r = r} {k = k} d h) z =
-    ap (λ p. occurs (forget l) z || p) (rotated_variables x w a b c r k h z)
+    ap (λ p. occurs (plain_tree l) z || p) (rotated_variables x w a b c r k h z)
 
 -- and so does a swap
-swapped_variables : (x : ℕ) (a b t u : Numbered) → Swaps x a b t u → HasVariablesOf (forget t) (forget u)
-swapped_variables x a b t u swaps_here z = or_turned (occurs (forget a) z) (occurs (forget b) z)
+swapped_variables : (x : ℕ) (a b t u : Numbered) → Swaps x a b t u → HasVariablesOf (plain_tree t) (plain_tree u)
+swapped_variables x a b t u swaps_here z = or_turned (occurs (plain_tree a) z) (occurs (plain_tree b) z)
 swapped_variables x a b t u (swaps_left {m = m} {l = l} {k = k} {r = r} d h) z =
-    ap (λ p. p || occurs (forget r) z) (swapped_variables x a b l k h z)
+    ap (λ p. p || occurs (plain_tree r) z) (swapped_variables x a b l k h z)
 swapped_variables x a b t u (swaps_right {m = m} {l = l} {r = r} {k = k} d h) z =
-    ap (λ p. occurs (forget l) z || p) (swapped_variables x a b r k h z)
+    ap (λ p. occurs (plain_tree l) z || p) (swapped_variables x a b r k h z)
 
 -- the numbers
 
@@ -75,10 +76,10 @@ rotated_times : (x w : ℕ) (a b c t u : Numbered) → Rotates x w a b c t u →
 rotated_times x w a b c t u rotates_here k =
     omega (
       arith,
-      times-node k x (numbers (NumberedNode w a b)) (numbers c),
-      times-node k w (numbers a) (numbers b),
-      times-node k x (numbers a) (numbers (NumberedNode w b c)),
-      times-node k w (numbers b) (numbers c),
+      times_node k x (numbers (NumberedNode w a b)) (numbers c),
+      times_node k w (numbers a) (numbers b),
+      times_node k x (numbers a) (numbers (NumberedNode w b c)),
+      times_node k w (numbers b) (numbers c),
       times_cons k x (numbers c),
       times_cons k w (numbers b),
       times_cons k x (numbers (NumberedNode w b c)),
@@ -87,32 +88,32 @@ rotated_times x w a b c t u rotates_here k =
   where
     times_cons : (k m : ℕ) (ms : List ℕ) → times k (m ∷ ms) ≡ times k (m ∷ []) + times k ms
     times_cons k m ms = elim (cases_eq m k) [
-      | inl e ↦ omega (arith, times-same k m ms e, times-same k m [] e)
-      | inr d ↦ omega (arith, times-other k m ms d, times-other k m [] d)
+      | inl e ↦ omega (arith, times_same k m ms e, times_same k m [] e)
+      | inr d ↦ omega (arith, times_other k m ms d, times_other k m [] d)
     ]
 rotated_times x w a b c t u (rotates_left {m = m} {l = l} {k = s} {r = r} d h) k =
     omega (
       arith,
       rotated_times x w a b c l s h k,
-      times-node k m (numbers l) (numbers r),
-      times-node k m (numbers s) (numbers r),
+      times_node k m (numbers l) (numbers r),
+      times_node k m (numbers s) (numbers r),
     )
 rotated_times x w a b c t u (rotates_right {m = m} {l = l} {r = r} {k = s} d h) k = elim (cases_eq m k) [
   | inl f ↦ omega (
     arith,
     rotated_times x w a b c r s h k,
-    times-node k m (numbers l) (numbers r),
-    times-node k m (numbers l) (numbers s),
-    times-same k m (numbers r) f,
-    times-same k m (numbers s) f,
+    times_node k m (numbers l) (numbers r),
+    times_node k m (numbers l) (numbers s),
+    times_same k m (numbers r) f,
+    times_same k m (numbers s) f,
   )
   | inr f ↦ omega (
     arith,
     rotated_times x w a b c r s h k,
-    times-node k m (numbers l) (numbers r),
-    times-node k m (numbers l) (numbers s),
-    times-other k m (numbers r) f,
-    times-other k m (numbers s) f,
+    times_node k m (numbers l) (numbers r),
+    times_node k m (numbers l) (numbers s),
+    times_other k m (numbers r) f,
+    times_other k m (numbers s) f,
   )
 ]
 
@@ -121,42 +122,42 @@ swapped_times : (x : ℕ) (a b t u : Numbered) → Swaps x a b t u → (k : ℕ)
 swapped_times x a b t u swaps_here k = elim (cases_eq x k) [
   | inl e ↦ omega (
     arith,
-    times-node k x (numbers a) (numbers b),
-    times-node k x (numbers b) (numbers a),
-    times-same k x (numbers a) e,
-    times-same k x (numbers b) e,
+    times_node k x (numbers a) (numbers b),
+    times_node k x (numbers b) (numbers a),
+    times_same k x (numbers a) e,
+    times_same k x (numbers b) e,
   )
   | inr d ↦ omega (
     arith,
-    times-node k x (numbers a) (numbers b),
-    times-node k x (numbers b) (numbers a),
-    times-other k x (numbers a) d,
-    times-other k x (numbers b) d,
+    times_node k x (numbers a) (numbers b),
+    times_node k x (numbers b) (numbers a),
+    times_other k x (numbers a) d,
+    times_other k x (numbers b) d,
   )
 ]
 swapped_times x a b t u (swaps_left {m = m} {l = l} {k = s} {r = r} d h) k =
     omega (
       arith,
       swapped_times x a b l s h k,
-      times-node k m (numbers l) (numbers r),
-      times-node k m (numbers s) (numbers r),
+      times_node k m (numbers l) (numbers r),
+      times_node k m (numbers s) (numbers r),
     )
 swapped_times x a b t u (swaps_right {m = m} {l = l} {r = r} {k = s} d h) k = elim (cases_eq m k) [
   | inl f ↦ omega (
     arith,
     swapped_times x a b r s h k,
-    times-node k m (numbers l) (numbers r),
-    times-node k m (numbers l) (numbers s),
-    times-same k m (numbers r) f,
-    times-same k m (numbers s) f,
+    times_node k m (numbers l) (numbers r),
+    times_node k m (numbers l) (numbers s),
+    times_same k m (numbers r) f,
+    times_same k m (numbers s) f,
   )
   | inr f ↦ omega (
     arith,
     swapped_times x a b r s h k,
-    times-node k m (numbers l) (numbers r),
-    times-node k m (numbers l) (numbers s),
-    times-other k m (numbers r) f,
-    times-other k m (numbers s) f,
+    times_node k m (numbers l) (numbers r),
+    times_node k m (numbers l) (numbers s),
+    times_other k m (numbers r) f,
+    times_other k m (numbers s) f,
   )
 ]
 
@@ -210,8 +211,8 @@ stays_right m l r u a b d z s =
 
 -- the root of a tree, with children that have the same variables
 stays_root : (m : ℕ) (l r a b : Numbered) (u : ℕ) (p q : Numbered) → m ≡ u →
-    NumberedNode m l r ≡ NumberedNode u p q → HasVariablesOf (forget l) (forget a) →
-    HasVariablesOf (forget r) (forget b) →
+    NumberedNode m l r ≡ NumberedNode u p q → HasVariablesOf (plain_tree l) (plain_tree a) →
+    HasVariablesOf (plain_tree r) (plain_tree b) →
     ((k : ℕ) → times k (numbers (NumberedNode m a b)) ≡ times k (numbers (NumberedNode m l r))) →
     Stays (NumberedNode m a b) u p q
 stays_root m l r a b u p q e f ha hb hn =
@@ -221,8 +222,8 @@ stays_root m l r a b u p q e f ha hb hn =
       new_left = a;
       new_right = b;
       at = rw (eq-eqb m u e, e) refl;
-      same_left = subst (λ s. HasVariablesOf (forget s) (forget a)) el ha;
-      same_right = subst (λ s. HasVariablesOf (forget s) (forget b)) er hb;
+      same_left = subst (λ s. HasVariablesOf (plain_tree s) (plain_tree a)) el ha;
+      same_right = subst (λ s. HasVariablesOf (plain_tree s) (plain_tree b)) er hb;
       same_numbers = λ k.
           ap (λ z. times k (numbers (NumberedNode z a b))) (sym e) ∙ hn k ∙ ap (λ z. times k (numbers z)) f;
     }
@@ -585,24 +586,24 @@ at_most_once : (t : Numbered) → IsNumbered t → AtMostOnce t
 at_most_once t v n = once_numbered t v n
 
 -- what a right rotation keeps
-pub turned-right : (t u : Numbered) (x : ℕ) → IsNumbered t → moved_number RotateRight t x ≡ Some u →
+pub turned_right : (t u : Numbered) (x : ℕ) → IsNumbered t → moved_number RotateRight t x ≡ Some u →
     (w : ℕ) × AreRotated t u x w
-turned-right t u x v e =
+turned_right t u x v e =
     let h : Rotation x t u = right_rotation t u x e in
     let once : AtMostOnce t = at_most_once t v in
     (h.lower, are_rotated t u x h once (once_rotated x h.lower h.a h.b h.c t u h.is once))
 
 -- what a left rotation keeps
-pub turned-left : (t u : Numbered) (x : ℕ) → IsNumbered t → moved_number RotateLeft t x ≡ Some u →
+pub turned_left : (t u : Numbered) (x : ℕ) → IsNumbered t → moved_number RotateLeft t x ≡ Some u →
     (w : ℕ) × AreRotated u t x w
-turned-left t u x v e =
+turned_left t u x v e =
     let h : Rotation x u t = left_rotation t u x e in
     let once : AtMostOnce t = at_most_once t v in
     (h.lower, are_rotated u t x h (once_back x h.lower h.a h.b h.c u t h.is once) once)
 
 -- what a swap keeps
-pub turned-swap : (t u : Numbered) (x : ℕ) → IsNumbered t → moved_number Swap t x ≡ Some u → AreSwapped t u x
-turned-swap t u x v e =
+pub turned_swap : (t u : Numbered) (x : ℕ) → IsNumbered t → moved_number Swap t x ≡ Some u → AreSwapped t u x
+turned_swap t u x v e =
     let h : Swapping x t u = swapping t u x e in
     let once : AtMostOnce t = at_most_once t v in
     let twice : AtMostOnce u = λ k. let s = swapped_times x h.a h.b t u h.is k in omega (arith, once k, s) in
@@ -654,24 +655,24 @@ swapped_forth x a b t u (swaps_right {m = m} {l = p} {r = q} {k = s} d h) once =
     rw (ne_eqb m x d, moved_none Swap p x z, swapped_forth x a b q s h (once_right m p q once)) refl
 
 -- the inverse move leads back
-pub inverse-numbered : (kind : Move) (t u : Numbered) (x : ℕ) → IsNumbered t → moved_number kind t x ≡ Some u →
+pub inverse_numbered : (kind : Move) (t u : Numbered) (x : ℕ) → IsNumbered t → moved_number kind t x ≡ Some u →
     moved_number (inverse_move kind) u x ≡ Some t
-inverse-numbered RotateRight t u x v e =
+inverse_numbered RotateRight t u x v e =
     let h : Rotation x t u = right_rotation t u x e in
     rotated_left x h.lower h.a h.b h.c t u h.is (at_most_once t v)
-inverse-numbered RotateLeft t u x v e =
+inverse_numbered RotateLeft t u x v e =
     let h : Rotation x u t = left_rotation t u x e in
     rotated_forth x h.lower h.a h.b h.c u t h.is (once_back x h.lower h.a h.b h.c u t h.is (at_most_once t v))
-inverse-numbered Swap t u x v e =
+inverse_numbered Swap t u x v e =
     let h : Swapping x t u = swapping t u x e in
     let once : AtMostOnce t = at_most_once t v in
     let twice : AtMostOnce u = λ k. let s = swapped_times x h.a h.b t u h.is k in omega (arith, once k, s) in
     swapped_forth x h.b h.a u t (swapped_back x h.a h.b t u h.is) twice
 
 -- the lower node is the same for both rotations
-pub lower-rotated : (t u : Numbered) (x w : ℕ) → AreRotated t u x w →
+pub lower_rotated : (t u : Numbered) (x w : ℕ) → AreRotated t u x w →
     (lower_of RotateRight t x ≡ Some w) × (lower_of RotateLeft u x ≡ Some w)
-lower-rotated t u x w h = (
+lower_rotated t u x w h = (
   ap (λ o. option_map (λ (c : ℕ × ℕ). c.0) (option_and_then child_numbers o)) h.first_upper,
   ap (λ o. option_map (λ (c : ℕ × ℕ). c.1) (option_and_then child_numbers o)) h.second_upper,
 )

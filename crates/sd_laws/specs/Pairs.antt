@@ -33,7 +33,7 @@ abbrev pub IsOneTrue : List (Diagram × Diagram) → Type 0
 IsOneTrue ds = (a : List Bool) → length (answers a ds) ≡ 1
 
 -- a partition of the node with these children; subs may be equal, and the order is free
-pub record IsSplit (left right : Tree) (base : ℕ) (ds : List (Diagram × Diagram)) : Type 0 where
+pub record IsPartition (left right : Tree) (base : ℕ) (ds : List (Diagram × Diagram)) : Type 0 where
   pub elements : AreElements left right base ds
   pub one_true : IsOneTrue ds
 

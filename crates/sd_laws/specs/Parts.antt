@@ -2,7 +2,7 @@
 use Rattle.std.specs.Prelude.{◌≡◌, ℕ, Option, Some, None, ◌==◌, if◌then◌else◌, slice_get}
 use Rattle.sd_model.specs.Tree.{Tree, Leaf, Node, position, right_base}
 use Rattle.sd_model.specs.Diagram.{Diagram, Literal, Decomposition}
-use Rattle.sd_vtree.specs.Numbered.{Numbered, numbers, forget, or_else}
+use Rattle.sd_vtree.specs.Numbered.{Numbered, numbers, plain_tree, or_else}
 
 -- s with positions counted from c is a subtree of t with positions counted from b
 pub data IsPart : Tree → ℕ → Tree → ℕ → Type 0 where
@@ -23,5 +23,5 @@ HasPosition _ p = ⊥
 
 -- the node with the number u has these children, with positions from the base on
 pub record IsInner (t : Numbered) (u : ℕ) (left right : Tree) (base : ℕ) : Type 0 where
-  pub part : IsPart (Node left right) base (forget t) 0
+  pub part : IsPart (Node left right) base (plain_tree t) 0
   pub number : slice_get (numbers t) (position (Node left right) base) ≡ Some u

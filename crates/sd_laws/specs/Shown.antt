@@ -8,8 +8,8 @@ use Rattle.sd_model.specs.Tree.{Tree}
 use Rattle.sd_model.specs.Diagram.{Diagram, Bottom, Top, Literal, Decomposition, Elements, End, Pair}
 use Rattle.sd_model.specs.Diagram.{primes, diagram_cmp}
 use Rattle.sd_model.specs.Canonical.{IsCanonical}
-use Rattle.sd_vtree.specs.Numbered.{Numbered, numbers, forget}
-use Rattle.sd_laws.specs.Pairs.{IsSplit}
+use Rattle.sd_vtree.specs.Numbered.{Numbered, numbers, plain_tree}
+use Rattle.sd_laws.specs.Pairs.{IsPartition}
 use Rattle.sd_laws.specs.Parts.{IsInner, leaf_position}
 
 -- the code of a literal
@@ -37,7 +37,7 @@ abbrev mutual
   Shows t at c Bottom = c ≡ 0
   Shows t at c Top = c ≡ 1
   Shows t at c (Literal p x positive) =
-      (c ≡ literal_code x positive) × (leaf_position (forget t) 0 x ≡ Some p)
+      (c ≡ literal_code x positive) × (leaf_position (plain_tree t) 0 x ≡ Some p)
   Shows t at c (Decomposition p elements) =
       (pairs : List (ℕ × ℕ)) × HasPairs t at c p pairs × ShowElements t at pairs elements
       × IsStrictlySortedBy diagram_cmp (primes elements)
@@ -64,16 +64,16 @@ abbrev pub Keeps : Lookup → Lookup → Type 0
 Keeps old new = (n : ℕ) (key : ℕ × List (ℕ × ℕ)) → old n ≡ Some key → new n ≡ Some key
 
 -- the code shows this diagram, which is canonical for the vtree
-pub record IsNode (t : Numbered) (at : Lookup) (c : ℕ) (d : Diagram) : Type 0 where
+pub record ShowsCanonical (t : Numbered) (at : Lookup) (c : ℕ) (d : Diagram) : Type 0 where
   pub shows : Shows t at c d
-  pub canonical : IsCanonical (forget t) 0 d
+  pub canonical : IsCanonical (plain_tree t) 0 d
 
 -- the pairs of codes show this partition of the node with the number u
-pub record IsSplitAt (t : Numbered) (at : Lookup) (u : ℕ) (pairs : List (ℕ × ℕ))
+pub record IsPartitionAt (t : Numbered) (at : Lookup) (u : ℕ) (pairs : List (ℕ × ℕ))
     (ds : List (Diagram × Diagram)) : Type 0 where
   pub left : Tree
   pub right : Tree
   pub base : ℕ
   pub inner : IsInner t u left right base
   pub shown : ShowPairs t at pairs ds
-  pub split : IsSplit left right base ds
+  pub partition : IsPartition left right base ds

@@ -5,9 +5,9 @@ use Rattle.std.specs.List.{AllByRecursion}
 use Rattle.std.specs.Option.{IsSome}
 use Rattle.sd_model.specs.Tree.{Tree, leaves}
 use Rattle.sd_model.specs.Diagram.{Diagram, Literal, meaning}
-use Rattle.sd_vtree.specs.Numbered.{Numbered, NumberedNode, forget, subtree}
+use Rattle.sd_vtree.specs.Numbered.{Numbered, NumberedNode, plain_tree, subtree}
 use Rattle.sd_laws.specs.Depends.{DependsOn}
-use Rattle.sd_laws.specs.Shown.{Lookup, literal_code, IsNode}
+use Rattle.sd_laws.specs.Shown.{Lookup, literal_code, ShowsCanonical}
 
 -- a truth function for each code
 abbrev pub Valuation : Type 0
@@ -57,8 +57,8 @@ pub record IsPlaced (t : Numbered) (v : Valuation) (place : ℕ) (list : List (�
   pub left : Numbered
   pub right : Numbered
   pub at : subtree t place ≡ Some (NumberedNode place left right)
-  pub primes : AllByRecursion (λ (e : ℕ × ℕ). DependsOn (forget left) (v e.0)) list
-  pub subs : AllByRecursion (λ (e : ℕ × ℕ). DependsOn (forget right) (v e.1)) list
+  pub primes : AllByRecursion (λ (e : ℕ × ℕ). DependsOn (plain_tree left) (v e.0)) list
+  pub subs : AllByRecursion (λ (e : ℕ × ℕ). DependsOn (plain_tree right) (v e.1)) list
 
 -- the values of constants and literals
 pub record GivesLiterals (v : Valuation) : Type 0 where
@@ -74,7 +74,7 @@ StandsIn c (e ∷ es) = (e.0 ≡ c) ⊎ ((e.1 ≡ c) ⊎ StandsIn c es)
 -- the code is of a constant, of a literal of the vtree, or of one of the nodes that P names
 abbrev pub IsCodeOf : Numbered → Lookup → (ℕ → Type 0) → ℕ → Type 0
 IsCodeOf t at P c =
-    (c < 2 * leaves (forget t) + 2) ⊎ ((n : ℕ) × (c ≡ 2050 + n) × P n × IsSome (at n))
+    (c < 2 * leaves (plain_tree t) + 2) ⊎ ((n : ℕ) × (c ≡ 2050 + n) × P n × IsSome (at n))
 
 -- Each node that P names has the value of its list, which is a compressed and trimmed partition of its place, and its
 -- list names such nodes alone. This says of a table by values what canonical diagrams say of it.
@@ -89,7 +89,7 @@ pub record AreOrderly (t : Numbered) (at : Lookup) (P : ℕ → Type 0) (v : Val
 -- the code shows a canonical diagram that has its value
 pub record ShowsValue (t : Numbered) (at : Lookup) (v : Valuation) (c : ℕ) : Type 0 where
   pub diagram : Diagram
-  pub is : IsNode t at c diagram
+  pub is : ShowsCanonical t at c diagram
   pub value : IsSame (meaning diagram) (v c)
 
 -- no two of the nodes are one function

@@ -7,7 +7,7 @@ use Rattle.std.proofs.lemmas.List.{take_all}
 use Rattle.std.proofs.lemmas.List.Sums.{sum_by_more, sum_by_more_le}
 use Rattle.std.specs.Option.{IsSome, option_map}
 use Rattle.std.specs.FinMap.{get, insert}
-use Rattle.sd_runs.proofs.Maps.{get-insert_same, get-insert_other}
+use Rattle.sd_runs.proofs.Maps.{get_insert_same, get_insert_other}
 use Rattle.sd_runs.proofs.Places.{by_cases, not_equal, eqb_same}
 use Rattle.sd_unique.specs.Nodes.{Nodes, IsNodes, key_at, uses_at}
 use Rattle.sd_unique.specs.Inserting.{with_uses}
@@ -55,12 +55,12 @@ changed a b code v f least e there here others n =
     (λ same.
     let back : 2050 + (code - 2050) ≡ code = omega arith in
     ap (λ w. get w.uses n) e ∙ ap (get (insert a.uses (code - 2050) v)) same
-    ∙ get-insert_same a.uses (code - 2050) v
+    ∙ get_insert_same a.uses (code - 2050) v
     ∙ ap Some (sym here ∙ ap (λ c. f c (uses_at a (code - 2050))) (sym back))
     ∙ ap (option_map (λ k. f (2050 + (code - 2050)) k)) (sym (count_there (get a.uses (code - 2050)) there))
     ∙ ap (λ m. option_map (λ k. f (2050 + m) k) (get a.uses m)) (sym same))
     (λ ne.
-    ap (λ w. get w.uses n) e ∙ get-insert_other a.uses (code - 2050) v n ne
+    ap (λ w. get w.uses n) e ∙ get_insert_other a.uses (code - 2050) v n ne
     ∙ map_same (f (2050 + n)) (λ k. others (2050 + n) k (λ same. ne (omega arith))) (get a.uses n))
     (cases_eq n (code - 2050))
 

@@ -7,15 +7,15 @@ use Rattle.std.specs.FinMap.{get}
 use Rattle.sd_model.specs.Tree.{leaves}
 use Rattle.sd_model.specs.Diagram.{Diagram, Decomposition, Elements, End, Pair, meaning, some_element}
 use Rattle.sd_model.specs.Canonical.{IsElement, first, later}
-use Rattle.sd_vtree.specs.Numbered.{forget}
+use Rattle.sd_vtree.specs.Numbered.{plain_tree}
 use Rattle.sd_laws.specs.Depth.{depth}
-use Rattle.sd_laws.proofs.Codes.{leaf-range}
-use Rattle.sd_laws.proofs.Depths.{depth-element}
+use Rattle.sd_laws.proofs.Codes.{leaf_range}
+use Rattle.sd_laws.proofs.Depths.{depth_element}
 use Rattle.sd_laws.proofs.Lists.{IsAmong}
-use Rattle.sd_laws.proofs.Nodes.{elements-canonical, chosen-value, pair-stored, partition-of_canonical}
+use Rattle.sd_laws.proofs.Nodes.{elements_canonical, chosen_value, pair_stored, partition_of_canonical}
 use Rattle.sd_manager.specs.declared.view.View.TheVariants.{Literal as LiteralView, Decomposition as DecompositionView}
 use Rattle.sd_manager.specs.Table.{Table}
-use Rattle.sd_manager.specs.Shown.{IsShown}
+use Rattle.sd_manager.specs.Shown.{ShowsCanonical}
 use Rattle.sd_manager.specs.Literals.{literal_of, IsLiteralTo}
 use Rattle.sd_manager.specs.Views.{view_of, pairs_at, IsViewOf}
 use Rattle.sd_manager.specs.Valid.{IsTable}
@@ -27,26 +27,27 @@ literal_range x n true low high = (low, high)
 literal_range x n false low high = omega arith
 
 pub literal_fits : (t : Table) → IsTable t → (l : ℤ) (d : Diagram) → IsViewOf t (LiteralView l) d →
-    IsLiteralTo (leaves (forget t.vtree)) l
+    IsLiteralTo (leaves (plain_tree t.vtree)) l
 literal_fits t i l d h =
-    let r = leaf-range (forget t.vtree) i.numbered.vtree 0 h.1 h.0 h.5 in
-    subst (IsLiteralTo (leaves (forget t.vtree))) (sym h.4) (literal_range h.1 (leaves (forget t.vtree)) h.2 r.0 r.1)
+    let r = leaf_range (plain_tree t.vtree) i.numbered.vtree 0 h.1 h.0 h.5 in
+    subst (IsLiteralTo (leaves (plain_tree t.vtree))) (sym h.4)
+    (literal_range h.1 (leaves (plain_tree t.vtree)) h.2 r.0 r.1)
 
 -- A pair that is read of a decomposition shows a prime and a sub that are canonical and less deep.
 pub record HasChildren (t : Table) (pair : ℕ × ℕ) (p : ℕ) (es : Elements) : Type 0 where
   pub prime : Diagram
   pub sub : Diagram
-  pub prime_is : IsShown t pair.0 prime
-  pub sub_is : IsShown t pair.1 sub
+  pub prime_is : ShowsCanonical t pair.0 prime
+  pub sub_is : ShowsCanonical t pair.1 sub
   pub prime_depth : depth prime < depth (Decomposition p es)
   pub sub_depth : depth sub < depth (Decomposition p es)
 
-pub children : (t : Table) (c p i : ℕ) (es : Elements) (e : ℕ × ℕ) → IsShown t c (Decomposition p es) →
+pub children : (t : Table) (c p i : ℕ) (es : Elements) (e : ℕ × ℕ) → ShowsCanonical t c (Decomposition p es) →
     slice_get (pairs_at t c) i ≡ Some e → HasChildren t e p es
 children t c p i es e h is =
     let k = element_fits t c p i es e is h.shows in
-    let fits = elements-canonical h.canonical k.prime k.sub k.member in
-    let deep = depth-element p k.member in
+    let fits = elements_canonical h.canonical k.prime k.sub k.member in
+    let deep = depth_element p k.member in
     record {
       prime = k.prime;
       sub = k.sub;
@@ -58,7 +59,7 @@ children t c p i es e h is =
 
 -- the primes of the pairs before this place are false
 pub record HasPassed (t : Table) (c i : ℕ) (a : List Bool) : Type 0 where
-  pub each : (k : ℕ) (e : ℕ × ℕ) (x : Diagram) → k < i → slice_get (pairs_at t c) k ≡ Some e → IsShown t e.0 x →
+  pub each : (k : ℕ) (e : ℕ × ℕ) (x : Diagram) → k < i → slice_get (pairs_at t c) k ≡ Some e → ShowsCanonical t e.0 x →
       meaning x a ≡ false
 
 pub passed_none : (t : Table) (c : ℕ) (a : List Bool) → HasPassed t c 0 a
@@ -66,28 +67,29 @@ passed_none t c a = record { each = λ k e x below is h. absurd (omega arith) }
 
 -- one pair more
 pub passed_more : (t : Table) (c i : ℕ) (a : List Bool) (e : ℕ × ℕ) → HasPassed t c i a →
-    slice_get (pairs_at t c) i ≡ Some e → ((x : Diagram) → IsShown t e.0 x → meaning x a ≡ false) →
+    slice_get (pairs_at t c) i ≡ Some e → ((x : Diagram) → ShowsCanonical t e.0 x → meaning x a ≡ false) →
     HasPassed t c (i + 1) a
 passed_more t c i a e h is here = record {
   each = λ k f x below there shown. elim (cases_eq k i) [
     | inl same ↦
         let both : Some f ≡ Some e = sym there ∙ ap (slice_get (pairs_at t c)) same ∙ is in
         let pair : f ≡ e = cc in
-        here x (subst (λ g. IsShown t g.0 x) pair shown)
+        here x (subst (λ g. ShowsCanonical t g.0 x) pair shown)
     | inr differ ↦ h.each k f x (omega arith) there shown
   ];
 }
 
 -- where a prime is true the value is that of its sub
-pub chosen : (t : Table) → IsTable t → (c p i : ℕ) (es : Elements) (e : ℕ × ℕ) → IsShown t c (Decomposition p es) →
+pub chosen : (t : Table) → IsTable t → (c p i : ℕ) (es : Elements) (e : ℕ × ℕ)
+    → ShowsCanonical t c (Decomposition p es) →
     slice_get (pairs_at t c) i ≡ Some e → (a : List Bool) → (h : HasChildren t e p es) → meaning h.prime a ≡ true →
     meaning (Decomposition p es) a ≡ meaning h.sub a
 chosen t i c p j es e shown is a h holds =
     let k = shown.shows.1 in
     let pairs : pairs_at t c ≡ k.list =
     pairs_node t c k.number (k.place, k.list) k.code (linked_key t k.number (k.place, k.list) k.stored) in
-    chosen-value t.vtree (get t.linked) i.numbered c p es shown.shows
-    (partition-of_canonical shown.canonical) k.number k.place k.list k.code
+    chosen_value t.vtree (get t.linked) i.numbered c p es shown.shows
+    (partition_of_canonical shown.canonical) k.number k.place k.list k.code
     k.stored e (among_at k.list j e (subst (λ l. slice_get l j ≡ Some e) pairs is)) h.prime h.sub h.prime_is.shows
     h.sub_is.shows a holds
 
@@ -112,7 +114,7 @@ none_true End a h = refl
 none_true (Pair p s rest) a h =
     rw (h p s first) (none_true rest a (λ x y m. h x y (later m)))
 
-pub all_passed : (t : Table) → IsTable t → (c p i : ℕ) (es : Elements) → IsShown t c (Decomposition p es) →
+pub all_passed : (t : Table) → IsTable t → (c p i : ℕ) (es : Elements) → ShowsCanonical t c (Decomposition p es) →
     (a : List Bool) → HasPassed t c i a → length (pairs_at t c) ≤ i → meaning (Decomposition p es) a ≡ false
 all_passed t i c p j es shown a h done = none_true es a no_prime
   where
@@ -121,15 +123,15 @@ all_passed t i c p j es shown a h done = none_true es a no_prime
         let k = shown.shows.1 in
         let pairs : pairs_at t c ≡ k.list =
         pairs_node t c k.number (k.place, k.list) k.code (linked_key t k.number (k.place, k.list) k.stored) in
-        let r = pair-stored t.vtree (get t.linked) c p es shown.shows k.number k.place k.list k.code k.stored x s m in
+        let r = pair_stored t.vtree (get t.linked) c p es shown.shows k.number k.place k.list k.code k.stored x s m in
         let w = stands_at r.0 k.list r.1 in
-        let fits = elements-canonical shown.canonical x s m in
+        let fits = elements_canonical shown.canonical x s m in
         h.each w.place r.0 x (omega (arith, w.inside, ap length pairs))
         (subst (λ l. slice_get l w.place ≡ Some r.0) (sym pairs) w.is)
         (record { shows = r.2; canonical = fits.0 })
 
 -- the number of elements that is read is that of the pairs
-pub count_is : (t : Table) (c place n p : ℕ) (es : Elements) → IsShown t c (Decomposition p es) →
+pub count_is : (t : Table) (c place n p : ℕ) (es : Elements) → ShowsCanonical t c (Decomposition p es) →
     DecompositionView place n ≡ view_of t c → length (pairs_at t c) ≡ n
 count_is t c place n p es shown e =
     let k = shown.shows.1 in

@@ -8,36 +8,36 @@ use Rattle.std.proofs.lemmas.List.{get_or-set_same, get_or-set_other}
 use Rattle.std.specs.Option.{IsSome}
 use Rattle.std.specs.Ordering.{nat_cmp, eq_by_cmp}
 use Rattle.std.specs.FinMap.{FinMap, get, insert, remove, find, get-from_entries}
-use Rattle.sd_runs.proofs.Maps.{tied, apart, same_at_each, get-insert_same, get-insert_other}
-use Rattle.sd_runs.proofs.Maps.{get-remove_same, get-remove_other}
+use Rattle.sd_runs.proofs.Maps.{tied, apart, same_at_each, get_insert_same, get_insert_other}
+use Rattle.sd_runs.proofs.Maps.{get_remove_same, get_remove_other}
 use Rattle.sd_runs.proofs.Places.{by_cases}
 use Rattle.sd_manager.specs.Stored.{held_from, held_map}
 
 -- no entry has a number below the first
-find-before : (q i : ℕ) (slots : List (Option ℕ)) → q < i → find nat_cmp q (held_from i slots) ≡ None
-find-before q i [] h = refl
-find-before q i (None ∷ slots) h = find-before q (i + 1) slots (omega arith)
-find-before q i (Some c ∷ slots) h =
+find_before : (q i : ℕ) (slots : List (Option ℕ)) → q < i → find nat_cmp q (held_from i slots) ≡ None
+find_before q i [] h = refl
+find_before q i (None ∷ slots) h = find_before q (i + 1) slots (omega arith)
+find_before q i (Some c ∷ slots) h =
     ap (λ b. cond b (Some c) (find nat_cmp q (held_from (i + 1) slots))) (apart q i (λ e. omega arith))
-    ∙ find-before q (i + 1) slots (omega arith)
+    ∙ find_before q (i + 1) slots (omega arith)
 
 -- the entry of a slot is what stands in it
-find-held : (k i q : ℕ) (slots : List (Option ℕ)) → k ≡ i + q → find nat_cmp k (held_from i slots) ≡ get_or
+find_held : (k i q : ℕ) (slots : List (Option ℕ)) → k ≡ i + q → find nat_cmp k (held_from i slots) ≡ get_or
     slots q None
-find-held k i q [] e = refl
-find-held k i zero (None ∷ slots) e = find-before k (i + 1) slots (omega arith)
-find-held k i (suc q) (None ∷ slots) e = find-held k (i + 1) q slots (omega arith)
-find-held k i zero (Some c ∷ slots) e =
+find_held k i q [] e = refl
+find_held k i zero (None ∷ slots) e = find_before k (i + 1) slots (omega arith)
+find_held k i (suc q) (None ∷ slots) e = find_held k (i + 1) q slots (omega arith)
+find_held k i zero (Some c ∷ slots) e =
     let same : k ≡ i = omega arith in
     ap (λ b. cond b (Some c) (find nat_cmp k (held_from (i + 1) slots)))
     (ap (λ j. eq_by_cmp nat_cmp k j) (sym same) ∙ tied k)
-find-held k i (suc q) (Some c ∷ slots) e =
+find_held k i (suc q) (Some c ∷ slots) e =
     ap (λ b. cond b (Some c) (find nat_cmp k (held_from (i + 1) slots))) (apart k i (λ same. omega arith))
-    ∙ find-held k (i + 1) q slots (omega arith)
+    ∙ find_held k (i + 1) q slots (omega arith)
 
 -- the map has what stands in the slot
-pub get-held : (slots : List (Option ℕ)) (q : ℕ) → get (held_map slots) q ≡ get_or slots q None
-get-held slots q = get-from_entries nat_cmp_total (held_from 0 slots) q ∙ find-held q 0 q slots (omega arith)
+pub get_held : (slots : List (Option ℕ)) (q : ℕ) → get (held_map slots) q ≡ get_or slots q None
+get_held slots q = get-from_entries nat_cmp_total (held_from 0 slots) q ∙ find_held q 0 q slots (omega arith)
 
 -- a root has a slot
 pub held_inside : (slots : List (Option ℕ)) (q : ℕ) → IsSome (get_or slots q None) → q < length slots
@@ -62,11 +62,11 @@ pub held_push : (slots : List (Option ℕ)) (c n : ℕ) → n ≡ length slots �
     held_map (slots ++ Some c ∷ []) ≡ insert (held_map slots) n c
 held_push slots c n at =
     same_at_each _ _ (λ q. by_cases
-    (λ e. get-held (slots ++ Some c ∷ []) q ∙ ap (λ k. get_or (slots ++ Some c ∷ []) k None) (e ∙ at)
+    (λ e. get_held (slots ++ Some c ∷ []) q ∙ ap (λ k. get_or (slots ++ Some c ∷ []) k None) (e ∙ at)
     ∙ get_or_pushed slots (Some c)
-    ∙ sym (ap (get (insert (held_map slots) n c)) e ∙ get-insert_same (held_map slots) n c))
-    (λ ne. get-held (slots ++ Some c ∷ []) q ∙ get_or_before slots (Some c) q (λ e. ne (e ∙ sym at))
-    ∙ sym (get-held slots q) ∙ sym (get-insert_other (held_map slots) n c q ne))
+    ∙ sym (ap (get (insert (held_map slots) n c)) e ∙ get_insert_same (held_map slots) n c))
+    (λ ne. get_held (slots ++ Some c ∷ []) q ∙ get_or_before slots (Some c) q (λ e. ne (e ∙ sym at))
+    ∙ sym (get_held slots q) ∙ sym (get_insert_other (held_map slots) n c q ne))
     (cases_eq q n))
 
 -- a code in a slot is the slot's entry
@@ -74,11 +74,11 @@ pub held_set : (slots : List (Option ℕ)) (i c : ℕ) → i < length slots →
     held_map (set slots i (Some c)) ≡ insert (held_map slots) i c
 held_set slots i c inside =
     same_at_each _ _ (λ q. by_cases
-    (λ e. get-held (set slots i (Some c)) q ∙ ap (λ k. get_or (set slots i (Some c)) k None) e
+    (λ e. get_held (set slots i (Some c)) q ∙ ap (λ k. get_or (set slots i (Some c)) k None) e
     ∙ get_or-set_same slots i (Some c) None inside
-    ∙ sym (ap (get (insert (held_map slots) i c)) e ∙ get-insert_same (held_map slots) i c))
-    (λ ne. get-held (set slots i (Some c)) q ∙ get_or-set_other slots i q (Some c) None ne
-    ∙ sym (get-held slots q) ∙ sym (get-insert_other (held_map slots) i c q ne))
+    ∙ sym (ap (get (insert (held_map slots) i c)) e ∙ get_insert_same (held_map slots) i c))
+    (λ ne. get_held (set slots i (Some c)) q ∙ get_or-set_other slots i q (Some c) None ne
+    ∙ sym (get_held slots q) ∙ sym (get_insert_other (held_map slots) i c q ne))
     (cases_eq q i))
 
 -- an emptied slot has no entry
@@ -86,18 +86,18 @@ pub held_empty : (slots : List (Option ℕ)) (i : ℕ) → i < length slots →
     held_map (set slots i None) ≡ remove (held_map slots) i
 held_empty slots i inside =
     same_at_each _ _ (λ q. by_cases
-    (λ e. get-held (set slots i None) q ∙ ap (λ k. get_or (set slots i None) k None) e
+    (λ e. get_held (set slots i None) q ∙ ap (λ k. get_or (set slots i None) k None) e
     ∙ get_or-set_same slots i None None inside
-    ∙ sym (ap (get (remove (held_map slots) i)) e ∙ get-remove_same (held_map slots) i))
-    (λ ne. get-held (set slots i None) q ∙ get_or-set_other slots i q None None ne
-    ∙ sym (get-held slots q) ∙ sym (get-remove_other (held_map slots) i q ne))
+    ∙ sym (ap (get (remove (held_map slots) i)) e ∙ get_remove_same (held_map slots) i))
+    (λ ne. get_held (set slots i None) q ∙ get_or-set_other slots i q None None ne
+    ∙ sym (get_held slots q) ∙ sym (get_remove_other (held_map slots) i q ne))
     (cases_eq q i))
 
 -- what a root holds stands in its slot
 pub held_there : (slots : List (Option ℕ)) (m : FinMap nat_cmp ℕ) (i root : ℕ) → held_map slots ≡ m → i ≡ root →
     get m root ≡ get_or slots i None
 held_there slots m i root e same =
-    ap (λ n. get n root) (sym e) ∙ get-held slots root ∙ ap (λ k. get_or slots k None) (sym same)
+    ap (λ n. get n root) (sym e) ∙ get_held slots root ∙ ap (λ k. get_or slots k None) (sym same)
 
 -- inside the slots the default plays no part
 pub held_value : (slots : List (Option ℕ)) (i : ℕ) (d : Option ℕ) → i < length slots →

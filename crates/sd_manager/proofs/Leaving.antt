@@ -3,7 +3,7 @@ use Rattle.std.proofs.Common.{◌≡◌, ℕ, ◌+◌, ◌≤◌, List, [], Opti
 use Rattle.std.specs.Option.{IsSome, option_map}
 use Rattle.std.specs.Ordering.{nat_cmp}
 use Rattle.std.specs.FinMap.{FinMap, get}
-use Rattle.sd_runs.proofs.Maps.{get-insert_same}
+use Rattle.sd_runs.proofs.Maps.{get_insert_same}
 use Rattle.sd_vtree.specs.Numbered.{Numbered}
 use Rattle.sd_unique.specs.Nodes.{Nodes, IsNodes, or_else}
 use Rattle.sd_unique.specs.Relinking.{unlinked, removed}
@@ -49,7 +49,7 @@ module _ (v : Numbered) (a : Nodes) (m : FinMap nat_cmp ℕ) (e : ℕ) (g : Opti
 
     -- it is a detached one
     detached_is : get d.detached n ≡ Some key.0
-    detached_is = ap (λ x. get x.detached n) out_is ∙ get-insert_same b.detached n key.0
+    detached_is = ap (λ x. get x.detached n) out_is ∙ get_insert_same b.detached n key.0
 
     pub leaving_detached : IsSome (get d.detached n)
     leaving_detached = subst IsSome (sym detached_is) refl

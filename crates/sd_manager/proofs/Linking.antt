@@ -10,32 +10,32 @@ use Rattle.std.specs.List.Sorted.{IsPermutation, IsSorted, IsStrictlySortedBy}
 use Rattle.std.specs.Option.{IsSome, option_map}
 use Rattle.std.specs.Ordering.{nat_cmp, eq_by_cmp}
 use Rattle.std.specs.FinMap.{FinMap, get, insert, len, len-entries, keys, entries, contains_key-keys}
-use Rattle.sd_runs.proofs.Maps.{apart, get-insert_same, get-insert_other}
+use Rattle.sd_runs.proofs.Maps.{apart, get_insert_same, get_insert_other}
 use Rattle.sd_runs.proofs.Places.{by_cases}
 use Rattle.sd_runs.specs.declared.error.TakeError.{TakeError}
 use Rattle.sd_runs.specs.declared.error.TakeError.TheVariants.{ArenaFull, OutOfMemory}
 use Rattle.sd_model.specs.Tree.{leaves, AreDistinct}
 use Rattle.sd_model.specs.Diagram.{Diagram}
-use Rattle.sd_vtree.specs.Numbered.{Numbered, or_else, forget}
+use Rattle.sd_vtree.specs.Numbered.{Numbered, or_else, plain_tree}
 use Rattle.sd_unique.specs.Nodes.{Nodes, IsNodes, key_at as key_of_nodes, or_else as or_else_of_nodes, free_count}
 use Rattle.sd_unique.specs.Inserting.{inserted, extent_after, IsNewNumber, IsFull as IsFullOfNodes}
 use Rattle.sd_unique.specs.Inserting.{IsRefusal as IsRefusalOfNodes}
 use Rattle.sd_laws.specs.Shown.{ShowPairs, Keeps}
 use Rattle.sd_laws.specs.Trimming.{trim_of}
-use Rattle.sd_laws.proofs.Codes.{shows-kept}
-use Rattle.sd_laws.proofs.Lists.{IsAmong, all-weaker}
-use Rattle.sd_laws.proofs.Made.{made-trimmed, made-node, made-several, sorted-codes}
-use Rattle.sd_laws.proofs.Nodes.{pair_cmp, split-permuted}
-use Rattle.sd_laws.proofs.Pigeons.{few-pairs}
+use Rattle.sd_laws.proofs.Codes.{shows_kept}
+use Rattle.sd_laws.proofs.Lists.{IsAmong, all_weaker}
+use Rattle.sd_laws.proofs.Made.{makes_trimmed, made_node, made_several, sorted_codes}
+use Rattle.sd_laws.proofs.Nodes.{pair_cmp, partition_permuted}
+use Rattle.sd_laws.proofs.Pigeons.{within_limit_pairs}
 use Rattle.sd_manager.specs.Table.{Table, key_at, uses_of, uses_in}
-use Rattle.sd_manager.specs.Shown.{IsKnown, IsPartitionAt, HasNode, AreThere}
+use Rattle.sd_manager.specs.Shown.{IsNodeOf, IsPartitionAt, HasNode, AreThere}
 use Rattle.sd_manager.specs.Valid.{IsTable, IsSettled}
 use Rattle.sd_manager.specs.Making.{Extends, IsMade, IsFull, IsRefusal, IsPastBound, KeepsRule, HasNewNode}
 use Rattle.sd_manager.specs.Making.{IsNewNumber as IsNewNumberOfTable}
 use Rattle.sd_manager.specs.Stored.{table_of, IsStored}
 use Rattle.sd_manager.specs.Counting.{IsCounted, AreCounted, AddsUses}
 use Rattle.sd_manager.proofs.Totals.{total_new, total_without, sum_twos}
-use Rattle.sd_manager.proofs.Holding.{there_counted, count_is, uses_in-le, uses_fit}
+use Rattle.sd_manager.proofs.Holding.{there_counted, count_is, uses_in_le, uses_fit}
 use Rattle.sd_manager.proofs.Reading.{linked_key, detached_key, key_again, shown_has_node, not_there}
 use Rattle.sd_manager.proofs.Unused.{not_used}
 
@@ -57,15 +57,15 @@ any_among n (k ∷ ns) e = elim (cases_eq n k) [
 some_among : {X : Type 0} (m : FinMap nat_cmp X) (n : ℕ) → IsSome (get m n) → IsAmong n (keys m)
 some_among m n h = any_among n (keys m) (sym (contains_key-keys m n) ∙ h)
 
-length-keys : {X : Type 0} (m : FinMap nat_cmp X) → length (keys m) ≡ len m
-length-keys {X} m = length-map (entries m) (λ (e : ℕ × X). e.0) ∙ sym (len-entries m)
+length_keys : {X : Type 0} (m : FinMap nat_cmp X) → length (keys m) ≡ len m
+length_keys {X} m = length-map (entries m) (λ (e : ℕ × X). e.0) ∙ sym (len-entries m)
 
 -- a list that is asked for
 pub record IsAsked (v : Numbered) (a : Nodes) (m : FinMap nat_cmp ℕ) (e : ℕ) (g : Option ℕ) (u : ℕ)
     (elements l : List (ℕ × ℕ)) :
     Type 0 where
   pub stored : IsStored a (table_of v a m e g)
-  pub some : (ds : List (Diagram × Diagram)) × IsPartitionAt (table_of v a m e g) u elements ds
+  pub one_partition : (ds : List (Diagram × Diagram)) × IsPartitionAt (table_of v a m e g) u elements ds
   pub differ : AreDistinct (map (λ e. e.1) elements)
   pub order : IsPermutation elements l
   pub up : IsSorted pair_cmp l
@@ -76,36 +76,37 @@ module _ (v : Numbered) (a : Nodes) (m : FinMap nat_cmp ℕ) (e : ℕ) (g : Opti
   -- what is trimmed shows the partition
   pub made_trimmed : (c : ℕ) → trim_of l ≡ Some c → (ds : List (Diagram × Diagram)) →
       IsPartitionAt (table_of v a m e g) u elements ds → IsMade (table_of v a m e g) c ds
-  made_trimmed c trim ds split =
-      let z = made-trimmed v (get a.linked) h.stored.table.numbered u elements l ds split h.order c trim in
+  made_trimmed c trim ds partition =
+      let z = makes_trimmed v (get a.linked) h.stored.table.numbered u elements l ds partition h.order c trim in
       record { diagram = z.0; is = z.1; value = z.2 }
 
   module _ (none : trim_of l ≡ None) where
     -- a node with the pairs shows it
     pub made_found : (n : ℕ) → get a.linked n ≡ Some (u, l) → (ds : List (Diagram × Diagram)) →
         IsPartitionAt (table_of v a m e g) u elements ds → IsMade (table_of v a m e g) (n + 2050) ds
-    made_found n found ds split =
-        let z = made-node v (get a.linked) (get a.linked) h.stored.table.numbered h.stored.table.keys u n
+    made_found n found ds partition =
+        let z = made_node v (get a.linked) (get a.linked) h.stored.table.numbered h.stored.table.keys u n
         elements l ds
-        split h.order h.differ none (λ q k there. there) found in
+        partition h.order h.differ none (λ q k there. there) found in
         let code : 2050 + n ≡ n + 2050 = omega arith in
         subst (λ c. IsMade (table_of v a m e g) c ds) code (record { diagram = z.0; is = z.1; value = z.2 })
 
     -- there are two pairs or more
     pub two_pairs : 2 ≤ length l
     two_pairs =
-        made-several v (get a.linked) h.stored.table.numbered h.stored.table.keys u elements l h.some.0
-        h.some.1 h.order
+        made_several v (get a.linked) h.stored.table.numbered h.stored.table.keys u elements l h.one_partition.0
+        h.one_partition.1 h.order
         h.differ none
 
-    few_elements : length elements ≤ a.extent / 2 + 2 * leaves (forget v) + 2
+    few_elements : length elements ≤ a.extent / 2 + 2 * leaves (plain_tree v) + 2
     few_elements =
         let i = h.stored.table in
-        let most = few-pairs v (get a.linked) i.numbered (keys a.linked) (some_among a.linked) elements h.some.0
-        h.some.1.shown h.differ in
+        let most = within_limit_pairs v (get a.linked) i.numbered (keys a.linked) (some_among a.linked) elements
+        h.one_partition.0
+        h.one_partition.1.shown h.differ in
         let own = sum_twos (λ (k : ℕ × List (ℕ × ℕ)). length k.1) a.linked
         (λ q k there. i.several q k (linked_key (table_of v a m e g) q k there)) in
-        omega (arith, most, own, length-keys a.linked, i.total)
+        omega (arith, most, own, length_keys a.linked, i.total)
 
     -- where there is no room, the bound is passed by no more than the rule says
     pub past_bound : (n : ℕ) → a.bound < a.extent + length l → n ≡ a.extent + length l →
@@ -157,14 +158,14 @@ module _ (v : Numbered) (a : Nodes) (m : FinMap nat_cmp ℕ) (e : ℕ) (g : Opti
 
       -- the node is linked
       pub linked_new : get (insert a.linked n (u, l)) n ≡ Some (u, l)
-      linked_new = get-insert_same a.linked n (u, l)
+      linked_new = get_insert_same a.linked n (u, l)
 
       -- and all others stay
       pub keeps : Keeps (get a.linked) (get (insert a.linked n (u, l)))
       keeps q k there =
           by_cases
           (λ same. let none : None ≡ Some k = sym absent ∙ ap (get a.linked) (sym same) ∙ there in absurd (cc))
-          (λ ne. get-insert_other a.linked n (u, l) q ne ∙ there)
+          (λ ne. get_insert_other a.linked n (u, l) q ne ∙ there)
           (cases_eq q n)
 
       -- the table with the new node
@@ -182,7 +183,7 @@ module _ (v : Numbered) (a : Nodes) (m : FinMap nat_cmp ℕ) (e : ℕ) (g : Opti
           inl (same, same_key (u, l) k both))
           (λ ne.
           let rest : Option (ℕ × List (ℕ × ℕ)) → Option (ℕ × List (ℕ × ℕ)) = λ x. or_else x (get a.detached q) in
-          inr (sym (ap rest (get-insert_other a.linked n (u, l) q ne)) ∙ there))
+          inr (sym (ap rest (get_insert_other a.linked n (u, l) q ne)) ∙ there))
           (cases_eq q n)
         where
           same_key : (x y : ℕ × List (ℕ × ℕ)) → ◌≡◌ {A = Option (ℕ × List (ℕ × ℕ))} (Some x) (Some y) → x ≡ y
@@ -199,7 +200,7 @@ module _ (v : Numbered) (a : Nodes) (m : FinMap nat_cmp ℕ) (e : ℕ) (g : Opti
       key_kept : (q : ℕ) (k : ℕ × List (ℕ × ℕ)) → key_at (table_of v a m e g) q ≡ Some k → key_at grown q ≡ Some k
       key_kept q k old =
           let rest : Option (ℕ × List (ℕ × ℕ)) → Option (ℕ × List (ℕ × ℕ)) = λ x. or_else x (get a.detached q) in
-          ap rest (get-insert_other a.linked n (u, l) q (not_new q k old)) ∙ old
+          ap rest (get_insert_other a.linked n (u, l) q (not_new q k old)) ∙ old
 
       -- a code that is there stays there
       there_kept : (c : ℕ) → HasNode (table_of v a m e g) c → HasNode grown c
@@ -215,14 +216,14 @@ module _ (v : Numbered) (a : Nodes) (m : FinMap nat_cmp ℕ) (e : ℕ) (g : Opti
       -- and so do the codes of a list
       all_kept : (k : List (ℕ × ℕ)) → AreThere (table_of v a m e g) k → AreThere grown k
       all_kept k there =
-          all-weaker (λ (p : ℕ × ℕ). HasNode (table_of v a m e g) p.0 × HasNode (table_of v a m e g) p.1)
+          all_weaker (λ (p : ℕ × ℕ). HasNode (table_of v a m e g) p.0 × HasNode (table_of v a m e g) p.1)
           (λ (p : ℕ × ℕ). HasNode grown p.0 × HasNode grown p.1)
           (λ p both. (there_kept p.0 both.0, there_kept p.1 both.1)) k there
 
       -- the codes of the list are there
       pub list_there : AreThere grown l
       list_there =
-          let f = split-permuted v (get a.linked) u elements l h.some.0 h.some.1 h.order in
+          let f = partition_permuted v (get a.linked) u elements l h.one_partition.0 h.one_partition.1 h.order in
           all_kept l (go l f.0 f.2.shown)
         where
           go : (k : List (ℕ × ℕ)) (ds : List (Diagram × Diagram)) → ShowPairs v (get a.linked) k ds →
@@ -240,7 +241,7 @@ module _ (v : Numbered) (a : Nodes) (m : FinMap nat_cmp ℕ) (e : ℕ) (g : Opti
       -- so they are counted
       pub list_counted : AreCounted (inserted a n u l) l
       list_counted =
-          all-weaker (λ (p : ℕ × ℕ). HasNode grown p.0 × HasNode grown p.1)
+          all_weaker (λ (p : ℕ × ℕ). HasNode grown p.0 × HasNode grown p.1)
           (λ (p : ℕ × ℕ). IsCounted (inserted a n u l) p.0 × IsCounted (inserted a n u l) p.1)
           (λ p both. (
             there_counted v (inserted a n u l) m e g p.0 h.stored.table.numbered both.0,
@@ -253,13 +254,13 @@ module _ (v : Numbered) (a : Nodes) (m : FinMap nat_cmp ℕ) (e : ℕ) (g : Opti
       list_room short q k is =
           by_cases
           (λ same.
-          let zero : Some 0 ≡ Some k = sym (get-insert_same a.uses n 0) ∙ ap (get (insert a.uses n 0))
+          let zero : Some 0 ≡ Some k = sym (get_insert_same a.uses n 0) ∙ ap (get (insert a.uses n 0))
           (sym same) ∙ is in
           let none : 0 ≡ k = cc in
-          omega (arith, uses_in-le (2050 + q) l))
+          omega (arith, uses_in_le (2050 + q) l))
           (λ ne.
-          let old = count_is v a m e g h.stored q k (sym (get-insert_other a.uses n 0 q ne) ∙ is) in
-          omega (arith, old, uses_fit (table_of v a m e g) (2050 + q) h.stored.table, uses_in-le (2050 + q) l))
+          let old = count_is v a m e g h.stored q k (sym (get_insert_other a.uses n 0 q ne) ∙ is) in
+          omega (arith, old, uses_fit (table_of v a m e g) (2050 + q) h.stored.table, uses_in_le (2050 + q) l))
           (cases_eq q n)
 
       -- the manager with the new node, whose uses are w
@@ -268,12 +269,12 @@ module _ (v : Numbered) (a : Nodes) (m : FinMap nat_cmp ℕ) (e : ℕ) (g : Opti
           (counts : (q : ℕ) → get w q ≡ option_map (λ k. k + uses_in (2050 + q) l) (get (insert a.uses n 0) q))
           (valid : IsNodes (record (inserted a n u l) { uses = w })) where
         -- what was known is known
-        known_kept : (c : ℕ) → IsKnown (table_of v a m e g) c →
-            IsKnown (table_of v (record (inserted a n u l) { uses = w }) m e g) c
+        known_kept : (c : ℕ) → IsNodeOf (table_of v a m e g) c →
+            IsNodeOf (table_of v (record (inserted a n u l) { uses = w }) m e g) c
         known_kept c k = record {
           diagram = k.diagram;
           is = record {
-            shows = shows-kept v (get a.linked) (get (insert a.linked n (u, l))) keeps k.diagram c k.is.shows;
+            shows = shows_kept v (get a.linked) (get (insert a.linked n (u, l))) keeps k.diagram c k.is.shows;
             canonical = k.is.canonical;
           };
         }
@@ -281,9 +282,9 @@ module _ (v : Numbered) (a : Nodes) (m : FinMap nat_cmp ℕ) (e : ℕ) (g : Opti
         -- the new node shows the partition
         pub made_new : (ds : List (Diagram × Diagram)) → IsPartitionAt (table_of v a m e g) u elements ds →
             IsMade (table_of v (record (inserted a n u l) { uses = w }) m e g) (n + 2050) ds
-        made_new ds split =
-            let z = made-node v (get a.linked) (get (insert a.linked n (u, l))) h.stored.table.numbered
-            h.stored.table.keys u n elements l ds split h.order h.differ none keeps linked_new in
+        made_new ds partition =
+            let z = made_node v (get a.linked) (get (insert a.linked n (u, l))) h.stored.table.numbered
+            h.stored.table.keys u n elements l ds partition h.order h.differ none keeps linked_new in
             let code : 2050 + n ≡ n + 2050 = omega arith in
             subst (λ c. IsMade (table_of v (record (inserted a n u l) { uses = w }) m e g) c ds) code
             (record { diagram = z.0; is = z.1; value = z.2 })
@@ -308,7 +309,7 @@ module _ (v : Numbered) (a : Nodes) (m : FinMap nat_cmp ℕ) (e : ℕ) (g : Opti
             linked_before : (q : ℕ) (k : ℕ × List (ℕ × ℕ)) → get (insert a.linked n (u, l)) q ≡ Some k →
                 key_at (table_of v a m e g) q ≡ Some k → get a.linked q ≡ Some k
             linked_before q k there before =
-                sym (get-insert_other a.linked n (u, l) q (not_new q k before)) ∙ there
+                sym (get_insert_other a.linked n (u, l) q (not_new q k before)) ∙ there
 
         pub new_table : IsTable (table_of v (record (inserted a n u l) { uses = w }) m e g)
         new_table = record {
@@ -316,16 +317,17 @@ module _ (v : Numbered) (a : Nodes) (m : FinMap nat_cmp ℕ) (e : ℕ) (g : Opti
           keys = record {
             distinct = λ q r k there here. valid.unique q r k there here;
             ascending = each_linked (λ q k. IsStrictlySortedBy nat_cmp (map (λ e. e.0) k.1))
-                (sorted-codes v (get a.linked) h.stored.table.numbered u elements l h.some.0 h.some.1 h.order h.up)
+                (sorted_codes v (get a.linked) h.stored.table.numbered u elements l h.one_partition.0 h.one_partition.1
+                h.order h.up)
                 h.stored.table.keys.ascending;
           };
           canonical = λ q k there settled. each_linked
               (λ q k. IsSettled (table_of v a m e g) k.0 →
-              IsKnown (table_of v (record (inserted a n u l) { uses = w }) m e g) (2050 + q))
+              IsNodeOf (table_of v (record (inserted a n u l) { uses = w }) m e g) (2050 + q))
               (λ here.
-              let made = made_new h.some.0 h.some.1 in
+              let made = made_new h.one_partition.0 h.one_partition.1 in
               let code : n + 2050 ≡ 2050 + n = omega arith in
-              subst (IsKnown (table_of v (record (inserted a n u l) { uses = w }) m e g)) code
+              subst (IsNodeOf (table_of v (record (inserted a n u l) { uses = w }) m e g)) code
               (record { diagram = made.diagram; is = made.is }))
               (λ q k old here. known_kept (2050 + q) (h.stored.table.canonical q k old here))
               q k there settled;
@@ -355,11 +357,11 @@ module _ (v : Numbered) (a : Nodes) (m : FinMap nat_cmp ℕ) (e : ℕ) (g : Opti
         new_uses =
             each_key
             (λ q k. get w q ≡ Some (uses_of (table_of v (record (inserted a n u l) { uses = w }) m e g) (2050 + q)))
-            (counts n ∙ ap (option_map (λ k. k + uses_in (2050 + n) l)) (get-insert_same a.uses n 0)
+            (counts n ∙ ap (option_map (λ k. k + uses_in (2050 + n) l)) (get_insert_same a.uses n 0)
             ∙ ap Some (omega (arith, more n, unused)))
             (λ q k old.
             counts q ∙ ap (option_map (λ k. k + uses_in (2050 + q) l))
-            (get-insert_other a.uses n 0 q (not_new q k old) ∙ h.stored.uses q k old)
+            (get_insert_other a.uses n 0 q (not_new q k old) ∙ h.stored.uses q k old)
             ∙ ap Some (omega (arith, more q)))
           where
             more : (q : ℕ) → uses_of (table_of v (record (inserted a n u l) { uses = w }) m e g) (2050 + q)
@@ -389,9 +391,9 @@ module _ (v : Numbered) (a : Nodes) (m : FinMap nat_cmp ℕ) (e : ℕ) (g : Opti
         kept_new = record {
           vtree = refl;
           nodes = keeps;
-          marks = λ q k old. get-insert_other a.marks n 0 q
+          marks = λ q k old. get_insert_other a.marks n 0 q
               (not_new q k (linked_key (table_of v a m e g) q k old));
-          detached_marks = λ q k old. get-insert_other a.marks n 0 q
+          detached_marks = λ q k old. get_insert_other a.marks n 0 q
               (not_new q k (detached_key (table_of v a m e g) h.stored.table q k old));
           detached = refl;
           loose = refl;
@@ -418,7 +420,7 @@ module _ (v : Numbered) (a : Nodes) (m : FinMap nat_cmp ℕ) (e : ℕ) (g : Opti
           absent = absent;
           order = h.order;
           linked = refl;
-          mark = get-insert_same a.marks n 0;
+          mark = get_insert_same a.marks n 0;
           room = λ full.
               let same = length_permutation elements l h.order in
               room (subst (λ k. IsFull (table_of v a m e g) k) (sym same) full);
@@ -474,7 +476,7 @@ pub asked : (v : Numbered) (a : Nodes) (m : FinMap nat_cmp ℕ) (e : ℕ) (g : O
     IsPermutation elements items → IsSorted pair_cmp items → l ≡ items → IsAsked v a m e g u elements l
 asked v a m e g t u place elements l items stored same at some differ order up list = record {
   stored = stored;
-  some = (some.0, partition_inside (table_of v a m e g) t u place elements some.0 same at some.1);
+  one_partition = (some.0, partition_inside (table_of v a m e g) t u place elements some.0 same at some.1);
   differ = differ;
   order = subst (λ x. IsPermutation elements x) (sym list) order;
   up = subst (λ x. IsSorted pair_cmp x) (sym list) up;

@@ -5,19 +5,19 @@ use Rattle.std.proofs.lemmas.Bool.{cases_eq}
 use Rattle.std.specs.List.Sorted.{IsStrictlySortedBy}
 use Rattle.std.specs.Ordering.{nat_cmp}
 use Rattle.std.specs.FinMap.{FinMap, get, insert}
-use Rattle.sd_runs.proofs.Maps.{get-insert_same, get-insert_other}
+use Rattle.sd_runs.proofs.Maps.{get_insert_same, get_insert_other}
 use Rattle.sd_runs.proofs.Places.{by_cases}
 use Rattle.sd_runs.specs.declared.error.TakeError.{TakeError}
 use Rattle.sd_runs.specs.declared.error.TakeError.TheVariants.{ArenaFull, OutOfMemory}
 use Rattle.sd_model.specs.Diagram.{Diagram, meaning}
 use Rattle.sd_model.proofs.OverVtree.{unique_lem}
-use Rattle.sd_vtree.specs.Numbered.{Numbered, forget}
+use Rattle.sd_vtree.specs.Numbered.{Numbered, plain_tree}
 use Rattle.sd_unique.specs.Nodes.{Nodes}
 use Rattle.sd_laws.specs.Shown.{Shows, Keeps, AreKeys}
 use Rattle.sd_laws.specs.Trimming.{trim_of}
-use Rattle.sd_laws.proofs.Codes.{shows-kept, one-code}
+use Rattle.sd_laws.proofs.Codes.{shows_kept, one_code}
 use Rattle.sd_laws.proofs.Joining.{same_values}
-use Rattle.sd_laws.proofs.Made.{made-node, sorted-codes}
+use Rattle.sd_laws.proofs.Made.{made_node, sorted_codes}
 use Rattle.sd_manager.specs.Table.{key_at}
 use Rattle.sd_manager.specs.Shown.{IsPartitionAt, HasNode}
 use Rattle.sd_manager.specs.Making.{IsMade, IsNeeded}
@@ -43,13 +43,13 @@ module _ (v : Numbered) (a : Nodes) (m : FinMap nat_cmp ℕ) (e : ℕ) (g : Opti
   more = insert a.linked a.records (u, l)
 
   has_list : get more a.records ≡ Some (u, l)
-  has_list = get-insert_same a.linked a.records (u, l)
+  has_list = get_insert_same a.linked a.records (u, l)
 
   others : Keeps (get a.linked) (get more)
   others q k there =
       by_cases
       (λ same. let none : None ≡ Some k = sym past_end ∙ ap (get a.linked) (sym same) ∙ there in absurd (cc))
-      (λ ne. get-insert_other a.linked a.records (u, l) q ne ∙ there)
+      (λ ne. get_insert_other a.linked a.records (u, l) q ne ∙ there)
       (cases_eq q a.records)
 
   -- each of them is the one more or stood there
@@ -60,7 +60,7 @@ module _ (v : Numbered) (a : Nodes) (m : FinMap nat_cmp ℕ) (e : ℕ) (g : Opti
       (λ same.
       let both : Some (u, l) ≡ Some k = sym has_list ∙ ap (get more) (sym same) ∙ there in
       inl (same, ap (λ o. unwrap_or o (u, l)) both))
-      (λ ne. inr (sym (get-insert_other a.linked a.records (u, l) q ne) ∙ there))
+      (λ ne. inr (sym (get_insert_other a.linked a.records (u, l) q ne) ∙ there))
       (cases_eq q a.records)
 
   module _ (none : trim_of l ≡ None) (unfound : (n : ℕ) → ¬ (get a.linked n ≡ Some (u, l))) where
@@ -81,22 +81,23 @@ module _ (v : Numbered) (a : Nodes) (m : FinMap nat_cmp ℕ) (e : ℕ) (g : Opti
             IsStrictlySortedBy nat_cmp (map (λ e. e.0) k.1)
         up n k (inl x) =
             subst (λ (r : ℕ × List (ℕ × ℕ)). IsStrictlySortedBy nat_cmp (map (λ e. e.0) r.1)) x.1
-            (sorted-codes v (get a.linked) h.stored.table.numbered u elements l h.some.0 h.some.1 h.order h.up)
+            (sorted_codes v (get a.linked) h.stored.table.numbered u elements l h.one_partition.0 h.one_partition.1
+            h.order h.up)
         up n k (inr x) = h.stored.table.keys.ascending n k x
 
     -- a code that has the value is that of the one more, which is not there
     pub no_node : (c : ℕ) (ds : List (Diagram × Diagram)) → IsPartitionAt (table_of v a m e g) u elements ds →
         ¬ (IsMade (table_of v a m e g) c ds)
-    no_node c ds split made =
-        let z = made-node v (get a.linked) (get more) h.stored.table.numbered h.stored.table.keys u a.records
-        elements l ds split h.order h.differ none others has_list in
+    no_node c ds partition made =
+        let z = made_node v (get a.linked) (get more) h.stored.table.numbered h.stored.table.keys u a.records
+        elements l ds partition h.order h.differ none others has_list in
         let same : made.diagram ≡ z.0 =
-        unique_lem (forget v) made.diagram z.0 h.stored.table.numbered.vtree made.is.canonical z.1.canonical
-        (λ given fits. same_values ds (meaning made.diagram) (meaning z.0) made.value z.2 given) in
+        unique_lem (plain_tree v) made.diagram z.0 h.stored.table.numbered.vtree made.is.canonical z.1.canonical
+        (λ assignment fits. same_values ds (meaning made.diagram) (meaning z.0) made.value z.2 assignment) in
         let code : c ≡ 2050 + a.records =
-        one-code v (get more) keys_more z.0 c (2050 + a.records)
+        one_code v (get more) keys_more z.0 c (2050 + a.records)
         (subst (λ d. Shows v (get more) c d) same
-        (shows-kept v (get a.linked) (get more) others made.diagram c made.is.shows)) z.1.shows in
+        (shows_kept v (get a.linked) (get more) others made.diagram c made.is.shows)) z.1.shows in
         let there : HasNode (table_of v a m e g) c =
         shown_has_node (table_of v a m e g) h.stored.table.numbered c made.diagram made.is.shows in
         let key = some_value (key_at (table_of v a m e g) a.records)

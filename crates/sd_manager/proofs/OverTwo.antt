@@ -5,7 +5,7 @@ use Rattle.sd_model.specs.Assignment.{value_in}
 use Rattle.sd_model.specs.Tree.{Leaf, Node}
 use Rattle.sd_model.specs.Diagram.{Diagram, Bottom, Top, Literal}
 use Rattle.sd_model.specs.Canonical.{canonical_top, canonical_bottom, canonical_literal}
-use Rattle.sd_vtree.specs.Numbered.{Numbered, NumberedLeaf, NumberedNode, number_of, numbers, forget}
+use Rattle.sd_vtree.specs.Numbered.{Numbered, NumberedLeaf, NumberedNode, number_of, numbers, plain_tree}
 use Rattle.sd_laws.specs.Parts.{IsPart, here, leaf_position, IsInner}
 use Rattle.sd_manager.specs.Table.{Table}
 use Rattle.sd_manager.specs.Shown.{IsPartitionAt}
@@ -20,14 +20,14 @@ abbrev pub literal : List (Diagram × Diagram)
 literal = (Literal 0 1 false, Bottom) ∷ (Literal 0 1 true, Top) ∷ []
 
 -- the root is the inner node over both leaves
-root_inner : (v : Numbered) (root : ℕ) → forget v ≡ Node (Leaf 1) (Leaf 2) → root ≡ number_of v →
+root_inner : (v : Numbered) (root : ℕ) → plain_tree v ≡ Node (Leaf 1) (Leaf 2) → root ≡ number_of v →
     IsInner v root (Leaf 1) (Leaf 2) 0
 root_inner v root tree is = record {
   part = subst (λ t. IsPart (Node (Leaf 1) (Leaf 2)) 0 t 0) (sym tree) here;
   number = second v tree ∙ ap Some (sym is);
 }
   where
-    second : (v : Numbered) → forget v ≡ Node (Leaf 1) (Leaf 2) → slice_get (numbers v) 1 ≡ Some (number_of v)
+    second : (v : Numbered) → plain_tree v ≡ Node (Leaf 1) (Leaf 2) → slice_get (numbers v) 1 ≡ Some (number_of v)
     second (NumberedLeaf n x) e = cc
     second (NumberedNode n (NumberedLeaf a x) r) e = refl
     second (NumberedNode n (NumberedNode a x y) r) e = cc
@@ -48,7 +48,7 @@ clause_partition t root h =
       base = 0;
       inner = root_inner t.vtree root h.vtree h.root_is;
       shown = (((refl, one), (refl, two)), (((refl, one), refl), tt));
-      split = record {
+      partition = record {
         elements = record {
           primes = (canonical_literal false, (canonical_literal true, tt));
           subs = (canonical_literal true, (canonical_top, tt));
@@ -68,7 +68,7 @@ literal_partition t root h =
       base = 0;
       inner = root_inner t.vtree root h.vtree h.root_is;
       shown = (((refl, one), refl), (((refl, one), refl), tt));
-      split = record {
+      partition = record {
         elements = record {
           primes = (canonical_literal false, (canonical_literal true, tt));
           subs = (canonical_bottom, (canonical_top, tt));

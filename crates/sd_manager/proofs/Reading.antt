@@ -11,17 +11,17 @@ use Rattle.std.specs.FinMap.{FinMap, get}
 use Rattle.sd_model.specs.Tree.{leaves}
 use Rattle.sd_model.specs.Assignment.{literal_holds}
 use Rattle.sd_model.specs.Diagram.{Diagram, Bottom, Top, Literal, Decomposition, Elements, End, Pair, count, meaning}
-use Rattle.sd_vtree.specs.Numbered.{Numbered, IsNumbered, or_else, forget}
+use Rattle.sd_vtree.specs.Numbered.{Numbered, IsNumbered, or_else, plain_tree}
 use Rattle.sd_unique.specs.Nodes.{Nodes, key_at as key_of_nodes, or_else as or_else_of_nodes}
 use Rattle.sd_laws.specs.Shown.{Lookup, ShowElements, literal_code}
-use Rattle.sd_laws.proofs.Codes.{literal-range}
+use Rattle.sd_laws.proofs.Codes.{literal_range}
 use Rattle.sd_laws.proofs.Lists.{IsAmong}
-use Rattle.sd_laws.proofs.Nodes.{code-of_node, element-shown}
-use Rattle.sd_laws.proofs.Numbers.{leaf-of_vtree, literal-canonical}
+use Rattle.sd_laws.proofs.Nodes.{code_of_node, element_shown}
+use Rattle.sd_laws.proofs.Numbers.{leaf_of_vtree, literal_canonical}
 use Rattle.sd_manager.specs.declared.view.View.TheVariants.{Literal as LiteralView}
 use Rattle.sd_manager.specs.declared.view.View.TheVariants.{Decomposition as DecompositionView}
 use Rattle.sd_manager.specs.Table.{Table, key_at}
-use Rattle.sd_manager.specs.Shown.{Shows, IsShown, HasNode, ShowsElement}
+use Rattle.sd_manager.specs.Shown.{Shows, ShowsCanonical, HasNode, ShowsElement}
 use Rattle.sd_manager.specs.Literals.{literal_of, literal_at, code_of_literal, IsLiteralTo}
 use Rattle.sd_manager.specs.Views.{view_of, view_of_key, pairs_at, IsViewOf}
 use Rattle.sd_manager.specs.Stored.{table_of}
@@ -93,7 +93,7 @@ pub view_fits : (t : Table) → IsNumbered t.vtree → (c : ℕ) (d : Diagram) �
 view_fits t v c Bottom h = subst (λ x. IsViewOf t (view_of t x) Bottom) (sym h) refl
 view_fits t v c Top h = subst (λ x. IsViewOf t (view_of t x) Top) (sym h) refl
 view_fits t v c (Literal p x s) h =
-    let r = literal-range t.vtree (get t.linked) v c p x s h in
+    let r = literal_range t.vtree (get t.linked) v c p x s h in
     subst (λ w. IsViewOf t w (Literal p x s))
     (sym (view_literal t c r.0 r.2 ∙ ap LiteralView (ap literal_at h.0 ∙ literal_back x s)))
     (p, x, s, refl, refl, h.1)
@@ -122,19 +122,19 @@ element_fits t c p i es e is h =
     let k = h.1 in
     let pairs : pairs_at t c ≡ k.list =
     pairs_node t c k.number (k.place, k.list) k.code (linked_key t k.number (k.place, k.list) k.stored) in
-    let r = element-shown t.vtree (get t.linked) c p es h k.number k.place k.list k.code k.stored e
+    let r = element_shown t.vtree (get t.linked) c p es h k.number k.place k.list k.code k.stored e
     (among_at k.list i e (subst (λ l. slice_get l i ≡ Some e) pairs is)) in
     record { prime = r.0; sub = r.1; member = r.2; shows_prime = r.3; shows_sub = r.4 }
 
 -- a code that shows something is that of a node
 pub shown_has_node : (t : Table) → IsNumbered t.vtree → (c : ℕ) (d : Diagram) → Shows t c d → HasNode t c
-shown_has_node t v c d h = go (code-of_node t.vtree (get t.linked) v c d h)
+shown_has_node t v c d h = go (code_of_node t.vtree (get t.linked) v c d h)
   where
     some_key : (n : ℕ) (o : Option (ℕ × List (ℕ × ℕ))) → get t.linked n ≡ o → IsSome o → IsSome (key_at t n)
     some_key n None e s = cc
     some_key n (Some k) e s = subst IsSome (sym (linked_key t n k e)) s
 
-    go : (c < 2 * leaves (forget t.vtree) + 2) ⊎ ((n : ℕ) × (c ≡ 2050 + n) × IsSome (get t.linked n)) → HasNode t c
+    go : (c < 2 * leaves (plain_tree t.vtree) + 2) ⊎ ((n : ℕ) × (c ≡ 2050 + n) × IsSome (get t.linked n)) → HasNode t c
     go (inl low) = inl low
     go (inr k) =
         let number : k.0 ≡ c - 2050 = omega (arith, k.1) in
@@ -142,7 +142,7 @@ shown_has_node t v c d h = go (code-of_node t.vtree (get t.linked) v c d h)
 
 -- a number whose code is there is that of a node
 pub node_of_code : (t : Table) → IsNumbered t.vtree → (n : ℕ) → HasNode t (2050 + n) → IsSome (key_at t n)
-node_of_code t v n (inl low) = absurd (omega (arith, v.few))
+node_of_code t v n (inl low) = absurd (omega (arith, v.within_limit))
 node_of_code t v n (inr h) =
     let number : 2050 + n - 2050 ≡ n = omega arith in
     subst (λ q. IsSome (key_at t q)) number h.1
@@ -176,23 +176,24 @@ literal_more n m (pos x) le h = (h.0, omega (arith, h.1))
 literal_more n m (negsuc i) le h = omega arith
 
 -- the code of a literal shows it
-pub literal_shown : (t : Table) → IsNumbered t.vtree → (l : ℤ) (c : ℕ) → IsLiteralTo (leaves (forget t.vtree)) l →
+pub literal_shown : (t : Table) → IsNumbered t.vtree → (l : ℤ) (c : ℕ) → IsLiteralTo (leaves (plain_tree t.vtree)) l →
     c ≡ code_of_literal l →
-    (d : Diagram) × IsShown t c d × ((given : List Bool) → meaning d given ≡ literal_holds given l)
+    (d : Diagram) × ShowsCanonical t c d
+    × ((assignment : List Bool) → meaning d assignment ≡ literal_holds assignment l)
 literal_shown t v (pos x) c h e =
-    let p = leaf-of_vtree (forget t.vtree) v.vtree x h.0 h.1 in (
+    let p = leaf_of_vtree (plain_tree t.vtree) v.vtree x h.0 h.1 in (
       Literal p.0 x true,
-      record { shows = (e, p.1); canonical = literal-canonical (forget t.vtree) 0 x p.0 true p.1 },
-      λ given. refl,
+      record { shows = (e, p.1); canonical = literal_canonical (plain_tree t.vtree) 0 x p.0 true p.1 },
+      λ assignment. refl,
     )
 literal_shown t v (negsuc i) c h e =
-    let p = leaf-of_vtree (forget t.vtree) v.vtree (suc i) (omega arith) (omega arith) in (
+    let p = leaf_of_vtree (plain_tree t.vtree) v.vtree (suc i) (omega arith) (omega arith) in (
       Literal p.0 (suc i) false,
       record {
         shows = (e ∙ omega arith, p.1);
-        canonical = literal-canonical (forget t.vtree) 0 (suc i) p.0 false p.1;
+        canonical = literal_canonical (plain_tree t.vtree) 0 (suc i) p.0 false p.1;
       },
-      λ given. refl,
+      λ assignment. refl,
     )
 
 -- the nodes' own word for a key is the table's

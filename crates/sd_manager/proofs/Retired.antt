@@ -5,16 +5,16 @@ use Rattle.std.proofs.lemmas.Bool.{cases_eq}
 use Rattle.std.specs.Option.{IsSome, option_map}
 use Rattle.std.specs.Ordering.{nat_cmp}
 use Rattle.std.specs.FinMap.{FinMap, get, insert, remove}
-use Rattle.sd_runs.proofs.Maps.{same_at_each, get-insert_other, get-remove_same, get-remove_other}
+use Rattle.sd_runs.proofs.Maps.{same_at_each, get_insert_other, get_remove_same, get_remove_other}
 use Rattle.sd_runs.proofs.Places.{by_cases}
 use Rattle.sd_vtree.specs.Numbered.{Numbered, or_else}
 use Rattle.sd_unique.specs.Nodes.{Nodes, IsNodes}
 use Rattle.sd_unique.specs.Relinking.{unlinked, removed, IsIdle as IsIdleNode}
 use Rattle.sd_laws.specs.Values.{StandsIn}
-use Rattle.sd_laws.proofs.Lists.{all-weaker}
-use Rattle.sd_laws.proofs.Within.{shows-within}
+use Rattle.sd_laws.proofs.Lists.{all_weaker}
+use Rattle.sd_laws.proofs.Within.{shows_within}
 use Rattle.sd_manager.specs.Table.{Table, key_at, uses_of, uses_in}
-use Rattle.sd_manager.specs.Shown.{IsKnown, HasNode, AreThere}
+use Rattle.sd_manager.specs.Shown.{IsNodeOf, HasNode, AreThere}
 use Rattle.sd_manager.specs.Valid.{IsTable}
 use Rattle.sd_manager.specs.Counting.{AreCounted, IsCounted, DropsUses}
 use Rattle.sd_manager.specs.Stored.{table_of, IsStored}
@@ -34,7 +34,7 @@ module _ (t : Table) (i : IsTable t) (n place : ℕ) (l : List (ℕ × ℕ)) (wa
   linked_before q k left = (
     λ same.
         let bad : None ≡ Some k =
-        sym (get-remove_same t.linked n) ∙ ap (get (remove t.linked n)) (sym same) ∙ left in
+        sym (get_remove_same t.linked n) ∙ ap (get (remove t.linked n)) (sym same) ∙ left in
         absurd (cc),
     left_was t.linked n q k left,
   )
@@ -46,15 +46,15 @@ module _ (t : Table) (i : IsTable t) (n place : ℕ) (l : List (ℕ × ℕ)) (wa
       by_cases
       (λ same.
       let none : key_at (retired t n l) n ≡ None =
-      ap (λ x. or_else x (get t.detached n)) (get-remove_same t.linked n) ∙ i.either n (place, l) was in
+      ap (λ x. or_else x (get t.detached n)) (get_remove_same t.linked n) ∙ i.either n (place, l) was in
       let bad : None ≡ Some k = sym none ∙ ap (key_at (retired t n l)) (sym same) ∙ left in
       absurd (cc))
-      (λ ne. (ne, sym (ap (λ x. or_else x (get t.detached q)) (get-remove_other t.linked n q ne)) ∙ left))
+      (λ ne. (ne, sym (ap (λ x. or_else x (get t.detached q)) (get_remove_other t.linked n q ne)) ∙ left))
       (cases_eq q n)
 
   -- each other node keeps its key
   key_after : (q : ℕ) → ¬ (q ≡ n) → key_at (retired t n l) q ≡ key_at t q
-  key_after q ne = ap (λ x. or_else x (get t.detached q)) (get-remove_other t.linked n q ne)
+  key_after q ne = ap (λ x. or_else x (get t.detached q)) (get_remove_other t.linked n q ne)
 
   -- each other code that was there is there
   there_after : (c : ℕ) → ¬ (c ≡ 2050 + n) → HasNode t c → HasNode (retired t n l) c
@@ -77,14 +77,14 @@ module _ (t : Table) (i : IsTable t) (n place : ℕ) (l : List (ℕ × ℕ)) (wa
     )
 
     -- what another code shows is canonical still
-    known_after : (c : ℕ) → ¬ (c ≡ 2050 + n) → IsKnown t c → IsKnown (retired t n l) c
+    known_after : (c : ℕ) → ¬ (c ≡ 2050 + n) → IsNodeOf t c → IsNodeOf (retired t n l) c
     known_after c ne h = record {
       diagram = h.diagram;
       is = record {
-        shows = shows-within t.vtree (get t.linked) (get (remove t.linked n)) (λ q. ¬ (q ≡ n))
+        shows = shows_within t.vtree (get t.linked) (get (remove t.linked n)) (λ q. ¬ (q ≡ n))
             (λ m q p k own at stands same.
             not_in_linked t (2050 + n) unused m (p, k) at (subst (λ r. StandsIn (2050 + r) k) same stands))
-            (λ q k own at. get-remove_other t.linked n q own ∙ at)
+            (λ q k own at. get_remove_other t.linked n q own ∙ at)
             h.diagram c (λ q is same. ne (omega (arith, is, same))) h.is.shows;
         canonical = h.is.canonical;
       };
@@ -110,7 +110,7 @@ module _ (t : Table) (i : IsTable t) (n place : ℕ) (l : List (ℕ × ℕ)) (wa
       several = λ q k here. i.several q k (key_before q k here).1;
       marked = λ q k here.
           let before = key_before q k here in
-          subst IsSome (sym (get-remove_other t.marks n q before.0)) (i.marked q k before.1);
+          subst IsSome (sym (get_remove_other t.marks n q before.0)) (i.marked q k before.1);
       closed = λ q k here.
           let before = key_before q k here in
           all_after k.1 (not_in_node t (2050 + n) unused q k before.1) (i.closed q k before.1);
@@ -153,7 +153,7 @@ module _ (v : Numbered) (a : Nodes) (m : FinMap nat_cmp ℕ) (e : ℕ) (g : Opti
     -- the codes of the list of the node are counted
     pub retiring_counted : AreCounted a l
     retiring_counted =
-        all-weaker
+        all_weaker
         (λ (p : ℕ × ℕ). HasNode (table_of v a m e g) p.0 × HasNode (table_of v a m e g) p.1)
         (λ (p : ℕ × ℕ). IsCounted a p.0 × IsCounted a p.1)
         (λ p both. (
@@ -186,10 +186,10 @@ module _ (v : Numbered) (a : Nodes) (m : FinMap nat_cmp ℕ) (e : ℕ) (g : Opti
           same_at_each _ _ (λ q. by_cases
           (λ same.
           ap (get (remove (insert a.detached n (place, l)) n)) same
-          ∙ get-remove_same (insert a.detached n (place, l)) n
+          ∙ get_remove_same (insert a.detached n (place, l)) n
           ∙ sym (ap (get a.detached) same ∙ stored.table.either n (place, l) was))
-          (λ ne. get-remove_other (insert a.detached n (place, l)) n q ne
-          ∙ get-insert_other a.detached n (place, l) q ne)
+          (λ ne. get_remove_other (insert a.detached n (place, l)) n q ne
+          ∙ get_insert_other a.detached n (place, l) q ne)
           (cases_eq q n))
 
       module _ (d : Nodes) (is : d ≡ removed (unlinked b n (place, l)) n l) (valid : IsNodes d) where
@@ -208,7 +208,7 @@ module _ (v : Numbered) (a : Nodes) (m : FinMap nat_cmp ℕ) (e : ℕ) (g : Opti
             get d.uses q ≡ Some (uses_of (retired (table_of v a m e g) n l) (2050 + q))
         uses_after q k here =
             let before = key_before (table_of v a m e g) stored.table n place l was q k here in
-            ap (λ x. get x.uses q) is ∙ get-remove_other b.uses n q before.0 ∙ drops.uses q
+            ap (λ x. get x.uses q) is ∙ get_remove_other b.uses n q before.0 ∙ drops.uses q
             ∙ ap (option_map (λ u. u - uses_in (2050 + q) l)) (stored.uses q k before.1)
             ∙ ap Some (omega (
               arith,

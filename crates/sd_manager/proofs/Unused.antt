@@ -11,7 +11,7 @@ use Rattle.sd_manager.specs.Valid.{IsTable}
 use Rattle.sd_manager.proofs.Counted.{counts_same, counts_other}
 use Rattle.sd_manager.proofs.Totals.{total_without, sum_zero}
 use Rattle.sd_manager.proofs.Reading.{linked_key, detached_key}
-use Rattle.sd_manager.proofs.Standing.{stands-uses}
+use Rattle.sd_manager.proofs.Standing.{stands_uses}
 
 -- what is not there
 
@@ -51,7 +51,7 @@ module _ (t : Table) (c : ℕ) (unused : uses_of t c ≡ 0) where
         arith,
         unused,
         total_without (λ (k : ℕ × List (ℕ × ℕ)). uses_in c k.1) t.linked n k at,
-        stands-uses c k.1 stands,
+        stands_uses c k.1 stands,
       ))
 
   -- and in that of no detached one
@@ -61,7 +61,7 @@ module _ (t : Table) (c : ℕ) (unused : uses_of t c ≡ 0) where
         arith,
         unused,
         total_without (λ (k : ℕ × List (ℕ × ℕ)). uses_in c k.1) t.detached n k at,
-        stands-uses c k.1 stands,
+        stands_uses c k.1 stands,
       ))
 
   -- so in that of no node
@@ -78,7 +78,7 @@ module _ (t : Table) (c : ℕ) (unused : uses_of t c ≡ 0) where
   -- it stands in no loose run
   pub not_in_run : (start : ℕ) (l : List (ℕ × ℕ)) → get t.loose start ≡ Some l → ¬ StandsIn c l
   not_in_run start l at stands =
-      absurd (omega (arith, unused, total_without (uses_in c) t.loose start l at, stands-uses c l stands))
+      absurd (omega (arith, unused, total_without (uses_in c) t.loose start l at, stands_uses c l stands))
 
   -- and no root holds it
   pub not_held : (root d : ℕ) → get t.roots root ≡ Some d → ¬ (d ≡ c)

@@ -9,7 +9,7 @@ use Rattle.sd_vtree.specs.Numbered.{Numbered, IsNumbered, or_else}
 use Rattle.sd_unique.specs.Nodes.{Nodes, IsNodes}
 use Rattle.sd_unique.specs.Inserting.{no_nodes}
 use Rattle.sd_manager.specs.Table.{Table, no_table, key_at, uses_of}
-use Rattle.sd_manager.specs.Shown.{IsKnown}
+use Rattle.sd_manager.specs.Shown.{IsNodeOf}
 use Rattle.sd_manager.specs.Valid.{IsTable}
 use Rattle.sd_manager.specs.Stored.{table_of, IsStored}
 use Rattle.sd_manager.proofs.Reading.{shown_has_node}
@@ -73,18 +73,18 @@ empty_stored v bound a m numbered small valid none no_roots =
     }) valid)
 
 -- what a code shows does not hang on the roots
-known_again : (t : Table) (m : FinMap nat_cmp ℕ) (c : ℕ) → IsKnown t c → IsKnown (record t { roots = m }) c
+known_again : (t : Table) (m : FinMap nat_cmp ℕ) (c : ℕ) → IsNodeOf t c → IsNodeOf (record t { roots = m }) c
 known_again t m c h = record { diagram = h.diagram; is = h.is }
 
 -- a table with other roots is valid
 pub valid_roots : (t : Table) (m : FinMap nat_cmp ℕ) → IsTable t →
-    ((root c : ℕ) → get m root ≡ Some c → IsKnown t c) → len m < 2 ^ 32 → IsTable (record t { roots = m })
-valid_roots t m i held few = record {
+    ((root c : ℕ) → get m root ≡ Some c → IsNodeOf t c) → len m < 2 ^ 32 → IsTable (record t { roots = m })
+valid_roots t m i held within_limit = record {
   numbered = i.numbered;
   keys = i.keys;
   canonical = λ n k e settled. known_again t m (2050 + n) (i.canonical n k e settled);
   held = λ still root c e. known_again t m c (held root c e);
-  few_roots = few;
+  few_roots = within_limit;
   either = i.either;
   at_rest = i.at_rest;
   within = i.within;
@@ -112,5 +112,5 @@ stored_with v a b m e g rest valid i uses =
     subst Good (sym rest) (λ valid uses. record { table = i; valid = valid; uses = uses }) valid uses
 
 -- what a code shows in a table that is the same
-pub known_inside : (t u : Table) (c d : ℕ) → t ≡ u → c ≡ d → IsKnown u d → IsKnown t c
-known_inside t u c d same code h = subst (λ x. IsKnown x c) (sym same) (subst (IsKnown u) (sym code) h)
+pub known_inside : (t u : Table) (c d : ℕ) → t ≡ u → c ≡ d → IsNodeOf u d → IsNodeOf t c
+known_inside t u c d same code h = subst (λ x. IsNodeOf x c) (sym same) (subst (IsNodeOf u) (sym code) h)

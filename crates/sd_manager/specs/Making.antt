@@ -7,12 +7,12 @@ use Rattle.sd_runs.specs.declared.error.TakeError.{TakeError}
 use Rattle.sd_runs.specs.declared.error.TakeError.TheVariants.{ArenaFull, OutOfMemory}
 use Rattle.sd_model.specs.Tree.{leaves}
 use Rattle.sd_model.specs.Diagram.{Diagram, meaning}
-use Rattle.sd_vtree.specs.Numbered.{forget}
+use Rattle.sd_vtree.specs.Numbered.{plain_tree}
 use Rattle.sd_laws.specs.Pairs.{HasValue}
 use Rattle.sd_laws.specs.Shown.{Keeps}
 use Rattle.sd_unique.specs.Inserting.{with_count, extent_after}
 use Rattle.sd_manager.specs.Table.{Table, key_at, free_count}
-use Rattle.sd_manager.specs.Shown.{IsShown, IsPartitionAt}
+use Rattle.sd_manager.specs.Shown.{ShowsCanonical, IsPartitionAt}
 
 -- Every node, linked or detached, stays as it was with its mark, and so do the vtree, the roots and all else but what
 -- new nodes take.
@@ -34,14 +34,14 @@ pub record Extends (old new : Table) : Type 0 where
 -- the code shows a canonical diagram that has the value of the partition
 pub record IsMade (t : Table) (c : ℕ) (ds : List (Diagram × Diagram)) : Type 0 where
   pub diagram : Diagram
-  pub is : IsShown t c diagram
+  pub is : ShowsCanonical t c diagram
   pub value : HasValue ds (meaning diagram)
 
 -- no run of this length is free, and the arena has no room for one more
 abbrev pub IsFull : Table → ℕ → Type 0
 IsFull t n = (free_count t n ≡ 0) × (t.bound < t.extent + n)
 
--- the answer comes for a full arena and has the sum that passes the bound, or is want of memory
+-- the answer comes for a full arena and has the sum that passes the bound, or memory ran out
 abbrev pub IsRefusal : Table → ℕ → TakeError → Type 0
 IsRefusal t n (ArenaFull elements) = IsFull t n × (elements ≡ t.extent + n)
 IsRefusal t n OutOfMemory = Unit {0}
@@ -51,9 +51,9 @@ IsRefusal t n OutOfMemory = Unit {0}
 pub record IsPastBound (t : Table) (elements : ℕ) : Type 0 where
   pub past : t.bound < elements
   pub least : t.extent + 2 ≤ elements
-  pub most : elements ≤ t.extent + (t.extent / 2 + 2 * leaves (forget t.vtree) + 2)
+  pub most : elements ≤ t.extent + (t.extent / 2 + 2 * leaves (plain_tree t.vtree) + 2)
 
--- the arena's rule: a full arena is answered only so, or it is want of memory
+-- the arena's rule: a full arena is answered only so, or memory ran out
 abbrev pub KeepsRule : Table → TakeError → Type 0
 KeepsRule t (ArenaFull elements) = IsPastBound t elements
 KeepsRule t OutOfMemory = Unit {0}
@@ -71,8 +71,8 @@ IsNewNumber t n =
 
 -- The table with a new linked node of this number, with mark 0. Its run was a free one of that length where there was
 -- one, and else the extent has grown by it.
-abbrev pub with_node : Table → ℕ → ℕ → List (ℕ × ℕ) → Table
-with_node t number place list =
+abbrev pub with_new_node : Table → ℕ → ℕ → List (ℕ × ℕ) → Table
+with_new_node t number place list =
     record t {
       linked = insert t.linked number (place, list);
       marks = insert t.marks number 0;
@@ -93,7 +93,7 @@ pub record HasNewNode (old new : Table) (place : ℕ) (elements : List (ℕ × �
   pub mark : get new.marks number ≡ Some 0
   pub room : ¬ IsFull old (length elements)
   pub new_number : IsNewNumber old number
-  pub is : new ≡ with_node old number place list
+  pub is : new ≡ with_new_node old number place list
 
 -- the table in which this root holds the node with this code
 abbrev pub with_root : Table → ℕ → ℕ → Table

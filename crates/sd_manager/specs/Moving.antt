@@ -13,7 +13,7 @@ use Rattle.sd_laws.specs.Turned.{lower_of}
 use Rattle.sd_laws.specs.Values.{StandsIn}
 use Rattle.sd_unique.specs.Inserting.{with_count, extent_after}
 use Rattle.sd_manager.specs.Table.{Table, free_count}
-use Rattle.sd_manager.specs.Shown.{IsShown, IsPartitionAt}
+use Rattle.sd_manager.specs.Shown.{ShowsCanonical, IsPartitionAt}
 use Rattle.sd_manager.specs.Valid.{IsSettled}
 
 -- the epoch after this one; the last one stays
@@ -25,7 +25,7 @@ abbrev pub IsLater : Table → Table → Type 0
 IsLater old new = (old.epoch < new.epoch) ⊎ (new.epoch ≡ 18446744073709551615)
 
 -- The list may stand at the place: its pairs are a partition of it, no two subs are one node, and it is not trimmed.
-pub record Fits (t : Table) (place : ℕ) (list : List (ℕ × ℕ)) : Type 0 where
+pub record FitsNode (t : Table) (place : ℕ) (list : List (ℕ × ℕ)) : Type 0 where
   pub diagrams : List (Diagram × Diagram)
   pub partition : IsPartitionAt t place list diagrams
   pub differ : AreDistinct (map (λ (e : ℕ × ℕ). e.1) list)
@@ -113,7 +113,7 @@ pub record IsDiscarded (old new : Table) (n : ℕ) : Type 0 where
   }
 
 -- a loose run was given back
-pub record IsGiven (old new : Table) (start count : ℕ) : Type 0 where
+pub record IsGivenBack (old new : Table) (start count : ℕ) : Type 0 where
   pub list : List (ℕ × ℕ)
   pub was : get old.loose start ≡ Some list
   pub counted : length list ≡ count
@@ -122,5 +122,5 @@ pub record IsGiven (old new : Table) (start count : ℕ) : Type 0 where
 -- each node that is not above the place of the move shows a diagram of the value that it showed
 abbrev pub KeepsMeanings : Table → Table → Type 0
 KeepsMeanings old new = (n : ℕ) (k : ℕ × List (ℕ × ℕ)) (d : Diagram) → get old.linked n ≡ Some k →
-    IsSettled new k.0 → IsShown old (2050 + n) d →
-    (e : Diagram) × IsShown new (2050 + n) e × ((a : List Bool) → meaning e a ≡ meaning d a)
+    IsSettled new k.0 → ShowsCanonical old (2050 + n) d →
+    (e : Diagram) × ShowsCanonical new (2050 + n) e × ((a : List Bool) → meaning e a ≡ meaning d a)

@@ -6,8 +6,8 @@ use Rattle.std.specs.FinMap.{get}
 use Rattle.sd_model.specs.Tree.{leaves}
 use Rattle.sd_model.specs.Diagram.{Diagram, Bottom, Top, Elements}
 use Rattle.sd_model.specs.Canonical.{IsElement}
-use Rattle.sd_vtree.specs.Numbered.{forget}
-use Rattle.sd_laws.specs.Shown.{Shows as ShowsBy, IsNode, IsSplitAt}
+use Rattle.sd_vtree.specs.Numbered.{plain_tree}
+use Rattle.sd_laws.specs.Shown.{Shows as ShowsBy, ShowsCanonical as ShowsCanonicalBy, IsPartitionAt as IsPartitionBy}
 use Rattle.sd_manager.specs.Table.{Table, key_at}
 
 -- The code shows the diagram: it is that of a constant or a literal, or that of a linked node, whose pairs show the
@@ -16,28 +16,28 @@ abbrev pub Shows : Table → ℕ → Diagram → Type 0
 Shows t c d = ShowsBy t.vtree (get t.linked) c d
 
 -- the code shows the diagram, which is canonical for the vtree
-abbrev pub IsShown : Table → ℕ → Diagram → Type 0
-IsShown t c d = IsNode t.vtree (get t.linked) c d
+abbrev pub ShowsCanonical : Table → ℕ → Diagram → Type 0
+ShowsCanonical t c d = ShowsCanonicalBy t.vtree (get t.linked) c d
 
 -- the code shows some canonical diagram
-pub record IsKnown (t : Table) (c : ℕ) : Type 0 where
+pub record IsNodeOf (t : Table) (c : ℕ) : Type 0 where
   pub diagram : Diagram
-  pub is : IsShown t c diagram
+  pub is : ShowsCanonical t c diagram
 
 -- the root holds a node that shows this canonical diagram
 pub record HoldsDiagram (t : Table) (root : ℕ) (d : Diagram) : Type 0 where
   pub code : ℕ
   pub held : get t.roots root ≡ Some code
-  pub is : IsShown t code d
+  pub is : ShowsCanonical t code d
 
 -- the pairs of codes show this partition of the vtree node with this number: the primes stand below the left child,
 -- none is false and exactly one is true under each assignment, and the subs stand below the right child
 abbrev pub IsPartitionAt : Table → ℕ → List (ℕ × ℕ) → List (Diagram × Diagram) → Type 0
-IsPartitionAt t place pairs ds = IsSplitAt t.vtree (get t.linked) place pairs ds
+IsPartitionAt t place pairs ds = IsPartitionBy t.vtree (get t.linked) place pairs ds
 
 -- the code is that of a constant, of a literal of the vtree, or of a node, linked or detached
 abbrev pub HasNode : Table → ℕ → Type 0
-HasNode t c = (c < 2 * leaves (forget t.vtree) + 2) ⊎ ((2050 ≤ c) × IsSome (key_at t (c - 2050)))
+HasNode t c = (c < 2 * leaves (plain_tree t.vtree) + 2) ⊎ ((2050 ≤ c) × IsSome (key_at t (c - 2050)))
 
 -- both codes of each pair in the list are so
 abbrev pub AreThere : Table → List (ℕ × ℕ) → Type 0

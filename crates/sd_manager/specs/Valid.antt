@@ -6,7 +6,7 @@ use Rattle.std.specs.FinMap.{empty, get, len, values}
 use Rattle.sd_vtree.specs.Numbered.{IsNumbered, IsUnder}
 use Rattle.sd_laws.specs.Shown.{AreKeys}
 use Rattle.sd_manager.specs.Table.{Table, key_at}
-use Rattle.sd_manager.specs.Shown.{IsKnown, HasNode, AreThere}
+use Rattle.sd_manager.specs.Shown.{IsNodeOf, HasNode, AreThere}
 
 -- the place is not above the vtree node at which a move is going on
 abbrev pub IsSettled : Table → ℕ → Type 0
@@ -25,9 +25,9 @@ total_length t =
 pub record IsTable (t : Table) : Type 0 where
   pub numbered : IsNumbered t.vtree
   pub keys : AreKeys (get t.linked)
-  pub canonical : (n : ℕ) (k : ℕ × List (ℕ × ℕ)) → get t.linked n ≡ Some k → IsSettled t k.0 → IsKnown t (2050 + n)
+  pub canonical : (n : ℕ) (k : ℕ × List (ℕ × ℕ)) → get t.linked n ≡ Some k → IsSettled t k.0 → IsNodeOf t (2050 + n)
   -- each root holds a node that shows a canonical diagram
-  pub held : t.moving ≡ None → (root c : ℕ) → get t.roots root ≡ Some c → IsKnown t c
+  pub held : t.moving ≡ None → (root c : ℕ) → get t.roots root ≡ Some c → IsNodeOf t c
   pub few_roots : len t.roots < 2 ^ 32
   -- no number is both linked and detached, and none is detached outside a move
   pub either : (n : ℕ) (k : ℕ × List (ℕ × ℕ)) → get t.linked n ≡ Some k → get t.detached n ≡ None

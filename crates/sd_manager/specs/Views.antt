@@ -3,7 +3,7 @@ use Rattle.std.specs.Prelude.{◌≡◌, ℕ, ◌-◌, Bool, false, List, [], le
 use Rattle.std.specs.Prelude.{◌==◌, nat_lt, if◌then◌else◌, unwrap_or, slice_get}
 use Rattle.std.specs.Option.{option_map}
 use Rattle.sd_model.specs.Diagram.{Diagram, Literal, Decomposition, Elements, count}
-use Rattle.sd_vtree.specs.Numbered.{forget, numbers}
+use Rattle.sd_vtree.specs.Numbered.{plain_tree, numbers}
 use Rattle.sd_laws.specs.Parts.{leaf_position}
 use Rattle.sd_manager.specs.declared.view.View.{View}
 use Rattle.sd_manager.specs.declared.view.View.TheVariants.{Constant as ConstantView, Literal as LiteralView}
@@ -32,7 +32,7 @@ abbrev pub IsViewOf : Table → View → Diagram → Type 0
 IsViewOf t (ConstantView b) d = d ≡ constant_diagram b
 IsViewOf t (LiteralView l) d =
     (p x : ℕ) × (positive : Bool) × (d ≡ Literal p x positive) × (l ≡ literal_of x positive)
-    × (leaf_position (forget t.vtree) 0 x ≡ Some p)
+    × (leaf_position (plain_tree t.vtree) 0 x ≡ Some p)
 IsViewOf t (DecompositionView place n) d =
     (p : ℕ) × (elements : Elements) × (d ≡ Decomposition p elements) × (n ≡ count elements)
     × (slice_get (numbers t.vtree) p ≡ Some place)

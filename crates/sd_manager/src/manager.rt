@@ -7,11 +7,11 @@ ghost use Rattle.std.specs.FinMap.{get, len};
 ghost use Rattle.sd_model.specs.Tree.{leaves, AreDistinct};
 ghost use Rattle.sd_model.specs.Assignment.{literal_holds};
 ghost use Rattle.sd_model.specs.Diagram.{Diagram, Elements, Decomposition, meaning};
-ghost use Rattle.sd_vtree.specs.Numbered.{IsNumbered, forget};
+ghost use Rattle.sd_vtree.specs.Numbered.{IsNumbered, plain_tree};
 ghost use Rattle.sd_laws.specs.Depth.{depth};
 ghost use Rattle.sd_manager.specs.Table.{no_table};
 ghost use Rattle.sd_manager.specs.Literals.{IsLiteralTo, code_of_literal};
-ghost use Rattle.sd_manager.specs.Shown.{Shows, IsShown, IsKnown, HoldsDiagram, IsPartitionAt, HasNode};
+ghost use Rattle.sd_manager.specs.Shown.{Shows, ShowsCanonical, IsNodeOf, HoldsDiagram, IsPartitionAt, HasNode};
 ghost use Rattle.sd_manager.specs.Shown.{ShowsElement, constant_diagram};
 ghost use Rattle.sd_manager.specs.Views.{view_of, pairs_at, IsViewOf};
 ghost use Rattle.sd_manager.specs.Valid.{IsTable};
@@ -60,7 +60,7 @@ impl Model for Manager {
 }
 
 impl Manager {
-    /// A manager of no nodes and no roots, whose arena has at most `bound` elements. The only error is want of memory.
+    /// A manager of no nodes and no roots, whose arena has at most `bound` elements. The only error: out of memory.
     pub fn new(alloc: Global, vtree: Vtree, bound: u32) -> Result<Manager, AllocError>
         requires { bound < 2 ^ 31 }
         ensures ok { IfOk result (λ m. m ≡ no_table vtree bound) }
@@ -96,7 +96,7 @@ impl Manager {
     /// The node of a constant: false has the code 0 and true has the code 1.
     pub fn constant(&self, value: bool) -> NodeId
         ensures code { result ≡ cond value 1 0 }
-        ensures shown { IsShown self.now result (constant_diagram value) }
+        ensures shown { ShowsCanonical self.now result (constant_diagram value) }
         ensures table { IsTable self.now }
     {
         let _ = &self.epoch;
@@ -105,9 +105,9 @@ impl Manager {
 
     /// The node of a literal, as DIMACS has it: x for a variable x from 1 to V, and -x for its negation.
     pub fn literal(&self, literal: i32) -> NodeId
-        requires { IsLiteralTo (leaves (forget self.now.vtree)) literal }
-        ensures shown { (d : Diagram) × IsShown self.now result d
-            × ((given : List Bool) → meaning d given ≡ literal_holds given literal) }
+        requires { IsLiteralTo (leaves (plain_tree self.now.vtree)) literal }
+        ensures shown { (d : Diagram) × ShowsCanonical self.now result d
+            × ((assignment : List Bool) → meaning d assignment ≡ literal_holds assignment literal) }
         ensures code { result ≡ code_of_literal literal }
         ensures table { IsTable self.now }
     {
@@ -153,7 +153,8 @@ impl Manager {
     pub fn element(&self, node: NodeId, index: u32) -> (NodeId, NodeId)
         requires { index < length (pairs_at self.now node) }
         ensures pair { slice_get (pairs_at self.now node) index ≡ Some result }
-        ensures shown { (p : ℕ) (elements : Elements) → Shows self.now node (Decomposition p elements) →
+        ensures shown { (p : ℕ) (elements : Elements)
+            → Shows self.now node (Decomposition p elements) →
             ShowsElement self.now result elements }
         ensures table { IsTable self.now }
     {
@@ -170,10 +171,10 @@ impl Manager {
         (NodeId(prime), NodeId(sub))
     }
 
-    /// A new root that holds a node. The only error is want of memory, and then nothing is changed.
+    /// A new root that holds a node. The only error: out of memory, and then nothing is changed.
     pub fn hold(&mut self, node: NodeId) -> Result<Root, AllocError>
-        requires still { self.old.moving ≡ None }
-        requires known { IsKnown self.old node }
+        requires no_move { self.old.moving ≡ None }
+        requires known { IsNodeOf self.old node }
         requires room { len self.old.roots < 2 ^ 32 - 1 }
         ensures absent { IfOk result (λ root. get self.old.roots root ≡ None) }
         ensures ok { IfOk result (λ root. self.new ≡ with_root self.old root node) }
@@ -187,7 +188,7 @@ impl Manager {
 
     /// Takes a root away. Its node stays until a sweep.
     pub fn release(&mut self, root: Root)
-        requires still { self.old.moving ≡ None }
+        requires no_move { self.old.moving ≡ None }
         requires root { IsSome (get self.old.roots root) }
         ensures released { self.new ≡ without_root self.old root }
         ensures table { IsTable self.new }
@@ -198,9 +199,9 @@ impl Manager {
 
     /// Makes a root hold another node, and hands the old one back.
     pub fn rebind(&mut self, root: &mut Root, node: NodeId) -> NodeId
-        requires still { self.old.moving ≡ None }
+        requires no_move { self.old.moving ≡ None }
         requires root { IsSome (get self.old.roots root.old) }
-        requires known { IsKnown self.old node }
+        requires known { IsNodeOf self.old node }
         ensures held { get self.old.roots root.old ≡ Some result }
         ensures rebound { self.new ≡ with_root self.old root.old node }
         ensures root { root.new ≡ root.old }
@@ -216,7 +217,7 @@ impl Manager {
     pub fn node_of(&self, root: &Root) -> NodeId
         requires { IsSome (get self.now.roots root.now) }
         ensures held { get self.now.roots root.now ≡ Some result }
-        ensures known { self.now.moving ≡ None → IsKnown self.now result }
+        ensures known { self.now.moving ≡ None → IsNodeOf self.now result }
         ensures table { IsTable self.now }
     {
         NodeId(self.roots.code(root))
@@ -224,14 +225,17 @@ impl Manager {
 
     /// Whether two roots hold one function. They do exactly where they hold one node.
     pub fn same(&self, a: &Root, b: &Root) -> bool
-        requires still { self.now.moving ≡ None }
+        requires no_move { self.now.moving ≡ None }
         requires first { IsSome (get self.now.roots a.now) }
         requires second { IsSome (get self.now.roots b.now) }
-        ensures diagrams { (x y : Diagram) → HoldsDiagram self.now a.now x → HoldsDiagram self.now b.now y →
+        ensures diagrams { (x y : Diagram) → HoldsDiagram self.now a.now x
+            → HoldsDiagram self.now b.now y →
             IsTrue result ↔ (x ≡ y) }
-        ensures functions { (x y : Diagram) → HoldsDiagram self.now a.now x → HoldsDiagram self.now b.now y →
-            IsTrue result ↔ ((given : List Bool) → length given ≡ leaves (forget self.now.vtree) →
-            meaning x given ≡ meaning y given) }
+        ensures functions { (x y : Diagram) → HoldsDiagram self.now a.now x
+            → HoldsDiagram self.now b.now y →
+            IsTrue result ↔ ((assignment : List Bool)
+            → length assignment ≡ leaves (plain_tree self.now.vtree) →
+            meaning x assignment ≡ meaning y assignment) }
         ensures table { IsTable self.now }
     {
         let first = self.node_of(a);
@@ -242,8 +246,9 @@ impl Manager {
     /// The value of a root under an assignment, which has one truth value for each variable.
     pub fn value(&self, root: &Root, assignment: &[bool]) -> bool
         requires held { (d : Diagram) × HoldsDiagram self.now root.now d }
-        requires values { length assignment.now ≡ leaves (forget self.now.vtree) }
-        ensures value { (d : Diagram) → HoldsDiagram self.now root.now d → result ≡ meaning d assignment.now }
+        requires values { length assignment.now ≡ leaves (plain_tree self.now.vtree) }
+        ensures value { (d : Diagram) → HoldsDiagram self.now root.now d
+            → result ≡ meaning d assignment.now }
         ensures table { IsTable self.now }
     {
         self.value_below(self.node_of(root), assignment, self.vtree.variables())
@@ -252,9 +257,10 @@ impl Manager {
     // The value of a node that shows a diagram of at most so many levels of decompositions.
     fn value_below(&self, node: NodeId, assignment: &[bool], levels: u32) -> bool
         requires table { IsTable self.now }
-        requires known { (d : Diagram) × IsShown self.now node d × (depth d ≤ levels) }
-        requires values { length assignment.now ≡ leaves (forget self.now.vtree) }
-        ensures { (d : Diagram) → IsShown self.now node d → result ≡ meaning d assignment.now }
+        requires known { (d : Diagram) × ShowsCanonical self.now node d × (depth d ≤ levels) }
+        requires values { length assignment.now ≡ leaves (plain_tree self.now.vtree) }
+        ensures { (d : Diagram) → ShowsCanonical self.now node d
+            → result ≡ meaning d assignment.now }
     {
         let count = match self.view(node) {
             View::Constant(value) => return value,
@@ -273,10 +279,11 @@ impl Manager {
     /// The node with the value of a partition of a vtree node: the elements are pairs of a prime and a sub, and no two
     /// subs are equal. A constant stands below every vtree node.
     ///
-    /// ArenaFull where the elements find no room in the arena, and OutOfMemory for want of memory; then nothing is
+    /// ArenaFull where the elements find no room in the arena, and OutOfMemory where memory runs out; then nothing is
     /// changed.
     pub fn make(&mut self, place: VNode, elements: &[(NodeId, NodeId)]) -> Result<NodeId, TakeError>
-        requires partition { (ds : List (Diagram × Diagram)) × IsPartitionAt self.old place elements.now ds }
+        requires partition { (ds : List (Diagram × Diagram))
+            × IsPartitionAt self.old place elements.now ds }
         requires differ { AreDistinct (map (λ e. e.1) elements.now) }
         ensures ok { IfOk result (λ c. (ds : List (Diagram × Diagram)) →
             IsPartitionAt self.old place elements.now ds → IsMade self.new c ds) }

@@ -14,7 +14,8 @@ pub(crate) fn sort_into(
     elements: &[(NodeId, NodeId)],
 ) -> Result<(), AllocError>
     ensures permutation { OnOk result (IsPermutation elements.now list.new.items) }
-    ensures sorted { OnOk result (IsSorted (λ (x y : ℕ × ℕ). ordering_then (nat_cmp x.0 y.0) (nat_cmp x.1 y.1))
+    ensures sorted { OnOk result
+        (IsSorted (λ (x y : ℕ × ℕ). ordering_then (nat_cmp x.0 y.0) (nat_cmp x.1 y.1))
         list.new.items) }
 {
     list.clear();
@@ -29,7 +30,8 @@ pub(crate) fn sort_into(
 // Puts the pairs into ascending order.
 fn sort(list: &mut Vec<(u32, u32)>)
     ensures permutation { IsPermutation list.old.items list.new.items }
-    ensures sorted { IsSorted (λ (x y : ℕ × ℕ). ordering_then (nat_cmp x.0 y.0) (nat_cmp x.1 y.1)) list.new.items }
+    ensures sorted { IsSorted (λ (x y : ℕ × ℕ). ordering_then (nat_cmp x.0 y.0) (nat_cmp x.1 y.1))
+        list.new.items }
 {
     list.sort_unstable();
 }

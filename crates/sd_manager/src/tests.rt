@@ -1,6 +1,6 @@
 ghost use Rattle.std.specs.Prelude.{◌≡◌, ◌^◌, ◌<◌, IfOk, OnErr, None};
 ghost use Rattle.std.specs.FinMap.{empty};
-ghost use Rattle.sd_manager.specs.Shown.{IsKnown};
+ghost use Rattle.sd_manager.specs.Shown.{IsNodeOf};
 ghost use Rattle.sd_manager.specs.Making.{Extends};
 ghost use Rattle.sd_manager.specs.OverTwo.{IsOverTwo};
 
@@ -25,7 +25,7 @@ fn over_two(alloc: Global, bound: u32) -> Result<(Manager, VNode), AllocError>
 // The node of `1 or 2`: where 1 is false it is 2, and where 1 is true it is true.
 fn one_or_two(m: &mut Manager, root: VNode) -> Result<NodeId, TakeError>
     requires { IsOverTwo m.old root }
-    ensures known { IfOk result (λ c. IsKnown m.new c) }
+    ensures known { IfOk result (λ c. IsNodeOf m.new c) }
     ensures kept { Extends m.old m.new }
     ensures over { IsOverTwo m.new root }
 {
@@ -37,7 +37,7 @@ fn one_or_two(m: &mut Manager, root: VNode) -> Result<NodeId, TakeError>
 // The node of `1`, as a partition: where 1 is false it is false, and where 1 is true it is true.
 fn one(m: &mut Manager, root: VNode) -> Result<NodeId, TakeError>
     requires { IsOverTwo m.old root }
-    ensures known { IfOk result (λ c. IsKnown m.new c) }
+    ensures known { IfOk result (λ c. IsNodeOf m.new c) }
     ensures kept { Extends m.old m.new }
     ensures over { IsOverTwo m.new root }
 {

@@ -40,7 +40,8 @@ fn add_pair(nodes: &mut Nodes, pair: (u32, u32))
     requires valid { IsNodes nodes.old }
     requires first { IsCounted nodes.old pair.0 }
     requires second { IsCounted nodes.old pair.1 }
-    requires room { (n k : ℕ) → get nodes.old.uses n ≡ Some k → k + uses_of_pair (2050 + n) pair < 2 ^ 64 }
+    requires room { (n k : ℕ) → get nodes.old.uses n ≡ Some k
+        → k + uses_of_pair (2050 + n) pair < 2 ^ 64 }
     ensures uses { AddsUses nodes.old nodes.new (λ c. uses_of_pair c pair) }
     ensures valid { IsNodes nodes.new }
 {
@@ -52,7 +53,8 @@ fn add_pair(nodes: &mut Nodes, pair: (u32, u32))
 pub(crate) fn add_uses(nodes: &mut Nodes, list: &[(u32, u32)])
     requires valid { IsNodes nodes.old }
     requires counted { AreCounted nodes.old list.now }
-    requires room { (n k : ℕ) → get nodes.old.uses n ≡ Some k → k + uses_in (2050 + n) list.now < 2 ^ 64 }
+    requires room { (n k : ℕ) → get nodes.old.uses n ≡ Some k
+        → k + uses_in (2050 + n) list.now < 2 ^ 64 }
     ensures uses { AddsUses nodes.old nodes.new (λ c. uses_in c list.now) }
     ensures valid { IsNodes nodes.new }
 {

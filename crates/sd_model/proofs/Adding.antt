@@ -39,23 +39,23 @@ same_itself d = ap is_eq (reflexive d d refl)
 -- the list with others added
 
 -- two lists are added one after the other
-pub add-append : (ds es fs : List Diagram) → add ds (es ++ fs) ≡ add (add ds es) fs
-add-append ds [] fs = refl
-add-append ds (e ∷ es) fs = add-append (add_one ds e) es fs
+pub add_append : (ds es fs : List Diagram) → add ds (es ++ fs) ≡ add (add ds es) fs
+add_append ds [] fs = refl
+add_append ds (e ∷ es) fs = add_append (add_one ds e) es fs
 
 -- adding the walk of elements adds the walks of the first prime, of its sub and of the rest
 pub add_pair : (ds : List Diagram) (p s : Diagram) (rest : Elements) → add ds (walk_elements (Pair p s rest))
     ≡ add (add (add ds (walk p)) (walk s)) (walk_elements rest)
 add_pair ds p s rest =
     ap (λ v. add ds v) (append_assoc (walk p) (walk s) (walk_elements rest))
-    ∙ add-append ds (walk p) (walk s ++ walk_elements rest)
-    ∙ add-append (add ds (walk p)) (walk s) (walk_elements rest)
+    ∙ add_append ds (walk p) (walk s ++ walk_elements rest)
+    ∙ add_append (add ds (walk p)) (walk s) (walk_elements rest)
 
 -- a diagram stands in one of two joined lists
-pub is_among-append : (d : Diagram) (es fs : List Diagram) → is_among d (es ++ fs) ≡ (is_among d es || is_among d fs)
-is_among-append d [] fs = refl
-is_among-append d (e ∷ es) fs =
-    go (is_same d e) (is_among d es) (is_among d (es ++ fs)) (is_among d fs) (is_among-append d es fs)
+pub is_among_append : (d : Diagram) (es fs : List Diagram) → is_among d (es ++ fs) ≡ (is_among d es || is_among d fs)
+is_among_append d [] fs = refl
+is_among_append d (e ∷ es) fs =
+    go (is_same d e) (is_among d es) (is_among d (es ++ fs)) (is_among d fs) (is_among_append d es fs)
   where
     go : (b c r f : Bool) → r ≡ (c || f) → (b || r) ≡ ((b || c) || f)
     go true c r f h = refl
@@ -85,7 +85,7 @@ filter_added ds d [] = refl
 filter_added ds d (x ∷ xs) = go (filter_added ds d xs) (is_same d x) (is_among x ds) refl refl
   where
     among : is_among x (ds ++ d ∷ []) ≡ (is_among x ds || (is_same d x || false))
-    among = is_among-append x ds (d ∷ []) ∙ ap (λ v. is_among x ds || (v || false)) (same_flip x d)
+    among = is_among_append x ds (d ∷ []) ∙ ap (λ v. is_among x ds || (v || false)) (same_flip x d)
 
     go : filter (IsNew ds) (filter (λ e. not (is_same d e)) xs) ≡ filter (IsNew (ds ++ d ∷ [])) xs → (b c : Bool) →
         is_same d x ≡ b → is_among x ds ≡ c →
@@ -115,10 +115,10 @@ filter_all [] = refl
 filter_all (x ∷ xs) = ap (λ v. x ∷ v) (filter_all xs)
 
 -- the first occurrences are what is added to the empty list
-pub first_occurrences-add : (es : List Diagram) → first_occurrences es ≡ add [] es
-first_occurrences-add es = sym (add_first_occurrences [] es ∙ filter_all (first_occurrences es))
+pub first_occurrences_add : (es : List Diagram) → first_occurrences es ≡ add [] es
+first_occurrences_add es = sym (add_first_occurrences [] es ∙ filter_all (first_occurrences es))
 
 -- so the distinct diagrams are the walk added to the empty list
-pub completed-add : (d : Diagram) → completed (d ∷ []) ≡ add [] (walk d)
+pub completed_add : (d : Diagram) → completed (d ∷ []) ≡ add [] (walk d)
 unfolding completed
-completed-add d = ap first_occurrences (append-nil (walk d)) ∙ first_occurrences-add (walk d)
+completed_add d = ap first_occurrences (append-nil (walk d)) ∙ first_occurrences_add (walk d)

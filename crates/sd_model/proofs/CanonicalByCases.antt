@@ -9,7 +9,7 @@ use Rattle.sd_model.specs.Tree.{Tree, Leaf, Node, right_base, position}
 use Rattle.sd_model.specs.Diagram.{Diagram, Literal, Decomposition, meaning, is_constant, diagram_cmp}
 use Rattle.sd_model.specs.Canonical.{IsElement, first, later, true_primes, AreDifferent}
 use Rattle.sd_model.specs.Canonical.{IsCanonical, canonical_literal, canonical_decomposition}
-use Rattle.sd_model.proofs.Blend.{assignment_of, value_in-assignment_of}
+use Rattle.sd_model.proofs.Blend.{assignment_of, value_in_assignment_of}
 use Rattle.sd_model.proofs.Order.{trans}
 use Rattle.sd_model.proofs.WorkedDiagrams.{two, three}
 
@@ -75,8 +75,8 @@ canonical_split {r} {x} {base} {s} {t} low cs ct different inner ascending =
     canonical_halves (canonical_literal false) (canonical_literal true) cs ct
     (record {
       one_prime = λ a. one (value_in a x);
-      first_holds = (assignment_of x (λ _. false), ap not (value_in-assignment_of x x (λ _. false) low (omega arith)));
-      second_holds = (assignment_of x (λ _. true), value_in-assignment_of x x (λ _. true) low (omega arith));
+      first_holds = (assignment_of x (λ _. false), ap not (value_in_assignment_of x x (λ _. false) low (omega arith)));
+      second_holds = (assignment_of x (λ _. true), value_in_assignment_of x x (λ _. true) low (omega arith));
       different = different;
       inner = inner;
       ascending = ascending;

@@ -6,7 +6,7 @@ use Rattle.sd_model.specs.Canonical.{IsElement, first, later}
 use Rattle.sd_model.specs.Size.{is_same, walk, walk_elements, completed}
 use Rattle.sd_model.specs.Listing.{is_among, add_one, add}
 use Rattle.sd_model.proofs.Blend.{or_left, or_right}
-use Rattle.sd_model.proofs.Adding.{same_itself, add-append, add_pair, is_among-append, completed-add}
+use Rattle.sd_model.proofs.Adding.{same_itself, add_append, add_pair, is_among_append, completed_add}
 
 -- the primes and subs of a diagram stand in the list
 abbrev pub ChildrenAmong : List Diagram → Diagram → Type 0
@@ -44,11 +44,11 @@ add_one_lists ds d c h = go (is_among d ds) refl
     go true e = record { lists = record { extends = λ x k. k; closed = c }; among = e }
     go false e = record {
       lists = record {
-        extends = λ x k. is_among-append x ds (d ∷ []) ∙ or_left (is_among x ds) (is_among x (d ∷ [])) k;
+        extends = λ x k. is_among_append x ds (d ∷ []) ∙ or_left (is_among x ds) (is_among x (d ∷ [])) k;
         closed = closed_push [] ds d c h;
       };
       among =
-          is_among-append d ds (d ∷ [])
+          is_among_append d ds (d ∷ [])
           ∙ or_right (is_among d ds) (is_among d (d ∷ [])) (or_left (is_same d d) false (same_itself d));
     }
 
@@ -81,7 +81,7 @@ mutual
       add_one_lists under (Decomposition p es) w.lists.closed w.among in
       let whole : Added ds (Decomposition p es) (add_one under (Decomposition p es)) =
       record { lists = joined w.lists one.lists; among = one.among } in
-      subst (Added ds (Decomposition p es)) (sym (add-append ds (walk_elements es) (Decomposition p es ∷ []))) whole
+      subst (Added ds (Decomposition p es)) (sym (add_append ds (walk_elements es) (Decomposition p es ∷ []))) whole
 
   -- adding the walk of elements brings in their primes and subs
   pub add_walk_elements : (es : Elements) (ds : List Diagram) → IsClosed [] ds →
@@ -105,4 +105,4 @@ mutual
 
 -- the list of the distinct diagrams is closed
 pub closed_completed : (d : Diagram) → IsClosed [] (completed (d ∷ []))
-closed_completed d = subst (IsClosed []) (sym (completed-add d)) (add_walk d [] tt).lists.closed
+closed_completed d = subst (IsClosed []) (sym (completed_add d)) (add_walk d [] tt).lists.closed

@@ -14,20 +14,20 @@ use Rattle.sd_model.specs.declared.diagrams.Element.{Element as OwnedElement}
 use Rattle.sd_model.specs.Diagram.{Diagram, diagram_cmp}
 use Rattle.sd_model.specs.Size.{is_same, walk, walk_elements, completed}
 use Rattle.sd_model.specs.Listing.{is_among, add}
-use Rattle.sd_model.specs.Text.{place_of}
+use Rattle.sd_model.specs.Text.{index_of}
 use Rattle.sd_model.specs.Seen.{diagram_of, elements_of, diagrams_of}
-use Rattle.sd_model.proofs.Adding.{add-append, add_pair, completed-add}
-use Rattle.sd_model.proofs.SeenLemmas.{seen_decomposition, elements_of-drop}
+use Rattle.sd_model.proofs.Adding.{add_append, add_pair, completed_add}
+use Rattle.sd_model.proofs.SeenLemmas.{seen_decomposition, elements_of_drop}
 
--- the nodes from a place on
-pub diagrams_of-drop : (nodes : List (Bor OwnedDiagram)) (i : ℕ) (r : Bor OwnedDiagram) → i < length nodes →
+-- the nodes from an index on
+pub diagrams_of_drop : (nodes : List (Bor OwnedDiagram)) (i : ℕ) (r : Bor OwnedDiagram) → i < length nodes →
     diagrams_of (drop i nodes) ≡ diagram_of (get_or nodes i r).now ∷ diagrams_of (drop (i + 1) nodes)
-diagrams_of-drop nodes i r h = rw (add-one, drop-cons nodes i r h)
+diagrams_of_drop nodes i r h = rw (add-one, drop-cons nodes i r h)
 
--- a diagram that stands at a place is found there
-pub place_here : (d : Diagram) (nodes : List (Bor OwnedDiagram)) (i : ℕ) (r : Bor OwnedDiagram) → i < length nodes →
-    diagram_cmp d (diagram_of (get_or nodes i r).now) ≡ Equal → place_of d (diagrams_of (drop i nodes)) ≡ 0
-place_here d nodes i r h e = rw (diagrams_of-drop nodes i r h, e)
+-- a diagram that stands at an index is found there
+pub index_here : (d : Diagram) (nodes : List (Bor OwnedDiagram)) (i : ℕ) (r : Bor OwnedDiagram) → i < length nodes →
+    diagram_cmp d (diagram_of (get_or nodes i r).now) ≡ Equal → index_of d (diagrams_of (drop i nodes)) ≡ 0
+index_here d nodes i r h e = rw (diagrams_of_drop nodes i r h, e)
 
 -- what is not `Equal` is no copy
 not_equal : (o : Ordering) → o ≢ Equal → is_eq o ≡ false
@@ -36,87 +36,87 @@ not_equal Equal ne = absurd (ne refl)
 not_equal Greater ne = refl
 
 -- one that does not stand there is found later
-pub place_later : (d : Diagram) (nodes : List (Bor OwnedDiagram)) (i : ℕ) (r : Bor OwnedDiagram) → i < length nodes →
-    diagram_cmp d (diagram_of (get_or nodes i r).now) ≢ Equal → place_of d (diagrams_of (drop i nodes))
-    ≡ place_of d (diagrams_of (drop (i + 1) nodes)) + 1
-place_later d nodes i r h ne =
-    rw (diagrams_of-drop nodes i r h, not_equal (diagram_cmp d (diagram_of (get_or nodes i r).now)) ne)
+pub index_later : (d : Diagram) (nodes : List (Bor OwnedDiagram)) (i : ℕ) (r : Bor OwnedDiagram) → i < length nodes →
+    diagram_cmp d (diagram_of (get_or nodes i r).now) ≢ Equal → index_of d (diagrams_of (drop i nodes))
+    ≡ index_of d (diagrams_of (drop (i + 1) nodes)) + 1
+index_later d nodes i r h ne =
+    rw (diagrams_of_drop nodes i r h, not_equal (diagram_cmp d (diagram_of (get_or nodes i r).now)) ne)
     (sym (add-one _))
 
--- a place is at most the length
-place_of-le : (d : Diagram) (ds : List Diagram) → place_of d ds ≤ length ds
-place_of-le d [] = omega arith
-place_of-le d (e ∷ ds) = go (is_same d e) (place_of-le d ds)
+-- an index is at most the length
+index_of_le : (d : Diagram) (ds : List Diagram) → index_of d ds ≤ length ds
+index_of_le d [] = omega arith
+index_of_le d (e ∷ ds) = go (is_same d e) (index_of_le d ds)
   where
-    go : (b : Bool) → place_of d ds ≤ length ds → cond b 0 (suc (place_of d ds)) ≤ suc (length ds)
+    go : (b : Bool) → index_of d ds ≤ length ds → cond b 0 (suc (index_of d ds)) ≤ suc (length ds)
     go true h = omega arith
     go false h = omega arith
 
--- a list lacks a diagram whose place is the list's length
-lacks : (d : Diagram) (ds : List Diagram) → place_of d ds ≡ length ds → is_among d ds ≡ false
+-- a list lacks a diagram whose index is the list's length
+lacks : (d : Diagram) (ds : List Diagram) → index_of d ds ≡ length ds → is_among d ds ≡ false
 lacks d [] h = refl
 lacks d (e ∷ ds) h = go (is_same d e) (lacks d ds) h
   where
-    go : (b : Bool) → (place_of d ds ≡ length ds → is_among d ds ≡ false) →
-        cond b 0 (suc (place_of d ds)) ≡ suc (length ds) → (b || is_among d ds) ≡ false
+    go : (b : Bool) → (index_of d ds ≡ length ds → is_among d ds ≡ false) →
+        cond b 0 (suc (index_of d ds)) ≡ suc (length ds) → (b || is_among d ds) ≡ false
     go true ih h = absurd (omega arith)
     go false ih h = ih (omega arith)
 
--- it has one with another place
-has : (d : Diagram) (ds : List Diagram) → place_of d ds ≢ length ds → is_among d ds ≡ true
+-- it has one with another index
+has : (d : Diagram) (ds : List Diagram) → index_of d ds ≢ length ds → is_among d ds ≡ true
 has d [] h = absurd (h refl)
 has d (e ∷ ds) h = go (is_same d e) (has d ds) h
   where
-    go : (b : Bool) → (place_of d ds ≢ length ds → is_among d ds ≡ true) →
-        cond b 0 (suc (place_of d ds)) ≢ suc (length ds) → (b || is_among d ds) ≡ true
+    go : (b : Bool) → (index_of d ds ≢ length ds → is_among d ds ≡ true) →
+        cond b 0 (suc (index_of d ds)) ≢ suc (length ds) → (b || is_among d ds) ≡ true
     go true ih h = refl
     go false ih h = ih (λ e. h (ap suc e))
 
 -- what is lacking is added at the end
-pub add_new : (ds : List Diagram) (d : Diagram) → place_of d ds ≡ length ds → add ds (d ∷ []) ≡ ds ++ d ∷ []
+pub add_new : (ds : List Diagram) (d : Diagram) → index_of d ds ≡ length ds → add ds (d ∷ []) ≡ ds ++ d ∷ []
 add_new ds d h = rw (lacks d ds h)
 
 -- what is there is not added
-pub add_old : (ds : List Diagram) (d : Diagram) → place_of d ds ≢ length ds → add ds (d ∷ []) ≡ ds
+pub add_old : (ds : List Diagram) (d : Diagram) → index_of d ds ≢ length ds → add ds (d ∷ []) ≡ ds
 add_old ds d h = rw (has d ds h)
 
 -- the diagrams behind references are as many as the references
-pub length-diagrams_of : (nodes : List (Bor OwnedDiagram)) → length (diagrams_of nodes) ≡ length nodes
-length-diagrams_of [] = refl
-length-diagrams_of (r ∷ nodes) = ap suc (length-diagrams_of nodes)
+pub length_diagrams_of : (nodes : List (Bor OwnedDiagram)) → length (diagrams_of nodes) ≡ length nodes
+length_diagrams_of [] = refl
+length_diagrams_of (r ∷ nodes) = ap suc (length_diagrams_of nodes)
 
 -- the walk over a decomposition is that over its elements, and then itself
 pub add_decomposition : (ds : List Diagram) (d : OwnedDiagram) (p : ℕ) (v : Vec OwnedElement Global) →
     d ≡ OwnedDecomposition p v →
     add ds (walk (diagram_of d)) ≡ add (add ds (walk_elements (elements_of v.items))) (diagram_of d ∷ [])
 add_decomposition ds d p v e =
-    rw (seen_decomposition d p v e) (add-append ds (walk_elements (elements_of v.items)) _)
+    rw (seen_decomposition d p v e) (add_append ds (walk_elements (elements_of v.items)) _)
 
--- the walk over the elements from a place on
+-- the walk over the elements from an index on
 pub add_element : (ds : List Diagram) (es : List OwnedElement) (i : ℕ) (e : OwnedElement) → i < length es →
     add ds (walk_elements (elements_of (drop i es)))
     ≡ add (add (add ds (walk (diagram_of (get_or es i e).prime))) (walk (diagram_of (get_or es i e).sub)))
     (walk_elements (elements_of (drop (i + 1) es)))
 add_element ds es i e h =
-    ap (λ v. add ds (walk_elements v)) (elements_of-drop es i e h)
+    ap (λ v. add ds (walk_elements v)) (elements_of_drop es i e h)
     ∙ add_pair ds (diagram_of (get_or es i e).prime) (diagram_of (get_or es i e).sub) (elements_of (drop (i + 1) es))
 
 -- the list of references grows by a diagram that it lacks
 pub node_added : (old new : List (Bor OwnedDiagram)) (d : Bor OwnedDiagram) → new ≡ old ++ d ∷ [] →
-    place_of (diagram_of d.now) (diagrams_of old) ≡ length old →
+    index_of (diagram_of d.now) (diagrams_of old) ≡ length old →
     diagrams_of new ≡ add (diagrams_of old) (diagram_of d.now ∷ [])
 node_added old new d e h =
     ap diagrams_of e
     ∙ map-append (λ (r : Bor OwnedDiagram). diagram_of r.now) old (d ∷ [])
-    ∙ sym (add_new (diagrams_of old) (diagram_of d.now) (h ∙ sym (length-diagrams_of old)))
+    ∙ sym (add_new (diagrams_of old) (diagram_of d.now) (h ∙ sym (length_diagrams_of old)))
 
 -- and stays as it is where the diagram is there
 pub node_there : (old : List (Bor OwnedDiagram)) (d : Bor OwnedDiagram) →
-    place_of (diagram_of d.now) (diagrams_of old) ≢ length old →
+    index_of (diagram_of d.now) (diagrams_of old) ≢ length old →
     diagrams_of old ≡ add (diagrams_of old) (diagram_of d.now ∷ [])
-node_there old d h = sym (add_old (diagrams_of old) (diagram_of d.now) (λ e. h (e ∙ length-diagrams_of old)))
+node_there old d h = sym (add_old (diagrams_of old) (diagram_of d.now) (λ e. h (e ∙ length_diagrams_of old)))
 
 -- what was added to an empty list is the list of the distinct diagrams
 pub nodes_completed : (d : Diagram) (before nodes : List (Bor OwnedDiagram)) → before ≡ [] →
     diagrams_of nodes ≡ add (diagrams_of before) (walk d) → diagrams_of nodes ≡ completed (d ∷ [])
-nodes_completed d before nodes e h = h ∙ ap (λ ns. add (diagrams_of ns) (walk d)) e ∙ sym (completed-add d)
+nodes_completed d before nodes e h = h ∙ ap (λ ns. add (diagrams_of ns) (walk d)) e ∙ sym (completed_add d)

@@ -5,7 +5,7 @@ use Rattle.std.specs.List.{AllByRecursion}
 use Rattle.sd_model.specs.Diagram.{Diagram, Bottom, Top, Literal, Decomposition, Elements, End, Pair}
 use Rattle.sd_model.specs.Size.{is_same, walk, walk_elements, completed}
 use Rattle.sd_model.specs.Listing.{is_among, add_one, add}
-use Rattle.sd_model.proofs.Adding.{equal_from_same, add-append, completed-add}
+use Rattle.sd_model.proofs.Adding.{equal_from_same, add_append, completed_add}
 
 abbrev mutual
   -- how deep and wide a diagram is: more than what is under it
@@ -95,7 +95,7 @@ ends_walk (Decomposition p es) =
     record {
       before = add [] (walk_elements es);
       whole =
-          add-append [] (walk_elements es) (Decomposition p es ∷ [])
+          add_append [] (walk_elements es) (Decomposition p es ∷ [])
           ∙ new (is_among (Decomposition p es) (add [] (walk_elements es))) refl;
     }
   where
@@ -112,4 +112,4 @@ ends_walk (Decomposition p es) =
 
 -- the list of the distinct diagrams ends in the diagram itself
 pub ends_completed : (d : Diagram) → EndsIn d (completed (d ∷ []))
-ends_completed d = subst (EndsIn d) (sym (completed-add d)) (ends_walk d)
+ends_completed d = subst (EndsIn d) (sym (completed_add d)) (ends_walk d)

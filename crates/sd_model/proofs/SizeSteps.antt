@@ -7,9 +7,9 @@ use Rattle.sd_model.specs.declared.diagrams.Diagram.{Diagram as OwnedDiagram}
 use Rattle.sd_model.specs.Diagram.{Diagram}
 use Rattle.sd_model.specs.Size.{element_count}
 use Rattle.sd_model.specs.Seen.{diagram_of, diagrams_of}
-use Rattle.sd_model.proofs.NodeSteps.{diagrams_of-drop}
+use Rattle.sd_model.proofs.NodeSteps.{diagrams_of_drop}
 
--- the sum from a place on, added to what is summed already
+-- the sum from an index on, added to what is summed already
 abbrev pub summed : ℕ → List Diagram → ℕ
 summed sum ds = fold (λ a d. a + element_count d) sum ds
 
@@ -17,7 +17,7 @@ summed sum ds = fold (λ a d. a + element_count d) sum ds
 pub summed_step : (sum : ℕ) (nodes : List (Bor OwnedDiagram)) (i : ℕ) (r : Bor OwnedDiagram) → i < length nodes →
     summed sum (diagrams_of (drop i nodes))
     ≡ summed (sum + element_count (diagram_of (get_or nodes i r).now)) (diagrams_of (drop (i + 1) nodes))
-summed_step sum nodes i r h = rw (diagrams_of-drop nodes i r h)
+summed_step sum nodes i r h = rw (diagrams_of_drop nodes i r h)
 
 -- the whole sum is no less than a part of it, so where the part is too large the whole is
 pub past_end : (sum n i : ℕ) (nodes : List (Bor OwnedDiagram)) (r : Bor OwnedDiagram) → i < length nodes →

@@ -8,15 +8,15 @@ use Rattle.sd_model.specs.declared.diagrams.Diagram.{Diagram as OwnedDiagram, De
 use Rattle.sd_model.specs.declared.diagrams.Element.{Element as OwnedElement}
 use Rattle.sd_model.specs.Diagram.{Diagram}
 use Rattle.sd_model.specs.Size.{completed}
-use Rattle.sd_model.specs.Text.{number_text, spaced, line_text, place_of, element_words, node_words, sdd_text}
+use Rattle.sd_model.specs.Text.{number_text, spaced, line_text, index_of, element_words, node_words, sdd_text}
 use Rattle.sd_model.specs.Seen.{diagram_of, elements_of, diagrams_of}
-use Rattle.sd_model.proofs.NodeSteps.{length-diagrams_of}
-use Rattle.sd_model.proofs.SeenLemmas.{seen_decomposition, count-elements_of}
+use Rattle.sd_model.proofs.NodeSteps.{length_diagrams_of}
+use Rattle.sd_model.proofs.SeenLemmas.{seen_decomposition, count_elements_of}
 
 -- the pieces of a decomposition's line, in the order in which they are written behind what is there
 abbrev pub pieces : List ℕ → List Diagram → Diagram → ℕ → List OwnedElement → List ℕ
 pieces old nodes d p es =
-    old ++ 68 ∷ 32 ∷ number_text (place_of d nodes) ++ 32 ∷ number_text p ++ 32 ∷ number_text (length es)
+    old ++ 68 ∷ 32 ∷ number_text (index_of d nodes) ++ 32 ∷ number_text p ++ 32 ∷ number_text (length es)
     ++ spaced (element_words nodes (elements_of es)) ++ 10 ∷ []
 
 -- they are its line
@@ -25,7 +25,7 @@ pub decomposition_line : (old : List ℕ) (nodes : List Diagram) (d : OwnedDiagr
     pieces old nodes (diagram_of d) p v.items ≡ old ++ line_text (node_words nodes (diagram_of d))
 decomposition_line old nodes d p v e =
     subst (λ x. pieces old nodes x p v.items ≡ old ++ line_text (node_words nodes x)) (sym (seen_decomposition d p v e))
-    (rw count-elements_of (simp append_assoc))
+    (rw count_elements_of (simp append_assoc))
 
 -- a header with a number of nodes, and the nodes' lines
 abbrev pub header_and_lines : ℕ → List Diagram → List ℕ
@@ -37,7 +37,7 @@ pub whole_text : (d : Diagram) (nodes : List (Bor OwnedDiagram)) → diagrams_of
     header_and_lines (length nodes) (diagrams_of nodes) ≡ sdd_text d
 unfolding sdd_text
 whole_text d nodes h =
-    rw (← length-diagrams_of nodes)
+    rw (← length_diagrams_of nodes)
     (subst (λ ns. header_and_lines (length ns) ns ≡ sdd_text d) (sym h)
     (ap (λ number. 115 ∷ 100 ∷ 100 ∷ 32 ∷ (number ++ 10 ∷ [] ++ lines))
     (sym (append-nil (number_text (length (completed (d ∷ []))))))))

@@ -83,7 +83,8 @@ fn moved_root(alloc: Global, tree: &Tree, kind: Move) -> Result<Tree, MovedError
 // A right rotation of the node over two trees: the left one's children are parted.
 fn rotated_right(alloc: Global, left: &Tree, right: &Tree) -> Result<Tree, MovedError>
     ensures ok { IfOk result
-        (λ t. moved_root RotateRight (Node (tree_of left.now) (tree_of right.now)) ≡ Some (tree_of t)) }
+        (λ t. moved_root RotateRight (Node (tree_of left.now) (tree_of right.now))
+        ≡ Some (tree_of t)) }
     ensures not_movable { (result ≡ Err MovedError.NotMovable)
         ↔ (moved_root RotateRight (Node (tree_of left.now) (tree_of right.now)) ≡ None) }
 {
@@ -102,7 +103,8 @@ fn rotated_right(alloc: Global, left: &Tree, right: &Tree) -> Result<Tree, Moved
 // A left rotation of the node over two trees: the right one's children are parted.
 fn rotated_left(alloc: Global, left: &Tree, right: &Tree) -> Result<Tree, MovedError>
     ensures ok { IfOk result
-        (λ t. moved_root RotateLeft (Node (tree_of left.now) (tree_of right.now)) ≡ Some (tree_of t)) }
+        (λ t. moved_root RotateLeft (Node (tree_of left.now) (tree_of right.now))
+        ≡ Some (tree_of t)) }
     ensures not_movable { (result ≡ Err MovedError.NotMovable)
         ↔ (moved_root RotateLeft (Node (tree_of left.now) (tree_of right.now)) ≡ None) }
 {

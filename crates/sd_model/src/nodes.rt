@@ -4,7 +4,7 @@
 ghost use Rattle.std.specs.Prelude.{◌≡◌, ◌∷◌, [], OnOk, IfOk};
 ghost use Rattle.sd_model.specs.Listing.{add};
 ghost use Rattle.sd_model.specs.Size.{walk, walk_elements, completed};
-ghost use Rattle.sd_model.specs.Text.{place_of};
+ghost use Rattle.sd_model.specs.Text.{index_of};
 ghost use Rattle.sd_model.specs.Seen.{diagram_of, elements_of, diagrams_of};
 
 use crate::diagrams::{Diagram, Element, compare};
@@ -20,10 +20,10 @@ pub fn nodes_of<'a>(alloc: Global, d: &'a Diagram) -> Result<Vec<&'a Diagram>, A
     Ok(nodes)
 }
 
-/// The place of a diagram in a list, or the list's length.
-#[tactic(auto, using(crate::proofs::NodeSteps::place_here, crate::proofs::NodeSteps::place_later))]
-pub fn place(nodes: &[&Diagram], d: &Diagram) -> usize
-    ensures { result ≡ place_of (diagram_of d.now) (diagrams_of nodes.now) }
+/// The index of a diagram in a list, or the list's length.
+#[tactic(auto, using(crate::proofs::NodeSteps::index_here, crate::proofs::NodeSteps::index_later))]
+pub fn find_index(nodes: &[&Diagram], d: &Diagram) -> usize
+    ensures { result ≡ index_of (diagram_of d.now) (diagrams_of nodes.now) }
 {
     for (i, node) in nodes.iter().enumerate() {
         if compare(d, node) == Ordering::Equal {
@@ -69,7 +69,7 @@ fn add_node<'a>(nodes: &mut Vec<&'a Diagram>, d: &'a Diagram) -> Result<(), Allo
     ensures { OnOk result (diagrams_of nodes.new.items
         ≡ add (diagrams_of nodes.old.items) (diagram_of d.now ∷ [])) }
 {
-    if place(nodes, d) == nodes.len() {
+    if find_index(nodes, d) == nodes.len() {
         nodes.push(d)?;
     }
     Ok(())

@@ -11,7 +11,7 @@ use crate::nodes::nodes_of;
 use std::alloc::{AllocError, Global};
 
 /// The size of a diagram: the sum of the element counts of the distinct decompositions in it.
-/// A sum past 64 bits, which no memory can hold, is answered as want of memory. It is for small diagrams, as is
+/// A sum past 64 bits, which no memory can hold, is answered as out of memory. It is for small diagrams, as is
 /// `text_of`.
 #[tactic(auto, unfolding(crate::specs::Size::size_of))]
 pub fn size_of(alloc: Global, d: &Diagram) -> Result<u64, AllocError>

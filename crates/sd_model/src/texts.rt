@@ -2,12 +2,12 @@
 
 ghost use Rattle.std.specs.Prelude.{◌≡◌, List, ◌∷◌, [], ◌++◌, map, OnOk, IfOk};
 ghost use Rattle.std.specs.List.{flat_map};
-ghost use Rattle.sd_model.specs.Text.{number_text, literal_text, line_text, place_of};
+ghost use Rattle.sd_model.specs.Text.{number_text, literal_text, line_text, index_of};
 ghost use Rattle.sd_model.specs.Text.{spaced, element_words, node_words, sdd_text};
 ghost use Rattle.sd_model.specs.Seen.{diagram_of, elements_of, diagrams_of};
 
 use crate::diagrams::{Diagram, Element};
-use crate::nodes::{nodes_of, place};
+use crate::nodes::{find_index, nodes_of};
 use itoa::Buffer;
 use std::alloc::{AllocError, Global};
 
@@ -61,11 +61,12 @@ fn push_elements(
     elements: &[Element],
 ) -> Result<(), AllocError>
     ensures { OnOk result (text.new.items
-        ≡ text.old.items ++ spaced (element_words (diagrams_of nodes.now) (elements_of elements.now))) }
+        ≡ text.old.items
+        ++ spaced (element_words (diagrams_of nodes.now) (elements_of elements.now))) }
 {
     for element in elements {
-        push_number(text, place(nodes, &element.prime) as u64)?;
-        push_number(text, place(nodes, &element.sub) as u64)?;
+        push_number(text, find_index(nodes, &element.prime) as u64)?;
+        push_number(text, find_index(nodes, &element.sub) as u64)?;
     }
     Ok(())
 }
@@ -91,7 +92,7 @@ fn push_node(text: &mut Vec<u8>, nodes: &[&Diagram], node: &Diagram) -> Result<(
     ensures { OnOk result (text.new.items
         ≡ text.old.items ++ line_text (node_words (diagrams_of nodes.now) (diagram_of node.now))) }
 {
-    let number = place(nodes, node) as u64;
+    let number = find_index(nodes, node) as u64;
     match node {
         Diagram::Bottom => {
             push_start(text, b'F', number)?;

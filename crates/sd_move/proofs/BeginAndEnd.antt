@@ -8,11 +8,11 @@ use Rattle.std.specs.FinMap.{empty, get, get-empty}
 use Rattle.std.proofs.lemmas.Option.{some_pair_parts}
 use Rattle.sd_vtree.specs.Numbered.{or_else}
 use Rattle.sd_laws.specs.Values.{Valuation, StandsIn, AreOrderly, ShowsValue}
-use Rattle.sd_laws.proofs.Evaluated.{value_of, literals-given, evaluated}
-use Rattle.sd_laws.proofs.Known.{IsShownNode, shown-orderly}
-use Rattle.sd_laws.proofs.Growing.{shown-apart}
+use Rattle.sd_laws.proofs.Evaluated.{value_of, literals_given, evaluated}
+use Rattle.sd_laws.proofs.Unturned.{IsShownNode, shown_orderly}
+use Rattle.sd_laws.proofs.Growing.{shown_apart}
 use Rattle.sd_laws.proofs.GoneBack.{IsBaseOrNode, AllNodes, codes_there}
-use Rattle.sd_laws.proofs.ByValues.{shown-by_values}
+use Rattle.sd_laws.proofs.ByValues.{shown_by_values}
 use Rattle.sd_manager.specs.Table.{Table, key_at}
 use Rattle.sd_manager.specs.Valid.{IsTable}
 use Rattle.sd_manager.specs.Moving.{moving_at}
@@ -51,7 +51,7 @@ pub begun : (m : Table) (x : ℕ) → (i : IsTable m) → m.moving ≡ None →
     MoveInProgress m (moving_at m x) x no_progress (value_of (get m.linked))
 begun m x i still =
     record {
-      literals = literals-given (get m.linked);
+      literals = literals_given (get m.linked);
       moving = refl;
       began = λ n h d. shows n h;
       kept = λ n h d. key n h;
@@ -66,7 +66,7 @@ begun m x i still =
       new_below = λ n u l e f. absurd (not_new n f (subst IsSome (sym (all_linked m i still n (u, l) e)) refl));
       new_linked = λ a n k. absurd (none_detached n k);
       apart = λ a b ha hb same.
-          shown-apart m.vtree i.numbered (get m.linked) i.keys (all_shown m i still) a b
+          shown_apart m.vtree i.numbered (get m.linked) i.keys (all_shown m i still) a b
           (number_linked m i still a ha) (number_linked m i still b hb) same;
       roots = refl;
     }
@@ -80,7 +80,7 @@ begun m x i still =
         absurd (cc (subst IsSome (ap (λ z. get z n) (i.at_rest still) ∙ get-empty nat_cmp n) k))
 
     o : AreOrderly m.vtree (get m.linked) (IsShownNode m.vtree (get m.linked)) (value_of (get m.linked))
-    o = shown-orderly m.vtree i.numbered (get m.linked)
+    o = shown_orderly m.vtree i.numbered (get m.linked)
 
     node : (n u : ℕ) (l : List (ℕ × ℕ)) → get m.linked n ≡ Some (u, l) → IsShownNode m.vtree (get m.linked) n
     node n u l e = all_shown m i still n (subst IsSome (sym e) refl)
@@ -106,7 +106,7 @@ pub ended : (m0 m : Table) (x : ℕ) (h : Progress) (v : Valuation) → IsTable 
     AllByRecursion (λ (e : ℕ × ℕ). IsBaseOrNode m.vtree e.0 × IsBaseOrNode m.vtree e.1) l) → (n : ℕ) →
     IsSome (get m.linked n) → ShowsValue m.vtree (get m.linked) v (2050 + n)
 ended m0 m x h v i g closed codes n is =
-    shown-by_values m.vtree i.numbered (get m.linked) AllNodes v i.keys
+    shown_by_values m.vtree i.numbered (get m.linked) AllNodes v i.keys
     (record {
       literals = g.literals;
       value = λ a u l t e. g.value a u l (linked_key m a (u, l) e);

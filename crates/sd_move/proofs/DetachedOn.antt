@@ -8,16 +8,16 @@ use Rattle.std.proofs.lemmas.Option.{none-some, some_pair_parts}
 use Rattle.sd_vtree.specs.Numbered.{IsNumbered, IsUnder, or_else}
 use Rattle.sd_vtree.proofs.Subtrees.{AtMostOnce, once_numbered}
 use Rattle.sd_vtree.proofs.Under.{under_trans}
-use Rattle.sd_runs.proofs.Maps.{get-insert_same, get-insert_other, get-remove_same, get-remove_other}
+use Rattle.sd_runs.proofs.Maps.{get_insert_same, get_insert_other, get_remove_same, get_remove_other}
 use Rattle.sd_laws.specs.Shown.{Shows}
 use Rattle.sd_laws.specs.Values.{Valuation, StandsIn, ShowsValue}
-use Rattle.sd_laws.proofs.Users.{users-above}
-use Rattle.sd_laws.proofs.Within.{shows-within}
+use Rattle.sd_laws.proofs.Users.{users_above}
+use Rattle.sd_laws.proofs.Within.{shows_within}
 use Rattle.sd_manager.specs.Table.{Table, key_at}
 use Rattle.sd_manager.specs.Valid.{IsSettled}
 use Rattle.sd_manager.specs.Moving.{detached_from, IsTop}
 use Rattle.sd_move.specs.Moving.{Progress, IsNew, MoveInProgress}
-use Rattle.sd_move.proofs.Kept.{code_in}
+use Rattle.sd_move.proofs.UndoKept.{code_in}
 use Rattle.sd_move.proofs.Undoing.{under_apart}
 use Rattle.sd_move.proofs.Linking.{linked_key}
 
@@ -28,31 +28,31 @@ detached_keys : (m : Table) (n : ℕ) (k : ℕ × List (ℕ × ℕ)) → get m.l
     key_at (detached_from m n k) i ≡ key_at m i
 detached_keys m n k e i = elim (cases_eq i n) [
   | inl z ↦
-      let a : get (remove m.linked n) i ≡ None = ap (get (remove m.linked n)) z ∙ get-remove_same m.linked n in
+      let a : get (remove m.linked n) i ≡ None = ap (get (remove m.linked n)) z ∙ get_remove_same m.linked n in
       let b : get (insert m.detached n k) i ≡ Some k =
-      ap (get (insert m.detached n k)) z ∙ get-insert_same m.detached n k in
+      ap (get (insert m.detached n k)) z ∙ get_insert_same m.detached n k in
       let c : get m.linked i ≡ Some k = ap (get m.linked) z ∙ e in
       ap (λ o. or_else o (get (insert m.detached n k) i)) a ∙ b
       ∙ sym (ap (λ o. or_else o (get m.detached i)) c)
   | inr z ↦
-      ap (λ o. or_else o (get (insert m.detached n k) i)) (get-remove_other m.linked n i z)
-      ∙ ap (or_else (get m.linked i)) (get-insert_other m.detached n k i z)
+      ap (λ o. or_else o (get (insert m.detached n k) i)) (get_remove_other m.linked n i z)
+      ∙ ap (or_else (get m.linked i)) (get_insert_other m.detached n k i z)
 ]
 
 -- a node that is still linked is another one, and was linked
 still_linked : (m : Table) (n i : ℕ) (k : ℕ × List (ℕ × ℕ)) → get (remove m.linked n) i ≡ Some k →
     (i ≢ n) × (get m.linked i ≡ Some k)
 still_linked m n i k e = elim (cases_eq i n) [
-  | inl z ↦ absurd (none-some k (sym (get-remove_same m.linked n) ∙ ap (get (remove m.linked n)) (sym z) ∙ e))
-  | inr z ↦ (z, sym (get-remove_other m.linked n i z) ∙ e)
+  | inl z ↦ absurd (none-some k (sym (get_remove_same m.linked n) ∙ ap (get (remove m.linked n)) (sym z) ∙ e))
+  | inr z ↦ (z, sym (get_remove_other m.linked n i z) ∙ e)
 ]
 
 -- what is not above the moved node
 
 -- what stands strictly below a place that is not above the moved node is not above it either
-pub settled-below : (m : Table) → AtMostOnce m.vtree → (p q : ℕ) → IsSettled m p → IsUnder m.vtree q p → p ≢ q →
+pub settled_below : (m : Table) → AtMostOnce m.vtree → (p q : ℕ) → IsSettled m p → IsUnder m.vtree q p → p ≢ q →
     IsSettled m q
-settled-below m once p q s u d y e = go (s y e)
+settled_below m once p q s u d y e = go (s y e)
   where
     go : (y ≡ p) ⊎ (¬ IsUnder m.vtree y p) → (y ≡ q) ⊎ (¬ IsUnder m.vtree y q)
     go (inl z) =
@@ -72,18 +72,18 @@ stays_closed m0 m x h v num g n top a b p l s e stands = (
   λ z. top a (p, l) e (s.1 p l e) (subst (λ i. StandsIn (2050 + i) l) z stands),
   λ q k f.
       let u =
-      users-above m.vtree num v b p q l k (g.placed a p l e) (g.whole b q k (linked_key m b (q, k) f))
+      users_above m.vtree num v b p q l k (g.placed a p l e) (g.whole b q k (linked_key m b (q, k) f))
       (g.placed b q k f) (g.value b q k (linked_key m b (q, k) f)) stands in
-      settled-below m (once_numbered m.vtree num) p q (s.1 p l e) u.0 u.1,
+      settled_below m (once_numbered m.vtree num) p q (s.1 p l e) u.0 u.1,
 )
 
 -- Detaching a node that no settled node has in its list keeps what holds inside a move, but between the first rewriting
 -- and the way back; a new node is detached on the way back alone.
-pub detached-on : (m0 m : Table) (x : ℕ) (h : Progress) (v : Valuation) → IsNumbered m.vtree →
+pub detached_on : (m0 m : Table) (x : ℕ) (h : Progress) (v : Valuation) → IsNumbered m.vtree →
     MoveInProgress m0 m x h v → (n : ℕ) (k : ℕ × List (ℕ × ℕ)) → get m.linked n ≡ Some k → IsTop m n →
     (h.has_rewritten ≡ true → h.goes_back ≡ false → ⊥) → (h.goes_back ≡ false → ¬ IsNew m0 h n) →
     MoveInProgress m0 (detached_from m n k) x h v
-detached-on m0 m x h v num g n k e top early old =
+detached_on m0 m x h v num g n k e top early old =
     record {
       literals = g.literals;
       moving = g.moving;
@@ -106,7 +106,7 @@ detached-on m0 m x h v num g n k e top early old =
     new_linked : h.goes_back ≡ false → (i : ℕ) → IsSome (get (insert m.detached n k) i) → (i ≡ n) ⊎ (i ≢ n) →
         ¬ IsNew m0 h i
     new_linked a i d (inl z) = subst (λ j. ¬ IsNew m0 h j) (sym z) (old a)
-    new_linked a i d (inr z) = g.new_linked a i (subst IsSome (get-insert_other m.detached n k i z) d)
+    new_linked a i d (inr z) = g.new_linked a i (subst IsSome (get_insert_other m.detached n k i z) d)
 
     settled : (i u : ℕ) (l : List (ℕ × ℕ)) → (i ≢ n) × (get m.linked i ≡ Some (u, l)) → IsSettled m u →
         ShowsValue m.vtree (get (remove m.linked n)) v (2050 + i)
@@ -115,9 +115,9 @@ detached-on m0 m x h v num g n k e top early old =
         let stays : StaysShown m n i =
         (w.0, λ p j f. subst (IsSettled m) (place_same m i u p l j w.1 f) s) in
         let shows : Shows m.vtree (get (remove m.linked n)) (2050 + i) old.diagram =
-        shows-within m.vtree (get m.linked) (get (remove m.linked n)) (StaysShown m n)
+        shows_within m.vtree (get m.linked) (get (remove m.linked n)) (StaysShown m n)
         (λ a b p j own at stands. stays_closed m0 m x h v num g n top a b p j own at stands)
-        (λ a key own at. get-remove_other m.linked n a own.0 ∙ at) old.diagram (2050 + i)
+        (λ a key own at. get_remove_other m.linked n a own.0 ∙ at) old.diagram (2050 + i)
         (code_in (StaysShown m n) i stays) old.is.shows in
         record { diagram = old.diagram; is = record { shows = shows; canonical = old.is.canonical }; value = old.value }
       where

@@ -7,7 +7,7 @@ use Rattle.std.specs.FinMap.{FinMap, get, remove}
 use Rattle.std.proofs.lemmas.Bool.{cases_eq}
 use Rattle.std.proofs.lemmas.Option.{none-some}
 use Rattle.sd_vtree.specs.Numbered.{or_else}
-use Rattle.sd_runs.proofs.Maps.{get-remove_same, get-remove_other}
+use Rattle.sd_runs.proofs.Maps.{get_remove_same, get_remove_other}
 use Rattle.sd_laws.specs.Values.{Valuation}
 use Rattle.sd_manager.specs.Table.{Table, key_at}
 use Rattle.sd_manager.specs.Valid.{IsTable}
@@ -27,7 +27,7 @@ key_after m n i = or_else (get m.linked i) (get (remove m.detached n) i)
 
 -- each other node keeps its key
 other_key : (m : Table) (n i : ℕ) → i ≢ n → key_after m n i ≡ key_at m i
-other_key m n i d = ap (or_else (get m.linked i)) (get-remove_other m.detached n i d)
+other_key m n i d = ap (or_else (get m.linked i)) (get_remove_other m.detached n i d)
 
 -- and the discarded one has none
 no_key : (m : Table) → IsTable m → (n : ℕ) (former : ℕ × List (ℕ × ℕ)) → get m.detached n ≡ Some former →
@@ -35,7 +35,7 @@ no_key : (m : Table) → IsTable m → (n : ℕ) (former : ℕ × List (ℕ × �
 no_key m t n former e = go (get m.linked n) refl
   where
     go : (o : Option (ℕ × List (ℕ × ℕ))) → get m.linked n ≡ o → key_after m n n ≡ None
-    go None f = ap (λ o. or_else o (get (remove m.detached n) n)) f ∙ get-remove_same m.detached n
+    go None f = ap (λ o. or_else o (get (remove m.detached n) n)) f ∙ get_remove_same m.detached n
     go (Some k) f = absurd (none-some former (sym (t.either n k f) ∙ e))
 
 -- so a node that is there is another one, and was there
@@ -48,10 +48,10 @@ still_there m t n former e i k f = elim (cases_eq i n) [
 
 -- Discarding a detached node on the way back keeps what holds inside a move: what is said of discarded numbers is said
 -- of one more, and each other node is as it was.
-pub discarded-on : (m0 m : Table) (x : ℕ) (h : Progress) (v : Valuation) → IsTable m → MoveInProgress m0 m x h v →
+pub discarded_on : (m0 m : Table) (x : ℕ) (h : Progress) (v : Valuation) → IsTable m → MoveInProgress m0 m x h v →
     h.goes_back ≡ true → (n : ℕ) (former : ℕ × List (ℕ × ℕ)) → get m.detached n ≡ Some former →
     (marks free : FinMap nat_cmp ℕ) → MoveInProgress m0 (discarded_from m n marks free) x (with_discarded h n) v
-discarded-on m0 m x h v t g way n former e marks free =
+discarded_on m0 m x h v t g way n former e marks free =
     record {
       literals = g.literals;
       moving = g.moving;

@@ -11,20 +11,20 @@ use Rattle.sd_model.specs.Diagram.{Diagram, Literal, meaning}
 use Rattle.sd_vtree.specs.Numbered.{IsUnder, or_else}
 use Rattle.sd_runs.specs.Arena.{Has}
 use Rattle.sd_laws.specs.Depends.{DependsOn}
-use Rattle.sd_laws.specs.Shown.{Lookup, literal_code, IsNode}
+use Rattle.sd_laws.specs.Shown.{Lookup, literal_code, ShowsCanonical as ShowsCanonicalBy}
 use Rattle.sd_laws.specs.Values.{Valuation, IsSame, pairs_value, StandsIn, IsWhole, IsPlaced, GivesLiterals, AreOrderly}
 use Rattle.sd_laws.specs.Values.{ShowsValue, AreApart, IsTwoSided}
-use Rattle.sd_laws.proofs.Lists.{all-from, all-weaker}
+use Rattle.sd_laws.proofs.Lists.{all_from, all_weaker}
 use Rattle.sd_laws.proofs.Evaluated.{value_of}
-use Rattle.sd_laws.proofs.Known.{IsShownNode, valued-orderly, shown-closed}
-use Rattle.sd_laws.proofs.SameValues.{AllSame, value-same, whole-same, placed-same, shown-value}
-use Rattle.sd_laws.proofs.Within.{shows-within, prime-stands, sub-stands}
-use Rattle.sd_laws.proofs.Growing.{joined_values, both_of, IsGrown, grown_values, grown-kept, grown-shown, grown-apart}
+use Rattle.sd_laws.proofs.Unturned.{IsShownNode, valued_orderly, shown_closed}
+use Rattle.sd_laws.proofs.SameValues.{AllSame, value_same, whole_same, placed_same, shown_value}
+use Rattle.sd_laws.proofs.Within.{shows_within, prime_stands, sub_stands}
+use Rattle.sd_laws.proofs.Growing.{joined_values, both_of, IsGrown, grown_values, grown_kept, grown_shown, grown_apart}
 use Rattle.sd_manager.specs.Table.{Table, key_at}
 use Rattle.sd_manager.specs.Making.{Extends}
 use Rattle.sd_manager.specs.Valid.{IsTable, IsSettled}
 use Rattle.sd_move.specs.Moving.{Progress, IsNew, MoveInProgress, HasNumber, IsDetachedCode, IsBelowNode}
-use Rattle.sd_move.proofs.Kept.{code_in}
+use Rattle.sd_move.proofs.UndoKept.{code_in}
 
 -- An operation made the table m the table m': each node that is linked now is settled, or is an old one whose function
 -- looks beyond the moved node; each new one stands below that node and looks at one of its two children; each detached
@@ -35,7 +35,7 @@ pub record HasGrown (m m' : Table) (x : ℕ) (left right : Tree) (v : Valuation)
   pub closed : (n i u : ℕ) (l : List (ℕ × ℕ)) → key_at m n ≡ Some (u, l) → StandsIn (2050 + i) l → HasNumber m i
   pub kind : (n : ℕ) (k : ℕ × List (ℕ × ℕ)) → get m'.linked n ≡ Some k →
       IsSettled m' k.0 ⊎ (IsSome (get m.linked n) × (¬ DependsOn (Node left right) (v (2050 + n))))
-  pub fresh : (n : ℕ) (d : Diagram) → get m.linked n ≡ None → IsNode m'.vtree (get m'.linked) (2050 + n) d →
+  pub fresh : (n : ℕ) (d : Diagram) → get m.linked n ≡ None → ShowsCanonicalBy m'.vtree (get m'.linked) (2050 + n) d →
       DependsOn left (meaning d) ⊎ DependsOn right (meaning d)
   pub new_below : (n : ℕ) (k : ℕ × List (ℕ × ℕ)) → key_at m n ≡ None → get m'.linked n ≡ Some k → IsBelowNode m' x k.0
   pub waiting : (n : ℕ) → IsSome (get m.detached n) → IsTwoSided left right (v (2050 + n))
@@ -146,17 +146,17 @@ code_same m m' v c h = elim (cases_lt c 2050) [
   | inr ge ↦
       let e : c ≡ 2050 + (c - 2050) = omega arith in
       subst (λ k. IsSame (values_after m m' v k) (v k)) (sym e)
-      (grown-kept (get m.linked) (get m'.linked) (get m.detached) v (c - 2050) (h (c - 2050) e))
+      (grown_kept (get m.linked) (get m'.linked) (get m.detached) v (c - 2050) (h (c - 2050) e))
 ]
 
 -- and so have all of them
 list_same : (m m' : Table) (x : ℕ) (left right : Tree) (v : Valuation) → HasGrown m m' x left right v → (n u : ℕ)
     (l : List (ℕ × ℕ)) → key_at m n ≡ Some (u, l) → AllSame v (values_after m m' v) l
 list_same m m' x left right v h n u l e =
-    all-from (λ (p : ℕ × ℕ). IsSame (values_after m m' v p.0) (v p.0) × IsSame (values_after m m' v p.1) (v p.1)) l
+    all_from (λ (p : ℕ × ℕ). IsSame (values_after m m' v p.0) (v p.0) × IsSame (values_after m m' v p.1) (v p.1)) l
     (λ p k. (
-      code_same m m' v p.0 (λ i z. h.closed n i u l e (prime-stands l p (2050 + i) k z)),
-      code_same m m' v p.1 (λ i z. h.closed n i u l e (sub-stands l p (2050 + i) k z)),
+      code_same m m' v p.0 (λ i z. h.closed n i u l e (prime_stands l p (2050 + i) k z)),
+      code_same m m' v p.1 (λ i z. h.closed n i u l e (sub_stands l p (2050 + i) k z)),
     ))
 
 -- what is shown
@@ -164,11 +164,11 @@ list_same m m' x left right v h n u l e =
 -- what an old linked node shows now has its old value
 old_shown : (m0 m m' : Table) (x : ℕ) (p : Progress) (left right : Tree) (v : Valuation) →
     MoveInProgress m0 m x p v → HasGrown m m' x left right v → (n : ℕ) (d : Diagram) → IsSome (get m.linked n) →
-    IsNode m'.vtree (get m'.linked) (2050 + n) d → IsSame (meaning d) (v (2050 + n))
+    ShowsCanonicalBy m'.vtree (get m'.linked) (2050 + n) d → IsSame (meaning d) (v (2050 + n))
 old_shown m0 m m' x p left right v g h n d is shown a =
-    shown-value m'.vtree (get m.linked) h.table.numbered v g.literals
+    shown_value m'.vtree (get m.linked) h.table.numbered v g.literals
     (λ i u l e. g.value i u l (linked_old m i (u, l) e)) d (2050 + n) a
-    (shows-within m'.vtree (get m'.linked) (get m.linked) (HasNumber m) closed keeps d (2050 + n)
+    (shows_within m'.vtree (get m'.linked) (get m.linked) (HasNumber m) closed keeps d (2050 + n)
     (code_in (HasNumber m) n number) shown.shows)
   where
     number : HasNumber m n
@@ -228,9 +228,9 @@ shown_order : (m0 m m' : Table) (x : ℕ) (p : Progress) (left right : Tree) (v 
     MoveInProgress m0 m x p v → HasGrown m m' x left right v →
     AreOrderly m'.vtree (get m'.linked) (IsShownNode m'.vtree (get m'.linked)) (values_after m m' v)
 shown_order m0 m m' x p left right v g h =
-    valued-orderly m'.vtree h.table.numbered (get m'.linked) (IsShownNode m'.vtree (get m'.linked))
-    (values_after m m' v) (literals_after m m' v g.literals) (shown-closed m'.vtree h.table.numbered (get m'.linked))
-    (grown-shown m'.vtree (get m.linked) (get m'.linked) (get m.detached) v left right
+    valued_orderly m'.vtree h.table.numbered (get m'.linked) (IsShownNode m'.vtree (get m'.linked))
+    (values_after m m' v) (literals_after m m' v g.literals) (shown_closed m'.vtree h.table.numbered (get m'.linked))
+    (grown_shown m'.vtree (get m.linked) (get m'.linked) (get m.detached) v left right
     (is_grown m0 m m' x p left right v g h))
 
 -- a new node is shown
@@ -255,9 +255,9 @@ settled_after m m' e p s y f = go (s y (sym e.moving ∙ f))
 -- An operation keeps what holds inside a move, under a valuation that gives the old nodes the values that they had.
 -- Each field goes by the origin of a node: an old one has its key and value, and a new one is shown, so all is known
 -- of it.
-pub grown-on : (m0 m m' : Table) (x : ℕ) (p : Progress) (left right : Tree) (v : Valuation) →
+pub grown_on : (m0 m m' : Table) (x : ℕ) (p : Progress) (left right : Tree) (v : Valuation) →
     MoveInProgress m0 m x p v → HasGrown m m' x left right v → MoveInProgress m0 m' x p (values_after m m' v)
-grown-on m0 m m' x p left right v g h =
+grown_on m0 m m' x p left right v g h =
     record {
       literals = literals_after m m' v g.literals;
       moving = h.extends.moving ∙ g.moving;
@@ -268,7 +268,7 @@ grown-on m0 m m' x p left right v g h =
       whole = λ n u l e. whole n u l (origin_of m m' h.table h.extends n (u, l) e);
       placed = λ n u l e. placed n u l e (something (get m.linked n));
       settled = λ n u l e s.
-          grown-shown m'.vtree (get m.linked) (get m'.linked) (get m.detached) v left right
+          grown_shown m'.vtree (get m.linked) (get m'.linked) (get m.detached) v left right
           (is_grown m0 m m' x p left right v g h) n (settled_shown m' h.table n (u, l) e s);
       above = λ n u l e s. above n u l e s (h.kind n (u, l) e);
       lists = λ n u q l old e f d. lists n u q l old f d (origin_of m m' h.table h.extends n (u, l) e);
@@ -276,7 +276,7 @@ grown-on m0 m m' x p left right v g h =
       new_below = λ n u l e f. new_below n u l f (origin_of m m' h.table h.extends n (u, l) e);
       new_linked = λ a n k. g.new_linked a n (subst IsSome (ap (λ z. get z n) h.extends.detached) k);
       apart = subst (λ z. AreApart (both_of (get m'.linked) (get z)) (values_after m m' v)) (sym h.extends.detached)
-          (grown-apart m'.vtree (get m.linked) (get m'.linked) (get m.detached) v left right
+          (grown_apart m'.vtree (get m.linked) (get m'.linked) (get m.detached) v left right
           (is_grown m0 m m' x p left right v g h));
       roots = h.extends.roots ∙ g.roots;
     }
@@ -287,21 +287,21 @@ grown-on m0 m m' x p left right v g h =
         record {
           diagram = s.diagram;
           is = s.is;
-          value = λ a. s.value a ∙ sym (grown-kept (get m.linked) (get m'.linked) (get m.detached) v n is a);
+          value = λ a. s.value a ∙ sym (grown_kept (get m.linked) (get m'.linked) (get m.detached) v n is a);
         }
 
     value : (n u : ℕ) (l : List (ℕ × ℕ)) → Origin m m' n (u, l) →
         IsSame (values_after m m' v (2050 + n)) (pairs_value (values_after m m' v) l)
     value n u l (Old e) a =
-        grown-kept (get m.linked) (get m'.linked) (get m.detached) v n (subst IsSome (sym e) refl) a
+        grown_kept (get m.linked) (get m'.linked) (get m.detached) v n (subst IsSome (sym e) refl) a
         ∙ g.value n u l e a
-        ∙ sym (value-same v (values_after m m' v) l (list_same m m' x left right v h n u l e) a)
+        ∙ sym (value_same v (values_after m m' v) l (list_same m m' x left right v h n u l e) a)
     value n u l (New z e) a =
         (shown_order m0 m m' x p left right v g h).value n u l (new_shown m m' x left right v h n (u, l) z e) e a
 
     whole : (n u : ℕ) (l : List (ℕ × ℕ)) → Origin m m' n (u, l) → IsWhole (values_after m m' v) l
     whole n u l (Old e) =
-        whole-same v (values_after m m' v) l (list_same m m' x left right v h n u l e) (g.whole n u l e)
+        whole_same v (values_after m m' v) l (list_same m m' x left right v h n u l e) (g.whole n u l e)
     whole n u l (New z e) =
         (shown_order m0 m m' x p left right v g h).whole n u l (new_shown m m' x left right v h n (u, l) z e) e
 
@@ -310,7 +310,7 @@ grown-on m0 m m' x p left right v g h =
     placed n u l e (inl k) =
         let j = there (get m.linked n) k in
         let f : get m.linked n ≡ Some (u, l) = j.1 ∙ sym (h.extends.nodes n j.0 j.1) ∙ e in
-        placed-same m'.vtree v (values_after m m' v) u l
+        placed_same m'.vtree v (values_after m m' v) u l
         (list_same m m' x left right v h n u l (linked_old m n (u, l) f))
         (subst (λ t. IsPlaced t v u l) (sym h.extends.vtree) (g.placed n u l f))
     placed n u l e (inr z) = fresh (h.kind n (u, l) e)
@@ -339,7 +339,7 @@ grown-on m0 m m' x p left right v g h =
         get m.detached n ≡ Some (u, l) →
         AllByRecursion (λ (e : ℕ × ℕ). (¬ IsDetachedCode m' e.0) × (¬ IsDetachedCode m' e.1)) l
     free a b n u l e =
-        all-weaker (λ (e : ℕ × ℕ). (¬ IsDetachedCode m e.0) × (¬ IsDetachedCode m e.1))
+        all_weaker (λ (e : ℕ × ℕ). (¬ IsDetachedCode m e.0) × (¬ IsDetachedCode m e.1))
         (λ (e : ℕ × ℕ). (¬ IsDetachedCode m' e.0) × (¬ IsDetachedCode m' e.1))
         (λ e w. (not_detached e.0 w.0, not_detached e.1 w.1)) l (g.free a b n u l e)
       where

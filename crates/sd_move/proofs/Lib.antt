@@ -1,4 +1,4 @@
-pub mod Kept
+pub mod UndoKept
 pub mod Newest
 pub mod Undoing
 pub mod ThereAndBack

@@ -9,12 +9,12 @@ use Rattle.std.proofs.lemmas.Bool.{cases_eq}
 use Rattle.std.proofs.lemmas.Option.{none-some, some_pair_parts}
 use Rattle.sd_vtree.specs.Numbered.{Numbered, or_else}
 use Rattle.sd_runs.specs.Arena.{Has}
-use Rattle.sd_runs.proofs.Maps.{get-insert_same, get-insert_other, get-remove_same, get-remove_other}
+use Rattle.sd_runs.proofs.Maps.{get_insert_same, get_insert_other, get_remove_same, get_remove_other}
 use Rattle.sd_laws.specs.Shown.{Lookup, AreKeys, Keeps}
 use Rattle.sd_laws.specs.Values.{Valuation, IsSame, pairs_value, IsWhole, IsPlaced, ShowsValue}
-use Rattle.sd_laws.proofs.Lists.{all-weaker}
-use Rattle.sd_laws.proofs.Codes.{shows-kept}
-use Rattle.sd_laws.proofs.ByValues.{node-by_values}
+use Rattle.sd_laws.proofs.Lists.{all_weaker}
+use Rattle.sd_laws.proofs.Codes.{shows_kept}
+use Rattle.sd_laws.proofs.ByValues.{node_by_values}
 use Rattle.sd_manager.specs.Table.{Table, key_at}
 use Rattle.sd_manager.specs.Valid.{IsTable, IsSettled}
 use Rattle.sd_manager.specs.Moving.{linked_under}
@@ -40,13 +40,13 @@ key_after m n key i = or_else (get (insert m.linked n key) i) (get (remove m.det
 new_key : (m : Table) (n i : ℕ) (key : ℕ × List (ℕ × ℕ)) → i ≡ n → key_after m n key i ≡ Some key
 new_key m n i key z =
     ap (λ o. or_else o (get (remove m.detached n) i))
-    (ap (get (insert m.linked n key)) z ∙ get-insert_same m.linked n key)
+    (ap (get (insert m.linked n key)) z ∙ get_insert_same m.linked n key)
 
 -- and each other one its own
 other_key : (m : Table) (n i : ℕ) (key : ℕ × List (ℕ × ℕ)) → i ≢ n → key_after m n key i ≡ key_at m i
 other_key m n i key d =
-    ap (λ o. or_else o (get (remove m.detached n) i)) (get-insert_other m.linked n key i d)
-    ∙ ap (or_else (get m.linked i)) (get-remove_other m.detached n i d)
+    ap (λ o. or_else o (get (remove m.detached n) i)) (get_insert_other m.linked n key i d)
+    ∙ ap (or_else (get m.linked i)) (get_remove_other m.detached n i d)
 
 -- each linked node stays linked
 still_there : (m : Table) → IsTable m → (n : ℕ) (former key : ℕ × List (ℕ × ℕ)) → get m.detached n ≡ Some former →
@@ -56,7 +56,7 @@ still_there m i n former key d a k e = elim (cases_eq a n) [
       let none : get m.detached a ≡ None = i.either a k e in
       let there : get m.detached a ≡ Some former = ap (get m.detached) z ∙ d in
       absurd (none-some former (sym none ∙ there))
-  | inr z ↦ get-insert_other m.linked n key a z ∙ e
+  | inr z ↦ get_insert_other m.linked n key a z ∙ e
 ]
 
 -- what is shown stays shown
@@ -65,7 +65,7 @@ lifted : (t : Numbered) (old new : Lookup) (v : Valuation) (c : ℕ) → Keeps o
 lifted t old new v c keeps s =
     record {
       diagram = s.diagram;
-      is = record { shows = shows-kept t old new keeps s.diagram c s.is.shows; canonical = s.is.canonical };
+      is = record { shows = shows_kept t old new keeps s.diagram c s.is.shows; canonical = s.is.canonical };
       value = s.value;
     }
 
@@ -90,7 +90,7 @@ pub record CanLink (m0 m : Table) (x : ℕ) (h h' : Progress) (v : Valuation) (n
 
 -- Linking it keeps what holds inside a move. Each field goes by cases: of the node itself it is one of `CanLink`, and
 -- each other node has the key that it had.
-pub linked-on : (m0 m : Table) (x : ℕ) (h h' : Progress) (v : Valuation) → IsTable m → MoveInProgress m0 m x h v →
+pub linked_on : (m0 m : Table) (x : ℕ) (h h' : Progress) (v : Valuation) → IsTable m → MoveInProgress m0 m x h v →
     (n p : ℕ) (l : List (ℕ × ℕ)) (loose : FinMap nat_cmp (List (ℕ × ℕ))) (free : FinMap nat_cmp ℕ) (extent : ℕ) →
     CanLink m0 m x h h' v n p l →
     (h'.has_rewritten ≡ true → h'.goes_back ≡ false → (i u : ℕ) (list : List (ℕ × ℕ)) →
@@ -98,7 +98,7 @@ pub linked-on : (m0 m : Table) (x : ℕ) (h h' : Progress) (v : Valuation) → I
     AllByRecursion (λ (e : ℕ × ℕ). (¬ IsDetachedCode (linked_with m n (p, l) loose free extent) e.0)
     × (¬ IsDetachedCode (linked_with m n (p, l) loose free extent) e.1)) list) →
     MoveInProgress m0 (linked_with m n (p, l) loose free extent) x h' v
-linked-on m0 m x h h' v t g n p l loose free extent c apart_codes =
+linked_on m0 m x h h' v t g n p l loose free extent c apart_codes =
     record {
       literals = g.literals;
       moving = g.moving;
@@ -127,11 +127,11 @@ linked-on m0 m x h h' v t g n p l loose free extent c apart_codes =
         (p ≡ u) × (l ≡ k)
     own_linked i u k z e =
         some_pair_parts p u l k
-        (sym (ap (get (insert m.linked n (p, l))) z ∙ get-insert_same m.linked n (p, l)) ∙ e)
+        (sym (ap (get (insert m.linked n (p, l))) z ∙ get_insert_same m.linked n (p, l)) ∙ e)
 
     before_linked : (i u : ℕ) (k : List (ℕ × ℕ)) → i ≢ n → get (insert m.linked n (p, l)) i ≡ Some (u, k) →
         get m.linked i ≡ Some (u, k)
-    before_linked i u k d e = sym (get-insert_other m.linked n (p, l) i d) ∙ e
+    before_linked i u k d e = sym (get_insert_other m.linked n (p, l) i d) ∙ e
 
     number : (i : ℕ) → IsSome (key_after m n (p, l) i) → (i ≡ n) ⊎ (i ≢ n) → IsSome (key_at m i)
     number i e (inl z) =
@@ -167,9 +167,9 @@ linked-on m0 m x h h' v t g n p l loose free extent c apart_codes =
 
     node : ShowsValue m.vtree (get (insert m.linked n (p, l))) v (2050 + n)
     node =
-        node-by_values m.vtree t.numbered (get (insert m.linked n (p, l))) c.keys v g.literals n p l
-        (get-insert_same m.linked n (p, l)) c.whole c.placed c.same
-        (all-weaker (λ (e : ℕ × ℕ). ShowsValue m.vtree (get m.linked) v e.0 × ShowsValue m.vtree (get m.linked) v e.1)
+        node_by_values m.vtree t.numbered (get (insert m.linked n (p, l))) c.keys v g.literals n p l
+        (get_insert_same m.linked n (p, l)) c.whole c.placed c.same
+        (all_weaker (λ (e : ℕ × ℕ). ShowsValue m.vtree (get m.linked) v e.0 × ShowsValue m.vtree (get m.linked) v e.1)
         (λ (e : ℕ × ℕ). ShowsValue m.vtree (get (insert m.linked n (p, l))) v e.0
         × ShowsValue m.vtree (get (insert m.linked n (p, l))) v e.1)
         (λ e w. (
@@ -210,6 +210,6 @@ linked-on m0 m x h h' v t g n p l loose free extent c apart_codes =
     new_linked : h'.goes_back ≡ false → (i : ℕ) → IsSome (get (remove m.detached n) i) → IsNew m0 h i →
         (i ≡ n) ⊎ (i ≢ n) → ⊥
     new_linked a i d k (inl z) =
-        absurd (cc (subst IsSome (ap (get (remove m.detached n)) z ∙ get-remove_same m.detached n) d))
+        absurd (cc (subst IsSome (ap (get (remove m.detached n)) z ∙ get_remove_same m.detached n) d))
     new_linked a i d k (inr z) =
-        g.new_linked (c.way a) i (subst IsSome (get-remove_other m.detached n i z) d) k
+        g.new_linked (c.way a) i (subst IsSome (get_remove_other m.detached n i z) d) k

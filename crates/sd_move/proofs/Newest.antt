@@ -6,14 +6,14 @@ use Rattle.std.specs.FinMap.{get}
 use Rattle.std.proofs.lemmas.Option.{same_Some}
 use Rattle.sd_laws.specs.Shown.{Shows, AreKeys}
 use Rattle.sd_laws.specs.Values.{StandsIn}
-use Rattle.sd_laws.proofs.Within.{shows-within}
+use Rattle.sd_laws.proofs.Within.{shows_within}
 use Rattle.sd_manager.specs.Table.{Table}
 use Rattle.sd_manager.specs.Moving.{IsAscending}
 use Rattle.sd_sweep.specs.Reached.{reached_first, reached_below}
 use Rattle.sd_move.specs.Journal.{Journal, back, IsOwnRun, IsNamed}
 use Rattle.sd_move.specs.Journal.{IsNeededBack, IsOneFunction}
 use Rattle.sd_move.specs.Moves.{StaysFunction}
-use Rattle.sd_move.proofs.Kept.{code_in}
+use Rattle.sd_move.proofs.UndoKept.{code_in}
 
 -- What a move from the table m0 to the table m has left: the journal leads each node of m0 back to its key, each one
 -- keeps its function, the roots stay, the loose runs are those from before and old lists of nodes of m0, and a node of
@@ -39,17 +39,17 @@ there None h = absurd (cc (h))
 there (Some x) h = (x, refl)
 
 -- each node that the journal needs is one of m0
-pub needed-old : (m0 m : Table) (j : Journal) → LeadsBack m0 m j → {n : ℕ} → IsNeededBack j m n →
+pub needed_old : (m0 m : Table) (j : Journal) → LeadsBack m0 m j → {n : ℕ} → IsNeededBack j m n →
     IsSome (get m0.linked n)
-needed-old m0 m j l (reached_first {n = n} (inl h)) =
+needed_old m0 m j l (reached_first {n = n} (inl h)) =
     l.roots_closed h.0 n (ap (λ r. get r h.0) (sym l.roots) ∙ h.1)
-needed-old m0 m j l (reached_first {n = n} (inr (inl h))) =
+needed_old m0 m j l (reached_first {n = n} (inr (inl h))) =
     l.runs_closed h.0 n h.1 (l.other_runs h.0 h.1 h.2 h.3) h.4
-needed-old m0 m j l (reached_first {n = n} (inr (inr (inl h)))) =
+needed_old m0 m j l (reached_first {n = n} (inr (inr (inl h)))) =
     let o = l.own_runs h.0 h.1 h.2 h.3 in l.lists_closed o.0 n o.1 h.1 o.2 h.4
-needed-old m0 m j l (reached_first {n = n} (inr (inr (inr h)))) = l.named n h
-needed-old m0 m j l (reached_below {m = i} {n = n} {place = place} {list = list} h e s) =
-    let k = there (get m0.linked i) (needed-old m0 m j l h) in
+needed_old m0 m j l (reached_first {n = n} (inr (inr (inr h)))) = l.named n h
+needed_old m0 m j l (reached_below {m = i} {n = n} {place = place} {list = list} h e s) =
+    let k = there (get m0.linked i) (needed_old m0 m j l h) in
     let same : k.0 ≡ (place, list) = same_Some k.0 (place, list) (sym (l.nodes i k.0 k.1) ∙ e) in
     l.lists_closed i n place list (k.1 ∙ ap Some same) s
 
@@ -57,23 +57,23 @@ needed-old m0 m j l (reached_below {m = i} {n = n} {place = place} {list = list}
 back_old : (m0 m : Table) (j : Journal) → LeadsBack m0 m j → (n : ℕ) (key : ℕ × List (ℕ × ℕ)) → IsNeededBack j m n →
     back j m n ≡ Some key → get m0.linked n ≡ Some key
 back_old m0 m j l n key h e =
-    let k = there (get m0.linked n) (needed-old m0 m j l h) in
+    let k = there (get m0.linked n) (needed_old m0 m j l h) in
     k.1 ∙ sym (l.nodes n k.0 k.1) ∙ e
 
 -- so its list ascends
-pub back-ascends : (m0 m : Table) (j : Journal) → AreKeys (get m0.linked) → LeadsBack m0 m j → (n place : ℕ)
+pub back_ascends : (m0 m : Table) (j : Journal) → AreKeys (get m0.linked) → LeadsBack m0 m j → (n place : ℕ)
     (list : List (ℕ × ℕ)) → IsNeededBack j m n → back j m n ≡ Some (place, list) → IsAscending list
-back-ascends m0 m j keys l n place list h e = keys.ascending n (place, list) (back_old m0 m j l n (place, list) h e)
+back_ascends m0 m j keys l n place list h e = keys.ascending n (place, list) (back_old m0 m j l n (place, list) h e)
 
 -- and it shows its function in the vtree of m0
-pub back-shown : (m0 m : Table) (j : Journal) → LeadsBack m0 m j → (n : ℕ) → IsNeededBack j m n →
+pub back_shown : (m0 m : Table) (j : Journal) → LeadsBack m0 m j → (n : ℕ) → IsNeededBack j m n →
     IsOneFunction m m0.vtree (back j m) n
-back-shown m0 m j l n h =
-    let f = l.function n (needed-old m0 m j l h) in
+back_shown m0 m j l n h =
+    let f = l.function n (needed_old m0 m j l h) in
     let shows : Shows m0.vtree (back j m) (2050 + n) f.before =
-    shows-within m0.vtree (get m0.linked) (back j m) (λ i. IsSome (get m0.linked i))
+    shows_within m0.vtree (get m0.linked) (back j m) (λ i. IsSome (get m0.linked i))
     (λ i k place list p e s. l.lists_closed i k place list e s) (λ i key p e. l.nodes i key e) f.before (2050 + n)
-    (code_in (λ i. IsSome (get m0.linked i)) n (needed-old m0 m j l h)) f.shown.shows in
+    (code_in (λ i. IsSome (get m0.linked i)) n (needed_old m0 m j l h)) f.shown.shows in
     record {
       now = f.after;
       there = f.before;

@@ -4,8 +4,8 @@ use Rattle.std.specs.FinMap.{get}
 use Rattle.sd_vtree.specs.Numbered.{Numbered, IsUnder}
 use Rattle.sd_laws.specs.Turned.{KeepsOthers}
 use Rattle.sd_laws.specs.Values.{Valuation, IsPlaced}
-use Rattle.sd_laws.proofs.Placing.{placed-others}
-use Rattle.sd_laws.proofs.Users.{under-turned}
+use Rattle.sd_laws.proofs.Placing.{placed_others}
+use Rattle.sd_laws.proofs.Users.{under_turned}
 use Rattle.sd_manager.specs.Table.{Table}
 use Rattle.sd_manager.specs.Valid.{IsSettled}
 use Rattle.sd_manager.specs.Moving.{with_vtree, KeepsMeanings}
@@ -19,7 +19,7 @@ settled_before m t x w p v l keeps dx dw placed s y e = go (s y e)
     go : (y ≡ p) ⊎ (¬ IsUnder t y p) → (y ≡ p) ⊎ (¬ IsUnder m.vtree y p)
     go (inl k) = inl k
     go (inr k) =
-        inr (λ u. k (under-turned m.vtree t x w keeps p placed.left placed.right dx dw placed.at y u))
+        inr (λ u. k (under_turned m.vtree t x w keeps p placed.left placed.right dx dw placed.at y u))
 
 -- and the other way round
 settled_after : (m : Table) (t : Numbered) (x w p : ℕ) (v : Valuation) (l : List (ℕ × ℕ)) →
@@ -29,14 +29,14 @@ settled_after m t x w p v l keeps dx dw placed s y e = go (s y e)
     go : (y ≡ p) ⊎ (¬ IsUnder m.vtree y p) → (y ≡ p) ⊎ (¬ IsUnder t y p)
     go (inl k) = inl k
     go (inr k) =
-        inr (λ u. k (under-turned t m.vtree x w keeps p placed.left placed.right dx dw placed.at y u))
+        inr (λ u. k (under_turned t m.vtree x w keeps p placed.left placed.right dx dw placed.at y u))
 
 -- Turning the vtree, where no linked node stands at the two nodes, keeps what holds inside a move.
-pub turned-on : (m0 m : Table) (t : Numbered) (x w : ℕ) (h : Progress) (v : Valuation) → KeepsOthers m.vtree t x w →
+pub turned_on : (m0 m : Table) (t : Numbered) (x w : ℕ) (h : Progress) (v : Valuation) → KeepsOthers m.vtree t x w →
     KeepsOthers t m.vtree x w → ((p : ℕ) → IsUnder m.vtree p x → IsUnder t p x) →
     ((n : ℕ) (k : ℕ × List (ℕ × ℕ)) → get m.linked n ≡ Some k → (k.0 ≢ x) × (k.0 ≢ w)) →
     KeepsMeanings m (with_vtree m t) → MoveInProgress m0 m x h v → MoveInProgress m0 (with_vtree m t) x h v
-turned-on m0 m t x w h v there back under cleared meanings g =
+turned_on m0 m t x w h v there back under cleared meanings g =
     record {
       literals = g.literals;
       moving = g.moving;
@@ -63,4 +63,4 @@ turned-on m0 m t x w h v there back under cleared meanings g =
   where
     placed : (n p : ℕ) (l : List (ℕ × ℕ)) → get m.linked n ≡ Some (p, l) → IsPlaced t v p l
     placed n p l e =
-        let c = cleared n (p, l) e in placed-others m.vtree t x w v p l there c.0 c.1 (g.placed n p l e)
+        let c = cleared n (p, l) e in placed_others m.vtree t x w v p l there c.0 c.1 (g.placed n p l e)

@@ -7,25 +7,25 @@ use Rattle.std.specs.FinMap.{get}
 use Rattle.std.proofs.lemmas.Bool.{cases_eq}
 use Rattle.std.proofs.lemmas.Option.{none-some, some_pair_parts}
 use Rattle.sd_model.specs.Tree.{leaves}
-use Rattle.sd_vtree.specs.Numbered.{Numbered, forget, IsNumbered, IsUnder, number_of, subtree, numbers, times}
+use Rattle.sd_vtree.specs.Numbered.{Numbered, plain_tree, IsNumbered, IsUnder, number_of, subtree, numbers, times}
 use Rattle.sd_vtree.proofs.Subtrees.{AtMostOnce, once_numbered, subtree_some, subtree_once, subtree_trans}
 use Rattle.sd_vtree.proofs.Subtrees.{subtree_number}
 use Rattle.sd_vtree.proofs.Under.{under_trans, under_part}
 use Rattle.sd_laws.specs.Shown.{Lookup}
 use Rattle.sd_laws.specs.Turned.{KeepsOthers}
 use Rattle.sd_laws.specs.Values.{StandsIn, IsCodeOf, AreOrderly, ShowsValue}
-use Rattle.sd_laws.proofs.Lists.{all-weaker}
-use Rattle.sd_laws.proofs.Nodes.{code-of_node}
-use Rattle.sd_laws.proofs.Evaluated.{value_of, value-of_shown, literals-given}
-use Rattle.sd_laws.proofs.Known.{IsShownNode, valued-orderly}
+use Rattle.sd_laws.proofs.Lists.{all_weaker}
+use Rattle.sd_laws.proofs.Nodes.{code_of_node}
+use Rattle.sd_laws.proofs.Evaluated.{value_of, value_of_shown, literals_given}
+use Rattle.sd_laws.proofs.Unturned.{IsShownNode, valued_orderly}
 use Rattle.sd_laws.proofs.GoneBack.{GoesBack, IsBaseOrNode, root_below}
 use Rattle.sd_manager.specs.Table.{Table}
 use Rattle.sd_manager.specs.Valid.{IsTable}
 use Rattle.sd_sweep.specs.Reached.{reached_first, reached_below, IsInRun, IsReached}
-use Rattle.sd_move.specs.Journal.{Named, Journal, entry_of, key_before, key_of_entry, back, IsOwnRun}
+use Rattle.sd_move.specs.Journal.{Named, Journal, journal_entry, key_before, key_of_entry, back, IsOwnRun}
 use Rattle.sd_move.specs.Journal.{IsNeededBack, CanPutBack, CanUndo}
 use Rattle.sd_sweep.proofs.AtRest.{all_shown, now_orderly, below_user}
-use Rattle.sd_move.proofs.Kept.{entry-found}
+use Rattle.sd_move.proofs.UndoKept.{entry_found}
 
 -- places
 
@@ -108,7 +108,7 @@ below_places j t i still lower upper m n p l e place s q k f =
 -- the key of a node that has another list than in the state gone back to
 by_run : (j : Journal) (t : Table) → (i : IsTable t) → t.moving ≡ None → IsLowerUnder j t →
     IsUnder t.vtree j.upper j.upper → (m n p : ℕ) (l : List (ℕ × ℕ)) → IsNeededBack j t m →
-    get t.linked m ≡ Some (p, l) → StandsIn (2050 + n) l → (e : Named) → entry_of j.named m ≡ Some e →
+    get t.linked m ≡ Some (p, l) → StandsIn (2050 + n) l → (e : Named) → journal_entry j.named m ≡ Some e →
     (p ≡ j.upper) ⊎ (Some p ≡ j.lower) → (o : Option (ℕ × ℕ)) → e.run ≡ o → IsNeededOrBelow j t n
 by_run j t i still lower upper m n p l h f s e entry place None run =
     let key : back j t m ≡ Some (e.place, l) =
@@ -122,12 +122,12 @@ by_run j t i still lower upper m n p l h f s e entry place (Some r) run =
 of_needed : (j : Journal) (t : Table) → (i : IsTable t) → t.moving ≡ None → CanUndo j t → IsLowerUnder j t →
     IsUnder t.vtree j.upper j.upper → (m n p : ℕ) (l : List (ℕ × ℕ)) → IsNeededBack j t m →
     get t.linked m ≡ Some (p, l) → StandsIn (2050 + n) l → IsNeededOrBelow j t n
-of_needed j t i still c lower upper m n p l h f s = by_entry (entry_of j.named m) refl
+of_needed j t i still c lower upper m n p l h f s = by_entry (journal_entry j.named m) refl
   where
-    by_entry : (o : Option Named) → entry_of j.named m ≡ o → IsNeededOrBelow j t n
+    by_entry : (o : Option Named) → journal_entry j.named m ≡ o → IsNeededOrBelow j t n
     by_entry None k = inl (reached_below h (ap (key_of_entry t m) k ∙ f) s)
     by_entry (Some e) k =
-        let x = entry-found j.named (CanPutBack t j.upper j.lower) c.entries m e k in
+        let x = entry_found j.named (CanPutBack t j.upper j.lower) c.entries m e k in
         let same : x.0.place ≡ p =
         (some_pair_parts x.0.place p x.0.list l
         (sym (ap (get t.linked) (sym x.1) ∙ x.0.linked) ∙ f)).0 in
@@ -135,12 +135,12 @@ of_needed j t i still c lower upper m n p l h f s = by_entry (entry_of j.named m
         e.run refl
 
 -- each reached node is needed, or stands strictly below the moved node
-pub needed-or_below : (j : Journal) (t : Table) → (i : IsTable t) → t.moving ≡ None → CanUndo j t → IsLowerUnder j t →
+pub needed_or_below : (j : Journal) (t : Table) → (i : IsTable t) → t.moving ≡ None → CanUndo j t → IsLowerUnder j t →
     IsUnder t.vtree j.upper j.upper → {n : ℕ} → IsReached t n → IsNeededOrBelow j t n
-needed-or_below j t i still c lower upper (reached_first {n = n} (inl h)) = inl (reached_first (inl h))
-needed-or_below j t i still c lower upper (reached_first {n = n} (inr h)) = inl (in_run j t n h)
-needed-or_below j t i still c lower upper (reached_below {m = m} {n = n} {place = p} {list = l} r e s) =
-    go (needed-or_below j t i still c lower upper r)
+needed_or_below j t i still c lower upper (reached_first {n = n} (inl h)) = inl (reached_first (inl h))
+needed_or_below j t i still c lower upper (reached_first {n = n} (inr h)) = inl (in_run j t n h)
+needed_or_below j t i still c lower upper (reached_below {m = m} {n = n} {place = p} {list = l} r e s) =
+    go (needed_or_below j t i still c lower upper r)
   where
     go : IsNeededOrBelow j t m → IsNeededOrBelow j t n
     go (inl h) = of_needed j t i still c lower upper m n p l h e s
@@ -154,11 +154,11 @@ needed-or_below j t i still c lower upper (reached_below {m = m} {n = n} {place 
 
 -- codes of constants, literals and decompositions
 base_codes : (t u : Numbered) (at : Lookup) (P : ℕ → Type 0) (l : List (ℕ × ℕ)) →
-    leaves (forget u) ≡ leaves (forget t) →
+    leaves (plain_tree u) ≡ leaves (plain_tree t) →
     AllByRecursion (λ (e : ℕ × ℕ). IsCodeOf t at P e.0 × IsCodeOf t at P e.1) l →
     AllByRecursion (λ (e : ℕ × ℕ). IsBaseOrNode u e.0 × IsBaseOrNode u e.1) l
 base_codes t u at P l same cs =
-    all-weaker (λ (e : ℕ × ℕ). IsCodeOf t at P e.0 × IsCodeOf t at P e.1)
+    all_weaker (λ (e : ℕ × ℕ). IsCodeOf t at P e.0 × IsCodeOf t at P e.1)
     (λ (e : ℕ × ℕ). IsBaseOrNode u e.0 × IsBaseOrNode u e.1) (λ e k. (code e.0 k.0, code e.1 k.1)) l cs
   where
     code : (c : ℕ) → IsCodeOf t at P c → IsBaseOrNode u c
@@ -177,7 +177,7 @@ closed_now t i still n p k l e s = in_list l (closed n p l (all_shown t i still 
 
     of_code : (c : ℕ) → IsCodeOf t.vtree (get t.linked) (IsShownNode t.vtree (get t.linked)) c → c ≡ 2050 + k →
         IsSome (get t.linked k)
-    of_code c (inl lt) z = let few = i.numbered.few in absurd (omega arith)
+    of_code c (inl lt) z = let within_limit = i.numbered.within_limit in absurd (omega arith)
     of_code c (inr w) z =
         let same : w.0 ≡ k = let y = w.1 in omega arith in subst (λ m. IsSome (get t.linked m)) same w.3
 
@@ -192,13 +192,13 @@ closed_now t i still n p k l e s = in_list l (closed n p l (all_shown t i still 
 
 -- Before a journal is undone, and after the sweep, all is known that going back asks: of each node its function, and of
 -- each needed one its place and list in the vtree gone back to.
-pub goes-back : (j : Journal) (t : Table) → (i : IsTable t) → t.moving ≡ None → (c : CanUndo j t) → IsNumbered c.tree →
-    leaves (forget c.tree) ≡ leaves (forget t.vtree) → (w : ℕ) → KeepsOthers t.vtree c.tree j.upper w →
+pub goes_back : (j : Journal) (t : Table) → (i : IsTable t) → t.moving ≡ None → (c : CanUndo j t) → IsNumbered c.tree →
+    leaves (plain_tree c.tree) ≡ leaves (plain_tree t.vtree) → (w : ℕ) → KeepsOthers t.vtree c.tree j.upper w →
     IsLowerUnder j t → IsUnder t.vtree j.upper j.upper → ((n : ℕ) → IsSome (get t.linked n) → IsReached t n) →
     GoesBack t.vtree c.tree j.upper w (get t.linked) (back j t) (IsNeededBack j t) (value_of (get t.linked))
-goes-back j t i still c num same w keeps lower upper reached =
+goes_back j t i still c num same w keeps lower upper reached =
     record {
-      literals = literals-given (get t.linked);
+      literals = literals_given (get t.linked);
       keeps = keeps;
       value = λ n p l e. (now_orderly t i).value n p l (shown n p l e) e;
       whole = λ n p l e. (now_orderly t i).whole n p l (shown n p l e) e;
@@ -208,7 +208,7 @@ goes-back j t i still c num same w keeps lower upper reached =
           base_codes t.vtree c.tree (get t.linked) (IsShownNode t.vtree (get t.linked)) l same
           ((now_orderly t i).closed n p l (shown n p l e) e);
       origin = λ n p l e. origin n p l e
-          (needed-or_below j t i still c lower upper (reached n (subst IsSome (sym e) refl)));
+          (needed_or_below j t i still c lower upper (reached n (subst IsSome (sym e) refl)));
       there = λ n h. there n h;
       old_value = λ n p l h e. then_orderly.value n p l h e;
       old_whole = λ n p l h e. then_orderly.whole n p l h e;
@@ -232,21 +232,21 @@ goes-back j t i still c num same w keeps lower upper reached =
         record {
           diagram = s.there;
           is = s.shown_there;
-          value = λ a. sym (s.same a) ∙ value-of_shown t.vtree (get t.linked) i.numbered (2050 + n) s.now s.shown_now a;
+          value = λ a. sym (s.same a) ∙ value_of_shown t.vtree (get t.linked) i.numbered (2050 + n) s.now s.shown_now a;
         }
 
     then_orderly : AreOrderly c.tree (back j t) (IsNeededBack j t) (value_of (get t.linked))
     then_orderly =
-        valued-orderly c.tree num (back j t) (IsNeededBack j t) (value_of (get t.linked))
-        (literals-given (get t.linked)) (λ m k p l h e s. reached_below h e s) then_value
+        valued_orderly c.tree num (back j t) (IsNeededBack j t) (value_of (get t.linked))
+        (literals_given (get t.linked)) (λ m k p l h e s. reached_below h e s) then_value
 
     there : (n : ℕ) → IsNeededBack j t n → IsSome (back j t n)
     there n h =
         let s = c.shown n h in
-        back_there (code-of_node c.tree (back j t) num (2050 + n) s.there s.shown_there.shows)
+        back_there (code_of_node c.tree (back j t) num (2050 + n) s.there s.shown_there.shows)
       where
-        back_there : (2050 + n < 2 * leaves (forget c.tree) + 2)
+        back_there : (2050 + n < 2 * leaves (plain_tree c.tree) + 2)
             ⊎ ((m : ℕ) × (2050 + n ≡ 2050 + m) × IsSome (back j t m)) → IsSome (back j t n)
-        back_there (inl lt) = let few = num.few in absurd (omega arith)
+        back_there (inl lt) = let within_limit = num.within_limit in absurd (omega arith)
         back_there (inr x) =
             let same : x.0 ≡ n = let y = x.1 in omega arith in subst (λ m. IsSome (back j t m)) same x.2

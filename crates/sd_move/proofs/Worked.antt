@@ -3,7 +3,7 @@ use Rattle.std.proofs.Common.{◌≡◌, ℕ, List, [], ◌∷◌, Some, None, r
 use Rattle.std.specs.Option.{option_map}
 use Rattle.std.specs.FinMap.{get}
 use Rattle.sd_model.specs.declared.trees.Move.TheVariants.{RotateLeft, Swap}
-use Rattle.sd_runs.proofs.Maps.{get-remove_same, get-remove_other}
+use Rattle.sd_runs.proofs.Maps.{get_remove_same, get_remove_other}
 use Rattle.sd_manager.specs.Table.{Table}
 use Rattle.sd_move.specs.Journal.{Journal, back, starts_of, without_runs}
 
@@ -33,8 +33,8 @@ other_stays t = refl
 
 -- the own run is spent
 own_spent : (t : Table) → get (without_runs t.loose (starts_of rewrote.named)) 7 ≡ None
-own_spent t = get-remove_same t.loose 7
+own_spent t = get_remove_same t.loose 7
 
 -- and no other one
 other_loose : (t : Table) → get (without_runs t.loose (starts_of rewrote.named)) 9 ≡ get t.loose 9
-other_loose t = get-remove_other t.loose 7 9 (λ e. absurd (cc (e)))
+other_loose t = get_remove_other t.loose 7 9 (λ e. absurd (cc (e)))

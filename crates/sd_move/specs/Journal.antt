@@ -11,10 +11,10 @@ use Rattle.sd_model.specs.Tree.{AreDistinct}
 use Rattle.sd_model.specs.Diagram.{Diagram, meaning}
 use Rattle.sd_vtree.specs.Numbered.{Numbered}
 use Rattle.sd_vtree.specs.NumberedMoves.{moved_number}
-use Rattle.sd_laws.specs.Shown.{Lookup, IsNode}
+use Rattle.sd_laws.specs.Shown.{Lookup, ShowsCanonical as ShowsCanonicalBy}
 use Rattle.sd_laws.specs.Values.{StandsIn}
 use Rattle.sd_manager.specs.Table.{Table}
-use Rattle.sd_manager.specs.Shown.{IsShown}
+use Rattle.sd_manager.specs.Shown.{ShowsCanonical}
 use Rattle.sd_laws.specs.Turned.{lower_of}
 use Rattle.sd_manager.specs.Moving.{IsAscending, IsLater}
 use Rattle.sd_sweep.specs.Reached.{IsReachedFrom, IsReached, IsHeldBy}
@@ -34,9 +34,9 @@ pub record Journal : Type 0 where
   pub named : List Named
 
 -- the entry of a number
-abbrev pub entry_of : List Named → ℕ → Option Named
-entry_of [] n = None
-entry_of (e ∷ es) n = if e.number == n then Some e else entry_of es n
+abbrev pub journal_entry : List Named → ℕ → Option Named
+journal_entry [] n = None
+journal_entry (e ∷ es) n = if e.number == n then Some e else journal_entry es n
 
 -- the key that a node had, where it got another list
 abbrev pub key_before : Table → ℕ → ℕ → Option (ℕ × ℕ) → Option (ℕ × List (ℕ × ℕ))
@@ -50,7 +50,7 @@ key_of_entry t n (Some e) = key_before t n e.place e.run
 
 -- the nodes to which a journal goes back: those of the table, with the places and lists that it names put back
 abbrev pub back : Journal → Table → Lookup
-back j t n = key_of_entry t n (entry_of j.named n)
+back j t n = key_of_entry t n (journal_entry j.named n)
 
 -- a run starts here that is one of the journal's
 abbrev pub IsOwnRun : List Named → ℕ → Type 0
@@ -59,7 +59,7 @@ IsOwnRun (e ∷ es) start = ((count : ℕ) × (e.run ≡ Some (start, count))) �
 
 -- the number is named
 abbrev pub IsNamed : List Named → ℕ → Type 0
-IsNamed es n = IsSome (entry_of es n)
+IsNamed es n = IsSome (journal_entry es n)
 
 -- a loose run of the table is none of the journal's and has the node in its list
 abbrev pub IsInOtherRun : Journal → Table → ℕ → Type 0
@@ -86,8 +86,8 @@ IsNeededBack j t n =
 pub record IsOneFunction (t : Table) (tree : Numbered) (at : Lookup) (n : ℕ) : Type 0 where
   pub now : Diagram
   pub there : Diagram
-  pub shown_now : IsShown t (2050 + n) now
-  pub shown_there : IsNode tree at (2050 + n) there
+  pub shown_now : ShowsCanonical t (2050 + n) now
+  pub shown_there : ShowsCanonicalBy tree at (2050 + n) there
   pub same : (a : List Bool) → meaning now a ≡ meaning there a
 
 -- the run of the entry, where it has one, is a loose run of the table
@@ -122,7 +122,7 @@ starts_of (e ∷ es) = with_start e.run (starts_of es)
 -- number and no run is named twice; and each node that is under a held root, a loose run or a named node of the state
 -- to which it goes back shows a canonical diagram there, with the function that it has now.
 pub record CanUndo (j : Journal) (t : Table) : Type 0 where
-  pub still : t.moving ≡ None
+  pub no_move : t.moving ≡ None
   pub tree : Numbered
   pub turned : moved_number (inverse_move j.kind) t.vtree j.upper ≡ Some tree
   pub lower : lower_of (inverse_move j.kind) t.vtree j.upper ≡ j.lower

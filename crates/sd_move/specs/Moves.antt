@@ -6,10 +6,10 @@ use Rattle.sd_model.specs.declared.trees.Move.{Move}
 use Rattle.sd_model.specs.Size.{size_of}
 use Rattle.sd_model.specs.Diagram.{Diagram, meaning}
 use Rattle.sd_model.specs.Canonical.{IsCanonical}
-use Rattle.sd_vtree.specs.Numbered.{Numbered, forget}
+use Rattle.sd_vtree.specs.Numbered.{Numbered, plain_tree}
 use Rattle.sd_vtree.specs.NumberedMoves.{moved_number}
 use Rattle.sd_manager.specs.Table.{Table}
-use Rattle.sd_manager.specs.Shown.{IsShown}
+use Rattle.sd_manager.specs.Shown.{ShowsCanonical}
 use Rattle.sd_manager.specs.Moving.{IsLater}
 use Rattle.sd_laws.specs.Turned.{lower_of}
 use Rattle.sd_sweep.specs.Reached.{IsReached, AreHeldDiagrams}
@@ -17,7 +17,7 @@ use Rattle.sd_move.specs.Journal.{Journal, CanUndo, back, starts_of, without_run
 
 -- the second diagram is canonical for the vtree and has the value of the first one
 pub record HasMoved (tree : Numbered) (d e : Diagram) : Type 0 where
-  pub canonical : IsCanonical (forget tree) 0 e
+  pub canonical : IsCanonical (plain_tree tree) 0 e
   pub same : (a : List Bool) → meaning e a ≡ meaning d a
 
 -- n is the size that all held diagrams have together once the vtree is moved; it does not depend on how that is done
@@ -34,8 +34,8 @@ pub record HasSizeAfter (t : Table) (kind : Move) (place n : ℕ) : Type 0 where
 pub record StaysFunction (old new : Table) (n : ℕ) : Type 0 where
   pub before : Diagram
   pub after : Diagram
-  pub shown : IsShown old (2050 + n) before
-  pub moved : IsShown new (2050 + n) after
+  pub shown : ShowsCanonical old (2050 + n) before
+  pub moved : ShowsCanonical new (2050 + n) after
   pub same : (a : List Bool) → meaning after a ≡ meaning before a
 
 -- The vtree was moved at the place. Each node under a held root or a loose run keeps its number and its function, and
@@ -52,7 +52,7 @@ pub record IsMoved (old new : Table) (kind : Move) (place : ℕ) (j : Journal) :
   pub extent : old.extent ≤ new.extent
   pub records : old.records ≤ new.records
   pub later : IsLater old new
-  pub still : new.moving ≡ None
+  pub no_move : new.moving ≡ None
   pub made : j.kind ≡ kind
   pub upper : j.upper ≡ place
   pub lower : j.lower ≡ lower_of kind old.vtree place

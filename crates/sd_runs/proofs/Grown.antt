@@ -11,11 +11,11 @@ use Rattle.std.specs.FinMap.{get, insert}
 use Rattle.sd_runs.specs.Arena.{free_of}
 use Rattle.sd_runs.specs.Taking.{taken, taken_at}
 use Rattle.sd_runs.specs.Fields.{chain, list_at, lists_of, stacks_of, lengths_of, filled_map, no_run, zeros, block}
-use Rattle.sd_runs.specs.Stored.{Stored, Kept, IsChain}
+use Rattle.sd_runs.specs.Stored.{AreRunsStored, HoldsRuns, IsFreeChain}
 use Rattle.sd_runs.proofs.Arenas.{arena_of, same_arena}
 use Rattle.sd_runs.proofs.Chains.{chain_kept}
 use Rattle.sd_runs.proofs.Lists.{list_first, list_live, list_same, lists_length}
-use Rattle.sd_runs.proofs.Maps.{shown, filled_set, filled_same, get-filled, with_list_some}
+use Rattle.sd_runs.proofs.Maps.{shown, filled_set, filled_same, get_filled, with_list_some}
 use Rattle.sd_runs.proofs.Places.{by_cases, placed}
 use Rattle.sd_runs.proofs.Steps.{free_inside, no_list, not_end, stored_grow}
 use Rattle.sd_runs.proofs.Told.{stacks_are, lists_are, kept_from}
@@ -66,7 +66,7 @@ lengths_push [] n = append-nil (block n)
 lengths_push (m ∷ ms) n =
     ap (λ l. block m ++ l) (lengths_push ms n) ∙ sym (append_assoc (block m) (lengths_of ms) (block n))
 
--- a block is zeros with the length at the first place
+-- a block is zeros with the length at the first index
 block_set : (xs : List ℕ) (n at : ℕ) → 0 < n → length xs ≡ at → set (xs ++ zeros n) at n ≡ xs ++ block n
 block_set xs zero at pos e = absurd (omega arith)
 block_set xs (suc n) at pos e = set_at xs 0 (zeros n) (suc n) at e
@@ -74,8 +74,8 @@ block_set xs (suc n) at pos e = set_at xs 0 (zeros n) (suc n) at e
 -- what holds of the fields holds with empty places behind
 stored_blanks : {lists : List (List (ℕ × ℕ))} {lengths : List ℕ} {stacks : List (List ℕ)}
     {used extent bound : ℕ} (n : ℕ)
-    → Stored lists lengths stacks used extent bound
-    → Stored (lists ++ blanks n) (lengths ++ zeros n) stacks used extent bound
+    → AreRunsStored lists lengths stacks used extent bound
+    → AreRunsStored (lists ++ blanks n) (lengths ++ zeros n) stacks used extent bound
 stored_blanks {lists} {lengths} {stacks} {used} {extent} {bound} n st =
     record {
       same_length = omega (
@@ -95,7 +95,7 @@ stored_blanks {lists} {lengths} {stacks} {used} {extent} {bound} n st =
           (subst (λ m. 0 < get_or lengths s 0 → 0 < m → s < t → s + get_or lengths s 0 ≤ t)
           (sym (zero_read lengths n t)) (st.apart s t));
       sized = λ m s h. zero_read lengths n s ∙ st.sized m s h;
-      some = st.some;
+      at_least_one = st.at_least_one;
       free = λ m s h. blank_read lists n s ∙ st.free m s h;
       once = st.once;
       uses = omega (arith, st.uses, sum_by-append length lists (blanks n), blanks_sum n);
@@ -108,15 +108,15 @@ stored_blanks {lists} {lengths} {stacks} {used} {extent} {bound} n st =
 
 -- no live run starts at the end
 pub end_free : (elements : List (ℕ × ℕ)) (lengths heads : List ℕ) (used bound : ℕ)
-    → Kept elements lengths heads used bound
+    → HoldsRuns elements lengths heads used bound
     → get (arena_of (lists_of elements lengths heads) (stacks_of elements heads)
     (length elements) bound).live (length elements) ≡ None
 end_free elements lengths heads used bound k =
-    get-filled (lists_of elements lengths heads) (length elements) ∙ ap shown (no_list k.stored)
+    get_filled (lists_of elements lengths heads) (length elements) ∙ ap shown (no_list k.stored)
 
 module _ (elements : List (ℕ × ℕ)) (lengths heads : List ℕ) (used bound n : ℕ) (list : List (ℕ × ℕ))
-    (k : Kept elements lengths heads used bound) (size : length list ≡ n) (some : 0 < n)
-    (fits : length elements + n ≤ bound) (place : n < length heads) where
+    (k : HoldsRuns elements lengths heads used bound) (size : length list ≡ n) (at_least_one : 0 < n)
+    (fits : length elements + n ≤ bound) (has_head : n < length heads) where
   abbrev new : List (ℕ × ℕ)
   new = elements ++ list
 
@@ -131,13 +131,19 @@ module _ (elements : List (ℕ × ℕ)) (lengths heads : List ℕ) (used bound n
 
   list_inside : length elements < length (lists_of elements lengths heads ++ blanks n)
   list_inside =
-      omega (arith, length-append (lists_of elements lengths heads) (blanks n), blanks_length n, lists_size, some)
+      omega (
+        arith,
+        length-append (lists_of elements lengths heads) (blanks n),
+        blanks_length n,
+        lists_size,
+        at_least_one,
+      )
 
   sizes : set (lengths_of lengths ++ zeros n) (length elements) n ≡ lengths_of (lengths ++ n ∷ [])
-  sizes = block_set (lengths_of lengths) n (length elements) some k.filled ∙ sym (lengths_push lengths n)
+  sizes = block_set (lengths_of lengths) n (length elements) at_least_one k.filled ∙ sym (lengths_push lengths n)
 
   size_inside : length elements < length (lengths_of lengths ++ zeros n)
-  size_inside = omega (arith, length-append (lengths_of lengths) (zeros n), zeros_length n, k.filled, some)
+  size_inside = omega (arith, length-append (lengths_of lengths) (zeros n), zeros_length n, k.filled, at_least_one)
 
   size_here : get_or (lengths_of (lengths ++ n ∷ [])) (length elements) 0 ≡ n
   size_here =
@@ -150,21 +156,21 @@ module _ (elements : List (ℕ × ℕ)) (lengths heads : List ℕ) (used bound n
       ap (λ l. get_or l t 0) (sym sizes)
       ∙ get_or-set_other (lengths_of lengths ++ zeros n) (length elements) t n 0 ne ∙ zero_read (lengths_of lengths) n t
 
-  stored : Stored lists (lengths_of (lengths ++ n ∷ [])) (stacks_of elements heads) (used + n) (length new) bound
+  stored : AreRunsStored lists (lengths_of (lengths ++ n ∷ [])) (stacks_of elements heads) (used + n) (length new) bound
   stored =
-      subst (λ e. Stored lists (lengths_of (lengths ++ n ∷ [])) (stacks_of elements heads) (used + n) e bound)
+      subst (λ e. AreRunsStored lists (lengths_of (lengths ++ n ∷ [])) (stacks_of elements heads) (used + n) e bound)
       (sym new_size)
-      (subst (λ l. Stored lists l (stacks_of elements heads) (used + n) (length elements + n) bound) sizes
-      (stored_grow (stored_blanks n k.stored) n list size some
+      (subst (λ l. AreRunsStored lists l (stacks_of elements heads) (used + n) (length elements + n) bound) sizes
+      (stored_grow (stored_blanks n k.stored) n list size at_least_one
       (omega (arith, length-append (lists_of elements lengths heads) (blanks n), blanks_length n, lists_size)) fits))
 
   same : (x : ℕ) → x < length elements → get_or new x (0, 0) ≡ get_or elements x (0, 0)
   same x less = get_or_append_left elements list (0, 0) x less
 
-  chained : (m : ℕ) → IsChain new (get_or heads m no_run) (get_or (stacks_of elements heads) m [])
+  chained : (m : ℕ) → IsFreeChain new (get_or heads m no_run) (get_or (stacks_of elements heads) m [])
   chained m =
       chain_kept elements new (get_or heads m no_run) (get_or (stacks_of elements heads) m [])
-      (λ x h. same x (omega (arith, free_inside k.stored m x h, k.stored.some m x h)))
+      (λ x h. same x (omega (arith, free_inside k.stored m x h, k.stored.at_least_one m x h)))
       (k.chained m)
 
   -- the elements of a part that stands in the old ones
@@ -211,12 +217,12 @@ module _ (elements : List (ℕ × ℕ)) (lengths heads : List ℕ) (used bound n
       by_cases
       (λ e. let here : get_or (lengths_of (lengths ++ n ∷ [])) t 0 ≡ n =
       ap (λ j. get_or (lengths_of (lengths ++ n ∷ [])) j 0) e ∙ size_here in
-      omega (arith, here, place))
+      omega (arith, here, has_head))
       (λ ne. omega (arith, size_there t ne, k.placed t (omega (arith, size_there t ne, h))))
       (cases_eq t (length elements))
 
   -- the fields after the run was added
-  pub kept_after : Kept (elements ++ list) (lengths ++ n ∷ []) heads (used + n) bound
+  pub kept_after : HoldsRuns (elements ++ list) (lengths ++ n ∷ []) heads (used + n) bound
   kept_after = kept_from new (lengths ++ n ∷ []) heads stored places chained listed filled placed_still
 
   -- the arena after the run was added
@@ -230,7 +236,7 @@ module _ (elements : List (ℕ × ℕ)) (lengths heads : List ℕ) (used bound n
       (ap filled_map (lists_are new (lengths ++ n ∷ []) heads stored places chained listed filled placed_still)
       ∙ filled_set (lists_of elements lengths heads ++ blanks n) (length elements) list list_inside
       ∙ with_list_some (filled_map (lists_of elements lengths heads ++ blanks n)) (length elements) list
-      (omega (arith, size, some))
+      (omega (arith, size, at_least_one))
       ∙ ap (λ m. insert m (length elements) list)
       (filled_same _ _ (blank_read (lists_of elements lengths heads) n)))
       (ap filled_map (stacks_are new (lengths ++ n ∷ []) heads stored places chained listed filled placed_still))

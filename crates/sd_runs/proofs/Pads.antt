@@ -3,7 +3,7 @@ use Rattle.std.proofs.Common.{◌≡◌, ℕ, suc, zero, ◌<◌, ◌^◌, List,
 use Rattle.std.proofs.Common.{length-append, refl, sym, subst, ◌∙◌, arith}
 use Rattle.sd_runs.specs.Fields.{no_run}
 use Rattle.sd_runs.specs.Padded.{IsPadded}
-use Rattle.sd_runs.specs.Stored.{Kept}
+use Rattle.sd_runs.specs.Stored.{HoldsRuns}
 
 -- what is read past the end stays what it was
 read_past : (xs : List ℕ) (n : ℕ) → get_or (xs ++ no_run ∷ []) n no_run ≡ get_or xs n no_run
@@ -26,13 +26,13 @@ padded_push old new p =
 
 -- with no elements there is an arena
 pub kept_nothing : (elements : List (ℕ × ℕ)) (lengths heads : List ℕ) (bound : ℕ) → elements ≡ [] → lengths ≡ []
-    → heads ≡ [] → bound < 2 ^ 31 → Kept elements lengths heads 0 bound
+    → heads ≡ [] → bound < 2 ^ 31 → HoldsRuns elements lengths heads 0 bound
 kept_nothing elements lengths heads bound p q r fits =
-    subst (λ e. Kept e lengths heads 0 bound) (sym p)
-    (subst (λ l. Kept [] l heads 0 bound) (sym q)
-    (subst (λ h. Kept [] [] h 0 bound) (sym r) nothing))
+    subst (λ e. HoldsRuns e lengths heads 0 bound) (sym p)
+    (subst (λ l. HoldsRuns [] l heads 0 bound) (sym q)
+    (subst (λ h. HoldsRuns [] [] h 0 bound) (sym r) nothing))
   where
-    nothing : Kept [] [] [] 0 bound
+    nothing : HoldsRuns [] [] [] 0 bound
     nothing =
         record {
           stored = record {
@@ -41,7 +41,7 @@ kept_nothing elements lengths heads bound p q r fits =
             within = λ s h. absurd (omega arith);
             apart = λ s t h k less. absurd (omega arith);
             sized = λ n s h. absurd h;
-            some = λ n s h. absurd h;
+            at_least_one = λ n s h. absurd h;
             free = λ n s h. absurd h;
             once = λ n. tt;
             uses = refl;

@@ -6,19 +6,19 @@ use Rattle.std.proofs.lemmas.List.{length-map, length-set, get_or-set_same, get_
 use Rattle.std.specs.FinMap.{get}
 use Rattle.sd_runs.specs.Arena.{Has, IsOnce, free_of, with_list}
 use Rattle.sd_runs.specs.Taking.{taken, taken_at}
-use Rattle.sd_runs.specs.Fields.{chain, has, list_at, lists_of, stacks_of, lengths_of, filled_map, no_run}
-use Rattle.sd_runs.specs.Stored.{Stored, Kept, IsChain}
+use Rattle.sd_runs.specs.Fields.{chain, is_in, list_at, lists_of, stacks_of, lengths_of, filled_map, no_run}
+use Rattle.sd_runs.specs.Stored.{AreRunsStored, HoldsRuns, IsFreeChain}
 use Rattle.sd_runs.proofs.Arenas.{arena_of, same_arena, free_at}
 use Rattle.sd_runs.proofs.Chains.{chain_kept}
 use Rattle.sd_runs.proofs.Lists.{list_first, list_live}
-use Rattle.sd_runs.proofs.Maps.{shown, filled_set, get-filled, with_list_some}
+use Rattle.sd_runs.proofs.Maps.{shown, filled_set, get_filled, with_list_some}
 use Rattle.sd_runs.proofs.Places.{by_cases, placed, not_equal}
 use Rattle.sd_runs.proofs.Steps.{free_inside, stored_reuse}
 use Rattle.sd_runs.proofs.Told.{outside, list_other, stacks_are, lists_are, kept_from}
 use Rattle.sd_runs.proofs.Written.{put, put_length, put_other, put_part}
 
 module _ (elements : List (ℕ × ℕ)) (lengths heads : List ℕ) (used bound s n : ℕ) (rest : List ℕ)
-    (k : Kept elements lengths heads used bound)
+    (k : HoldsRuns elements lengths heads used bound)
     (free : free_of (arena_of (lists_of elements lengths heads) (stacks_of elements heads)
     (length elements) bound) n ≡ s ∷ rest) where
   -- the start is the first of the free ones of its length
@@ -32,33 +32,33 @@ module _ (elements : List (ℕ × ℕ)) (lengths heads : List ℕ) (used bound s
   run : get_or (lengths_of lengths) s 0 ≡ n
   run = k.stored.sized n s first
 
-  pub some : 0 < n
-  some = k.stored.some n s first
+  pub at_least_one : 0 < n
+  at_least_one = k.stored.at_least_one n s first
 
   -- it lies within the elements
   pub inside : s + n ≤ length elements
   inside = free_inside k.stored n s first
 
   -- its length has a place
-  pub place : n < length heads
-  place = omega (arith, run, k.placed s (omega (arith, run, some)))
+  pub has_head : n < length heads
+  has_head = omega (arith, run, k.placed s (omega (arith, run, at_least_one)))
 
   -- the start is not that of a live run
   pub not_live : get (arena_of (lists_of elements lengths heads) (stacks_of elements heads)
       (length elements) bound).live s ≡ None
-  not_live = get-filled (lists_of elements lengths heads) s ∙ ap shown (k.stored.free n s first)
+  not_live = get_filled (lists_of elements lengths heads) s ∙ ap shown (k.stored.free n s first)
 
   list_inside : s < length (lists_of elements lengths heads)
-  list_inside = omega (arith, inside, some, k.stored.covered)
+  list_inside = omega (arith, inside, at_least_one, k.stored.covered)
 
   stack_inside : n < length (stacks_of elements heads)
-  stack_inside = omega (arith, place, length-map heads (λ head. chain (length elements) elements head))
+  stack_inside = omega (arith, has_head, length-map heads (λ head. chain (length elements) elements head))
 
   alone : IsOnce (s ∷ rest)
   alone = subst IsOnce on_stack (k.stored.once n)
 
-  chain_here : IsChain elements (get_or heads n no_run) (s ∷ rest)
-  chain_here = subst (IsChain elements (get_or heads n no_run)) on_stack (k.chained n)
+  chain_here : IsFreeChain elements (get_or heads n no_run) (s ∷ rest)
+  chain_here = subst (IsFreeChain elements (get_or heads n no_run)) on_stack (k.chained n)
 
   module _ (new : List (ℕ × ℕ)) (list : List (ℕ × ℕ)) (size : length list ≡ n)
       (same_size : length new ≡ length elements)
@@ -73,43 +73,43 @@ module _ (elements : List (ℕ × ℕ)) (lengths heads : List ℕ) (used bound s
     abbrev lists : List (List (ℕ × ℕ))
     lists = set (lists_of elements lengths heads) s list
 
-    stored : Stored lists (lengths_of lengths) starts (used + n) (length new) bound
+    stored : AreRunsStored lists (lengths_of lengths) starts (used + n) (length new) bound
     stored =
-        subst (λ e. Stored lists (lengths_of lengths) starts (used + n) e bound) (sym same_size)
-        (stored_reuse k.stored n s rest list on_stack size some stack_inside)
+        subst (λ e. AreRunsStored lists (lengths_of lengths) starts (used + n) e bound) (sym same_size)
+        (stored_reuse k.stored n s rest list on_stack size at_least_one stack_inside)
 
     -- the first elements of the other free runs stay
     other : (m x : ℕ) → Has x (get_or (stacks_of elements heads) m []) → ¬ (x ≡ s)
         → get_or new x (0, 0) ≡ get_or elements x (0, 0)
     other m x h ne =
         let there : get_or (lengths_of lengths) x 0 ≡ m = k.stored.sized m x h in
-        let pos : 0 < m = k.stored.some m x h in
+        let pos : 0 < m = k.stored.at_least_one m x h in
         same x (by_cases inl (λ more. inr (omega (arith, more, run)))
-        (outside k.stored s x x ne (omega (arith, run, some)) (omega (arith, there, pos)) (omega arith)
+        (outside k.stored s x x ne (omega (arith, run, at_least_one)) (omega (arith, there, pos)) (omega arith)
         (omega (arith, there, pos))))
 
-    chained : (m : ℕ) → IsChain new (get_or (set heads n next) m no_run) (get_or starts m [])
+    chained : (m : ℕ) → IsFreeChain new (get_or (set heads n next) m no_run) (get_or starts m [])
     chained m =
         placed (stacks_of elements heads) n rest [] m
-        (IsChain new (get_or (set heads n next) m no_run)) stack_inside
-        (λ e. subst (λ at. IsChain new at rest)
-        (sym (ap (λ j. get_or (set heads n next) j no_run) e ∙ get_or-set_same heads n next no_run place))
+        (IsFreeChain new (get_or (set heads n next) m no_run)) stack_inside
+        (λ e. subst (λ at. IsFreeChain new at rest)
+        (sym (ap (λ j. get_or (set heads n next) j no_run) e ∙ get_or-set_same heads n next no_run has_head))
         (chain_kept elements new next rest
         (λ x h. other n x (subst (Has x) (sym on_stack) (inr h))
         (λ same_start. alone.0 (subst (λ j. Has j rest) same_start h)))
         chain_here.1))
-        (λ ne. subst (λ at. IsChain new at (get_or (stacks_of elements heads) m []))
+        (λ ne. subst (λ at. IsFreeChain new at (get_or (stacks_of elements heads) m []))
         (sym (get_or-set_other heads n m next no_run ne))
         (chain_kept elements new (get_or heads m no_run) (get_or (stacks_of elements heads) m [])
         (λ x h. other m x h (λ e. ne (sym (k.stored.sized m x h) ∙ ap (λ j. get_or (lengths_of lengths) j 0) e ∙ run)))
         (k.chained m)))
 
-    free_there : (t m : ℕ) → ¬ (t ≡ s) → has t (get_or starts m []) ≡ has t (get_or (stacks_of elements heads) m [])
+    free_there : (t m : ℕ) → ¬ (t ≡ s) → is_in t (get_or starts m []) ≡ is_in t (get_or (stacks_of elements heads) m [])
     free_there t m ne =
         placed (stacks_of elements heads) n rest [] m
-        (λ l. has t l ≡ has t (get_or (stacks_of elements heads) m [])) stack_inside
-        (λ e. sym (ap (λ j. has t (get_or (stacks_of elements heads) j [])) e ∙ ap (has t) on_stack
-        ∙ ap (λ b. cond b true (has t rest)) (not_equal t s ne)))
+        (λ l. is_in t l ≡ is_in t (get_or (stacks_of elements heads) m [])) stack_inside
+        (λ e. sym (ap (λ j. is_in t (get_or (stacks_of elements heads) j [])) e ∙ ap (is_in t) on_stack
+        ∙ ap (λ b. cond b true (is_in t rest)) (not_equal t s ne)))
         (λ _. refl)
 
     listed : (t : ℕ) → get_or lists t [] ≡ list_at new starts t (get_or (lengths_of lengths) t 0)
@@ -122,7 +122,7 @@ module _ (elements : List (ℕ × ℕ)) (lengths heads : List ℕ) (used bound s
         (get_or-set_same (stacks_of elements heads) n rest [] stack_inside) h))
         ∙ with_it)))
         (λ ne. list_first elements (stacks_of elements heads) (lengths_of lengths) t
-        ∙ sym (list_other k.stored elements new starts s t ne (omega (arith, run, some)) same_size
+        ∙ sym (list_other k.stored elements new starts s t ne (omega (arith, run, at_least_one)) same_size
         (λ x away. same x (by_cases inl (λ more. inr (omega (arith, more, run))) away))
         (free_there t (get_or (lengths_of lengths) t 0) ne)))
 
@@ -136,7 +136,7 @@ module _ (elements : List (ℕ × ℕ)) (lengths heads : List ℕ) (used bound s
     placed_still t h = omega (arith, k.placed t h, length-set heads n next)
 
     -- the fields after the run was used again
-    pub kept_after : Kept new lengths (set heads n (get_or elements s (0, 0)).0) (used + n) bound
+    pub kept_after : HoldsRuns new lengths (set heads n (get_or elements s (0, 0)).0) (used + n) bound
     kept_after = kept_from new lengths (set heads n next) stored places chained listed
         (k.filled ∙ sym same_size) placed_still
 
@@ -149,7 +149,7 @@ module _ (elements : List (ℕ × ℕ)) (lengths heads : List ℕ) (used bound s
         (ap filled_map (lists_are new lengths (set heads n next) stored places chained listed
         (k.filled ∙ sym same_size) placed_still)
         ∙ filled_set (lists_of elements lengths heads) s list list_inside
-        ∙ with_list_some (filled_map (lists_of elements lengths heads)) s list (omega (arith, size, some)))
+        ∙ with_list_some (filled_map (lists_of elements lengths heads)) s list (omega (arith, size, at_least_one)))
         (ap filled_map (stacks_are new lengths (set heads n next) stored places chained listed
         (k.filled ∙ sym same_size) placed_still)
         ∙ filled_set (stacks_of elements heads) n rest stack_inside
@@ -171,13 +171,13 @@ module _ (elements : List (ℕ × ℕ)) (lengths heads : List ℕ) (used bound s
         (by_cases inl (λ more. inr (omega (arith, more, size))) away)
 
     next_is : e.0 ≡ (get_or elements s (0, 0)).0
-    next_is = ap (λ (p : ℕ × ℕ). p.0) (reads ∙ get_or_default elements s e (0, 0) (omega (arith, inside, some)))
+    next_is = ap (λ (p : ℕ × ℕ). p.0) (reads ∙ get_or_default elements s e (0, 0) (omega (arith, inside, at_least_one)))
 
     -- the fields after the list was written over the free run
-    pub kept_written : Kept new lengths (set heads n e.0) (used + n) bound
+    pub kept_written : HoldsRuns new lengths (set heads n e.0) (used + n) bound
     kept_written =
-        subst (λ j. Kept new lengths (set heads n j) (used + n) bound) (sym next_is)
-        (subst (λ l. Kept l lengths (set heads n (get_or elements s (0, 0)).0) (used + n) bound) (sym is)
+        subst (λ j. HoldsRuns new lengths (set heads n j) (used + n) bound) (sym next_is)
+        (subst (λ l. HoldsRuns l lengths (set heads n (get_or elements s (0, 0)).0) (used + n) bound) (sym is)
         (kept_after (put s elements list) list size (put_length s elements list fits) other_stays
         (put_part s n elements list fits size)))
 

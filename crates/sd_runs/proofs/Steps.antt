@@ -6,13 +6,13 @@ use Rattle.std.proofs.lemmas.Bool.{cases_eq}
 use Rattle.std.proofs.lemmas.List.{length-set, get_or-set_same, get_or-set_other}
 use Rattle.std.proofs.lemmas.List.Sums.{sum_by-set}
 use Rattle.sd_runs.specs.Arena.{Has, IsOnce}
-use Rattle.sd_runs.specs.Stored.{Stored}
+use Rattle.sd_runs.specs.Stored.{AreRunsStored}
 use Rattle.sd_runs.proofs.Places.{by_cases, placed, list_inside, no_elements, sum_below}
 use Rattle.sd_runs.proofs.Totals.{free_sum_set, times_more}
 
 module _ {lists : List (List (ℕ × ℕ))} {lengths : List ℕ} {stacks : List (List ℕ)}
     {used extent bound : ℕ}
-    (st : Stored lists lengths stacks used extent bound) where
+    (st : AreRunsStored lists lengths stacks used extent bound) where
   -- the list at a start is no longer than the run there
   fits_each : (k : ℕ) → length (get_or lists k []) ≤ get_or lengths k 0
   fits_each k = by_held (length (get_or lists k [])) (st.held k)
@@ -29,7 +29,7 @@ module _ {lists : List (List (ℕ × ℕ))} {lengths : List ℕ} {stacks : List 
   pub free_inside : (n s : ℕ) → Has s (get_or stacks n []) → s + n ≤ extent
   free_inside n s h =
       let size : get_or lengths s 0 ≡ n = st.sized n s h in
-      let pos : 0 < n = st.some n s h in
+      let pos : 0 < n = st.at_least_one n s h in
       let fits : s + get_or lengths s 0 ≤ extent = st.within s (omega arith) in
       omega arith
 
@@ -39,7 +39,7 @@ module _ {lists : List (List (ℕ × ℕ))} {lengths : List ℕ} {stacks : List 
 
   -- what holds of the fields is kept when a run is freed
   pub stored_give : (n s : ℕ) → length (get_or lists s []) ≡ n → 0 < n → n < length stacks
-      → Stored (set lists s []) lengths (set stacks n (s ∷ get_or stacks n [])) (used - n) extent bound
+      → AreRunsStored (set lists s []) lengths (set stacks n (s ∷ get_or stacks n [])) (used - n) extent bound
   stored_give n s size pos in_stacks =
       let inside : s < length lists = live_inside n s size pos in
       let size_is : length (get_or lists s []) ≡ get_or lengths s 0 = st.held s (omega arith) in
@@ -53,8 +53,8 @@ module _ {lists : List (List (ℕ × ℕ))} {lengths : List ℕ} {stacks : List 
             (λ e. by_cases (λ same. ap (λ j. get_or lengths j 0) same ∙ sym size_is ∙ size ∙ sym e)
             (λ h. st.sized n t h ∙ sym e))
             (λ _. st.sized m t);
-        some = λ m t. placed stacks n (s ∷ get_or stacks n []) [] m (λ l. Has t l → 0 < m) in_stacks
-            (λ e _. omega arith) (λ _. st.some m t);
+        at_least_one = λ m t. placed stacks n (s ∷ get_or stacks n []) [] m (λ l. Has t l → 0 < m) in_stacks
+            (λ e _. omega arith) (λ _. st.at_least_one m t);
         free = λ m t. placed stacks n (s ∷ get_or stacks n []) [] m
             (λ l. Has t l → get_or (set lists s []) t [] ≡ []) in_stacks
             (λ e h. placed lists s [] [] t (λ l. l ≡ []) inside (λ _. refl)
@@ -84,7 +84,7 @@ module _ {lists : List (List (ℕ × ℕ))} {lengths : List ℕ} {stacks : List 
   -- what holds of the fields is kept when a free run is used again
   pub stored_reuse : (n s : ℕ) (rest : List ℕ) (list : List (ℕ × ℕ)) → get_or stacks n [] ≡ s ∷ rest
       → length list ≡ n → 0 < n → n < length stacks
-      → Stored (set lists s list) lengths (set stacks n rest) (used + n) extent bound
+      → AreRunsStored (set lists s list) lengths (set stacks n rest) (used + n) extent bound
   stored_reuse n s rest list stack size pos in_stacks =
       let first : Has s (get_or stacks n []) = subst (Has s) (sym stack) (inl refl) in
       let inside : s < length lists = omega (arith, free_inside n s first, st.covered) in
@@ -99,8 +99,8 @@ module _ {lists : List (List (ℕ × ℕ))} {lengths : List ℕ} {stacks : List 
         apart = st.apart;
         sized = λ m t. placed stacks n rest [] m (λ l. Has t l → get_or lengths t 0 ≡ m) in_stacks
             (λ e h. st.sized n t (subst (Has t) (sym stack) (inr h)) ∙ sym e) (λ _. st.sized m t);
-        some = λ m t. placed stacks n rest [] m (λ l. Has t l → 0 < m) in_stacks (λ e _. omega arith)
-            (λ _. st.some m t);
+        at_least_one = λ m t. placed stacks n rest [] m (λ l. Has t l → 0 < m) in_stacks (λ e _. omega arith)
+            (λ _. st.at_least_one m t);
         free = λ m t. placed stacks n rest [] m (λ l. Has t l → get_or (set lists s list) t [] ≡ []) in_stacks
             (λ e h. placed lists s list [] t (λ l. l ≡ []) inside
             (λ same. absurd (alone.0 (subst (λ j. Has j rest) same h)))
@@ -138,14 +138,14 @@ module _ {lists : List (List (ℕ × ℕ))} {lengths : List ℕ} {stacks : List 
 
   pub not_end : (m t : ℕ) → Has t (get_or stacks m []) → ¬ (t ≡ extent)
   not_end m t h e =
-      let pos : 0 < m = st.some m t h in
+      let pos : 0 < m = st.at_least_one m t h in
       let size : get_or lengths t 0 ≡ m = st.sized m t h in
       omega (arith, ap (λ j. get_or lengths j 0) e, no_length)
 
   -- what holds of the fields is kept when a run is added at the end
   pub stored_grow : (n : ℕ) (list : List (ℕ × ℕ)) → length list ≡ n → 0 < n → extent + n ≤ length lists
       → extent + n ≤ bound
-      → Stored (set lists extent list) (set lengths extent n) stacks (used + n) (extent + n) bound
+      → AreRunsStored (set lists extent list) (set lengths extent n) stacks (used + n) (extent + n) bound
   stored_grow n list size pos fits below =
       let inside : extent < length lists = omega arith in
       let here : extent < length lengths = omega (arith, st.same_length) in
@@ -171,7 +171,7 @@ module _ {lists : List (List (ℕ × ℕ))} {lengths : List ℕ} {stacks : List 
             (λ same _ less. let old : t + get_or lengths t 0 ≤ extent = st.within t h in omega arith)
             (λ _ k less. st.apart t u h k less));
         sized = λ m t h. get_or-set_other lengths extent t n 0 (not_end m t h) ∙ st.sized m t h;
-        some = st.some;
+        at_least_one = st.at_least_one;
         free = λ m t h. get_or-set_other lists extent t list [] (not_end m t h) ∙ st.free m t h;
         once = st.once;
         uses = omega (arith, st.uses, sum_by-set length lists extent list [] inside, size, ap length no_list);

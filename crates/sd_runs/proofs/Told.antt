@@ -4,9 +4,9 @@ use Rattle.std.proofs.Common.{refl, sym, ap, subst, ◌∙◌, arith, inl, inr}
 use Rattle.std.proofs.Math.Nat.{mul-le-mul_right}
 use Rattle.std.proofs.lemmas.List.{length-map}
 use Rattle.sd_runs.specs.Arena.{Has, IsOnce}
-use Rattle.sd_runs.specs.Fields.{chain, has, list_at, lists_from, lists_of, stacks_of, lengths_of, free_sum, no_run}
+use Rattle.sd_runs.specs.Fields.{chain, is_in, list_at, lists_from, lists_of, stacks_of, lengths_of, free_sum, no_run}
 use Rattle.sd_runs.specs.Padded.{IsPadded}
-use Rattle.sd_runs.specs.Stored.{Stored, Kept, IsChain}
+use Rattle.sd_runs.specs.Stored.{AreRunsStored, HoldsRuns, IsFreeChain}
 use Rattle.sd_runs.proofs.Arenas.{arena_of, same_arena}
 use Rattle.sd_runs.proofs.Chains.{chain_is, same_at, stack_at}
 use Rattle.sd_runs.proofs.Lists.{list_first, list_same, lists_length, part_same}
@@ -30,7 +30,7 @@ below_or_not (suc a) (suc b) =
     by_cases (λ less. inl (omega (arith, less))) (λ more. inr (omega (arith, more))) (below_or_not a b)
 
 module _ {lists : List (List (ℕ × ℕ))} {lengths : List ℕ} {stacks : List (List ℕ)} {used extent bound : ℕ}
-    (st : Stored lists lengths stacks used extent bound) where
+    (st : AreRunsStored lists lengths stacks used extent bound) where
   -- no more runs of a length are free than there are elements
   pub short : (n : ℕ) → length (get_or stacks n []) ≤ extent
   short n = by_first (get_or stacks n []) refl
@@ -38,12 +38,12 @@ module _ {lists : List (List (ℕ × ℕ))} {lengths : List ℕ} {stacks : List 
       by_first : (xs : List ℕ) → get_or stacks n [] ≡ xs → length (get_or stacks n []) ≤ extent
       by_first [] e = omega (arith, ap length e)
       by_first (x ∷ xs) e =
-          let pos : 0 < n = st.some n x (subst (Has x) (sym e) (inl refl)) in
+          let pos : 0 < n = st.at_least_one n x (subst (Has x) (sym e) (inl refl)) in
           omega (arith, short_sum 0 stacks n (omega (arith, pos)), st.whole)
 
   -- a free run starts below the mark of no run
   pub below : (n x : ℕ) → Has x (get_or stacks n []) → x < no_run
-  below n x h = omega (arith, free_inside st n x h, st.some n x h, st.bounded, st.bound_fits)
+  below n x h = omega (arith, free_inside st n x h, st.at_least_one n x h, st.bounded, st.bound_fits)
 
   -- two runs do not overlap
   pub outside : (s t k : ℕ) → ¬ (t ≡ s) → 0 < get_or lengths s 0 → 0 < get_or lengths t 0
@@ -60,7 +60,7 @@ module _ {lists : List (List (ℕ × ℕ))} {lengths : List ℕ} {stacks : List 
   pub list_other : (old new : List (ℕ × ℕ)) (after : List (List ℕ)) (s t : ℕ) → ¬ (t ≡ s) → 0 < get_or lengths s 0
       → length new ≡ length old
       → ((k : ℕ) → (k < s) ⊎ (s + get_or lengths s 0 ≤ k) → get_or new k (0, 0) ≡ get_or old k (0, 0))
-      → (has t (get_or after (get_or lengths t 0) []) ≡ has t (get_or stacks (get_or lengths t 0) []))
+      → (is_in t (get_or after (get_or lengths t 0) []) ≡ is_in t (get_or stacks (get_or lengths t 0) []))
       → list_at new after t (get_or lengths t 0) ≡ list_at old stacks t (get_or lengths t 0)
   list_other old new after s t ne here size same free =
       list_same old new stacks after t (get_or lengths t 0) free
@@ -69,7 +69,7 @@ module _ {lists : List (List (ℕ × ℕ))} {lengths : List ℕ} {stacks : List 
 
   -- other starts of free runs stand in other lists
   pub stored_stacks : (new : List (List ℕ)) → ((n : ℕ) → get_or new n [] ≡ get_or stacks n [])
-      → Stored lists lengths new used extent bound
+      → AreRunsStored lists lengths new used extent bound
   stored_stacks new same =
       record {
         same_length = st.same_length;
@@ -77,7 +77,7 @@ module _ {lists : List (List (ℕ × ℕ))} {lengths : List ℕ} {stacks : List 
         within = st.within;
         apart = st.apart;
         sized = λ n s h. st.sized n s (subst (Has s) (same n) h);
-        some = λ n s h. st.some n s (subst (Has s) (same n) h);
+        at_least_one = λ n s h. st.at_least_one n s (subst (Has s) (same n) h);
         free = λ n s h. st.free n s (subst (Has s) (same n) h);
         once = λ n. subst IsOnce (sym (same n)) (st.once n);
         uses = st.uses;
@@ -90,9 +90,9 @@ module _ {lists : List (List (ℕ × ℕ))} {lengths : List ℕ} {stacks : List 
 
 module _ (elements : List (ℕ × ℕ)) (lengths heads : List ℕ) {lists : List (List (ℕ × ℕ))} {stacks : List (List ℕ)}
     {used bound : ℕ}
-    (st : Stored lists (lengths_of lengths) stacks used (length elements) bound)
+    (st : AreRunsStored lists (lengths_of lengths) stacks used (length elements) bound)
     (places : length stacks ≡ length heads)
-    (chained : (n : ℕ) → IsChain elements (get_or heads n no_run) (get_or stacks n []))
+    (chained : (n : ℕ) → IsFreeChain elements (get_or heads n no_run) (get_or stacks n []))
     (listed : (k : ℕ) → get_or lists k [] ≡ list_at elements stacks k (get_or (lengths_of lengths) k 0))
     (filled : length (lengths_of lengths) ≡ length elements)
     (placed : (s : ℕ) → 0 < get_or (lengths_of lengths) s 0 → get_or (lengths_of lengths) s 0 < length heads) where
@@ -111,46 +111,47 @@ module _ (elements : List (ℕ × ℕ)) (lengths heads : List ℕ) {lists : List
       (λ k. list_first elements stacks (lengths_of lengths) k ∙ sym (listed k))
 
   -- so what holds of the plain lists holds of the fields
-  pub kept_from : Kept elements lengths heads used bound
+  pub kept_from : HoldsRuns elements lengths heads used bound
   kept_from =
       record {
-        stored = subst (λ l. Stored l (lengths_of lengths) (stacks_of elements heads) used (length elements) bound)
+        stored = subst
+            (λ l. AreRunsStored l (lengths_of lengths) (stacks_of elements heads) used (length elements) bound)
             (sym lists_are)
-            (subst (λ s. Stored lists (lengths_of lengths) s used (length elements) bound) (sym stacks_are) st);
+            (subst (λ s. AreRunsStored lists (lengths_of lengths) s used (length elements) bound) (sym stacks_are) st);
         filled = filled;
-        chained = λ n. subst (IsChain elements (get_or heads n no_run)) (ap (λ s. get_or s n []) (sym stacks_are))
+        chained = λ n. subst (IsFreeChain elements (get_or heads n no_run)) (ap (λ s. get_or s n []) (sym stacks_are))
             (chained n);
         placed = placed;
       }
 
 module _ (elements : List (ℕ × ℕ)) (lengths heads more : List ℕ) {used bound : ℕ}
-    (k : Kept elements lengths heads used bound) (p : IsPadded heads more) where
+    (k : HoldsRuns elements lengths heads used bound) (p : IsPadded heads more) where
   -- further places for lengths change no free run
   stacks_padded : (n : ℕ) → get_or (stacks_of elements more) n [] ≡ get_or (stacks_of elements heads) n []
   stacks_padded n =
       stack_at elements more n ∙ ap (chain (length elements) elements) (p.same n) ∙ sym (stack_at elements heads n)
 
-  stored_padded : Stored (lists_of elements lengths heads) (lengths_of lengths) (stacks_of elements more)
+  stored_padded : AreRunsStored (lists_of elements lengths heads) (lengths_of lengths) (stacks_of elements more)
       used (length elements) bound
   stored_padded = stored_stacks k.stored (stacks_of elements more) stacks_padded
 
-  chained_padded : (n : ℕ) → IsChain elements (get_or more n no_run) (get_or (stacks_of elements more) n [])
+  chained_padded : (n : ℕ) → IsFreeChain elements (get_or more n no_run) (get_or (stacks_of elements more) n [])
   chained_padded n =
-      subst (λ at. IsChain elements at (get_or (stacks_of elements more) n [])) (sym (p.same n))
-      (subst (IsChain elements (get_or heads n no_run)) (sym (stacks_padded n)) (k.chained n))
+      subst (λ at. IsFreeChain elements at (get_or (stacks_of elements more) n [])) (sym (p.same n))
+      (subst (IsFreeChain elements (get_or heads n no_run)) (sym (stacks_padded n)) (k.chained n))
 
   listed_padded : (s : ℕ) → get_or (lists_of elements lengths heads) s []
       ≡ list_at elements (stacks_of elements more) s (get_or (lengths_of lengths) s 0)
   listed_padded s =
       list_first elements (stacks_of elements heads) (lengths_of lengths) s
       ∙ sym (list_same elements elements (stacks_of elements heads) (stacks_of elements more) s
-      (get_or (lengths_of lengths) s 0) (ap (has s) (stacks_padded (get_or (lengths_of lengths) s 0))) (λ pos. refl))
+      (get_or (lengths_of lengths) s 0) (ap (is_in s) (stacks_padded (get_or (lengths_of lengths) s 0))) (λ pos. refl))
 
   placed_padded : (s : ℕ) → 0 < get_or (lengths_of lengths) s 0 → get_or (lengths_of lengths) s 0 < length more
   placed_padded s h = omega (arith, k.placed s h, p.longer)
 
   -- what holds of the fields holds with further places for lengths
-  pub kept_padded : Kept elements lengths more used bound
+  pub kept_padded : HoldsRuns elements lengths more used bound
   kept_padded =
       kept_from elements lengths more stored_padded
       (length-map more (λ head. chain (length elements) elements head))

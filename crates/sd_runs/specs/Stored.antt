@@ -6,14 +6,14 @@ use Rattle.sd_runs.specs.Fields.{free_sum, lengths_of, no_run, stacks_of, lists_
 
 -- The lists of the live runs and the lengths of all runs stand at their starts; the starts of the free runs stand at
 -- their lengths.
-pub record Stored (lists : List (List (ℕ × ℕ))) (lengths : List ℕ) (stacks : List (List ℕ))
+pub record AreRunsStored (lists : List (List (ℕ × ℕ))) (lengths : List ℕ) (stacks : List (List ℕ))
     (used extent bound : ℕ) : Type 0 where
   pub same_length : length lists ≡ length lengths
   pub held : (s : ℕ) → 0 < length (get_or lists s []) → length (get_or lists s []) ≡ get_or lengths s 0
   pub within : (s : ℕ) → 0 < get_or lengths s 0 → s + get_or lengths s 0 ≤ extent
   pub apart : (s t : ℕ) → 0 < get_or lengths s 0 → 0 < get_or lengths t 0 → s < t → s + get_or lengths s 0 ≤ t
   pub sized : (n s : ℕ) → Has s (get_or stacks n []) → get_or lengths s 0 ≡ n
-  pub some : (n s : ℕ) → Has s (get_or stacks n []) → 0 < n
+  pub at_least_one : (n s : ℕ) → Has s (get_or stacks n []) → 0 < n
   pub free : (n s : ℕ) → Has s (get_or stacks n []) → get_or lists s [] ≡ []
   pub once : (n : ℕ) → IsOnce (get_or stacks n [])
   pub uses : used ≡ sum_by length lists
@@ -24,16 +24,16 @@ pub record Stored (lists : List (List (ℕ × ℕ))) (lengths : List ℕ) (stack
   pub bound_fits : bound < 2 ^ 31
 
 -- the free runs from this one on are just these: each one's first element has the next start, the last one's `no_run`
-abbrev pub IsChain : List (ℕ × ℕ) → ℕ → List ℕ → Type 0
-IsChain elements at [] = at ≡ no_run
-IsChain elements at (start ∷ starts) = (at ≡ start) × IsChain elements (get_or elements start (0, 0)).0 starts
+abbrev pub IsFreeChain : List (ℕ × ℕ) → ℕ → List ℕ → Type 0
+IsFreeChain elements at [] = at ≡ no_run
+IsFreeChain elements at (start ∷ starts) = (at ≡ start) × IsFreeChain elements (get_or elements start (0, 0)).0 starts
 
 -- What holds of the fields themselves: the elements, the lengths of the runs in order, and the first free run of each
 -- length.
-pub record Kept (elements : List (ℕ × ℕ)) (lengths heads : List ℕ) (used bound : ℕ) : Type 0 where
-  pub stored : Stored (lists_of elements lengths heads) (lengths_of lengths) (stacks_of elements heads)
+pub record HoldsRuns (elements : List (ℕ × ℕ)) (lengths heads : List ℕ) (used bound : ℕ) : Type 0 where
+  pub stored : AreRunsStored (lists_of elements lengths heads) (lengths_of lengths) (stacks_of elements heads)
       used (length elements) bound
   pub filled : length (lengths_of lengths) ≡ length elements
-  pub chained : (n : ℕ) → IsChain elements (get_or heads n no_run) (get_or (stacks_of elements heads) n [])
+  pub chained : (n : ℕ) → IsFreeChain elements (get_or heads n no_run) (get_or (stacks_of elements heads) n [])
   -- each length of a run has a place
   pub placed : (s : ℕ) → 0 < get_or (lengths_of lengths) s 0 → get_or (lengths_of lengths) s 0 < length heads

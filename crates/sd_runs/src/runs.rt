@@ -33,7 +33,7 @@ impl Model for Runs {
     ghost use Rattle.std.specs.Prelude.{length};
     ghost use Rattle.sd_runs.specs.Arena.{Arena, arena_code};
     ghost use Rattle.sd_runs.specs.Fields.{filled_map, lengths_of, stacks_of, lists_of};
-    ghost use Rattle.sd_runs.specs.Stored.{Kept};
+    ghost use Rattle.sd_runs.specs.Stored.{HoldsRuns};
 
     ghost Value = { Arena };
 
@@ -46,7 +46,8 @@ impl Model for Runs {
       bound = r.bound;
     } };
 
-    ghost invariant = { λ r. Kept r.elements.items r.lengths.items r.heads.items r.used r.bound };
+    ghost invariant = { λ r. HoldsRuns r.elements.items r.lengths.items r.heads.items r.used
+        r.bound };
 }
 
 impl Runs {
@@ -55,7 +56,7 @@ impl Runs {
     ghost use Rattle.std.specs.FinMap.{get};
     ghost use Rattle.sd_runs.specs.Arena.{IsArena, free_of, live_length, live_total};
     ghost use Rattle.sd_runs.specs.Taking.{empty_arena, first, next_start, taken};
-    ghost use Rattle.sd_runs.specs.Taking.{given, KeepsLive, IsFull, IsRefusal};
+    ghost use Rattle.sd_runs.specs.Taking.{given_back, KeepsLive, IsFull, IsRefusal};
 
     /// An arena of no runs, for at most `bound` elements, live or free. Takes no memory.
     pub fn new(alloc: Global, bound: u32) -> Runs
@@ -118,7 +119,7 @@ impl Runs {
 
     // Makes the free run of its length that was given last live, with this list.
     fn reuse(&mut self, start: u32, list: &[(u32, u32)])
-        requires some { 0 < length list.now }
+        requires at_least_one { 0 < length list.now }
         requires kept { first (free_of self.old (length list.now)) ≡ Some start }
         ensures fresh { get self.old.live start ≡ None }
         ensures ok { self.new ≡ taken self.old list.now }
@@ -134,7 +135,7 @@ impl Runs {
     // A new run at the end of the arena. What may be refused comes before the fields change that are
     // seen.
     fn grow(&mut self, list: &[(u32, u32)]) -> Result<u32, TakeError>
-        requires some { 0 < length list.now }
+        requires at_least_one { 0 < length list.now }
         requires kept { free_of self.old (length list.now) ≡ [] }
         requires room { self.old.extent + length list.now ≤ self.old.bound }
         ensures start { IfOk result (λ start. start ≡ self.old.extent) }
@@ -158,7 +159,7 @@ impl Runs {
     /// Frees the live run of this length that starts here. Takes no memory.
     pub fn give(&mut self, start: u32, length: u32)
         requires { live_length self.old start ≡ Some length }
-        ensures given { self.new ≡ given self.old start length }
+        ensures given_back { self.new ≡ given_back self.old start length }
         ensures arena { IsArena self.new }
     {
         self.elements[start as usize] = (self.heads[length as usize], 0);

@@ -6,21 +6,21 @@ use Rattle.std.specs.Prelude.{nat_lt, int_le, ℤ, pos, negsuc, unsigned_abs, sl
 use Rattle.std.specs.Prelude.{Option, Some, None}
 use Rattle.std.specs.List.{list_any, list_all, AllByRecursion}
 use Rattle.sd_base.specs.Words.{lines_of}
-use Rattle.sd_base.specs.Lines.{TextLine, numbered_from, is_content}
+use Rattle.sd_base.specs.Lines.{TextLine, numbered_lines_from, is_content}
 use Rattle.sd_base.specs.Reading.{◌>>=◌, ◌>>◌, fault_if}
 use Rattle.sd_script.specs.declared.command.Command.{Command}
 use Rattle.sd_script.specs.declared.fault.ScriptFault.{ScriptFault}
 use Rattle.sd_script.specs.declared.fault.ScriptFault.TheVariants as faults
-use Rattle.sd_script.specs.Commands.{action_of, uses, binds, writes, has, bound, written}
+use Rattle.sd_script.specs.Commands.{action_of, uses, binds, writes, has, bound, written_files}
 use Rattle.sd_script.specs.Phrases as p
 use Rattle.sd_script.specs.Phrases.{Phrase, Word, phrase_of, names_in, files_in, renamed}
 use Rattle.sd_script.specs.Read.{reads, in_range, IsAllowed, IsScript}
-use Rattle.sd_script.specs.Scripts.{Script, empty, number, seen, numbered, literals_fit}
+use Rattle.sd_script.specs.Scripts.{Script, empty, number_of_word, seen, numbered_phrase, literals_fit}
 use Rattle.sd_script.specs.Scripts.{numbers_fit, is_within}
-use Rattle.sd_script.specs.Scripts.{checked, placed, with_command, with_line, after_line}
+use Rattle.sd_script.specs.Scripts.{checked, with_phrase, with_command, with_line, after_line}
 use Rattle.sd_script.specs.Scripts.{after_lines, script_of}
 use Rattle.sd_script.proofs.Bits.{bits_fit, phrase_fits}
-use Rattle.sd_script.proofs.Seeing.{known, length-see_least}
+use Rattle.sd_script.proofs.Seeing.{known, length_see_least}
 
 -- ---- steps of a reading that has no fault
 
@@ -58,7 +58,7 @@ record Passes (v : ℕ) (earlier : List Command) (phrase : Phrase ℕ) : Type 0 
   free : list_any (has (bound earlier)) (binds (action_of phrase)) ≡ false
   literals : literals_fit v phrase ≡ true
   numbers : numbers_fit v phrase ≡ true
-  unwritten : list_any (has (written earlier)) (writes (action_of phrase)) ≡ false
+  unwritten : list_any (has (written_files earlier)) (writes (action_of phrase)) ≡ false
 
 -- where they found no fault
 passes : (v : ℕ) (earlier : List Command) (line : ℕ) (phrase : Phrase ℕ)
@@ -167,11 +167,11 @@ still_allowed v s t earlier c names files h = record {
 
 -- a command that passes its tests can be done
 allowed : (v : ℕ) (s : Script) (line : ℕ) (phrase : Phrase Word) → bits_fit v phrase ≡ true
-    → Passes v s.commands (numbered (seen s phrase) phrase)
+    → Passes v s.commands (numbered_phrase (seen s phrase) phrase)
     → IsAllowed v (seen s phrase) s.commands
-    (record { line = line; action = action_of (numbered (seen s phrase) phrase) })
+    (record { line = line; action = action_of (numbered_phrase (seen s phrase) phrase) })
 allowed v s line phrase bits h =
-    let q = numbered (seen s phrase) phrase in
+    let q = numbered_phrase (seen s phrase) phrase in
     let t = seen s phrase in
     let k = known s phrase in
     record {
@@ -181,24 +181,24 @@ allowed v s line phrase bits h =
       free = h.free;
       unwritten = h.unwritten;
       ranges =
-          ranges v q h.literals h.numbers (bits_stay v (number t.names) (number t.files) phrase ∙ bits);
+          ranges v q h.literals h.numbers (bits_stay v (number_of_word t.names) (number_of_word t.files) phrase ∙ bits);
     }
 
 -- a script with one more command
 more : (v : ℕ) (s : Script) (line : ℕ) (phrase : Phrase Word)
     → bits_fit v phrase ≡ true → IsScript v s
-    → Passes v s.commands (numbered (seen s phrase) phrase)
+    → Passes v s.commands (numbered_phrase (seen s phrase) phrase)
     → IsScript v (record (seen s phrase) {
-      commands = with_command s.commands line (numbered (seen s phrase) phrase);
+      commands = with_command s.commands line (numbered_phrase (seen s phrase) phrase);
     })
 more v s line phrase bits h tested =
-    let c : Command = record { line = line; action = action_of (numbered (seen s phrase) phrase) } in
+    let c : Command = record { line = line; action = action_of (numbered_phrase (seen s phrase) phrase) } in
     let t : Script = record (seen s phrase) { commands = s.commands ++ c ∷ [] } in
     record {
       allowed =
           with_last (IsAllowed v t) s.commands c
           (λ k d g. still_allowed v s t (take k s.commands) d
-          (length-see_least s.names (names_in phrase)) (length-see_least s.files (files_in phrase))
+          (length_see_least s.names (names_in phrase)) (length_see_least s.files (files_in phrase))
           (h.allowed k d g))
           (still_allowed v (seen s phrase) t s.commands c (omega arith) (omega arith)
           (allowed v s line phrase bits tested));
@@ -212,9 +212,9 @@ command_keeps : (v : ℕ) (s t : Script) (line : TextLine)
 command_keeps v s t line h e =
     let fault = faults.BadLine line.number in
     let found = gave (ok_or (phrase_of v line.words) fault)
-    (λ phrase. placed v (seen s phrase) line.number (numbered (seen s phrase) phrase)) t e in
+    (λ phrase. with_phrase v (seen s phrase) line.number (numbered_phrase (seen s phrase) phrase)) t e in
     let phrase = found.0 in
-    let q = numbered (seen s phrase) phrase in
+    let q = numbered_phrase (seen s phrase) phrase in
     let tested = went_on (checked v s.commands line.number q) _ t found.2 in
     let bits =
     phrase_fits v line.words phrase (was_there (phrase_of v line.words) fault phrase found.1) in
@@ -245,4 +245,4 @@ lines_keep v s t (line ∷ lines) h e =
 pub is_script : (v : ℕ) (bytes : List ℕ) (t : Script) → script_of v bytes ≡ Ok t → IsScript v t
 unfolding script_of
 is_script v bytes t e =
-    lines_keep v empty t (numbered_from 1 (lines_of bytes)) (record { allowed = λ k c h. cc }) e
+    lines_keep v empty t (numbered_lines_from 1 (lines_of bytes)) (record { allowed = λ k c h. cc }) e

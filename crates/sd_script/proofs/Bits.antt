@@ -9,7 +9,7 @@ use Rattle.sd_model.specs.declared.trees.Move.TheVariants.{RotateLeft, RotateRig
 use Rattle.sd_model.specs.declared.trees.Operation.{Operation}
 use Rattle.sd_model.specs.declared.trees.Operation.TheVariants.{And, Or, Xor}
 use Rattle.sd_script.specs.Phrases as p
-use Rattle.sd_script.specs.Phrases.{Phrase, Word, name_of, file_of, is_bit, bits_of, values_of}
+use Rattle.sd_script.specs.Phrases.{Phrase, Word, name_of, file_name_of, is_bit, bits_of, digit_values}
 use Rattle.sd_script.specs.Phrases.{pair, triple}
 use Rattle.sd_script.specs.Phrases.{one_word, two_words, three_words, phrase_of}
 use Rattle.sd_script.proofs.Ascii.{and_left}
@@ -65,13 +65,13 @@ of_three v make h None y z = record { fact = tt }
 of_value : (v : ℕ) (x : Option Word) (word : Word) → HaveFit v (pair p.Value x (bits_of v word))
 of_value v None word = by (length word == v && list_all is_bit word)
   where
-    by : (b : Bool) → HaveFit v (pair p.Value None (if b then Some (values_of word) else None))
+    by : (b : Bool) → HaveFit v (pair p.Value None (if b then Some (digit_values word) else None))
     by true = record { fact = tt }
     by false = record { fact = tt }
 of_value v (Some a) word = by (length word == v && list_all is_bit word) refl
   where
     by : (b : Bool) → (length word == v && list_all is_bit word) ≡ b
-        → HaveFit v (pair p.Value (Some a) (if b then Some (values_of word) else None))
+        → HaveFit v (pair p.Value (Some a) (if b then Some (digit_values word) else None))
     by true e = record {
       fact =
           ap (λ n. n == v) (length-map word (λ b. b == 49))
@@ -92,18 +92,18 @@ of_one_word v command a =
     (choose v (bytes_eq command (codes "minimise")) _ _ (of_one v p.Minimise (λ n. refl) (natural_value a))
     (choose v (bytes_eq command (codes "limit")) _ _ (of_one v p.Limit (λ n. refl) (natural_value a))
     (choose v (bytes_eq command (codes "size")) _ _ (of_one v p.Size (λ n. refl) (name_of a))
-    (choose v (bytes_eq command (codes "vtree")) _ _ (of_one v p.Vtree (λ n. refl) (file_of a))
+    (choose v (bytes_eq command (codes "vtree")) _ _ (of_one v p.Vtree (λ n. refl) (file_name_of a))
     (nothing v)))))))))))
 
 -- with two
 of_two_words : (v : ℕ) (command a b : Word) → HaveFit v (two_words v command a b)
 of_two_words v command a b =
-    choose v (bytes_eq command (codes "load")) _ _ (of_two v p.Load (λ n f. refl) (name_of a) (file_of b))
+    choose v (bytes_eq command (codes "load")) _ _ (of_two v p.Load (λ n f. refl) (name_of a) (file_name_of b))
     (choose v (bytes_eq command (codes "lit")) _ _ (of_two v p.Lit (λ n l. refl) (name_of a) (integer_value b))
     (choose v (bytes_eq command (codes "not")) _ _ (of_two v p.Not (λ n m. refl) (name_of a) (name_of b))
     (choose v (bytes_eq command (codes "same")) _ _ (of_two v p.Same (λ n m. refl) (name_of a) (name_of b))
     (choose v (bytes_eq command (codes "value")) _ _ (of_value v (name_of a) b)
-    (choose v (bytes_eq command (codes "write")) _ _ (of_two v p.Write (λ n f. refl) (name_of a) (file_of b))
+    (choose v (bytes_eq command (codes "write")) _ _ (of_two v p.Write (λ n f. refl) (name_of a) (file_name_of b))
     (nothing v))))))
 
 -- with three

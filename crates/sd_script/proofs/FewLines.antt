@@ -5,12 +5,12 @@ use Rattle.std.proofs.Common.{if◌then◌else◌, length-append, Ok}
 use Rattle.std.proofs.lemmas.Bool.Decides.{nat_tests}
 use Rattle.std.specs.Prelude.{nat_lt, ok_or}
 use Rattle.sd_base.specs.Words.{lines_of, words_of}
-use Rattle.sd_base.specs.Lines.{TextLine, numbered_from, is_content}
+use Rattle.sd_base.specs.Lines.{TextLine, numbered_lines_from, is_content}
 use Rattle.sd_script.specs.declared.command.Command.{Command}
 use Rattle.sd_script.specs.declared.fault.ScriptFault.TheVariants as faults
 use Rattle.sd_script.specs.Commands.{action_of}
 use Rattle.sd_script.specs.Phrases.{phrase_of}
-use Rattle.sd_script.specs.Scripts.{Script, empty, seen, numbered, checked, placed, with_command, with_line}
+use Rattle.sd_script.specs.Scripts.{Script, empty, seen, numbered_phrase, checked, with_phrase, with_command, with_line}
 use Rattle.sd_script.specs.Scripts.{after_line, after_lines, script_of}
 use Rattle.sd_script.proofs.Allowed.{passed, gave, went_on}
 
@@ -23,9 +23,9 @@ one_more : (v : ℕ) (s t : Script) (line : TextLine) → with_line v s line ≡
     → length t.commands ≡ length s.commands + 1
 one_more v s t line e =
     let found = gave (ok_or (phrase_of v line.words) (faults.BadLine line.number))
-    (λ phrase. placed v (seen s phrase) line.number (numbered (seen s phrase) phrase)) t e in
+    (λ phrase. with_phrase v (seen s phrase) line.number (numbered_phrase (seen s phrase) phrase)) t e in
     let phrase = found.0 in
-    let q = numbered (seen s phrase) phrase in
+    let q = numbered_phrase (seen s phrase) phrase in
     let c : Command = record { line = line.number; action = action_of q } in
     let tested = went_on (checked v s.commands line.number q) _ t found.2 in
     let same : record (seen s phrase) { commands = with_command s.commands line.number q } ≡ t = cc (tested.2) in
@@ -47,12 +47,12 @@ one_at_most v s t line e =
 -- lines from a number on
 lines_few : (v n : ℕ) (s t : Script) (lines : List (List ℕ))
     → length s.commands + 1 ≤ n → length s.commands ≤ 100000
-    → after_lines v s (numbered_from n lines) ≡ Ok t → length t.commands ≤ 100000
-lines_few v n s t [] room few e =
-    let same : s ≡ t = cc in subst (λ (u : Script). length u.commands ≤ 100000) same few
-lines_few v n s t (line ∷ lines) room few e =
+    → after_lines v s (numbered_lines_from n lines) ≡ Ok t → length t.commands ≤ 100000
+lines_few v n s t [] room within_limit e =
+    let same : s ≡ t = cc in subst (λ (u : Script). length u.commands ≤ 100000) same within_limit
+lines_few v n s t (line ∷ lines) room within_limit e =
     let this : TextLine = record { number = n; words = words_of line } in
-    let first = gave (after_line v s this) (λ next. after_lines v next (numbered_from (n + 1) lines)) t e in
+    let first = gave (after_line v s this) (λ next. after_lines v next (numbered_lines_from (n + 1) lines)) t e in
     let one = one_at_most v s first.0 this first.1 in
     let low : n ≤ 100000 = one.0 in
     lines_few v (n + 1) first.0 t lines (omega (arith, one.1, room)) (omega (arith, one.1, room, low)) first.2

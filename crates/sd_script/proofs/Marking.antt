@@ -8,7 +8,7 @@ use Rattle.std.proofs.lemmas.List.Sums.{fold_push, sum_by-append}
 use Rattle.std.proofs.lemmas.Map.Views.{any-filter_same}
 use Rattle.std.specs.Prelude.{◌==◌, filter}
 use Rattle.sd_script.specs.declared.command.Command.{Command}
-use Rattle.sd_script.specs.Commands.{has, binds, frees, writes, bound, bound_after, written}
+use Rattle.sd_script.specs.Commands.{has, binds, frees, writes, bound, bound_after, written_files}
 use Rattle.sd_script.specs.Commands.{is_load, loads}
 
 -- equal numbers pass a test alike
@@ -37,12 +37,12 @@ or_swap false false = refl
 
 -- a file is written if the command writes it, or was written
 pub written_more : (cs : List Command) (c : Command) (i : ℕ)
-    → has (written (cs ++ c ∷ [])) i ≡ (has (writes c.action) i || has (written cs) i)
+    → has (written_files (cs ++ c ∷ [])) i ≡ (has (writes c.action) i || has (written_files cs) i)
 written_more cs c i =
     ap (λ files. has files i) (flat_map-append (λ d. writes d.action) cs (c ∷ []))
-    ∙ ap (λ files. has (written cs ++ files) i) (append-nil (writes c.action))
-    ∙ list_any-append (λ m. m == i) (written cs) (writes c.action)
-    ∙ or_swap (has (written cs) i) (has (writes c.action) i)
+    ∙ ap (λ files. has (written_files cs ++ files) i) (append-nil (writes c.action))
+    ∙ list_any-append (λ m. m == i) (written_files cs) (writes c.action)
+    ∙ or_swap (has (written_files cs) i) (has (writes c.action) i)
 
 -- a command that loads is counted
 pub loads_more : (cs : List Command) (c : Command)

@@ -12,15 +12,15 @@ use Rattle.std.proofs.lemmas.Bool.Decides.{nat_tests}
 use Rattle.std.specs.Prelude.{◌==◌}
 use Rattle.sd_script.specs.Commands.{has}
 use Rattle.sd_script.specs.Phrases.{Word}
-use Rattle.sd_script.specs.Scripts.{see, number}
+use Rattle.sd_script.specs.Scripts.{see, number_of_word}
 
--- ---- the first place at which a test passes, with one more element behind
+-- ---- the first index at which a test passes, with one more element behind
 
--- a place that is there stays
-place_stays : {X : Type 0} (p : X → Bool) (xs : List X) (y : X)
+-- an index that is there stays
+index_stays : {X : Type 0} (p : X → Bool) (xs : List X) (y : X)
     → list_any p xs ≡ true → position_or_len p (xs ++ y ∷ []) ≡ position_or_len p xs
-place_stays p [] y h = cc
-place_stays p (x ∷ xs) y h = by (p x) refl (place_stays p xs y)
+index_stays p [] y h = cc
+index_stays p (x ∷ xs) y h = by (p x) refl (index_stays p xs y)
   where
     by : (b : Bool) → p x ≡ b
         → (list_any p xs ≡ true → position_or_len p (xs ++ y ∷ []) ≡ position_or_len p xs)
@@ -28,11 +28,11 @@ place_stays p (x ∷ xs) y h = by (p x) refl (place_stays p xs y)
     by true e rest = rw e refl
     by false e rest = rw e (ap (λ n. 1 + n) (rest (rw e at h)))
 
--- where there is none, the new element has the next place if it passes
-place_next : {X : Type 0} (p : X → Bool) (xs : List X) (y : X)
+-- where there is none, the new element has the next index if it passes
+index_next : {X : Type 0} (p : X → Bool) (xs : List X) (y : X)
     → list_any p xs ≡ false → p y ≡ true → position_or_len p (xs ++ y ∷ []) ≡ position_or_len p xs
-place_next p [] y h e = rw e refl
-place_next p (x ∷ xs) y h e = by (p x) refl (λ rest. place_next p xs y rest e)
+index_next p [] y h e = rw e refl
+index_next p (x ∷ xs) y h e = by (p x) refl (λ rest. index_next p xs y rest e)
   where
     by : (b : Bool) → p x ≡ b
         → (list_any p xs ≡ false → position_or_len p (xs ++ y ∷ []) ≡ position_or_len p xs)
@@ -47,9 +47,9 @@ same_word : (w : Word) → bytes_eq w w ≡ true
 same_word w = (bytes_eq-Decides w w).1 refl
 
 -- a word that was seen is there
-pub has-see : (words : List Word) (w : Word) → list_any (bytes_eq w) (see words w) ≡ true
+pub has_see : (words : List Word) (w : Word) → list_any (bytes_eq w) (see words w) ≡ true
 unfolding see
-has-see words w = by (list_any (bytes_eq w) words) refl
+has_see words w = by (list_any (bytes_eq w) words) refl
   where
     by : (b : Bool) → list_any (bytes_eq w) words ≡ b
         → list_any (bytes_eq w) (if list_any (bytes_eq w) words then words else words ++ w ∷ []) ≡ true
@@ -57,51 +57,51 @@ has-see words w = by (list_any (bytes_eq w) words) refl
     by false e = rw e (list_any-append (bytes_eq w) words (w ∷ []) ∙ rw (e, same_word w) refl)
 
 -- and stays there
-pub has-see_other : (words : List Word) (w x : Word) → list_any (bytes_eq w) words ≡ true
+pub has_see_other : (words : List Word) (w x : Word) → list_any (bytes_eq w) words ≡ true
     → list_any (bytes_eq w) (see words x) ≡ true
 unfolding see
-has-see_other words w x h = by (list_any (bytes_eq x) words)
+has_see_other words w x h = by (list_any (bytes_eq x) words)
   where
     by : (b : Bool) → list_any (bytes_eq w) (if b then words else words ++ x ∷ []) ≡ true
     by true = h
     by false = list_any-append (bytes_eq w) words (x ∷ []) ∙ rw h refl
 
 -- the number of a word that is new is the next one
-pub number-see : (words : List Word) (w : Word) → number (see words w) w ≡ number words w
-unfolding see number
-number-see words w = by (list_any (bytes_eq w) words) refl
+pub number_see : (words : List Word) (w : Word) → number_of_word (see words w) w ≡ number_of_word words w
+unfolding see number_of_word
+number_see words w = by (list_any (bytes_eq w) words) refl
   where
     by : (b : Bool) → list_any (bytes_eq w) words ≡ b
         → position_or_len (bytes_eq w) (if b then words else words ++ w ∷ [])
         ≡ position_or_len (bytes_eq w) words
     by true e = refl
-    by false e = place_next (bytes_eq w) words w e (same_word w)
+    by false e = index_next (bytes_eq w) words w e (same_word w)
 
 -- a word that is there keeps its number
-number-see_other : (words : List Word) (w x : Word) → list_any (bytes_eq w) words ≡ true
-    → number (see words x) w ≡ number words w
-unfolding see number
-number-see_other words w x h = by (list_any (bytes_eq x) words)
+number_see_other : (words : List Word) (w x : Word) → list_any (bytes_eq w) words ≡ true
+    → number_of_word (see words x) w ≡ number_of_word words w
+unfolding see number_of_word
+number_see_other words w x h = by (list_any (bytes_eq x) words)
   where
     by : (b : Bool)
         → position_or_len (bytes_eq w) (if b then words else words ++ x ∷ [])
         ≡ position_or_len (bytes_eq w) words
     by true = refl
-    by false = place_stays (bytes_eq w) words x h
+    by false = index_stays (bytes_eq w) words x h
 
 -- with one more word behind it
-pub number-see_one : (words : List Word) (w x : Word) → number (see (see words w) x) w ≡ number words w
-number-see_one words w x = number-see_other (see words w) w x (has-see words w) ∙ number-see words w
+pub number_see_one : (words : List Word) (w x : Word) → number_of_word (see (see words w) x) w ≡ number_of_word words w
+number_see_one words w x = number_see_other (see words w) w x (has_see words w) ∙ number_see words w
 
 -- and with two
-pub number-see_two : (words : List Word) (w x y : Word)
-    → number (see (see (see words w) x) y) w ≡ number words w
-number-see_two words w x y =
-    number-see_other (see (see words w) x) w y (has-see_other (see words w) w x (has-see words w))
-    ∙ number-see_one words w x
+pub number_see_two : (words : List Word) (w x y : Word)
+    → number_of_word (see (see (see words w) x) y) w ≡ number_of_word words w
+number_see_two words w x y =
+    number_see_other (see (see words w) x) w y (has_see_other (see words w) w x (has_see words w))
+    ∙ number_see_one words w x
 
 -- the three
-pub ruleset numbers_stay = (number-see, number-see_one, number-see_two)
+pub ruleset numbers_stay = (number_see, number_see_one, number_see_two)
 
 -- ---- a set of references
 
@@ -112,17 +112,17 @@ module _ {R : Type 0} (view : R → Word) where
   any_view w [] = refl
   any_view w (k ∷ keys) = ap (λ c. bytes_eq w (view k) || c) (any_view w keys)
 
-  -- the place of a reference is that of its word
-  place_view : (w : Word) (keys : List R)
+  -- the index of a reference is that of its word
+  index_view : (w : Word) (keys : List R)
       → position_or_len (λ k. bytes_eq w (view k)) keys ≡ position_or_len (bytes_eq w) (map view keys)
-  place_view w [] = refl
-  place_view w (k ∷ keys) = ap (λ n. cond (not (bytes_eq w (view k))) (1 + n) 0) (place_view w keys)
+  index_view w [] = refl
+  index_view w (k ∷ keys) = ap (λ n. cond (not (bytes_eq w (view k))) (1 + n) 0) (index_view w keys)
 
   -- and so its number
   pub number_view : (w : Word) (keys : List R)
-      → position_or_len (λ k. bytes_eq w (view k)) keys ≡ number (map view keys) w
-  unfolding number
-  number_view w keys = place_view w keys
+      → position_or_len (λ k. bytes_eq w (view k)) keys ≡ number_of_word (map view keys) w
+  unfolding number_of_word
+  number_view w keys = index_view w keys
 
   -- the words after one more reference
   pub see_view : (keys : List R) (k : R)
@@ -139,7 +139,7 @@ module _ {R : Type 0} (view : R → Word) where
 
 -- ---- marks
 
--- a place that is marked
+-- an index that is marked
 pub mark_there : (marks : List Bool) (n i : ℕ) → n < length marks
     → get_or (set marks n true) i false ≡ (has (n ∷ []) i || get_or marks i false)
 mark_there marks n i h = by (n == i) refl
@@ -153,7 +153,7 @@ mark_there marks n i h = by (n == i) refl
         let other : i ≢ n = grind (arith, nat_tests) in
         get_or-set_other marks n i true false other
 
--- a place that loses its mark
+-- an index that loses its mark
 pub mark_gone : (marks : List Bool) (n i : ℕ) → n < length marks
     → get_or (set marks n false) i false ≡ (not (has (n ∷ []) i) && get_or marks i false)
 mark_gone marks n i h = by (n == i) refl

@@ -91,8 +91,8 @@ abbrev pub bound : List Command → List ℕ
 bound earlier = fold bound_after [] earlier
 
 -- the files that commands write
-abbrev pub written : List Command → List ℕ
-written earlier = flat_map (λ c. writes c.action) earlier
+abbrev pub written_files : List Command → List ℕ
+written_files earlier = flat_map (λ c. writes c.action) earlier
 
 -- how many commands load a file
 abbrev pub loads : List Command → ℕ

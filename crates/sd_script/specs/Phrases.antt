@@ -58,20 +58,20 @@ abbrev pub is_printable : Word → Bool
 is_printable word = list_all (λ b. nat_le 33 b && nat_le b 126) word
 
 -- a word that names a file: at most 255 bytes, each of 33 to 126
-abbrev pub file_of : Word → Option Word
-file_of word = if nat_le (length word) 255 && is_printable word then Some word else None
+abbrev pub file_name_of : Word → Option Word
+file_name_of word = if nat_le (length word) 255 && is_printable word then Some word else None
 
 -- a digit 0 or 1 (bytes 48 and 49)
 abbrev pub is_bit : ℕ → Bool
 is_bit b = b == 48 || b == 49
 
 -- digits as truth values
-abbrev pub values_of : Word → List Bool
-values_of word = map (λ b. b == 49) word
+abbrev pub digit_values : Word → List Bool
+digit_values word = map (λ b. b == 49) word
 
 -- a word of v digits 0 or 1, as truth values
 abbrev pub bits_of : ℕ → Word → Option (List Bool)
-bits_of v word = if length word == v && list_all is_bit word then Some (values_of word) else None
+bits_of v word = if length word == v && list_all is_bit word then Some (digit_values word) else None
 
 -- ---- the table of commands, by the number of words after the first
 
@@ -99,18 +99,18 @@ one_word command a =
     else if bytes_eq command (codes "minimise") then option_map Minimise (natural_value a)
     else if bytes_eq command (codes "limit") then option_map Limit (natural_value a)
     else if bytes_eq command (codes "size") then option_map Size (name_of a)
-    else if bytes_eq command (codes "vtree") then option_map Vtree (file_of a)
+    else if bytes_eq command (codes "vtree") then option_map Vtree (file_name_of a)
     else None
 
 -- a command with two words after it, over v variables
 abbrev pub two_words : ℕ → Word → Word → Word → Option (Phrase Word)
 two_words v command a b =
-    if bytes_eq command (codes "load") then pair Load (name_of a) (file_of b)
+    if bytes_eq command (codes "load") then pair Load (name_of a) (file_name_of b)
     else if bytes_eq command (codes "lit") then pair Lit (name_of a) (integer_value b)
     else if bytes_eq command (codes "not") then pair Not (name_of a) (name_of b)
     else if bytes_eq command (codes "same") then pair Same (name_of a) (name_of b)
     else if bytes_eq command (codes "value") then pair Value (name_of a) (bits_of v b)
-    else if bytes_eq command (codes "write") then pair Write (name_of a) (file_of b)
+    else if bytes_eq command (codes "write") then pair Write (name_of a) (file_name_of b)
     else None
 
 -- a command with three words after it

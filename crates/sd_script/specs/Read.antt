@@ -6,7 +6,7 @@ use Rattle.sd_script.specs.declared.command.Action.{Action}
 use Rattle.sd_script.specs.declared.command.Action.TheVariants.{Load, Lit, Given, Forget, Turn}
 use Rattle.sd_script.specs.declared.command.Action.TheVariants.{Minimise, Limit, Value}
 use Rattle.sd_script.specs.declared.command.Command.{Command}
-use Rattle.sd_script.specs.Commands.{uses, binds, writes, has, bound, written}
+use Rattle.sd_script.specs.Commands.{uses, binds, writes, has, bound, written_files}
 use Rattle.sd_script.specs.Scripts.{Script, is_within}
 
 -- the file that a command loads
@@ -32,7 +32,7 @@ pub record IsAllowed (v : ℕ) (s : Script) (earlier : List Command) (c : Comman
   pub files : AllByRecursion (λ n. n < length s.files) (reads c.action ++ writes c.action)
   pub known : list_all (has (bound earlier)) (uses c.action) ≡ true
   pub free : list_any (has (bound earlier)) (binds c.action) ≡ false
-  pub unwritten : list_any (has (written earlier)) (writes c.action) ≡ false
+  pub unwritten : list_any (has (written_files earlier)) (writes c.action) ≡ false
   pub ranges : in_range v c.action ≡ true
 
 -- each command can be done after those before it

@@ -5,7 +5,7 @@ use Rattle.std.specs.Prelude.{List, [], ◌∷◌, ◌++◌, fold, ok_or, Result
 use Rattle.std.specs.Prelude.{int_le}
 use Rattle.std.specs.List.{list_any, list_all, position_or_len}
 use Rattle.sd_base.specs.Words.{lines_of}
-use Rattle.sd_base.specs.Lines.{TextLine, numbered_from, is_content}
+use Rattle.sd_base.specs.Lines.{TextLine, numbered_lines_from, is_content}
 use Rattle.sd_base.specs.Reading.{◌>>=◌, ◌>>◌, fault_if}
 use Rattle.sd_script.specs.declared.command.Command.{Command}
 use Rattle.sd_script.specs.declared.fault.ScriptFault.{ScriptFault}
@@ -14,7 +14,7 @@ use Rattle.sd_script.specs.declared.fault.ScriptFault.TheVariants.{LiteralRange}
 use Rattle.sd_script.specs.declared.fault.ScriptFault.TheVariants.{NumberRange, FileTwice}
 use Rattle.sd_script.specs.declared.fault.ScriptFault.TheVariants.{TooManyLines, TooManyLoads}
 use Rattle.sd_script.specs.declared.fault.ScriptFault.TheVariants.{OutOfMemory}
-use Rattle.sd_script.specs.Commands.{action_of, uses, binds, writes, is_load, has, bound, written}
+use Rattle.sd_script.specs.Commands.{action_of, uses, binds, writes, is_load, has, bound, written_files}
 use Rattle.sd_script.specs.Commands.{loads}
 use Rattle.sd_script.specs.Phrases.{Phrase, Word, Lit, Given, Forget, Turn, Minimise, Limit}
 use Rattle.sd_script.specs.Phrases.{phrase_of, names_in, files_in, renamed}
@@ -40,9 +40,9 @@ see words word = if list_any (bytes_eq word) words then words else words ++ word
 abbrev pub see_all : List Word → List Word → List Word
 see_all words more = fold see words more
 
--- the number of a word: its place among the distinct words
-unfoldable pub number : List Word → Word → ℕ
-number words word = position_or_len (bytes_eq word) words
+-- the number of a word: its index among the distinct words
+unfoldable pub number_of_word : List Word → Word → ℕ
+number_of_word words word = position_or_len (bytes_eq word) words
 
 -- ---- ranges, over the variables 1 to v
 
@@ -73,7 +73,7 @@ checked v earlier line phrase = do
   fault_if (list_any (has (bound earlier)) (binds (action_of phrase))) (NameTaken line)
   fault_if (not (literals_fit v phrase)) (LiteralRange line)
   fault_if (not (numbers_fit v phrase)) (NumberRange line)
-  fault_if (list_any (has (written earlier)) (writes (action_of phrase))) (FileTwice line)
+  fault_if (list_any (has (written_files earlier)) (writes (action_of phrase))) (FileTwice line)
   fault_if (is_load (action_of phrase) && nat_le 64 (loads earlier)) (TooManyLoads line)
   Ok tt
 
@@ -82,8 +82,8 @@ abbrev pub with_command : List Command → ℕ → Phrase ℕ → List Command
 with_command earlier line phrase = earlier ++ record { line = line; action = action_of phrase } ∷ []
 
 -- a script with one more command, over the names and files so far
-abbrev pub placed : ℕ → Script → ℕ → Phrase ℕ → Result Script ScriptFault
-placed v script line phrase = do
+abbrev pub with_phrase : ℕ → Script → ℕ → Phrase ℕ → Result Script ScriptFault
+with_phrase v script line phrase = do
   checked v script.commands line phrase
   Ok (record script { commands = with_command script.commands line phrase })
 
@@ -96,14 +96,14 @@ seen script phrase = record {
 }
 
 -- a phrase with the numbers that its names and files have in a script
-abbrev pub numbered : Script → Phrase Word → Phrase ℕ
-numbered script phrase = renamed (number script.names) (number script.files) phrase
+abbrev pub numbered_phrase : Script → Phrase Word → Phrase ℕ
+numbered_phrase script phrase = renamed (number_of_word script.names) (number_of_word script.files) phrase
 
 -- a script with the command of a line
 abbrev pub with_line : ℕ → Script → TextLine → Result Script ScriptFault
 with_line v script line = do
   phrase ← ok_or (phrase_of v line.words) (BadLine line.number)
-  placed v (seen script phrase) line.number (numbered (seen script phrase) phrase)
+  with_phrase v (seen script phrase) line.number (numbered_phrase (seen script phrase) phrase)
 
 -- ---- the lines of a text
 
@@ -122,11 +122,11 @@ after_lines v script (line ∷ lines) = do
 
 -- the script that a text stands for over the variables 1 to v, or the text's first fault
 unfoldable pub script_of : ℕ → List ℕ → Result Script ScriptFault
-script_of v bytes = after_lines v empty (numbered_from 1 (lines_of bytes))
+script_of v bytes = after_lines v empty (numbered_lines_from 1 (lines_of bytes))
 
 -- ---- what a reader answers
 
--- a reading has this fault; want of memory says nothing of it
+-- a reading has this fault; OutOfMemory says nothing of it
 abbrev pub Fails : {Y : Type 0} → ScriptFault → Result Y ScriptFault → Type 0
 Fails OutOfMemory reading = Unit {0}
 Fails fault reading = reading ≡ Err fault

@@ -6,19 +6,19 @@ use Rattle.sd_script.specs.declared.reader.Reader.{Reader}
 use Rattle.sd_script.specs.Commands.{is_load, action_of}
 use Rattle.sd_script.specs.Phrases.{Phrase, names_in, files_in}
 use Rattle.sd_script.specs.Scripts.{Script, literals_fit, numbers_fit}
-use Rattle.sd_script.specs.Tables.{words_of}
+use Rattle.sd_script.specs.Tables.{table_words}
 
 -- what was read
 abbrev pub script_view : Reader → Script
-script_view r = record { commands = r.commands.items; names = words_of r.names; files = words_of r.files }
+script_view r = record { commands = r.commands.items; names = table_words r.names; files = table_words r.files }
 
 -- the numbers of a phrase are those of words
-pub record IsKnown (script : Script) (phrase : Phrase ℕ) : Type 0 where
+pub record HasNamesIn (script : Script) (phrase : Phrase ℕ) : Type 0 where
   pub names : AllByRecursion (λ n. n < length script.names) (names_in phrase)
   pub files : AllByRecursion (λ n. n < length script.files) (files_in phrase)
 
 -- the numbers of a phrase are in range, and so is the count of files that were loaded
-pub record Fits (v loaded : ℕ) (phrase : Phrase ℕ) : Type 0 where
+pub record IsPhraseInRange (v loaded : ℕ) (phrase : Phrase ℕ) : Type 0 where
   pub literals : literals_fit v phrase ≡ true
   pub numbers : numbers_fit v phrase ≡ true
   pub loads : is_load (action_of phrase) ≡ true → loaded < 64

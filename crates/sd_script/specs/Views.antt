@@ -3,7 +3,7 @@ use Rattle.std.specs.Prelude.{ℕ}
 use Rattle.sd_script.specs.declared.phrase.Phrase as code
 use Rattle.sd_script.specs.declared.phrase.Phrase.TheVariants as variants
 use Rattle.sd_script.specs.Phrases.{Phrase, Input, Load, Lit, Constant, Binary, Not, Given, Forget}
-use Rattle.sd_script.specs.Phrases.{values_of, Drop, Turn, Minimise, Limit, Same, Size, Value}
+use Rattle.sd_script.specs.Phrases.{digit_values, Drop, Turn, Minimise, Limit, Same, Size, Value}
 use Rattle.sd_script.specs.Phrases.{Write, Vtree}
 
 -- a phrase whose names and files stand for others
@@ -22,7 +22,7 @@ viewed view (variants.Minimise rounds) = Minimise rounds
 viewed view (variants.Limit k) = Limit k
 viewed view (variants.Same a b) = Same (view a) (view b)
 viewed view (variants.Size a) = Size (view a)
-viewed view (variants.Value a bits) = Value (view a) (values_of bits.now)
+viewed view (variants.Value a bits) = Value (view a) (digit_values bits.now)
 viewed view (variants.Write a file) = Write (view a) (view file)
 viewed view (variants.Vtree file) = Vtree (view file)
 

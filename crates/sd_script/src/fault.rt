@@ -5,7 +5,7 @@ ghost use Rattle.std.specs.Prelude.{◌≡◌};
 use std::alloc::{AllocError, AllocFailed};
 use thiserror::Error;
 
-/// The first fault of a text, or want of memory. Lines are counted from 1, over all lines of the text.
+/// The first fault of a text, or that memory ran out. Lines are counted from 1, over all lines of the text.
 #[derive(Clone, Copy, Debug, PartialEq, Eq, Error)]
 pub enum ScriptFault {
     /// The line is no command: its first word is none, or its other words are too few, too many
@@ -33,7 +33,7 @@ pub enum ScriptFault {
     /// It is the 65th command that loads a file.
     #[error("TooManyLoads")]
     TooManyLoads { line: u32 },
-    /// Want of memory, whatever the text.
+    /// Out of memory, whatever the text.
     #[error("OutOfMemory")]
     OutOfMemory,
 }

@@ -4,16 +4,17 @@ ghost use Rattle.std.specs.Prelude.{◌≡◌, ◌<◌, ℕ, not, ◌&&◌, ◌|
 ghost use Rattle.std.specs.List.{AllByRecursion};
 ghost use Rattle.sd_script.specs.Commands.{action_of, binds, frees, writes, has};
 ghost use Rattle.sd_script.specs.Phrases.{names_in, files_in};
-ghost use Rattle.sd_script.specs.Tables.{words_of, is_marked};
+ghost use Rattle.sd_script.specs.Tables.{table_words, is_marked};
 ghost use Rattle.sd_script.specs.Views.{numbers_view};
 
 use crate::phrase::Phrase;
-use crate::table::Table;
+use crate::table::NameTable;
 
 /// Marks the name that a command binds, and takes the mark of the one that it frees.
-pub(crate) fn mark_names(names: &mut Table<'_>, phrase: &Phrase<'_, u32>)
-    requires { AllByRecursion (λ n. n < length (words_of names.old)) (names_in (numbers_view phrase.now)) }
-    ensures words { words_of names.new ≡ words_of names.old }
+pub(crate) fn mark_names(names: &mut NameTable<'_>, phrase: &Phrase<'_, u32>)
+    requires { AllByRecursion (λ n. n < length (table_words names.old))
+        (names_in (numbers_view phrase.now)) }
+    ensures words { table_words names.new ≡ table_words names.old }
     ensures marks { (i : ℕ) → is_marked names.new i
         ≡ (has (binds (action_of (numbers_view phrase.now))) i
         || (not (has (frees (action_of (numbers_view phrase.now))) i) && is_marked names.old i)) }
@@ -33,9 +34,10 @@ pub(crate) fn mark_names(names: &mut Table<'_>, phrase: &Phrase<'_, u32>)
 }
 
 /// Marks the file that a command writes.
-pub(crate) fn mark_files(files: &mut Table<'_>, phrase: &Phrase<'_, u32>)
-    requires { AllByRecursion (λ n. n < length (words_of files.old)) (files_in (numbers_view phrase.now)) }
-    ensures words { words_of files.new ≡ words_of files.old }
+pub(crate) fn mark_files(files: &mut NameTable<'_>, phrase: &Phrase<'_, u32>)
+    requires { AllByRecursion (λ n. n < length (table_words files.old))
+        (files_in (numbers_view phrase.now)) }
+    ensures words { table_words files.new ≡ table_words files.old }
     ensures marks { (i : ℕ) → is_marked files.new i
         ≡ (has (writes (action_of (numbers_view phrase.now))) i || is_marked files.old i) }
 {

@@ -2,7 +2,7 @@
 
 ghost use Rattle.std.specs.Prelude.{◌≡◌, ◌≤◌, true, IfOk, map, ◌==◌, unsigned_abs};
 ghost use Rattle.sd_script.specs.Commands as commands;
-ghost use Rattle.sd_script.specs.Phrases.{values_of};
+ghost use Rattle.sd_script.specs.Phrases.{digit_values};
 ghost use Rattle.sd_script.specs.Scripts as texts;
 ghost use Rattle.sd_script.specs.Views.{numbers_view};
 
@@ -53,7 +53,7 @@ pub(crate) fn action_of(
     variables: u32,
     phrase: &Phrase<'_, u32>,
 ) -> Result<Action, AllocError>
-    requires few { variables ≤ 1024 }
+    requires within_limit { variables ≤ 1024 }
     requires literals { texts.literals_fit variables (numbers_view phrase.now) ≡ true }
     requires numbers { texts.numbers_fit variables (numbers_view phrase.now) ≡ true }
     ensures { IfOk result (λ action. action ≡ commands.action_of (numbers_view phrase.now)) }
@@ -84,7 +84,7 @@ pub(crate) fn action_of(
 
 /// Digits 0 and 1 as truth values.
 fn bits_from(alloc: Global, digits: &[u8]) -> Result<Bits, AllocError>
-    ensures { IfOk result (λ bits. bits ≡ values_of digits.now) }
+    ensures { IfOk result (λ bits. bits ≡ digit_values digits.now) }
 {
     Ok(Bits::new(values_from(alloc, digits)?))
 }

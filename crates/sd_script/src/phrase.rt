@@ -172,7 +172,7 @@ fn name_of(word: &[u8]) -> Option<&str>
 /// The text of a word that names a file: at most 255 bytes, each of 33 to 126.
 #[tactic(auto, using(crate::proofs::Ascii::files_are_text))]
 fn file_of(word: &[u8]) -> Option<&str>
-    ensures { option_map (λ text. text.now) result ≡ texts.file_of word.now }
+    ensures { option_map (λ text. text.now) result ≡ texts.file_name_of word.now }
 {
     if word.len() <= MAX_FILE && is_printable(word) {
         from_utf8(word).ok()
@@ -183,7 +183,7 @@ fn file_of(word: &[u8]) -> Option<&str>
 
 /// A word with a digit 0 or 1 for each variable.
 fn bits_of(variables: u32, word: &[u8]) -> Option<&[u8]>
-    ensures { option_map (λ bits. texts.values_of bits.now) result
+    ensures { option_map (λ bits. texts.digit_values bits.now) result
         ≡ texts.bits_of variables word.now }
 {
     if word.len() == variables as usize && all_bits(word) {

@@ -3,11 +3,11 @@
 ghost use Rattle.std.specs.Prelude.{◌≡◌, ◌+◌, ◌≤◌, ◌<◌, ℕ, true, length, IfOk, OnOk};
 ghost use Rattle.std.specs.List.{list_any, list_all};
 ghost use Rattle.sd_base.specs.Views.{line_view};
-ghost use Rattle.sd_script.specs.Commands.{uses, binds, writes, has, bound, written, loads};
+ghost use Rattle.sd_script.specs.Commands.{uses, binds, writes, has, bound, written_files, loads};
 ghost use Rattle.sd_script.specs.Commands as commands;
 ghost use Rattle.sd_script.specs.Scripts as texts;
-ghost use Rattle.sd_script.specs.Scripts.{Gives, empty, seen, numbered, with_command};
-ghost use Rattle.sd_script.specs.Tables.{words_of, is_marked};
+ghost use Rattle.sd_script.specs.Scripts.{Gives, empty, seen, numbered_phrase, with_command};
+ghost use Rattle.sd_script.specs.Tables.{table_words, is_marked};
 ghost use Rattle.sd_script.specs.Views.{viewed, numbers_view};
 
 use crate::command::{Action, Command};
@@ -16,7 +16,7 @@ use crate::marks::{mark_files, mark_names};
 use crate::number::{action_of, is_load, literals_fit, numbers_fit};
 use crate::phrase::{Phrase, phrase_of};
 use crate::seen::number_words;
-use crate::table::Table;
+use crate::table::NameTable;
 use sd_base::Line;
 use std::alloc::{AllocError, Global};
 
@@ -29,19 +29,19 @@ const MAX_LOADS: u32 = 64;
 pub(crate) struct Reader<'a> {
     pub(crate) commands: Vec<Command>,
     /// Marked where they are bound.
-    pub(crate) names: Table<'a>,
+    pub(crate) names: NameTable<'a>,
     /// Marked where they are written.
-    pub(crate) files: Table<'a>,
+    pub(crate) files: NameTable<'a>,
     /// How many commands load a file.
     loaded: u32,
     ghost marked: { (i : ℕ) → is_marked names i ≡ has (bound commands.items) i },
-    ghost noted: { (i : ℕ) → is_marked files i ≡ has (written commands.items) i },
+    ghost noted: { (i : ℕ) → is_marked files i ≡ has (written_files commands.items) i },
     ghost count: { loaded ≡ loads commands.items },
-    ghost few: { loaded ≤ 64 },
+    ghost within_limit: { loaded ≤ 64 },
 }
 
 impl<'a> Reader<'a> {
-    ghost use Rattle.sd_script.specs.Steps.{script_view, IsKnown, Fits, HasRoom};
+    ghost use Rattle.sd_script.specs.Steps.{script_view, HasNamesIn, IsPhraseInRange, HasRoom};
 
     /// Nothing read yet.
     pub(crate) fn new(alloc: Global) -> Self
@@ -49,8 +49,8 @@ impl<'a> Reader<'a> {
     {
         Reader {
             commands: Vec::new(alloc),
-            names: Table::new(alloc),
-            files: Table::new(alloc),
+            names: NameTable::new(alloc),
+            files: NameTable::new(alloc),
             loaded: 0,
         }
     }
@@ -64,7 +64,7 @@ impl<'a> Reader<'a> {
 
     /// Whether the file of a number is written.
     fn is_written(&self, number: u32) -> bool
-        ensures { result ≡ has (written self.now.commands.items) number }
+        ensures { result ≡ has (written_files self.now.commands.items) number }
     {
         self.files.is_marked(number)
     }
@@ -108,7 +108,7 @@ impl<'a> Reader<'a> {
 
     /// Whether the file that a command writes is written.
     fn is_twice(&self, phrase: &Phrase<'a, u32>) -> bool
-        ensures { result ≡ list_any (has (written self.now.commands.items))
+        ensures { result ≡ list_any (has (written_files self.now.commands.items))
             (writes (commands.action_of (numbers_view phrase.now))) }
     {
         match phrase {
@@ -122,7 +122,8 @@ impl<'a> Reader<'a> {
         requires { 1 ≤ variables }
         ensures value { Gives (λ _. tt) result
             (texts.checked variables self.now.commands.items line (numbers_view phrase.now)) }
-        ensures fits { OnOk result (Fits variables self.now.loaded (numbers_view phrase.now)) }
+        ensures fits { OnOk result
+            (IsPhraseInRange variables self.now.loaded (numbers_view phrase.now)) }
     {
         if !self.all_used_bound(phrase) {
             return Err(ScriptFault::NameUnknown { line });
@@ -149,14 +150,14 @@ impl<'a> Reader<'a> {
     #[tactic(auto, using(crate::proofs::Marking::more))]
     fn put(&mut self, line: u32, action: Action, phrase: &Phrase<'a, u32>) -> Result<(), AllocError>
         requires action { action ≡ commands.action_of (numbers_view phrase.now) }
-        requires known { IsKnown (script_view self.old) (numbers_view phrase.now) }
+        requires known { HasNamesIn (script_view self.old) (numbers_view phrase.now) }
         requires loads { commands.is_load (commands.action_of (numbers_view phrase.now)) ≡ true
             → self.old.loaded < 64 }
         ensures value { OnOk result (script_view self.new ≡ record (script_view self.old) {
           commands = with_command self.old.commands.items line (numbers_view phrase.now);
         }) }
-        ensures names { words_of self.new.names ≡ words_of self.old.names }
-        ensures files { words_of self.new.files ≡ words_of self.old.files }
+        ensures names { table_words self.new.names ≡ table_words self.old.names }
+        ensures files { table_words self.new.files ≡ table_words self.old.files }
     {
         self.commands.push(Command { line, action })?;
         mark_names(&mut self.names, phrase);
@@ -168,20 +169,20 @@ impl<'a> Reader<'a> {
     }
 
     /// Puts a command behind the others, if it has no fault.
-    fn place(
+    fn put_checked(
         &mut self,
         alloc: Global,
         variables: u32,
         line: u32,
         phrase: &Phrase<'a, u32>,
     ) -> Result<(), ScriptFault>
-        requires some { 1 ≤ variables }
-        requires few { variables ≤ 1024 }
-        requires known { IsKnown (script_view self.old) (numbers_view phrase.now) }
+        requires at_least_one { 1 ≤ variables }
+        requires within_limit { variables ≤ 1024 }
+        requires known { HasNamesIn (script_view self.old) (numbers_view phrase.now) }
         ensures value { Gives (λ _. script_view self.new) result
-            (texts.placed variables (script_view self.old) line (numbers_view phrase.now)) }
-        ensures names { words_of self.new.names ≡ words_of self.old.names }
-        ensures files { words_of self.new.files ≡ words_of self.old.files }
+            (texts.with_phrase variables (script_view self.old) line (numbers_view phrase.now)) }
+        ensures names { table_words self.new.names ≡ table_words self.old.names }
+        ensures files { table_words self.new.files ≡ table_words self.old.files }
     {
         self.check(variables, line, phrase)?;
         let action = action_of(alloc, variables, phrase)?;
@@ -194,7 +195,7 @@ impl<'a> Reader<'a> {
         requires { HasRoom 100000 (script_view self.old) }
         ensures seen { OnOk result (script_view self.new
             ≡ seen (script_view self.old) (viewed (λ word. word.now) phrase.now)) }
-        ensures numbered { IfOk result (λ p. numbers_view p ≡ numbered (script_view self.new)
+        ensures numbered { IfOk result (λ p. numbers_view p ≡ numbered_phrase (script_view self.new)
             (viewed (λ word. word.now) phrase.now)) }
     {
         number_words(&mut self.names, &mut self.files, phrase)
@@ -207,8 +208,8 @@ impl<'a> Reader<'a> {
         variables: u32,
         line: &Line<'a>,
     ) -> Result<(), ScriptFault>
-        requires some { 1 ≤ variables }
-        requires few { variables ≤ 1024 }
+        requires at_least_one { 1 ≤ variables }
+        requires within_limit { variables ≤ 1024 }
         requires below { line.now.number ≤ 100000 }
         requires room { HasRoom line.now.number (script_view self.old) }
         ensures value { Gives (λ _. script_view self.new) result
@@ -218,7 +219,7 @@ impl<'a> Reader<'a> {
         let number = line.number;
         let words = phrase_of(variables, line).ok_or(ScriptFault::BadLine { line: number })?;
         let phrase = self.number(&words)?;
-        self.place(alloc, variables, number, &phrase)?;
+        self.put_checked(alloc, variables, number, &phrase)?;
         Ok(())
     }
 
@@ -229,8 +230,8 @@ impl<'a> Reader<'a> {
         variables: u32,
         line: &Line<'a>,
     ) -> Result<(), ScriptFault>
-        requires some { 1 ≤ variables }
-        requires few { variables ≤ 1024 }
+        requires at_least_one { 1 ≤ variables }
+        requires within_limit { variables ≤ 1024 }
         requires room { HasRoom line.now.number (script_view self.old) }
         ensures value { Gives (λ _. script_view self.new) result
             (texts.after_line variables (script_view self.old) (line_view line.now)) }

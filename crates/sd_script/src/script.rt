@@ -66,13 +66,13 @@ impl Script {
 /// command; blank lines and those that begin with `#` are passed over, but counted. The first line
 /// with a fault decides. Any text may answer `OutOfMemory`.
 pub fn read_script(alloc: Global, bytes: &[u8], variables: u32) -> Result<Script, ScriptFault>
-    requires some { 1 ≤ variables }
-    requires few { variables ≤ 1024 }
-    requires short { length bytes.now ≤ 67108864 }
+    requires at_least_one { 1 ≤ variables }
+    requires within_limit { variables ≤ 1024 }
+    requires fits { length bytes.now ≤ 67108864 }
     ensures ok { IfOk result (λ script. script_of variables bytes.now ≡ Ok script) }
     ensures fault { IfErr result (λ e. Fails e (script_of variables bytes.now)) }
     ensures script { IfOk result (IsScript variables) }
-    ensures few { IfOk result (λ script. length script.commands ≤ 100000) }
+    ensures within_limit { IfOk result (λ script. length script.commands ≤ 100000) }
 {
     let reader = read_lines(alloc, bytes, variables)?;
     let names = reader.names.texts(alloc)?;
@@ -87,9 +87,9 @@ pub fn read_script(alloc: Global, bytes: &[u8], variables: u32) -> Result<Script
 /// What the lines of a text say.
 #[tactic(auto, unfolding(crate::specs::Scripts::script_of), using(crate::proofs::Ahead::room))]
 fn read_lines(alloc: Global, bytes: &[u8], variables: u32) -> Result<Reader<'_>, ScriptFault>
-    requires some { 1 ≤ variables }
-    requires few { variables ≤ 1024 }
-    requires short { length bytes.now ≤ 67108864 }
+    requires at_least_one { 1 ≤ variables }
+    requires within_limit { variables ≤ 1024 }
+    requires fits { length bytes.now ≤ 67108864 }
     ensures { Gives script_view result (script_of variables bytes.now) }
 {
     let mut reader = Reader::new(alloc);

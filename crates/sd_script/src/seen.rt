@@ -2,28 +2,28 @@
 
 ghost use Rattle.std.specs.Prelude.{◌≡◌, ◌<◌, ◌^◌, ℕ, length, IfOk, OnOk};
 ghost use Rattle.sd_script.specs.Phrases.{names_in, files_in, renamed};
-ghost use Rattle.sd_script.specs.Scripts.{see_all, number};
-ghost use Rattle.sd_script.specs.Tables.{words_of, is_marked};
+ghost use Rattle.sd_script.specs.Scripts.{see_all, number_of_word};
+ghost use Rattle.sd_script.specs.Tables.{table_words, is_marked};
 ghost use Rattle.sd_script.specs.Views.{viewed, numbers_view};
 
 use crate::phrase::Phrase;
-use crate::table::Table;
+use crate::table::NameTable;
 use std::alloc::AllocError;
 
 /// The command over numbers; names and files that are new are put behind the others.
 pub(crate) fn number_words<'a>(
-    names: &mut Table<'a>,
-    files: &mut Table<'a>,
+    names: &mut NameTable<'a>,
+    files: &mut NameTable<'a>,
     phrase: &Phrase<'a, &'a str>,
 ) -> Result<Phrase<'a, u32>, AllocError>
-    requires names { length (words_of names.old) < 2 ^ 30 }
-    requires files { length (words_of files.old) < 2 ^ 30 }
-    ensures names { OnOk result (words_of names.new
-        ≡ see_all (words_of names.old) (names_in (viewed (λ word. word.now) phrase.now))) }
-    ensures files { OnOk result (words_of files.new
-        ≡ see_all (words_of files.old) (files_in (viewed (λ word. word.now) phrase.now))) }
+    requires names { length (table_words names.old) < 2 ^ 30 }
+    requires files { length (table_words files.old) < 2 ^ 30 }
+    ensures names { OnOk result (table_words names.new
+        ≡ see_all (table_words names.old) (names_in (viewed (λ word. word.now) phrase.now))) }
+    ensures files { OnOk result (table_words files.new
+        ≡ see_all (table_words files.old) (files_in (viewed (λ word. word.now) phrase.now))) }
     ensures numbered { IfOk result (λ p. numbers_view p
-        ≡ renamed (number (words_of names.new)) (number (words_of files.new))
+        ≡ renamed (number_of_word (table_words names.new)) (number_of_word (table_words files.new))
         (viewed (λ word. word.now) phrase.now)) }
     ensures names_marks { (i : ℕ) → is_marked names.new i ≡ is_marked names.old i }
     ensures files_marks { (i : ℕ) → is_marked files.new i ≡ is_marked files.old i }

@@ -3,31 +3,31 @@
 ghost use Rattle.std.specs.Prelude.{◌≡◌, ◌+◌, ◌<◌, ◌≤◌, ◌^◌, ℕ, [], ◌∷◌, false, not, ◌&&◌, ◌||◌};
 ghost use Rattle.std.specs.Prelude.{length, IfOk, OnOk, vec_len};
 ghost use Rattle.sd_script.specs.Commands.{has};
-ghost use Rattle.sd_script.specs.Scripts.{see, number};
+ghost use Rattle.sd_script.specs.Scripts.{see, number_of_word};
 
 use indexmap::IndexSet;
 use sd_base::Name;
 use std::alloc::{AllocError, Global};
 
-/// Words in the order in which they were first seen. Each has its place as its number, and can be
+/// Words in the order in which they were first seen. Each has its index as its number, and can be
 /// marked.
 #[derive(Drop)]
-pub(crate) struct Table<'a> {
+pub(crate) struct NameTable<'a> {
     pub(crate) words: IndexSet<&'a str>,
     /// By number; there may be more marks than words.
     pub(crate) marks: Vec<bool>,
     ghost room: { length words.keys ≤ vec_len marks },
 }
 
-impl<'a> Table<'a> {
-    ghost use Rattle.sd_script.specs.Tables.{words_of, is_marked};
+impl<'a> NameTable<'a> {
+    ghost use Rattle.sd_script.specs.Tables.{table_words, is_marked};
 
     /// No word.
     pub(crate) fn new(alloc: Global) -> Self
-        ensures words { words_of result ≡ [] }
+        ensures words { table_words result ≡ [] }
         ensures marks { (i : ℕ) → is_marked result i ≡ false }
     {
-        Table {
+        NameTable {
             words: IndexSet::new(alloc),
             marks: Vec::new(alloc),
         }
@@ -47,10 +47,11 @@ impl<'a> Table<'a> {
 
     /// The number of a word, which is put behind the others where it is new, with no mark.
     pub(crate) fn number(&mut self, word: &'a str) -> Result<u32, AllocError>
-        requires { length (words_of self.old) < 2 ^ 31 }
-        ensures words { OnOk result (words_of self.new ≡ see (words_of self.old) word.now) }
-        ensures number { IfOk result (λ n. n ≡ number (words_of self.new) word.now) }
-        ensures grows { OnOk result (length (words_of self.new) ≤ length (words_of self.old) + 1) }
+        requires { length (table_words self.old) < 2 ^ 31 }
+        ensures words { OnOk result (table_words self.new ≡ see (table_words self.old) word.now) }
+        ensures number { IfOk result (λ n. n ≡ number_of_word (table_words self.new) word.now) }
+        ensures grows { OnOk result
+            (length (table_words self.new) ≤ length (table_words self.old) + 1) }
         ensures marks { (i : ℕ) → is_marked self.new i ≡ is_marked self.old i }
     {
         self.make_room()?;
@@ -61,11 +62,12 @@ impl<'a> Table<'a> {
     /// The numbers of two words, one after the other.
     #[tactic(auto, using(crate::proofs::TableLaws::numbers_stay))]
     pub(crate) fn number_two(&mut self, a: &'a str, b: &'a str) -> Result<[u32; 2], AllocError>
-        requires { length (words_of self.old) < 2 ^ 30 }
-        ensures words { OnOk result (words_of self.new
-            ≡ see (see (words_of self.old) a.now) b.now) }
+        requires { length (table_words self.old) < 2 ^ 30 }
+        ensures words { OnOk result (table_words self.new
+            ≡ see (see (table_words self.old) a.now) b.now) }
         ensures numbers { IfOk result (λ ns. ns
-            ≡ number (words_of self.new) a.now ∷ number (words_of self.new) b.now ∷ []) }
+            ≡ number_of_word (table_words self.new) a.now
+            ∷ number_of_word (table_words self.new) b.now ∷ []) }
         ensures marks { (i : ℕ) → is_marked self.new i ≡ is_marked self.old i }
     {
         let first = self.number(a)?;
@@ -81,11 +83,12 @@ impl<'a> Table<'a> {
         b: &'a str,
         c: &'a str,
     ) -> Result<[u32; 3], AllocError>
-        requires { length (words_of self.old) < 2 ^ 30 }
-        ensures words { OnOk result (words_of self.new
-            ≡ see (see (see (words_of self.old) a.now) b.now) c.now) }
-        ensures numbers { IfOk result (λ ns. ns ≡ number (words_of self.new) a.now
-            ∷ number (words_of self.new) b.now ∷ number (words_of self.new) c.now ∷ []) }
+        requires { length (table_words self.old) < 2 ^ 30 }
+        ensures words { OnOk result (table_words self.new
+            ≡ see (see (see (table_words self.old) a.now) b.now) c.now) }
+        ensures numbers { IfOk result (λ ns. ns ≡ number_of_word (table_words self.new) a.now
+            ∷ number_of_word (table_words self.new) b.now
+            ∷ number_of_word (table_words self.new) c.now ∷ []) }
         ensures marks { (i : ℕ) → is_marked self.new i ≡ is_marked self.old i }
     {
         let first = self.number(a)?;
@@ -107,8 +110,8 @@ impl<'a> Table<'a> {
     /// Marks the word of a number.
     #[tactic(auto, using(crate::proofs::TableLaws::mark_there))]
     pub(crate) fn mark(&mut self, number: u32)
-        requires { number < length (words_of self.old) }
-        ensures words { words_of self.new ≡ words_of self.old }
+        requires { number < length (table_words self.old) }
+        ensures words { table_words self.new ≡ table_words self.old }
         ensures marks { (i : ℕ) → is_marked self.new i
             ≡ (has (number ∷ []) i || is_marked self.old i) }
     {
@@ -118,8 +121,8 @@ impl<'a> Table<'a> {
     /// Takes the mark of the word of a number.
     #[tactic(auto, using(crate::proofs::TableLaws::mark_gone))]
     pub(crate) fn unmark(&mut self, number: u32)
-        requires { number < length (words_of self.old) }
-        ensures words { words_of self.new ≡ words_of self.old }
+        requires { number < length (table_words self.old) }
+        ensures words { table_words self.new ≡ table_words self.old }
         ensures marks { (i : ℕ) → is_marked self.new i
             ≡ (not (has (number ∷ []) i) && is_marked self.old i) }
     {
@@ -128,7 +131,7 @@ impl<'a> Table<'a> {
 
     /// The words, in the order of their numbers.
     pub(crate) fn texts(&self, alloc: Global) -> Result<Vec<Name>, AllocError>
-        ensures { IfOk result (λ names. names.items ≡ words_of self.now) }
+        ensures { IfOk result (λ names. names.items ≡ table_words self.now) }
     {
         let mut names = Vec::new(alloc);
         for word in self.words.as_slice() {

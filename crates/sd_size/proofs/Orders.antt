@@ -9,8 +9,8 @@ use Rattle.sd_model.specs.Diagram.{Diagram}
 use Rattle.sd_model.specs.Canonical.{AreDifferent}
 use Rattle.sd_model.specs.Size.{is_same, first_occurrences, walk, completed}
 use Rattle.sd_model.proofs.Adding.{same_itself, equal_from_same}
-use Rattle.sd_laws.proofs.Lists.{IsAmong, IsWithin, within-permuted, all-at, all-from}
-use Rattle.sd_laws.proofs.Pairs.{different-permuted}
+use Rattle.sd_laws.proofs.Lists.{IsAmong, IsWithin, within_permuted, all_at, all_from}
+use Rattle.sd_laws.proofs.Pairs.{different_permuted}
 
 -- a list that has x, cut at x
 record Cut (x : Diagram) (xs : List Diagram) : Type 0 where
@@ -31,32 +31,32 @@ another x z xs ne (inl e) = absurd (ne e)
 another x z xs ne (inr m) = m
 
 -- two lists of the same different diagrams
-pub same-permutation : (xs ys : List Diagram) → AreDifferent xs → AreDifferent ys → IsWithin xs ys → IsWithin ys xs →
+pub same_permutation : (xs ys : List Diagram) → AreDifferent xs → AreDifferent ys → IsWithin xs ys → IsWithin ys xs →
     IsPermutation xs ys
-same-permutation [] [] a b there back = IsPermutation-refl []
-same-permutation [] (y ∷ ys) a b there back = absurd (back y (inl refl))
-same-permutation (x ∷ xs) ys a b there back =
+same_permutation [] [] a b there back = IsPermutation-refl []
+same_permutation [] (y ∷ ys) a b there back = absurd (back y (inl refl))
+same_permutation (x ∷ xs) ys a b there back =
     let k = cut x ys (there x (inl refl)) in
     let rest : List Diagram = k.front ++ k.back in
     let out : IsPermutation ys (x ∷ rest) =
     subst (λ l. IsPermutation l (x ∷ rest)) (sym k.is) (IsPermutation-middle k.front x k.back) in
     let home : IsPermutation (x ∷ rest) ys = IsPermutation-sym ys (x ∷ rest) out in
-    let differ : AreDifferent (x ∷ rest) = different-permuted ys (x ∷ rest) out b in
+    let differ : AreDifferent (x ∷ rest) = different_permuted ys (x ∷ rest) out b in
     let to : IsWithin xs rest = λ z m.
-    another x z rest (λ e. all-at (λ y. x ≢ y) xs z a.0 m (sym e))
-    (within-permuted (x ∷ rest) ys home z (there z (inr m))) in
+    another x z rest (λ e. all_at (λ y. x ≢ y) xs z a.0 m (sym e))
+    (within_permuted (x ∷ rest) ys home z (there z (inr m))) in
     let from : IsWithin rest xs = λ z m.
-    another x z xs (λ e. all-at (λ y. x ≢ y) rest z differ.0 m (sym e))
-    (back z (within-permuted ys (x ∷ rest) out z (inr m))) in
+    another x z xs (λ e. all_at (λ y. x ≢ y) rest z differ.0 m (sym e))
+    (back z (within_permuted ys (x ∷ rest) out z (inr m))) in
     IsPermutation-trans (x ∷ xs) (x ∷ rest) ys
-    (IsPermutation-cons x xs rest (same-permutation xs rest a.1 differ.1 to from)) home
+    (IsPermutation-cons x xs rest (same_permutation xs rest a.1 differ.1 to from)) home
 
 -- what a filter leaves
 
-among-filter : (q : Diagram → Bool) (xs : List Diagram) (x : Diagram) → IsAmong x (filter q xs) →
+among_filter : (q : Diagram → Bool) (xs : List Diagram) (x : Diagram) → IsAmong x (filter q xs) →
     IsAmong x xs × (q x ≡ true)
-among-filter q [] x m = absurd m
-among-filter q (y ∷ xs) x m = go (λ k. among-filter q xs x k) (q y) refl m
+among_filter q [] x m = absurd m
+among_filter q (y ∷ xs) x m = go (λ k. among_filter q xs x k) (q y) refl m
   where
     go : (IsAmong x (filter q xs) → IsAmong x xs × (q x ≡ true)) → (b : Bool) → q y ≡ b →
         IsAmong x (cond b (y ∷ filter q xs) (filter q xs)) → IsAmong x (y ∷ xs) × (q x ≡ true)
@@ -64,10 +64,10 @@ among-filter q (y ∷ xs) x m = go (λ k. among-filter q xs x k) (q y) refl m
     go ih true h (inr k) = let r = ih k in (inr r.0, r.1)
     go ih false h k = let r = ih k in (inr r.0, r.1)
 
-filter-among : (q : Diagram → Bool) (xs : List Diagram) (x : Diagram) → IsAmong x xs → q x ≡ true →
+filter_among : (q : Diagram → Bool) (xs : List Diagram) (x : Diagram) → IsAmong x xs → q x ≡ true →
     IsAmong x (filter q xs)
-filter-among q [] x m h = absurd m
-filter-among q (y ∷ xs) x m h = go (λ k. filter-among q xs x k h) (q y) refl m
+filter_among q [] x m h = absurd m
+filter_among q (y ∷ xs) x m h = go (λ k. filter_among q xs x k h) (q y) refl m
   where
     go : (IsAmong x xs → IsAmong x (filter q xs)) → (b : Bool) → q y ≡ b → IsAmong x (y ∷ xs) →
         IsAmong x (cond b (y ∷ filter q xs) (filter q xs))
@@ -77,57 +77,57 @@ filter-among q (y ∷ xs) x m h = go (λ k. filter-among q xs x k h) (q y) refl 
     go ih false k (inr n) = ih n
 
 -- what differs from each differs from what is left
-filter-differ : (q : Diagram → Bool) (d : Diagram) (xs : List Diagram) → AllByRecursion (λ e. d ≢ e) xs →
+filter_differ : (q : Diagram → Bool) (d : Diagram) (xs : List Diagram) → AllByRecursion (λ e. d ≢ e) xs →
     AllByRecursion (λ e. d ≢ e) (filter q xs)
-filter-differ q d xs h =
-    all-from (λ e. d ≢ e) (filter q xs) (λ x m. all-at (λ e. d ≢ e) xs x h (among-filter q xs x m).0)
+filter_differ q d xs h =
+    all_from (λ e. d ≢ e) (filter q xs) (λ x m. all_at (λ e. d ≢ e) xs x h (among_filter q xs x m).0)
 
-filter-different : (q : Diagram → Bool) (xs : List Diagram) → AreDifferent xs → AreDifferent (filter q xs)
-filter-different q [] h = tt
-filter-different q (y ∷ xs) h = go (filter-different q xs h.1) (q y)
+filter_different : (q : Diagram → Bool) (xs : List Diagram) → AreDifferent xs → AreDifferent (filter q xs)
+filter_different q [] h = tt
+filter_different q (y ∷ xs) h = go (filter_different q xs h.1) (q y)
   where
     go : AreDifferent (filter q xs) → (b : Bool) → AreDifferent (cond b (y ∷ filter q xs) (filter q xs))
-    go ih true = (filter-differ q y xs h.0, ih)
+    go ih true = (filter_differ q y xs h.0, ih)
     go ih false = ih
 
 -- the first occurrences
 
 -- are of the list
-pub occurs-within : (ds : List Diagram) → IsWithin (first_occurrences ds) ds
-occurs-within [] x m = absurd m
-occurs-within (d ∷ ds) x (inl e) = inl e
-occurs-within (d ∷ ds) x (inr m) =
-    inr (occurs-within ds x (among-filter (λ e. not (is_same d e)) (first_occurrences ds) x m).0)
+pub occurs_within : (ds : List Diagram) → IsWithin (first_occurrences ds) ds
+occurs_within [] x m = absurd m
+occurs_within (d ∷ ds) x (inl e) = inl e
+occurs_within (d ∷ ds) x (inr m) =
+    inr (occurs_within ds x (among_filter (λ e. not (is_same d e)) (first_occurrences ds) x m).0)
 
 -- all of it
-pub within-occurs : (ds : List Diagram) → IsWithin ds (first_occurrences ds)
-within-occurs [] x m = absurd m
-within-occurs (d ∷ ds) x (inl e) = inl e
-within-occurs (d ∷ ds) x (inr m) = go (within-occurs ds x m) (is_same d x) refl
+pub within_occurs : (ds : List Diagram) → IsWithin ds (first_occurrences ds)
+within_occurs [] x m = absurd m
+within_occurs (d ∷ ds) x (inl e) = inl e
+within_occurs (d ∷ ds) x (inr m) = go (within_occurs ds x m) (is_same d x) refl
   where
     go : IsAmong x (first_occurrences ds) → (b : Bool) → is_same d x ≡ b → IsAmong x (first_occurrences (d ∷ ds))
     go k true h = inl (sym (equal_from_same d x h))
-    go k false h = inr (filter-among (λ e. not (is_same d e)) (first_occurrences ds) x k (ap not h))
+    go k false h = inr (filter_among (λ e. not (is_same d e)) (first_occurrences ds) x k (ap not h))
 
 -- each once
-pub occurs-different : (ds : List Diagram) → AreDifferent (first_occurrences ds)
-occurs-different [] = tt
-occurs-different (d ∷ ds) = (
-  all-from (λ e. d ≢ e) (filter (λ e. not (is_same d e)) (first_occurrences ds)) differs,
-  filter-different (λ e. not (is_same d e)) (first_occurrences ds) (occurs-different ds),
+pub occurs_different : (ds : List Diagram) → AreDifferent (first_occurrences ds)
+occurs_different [] = tt
+occurs_different (d ∷ ds) = (
+  all_from (λ e. d ≢ e) (filter (λ e. not (is_same d e)) (first_occurrences ds)) differs,
+  filter_different (λ e. not (is_same d e)) (first_occurrences ds) (occurs_different ds),
 )
   where
     differs : (x : Diagram) → IsAmong x (filter (λ e. not (is_same d e)) (first_occurrences ds)) → d ≢ x
     differs x m e =
-        let k = (among-filter (λ e. not (is_same d e)) (first_occurrences ds) x m).1 in
+        let k = (among_filter (λ e. not (is_same d e)) (first_occurrences ds) x m).1 in
         let same : is_same d x ≡ true = subst (λ z. is_same d z ≡ true) e (same_itself d) in
         absurd (cc (k, ap not same))
 
 -- a list of different diagrams with those under a diagram is its list of these in another order
-pub completed-permutation : (d : Diagram) (xs : List Diagram) → AreDifferent xs → IsWithin xs (walk d) →
+pub completed_permutation : (d : Diagram) (xs : List Diagram) → AreDifferent xs → IsWithin xs (walk d) →
     IsWithin (walk d) xs → IsPermutation (completed (d ∷ [])) xs
 unfolding completed
-completed-permutation d xs h there back =
+completed_permutation d xs h there back =
     subst (λ l. IsPermutation (first_occurrences l) xs) (sym (append-nil (walk d)))
-    (same-permutation (first_occurrences (walk d)) xs (occurs-different (walk d)) h
-    (λ x m. back x (occurs-within (walk d) x m)) (λ x m. within-occurs (walk d) x (there x m)))
+    (same_permutation (first_occurrences (walk d)) xs (occurs_different (walk d)) h
+    (λ x m. back x (occurs_within (walk d) x m)) (λ x m. within_occurs (walk d) x (there x m)))

@@ -7,7 +7,7 @@ use Rattle.sd_model.specs.Diagram.{Diagram}
 use Rattle.sd_model.specs.Size.{walk, completed}
 use Rattle.sd_laws.proofs.Lists.{IsAmong, IsWithin}
 use Rattle.sd_manager.specs.Table.{Table}
-use Rattle.sd_manager.specs.Shown.{IsShown}
+use Rattle.sd_manager.specs.Shown.{ShowsCanonical}
 
 -- a code stands in the list
 abbrev pub is_listed : ℕ → List ℕ → Bool
@@ -16,8 +16,8 @@ is_listed c codes = list_any (λ b. b == c) codes
 -- The codes show these diagrams, each code once, and with each diagram stand all that are under it.
 pub record AreListed (t : Table) (codes : List ℕ) (ds : List Diagram) : Type 0 where
   pub distinct : AreDistinct codes
-  pub shown : (c : ℕ) → IsAmong c codes → (d : Diagram) × IsAmong d ds × IsShown t c d
-  pub each : (d : Diagram) → IsAmong d ds → (c : ℕ) × IsAmong c codes × IsShown t c d
+  pub shown : (c : ℕ) → IsAmong c codes → (d : Diagram) × IsAmong d ds × ShowsCanonical t c d
+  pub each : (d : Diagram) → IsAmong d ds → (c : ℕ) × IsAmong c codes × ShowsCanonical t c d
   pub closed : (d : Diagram) → IsAmong d ds → IsWithin (walk d) ds
 
 -- the codes that the new list has beside the old one show these diagrams
@@ -27,5 +27,5 @@ Adds t old new xs = (ds : List Diagram) → AreListed t old ds → AreListed t n
 -- the codes show the distinct diagrams under a diagram, each once, in some order
 pub record AreBelow (t : Table) (codes : List ℕ) (d : Diagram) : Type 0 where
   pub diagrams : List Diagram
-  pub shown : AllZip (IsShown t) codes diagrams
+  pub shown : AllZip (ShowsCanonical t) codes diagrams
   pub order : IsPermutation (completed (d ∷ [])) diagrams

@@ -21,7 +21,8 @@ impl Model for Listed {
 
     ghost view = { λ a. a.nodes.items };
 
-    ghost invariant = { λ a. (c : ℕ) → slice_index_or a.marks.items c false ≡ is_listed c a.nodes.items };
+    ghost invariant = { λ a. (c : ℕ)
+        → slice_index_or a.marks.items c false ≡ is_listed c a.nodes.items };
 }
 
 impl Listed {
@@ -45,12 +46,12 @@ impl Listed {
         is_marked(&self.marks, node.0 as usize)
     }
 
-    /// Puts a node at the end. The only error is want of memory.
+    /// Puts a node at the end. The only error: out of memory.
     pub fn push(&mut self, node: NodeId) -> Result<(), AllocError>
         ensures { OnOk result (self.new ≡ self.old ++ node ∷ []) }
     {
         let index = node.0 as usize;
-        reach(&mut self.marks, index)?;
+        ensure_index(&mut self.marks, index)?;
         self.nodes.push(node)?;
         self.marks[index] = true;
         Ok(())
@@ -72,9 +73,10 @@ fn is_marked(marks: &[bool], index: usize) -> bool
 }
 
 // Makes the marks reach an index.
-fn reach(marks: &mut Vec<bool>, index: usize) -> Result<(), AllocError>
+fn ensure_index(marks: &mut Vec<bool>, index: usize) -> Result<(), AllocError>
     requires { index < 2 ^ 32 }
-    ensures same { (k : ℕ) → slice_index_or marks.new.items k false ≡ slice_index_or marks.old.items k false }
+    ensures same { (k : ℕ)
+        → slice_index_or marks.new.items k false ≡ slice_index_or marks.old.items k false }
     ensures long { OnOk result (index < length marks.new.items) }
 {
     if index >= marks.len() {

@@ -5,7 +5,7 @@ ghost use Rattle.sd_model.specs.Tree.{AreDistinct};
 ghost use Rattle.sd_model.specs.Diagram.{Diagram, Elements, Decomposition};
 ghost use Rattle.sd_model.specs.Size.{walk, walk_elements, element_count, size_of};
 ghost use Rattle.sd_laws.specs.Depth.{depth};
-ghost use Rattle.sd_manager.specs.Shown.{IsShown, IsKnown, HoldsDiagram};
+ghost use Rattle.sd_manager.specs.Shown.{ShowsCanonical, IsNodeOf, HoldsDiagram};
 ghost use Rattle.sd_manager.specs.Valid.{IsTable};
 ghost use Rattle.sd_manager.specs.Views.{pairs_at};
 ghost use Rattle.sd_size.specs.Listed.{Adds, AreBelow};
@@ -15,19 +15,21 @@ use sd_manager::{Manager, NodeId, Root, View};
 use std::alloc::{AllocError, Global};
 
 /// The size of the diagram that a root shows: the elements of its distinct decompositions together. The only error is
-/// want of memory.
+/// running out of memory.
 pub fn size_of_root(alloc: Global, m: &Manager, root: &Root) -> Result<u64, AllocError>
     requires held { (d : Diagram) × HoldsDiagram m.now root.now d }
-    ensures size { IfOk result (λ n. (d : Diagram) → HoldsDiagram m.now root.now d → n ≡ size_of (d ∷ [])) }
+    ensures size { IfOk result (λ n. (d : Diagram) → HoldsDiagram m.now root.now d
+        → n ≡ size_of (d ∷ [])) }
 {
     let nodes = nodes_below(alloc, m, m.node_of(root))?;
     Ok(total(m, &nodes))
 }
 
-/// The nodes of the distinct diagrams under the one that a node shows, each once. The only error is want of memory.
+/// The nodes of the distinct diagrams under the one that a node shows, each once. The only error: out of memory.
 pub fn nodes_below(alloc: Global, m: &Manager, node: NodeId) -> Result<Vec<NodeId>, AllocError>
-    requires known { (d : Diagram) × IsShown m.now node d }
-    ensures below { IfOk result (λ v. (d : Diagram) → IsShown m.now node d → AreBelow m.now v.items d) }
+    requires known { (d : Diagram) × ShowsCanonical m.now node d }
+    ensures below { IfOk result (λ v. (d : Diagram) → ShowsCanonical m.now node d
+        → AreBelow m.now v.items d) }
     ensures distinct { IfOk result (λ v. AreDistinct v.items) }
 {
     let levels = m.vtree().variables();
@@ -40,8 +42,9 @@ pub fn nodes_below(alloc: Global, m: &Manager, node: NodeId) -> Result<Vec<NodeI
 #[cycle(listing)]
 fn list_below(m: &Manager, node: NodeId, levels: u32, nodes: &mut Listed) -> Result<(), AllocError>
     requires table { IsTable m.now }
-    requires known { (d : Diagram) × IsShown m.now node d × (depth d ≤ levels) }
-    ensures { OnOk result ((d : Diagram) → IsShown m.now node d → Adds m.now nodes.old nodes.new (walk d)) }
+    requires known { (d : Diagram) × ShowsCanonical m.now node d × (depth d ≤ levels) }
+    ensures { OnOk result ((d : Diagram) → ShowsCanonical m.now node d
+        → Adds m.now nodes.old nodes.new (walk d)) }
 {
     if nodes.contains(node) {
         return Ok(());
@@ -67,9 +70,10 @@ fn list_children(
 ) -> Result<(), AllocError>
     requires table { IsTable m.now }
     requires count { length (pairs_at m.now node) ≡ count }
-    requires known { (p : ℕ) × (es : Elements) × IsShown m.now node (Decomposition p es)
+    requires known { (p : ℕ) × (es : Elements) × ShowsCanonical m.now node (Decomposition p es)
         × (depth (Decomposition p es) ≤ levels) }
-    ensures { OnOk result ((p : ℕ) (es : Elements) → IsShown m.now node (Decomposition p es) →
+    ensures { OnOk result ((p : ℕ) (es : Elements)
+        → ShowsCanonical m.now node (Decomposition p es) →
         Adds m.now nodes.old nodes.new (walk_elements es)) }
 {
     for index in 0..count {
@@ -84,8 +88,9 @@ fn list_children(
 fn total(m: &Manager, nodes: &[NodeId]) -> u64
     requires table { IsTable m.now }
     requires distinct { AreDistinct nodes.now }
-    requires known { AllByRecursion (IsKnown m.now) nodes.now }
-    ensures { (ds : List Diagram) → AllZip (IsShown m.now) nodes.now ds → result ≡ sum_by element_count ds }
+    requires known { AllByRecursion (IsNodeOf m.now) nodes.now }
+    ensures { (ds : List Diagram) → AllZip (ShowsCanonical m.now) nodes.now ds
+        → result ≡ sum_by element_count ds }
 {
     let mut sum: u64 = 0;
     for node in nodes {
@@ -97,8 +102,8 @@ fn total(m: &Manager, nodes: &[NodeId]) -> u64
 // The number of elements of a decomposition, and 0 for what is none.
 fn elements_of(m: &Manager, node: NodeId) -> u32
     requires table { IsTable m.now }
-    requires known { IsKnown m.now node }
-    ensures { (d : Diagram) → IsShown m.now node d → result ≡ element_count d }
+    requires known { IsNodeOf m.now node }
+    ensures { (d : Diagram) → ShowsCanonical m.now node d → result ≡ element_count d }
 {
     match m.view(node) {
         View::Constant(_) => 0,

@@ -1,7 +1,7 @@
 ghost use Rattle.std.specs.Prelude.{◌≡◌, IfOk};
 ghost use Rattle.sd_model.specs.Tree.{leaves};
-ghost use Rattle.sd_vtree.specs.Numbered.{forget};
-ghost use Rattle.sd_manager.specs.Shown.{IsKnown};
+ghost use Rattle.sd_vtree.specs.Numbered.{plain_tree};
+ghost use Rattle.sd_manager.specs.Shown.{IsNodeOf};
 ghost use Rattle.sd_manager.specs.Making.{Extends};
 ghost use Rattle.sd_manager.specs.Literals.{IsLiteralTo};
 ghost use Rattle.sd_apply.specs.Serving.{Serves};
@@ -23,10 +23,10 @@ fn both(
     first: i32,
     second: i32,
 ) -> Result<NodeId, TakeError>
-    requires first { IsLiteralTo (leaves (forget m.old.vtree)) first }
-    requires second { IsLiteralTo (leaves (forget m.old.vtree)) second }
+    requires first { IsLiteralTo (leaves (plain_tree m.old.vtree)) first }
+    requires second { IsLiteralTo (leaves (plain_tree m.old.vtree)) second }
     requires serves { Serves c.old m.old }
-    ensures known { IfOk result (λ r. IsKnown m.new r) }
+    ensures known { IfOk result (λ r. IsNodeOf m.new r) }
     ensures kept { Extends m.old m.new }
     ensures serves { Serves c.new m.new }
 {
@@ -37,9 +37,9 @@ fn both(
 
 // The node of `(1 and 2) or (3 and 4)`.
 fn two_terms(alloc: Global, m: &mut Manager, c: &mut Cache) -> Result<NodeId, TakeError>
-    requires four { leaves (forget m.old.vtree) ≡ 4 }
+    requires four { leaves (plain_tree m.old.vtree) ≡ 4 }
     requires serves { Serves c.old m.old }
-    ensures known { IfOk result (λ r. IsKnown m.new r) }
+    ensures known { IfOk result (λ r. IsNodeOf m.new r) }
     ensures kept { Extends m.old m.new }
 {
     let first = both(alloc, m, c, 1, 2)?;

@@ -67,9 +67,9 @@ pub data IsUsed (t : Table) (n : ℕ) : Type 0 where
   list_use : (m p : ℕ) (l : List (ℕ × ℕ)) → get t.linked m ≡ Some (p, l) → StandsIn (2050 + n) l → IsUsed t n
 
 -- what is reached is used
-pub reached-used : (t : Table) {n : ℕ} → IsReached t n → IsUsed t n
-reached-used t (reached_first h) = first_use h
-reached-used t (reached_below {m = m} {place = p} {list = l} h e s) = list_use m p l e s
+pub reached_used : (t : Table) {n : ℕ} → IsReached t n → IsUsed t n
+reached_used t (reached_first h) = first_use h
+reached_used t (reached_below {m = m} {place = p} {list = l} h e s) = list_use m p l e s
 
 -- each node of C is one of the first, or stands in the list of a node of C
 abbrev pub IsUsedWithin : Table → (ℕ → Type 0) → (ℕ → Type 0) → Type 0
@@ -115,17 +115,17 @@ climbed t i still First C used n c h = go (get t.linked n) refl h
         (NumberedNode key.0 p.left p.right) c e p.at (omega arith)
 
 -- and what is reached from the first ones is in each set that has them and is closed under lists
-pub reached-within : (t : Table) (First C : ℕ → Type 0) → ((n : ℕ) → First n → C n) →
+pub reached_within : (t : Table) (First C : ℕ → Type 0) → ((n : ℕ) → First n → C n) →
     ((m n p : ℕ) (l : List (ℕ × ℕ)) → C m → get t.linked m ≡ Some (p, l) → StandsIn (2050 + n) l → C n) → {n : ℕ} →
     IsReachedFrom First (get t.linked) n → C n
-reached-within t First C first below (reached_first {n = n} h) = first n h
-reached-within t First C first below (reached_below {m = m} {n = n} {place = p} {list = l} h e s) =
-    below m n p l (reached-within t First C first below h) e s
+reached_within t First C first below (reached_first {n = n} h) = first n h
+reached_within t First C first below (reached_below {m = m} {n = n} {place = p} {list = l} h e s) =
+    below m n p l (reached_within t First C first below h) e s
 
 -- where each linked node is used, each is reached: so a sweep that leaves no unused node leaves just what is reached
-pub used-reached : (t : Table) → (i : IsTable t) → t.moving ≡ None → ((n : ℕ) → IsSome (get t.linked n) → IsUsed t n) →
+pub used_reached : (t : Table) → (i : IsTable t) → t.moving ≡ None → ((n : ℕ) → IsSome (get t.linked n) → IsUsed t n) →
     (n : ℕ) → IsSome (get t.linked n) → IsReached t n
-used-reached t i still used n h =
+used_reached t i still used n h =
     climbed t i still (λ k. IsHeldBy t k ⊎ IsInRun t k) (λ k. IsSome (get t.linked k)) within n h h
   where
     user : (n : ℕ) → IsUsed t n → (IsHeldBy t n ⊎ IsInRun t n)
@@ -148,20 +148,20 @@ pub record HasRemoved (old new : Table) (n : ℕ) : Type 0 where
   pub loose : new.loose ≡ old.loose
 
 -- what was reached is reached
-pub removed-reached : (old new : Table) (n : ℕ) → HasRemoved old new n → {m : ℕ} → IsReached old m → IsReached new m
-removed-reached old new n h (reached_first {n = m} (inl k)) =
+pub removed_reached : (old new : Table) (n : ℕ) → HasRemoved old new n → {m : ℕ} → IsReached old m → IsReached new m
+removed_reached old new n h (reached_first {n = m} (inl k)) =
     reached_first (inl (k.0, ap (λ r. get r k.0) h.roots ∙ k.1))
-removed-reached old new n h (reached_first {n = m} (inr k)) =
+removed_reached old new n h (reached_first {n = m} (inr k)) =
     reached_first (inr (k.0, k.1, ap (λ r. get r k.0) h.loose ∙ k.2, k.3))
-removed-reached old new n h (reached_below {m = i} {n = m} {place = p} {list = l} r e s) =
-    reached_below (removed-reached old new n h r)
-    (h.kept i (p, l) (λ z. h.unused (subst (IsUsed old) z (reached-used old r))) e) s
+removed_reached old new n h (reached_below {m = i} {n = m} {place = p} {list = l} r e s) =
+    reached_below (removed_reached old new n h r)
+    (h.kept i (p, l) (λ z. h.unused (subst (IsUsed old) z (reached_used old r))) e) s
 
 -- and nothing else is
-pub reached-removed : (old new : Table) (n : ℕ) → HasRemoved old new n → {m : ℕ} → IsReached new m → IsReached old m
-reached-removed old new n h (reached_first {n = m} (inl k)) =
+pub reached_removed : (old new : Table) (n : ℕ) → HasRemoved old new n → {m : ℕ} → IsReached new m → IsReached old m
+reached_removed old new n h (reached_first {n = m} (inl k)) =
     reached_first (inl (k.0, ap (λ r. get r k.0) (sym h.roots) ∙ k.1))
-reached-removed old new n h (reached_first {n = m} (inr k)) =
+reached_removed old new n h (reached_first {n = m} (inr k)) =
     reached_first (inr (k.0, k.1, ap (λ r. get r k.0) (sym h.loose) ∙ k.2, k.3))
-reached-removed old new n h (reached_below {m = i} {n = m} {place = p} {list = l} r e s) =
-    reached_below (reached-removed old new n h r) (h.only i (p, l) e) s
+reached_removed old new n h (reached_below {m = i} {n = m} {place = p} {list = l} r e s) =
+    reached_below (reached_removed old new n h r) (h.only i (p, l) e) s

@@ -6,7 +6,7 @@ use Rattle.sd_model.specs.Diagram.{Diagram}
 use Rattle.sd_laws.specs.Shown.{Lookup}
 use Rattle.sd_laws.specs.Values.{StandsIn}
 use Rattle.sd_manager.specs.Table.{Table}
-use Rattle.sd_manager.specs.Shown.{IsShown}
+use Rattle.sd_manager.specs.Shown.{ShowsCanonical}
 use Rattle.sd_manager.specs.Moving.{IsLater}
 
 -- Among nodes with these keys, n is one of the first ones, or it stands in the list of one that is reached.
@@ -46,9 +46,9 @@ pub record IsSwept (old new : Table) : Type 0 where
   pub extent : new.extent ≡ old.extent
   pub epoch : ((new.epoch ≡ old.epoch) × (new.linked ≡ old.linked)) ⊎ IsLater old new
 
--- d is the list of the diagrams that the roots show
+-- ds is the list of the diagrams that the roots show
 abbrev pub AreHeldDiagrams : Table → List Diagram → Type 0
-AreHeldDiagrams t ds = AllZip (IsShown t) (values t.roots) ds
+AreHeldDiagrams t ds = AllZip (ShowsCanonical t) (values t.roots) ds
 
 -- Each node that is reached stays with its key, under one vtree, the same roots and the same loose runs. A journal that
 -- can be undone stays one.

@@ -9,14 +9,14 @@ use Rattle.sd_tool.specs.Readings.{Refuses, Reads, reading_of, ReadsTo}
 use Rattle.sd_tool.specs.Refusals.{refusal_status}
 use Rattle.sd_tool.specs.Ends.{End, Finished, Refused, Unreadable, Unwritable, OutOfMemory, ArenaFull}
 use Rattle.sd_tool.specs.Ends.{status_of}
-use Rattle.sd_tool.specs.Devices.{Moment, HasCause, SaysLine}
-use Rattle.sd_tool.specs.Course.{Comes, Leaves}
-use Rattle.sd_tool.specs.Headline.{Went, HasEffects, HasLine, HasEnd, WasFull}
+use Rattle.sd_tool.specs.Devices.{Moment, HasDeviceCause, WritesEndLine}
+use Rattle.sd_tool.specs.Course.{MayEnd, Leaves}
+use Rattle.sd_tool.specs.Headline.{IsCourse, HasEffects, HasLine, HasEnd, WasFull}
 use Rattle.sd_tool.specs.Headline.{IsRefused, CouldNotRead, CouldNotWrite}
-use Rattle.sd_tool.specs.Kept.{Keeps}
+use Rattle.sd_tool.specs.KeptManager.{KeepsManager}
 use Rattle.sd_tool.specs.declared.refusal.Refusal.{Refusal}
 use Rattle.sd_tool.specs.declared.refusal.Refusal.TheVariants as refusals
-use Rattle.sd_tool.proofs.NoWant.{refused_of_text}
+use Rattle.sd_tool.proofs.NotOutOfMemory.{refused_of_text}
 
 -- the statuses of refusals, and with them that of a file that was not read
 abbrev pub is_refused : ℕ → Bool
@@ -72,30 +72,31 @@ no_same status a b is differ same other = apart (λ n. n == b) status a b is oth
 
 -- a run is refused before its commands
 refused_early : (words : List (List ℕ)) (told : Option Files) (effects : List Effect) (refusal : Refusal)
-    → Comes words told effects (Refused refusal) → ReadsTo told (reading_of words) (Refuses refusal) × (effects ≡ [])
+    → MayEnd words told effects (Refused refusal) → ReadsTo told (reading_of words) (Refuses refusal) × (effects ≡ [])
 refused_early words told effects refusal (inl p) = p
 refused_early words told effects refusal (inr p) = absurd p.2
 
 -- a file that is not read is asked for before the commands
 unread_early : (words : List (List ℕ)) (told : Option Files) (effects : List Effect) (file : List ℕ)
-    → Comes words told effects (Unreadable file) → effects ≡ []
+    → MayEnd words told effects (Unreadable file) → effects ≡ []
 unread_early words told effects file (inl p) = p.1
 unread_early words told effects file (inr p) = absurd p.2
 
 asked : (words : List (List ℕ)) (told : Option Files) (effects : List Effect) (file : List ℕ)
-    → Comes words told effects (Unreadable file) → (next : _) × ReadsTo told (reading_of words) (Reads file next)
+    → MayEnd words told effects (Unreadable file) → (next : _) × ReadsTo told (reading_of words) (Reads file next)
 asked words told effects file (inl p) = p.0
 asked words told effects file (inr p) = absurd p.2
 
 -- the manager that refused was kept
 full_at : (words : List (List ℕ)) (n : ℕ) (effects : List Effect) (kept : Option Table) (old new : Moment)
-    → Keeps (ArenaFull n) kept → Comes words old.contents.files effects (ArenaFull n) → SaysLine (ArenaFull n) old new
+    → KeepsManager (ArenaFull n) kept → MayEnd words old.contents.files effects (ArenaFull n)
+    → WritesEndLine (ArenaFull n) old new
     → WasFull words kept old new
-full_at words n effects None old new none comes line = absurd none
-full_at words n effects (Some t) old new filled comes line = record {
+full_at words n effects None old new none may_end line = absurd none
+full_at words n effects (Some t) old new filled may_end line = record {
   elements = n;
   effects = effects;
-  in_hand = comes;
+  in_hand = may_end;
   manager = t;
   is_kept = refl;
   filled = filled;
@@ -108,60 +109,60 @@ nothing_done effects old new none is = is ∙ ap (λ l. after l old) none
 
 -- the effects, status by status
 pub effects_at : (words : List (List ℕ)) (status : ℕ) (kept : Option Table) (old new : Moment)
-    → Went words status kept old new
+    → IsCourse words status kept old new
     → HasEffects words status old new
-effects_at words status kept old new went = go went.end went.comes went.status_is went.leaves
+effects_at words status kept old new went = go went.end went.may_end went.status_is went.leaves
   where
-    go : (end : End) → Comes words old.contents.files went.effects end → status ≡ status_of end
+    go : (end : End) → MayEnd words old.contents.files went.effects end → status ≡ status_of end
         → Leaves went.effects end old.contents new.contents → HasEffects words status old new
-    go Finished comes is leaves = record {
-      all = λ s. (went.effects, comes, leaves);
+    go Finished may_end is leaves = record {
+      all = λ s. (went.effects, may_end, leaves);
       none = λ s. no_idle status 0 refl is s;
       first = λ s. cc;
       full = λ s. cc;
       in_hand = λ s. cc;
     }
-    go (Refused refusal) comes is leaves = record {
+    go (Refused refusal) may_end is leaves = record {
       all = λ s. other_status refusal status 0 is refl s;
       none = λ s. nothing_done went.effects old.contents new.contents
-          (refused_early words old.contents.files went.effects refusal comes).1 leaves;
+          (refused_early words old.contents.files went.effects refusal may_end).1 leaves;
       first = λ s. other_status refusal status 7 is refl s;
       full = λ s. other_status refusal status 8 is refl s;
       in_hand = λ s. other_status refusal status 6 is refl s;
     }
-    go (Unreadable file) comes is leaves = record {
+    go (Unreadable file) may_end is leaves = record {
       all = λ s. cc;
       none = λ s. nothing_done went.effects old.contents new.contents
-          (unread_early words old.contents.files went.effects file comes) leaves;
+          (unread_early words old.contents.files went.effects file may_end) leaves;
       first = λ s. cc;
       full = λ s. cc;
       in_hand = λ s. cc;
     }
-    go (Unwritable effect) comes is leaves = record {
+    go (Unwritable effect) may_end is leaves = record {
       all = λ s. cc;
       none = λ s. no_idle status 6 refl is s;
       first = λ s. cc;
       full = λ s. cc;
-      in_hand = λ s. (went.effects, effect, comes, leaves);
+      in_hand = λ s. (went.effects, effect, may_end, leaves);
     }
-    go OutOfMemory comes is leaves = record {
+    go OutOfMemory may_end is leaves = record {
       all = λ s. cc;
       none = λ s. no_idle status 7 refl is s;
-      first = λ s. (went.effects, comes, leaves);
+      first = λ s. (went.effects, may_end, leaves);
       full = λ s. cc;
       in_hand = λ s. cc;
     }
-    go (ArenaFull n) comes is leaves = record {
+    go (ArenaFull n) may_end is leaves = record {
       all = λ s. cc;
       none = λ s. no_idle status 8 refl is s;
       first = λ s. cc;
-      full = λ s. (went.effects, n, comes, leaves);
+      full = λ s. (went.effects, n, may_end, leaves);
       in_hand = λ s. cc;
     }
 
 -- the line is that of the end
 pub line_at : (words : List (List ℕ)) (status : ℕ) (kept : Option Table) (old new : Moment)
-    → Went words status kept old new
+    → IsCourse words status kept old new
     → HasLine status old new
 line_at words status kept old new went = (went.end, went.status_is, went.line)
 
@@ -247,16 +248,17 @@ end_full words status kept old new is full = record {
 
 -- the causes, status by status
 pub end_at : (words : List (List ℕ)) (status : ℕ) (kept : Option Table) (old new : Moment)
-    → Went words status kept old new → HasEnd words status kept old new
+    → IsCourse words status kept old new → HasEnd words status kept old new
 end_at words status kept old new went =
-    go went.effects went.end went.comes went.status_is went.cause went.keeps went.line
+    go went.effects went.end went.may_end went.status_is went.cause went.keeps went.line
   where
-    go : (effects : List Effect) (end : End) → Comes words old.contents.files effects end → status ≡ status_of end
-        → HasCause end old.contents.files old.faults new.faults → Keeps end kept → SaysLine end old new
+    go : (effects : List Effect) (end : End) → MayEnd words old.contents.files effects end → status ≡ status_of end
+        → HasDeviceCause end old.contents.files old.faults new.faults → KeepsManager end kept
+        → WritesEndLine end old new
         → HasEnd words status kept old new
-    go effects Finished comes is cause keeps line = end_finished words status kept old new is keeps
-    go effects (Refused refusal) comes is cause keeps line =
-        let early = refused_early words old.contents.files effects refusal comes in
+    go effects Finished may_end is cause keeps line = end_finished words status kept old new is keeps
+    go effects (Refused refusal) may_end is cause keeps line =
+        let early = refused_early words old.contents.files effects refusal may_end in
         end_refused words status kept old new refusal is keeps record {
           refusal = refusal;
           status_is = is;
@@ -264,21 +266,21 @@ end_at words status kept old new went =
           of_text = refused_of_text old.contents.files words refusal early.0;
           line = line;
         }
-    go effects (Unreadable file) comes is cause keeps line =
+    go effects (Unreadable file) may_end is cause keeps line =
         end_unread words status kept old new is keeps record {
           file = file;
-          asked = asked words old.contents.files effects file comes;
+          asked = asked words old.contents.files effects file may_end;
           cause = cause;
           line = line;
         }
-    go effects (Unwritable effect) comes is cause keeps line =
+    go effects (Unwritable effect) may_end is cause keeps line =
         end_unwritten words status kept old new is keeps record {
           effects = effects;
           effect = effect;
-          in_hand = comes;
+          in_hand = may_end;
           cause = cause;
           line = line;
         }
-    go effects OutOfMemory comes is cause keeps line = end_no_memory words status kept old new is keeps
-    go effects (ArenaFull n) comes is cause keeps line =
-        end_full words status kept old new is (full_at words n effects kept old new keeps comes line)
+    go effects OutOfMemory may_end is cause keeps line = end_no_memory words status kept old new is keeps
+    go effects (ArenaFull n) may_end is cause keeps line =
+        end_full words status kept old new is (full_at words n effects kept old new keeps may_end line)

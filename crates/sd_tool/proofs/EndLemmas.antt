@@ -5,20 +5,20 @@ use Rattle.sd_base.specs.Files.{Files}
 use Rattle.sd_manager.specs.Table.{Table}
 use Rattle.sd_formula.specs.Dimacs.{Groups}
 use Rattle.sd_commands.specs.Effects.{Effect}
-use Rattle.sd_commands.specs.declared.command.Command.{Command}
-use Rattle.sd_commands.specs.declared.state.State.{State as CodeState}
+use Rattle.sd_commands.specs.declared.command.RunCommand.{RunCommand}
+use Rattle.sd_commands.specs.declared.state.RunState.{RunState}
 use Rattle.sd_tool.specs.Effects.{Contents}
 use Rattle.sd_tool.specs.Readings.{Plan, Begins, ReadsTo, reading_of}
 use Rattle.sd_tool.specs.Course.{EndsAmong, Leaves}
-use Rattle.sd_tool.specs.Given.{plan_with}
-use Rattle.sd_tool.specs.Headline.{Went}
+use Rattle.sd_tool.specs.PlanViews.{plan_with}
+use Rattle.sd_tool.specs.Headline.{IsCourse}
 use Rattle.sd_tool.specs.Ends.{End, Finished, Refused, Unreadable, Unwritable, OutOfMemory as NoMemory}
 use Rattle.sd_tool.specs.Ends.{ArenaFull as NoRoom, line_of, status_of}
 use Rattle.sd_tool.specs.Refusals.{refusal_status}
-use Rattle.sd_tool.specs.Kept.{Keeps}
-use Rattle.sd_tool.specs.Devices.{Moment, Faults, NotFewer, HasCause, Says, SaysLine}
-use Rattle.sd_tool.specs.Stops.{stop_status, stop_text, StandsFor, StopsReading, GoesOn, CarriesOut, Attempts}
-use Rattle.sd_tool.specs.Stops.{Fills, is_full}
+use Rattle.sd_tool.specs.KeptManager.{KeepsManager}
+use Rattle.sd_tool.specs.Devices.{Moment, Faults, NotFewer, HasDeviceCause, WritesLine, WritesEndLine}
+use Rattle.sd_tool.specs.Stops.{stop_status, stop_text, StandsFor, StopsReading, RunsToEnd, CarriesOut, Attempts}
+use Rattle.sd_tool.specs.Stops.{IsFullAt, is_full}
 use Rattle.sd_tool.specs.declared.refusal.Refusal.{Refusal}
 use Rattle.sd_tool.specs.declared.refusal.Refusal.TheVariants as refusals
 use Rattle.sd_tool.specs.declared.stop.Stop.{Stop}
@@ -35,7 +35,7 @@ reading_stops words (stops.Refused refusal) kept old new before now none same st
   end = Refused refusal;
   at = record { status = refl; text = refl; stopped = λ e. cc };
   effects = [];
-  comes = inl (stops, refl);
+  may_end = inl (stops, refl);
   keeps = none;
   leaves = same;
   cause = tt;
@@ -44,7 +44,7 @@ reading_stops words (ReadFault file) kept old new before now none same stops = r
   end = Unreadable file;
   at = record { status = refl; text = refl; stopped = λ e. cc };
   effects = [];
-  comes = inl (stops.0, refl);
+  may_end = inl (stops.0, refl);
   keeps = none;
   leaves = same;
   cause = stops.1;
@@ -56,7 +56,7 @@ reading_stops words OutOfMemory kept old new before now none same stops = record
   end = NoMemory;
   at = record { status = refl; text = refl; stopped = λ e. cc };
   effects = [];
-  comes = inl (tt, refl);
+  may_end = inl (tt, refl);
   keeps = none;
   leaves = same;
   cause = tt;
@@ -64,8 +64,8 @@ reading_stops words OutOfMemory kept old new before now none same stops = record
 
 -- a cause among the commands is a cause in the whole run
 cause_from : (plan : Plan) (effects : List Effect) (end : End) (files others : Option Files)
-    (first mid last : Faults) → EndsAmong plan effects end → NotFewer first mid → HasCause end files mid last
-    → HasCause end others first last
+    (first mid last : Faults) → EndsAmong plan effects end → NotFewer first mid → HasDeviceCause end files mid last
+    → HasDeviceCause end others first last
 cause_from plan effects Finished files others first mid last ends fewer cause = tt
 cause_from plan effects (Refused r) files others first mid last ends fewer cause = tt
 cause_from plan effects (Unreadable file) files others first mid last ends fewer cause = absurd ends
@@ -86,16 +86,16 @@ no_refusal (refusals.LongScript file) e = let bad : ⊥ = cc in bad
 no_refusal (refusals.BadScript file fault) e = let bad : ⊥ = cc in bad
 
 -- the manager of a full arena is kept
-kept_full : (end : End) (t : Table) → 8 ≡ status_of end → Fills end t → Keeps end (Some t)
-kept_full Finished t is fills = cc
-kept_full (Refused refusal) t is fills = absurd (no_refusal refusal (sym is))
-kept_full (Unreadable file) t is fills = cc
-kept_full (Unwritable effect) t is fills = cc
-kept_full NoMemory t is fills = cc
-kept_full (NoRoom n) t is fills = fills
+kept_full : (end : End) (t : Table) → 8 ≡ status_of end → IsFullAt end t → KeepsManager end (Some t)
+kept_full Finished t is full_at = cc
+kept_full (Refused refusal) t is full_at = absurd (no_refusal refusal (sym is))
+kept_full (Unreadable file) t is full_at = cc
+kept_full (Unwritable effect) t is full_at = cc
+kept_full NoMemory t is full_at = cc
+kept_full (NoRoom n) t is full_at = full_at
 
 -- at each other end nothing is kept
-kept_none : (end : End) → (status_of end ≡ 8 → ⊥) → Keeps end None
+kept_none : (end : End) → (status_of end ≡ 8 → ⊥) → KeepsManager end None
 kept_none Finished other = refl
 kept_none (Refused refusal) other = refl
 kept_none (Unreadable file) other = refl
@@ -105,8 +105,8 @@ kept_none (NoRoom n) other = absurd (other refl)
 
 -- the commands came to an end, and what is kept is that of the end
 carried : (plan : Plan) (t : Table) (kept : Option Table) (result : Result (Unit {0}) Stop)
-    (old new : Contents) (before now : Faults) → (goes : GoesOn plan t result old new before now)
-    → Keeps goes.end kept → CarriesOut plan kept result old new before now
+    (old new : Contents) (before now : Faults) → (goes : RunsToEnd plan t result old new before now)
+    → KeepsManager goes.end kept → CarriesOut plan kept result old new before now
 carried plan t kept result old new before now goes keeps = record {
   end = goes.end;
   at = goes.at;
@@ -118,55 +118,57 @@ carried plan t kept result old new before now goes keeps = record {
 }
 
 -- the commands in hand are those of the plan
-abbrev with_own : Groups → CodeState → ℕ → Option Table → Result (Unit {0}) Stop → Contents → Contents → Faults
-    → Faults → List Command → Type 0
+abbrev with_own : Groups → RunState → ℕ → Option Table → Result (Unit {0}) Stop → Contents → Contents → Faults
+    → Faults → List RunCommand → Type 0
 with_own formula state limit kept result old new before now commands =
     CarriesOut (plan_with formula state limit commands) kept result old new before now
 
 -- all commands were done
-pub carried_done : (formula : Groups) (state : CodeState) (limit : ℕ) (done commands : List Command) (t : Table)
+pub carried_done : (formula : Groups) (state : RunState) (limit : ℕ) (done commands : List RunCommand) (t : Table)
     (kept : Option Table) (old new : Contents) (before now : Faults) → done ≡ commands → kept ≡ None
-    → GoesOn (plan_with formula state limit done) t (Ok tt) old new before now
+    → RunsToEnd (plan_with formula state limit done) t (Ok tt) old new before now
     → CarriesOut (plan_with formula state limit commands) kept (Ok tt) old new before now
 carried_done formula state limit done commands t kept old new before now all none goes =
     subst (with_own formula state limit kept (Ok tt) old new before now) all
     (carried (plan_with formula state limit done) t kept (Ok tt) old new before now goes
-    (subst (Keeps goes.end) (sym none) (kept_none goes.end (λ e. other goes.at e))))
+    (subst (KeepsManager goes.end) (sym none) (kept_none goes.end (λ e. other goes.at e))))
   where
     other : goes.end ≡ Finished → status_of goes.end ≡ 8 → ⊥
     other is e = let zero_ = ap status_of is in let bad : ⊥ = cc in bad
 
 -- what is kept after a stop that is no full arena
 kept_other : (stop : Stop) (end : End) (kept was : Option Table) → was ≡ None → kept ≡ was
-    → stop_status stop ≡ status_of end → (stop_status stop ≡ 8 → ⊥) → Keeps end kept
+    → stop_status stop ≡ status_of end → (stop_status stop ≡ 8 → ⊥) → KeepsManager end kept
 kept_other stop end kept was none is status other =
-    subst (Keeps end) (sym (is ∙ none)) (kept_none end (λ e. other (status ∙ e)))
+    subst (KeepsManager end) (sym (is ∙ none)) (kept_none end (λ e. other (status ∙ e)))
 
 -- what is kept after a stop is what its end keeps
 keeps_at : (stop : Stop) (end : End) (t : Table) (kept was : Option Table) → was ≡ None
-    → kept ≡ cond (is_full stop) (Some t) was → stop_status stop ≡ status_of end → Fills end t → Keeps end kept
-keeps_at (ArenaFull n) end t kept was none is status fills = subst (Keeps end) (sym is) (kept_full end t status fills)
-keeps_at (stops.Refused refusal) end t kept was none is status fills =
+    → kept ≡ cond (is_full stop) (Some t) was → stop_status stop ≡ status_of end → IsFullAt end t
+    → KeepsManager end kept
+keeps_at (ArenaFull n) end t kept was none is status full_at =
+    subst (KeepsManager end) (sym is) (kept_full end t status full_at)
+keeps_at (stops.Refused refusal) end t kept was none is status full_at =
     kept_other (stops.Refused refusal) end kept was none is status (no_refusal refusal)
-keeps_at (ReadFault file) end t kept was none is status fills =
+keeps_at (ReadFault file) end t kept was none is status full_at =
     kept_other (ReadFault file) end kept was none is status (λ e. cc)
-keeps_at (WriteFault file) end t kept was none is status fills =
+keeps_at (WriteFault file) end t kept was none is status full_at =
     kept_other (WriteFault file) end kept was none is status (λ e. cc)
-keeps_at OutputFault end t kept was none is status fills =
+keeps_at OutputFault end t kept was none is status full_at =
     kept_other OutputFault end kept was none is status (λ e. cc)
-keeps_at OutOfMemory end t kept was none is status fills =
+keeps_at OutOfMemory end t kept was none is status full_at =
     kept_other OutOfMemory end kept was none is status (λ e. cc)
 
 -- the commands stopped, and the manager is kept if it was full
-pub carried_stop : (formula : Groups) (state : CodeState) (limit : ℕ) (done commands : List Command) (t : Table)
+pub carried_stop : (formula : Groups) (state : RunState) (limit : ℕ) (done commands : List RunCommand) (t : Table)
     (kept was : Option Table) (stop : Stop) (old new : Contents) (before now : Faults) → done ≡ commands
     → was ≡ None → kept ≡ cond (is_full stop) (Some t) was
-    → GoesOn (plan_with formula state limit done) t (Err stop) old new before now
+    → RunsToEnd (plan_with formula state limit done) t (Err stop) old new before now
     → CarriesOut (plan_with formula state limit commands) kept (Err stop) old new before now
 carried_stop formula state limit done commands t kept was stop old new before now all none is goes =
     subst (with_own formula state limit kept (Err stop) old new before now) all
     (carried (plan_with formula state limit done) t kept (Err stop) old new before now goes
-    (keeps_at stop goes.end t kept was none is goes.at.status goes.fills))
+    (keeps_at stop goes.end t kept was none is goes.at.status goes.full_at))
 
 -- the commands go on from where the readings led
 pub commands_go : (words : List (List ℕ)) (plan : Plan) (kept : Option Table) (result : Result (Unit {0}) Stop)
@@ -177,40 +179,41 @@ commands_go words plan kept result old mid new first before last led same fewer 
   end = goes.end;
   at = goes.at;
   effects = goes.effects;
-  comes = inr (plan, led, goes.ends);
+  may_end = inr (plan, led, goes.ends);
   keeps = goes.keeps;
   leaves = subst (λ (o : Contents). Leaves goes.effects goes.end o new) same goes.leaves;
   cause = cause_from plan goes.effects goes.end mid.files old.files first before last goes.ends fewer goes.cause;
 }
 
 says_end : (stop : Stop) (end : End) (old new : Moment) → StandsFor stop end
-    → Says (line_of (stop_text stop)) old.errors new.errors old.err_faults new.err_faults → SaysLine end old new
+    → WritesLine (line_of (stop_text stop)) old.errors new.errors old.err_faults new.err_faults
+    → WritesEndLine end old new
 says_end stop Finished old new at says = absurd (at.stopped refl)
 says_end stop (Refused r) old new at says =
-    subst (λ t. Says (line_of t) old.errors new.errors old.err_faults new.err_faults) at.text says
+    subst (λ t. WritesLine (line_of t) old.errors new.errors old.err_faults new.err_faults) at.text says
 says_end stop (Unreadable file) old new at says =
-    subst (λ t. Says (line_of t) old.errors new.errors old.err_faults new.err_faults) at.text says
+    subst (λ t. WritesLine (line_of t) old.errors new.errors old.err_faults new.err_faults) at.text says
 says_end stop (Unwritable effect) old new at says =
-    subst (λ t. Says (line_of t) old.errors new.errors old.err_faults new.err_faults) at.text says
+    subst (λ t. WritesLine (line_of t) old.errors new.errors old.err_faults new.err_faults) at.text says
 says_end stop NoMemory old new at says =
-    subst (λ t. Says (line_of t) old.errors new.errors old.err_faults new.err_faults) at.text says
+    subst (λ t. WritesLine (line_of t) old.errors new.errors old.err_faults new.err_faults) at.text says
 says_end stop (NoRoom n) old new at says =
-    subst (λ t. Says (line_of t) old.errors new.errors old.err_faults new.err_faults) at.text says
+    subst (λ t. WritesLine (line_of t) old.errors new.errors old.err_faults new.err_faults) at.text says
 
 -- a run that stopped and said so went to that end
 pub went_to_stop : (words : List (List ℕ)) (stop : Stop) (status : ℕ) (text : List ℕ) (kept : Option Table)
     (old new : Moment)
     → Attempts words kept (Err stop) old.contents new.contents old.faults new.faults → status ≡ stop_status stop
-    → text ≡ stop_text stop → Says (line_of text) old.errors new.errors old.err_faults new.err_faults
-    → Went words status kept old new
+    → text ≡ stop_text stop → WritesLine (line_of text) old.errors new.errors old.err_faults new.err_faults
+    → IsCourse words status kept old new
 went_to_stop words stop status text kept old new attempt is text_is says = record {
   effects = attempt.effects;
   end = attempt.end;
-  comes = attempt.comes;
+  may_end = attempt.may_end;
   status_is = is ∙ attempt.at.status;
   leaves = attempt.leaves;
   cause = attempt.cause;
   keeps = attempt.keeps;
   line = says_end stop attempt.end old new attempt.at
-      (subst (λ t. Says (line_of t) old.errors new.errors old.err_faults new.err_faults) text_is says);
+      (subst (λ t. WritesLine (line_of t) old.errors new.errors old.err_faults new.err_faults) text_is says);
 }

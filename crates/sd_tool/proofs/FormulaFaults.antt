@@ -1,4 +1,4 @@
--- Want of memory is never the fault of a formula file: no step of the reading gives it.
+-- OutOfMemory is never the fault of a formula file: no step of the reading gives it.
 use Rattle.std.proofs.Common.{◌≡◌, ℕ, List, [], ◌∷◌, length, drop, Err}
 use Rattle.std.specs.Prelude.{nat_lt, ok_or, ℤ, unsigned_abs, Ok}
 use Rattle.std.specs.List.{slice_split}
@@ -7,12 +7,13 @@ use Rattle.sd_base.specs.Numbers.{integer_value}
 use Rattle.sd_base.specs.Reading.{◌>>=◌, ◌>>◌, fault_if, each}
 use Rattle.sd_formula.specs.declared.formula.Kind.{Kind}
 use Rattle.sd_formula.specs.declared.error.FormulaError.TheVariants as formula
-use Rattle.sd_formula.specs.Dimacs.{Stated, Word, dimacs, formula_of, header_of, in_range, numbers_of, literal_of}
+use Rattle.sd_formula.specs.Dimacs.{Stated, BodyWord, dimacs, formula_of, header_of, counts_in_range}
+use Rattle.sd_formula.specs.Dimacs.{numbers_of, literal_of_word}
 use Rattle.sd_formula.specs.Dimacs.{body_of, groups_of, is_zero, all_but_last}
 use Rattle.sd_vfile.proofs.OwnFaults.{Never, never_ok, never_after, never_then, never_if, never_or, never_each}
 
 -- the header
-never_range : (s : Stated) → Never formula.OutOfMemory (in_range s)
+never_range : (s : Stated) → Never formula.OutOfMemory (counts_in_range s)
 never_range s =
     never_then formula.OutOfMemory _ _ (never_if _ (formula.VariablesRange s.variables) _ (λ e. cc))
     (never_then formula.OutOfMemory _ _ (never_if _ (formula.TooManyGroups s.groups) _ (λ e. cc)) (never_ok _ _))
@@ -21,10 +22,10 @@ never_header : (kind : Kind) (line : TextLine) → Never formula.OutOfMemory (he
 never_header kind line =
     never_then formula.OutOfMemory _ _ (never_if _ formula.NoHeader _ (λ e. cc))
     (never_after formula.OutOfMemory (ok_or (numbers_of kind (drop 1 line.words)) (formula.BadHeader line.number))
-    in_range (never_or _ (formula.BadHeader line.number) _ (λ e. cc)) never_range)
+    counts_in_range (never_or _ (formula.BadHeader line.number) _ (λ e. cc)) never_range)
 
 -- a word of the body
-never_literal : (variables : ℕ) (word : Word) → Never formula.OutOfMemory (literal_of variables word)
+never_literal : (variables : ℕ) (word : BodyWord) → Never formula.OutOfMemory (literal_of_word variables word)
 never_literal variables word =
     never_after formula.OutOfMemory (ok_or (integer_value word.bytes) (formula.BadWord word.line))
     (λ z. fault_if (nat_lt variables (unsigned_abs z)) (formula.LiteralRange word.line z) >> Ok z)
@@ -42,14 +43,14 @@ never_formula : (kind : Kind) (lines : List TextLine) → Never formula.OutOfMem
 never_formula kind [] = λ is. cc
 never_formula kind (header ∷ lines) =
     never_after formula.OutOfMemory (header_of kind header)
-    (λ s. each (literal_of s.variables) (body_of lines) >>= λ zs. groups_of kind s (slice_split is_zero zs))
+    (λ s. each (literal_of_word s.variables) (body_of lines) >>= λ zs. groups_of kind s (slice_split is_zero zs))
     (never_header kind header)
-    (λ s. never_after formula.OutOfMemory (each (literal_of s.variables) (body_of lines))
+    (λ s. never_after formula.OutOfMemory (each (literal_of_word s.variables) (body_of lines))
     (λ zs. groups_of kind s (slice_split is_zero zs))
-    (never_each formula.OutOfMemory (literal_of s.variables) (body_of lines) (never_literal s.variables))
+    (never_each formula.OutOfMemory (literal_of_word s.variables) (body_of lines) (never_literal s.variables))
     (λ zs. never_groups kind s (slice_split is_zero zs)))
 
--- want of memory is not the fault of a formula file
-pub no_want_dimacs : (kind : Kind) (bytes : List ℕ) → dimacs kind bytes ≡ Err formula.OutOfMemory → ⊥
+-- OutOfMemory is not the fault of a formula file
+pub not_out_of_memory_dimacs : (kind : Kind) (bytes : List ℕ) → dimacs kind bytes ≡ Err formula.OutOfMemory → ⊥
 unfolding dimacs
-no_want_dimacs kind bytes = never_formula kind (content_of 99 bytes)
+not_out_of_memory_dimacs kind bytes = never_formula kind (content_of 99 bytes)

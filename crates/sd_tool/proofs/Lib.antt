@@ -1,7 +1,7 @@
 pub mod ByStatus
 pub mod EndLemmas
 pub mod FormulaFaults
-pub mod NoWant
+pub mod NotOutOfMemory
 pub mod OneCourse
 pub mod OnePoint
 pub mod OneRun

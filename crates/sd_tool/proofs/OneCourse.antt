@@ -5,7 +5,7 @@ use Rattle.sd_model.specs.Expression.{Expression}
 use Rattle.sd_model.specs.Tree.{IsVtree}
 use Rattle.sd_commands.specs.Effects.{Effect}
 use Rattle.sd_commands.specs.Commands.{State, Done, Steps}
-use Rattle.sd_commands.specs.declared.command.Command.{Command}
+use Rattle.sd_commands.specs.declared.command.RunCommand.{RunCommand}
 use Rattle.sd_commands.proofs.Outcomes.{one_outcome, same_tree}
 use Rattle.sd_tool.specs.Readings.{Plan}
 use Rattle.sd_tool.specs.Ends.{End, Finished, Refused, Unreadable, Unwritable, OutOfMemory, ArenaFull}
@@ -13,14 +13,14 @@ use Rattle.sd_tool.specs.Course.{Reaches, EndsAmong}
 use Rattle.sd_tool.specs.Headline.{IsOwn}
 
 -- commands leave the tree
-pub one_tree : (input : Expression) (start last : State) (commands : List Command) (effects : List Effect)
+pub one_tree : (input : Expression) (start last : State) (commands : List RunCommand) (effects : List Effect)
     → Steps input start commands effects last → last.tree ≡ start.tree
 one_tree input start last [] effects p = ap (λ (s : State). s.tree) p.1
 one_tree input start last (command ∷ commands) effects p =
     one_tree input p.0 last commands p.2 p.4 ∙ same_tree input start p.0 command p.1 p.3
 
 -- commands that are all done lead to one state, with the same effects
-one_course : (input : Expression) (start a b : State) (commands : List Command) (es fs : List Effect)
+one_course : (input : Expression) (start a b : State) (commands : List RunCommand) (es fs : List Effect)
     → IsVtree start.tree → Steps input start commands es a → Steps input start commands fs b → (a ≡ b) × (es ≡ fs)
 one_course input start a b [] es fs valid p q = (p.1 ∙ sym q.1, p.0 ∙ sym q.0)
 one_course input start a b (command ∷ commands) es fs valid p q =

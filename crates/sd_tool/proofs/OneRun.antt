@@ -14,17 +14,17 @@ use Rattle.sd_commands.specs.Effects.{Effect, Write, Print}
 use Rattle.sd_tool.specs.Effects.{after}
 use Rattle.sd_tool.specs.Readings.{Plan, Reading, Refuses, Begins, Reads, Text, Whole, reading_of, ReadsTo}
 use Rattle.sd_tool.specs.Readings.{with_job, with_input_word, with_input, with_formula, with_tree_word, with_tree}
-use Rattle.sd_tool.specs.Readings.{with_vtree_text, with_vtree_reading, with_commands, plan_for, stated, input_file}
+use Rattle.sd_tool.specs.Readings.{with_vtree_text, with_vtree_reading, with_commands, plan_for, default_of, input_file}
 use Rattle.sd_tool.specs.declared.refusal.Refusal.{Refusal}
 use Rattle.sd_tool.specs.declared.refusal.Refusal.TheVariants as refusals
 use Rattle.sd_tool.specs.Ends.{End, Finished, Refused, Unreadable, Unwritable, OutOfMemory, ArenaFull}
 use Rattle.sd_tool.specs.Ends.{status_of}
-use Rattle.sd_tool.specs.Devices.{Moment, Faults, NoneRose, HasCause}
-use Rattle.sd_tool.specs.Course.{EndsAmong, Comes, Leaves}
-use Rattle.sd_tool.specs.Headline.{Went, IsOwn, IsComplete}
+use Rattle.sd_tool.specs.Devices.{Moment, Faults, NoneRose, HasDeviceCause}
+use Rattle.sd_tool.specs.Course.{EndsAmong, MayEnd, Leaves}
+use Rattle.sd_tool.specs.Headline.{IsCourse, IsOwn, IsComplete}
 use Rattle.sd_tool.specs.Written.{IsInput, IsStartTree}
 use Rattle.sd_tool.proofs.OneCourse.{one_end_among}
-use Rattle.sd_tool.proofs.NoWant.{valid_start}
+use Rattle.sd_tool.proofs.NotOutOfMemory.{valid_start}
 use Rattle.sd_tool.proofs.OnePoint.{one_point}
 use Rattle.sd_tool.proofs.ReadingLemmas.{reads_on, reads_same}
 
@@ -54,7 +54,7 @@ same_refusal files reading a b p q = elim (one_point files reading (Refuses a) (
 
 -- own ends, of the readings or among the commands, are one
 one_own : (words : List (List ℕ)) (files : Files) (effects done : List Effect) (own end : End) → IsOwn own → IsOwn end
-    → Comes words (Some files) effects own → Comes words (Some files) done end → (end ≡ own) × (done ≡ effects)
+    → MayEnd words (Some files) effects own → MayEnd words (Some files) done end → (end ≡ own) × (done ≡ effects)
 one_own words files effects done own end a b (inr p) (inr q) =
     let same = same_plan files (reading_of words) p.0 q.0 p.1 q.1 in
     one_end_among p.0 effects done own end (valid_start (Some files) words p.0 p.1) a b p.2
@@ -91,7 +91,7 @@ asked_before plan files reading file next leads asked lacks =
 
 -- the readings of an own end ask for no file that is not there
 none_missing : (words : List (List ℕ)) (files : Files) (effects : List Effect) (own : End) (file : List ℕ)
-    (next : Text → Reading) → IsOwn own → Comes words (Some files) effects own
+    (next : Text → Reading) → IsOwn own → MayEnd words (Some files) effects own
     → ReadsTo (Some files) (reading_of words) (Reads file next) → Lacks (Some files) file → ⊥
 none_missing words files effects own file next a (inr p) q lacks =
     asked_before p.0 files (reading_of words) file next p.1 q lacks
@@ -111,35 +111,35 @@ none_missing words files effects (ArenaFull n) file next a (inl p) q lacks = abs
 
 -- the end of a run is determined, but for devices and memory
 no_other_end : (words : List (List ℕ)) (files : Files) (effects done : List Effect) (own end : End)
-    (before now : Faults) → IsOwn own → Comes words (Some files) effects own → Comes words (Some files) done end
-    → HasCause end (Some files) before now → NoneRose before now
+    (before now : Faults) → IsOwn own → MayEnd words (Some files) effects own → MayEnd words (Some files) done end
+    → HasDeviceCause end (Some files) before now → NoneRose before now
     → ((end ≡ own) × (done ≡ effects)) ⊎ (end ≡ OutOfMemory) ⊎ ((n : ℕ) × (end ≡ ArenaFull n))
-no_other_end words files effects done own Finished before now a all comes cause calm =
-    inl (one_own words files effects done own Finished a tt all comes)
-no_other_end words files effects done own (Refused r) before now a all comes cause calm =
-    inl (one_own words files effects done own (Refused r) a tt all comes)
+no_other_end words files effects done own Finished before now a all may_end cause calm =
+    inl (one_own words files effects done own Finished a tt all may_end)
+no_other_end words files effects done own (Refused r) before now a all may_end cause calm =
+    inl (one_own words files effects done own (Refused r) a tt all may_end)
 no_other_end words files effects done own (Unreadable file) before now a all (inl asked) (inl lacks) calm =
     absurd (none_missing words files effects own file asked.0.0 a all asked.0.1 lacks)
 no_other_end words files effects done own (Unreadable file) before now a all (inl asked) (inr rose) calm =
     absurd (calm.read rose)
-no_other_end words files effects done own (Unreadable file) before now a all (inr comes) cause calm = absurd comes.2
-no_other_end words files effects done own (Unwritable (Write file bytes)) before now a all comes cause calm =
+no_other_end words files effects done own (Unreadable file) before now a all (inr may_end) cause calm = absurd may_end.2
+no_other_end words files effects done own (Unwritable (Write file bytes)) before now a all may_end cause calm =
     absurd (calm.write cause)
-no_other_end words files effects done own (Unwritable (Print line)) before now a all comes cause calm =
+no_other_end words files effects done own (Unwritable (Print line)) before now a all may_end cause calm =
     absurd (calm.print cause)
-no_other_end words files effects done own OutOfMemory before now a all comes cause calm = inr (inl refl)
-no_other_end words files effects done own (ArenaFull n) before now a all comes cause calm = inr (inr (n, refl))
+no_other_end words files effects done own OutOfMemory before now a all may_end cause calm = inr (inl refl)
+no_other_end words files effects done own (ArenaFull n) before now a all may_end cause calm = inr (inr (n, refl))
 
 -- where the words and the files lead to an end of their own, the run came to it, or there was no memory
 comes_to_own : (words : List (List ℕ)) (status : ℕ) (kept : Option Table) (old new : Moment)
-    → Went words status kept old new
+    → IsCourse words status kept old new
     → (files : Files) (effects : List Effect) (own : End) → old.contents.files ≡ Some files
-    → NoneRose old.faults new.faults → IsOwn own → Comes words (Some files) effects own
+    → NoneRose old.faults new.faults → IsOwn own → MayEnd words (Some files) effects own
     → ((status ≡ status_of own) × (new.contents ≡ after effects old.contents)) ⊎ (status ≡ 7) ⊎ (status ≡ 8)
 comes_to_own words status kept old new went files effects own told calm is all =
-    let comes = subst (λ f. Comes words f went.effects went.end) told went.comes in
-    let cause = subst (λ f. HasCause went.end f old.faults new.faults) told went.cause in
-    elim (no_other_end words files effects went.effects own went.end old.faults new.faults is all comes cause calm) [
+    let may_end = subst (λ f. MayEnd words f went.effects went.end) told went.may_end in
+    let cause = subst (λ f. HasDeviceCause went.end f old.faults new.faults) told went.cause in
+    elim (no_other_end words files effects went.effects own went.end old.faults new.faults is all may_end cause calm) [
       | inl whole ↦ inl (
         went.status_is ∙ ap status_of whole.0,
         all_done own is (subst (λ e. Leaves went.effects e old.contents new.contents) whole.0 went.leaves)
@@ -160,16 +160,16 @@ comes_to_own words status kept old new went files effects own told calm is all =
 
 -- a tree leads to its plan, without a script
 leads_at_tree : (told : Option Files) (job : Job) (f : Groups) (own tree : Tree) → job.script ≡ None → own ≡ tree
-    → ReadsTo told (with_tree job f own) (Begins (plan_for job f tree (stated job)))
+    → ReadsTo told (with_tree job f own) (Begins (plan_for job f tree (default_of job)))
 leads_at_tree told job f own tree alone is =
     reads_same told _ _
     (ap (with_commands job f.variables (λ commands. Begins (plan_for job f own commands))) alone
-    ∙ ap (λ t. Begins (plan_for job f t (stated job))) is)
+    ∙ ap (λ t. Begins (plan_for job f t (default_of job))) is)
 
 -- a start tree of the words leads to its plan
 leads_with_tree : (files : Files) (job : Job) (f : Groups) (tree : Tree) (word : TreeWord) → job.script ≡ None
     → IsStartTree files word f.variables tree
-    → ReadsTo (Some files) (with_tree_word job f word) (Begins (plan_for job f tree (stated job)))
+    → ReadsTo (Some files) (with_tree_word job f word) (Begins (plan_for job f tree (default_of job)))
 leads_with_tree files job f tree trees.Balanced alone is =
     leads_at_tree (Some files) job f (balanced_tree f.variables) tree alone (sym is)
 leads_with_tree files job f tree trees.Right alone is =
@@ -197,14 +197,14 @@ job_follows words files job f input =
 -- an input with a start tree leads to its plan
 leads_to_plan : (words : List (List ℕ)) (files : Files) (job : Job) (f : Groups) (tree : Tree)
     → IsInput words files job f → IsStartTree files job.tree f.variables tree
-    → ReadsTo (Some files) (reading_of words) (Begins (plan_for job f tree (stated job)))
+    → ReadsTo (Some files) (reading_of words) (Begins (plan_for job f tree (default_of job)))
 leads_to_plan words files job f tree input start =
     let told = Some files in
     let asks = Reads input.input.file (with_input job input.input) in
     let read : ReadsTo told asks (with_tree_word job f job.tree) =
     inr (
       Whole input.bytes,
-      (input.there, input.short),
+      (input.there, input.fits),
       reads_same told _ _ (ap (with_formula job input.input.file) input.reads),
     ) in
     reads_on told (reading_of words) asks _ (job_follows words files job f input)
@@ -213,35 +213,36 @@ leads_to_plan words files job f tree input start =
 
 -- where the readings lead to a plan and no device fails, all is done, or there was no memory
 done_or_none : (words : List (List ℕ)) (files : Files) (plan : Plan) (effects : List Effect) (end : End)
-    (before now : Faults) → ReadsTo (Some files) (reading_of words) (Begins plan) → Comes words (Some files) effects end
-    → HasCause end (Some files) before now → NoneRose before now
+    (before now : Faults) → ReadsTo (Some files) (reading_of words) (Begins plan)
+    → MayEnd words (Some files) effects end
+    → HasDeviceCause end (Some files) before now → NoneRose before now
     → (status_of end ≡ 0) ⊎ (status_of end ≡ 7) ⊎ (status_of end ≡ 8)
-done_or_none words files plan effects Finished before now leads comes cause calm = inl refl
+done_or_none words files plan effects Finished before now leads may_end cause calm = inl refl
 done_or_none words files plan effects (Refused r) before now leads (inl p) cause calm =
     absurd (no_plan files (reading_of words) r plan p.0 leads)
 done_or_none words files plan effects (Refused r) before now leads (inr p) cause calm = absurd p.2
 done_or_none words files plan effects (Unreadable file) before now leads (inl p) (inl lacks) calm =
     absurd (asked_before plan files (reading_of words) file p.0.0 leads p.0.1 lacks)
-done_or_none words files plan effects (Unreadable file) before now leads comes (inr rose) calm =
+done_or_none words files plan effects (Unreadable file) before now leads may_end (inr rose) calm =
     absurd (calm.read rose)
 done_or_none words files plan effects (Unreadable file) before now leads (inr p) cause calm = absurd p.2
-done_or_none words files plan effects (Unwritable (Write file bytes)) before now leads comes cause calm =
+done_or_none words files plan effects (Unwritable (Write file bytes)) before now leads may_end cause calm =
     absurd (calm.write cause)
-done_or_none words files plan effects (Unwritable (Print line)) before now leads comes cause calm =
+done_or_none words files plan effects (Unwritable (Print line)) before now leads may_end cause calm =
     absurd (calm.print cause)
-done_or_none words files plan effects OutOfMemory before now leads comes cause calm = inr (inl refl)
-done_or_none words files plan effects (ArenaFull n) before now leads comes cause calm = inr (inr refl)
+done_or_none words files plan effects OutOfMemory before now leads may_end cause calm = inr (inl refl)
+done_or_none words files plan effects (ArenaFull n) before now leads may_end cause calm = inr (inr refl)
 
 -- a run that went somewhere is complete
 pub completes : (words : List (List ℕ)) (status : ℕ) (kept : Option Table) (old new : Moment)
-    → Went words status kept old new → IsComplete words status old new
+    → IsCourse words status kept old new → IsComplete words status old new
 completes words status kept old new went = record {
   served = λ files job formula tree told calm input start.
-      let comes = subst (λ f. Comes words f went.effects went.end) told went.comes in
-      let cause = subst (λ f. HasCause went.end f old.faults new.faults) told went.cause in
-      let plan = plan_for job formula tree (stated job) in
+      let may_end = subst (λ f. MayEnd words f went.effects went.end) told went.may_end in
+      let cause = subst (λ f. HasDeviceCause went.end f old.faults new.faults) told went.cause in
+      let plan = plan_for job formula tree (default_of job) in
       let leads = leads_to_plan words files job formula tree input start in
-      elim (done_or_none words files plan went.effects went.end old.faults new.faults leads comes cause calm) [
+      elim (done_or_none words files plan went.effects went.end old.faults new.faults leads may_end cause calm) [
         | inl done ↦ inl (went.status_is ∙ done)
         | inr (inl memory) ↦ inr (inl (went.status_is ∙ memory))
         | inr (inr full) ↦ inr (inr (went.status_is ∙ full))

@@ -5,15 +5,15 @@ use Rattle.sd_base.specs.Faults.{Rose}
 use Rattle.sd_base.specs.Files.{Files, HasBytes, HasLonger, Lacks}
 use Rattle.sd_formula.specs.Dimacs.{Groups}
 use Rattle.sd_formula.specs.declared.formula.Kind.{Kind}
-use Rattle.sd_vtree.specs.Numbered.{Numbered, forget}
+use Rattle.sd_vtree.specs.Numbered.{Numbered, plain_tree}
 use Rattle.sd_words.specs.declared.jobs.Job.{Job}
 use Rattle.sd_words.specs.declared.jobs.InputWord.{InputWord}
 use Rattle.sd_words.specs.declared.jobs.TreeWord.{TreeWord}
 use Rattle.sd_words.specs.declared.jobs.TreeWord.TheVariants as trees
 use Rattle.sd_tool.specs.Readings.{Reading, Refuses, Begins, Reads, Text, Whole, TooLong, IsText, ReadsTo}
 use Rattle.sd_script.specs.Scripts.{Script}
-use Rattle.sd_commands.specs.declared.command.Command.{Command}
-use Rattle.sd_tool.specs.Readings.{with_commands, with_script, with_script_text}
+use Rattle.sd_commands.specs.declared.command.RunCommand.{RunCommand}
+use Rattle.sd_tool.specs.Readings.{with_commands, script_reading, with_script_text}
 use Rattle.sd_tool.specs.Readings.{input_file, with_input, with_input_word, with_tree_word, with_tree, with_vtree_text}
 use Rattle.sd_tool.specs.Stops.{StopsReading, LeadsTo, StopsFor, GivesText, text_read}
 use Rattle.sd_tool.specs.declared.refusal.Refusal.{Refusal}
@@ -150,22 +150,23 @@ input_leads told job input kind name file result before now is same leads =
 -- the tree is that of a file
 pub vtree_file_leads : (told : Option Files) (job : Job) (formula : Groups) (word : TreeWord) (name file : List ℕ)
     (result : Result Numbered Stop) (before now : ℕ) → word ≡ trees.File file → name ≡ file
-    → LeadsTo told (Reads name (with_vtree_text job formula name)) (λ vtree. with_tree job formula (forget vtree))
+    → LeadsTo told (Reads name (with_vtree_text job formula name)) (λ vtree. with_tree job formula (plain_tree vtree))
     result before now
-    → LeadsTo told (with_tree_word job formula word) (λ vtree. with_tree job formula (forget vtree)) result before now
+    → LeadsTo told (with_tree_word job formula word) (λ vtree. with_tree job formula (plain_tree vtree)) result before
+    now
 vtree_file_leads told job formula word name file result before now is same leads =
-    subst (λ w. LeadsTo told (with_tree_word job formula w) (λ vtree. with_tree job formula (forget vtree))
+    subst (λ w. LeadsTo told (with_tree_word job formula w) (λ vtree. with_tree job formula (plain_tree vtree))
     result before now) (sym is)
     (subst (λ (n : List ℕ). LeadsTo told (Reads n (with_vtree_text job formula n))
-    (λ vtree. with_tree job formula (forget vtree)) result before now) same leads)
+    (λ vtree. with_tree job formula (plain_tree vtree)) result before now) same leads)
 
 -- the commands are those of a script
-pub script_leads : (told : Option Files) (job : Job) (v : ℕ) (begin : List Command → Reading)
+pub script_leads : (told : Option Files) (job : Job) (v : ℕ) (begin : List RunCommand → Reading)
     (word : Option (List ℕ)) (name file : List ℕ) (result : Result Script Stop) (before now : ℕ)
     → word ≡ Some file → name ≡ file
-    → LeadsTo told (Reads name (with_script_text name v begin)) (with_script v begin) result before now
-    → LeadsTo told (with_commands job v begin word) (with_script v begin) result before now
+    → LeadsTo told (Reads name (with_script_text name v begin)) (script_reading v begin) result before now
+    → LeadsTo told (with_commands job v begin word) (script_reading v begin) result before now
 script_leads told job v begin word name file result before now is same leads =
-    subst (λ w. LeadsTo told (with_commands job v begin w) (with_script v begin) result before now) (sym is)
-    (subst (λ (n : List ℕ). LeadsTo told (Reads n (with_script_text n v begin)) (with_script v begin)
+    subst (λ w. LeadsTo told (with_commands job v begin w) (script_reading v begin) result before now) (sym is)
+    (subst (λ (n : List ℕ). LeadsTo told (Reads n (with_script_text n v begin)) (script_reading v begin)
     result before now) same leads)

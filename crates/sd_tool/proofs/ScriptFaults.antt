@@ -1,11 +1,11 @@
--- Want of memory is never the fault of a script: no step of the reading gives it.
+-- OutOfMemory is never the fault of a script: no step of the reading gives it.
 use Rattle.std.proofs.Common.{◌≡◌, ℕ, Bool, true, false, List, [], ◌∷◌, Ok, Err}
 use Rattle.std.specs.Prelude.{nat_lt, ok_or, if◌then◌else◌}
 use Rattle.sd_base.specs.Words.{lines_of}
-use Rattle.sd_base.specs.Lines.{TextLine, numbered_from, is_content}
+use Rattle.sd_base.specs.Lines.{TextLine, numbered_lines_from, is_content}
 use Rattle.sd_base.specs.Reading.{fault_if}
 use Rattle.sd_script.specs.Phrases.{Phrase, phrase_of}
-use Rattle.sd_script.specs.Scripts.{Script, empty, seen, numbered, checked, placed, with_command, with_line}
+use Rattle.sd_script.specs.Scripts.{Script, empty, seen, numbered_phrase, checked, with_phrase, with_command, with_line}
 use Rattle.sd_script.specs.Scripts.{after_line, after_lines, script_of}
 use Rattle.sd_script.specs.declared.command.Command.{Command}
 use Rattle.sd_script.specs.declared.fault.ScriptFault.TheVariants as script
@@ -22,7 +22,7 @@ never_checked v earlier line phrase =
     (never_then script.OutOfMemory _ _ (never_if _ (script.TooManyLoads line) _ (λ e. cc)) (never_ok _ _))))))
 
 never_placed : (v : ℕ) (s : Script) (line : ℕ) (phrase : Phrase ℕ)
-    → Never script.OutOfMemory (placed v s line phrase)
+    → Never script.OutOfMemory (with_phrase v s line phrase)
 never_placed v s line phrase =
     never_then script.OutOfMemory (checked v s.commands line phrase)
     (Ok (record s { commands = with_command s.commands line phrase })) (never_checked v s.commands line phrase)
@@ -31,9 +31,9 @@ never_placed v s line phrase =
 never_command : (v : ℕ) (s : Script) (line : TextLine) → Never script.OutOfMemory (with_line v s line)
 never_command v s line =
     never_after script.OutOfMemory (ok_or (phrase_of v line.words) (script.BadLine line.number))
-    (λ phrase. placed v (seen s phrase) line.number (numbered (seen s phrase) phrase))
+    (λ phrase. with_phrase v (seen s phrase) line.number (numbered_phrase (seen s phrase) phrase))
     (never_or _ (script.BadLine line.number) _ (λ e. cc))
-    (λ phrase. never_placed v (seen s phrase) line.number (numbered (seen s phrase) phrase))
+    (λ phrase. never_placed v (seen s phrase) line.number (numbered_phrase (seen s phrase) phrase))
 
 never_line : (v : ℕ) (s : Script) (line : TextLine) → Never script.OutOfMemory (after_line v s line)
 never_line v s line =
@@ -51,7 +51,7 @@ never_lines v s (line ∷ lines) =
     never_after script.OutOfMemory (after_line v s line) (λ next. after_lines v next lines) (never_line v s line)
     (λ next. never_lines v next lines)
 
--- want of memory is not the fault of a script
-pub no_want_script : (v : ℕ) (bytes : List ℕ) → script_of v bytes ≡ Err script.OutOfMemory → ⊥
+-- OutOfMemory is not the fault of a script
+pub not_out_of_memory_script : (v : ℕ) (bytes : List ℕ) → script_of v bytes ≡ Err script.OutOfMemory → ⊥
 unfolding script_of
-no_want_script v bytes = never_lines v empty (numbered_from 1 (lines_of bytes))
+not_out_of_memory_script v bytes = never_lines v empty (numbered_lines_from 1 (lines_of bytes))

@@ -15,11 +15,11 @@ use Rattle.sd_script.specs.declared.command.Action.TheVariants as actions
 use Rattle.sd_script.specs.declared.command.Command.{Command as Line}
 use Rattle.sd_words.specs.declared.jobs.Job.{Job}
 use Rattle.sd_commands.specs.Fits.{Fits, AllFit, frees, has, bound_after}
-use Rattle.sd_commands.specs.declared.command.Command.{Command}
-use Rattle.sd_commands.specs.declared.command.Command.TheVariants as commands
-use Rattle.sd_tool.specs.Actions.{plain_of, IsCommandOf, Becomes}
+use Rattle.sd_commands.specs.declared.command.RunCommand.{RunCommand}
+use Rattle.sd_commands.specs.declared.command.RunCommand.TheVariants as commands
+use Rattle.sd_tool.specs.Actions.{plain_of, IsCommandOf, AreCommandsOf}
 use Rattle.sd_file.specs.Reads.{File}
-use Rattle.sd_tool.specs.Readings.{Reading, Reads, ReadsTo, with_action, with_lines, with_sdd, file_name, stated}
+use Rattle.sd_tool.specs.Readings.{Reading, Reads, ReadsTo, with_action, with_lines, with_sdd, file_name, default_of}
 use Rattle.sd_tool.specs.Readings.{for_file}
 use Rattle.sd_tool.specs.Stops.{LeadsTo}
 use Rattle.sd_tool.specs.declared.stop.Stop.{Stop}
@@ -28,17 +28,17 @@ use Rattle.sd_tool.proofs.ReadingLemmas.{reads_same, leads_on}
 -- ---- one action
 
 -- this holds of the command that is there
-abbrev pub OfSome : (Command → Type 0) → Option Command → Type 0
+abbrev pub OfSome : (RunCommand → Type 0) → Option RunCommand → Type 0
 OfSome holds None = Unit {0}
 OfSome holds (Some command) = holds command
 
 -- the command of an action without a file, and where the readings go
-pub record IsPlain (v : ℕ) (script : Script) (next : Command → Reading) (action : Action) (command : Command)
+pub record IsPlain (v : ℕ) (script : Script) (next : RunCommand → Reading) (action : Action) (command : RunCommand)
     : Type 0 where
   pub same : IsCommandOf v action command
   pub leads : with_action v script next action ≡ next command
 
-plain : (v : ℕ) (script : Script) (next : Command → Reading) (action : Action)
+plain : (v : ℕ) (script : Script) (next : RunCommand → Reading) (action : Action)
     → OfSome (IsPlain v script next action) (plain_of action)
 plain v script next (actions.Input n) =
     record { same = record { uses = refl; binds = refl; frees = refl; in_range = λ h. h }; leads = refl }
@@ -61,7 +61,7 @@ plain v script next (actions.Value a bits) =
 plain v script next action = tt
 
 -- the same of a command that was found
-pub plain_found : (v : ℕ) (script : Script) (next : Command → Reading) (action : Action) (command : Command)
+pub plain_found : (v : ℕ) (script : Script) (next : RunCommand → Reading) (action : Action) (command : RunCommand)
     → plain_of action ≡ Some command → IsPlain v script next action command
 plain_found v script next action command is =
     subst (OfSome (IsPlain v script next action)) is (plain v script next action)
@@ -84,7 +84,7 @@ fold_more f b [] x = refl
 fold_more f b (y ∷ ys) x = fold_more f (f b y) ys x
 
 -- a command that fits behind the others
-fit_more : (v : ℕ) (names : List ℕ) (cs : List Command) (c : Command) → AllFit v names cs
+fit_more : (v : ℕ) (names : List ℕ) (cs : List RunCommand) (c : RunCommand) → AllFit v names cs
     → Fits v (fold bound_after names cs) c → AllFit v names (cs ++ c ∷ [])
 fit_more v names [] c all fits = (fits, tt)
 fit_more v names (d ∷ ds) c all fits = (all.0, fit_more v (bound_after names d) ds c all.1 fits)
@@ -103,7 +103,7 @@ pub record IsNext (lines : List Line) (index : ℕ) (line : Line) : Type 0 where
   pub is : line ≡ get_or lines index line
 
 -- no line is done yet
-pub becomes_first : (v : ℕ) (lines : List Line) → Becomes v lines 0 []
+pub becomes_first : (v : ℕ) (lines : List Line) → AreCommandsOf v lines 0 []
 becomes_first v lines = record { count = refl; names = refl; fit = tt }
 
 -- the line can be done
@@ -119,7 +119,7 @@ taken xs index line next =
     take_more xs index line next.within ∙ ap (λ l. take index xs ++ l ∷ []) (sym next.is)
 
 -- the names that are bound then
-bound_same : (names known : List ℕ) (v : ℕ) (line : Line) (c : Command) → IsCommandOf v line.action c → names ≡ known
+bound_same : (names known : List ℕ) (v : ℕ) (line : Line) (c : RunCommand) → IsCommandOf v line.action c → names ≡ known
     → bound_after names c ≡ lines.bound_after known line
 bound_same names known v line c same is =
     ap (λ (b : List ℕ). b ++ filter (λ n. not (has (frees c) n)) names) same.binds
@@ -127,9 +127,9 @@ bound_same names known v line c same is =
     ∙ ap (λ (ns : List ℕ). lines.bound_after ns line) is
 
 -- one more line became a command
-pub becomes_next : (v : ℕ) (script : Script) (index : ℕ) (done : List Command) (line : Line) (c : Command)
+pub becomes_next : (v : ℕ) (script : Script) (index : ℕ) (done : List RunCommand) (line : Line) (c : RunCommand)
     → IsScript v script → IsNext script.commands index line → IsCommandOf v line.action c
-    → Becomes v script.commands index done → Becomes v script.commands (index + 1) (done ++ c ∷ [])
+    → AreCommandsOf v script.commands index done → AreCommandsOf v script.commands (index + 1) (done ++ c ∷ [])
 becomes_next v script index done line c is next same was =
     let allowed = next_allowed v script index line is next in
     record {
@@ -155,7 +155,7 @@ left_at xs index line next =
 -- ---- a run without a script
 
 -- its commands can be done
-pub stated_fit : (v : ℕ) (job : Job) → AllFit v [] (stated job)
+pub stated_fit : (v : ℕ) (job : Job) → AllFit v [] (default_of job)
 stated_fit v job = (record { known = refl; ranges = refl }, go job.out_vtree job.out_sdd)
   where
     go : (tree diagram : Option (List ℕ))
@@ -170,7 +170,7 @@ stated_fit v job = (record { known = refl; ranges = refl }, go job.out_vtree job
     )
 
 -- and there are few of them
-pub stated_few : (job : Job) → length (stated job) ≤ 100000
+pub stated_few : (job : Job) → length (default_of job) ≤ 100000
 stated_few job = go job.out_vtree job.out_sdd
   where
     go : (tree diagram : Option (List ℕ)) → length (commands.Input 0
@@ -187,7 +187,7 @@ pub load_leads : (told : Option Files) (v : ℕ) (script : Script) (action : Act
     (result : Result File Stop) (before now : ℕ) → action ≡ actions.Load n file
     → slice_get script.files file ≡ Some name
     → ((next : File → Reading) → LeadsTo told (Reads name (with_sdd v name next)) next result before now)
-    → (next : Command → Reading)
+    → (next : RunCommand → Reading)
     → LeadsTo told (with_action v script next action) (λ read. next (commands.Load n read)) result before now
 load_leads told v script action n file name result before now is there leads next =
     subst (λ a. LeadsTo told (with_action v script next a) (λ read. next (commands.Load n read)) result before now)
@@ -199,7 +199,7 @@ load_leads told v script action n file name result before now is there leads nex
 -- a command that writes a diagram
 pub write_leads : (told : Option Files) (v : ℕ) (script : Script) (action : Action) (n file : ℕ)
     (name copy : List ℕ) → action ≡ actions.Write n file → slice_get script.files file ≡ Some name → copy ≡ name
-    → (next : Command → Reading) → ReadsTo told (with_action v script next action) (next (commands.Write n copy))
+    → (next : RunCommand → Reading) → ReadsTo told (with_action v script next action) (next (commands.Write n copy))
 write_leads told v script action n file name copy is there same next =
     reads_same told _ _ (ap (with_action v script next) is
     ∙ ap (λ (f : List ℕ). next (commands.Write n f)) (file_named script file name there ∙ sym same))
@@ -207,7 +207,7 @@ write_leads told v script action n file name copy is there same next =
 -- a command that writes the vtree
 pub vtree_leads : (told : Option Files) (v : ℕ) (script : Script) (action : Action) (file : ℕ)
     (name copy : List ℕ) → action ≡ actions.Vtree file → slice_get script.files file ≡ Some name → copy ≡ name
-    → (next : Command → Reading) → ReadsTo told (with_action v script next action) (next (commands.WriteVtree copy))
+    → (next : RunCommand → Reading) → ReadsTo told (with_action v script next action) (next (commands.WriteVtree copy))
 vtree_leads told v script action file name copy is there same next =
     reads_same told _ _ (ap (with_action v script next) is
     ∙ ap (λ (f : List ℕ). next (commands.WriteVtree f)) (file_named script file name there ∙ sym same))
@@ -215,18 +215,18 @@ vtree_leads told v script action file name copy is there same next =
 -- ---- the loop, as it leads on
 
 -- the next line leads on where its command does
-pub line_leads : (told now : Option Files) (v : ℕ) (script : Script) (index : ℕ) (line : Line) (done : List Command)
-    (begin : List Command → Reading) (result : Result Command Stop) (first before last : ℕ)
+pub line_leads : (told now : Option Files) (v : ℕ) (script : Script) (index : ℕ) (line : Line) (done : List RunCommand)
+    (begin : List RunCommand → Reading) (result : Result RunCommand Stop) (first before last : ℕ)
     → IsNext script.commands index line → now ≡ told → first ≤ before
     → ReadsTo told (with_lines v script begin [] script.commands)
     (with_lines v script begin done (drop index script.commands))
-    → ((next : Command → Reading) → LeadsTo now (with_action v script next line.action) next result before last)
+    → ((next : RunCommand → Reading) → LeadsTo now (with_action v script next line.action) next result before last)
     → LeadsTo told (with_lines v script begin [] script.commands)
     (λ c. with_lines v script begin (done ++ c ∷ []) (drop (index + 1) script.commands)) result first last
 line_leads told now v script index line done begin result first before last at same later a leads =
     let reading = with_lines v script begin [] script.commands in
     let rest = drop (index + 1) script.commands in
-    let next : Command → Reading = λ c. with_lines v script begin (done ++ c ∷ []) rest in
+    let next : RunCommand → Reading = λ c. with_lines v script begin (done ++ c ∷ []) rest in
     leads_on told now reading (with_lines v script begin done (line ∷ rest)) next result first before last same later
     (subst (λ (ls : List Line). ReadsTo told reading (with_lines v script begin done ls))
     (left_at script.commands index line at) a) (leads next)

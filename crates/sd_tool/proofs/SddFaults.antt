@@ -1,24 +1,24 @@
--- Want of memory is never the fault of an SDD file, and a file that is read is over the variables that were asked for.
+-- OutOfMemory is never the fault of an SDD file, and a file that is read is over the variables that were asked for.
 use Rattle.std.proofs.Common.{◌≡◌, ℕ, List, [], ◌∷◌, length, map, Result, Ok, Err, ap, sym}
 use Rattle.std.specs.Prelude.{◌==◌, not, ok_or, is_some}
 use Rattle.sd_base.specs.Lines.{TextLine, content_of}
 use Rattle.sd_base.specs.Reading.{◌>>=◌, ◌>>◌, fault_if, each, each_after}
 use Rattle.sd_file.specs.Reads.{Node, Decomposition, Entry, File, Form, ConstantForm, LiteralForm}
-use Rattle.sd_file.specs.Reads.{DecompositionForm, place_of, pair_at, node_of, entry_of, form_of, id_of}
+use Rattle.sd_file.specs.Reads.{DecompositionForm, index_of_id, pair_at, node_of, entry_of, form_of, id_of}
 use Rattle.sd_file.specs.Reads.{stated_by, finish, file_of_lines, sdd_file}
 use Rattle.sd_file.specs.declared.fault.SddFault.{SddFault}
 use Rattle.sd_file.specs.declared.fault.SddFault.TheVariants as sdd
 use Rattle.sd_vfile.proofs.OwnFaults.{Never, never_ok, never_after, never_then, never_if, never_or, never_each}
 use Rattle.sd_vfile.proofs.OwnFaults.{never_each_after}
 
--- ---- want of memory
+-- ---- OutOfMemory
 
 never_pair : (ids : List ℕ) (line : ℕ) (pair : ℕ × ℕ) → Never sdd.OutOfMemory (pair_at ids line pair)
 never_pair ids line (prime, sub) =
-    never_after sdd.OutOfMemory (ok_or (place_of prime ids) (sdd.ChildUnknown line))
-    (λ p. ok_or (place_of sub ids) (sdd.ChildUnknown line) >>= λ s. Ok (p, s))
+    never_after sdd.OutOfMemory (ok_or (index_of_id prime ids) (sdd.ChildUnknown line))
+    (λ p. ok_or (index_of_id sub ids) (sdd.ChildUnknown line) >>= λ s. Ok (p, s))
     (never_or _ (sdd.ChildUnknown line) _ (λ e. cc))
-    (λ p. never_after sdd.OutOfMemory (ok_or (place_of sub ids) (sdd.ChildUnknown line)) (λ s. Ok (p, s))
+    (λ p. never_after sdd.OutOfMemory (ok_or (index_of_id sub ids) (sdd.ChildUnknown line)) (λ s. Ok (p, s))
     (never_or _ (sdd.ChildUnknown line) _ (λ e. cc)) (λ s. never_ok _ _))
 
 never_node : (v : ℕ) (ids : List ℕ) (line : ℕ) (form : Form) → Never sdd.OutOfMemory (node_of v ids line form)
@@ -34,7 +34,7 @@ never_entry v earlier line =
     let ids = map (λ (e : Entry). e.id) earlier in
     let last : Form → Node → Result Entry SddFault = λ form node. Ok (record { id = id_of form; node = node }) in
     never_after sdd.OutOfMemory (ok_or (form_of line.words) (sdd.BadLine line.number))
-    (λ form. fault_if (is_some (place_of (id_of form) ids)) (sdd.IdTwice line.number)
+    (λ form. fault_if (is_some (index_of_id (id_of form) ids)) (sdd.IdTwice line.number)
     >> (node_of v ids line.number form >>= last form))
     (never_or _ (sdd.BadLine line.number) _ (λ e. cc))
     (λ form. never_then sdd.OutOfMemory _ _ (never_if _ (sdd.IdTwice line.number) _ (λ e. cc))
@@ -55,10 +55,10 @@ never_file v (header ∷ lines) =
     (λ stated. never_after sdd.OutOfMemory (each_after (entry_of v) [] lines) (λ entries. finish v stated entries)
     (never_each_after sdd.OutOfMemory (entry_of v) [] lines (never_entry v)) (λ entries. never_finish v stated entries))
 
--- want of memory is not the fault of an SDD file
-pub no_want_sdd : (v : ℕ) (bytes : List ℕ) → sdd_file v bytes ≡ Err sdd.OutOfMemory → ⊥
+-- OutOfMemory is not the fault of an SDD file
+pub not_out_of_memory_sdd : (v : ℕ) (bytes : List ℕ) → sdd_file v bytes ≡ Err sdd.OutOfMemory → ⊥
 unfolding sdd_file
-no_want_sdd v bytes = never_file v (content_of 99 bytes)
+not_out_of_memory_sdd v bytes = never_file v (content_of 99 bytes)
 
 -- ---- the variables
 

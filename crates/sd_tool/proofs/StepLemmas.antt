@@ -10,31 +10,31 @@ use Rattle.sd_manager.specs.Table.{Table}
 use Rattle.sd_commands.specs.Effects.{Effect, Write, Print}
 use Rattle.sd_commands.specs.Commands.{State, Done, Step, Steps, MayFill}
 use Rattle.sd_commands.specs.Fits.{AllFit}
-use Rattle.sd_commands.specs.Standing.{Stands, StepsTo, IsFilled, effects_of, names_of}
-use Rattle.sd_commands.specs.declared.command.Act.{Act}
-use Rattle.sd_commands.specs.declared.command.Command.{Command}
-use Rattle.sd_commands.specs.declared.state.State.{State as CodeState}
+use Rattle.sd_commands.specs.Standing.{Represents, StepsTo, IsFilled, effects_of, names_of}
+use Rattle.sd_commands.specs.declared.command.Effect.{Effect as CodeEffect}
+use Rattle.sd_commands.specs.declared.command.RunCommand.{RunCommand}
+use Rattle.sd_commands.specs.declared.state.RunState.{RunState}
 use Rattle.sd_commands.proofs.Outcomes.{names_after}
 use Rattle.sd_tool.specs.Effects.{Contents, after_effect, after, DoesPart}
 use Rattle.sd_tool.specs.Readings.{Plan}
 use Rattle.sd_tool.specs.Ends.{Finished, Unwritable, OutOfMemory as NoMemory, ArenaFull as NoRoom}
-use Rattle.sd_tool.specs.Devices.{Faults, NotFewer, HasCause}
-use Rattle.sd_tool.specs.Course.{IsAt}
-use Rattle.sd_tool.specs.Stops.{FailsAt, GoesOn}
+use Rattle.sd_tool.specs.Devices.{Faults, NotFewer, HasDeviceCause}
+use Rattle.sd_tool.specs.Course.{IsAtCommand}
+use Rattle.sd_tool.specs.Stops.{FailsAt, RunsToEnd}
 use Rattle.sd_tool.specs.declared.stop.Stop.{Stop}
 use Rattle.sd_tool.specs.declared.stop.Stop.TheVariants.{OutOfMemory, ArenaFull}
 
 -- the contents after two lists of effects
-pub after-append : (first others : List Effect) (old : Contents)
+pub after_append : (first others : List Effect) (old : Contents)
     → after (first ++ others) old ≡ after others (after first old)
-after-append [] others old = refl
-after-append (effect ∷ first) others old = after-append first others (after_effect effect old)
+after_append [] others old = refl
+after_append (effect ∷ first) others old = after_append first others (after_effect effect old)
 
 -- one command more
-Steps-push : (input : Expression) (start mid new : State) (done : List Command) (effects here : List Effect)
-    (next : Command) → Steps input start done effects mid → Step input mid next (Done new here)
+Steps_push : (input : Expression) (start mid new : State) (done : List RunCommand) (effects here : List Effect)
+    (next : RunCommand) → Steps input start done effects mid → Step input mid next (Done new here)
     → Steps input start (done ++ next ∷ []) (effects ++ here) new
-Steps-push input start mid new [] effects here next steps step = (
+Steps_push input start mid new [] effects here next steps step = (
   new,
   here,
   [],
@@ -42,32 +42,32 @@ Steps-push input start mid new [] effects here next steps step = (
   (refl, refl),
   ap (λ (l : List Effect). l ++ here) steps.0 ∙ sym (append-nil here),
 )
-Steps-push input start mid new (command ∷ done) effects here next steps step = (
+Steps_push input start mid new (command ∷ done) effects here next steps step = (
   steps.0,
   steps.1,
   steps.2 ++ here,
   steps.3,
-  Steps-push input steps.0 mid new done steps.2 here next steps.4 step,
+  Steps_push input steps.0 mid new done steps.2 here next steps.4 step,
   ap (λ (l : List Effect). l ++ here) steps.5 ∙ append_assoc steps.1 steps.2 here,
 )
 
--- What the loop over the commands knows: those before the index are done, the code holds the state after them, and
+-- What the loop over the commands knows: those before the index are done, the code represents the state after them, and
 -- the others can be done.
-pub record SoFar (plan : Plan) (v index : ℕ) (code : CodeState) (old now : Contents) : Type 0 where
+pub record SoFar (plan : Plan) (v index : ℕ) (code : RunState) (old now : Contents) : Type 0 where
   pub effects : List Effect
   pub state : State
   pub steps : Steps plan.input plan.start (take index plan.commands) effects state
-  pub stands : Stands code state
+  pub represents : Represents code state
   pub fit : AllFit v (names_of state) (drop index plan.commands)
   pub is : now ≡ after effects old
 
 -- the loop is at this command
-pub record IsNext (commands : List Command) (index : ℕ) (command : Command) : Type 0 where
+pub record IsNext (commands : List RunCommand) (index : ℕ) (command : RunCommand) : Type 0 where
   pub within : index < length commands
   pub is : command ≡ get_or commands index command
 
 -- the commands from the index on are this one and those after it
-left_at : (commands : List Command) (index : ℕ) (command : Command) → IsNext commands index command
+left_at : (commands : List RunCommand) (index : ℕ) (command : RunCommand) → IsNext commands index command
     → drop index commands ≡ command ∷ drop (index + 1) commands
 left_at commands index command next =
     drop-cons commands index command next.within
@@ -75,43 +75,43 @@ left_at commands index command next =
     ∙ ap (λ c. c ∷ drop (index + 1) commands) (sym next.is)
 
 -- so it can be done, and those after it
-pub fits_next : (plan : Plan) (v index : ℕ) (code : CodeState) (old now : Contents) (command : Command)
+pub fits_next : (plan : Plan) (v index : ℕ) (code : RunState) (old now : Contents) (command : RunCommand)
     → IsNext plan.commands index command → (so_far : SoFar plan v index code old now)
     → AllFit v (names_of so_far.state) (command ∷ drop (index + 1) plan.commands)
 fits_next plan v index code old now command next so_far =
     subst (AllFit v (names_of so_far.state)) (left_at plan.commands index command next) so_far.fit
 
 -- and it is the next
-reaches_next : (plan : Plan) (state : State) (index : ℕ) (effects : List Effect) (command : Command)
+reaches_next : (plan : Plan) (state : State) (index : ℕ) (effects : List Effect) (command : RunCommand)
     → IsNext plan.commands index command → Steps plan.input plan.start (take index plan.commands) effects state
-    → IsAt plan effects state command
+    → IsAtCommand plan effects state command
 reaches_next plan state index effects command next steps = record {
   left = drop (index + 1) plan.commands;
   reaches = record {
     done = take index plan.commands;
-    in_order = ap (λ (l : List Command). take index plan.commands ++ l)
+    in_order = ap (λ (l : List RunCommand). take index plan.commands ++ l)
         (sym (left_at plan.commands index command next)) ∙ take-append-drop index plan.commands;
     steps = steps;
   };
 }
 
 -- the command at the index is done
-pub so_far_more : (plan : Plan) (v index : ℕ) (code code' : CodeState) (old now new : Contents) (command : Command)
-    (act : Option Act) → IsNext plan.commands index command → (so_far : SoFar plan v index code old now)
-    → StepsTo plan.input so_far.state command code' act → new ≡ after (effects_of act) now
+pub so_far_more : (plan : Plan) (v index : ℕ) (code code' : RunState) (old now new : Contents) (command : RunCommand)
+    (asked : Option CodeEffect) → IsNext plan.commands index command → (so_far : SoFar plan v index code old now)
+    → StepsTo plan.input so_far.state command code' asked → new ≡ after (effects_of asked) now
     → SoFar plan v (index + 1) code' old new
-so_far_more plan v index code code' old now new command act next so_far done effect = record {
-  effects = so_far.effects ++ effects_of act;
+so_far_more plan v index code code' old now new command asked next so_far done effect = record {
+  effects = so_far.effects ++ effects_of asked;
   state = done.next;
-  steps = subst (λ (l : List Command). Steps plan.input plan.start l (so_far.effects ++ effects_of act) done.next)
+  steps = subst (λ (l : List RunCommand). Steps plan.input plan.start l (so_far.effects ++ effects_of asked) done.next)
       (ap (λ c. take index plan.commands ++ c ∷ []) next.is ∙ sym (take_more plan.commands index command next.within))
-      (Steps-push plan.input plan.start so_far.state done.next (take index plan.commands) so_far.effects
-      (effects_of act) command so_far.steps done.step);
-  stands = done.stands;
+      (Steps_push plan.input plan.start so_far.state done.next (take index plan.commands) so_far.effects
+      (effects_of asked) command so_far.steps done.step);
+  represents = done.represents;
   fit = subst (λ names. AllFit v names (drop (index + 1) plan.commands))
-      (sym (names_after plan.input so_far.state done.next command (effects_of act) done.step))
+      (sym (names_after plan.input so_far.state done.next command (effects_of asked) done.step))
       (fits_next plan v index code old now command next so_far).1;
-  is = effect ∙ ap (after (effects_of act)) so_far.is ∙ sym (after-append so_far.effects (effects_of act) old);
+  is = effect ∙ ap (after (effects_of asked)) so_far.is ∙ sym (after_append so_far.effects (effects_of asked) old);
 }
 
 -- counts that do not fall twice do not fall
@@ -128,32 +128,32 @@ rose_since first mid last later rose = omega arith
 
 -- so a device fault of a later command has its cause in the whole run
 pub cause_since : (effect : Effect) (files others : Option Files) (first mid last : Faults) → NotFewer first mid
-    → HasCause (Unwritable effect) files mid last → HasCause (Unwritable effect) others first last
+    → HasDeviceCause (Unwritable effect) files mid last → HasDeviceCause (Unwritable effect) others first last
 cause_since (Write file bytes) files others first mid last fewer rose =
     rose_since first.write mid.write last.write fewer.write rose
 cause_since (Print line) files others first mid last fewer rose =
     rose_since first.print mid.print last.print fewer.print rose
 
 -- there was no memory for a command
-pub goes_to_want : (plan : Plan) (v index : ℕ) (code : CodeState) (t : Table) (old now : Contents)
-    (before after_ : Faults) (command : Command) → IsNext plan.commands index command
-    → SoFar plan v index code old now → GoesOn plan t (Err OutOfMemory) old now before after_
-goes_to_want plan v index code t old now before after_ command next so_far =
+pub goes_to_out_of_memory : (plan : Plan) (v index : ℕ) (code : RunState) (t : Table) (old now : Contents)
+    (before after_ : Faults) (command : RunCommand) → IsNext plan.commands index command
+    → SoFar plan v index code old now → RunsToEnd plan t (Err OutOfMemory) old now before after_
+goes_to_out_of_memory plan v index code t old now before after_ command next so_far =
     let at = reaches_next plan so_far.state index so_far.effects command next so_far.steps in record {
       end = NoMemory;
       at = record { status = refl; text = refl; stopped = λ e. cc };
       effects = so_far.effects;
       ends = (so_far.state, command ∷ at.left, at.reaches);
-      fills = tt;
+      full_at = tt;
       leaves = so_far.is;
       cause = tt;
     }
 
 -- the arena was full, and the command may need it
-pub goes_to_full : (plan : Plan) (v index : ℕ) (code : CodeState) (t : Table) (old now : Contents)
-    (before after_ : Faults) (command : Command) (n : ℕ) → IsNext plan.commands index command
+pub goes_to_full : (plan : Plan) (v index : ℕ) (code : RunState) (t : Table) (old now : Contents)
+    (before after_ : Faults) (command : RunCommand) (n : ℕ) → IsNext plan.commands index command
     → SoFar plan v index code old now → MayFill command → IsFilled n t
-    → GoesOn plan t (Err (ArenaFull n)) old now before after_
+    → RunsToEnd plan t (Err (ArenaFull n)) old now before after_
 goes_to_full plan v index code t old now before after_ command n next so_far needs filled = record {
   end = NoRoom n;
   at = record { status = refl; text = refl; stopped = λ e. cc };
@@ -164,18 +164,18 @@ goes_to_full plan v index code t old now before after_ command n next so_far nee
     reaches_next plan so_far.state index so_far.effects command next so_far.steps,
     needs,
   );
-  fills = filled;
+  full_at = filled;
   leaves = so_far.is;
   cause = tt;
 }
 
 -- the effect of a command fails
-pub goes_to_fault : (plan : Plan) (v index : ℕ) (code code' : CodeState) (t : Table) (old now new : Contents)
-    (first before after_ : Faults) (command : Command) (stop : Stop) (act : Option Act)
+pub goes_to_fault : (plan : Plan) (v index : ℕ) (code code' : RunState) (t : Table) (old now new : Contents)
+    (first before after_ : Faults) (command : RunCommand) (stop : Stop) (asked : Option CodeEffect)
     → IsNext plan.commands index command → (so_far : SoFar plan v index code old now) → NotFewer first before
-    → StepsTo plan.input so_far.state command code' act → FailsAt stop (effects_of act) now new before after_
-    → GoesOn plan t (Err stop) old new first after_
-goes_to_fault plan v index code code' t old now new first before after_ command stop act next so_far fewer done
+    → StepsTo plan.input so_far.state command code' asked → FailsAt stop (effects_of asked) now new before after_
+    → RunsToEnd plan t (Err stop) old new first after_
+goes_to_fault plan v index code code' t old now new first before after_ command stop asked next so_far fewer done
     fails =
     record {
       end = Unwritable fails.effect;
@@ -190,15 +190,15 @@ goes_to_fault plan v index code code' t old now new first before after_ command 
           subst (λ (l : List Effect). Step plan.input so_far.state command (Done done.next l)) fails.one done.step,
         ),
       );
-      fills = tt;
+      full_at = tt;
       leaves = subst (λ (o : Contents). DoesPart fails.effect o new) so_far.is fails.part;
       cause = cause_since fails.effect now.files old.files first before after_ fewer fails.cause;
     }
 
 -- all commands are done
-pub goes_to_end : (plan : Plan) (v index : ℕ) (code : CodeState) (t : Table) (old now : Contents)
+pub goes_to_end : (plan : Plan) (v index : ℕ) (code : RunState) (t : Table) (old now : Contents)
     (before after_ : Faults) → length plan.commands ≤ index → SoFar plan v index code old now
-    → GoesOn plan t (Ok tt) old now before after_
+    → RunsToEnd plan t (Ok tt) old now before after_
 goes_to_end plan v index code t old now before after_ all so_far = record {
   end = Finished;
   at = refl;
@@ -211,7 +211,7 @@ goes_to_end plan v index code t old now before after_ all so_far = record {
       steps = so_far.steps;
     },
   );
-  fills = tt;
+  full_at = tt;
   leaves = so_far.is;
   cause = tt;
 }

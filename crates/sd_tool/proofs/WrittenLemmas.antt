@@ -23,24 +23,24 @@ use Rattle.sd_words.specs.declared.jobs.Job.{Job}
 use Rattle.sd_words.specs.declared.jobs.TreeWord.{TreeWord}
 use Rattle.sd_words.specs.declared.jobs.TreeWord.TheVariants as trees
 use Rattle.sd_commands.specs.Effects.{Effect, Write, Print}
-use Rattle.sd_commands.specs.Commands.{State, Done, Steps, IsTextOf, bound, formula_of, size_line}
+use Rattle.sd_commands.specs.Commands.{State, Done, Steps, IsTextOf, with_name, formula_named, size_line}
 use Rattle.sd_commands.specs.Standing.{start}
-use Rattle.sd_commands.specs.declared.command.Command.{Command}
-use Rattle.sd_commands.specs.declared.command.Command.TheVariants as commands
+use Rattle.sd_commands.specs.declared.command.RunCommand.{RunCommand}
+use Rattle.sd_commands.specs.declared.command.RunCommand.TheVariants as commands
 use Rattle.sd_tool.specs.Effects.{Contents, after}
 use Rattle.sd_tool.specs.Readings.{Plan, Input, Begins, Refuses, Text, Whole, TooLong, ReadsTo, IsText}
 use Rattle.sd_tool.specs.Readings.{reading_of, with_job, with_input_word, with_input, with_formula, with_tree_word}
-use Rattle.sd_tool.specs.Readings.{with_tree, with_vtree_reading, with_commands, plan_for, for_file, stated}
+use Rattle.sd_tool.specs.Readings.{with_tree, with_vtree_reading, with_commands, plan_for, for_file, default_of}
 use Rattle.sd_tool.specs.Readings.{input_file, is_plain}
 use Rattle.sd_tool.specs.declared.refusal.Refusal.TheVariants as refusals
 use Rattle.sd_tool.specs.Ends.{Finished}
 use Rattle.sd_tool.specs.Devices.{Moment}
-use Rattle.sd_tool.specs.Course.{Comes}
-use Rattle.sd_tool.specs.Headline.{Went}
+use Rattle.sd_tool.specs.Course.{MayEnd}
+use Rattle.sd_tool.specs.Headline.{IsCourse}
 use Rattle.sd_tool.specs.Written.{IsInput, IsStartTree, IsWritten, HasWritten, HasEqualTexts, with_output}
 use Rattle.sd_tool.proofs.ByStatus.{effects_at}
 use Rattle.sd_tool.proofs.OneCourse.{one_tree, whole_plan}
-use Rattle.sd_tool.proofs.NoWant.{valid_start}
+use Rattle.sd_tool.proofs.NotOutOfMemory.{valid_start}
 
 -- a plan is that of an input and its tree, with the stated commands
 record FromInput (words : List (List ℕ)) (files : Files) (job : Job) (plan : Plan) : Type 0 where
@@ -48,14 +48,14 @@ record FromInput (words : List (List ℕ)) (files : Files) (job : Job) (plan : P
   tree : Tree
   input : IsInput words files job formula
   start : IsStartTree files job.tree formula.variables tree
-  is : plan ≡ plan_for job formula tree (stated job)
+  is : plan ≡ plan_for job formula tree (default_of job)
 
 -- a plan over a tree is that of this tree
 from_tree : (told : Option Files) (job : Job) (f : Groups) (tree : Tree) (plan : Plan) → job.script ≡ None
-    → ReadsTo told (with_tree job f tree) (Begins plan) → plan ≡ plan_for job f tree (stated job)
+    → ReadsTo told (with_tree job f tree) (Begins plan) → plan ≡ plan_for job f tree (default_of job)
 from_tree told job f tree plan alone p =
-    let begin = λ (l : List Command). Begins (plan_for job f tree l) in
-    let is : Begins plan ≡ Begins (plan_for job f tree (stated job)) =
+    let begin = λ (l : List RunCommand). Begins (plan_for job f tree l) in
+    let is : Begins plan ≡ Begins (plan_for job f tree (default_of job)) =
     subst (λ script. ReadsTo told (with_commands job f.variables begin script) (Begins plan)) alone p in
     cc
 
@@ -63,7 +63,7 @@ from_tree told job f tree plan alone p =
 record FromTree (files : Files) (job : Job) (f : Groups) (plan : Plan) : Type 0 where
   tree : Tree
   start : IsStartTree files job.tree f.variables tree
-  is : plan ≡ plan_for job f tree (stated job)
+  is : plan ≡ plan_for job f tree (default_of job)
 
 -- a tree of the word is the tree of the plan
 found_tree : (files : Files) (job : Job) (f : Groups) (plan : Plan) (word : TreeWord) (tree : Tree) → job.tree ≡ word
@@ -120,7 +120,7 @@ from_text words files job input plan (Whole bytes) named plain alone is has p =
         is_input = is;
         bytes = bytes;
         there = has.0;
-        short = has.1;
+        fits = has.1;
         reads = found.1;
       };
       start = found.2.start;
@@ -159,19 +159,20 @@ writes_to (Some file) bytes = Write file bytes ∷ []
 -- what the commands of a plan do, where name 0 is bound
 record AllDone (state : State) (out_vtree out_sdd : Option (List ℕ)) (effects : List Effect) : Type 0 where
   diagram : Diagram
-  of_value : IsDiagramOf state.tree (formula_of state 0) diagram
+  of_value : IsDiagramOf state.tree (formula_named state 0) diagram
   are : effects
       ≡ writes_to out_vtree (vtree_text state.tree) ++ writes_to out_sdd (sdd_text diagram)
       ++ Print (size_line (size_of (diagram ∷ []))) ∷ []
 
 -- a first command with one effect, and the others after it
-record Before (input : Expression) (state last : State) (rest : List Command) (effect : Effect) (effects : List Effect)
+record Before (input : Expression) (state last : State) (rest : List RunCommand) (effect : Effect)
+    (effects : List Effect)
     : Type 0 where
   others : List Effect
   steps : Steps input state rest others last
   are : effects ≡ effect ∷ others
 
-first_done : (input : Expression) (state mid last : State) (rest : List Command) (effect : Effect)
+first_done : (input : Expression) (state mid last : State) (rest : List RunCommand) (effect : Effect)
     (first others effects : List Effect) → Done mid first ≡ Done state (effect ∷ [])
     → Steps input mid rest others last → effects ≡ first ++ others → Before input state last rest effect effects
 first_done input state mid last rest effect first others effects done steps is =
@@ -182,15 +183,16 @@ first_done input state mid last rest effect first others effects done steps is =
       are = is ∙ ap (λ (l : List Effect). l ++ others) wrote;
     }
 
-vtree_done : (input : Expression) (state last : State) (file : List ℕ) (rest : List Command) (effects : List Effect)
+vtree_done : (input : Expression) (state last : State) (file : List ℕ) (rest : List RunCommand) (effects : List Effect)
     → Steps input state (commands.WriteVtree file ∷ rest) effects last
     → Before input state last rest (Write file (vtree_text state.tree)) effects
 vtree_done input state last file rest effects (mid, first, others, step, steps, is) =
     first_done input state mid last rest _ first others effects step steps is
 
-diagram_done : (input : Expression) (state last : State) (file : List ℕ) (rest : List Command) (effects : List Effect)
+diagram_done : (input : Expression) (state last : State) (file : List ℕ) (rest : List RunCommand)
+    (effects : List Effect)
     → Steps input state (commands.Write 0 file ∷ rest) effects last
-    → (text : List ℕ) × IsTextOf state.tree (formula_of state 0) text
+    → (text : List ℕ) × IsTextOf state.tree (formula_named state 0) text
     × Before input state last rest (Write file text) effects
 diagram_done input state last file rest effects (mid, first, others, step, steps, is) =
     (step.0, step.1, first_done input state mid last rest _ first others effects step.2 steps is)
@@ -204,11 +206,11 @@ one_diagram t f (d ∷ e ∷ ds) p = absurd p.1
 -- the size is printed last
 size_done : (input : Expression) (state last : State) (effects : List Effect)
     → Steps input state (commands.Size 0 ∷ []) effects last
-    → (d : Diagram) × IsDiagramOf state.tree (formula_of state 0) d
+    → (d : Diagram) × IsDiagramOf state.tree (formula_named state 0) d
     × (effects ≡ Print (size_line (size_of (d ∷ []))) ∷ [])
 size_done input state last effects (mid, first, others, step, steps, is) =
     let before = first_done input state mid last [] _ first others effects step.2 steps is in
-    let found = one_diagram state.tree (formula_of state 0) step.1.diagrams step.1.each in
+    let found = one_diagram state.tree (formula_named state 0) step.1.diagrams step.1.each in
     let size : step.0 ≡ size_of (found.0 ∷ []) = sym step.1.size ∙ ap size_of found.2 in (
       found.0,
       found.1,
@@ -233,7 +235,7 @@ diagram_and_size input state last file effects valid p =
       of_value = two.1;
       are = one.2.are ∙ ap (λ (l : List Effect). Write file one.0 ∷ l) two.2
           ∙ ap (λ text. Write file text ∷ Print (size_line (size_of (two.0 ∷ []))) ∷ [])
-          (same_text state.tree (formula_of state 0) two.0 one.0 valid one.1 two.1);
+          (same_text state.tree (formula_named state 0) two.0 one.0 valid one.1 two.1);
     }
 
 size_alone : (input : Expression) (state last : State) (effects : List Effect)
@@ -265,19 +267,19 @@ all_done input state last (Some file) (Some other) effects valid p =
     }
 
 -- name 0 is bound to the input first, without an effect
-record AfterInput (input : Expression) (state last : State) (rest : List Command) (effects : List Effect)
+record AfterInput (input : Expression) (state last : State) (rest : List RunCommand) (effects : List Effect)
     : Type 0 where
-  steps : Steps input (bound state 0 input) rest effects last
+  steps : Steps input (with_name state 0 input) rest effects last
 
-input_done : (input : Expression) (state last : State) (rest : List Command) (effects : List Effect)
+input_done : (input : Expression) (state last : State) (rest : List RunCommand) (effects : List Effect)
     → Steps input state (commands.Input 0 ∷ rest) effects last → AfterInput input state last rest effects
 input_done input state last rest effects (mid, first, others, step, steps, is) =
-    let done : Done mid first ≡ Done (bound state 0 input) [] = step in
-    let same : mid ≡ bound state 0 input = cc in
+    let done : Done mid first ≡ Done (with_name state 0 input) [] = step in
+    let same : mid ≡ with_name state 0 input = cc in
     let none : first ≡ [] = cc in
     let all : effects ≡ others = is ∙ ap (λ (l : List Effect). l ++ others) none in
     record {
-      steps = subst (λ l. Steps input (bound state 0 input) rest l last) (sym all)
+      steps = subst (λ l. Steps input (with_name state 0 input) rest l last) (sym all)
           (subst (λ s. Steps input s rest others last) same steps);
     }
 
@@ -303,7 +305,7 @@ printed_after (Some file) (Some other) vtree diagram line old = refl
 
 -- the state of a plan once its formula is bound
 abbrev compiled : Job → Groups → Tree → State
-compiled job formula tree = bound (start tree job.limit) 0 (expression_of formula)
+compiled job formula tree = with_name (start tree job.limit) 0 (expression_of formula)
 
 -- these effects write the formula's texts
 writes : (files : Files) (job : Job) (formula : Groups) (tree : Tree) (effects : List Effect) (old new : Contents)
@@ -325,7 +327,7 @@ plan_writes : (words : List (List ℕ)) (files : Files) (job : Job) (plan : Plan
     → Steps plan.input plan.start plan.commands effects last → new ≡ after effects old
     → IsWritten files job from.formula from.tree old new
 plan_writes words files job plan last effects old new told from valid steps is =
-    let own = plan_for job from.formula from.tree (stated job) in
+    let own = plan_for job from.formula from.tree (default_of job) in
     let own_steps = subst (λ (p : Plan). Steps p.input p.start p.commands effects last) from.is steps in
     let own_valid = subst (λ (p : Plan). IsVtree p.start.tree) from.is valid in
     let after_input = input_done own.input own.start last
@@ -337,13 +339,13 @@ plan_writes words files job plan last effects old new told from valid steps is =
 
 -- at status 0 the formula of the input was written
 pub written_at : (words : List (List ℕ)) (status : ℕ) (kept : Option Table) (old new : Moment)
-    → Went words status kept old new → HasWritten words status old new
+    → IsCourse words status kept old new → HasWritten words status old new
 written_at words status kept old new went = λ files job zero_ told named alone.
     let all = (effects_at words status kept old new went).all zero_ in
-    go files job told named alone all.0 (subst (λ f. Comes words f all.0 Finished) told all.1) all.2
+    go files job told named alone all.0 (subst (λ f. MayEnd words f all.0 Finished) told all.1) all.2
   where
     go : (files : Files) (job : Job) → old.contents.files ≡ Some files → job_of words ≡ Ok job → job.script ≡ None
-        → (effects : List Effect) → Comes words (Some files) effects Finished
+        → (effects : List Effect) → MayEnd words (Some files) effects Finished
         → new.contents ≡ after effects old.contents
         → (formula : Groups) × (tree : Tree) × IsInput words files job formula
         × IsStartTree files job.tree formula.variables tree × IsWritten files job formula tree old.contents new.contents

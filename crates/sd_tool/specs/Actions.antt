@@ -6,11 +6,11 @@ use Rattle.sd_script.specs.declared.command.Action.{Action}
 use Rattle.sd_script.specs.declared.command.Action.TheVariants as actions
 use Rattle.sd_script.specs.declared.command.Command.{Command as Line}
 use Rattle.sd_commands.specs.Fits.{AllFit, uses, binds, frees, in_range, bound_after}
-use Rattle.sd_commands.specs.declared.command.Command.{Command}
-use Rattle.sd_commands.specs.declared.command.Command.TheVariants as commands
+use Rattle.sd_commands.specs.declared.command.RunCommand.{RunCommand}
+use Rattle.sd_commands.specs.declared.command.RunCommand.TheVariants as commands
 
 -- the command of an action without a file, if runs have it yet
-abbrev pub plain_of : Action → Option Command
+abbrev pub plain_of : Action → Option RunCommand
 plain_of (actions.Input n) = Some (commands.Input n)
 plain_of (actions.Lit n literal) = Some (commands.Literal n literal)
 plain_of (actions.Constant n value) = Some (commands.Constant n value)
@@ -23,7 +23,7 @@ plain_of (actions.Value a bits) = Some (commands.Value a bits)
 plain_of action = None
 
 -- the command uses, binds and frees the names of the action, and is in range where the action is
-pub record IsCommandOf (v : ℕ) (action : Action) (command : Command) : Type 0 where
+pub record IsCommandOf (v : ℕ) (action : Action) (command : RunCommand) : Type 0 where
   pub uses : uses command ≡ script.uses action
   pub binds : binds command ≡ script.binds action
   pub frees : frees command ≡ script.frees action
@@ -31,7 +31,7 @@ pub record IsCommandOf (v : ℕ) (action : Action) (command : Command) : Type 0 
 
 -- The first lines of a script have become these commands: each fits behind those before it, and they bind the names
 -- that the lines bind.
-pub record Becomes (v : ℕ) (lines : List Line) (index : ℕ) (done : List Command) : Type 0 where
+pub record AreCommandsOf (v : ℕ) (lines : List Line) (index : ℕ) (done : List RunCommand) : Type 0 where
   pub count : length done ≡ index
   pub names : fold bound_after [] done ≡ script.bound (take index lines)
   pub fit : AllFit v [] done

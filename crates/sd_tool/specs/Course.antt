@@ -3,12 +3,12 @@ use Rattle.std.specs.Prelude.{◌≡◌, ◌⊎◌, ℕ, List, [], ◌∷◌, �
 use Rattle.sd_base.specs.Files.{Files}
 use Rattle.sd_commands.specs.Effects.{Effect}
 use Rattle.sd_commands.specs.Commands.{State, Done, Step, Steps, MayFill}
-use Rattle.sd_commands.specs.declared.command.Command.{Command}
+use Rattle.sd_commands.specs.declared.command.RunCommand.{RunCommand}
 use Rattle.sd_tool.specs.Effects.{Contents, after, DoesPart}
 use Rattle.sd_tool.specs.Readings.{Plan, Reading, Refuses, Begins, Reads, reading_of, ReadsTo}
 use Rattle.sd_tool.specs.Ends.{End, Finished, Refused, Unreadable, Unwritable, OutOfMemory, ArenaFull}
 
--- The run ends at its readings, before any command: refused, at a file that it asks for, or for want of memory.
+-- The run ends at its readings, before any command: refused, at a file that it asks for, or out of memory.
 abbrev pub EndsReading : Option Files → Reading → End → Type 0
 EndsReading files reading Finished = ⊥
 EndsReading files reading (Refused refusal) = ReadsTo files reading (Refuses refusal)
@@ -18,14 +18,14 @@ EndsReading files reading OutOfMemory = Unit {0}
 EndsReading files reading (ArenaFull elements) = ⊥
 
 -- The first commands of a plan are done with these effects, and the others are left.
-pub record Reaches (plan : Plan) (effects : List Effect) (state : State) (left : List Command) : Type 0 where
-  pub done : List Command
+pub record Reaches (plan : Plan) (effects : List Effect) (state : State) (left : List RunCommand) : Type 0 where
+  pub done : List RunCommand
   pub in_order : done ++ left ≡ plan.commands
   pub steps : Steps plan.input plan.start done effects state
 
 -- the same, and there is a next command
-pub record IsAt (plan : Plan) (effects : List Effect) (state : State) (next : Command) : Type 0 where
-  pub left : List Command
+pub record IsAtCommand (plan : Plan) (effects : List Effect) (state : State) (next : RunCommand) : Type 0 where
+  pub left : List RunCommand
   pub reaches : Reaches plan effects state (next ∷ left)
 
 -- The run ends among its commands, after these effects: all are done, the effect of the next fails, for want of
@@ -35,15 +35,15 @@ EndsAmong plan effects Finished = (state : State) × Reaches plan effects state 
 EndsAmong plan effects (Refused refusal) = ⊥
 EndsAmong plan effects (Unreadable file) = ⊥
 EndsAmong plan effects (Unwritable effect) =
-    (state : State) × (next : Command) × IsAt plan effects state next
+    (state : State) × (next : RunCommand) × IsAtCommand plan effects state next
     × ((then_on : State) × Step plan.input state next (Done then_on (effect ∷ [])))
-EndsAmong plan effects OutOfMemory = (state : State) × (left : List Command) × Reaches plan effects state left
+EndsAmong plan effects OutOfMemory = (state : State) × (left : List RunCommand) × Reaches plan effects state left
 EndsAmong plan effects (ArenaFull elements) =
-    (state : State) × (next : Command) × IsAt plan effects state next × MayFill next
+    (state : State) × (next : RunCommand) × IsAtCommand plan effects state next × MayFill next
 
 -- After these effects, a run with these words over these files may come to this end.
-abbrev pub Comes : List (List ℕ) → Option Files → List Effect → End → Type 0
-Comes words files effects end =
+abbrev pub MayEnd : List (List ℕ) → Option Files → List Effect → End → Type 0
+MayEnd words files effects end =
     (EndsReading files (reading_of words) end × (effects ≡ []))
     ⊎ ((plan : Plan) × ReadsTo files (reading_of words) (Begins plan) × EndsAmong plan effects end)
 

@@ -41,20 +41,20 @@ pub record NoneRose (before now : Faults) : Type 0 where
   pub print : ¬ (Rose before.print now.print)
 
 -- A device fault has its cause: its count rose, or the shelf tells that there is no such file.
-abbrev pub HasCause : End → Option Files → Faults → Faults → Type 0
-HasCause (Unreadable file) files before now = Lacks files file ⊎ Rose before.read now.read
-HasCause (Unwritable (Write file bytes)) files before now = Rose before.write now.write
-HasCause (Unwritable (Print line)) files before now = Rose before.print now.print
-HasCause end files before now = Unit {0}
+abbrev pub HasDeviceCause : End → Option Files → Faults → Faults → Type 0
+HasDeviceCause (Unreadable file) files before now = Lacks files file ⊎ Rose before.read now.read
+HasDeviceCause (Unwritable (Write file bytes)) files before now = Rose before.write now.write
+HasDeviceCause (Unwritable (Print line)) files before now = Rose before.print now.print
+HasDeviceCause end files before now = Unit {0}
 
--- This line was appended, or a front of it where the sink has failed.
-abbrev pub Says : List ℕ → Option (List ℕ) → Option (List ℕ) → ℕ → ℕ → Type 0
-Says line old new before now = (new ≡ told_then old line) ⊎ (AppendsPart old line new × Rose before now)
+-- This line was appended, or a prefix of it where the sink has failed.
+abbrev pub WritesLine : List ℕ → Option (List ℕ) → Option (List ℕ) → ℕ → ℕ → Type 0
+WritesLine line old new before now = (new ≡ told_then old line) ⊎ (AppendsPart old line new × Rose before now)
 
 -- At the end of all commands `err` is unchanged; each other end has its one line there.
-abbrev pub SaysLine : End → Moment → Moment → Type 0
-SaysLine Finished old new = new.errors ≡ old.errors
-SaysLine end old new = Says (line_of (text_of end)) old.errors new.errors old.err_faults new.err_faults
+abbrev pub WritesEndLine : End → Moment → Moment → Type 0
+WritesEndLine Finished old new = new.errors ≡ old.errors
+WritesEndLine end old new = WritesLine (line_of (text_of end)) old.errors new.errors old.err_faults new.err_faults
 
 -- the moment of a shelf, `out` and `err` by what they tell and count
 abbrev pub moment : {F O E : Type 0} → (F → Option Files) → (F → ℕ) → (F → ℕ)

@@ -19,7 +19,7 @@ abbrev pub after : List Effect → Contents → Contents
 after [] contents = contents
 after (effect ∷ effects) contents = after effects (after_effect effect contents)
 
--- the file of the effect is unchanged or holds a front of its bytes, or a front of its line was printed
+-- the file of the effect is unchanged or holds a prefix of its bytes, or a prefix of its line was printed
 abbrev pub DoesPart : Effect → Contents → Contents → Type 0
 DoesPart (Write file bytes) old new = WritesPart old.files file bytes new.files × (new.printed ≡ old.printed)
 DoesPart (Print line) old new = AppendsPart old.printed line new.printed × (new.files ≡ old.files)

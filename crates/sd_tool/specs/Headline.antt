@@ -13,77 +13,77 @@ use Rattle.sd_tool.specs.Refusals.{IsOfText, refusal_status}
 use Rattle.sd_tool.specs.declared.refusal.Refusal.{Refusal}
 use Rattle.sd_tool.specs.Ends.{End, Finished, Refused, Unreadable, Unwritable, OutOfMemory, ArenaFull}
 use Rattle.sd_tool.specs.Ends.{status_of}
-use Rattle.sd_tool.specs.Devices.{Moment, NoneRose, HasCause, SaysLine}
-use Rattle.sd_tool.specs.Course.{Comes, Leaves}
-use Rattle.sd_tool.specs.Kept.{Keeps}
+use Rattle.sd_tool.specs.Devices.{Moment, NoneRose, HasDeviceCause, WritesEndLine}
+use Rattle.sd_tool.specs.Course.{MayEnd, Leaves}
+use Rattle.sd_tool.specs.KeptManager.{KeepsManager}
 use Rattle.sd_tool.specs.Written.{IsInput, IsStartTree}
 
 -- How the run went: what it did and how it ended, where the words and the files lead; the status, the files and
 -- what was printed, the cause, what is kept and the line are those of this one course.
-pub record Went (words : List (List ℕ)) (status : ℕ) (kept : Option Table) (old new : Moment) : Type 0 where
+pub record IsCourse (words : List (List ℕ)) (status : ℕ) (kept : Option Table) (old new : Moment) : Type 0 where
   pub effects : List Effect
   pub end : End
-  pub comes : Comes words old.contents.files effects end
+  pub may_end : MayEnd words old.contents.files effects end
   pub status_is : status ≡ status_of end
   pub leaves : Leaves effects end old.contents new.contents
-  pub cause : HasCause end old.contents.files old.faults new.faults
-  pub keeps : Keeps end kept
-  pub line : SaysLine end old new
+  pub cause : HasDeviceCause end old.contents.files old.faults new.faults
+  pub keeps : KeepsManager end kept
+  pub line : WritesEndLine end old new
 
 -- What was done outside: at status 0 all effects of the run, at 1, 2, 3, 5 and 9 none, at 7 and 8 those of the first
 -- commands, at 6 those before the effect in hand, and a part of that one.
 pub record HasEffects (words : List (List ℕ)) (status : ℕ) (old new : Moment) : Type 0 where
   pub all : status ≡ 0 → (effects : List Effect)
-      × Comes words old.contents.files effects Finished × (new.contents ≡ after effects old.contents)
+      × MayEnd words old.contents.files effects Finished × (new.contents ≡ after effects old.contents)
   pub none : (status ≡ 1) ⊎ (status ≡ 2) ⊎ (status ≡ 3) ⊎ (status ≡ 5) ⊎ (status ≡ 9) → new.contents ≡ old.contents
   pub first : status ≡ 7 → (effects : List Effect)
-      × Comes words old.contents.files effects OutOfMemory × (new.contents ≡ after effects old.contents)
+      × MayEnd words old.contents.files effects OutOfMemory × (new.contents ≡ after effects old.contents)
   pub full : status ≡ 8 → (effects : List Effect) × (elements : ℕ)
-      × Comes words old.contents.files effects (ArenaFull elements) × (new.contents ≡ after effects old.contents)
+      × MayEnd words old.contents.files effects (ArenaFull elements) × (new.contents ≡ after effects old.contents)
   pub in_hand : status ≡ 6 → (effects : List Effect) × (effect : Effect)
-      × Comes words old.contents.files effects (Unwritable effect)
+      × MayEnd words old.contents.files effects (Unwritable effect)
       × DoesPart effect (after effects old.contents) new.contents
 
 -- The line: none at status 0, else the one line of an end with this status.
 abbrev pub HasLine : ℕ → Moment → Moment → Type 0
-HasLine status old new = (end : End) × (status ≡ status_of end) × SaysLine end old new
+HasLine status old new = (end : End) × (status ≡ status_of end) × WritesEndLine end old new
 
--- The words or a text were refused; the line says why, and that is never want of memory.
+-- The words or a text were refused; the line says why, and running out of memory is no such reason.
 pub record IsRefused (words : List (List ℕ)) (status : ℕ) (old new : Moment) : Type 0 where
   pub refusal : Refusal
   pub status_is : status ≡ refusal_status refusal
   pub led : ReadsTo old.contents.files (reading_of words) (Refuses refusal)
   pub of_text : IsOfText refusal
-  pub line : SaysLine (Refused refusal) old new
+  pub line : WritesEndLine (Refused refusal) old new
 
 -- An input file was asked for and not read; the line names it.
 pub record CouldNotRead (words : List (List ℕ)) (old new : Moment) : Type 0 where
   pub file : List ℕ
   pub asked : (next : _) × ReadsTo old.contents.files (reading_of words) (Reads file next)
-  pub cause : HasCause (Unreadable file) old.contents.files old.faults new.faults
-  pub line : SaysLine (Unreadable file) old new
+  pub cause : HasDeviceCause (Unreadable file) old.contents.files old.faults new.faults
+  pub line : WritesEndLine (Unreadable file) old new
 
 -- An effect of the run was in hand and failed; the line names it.
 pub record CouldNotWrite (words : List (List ℕ)) (old new : Moment) : Type 0 where
   pub effects : List Effect
   pub effect : Effect
-  pub in_hand : Comes words old.contents.files effects (Unwritable effect)
-  pub cause : HasCause (Unwritable effect) old.contents.files old.faults new.faults
-  pub line : SaysLine (Unwritable effect) old new
+  pub in_hand : MayEnd words old.contents.files effects (Unwritable effect)
+  pub cause : HasDeviceCause (Unwritable effect) old.contents.files old.faults new.faults
+  pub line : WritesEndLine (Unwritable effect) old new
 
 -- The arena was full: all readings were accepted, the command in hand is one that may need the arena, and the manager
 -- that refused is kept, whose bound the number passes; the line has that number.
 pub record WasFull (words : List (List ℕ)) (kept : Option Table) (old new : Moment) : Type 0 where
   pub elements : ℕ
   pub effects : List Effect
-  pub in_hand : Comes words old.contents.files effects (ArenaFull elements)
+  pub in_hand : MayEnd words old.contents.files effects (ArenaFull elements)
   pub manager : Table
   pub is_kept : kept ≡ Some manager
   pub filled : IsFilled elements manager
-  pub line : SaysLine (ArenaFull elements) old new
+  pub line : WritesEndLine (ArenaFull elements) old new
 
 -- When each status comes, and that a manager is kept at 8 alone. That a refusal comes wherever it may is the other
--- half, in `IsComplete` and `Went`.
+-- half, in `IsComplete` and `IsCourse`.
 pub record HasEnd (words : List (List ℕ)) (status : ℕ) (kept : Option Table) (old new : Moment) : Type 0 where
   pub one_of : (status ≡ 0) ⊎ (status ≡ 1) ⊎ (status ≡ 2) ⊎ (status ≡ 3) ⊎ (status ≡ 5) ⊎ (status ≡ 6)
       ⊎ (status ≡ 7) ⊎ (status ≡ 8) ⊎ (status ≡ 9)
@@ -108,5 +108,5 @@ pub record IsComplete (words : List (List ℕ)) (status : ℕ) (old new : Moment
       → IsStartTree files job.tree formula.variables tree
       → (status ≡ 0) ⊎ (status ≡ 7) ⊎ (status ≡ 8)
   pub own : (files : Files) (effects : List Effect) (end : End) → old.contents.files ≡ Some files
-      → NoneRose old.faults new.faults → IsOwn end → Comes words (Some files) effects end
+      → NoneRose old.faults new.faults → IsOwn end → MayEnd words (Some files) effects end
       → ((status ≡ status_of end) × (new.contents ≡ after effects old.contents)) ⊎ (status ≡ 7) ⊎ (status ≡ 8)

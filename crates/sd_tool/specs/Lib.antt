@@ -3,9 +3,9 @@ pub mod Course
 pub mod Devices
 pub mod Effects
 pub mod Ends
-pub mod Given
+pub mod PlanViews
 pub mod Headline
-pub mod Kept
+pub mod KeptManager
 pub mod Parts
 pub mod Readings
 pub mod Refusals

@@ -30,8 +30,8 @@ use Rattle.sd_words.specs.declared.jobs.TreeWord.TheVariants as trees
 use Rattle.sd_words.specs.declared.faults.WordsFault.{WordsFault}
 use Rattle.sd_commands.specs.Commands.{State}
 use Rattle.sd_commands.specs.Standing.{start}
-use Rattle.sd_commands.specs.declared.command.Command.{Command}
-use Rattle.sd_commands.specs.declared.command.Command.TheVariants as commands
+use Rattle.sd_commands.specs.declared.command.RunCommand.{RunCommand}
+use Rattle.sd_commands.specs.declared.command.RunCommand.TheVariants as commands
 use Rattle.sd_tool.specs.declared.refusal.Refusal.{Refusal}
 use Rattle.sd_tool.specs.declared.refusal.Refusal.TheVariants.{NotYet, BadWords, BadFormula, BadVtree, BadSdd}
 use Rattle.sd_tool.specs.declared.refusal.Refusal.TheVariants.{BadScript, LongScript, TooLong as LongFile}
@@ -40,7 +40,7 @@ use Rattle.sd_tool.specs.declared.refusal.Refusal.TheVariants.{BadScript, LongSc
 pub record Plan : Type 0 where
   pub input : Expression
   pub start : State
-  pub commands : List Command
+  pub commands : List RunCommand
 
 -- what reading a file gives: its bytes, or that it is too long
 pub data Text : Type 0 where
@@ -71,13 +71,13 @@ is_plain job = is_none job.minimise && (is_none job.every && (job.slack == 200 &
 -- ---- the commands
 
 -- a command for a file that is there
-abbrev pub for_file : (List ℕ → Command) → Option (List ℕ) → List Command
+abbrev pub for_file : (List ℕ → RunCommand) → Option (List ℕ) → List RunCommand
 for_file command None = []
 for_file command (Some file) = command file ∷ []
 
 -- Without a script the formula is compiled, its vtree and its diagram are written, and then its size is printed.
-abbrev pub stated : Job → List Command
-stated job =
+abbrev pub default_of : Job → List RunCommand
+default_of job =
     commands.Input 0 ∷ for_file commands.WriteVtree job.out_vtree ++ for_file (commands.Write 0) job.out_sdd
     ++ commands.Size 0 ∷ []
 
@@ -105,7 +105,7 @@ with_sdd v file next TooLong = Refuses (LongFile file)
 with_sdd v file next (Whole bytes) = with_sdd_reading file next (sdd_file v bytes)
 
 -- a command of a script as one of the run; a file that it loads is read
-abbrev pub with_action : ℕ → Script → (Command → Reading) → Action → Reading
+abbrev pub with_action : ℕ → Script → (RunCommand → Reading) → Action → Reading
 with_action v script next (actions.Input n) = next (commands.Input n)
 with_action v script next (actions.Load n file) =
     Reads (file_name script file) (with_sdd v (file_name script file) (λ read. next (commands.Load n read)))
@@ -122,37 +122,37 @@ with_action v script next (actions.Vtree file) = next (commands.WriteVtree (file
 with_action v script next action = Refuses NotYet
 
 -- the commands of these lines, behind others
-abbrev pub with_lines : ℕ → Script → (List Command → Reading) → List Command → List Line → Reading
+abbrev pub with_lines : ℕ → Script → (List RunCommand → Reading) → List RunCommand → List Line → Reading
 with_lines v script begin done [] = begin done
 with_lines v script begin done (line ∷ lines) =
     with_action v script (λ command. with_lines v script begin (done ++ command ∷ []) lines) line.action
 
 -- a script, if runs have its commands yet; no file is read before that is known
-abbrev pub with_script : ℕ → (List Command → Reading) → Script → Reading
-with_script v begin script =
+abbrev pub script_reading : ℕ → (List RunCommand → Reading) → Script → Reading
+script_reading v begin script =
     if list_all (λ (line : Line). is_served line.action) script.commands
     then with_lines v script begin [] script.commands
     else Refuses NotYet
 
 -- a script that was read, or the refusal of its text
-abbrev pub with_script_reading : List ℕ → ℕ → (List Command → Reading) → Result Script ScriptFault → Reading
+abbrev pub with_script_reading : List ℕ → ℕ → (List RunCommand → Reading) → Result Script ScriptFault → Reading
 with_script_reading file v begin (Err fault) = Refuses (BadScript file fault)
-with_script_reading file v begin (Ok script) = with_script v begin script
+with_script_reading file v begin (Ok script) = script_reading v begin script
 
 -- the text of a script over v variables
-abbrev pub with_script_text : List ℕ → ℕ → (List Command → Reading) → Text → Reading
+abbrev pub with_script_text : List ℕ → ℕ → (List RunCommand → Reading) → Text → Reading
 with_script_text file v begin TooLong = Refuses (LongScript file)
 with_script_text file v begin (Whole bytes) = with_script_reading file v begin (script_of v bytes)
 
 -- the commands of a job: those of its script, or the stated ones
-abbrev pub with_commands : Job → ℕ → (List Command → Reading) → Option (List ℕ) → Reading
-with_commands job v begin None = begin (stated job)
+abbrev pub with_commands : Job → ℕ → (List RunCommand → Reading) → Option (List ℕ) → Reading
+with_commands job v begin None = begin (default_of job)
 with_commands job v begin (Some file) = Reads file (with_script_text file v begin)
 
 -- ---- the formula and its tree
 
 -- what commands begin with: the formula, no name, the tree, and the job's limit
-abbrev pub plan_for : Job → Groups → Tree → List Command → Plan
+abbrev pub plan_for : Job → Groups → Tree → List RunCommand → Plan
 plan_for job formula tree commands = record {
   input = expression_of formula;
   start = start tree job.limit;

@@ -26,7 +26,7 @@ refusal_status (BadSdd file fault) = 2
 refusal_status (LongScript file) = 3
 refusal_status (BadScript file fault) = 3
 
--- the fault is one of the words or of a text: want of memory is none
+-- the fault is one of the words or of a text: OutOfMemory is none
 abbrev pub IsOfText : Refusal → Type 0
 IsOfText (BadWords words.OutOfMemory) = ⊥
 IsOfText (BadFormula file formula.OutOfMemory) = ⊥

@@ -1,4 +1,4 @@
--- What the stops and the acts of the code say, for the contracts of its private functions.
+-- What the stops and the effects of the code say, for the contracts of its private functions.
 use Rattle.std.specs.Prelude.{Bool, true, false, ◌≡◌, ◌≢◌, ◌⊎◌, ℕ, ◌≤◌, List, [], ◌∷◌, length, Option, Some, None}
 use Rattle.std.specs.Prelude.{Result, Ok, Err}
 use Rattle.sd_base.specs.Faults.{Rose}
@@ -10,9 +10,9 @@ use Rattle.sd_tool.specs.Effects.{Contents, DoesPart}
 use Rattle.sd_tool.specs.Readings.{Plan, Reading, Refuses, Reads, ReadsTo, Text, Whole, TooLong}
 use Rattle.sd_tool.specs.Ends.{End, Finished, Refused, Unreadable, Unwritable, OutOfMemory as NoMemory}
 use Rattle.sd_tool.specs.Ends.{ArenaFull as NoRoom, status_of, text_of}
-use Rattle.sd_tool.specs.Kept.{Keeps}
-use Rattle.sd_tool.specs.Devices.{HasCause, Faults}
-use Rattle.sd_tool.specs.Course.{EndsAmong, Comes, Leaves}
+use Rattle.sd_tool.specs.KeptManager.{KeepsManager}
+use Rattle.sd_tool.specs.Devices.{HasDeviceCause, Faults}
+use Rattle.sd_tool.specs.Course.{EndsAmong, MayEnd, Leaves}
 use Rattle.sd_tool.specs.declared.refusal.Refusal.{Refusal}
 use Rattle.sd_tool.specs.declared.stop.Stop.{Stop}
 use Rattle.sd_tool.specs.declared.stop.Stop.TheVariants as stops
@@ -50,9 +50,9 @@ is_full (stops.ArenaFull elements) = true
 is_full stop = false
 
 -- at a full arena the manager is the one that refused
-abbrev pub Fills : End → Table → Type 0
-Fills (NoRoom elements) t = IsFilled elements t
-Fills end t = Unit {0}
+abbrev pub IsFullAt : End → Table → Type 0
+IsFullAt (NoRoom elements) t = IsFilled elements t
+IsFullAt end t = Unit {0}
 
 -- the readings stop so
 abbrev pub StopsReading : Stop → Option Files → Reading → ℕ → ℕ → Type 0
@@ -63,15 +63,15 @@ StopsReading stops.OutOfMemory files reading before now = Unit {0}
 StopsReading stop files reading before now = ⊥
 
 -- the commands come to an end, with the result of the code and this manager
-pub record GoesOn (plan : Plan) (t : Table) (result : Result (Unit {0}) Stop) (old new : Contents)
+pub record RunsToEnd (plan : Plan) (t : Table) (result : Result (Unit {0}) Stop) (old new : Contents)
     (before now : Faults) : Type 0 where
   pub end : End
   pub at : IsEnd result end
   pub effects : List Effect
   pub ends : EndsAmong plan effects end
-  pub fills : Fills end t
+  pub full_at : IsFullAt end t
   pub leaves : Leaves effects end old new
-  pub cause : HasCause end old.files before now
+  pub cause : HasDeviceCause end old.files before now
 
 -- the same, with what is kept
 pub record CarriesOut (plan : Plan) (kept : Option Table) (result : Result (Unit {0}) Stop) (old new : Contents)
@@ -80,9 +80,9 @@ pub record CarriesOut (plan : Plan) (kept : Option Table) (result : Result (Unit
   pub at : IsEnd result end
   pub effects : List Effect
   pub ends : EndsAmong plan effects end
-  pub keeps : Keeps end kept
+  pub keeps : KeepsManager end kept
   pub leaves : Leaves effects end old new
-  pub cause : HasCause end old.files before now
+  pub cause : HasDeviceCause end old.files before now
 
 -- the one effect failed, after a part of it
 pub record FailsAt (stop : Stop) (effects : List Effect) (old new : Contents) (before now : Faults) : Type 0 where
@@ -90,7 +90,7 @@ pub record FailsAt (stop : Stop) (effects : List Effect) (old new : Contents) (b
   pub one : effects ≡ effect ∷ []
   pub at : StandsFor stop (Unwritable effect)
   pub part : DoesPart effect old new
-  pub cause : HasCause (Unwritable effect) old.files before now
+  pub cause : HasDeviceCause (Unwritable effect) old.files before now
 
 -- the readings and the commands come to an end, with the result of the code and what is kept
 pub record Attempts (words : List (List ℕ)) (kept : Option Table) (result : Result (Unit {0}) Stop)
@@ -98,10 +98,10 @@ pub record Attempts (words : List (List ℕ)) (kept : Option Table) (result : Re
   pub end : End
   pub at : IsEnd result end
   pub effects : List Effect
-  pub comes : Comes words old.files effects end
-  pub keeps : Keeps end kept
+  pub may_end : MayEnd words old.files effects end
+  pub keeps : KeepsManager end kept
   pub leaves : Leaves effects end old new
-  pub cause : HasCause end old.files before now
+  pub cause : HasDeviceCause end old.files before now
 
 -- ---- the readings, step by step
 
@@ -121,7 +121,7 @@ abbrev pub IsShort : Option (List ℕ) → Type 0
 IsShort None = Unit {0}
 IsShort (Some bytes) = length bytes ≤ 67108864
 
--- the stop at this refusal, or at want of memory
+-- the stop at this refusal, or at OutOfMemory
 abbrev pub StopsFor : Refusal → Stop → Type 0
 StopsFor refusal (stops.Refused found) = found ≡ refusal
 StopsFor refusal stops.OutOfMemory = Unit {0}

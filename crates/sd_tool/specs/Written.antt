@@ -16,10 +16,10 @@ use Rattle.sd_words.specs.declared.jobs.Job.{Job}
 use Rattle.sd_words.specs.declared.jobs.TreeWord.{TreeWord}
 use Rattle.sd_words.specs.declared.jobs.TreeWord.TheVariants as trees
 use Rattle.sd_commands.specs.Effects.{Effect}
-use Rattle.sd_commands.specs.Commands.{State, IsTextOf, formula_of, size_line}
-use Rattle.sd_commands.specs.declared.command.Command.TheVariants as commands
+use Rattle.sd_commands.specs.Commands.{State, IsTextOf, formula_named, size_line}
+use Rattle.sd_commands.specs.declared.command.RunCommand.TheVariants as commands
 use Rattle.sd_tool.specs.Readings.{Input, Plan, Begins, input_file, is_plain, reading_of, ReadsTo}
-use Rattle.sd_tool.specs.Course.{IsAt}
+use Rattle.sd_tool.specs.Course.{IsAtCommand}
 use Rattle.sd_tool.specs.Effects.{Contents}
 use Rattle.sd_tool.specs.Devices.{Moment}
 
@@ -32,7 +32,7 @@ pub record IsInput (words : List (List ℕ)) (files : Files) (job : Job) (formul
   pub is_input : input_file job.input ≡ Some input
   pub bytes : List ℕ
   pub there : bytes_at files input.file ≡ Some bytes
-  pub short : length bytes ≤ 67108864
+  pub fits : length bytes ≤ 67108864
   pub reads : dimacs input.kind bytes ≡ Ok formula
 
 -- the start tree of the words, for a formula of so many variables: that of a shape, or that of a vtree file
@@ -71,8 +71,8 @@ pub record Writes (plan : Plan) (f : Expression) (tree : Tree) (text : List ℕ)
   pub file : List ℕ
   pub effects : List Effect
   pub state : State
-  pub at : IsAt plan effects state (commands.Write name file)
-  pub formula : f ≡ formula_of state name
+  pub at : IsAtCommand plan effects state (commands.Write name file)
+  pub formula : f ≡ formula_named state name
   pub tree_is : tree ≡ state.tree
   pub text_is : IsTextOf tree f text
 

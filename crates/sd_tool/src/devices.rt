@@ -3,58 +3,65 @@ ghost use Rattle.std.specs.Prelude.{◌≡◌, OnOk, IfErr};
 ghost use Rattle.sd_base.specs.Shelf.{NoFile};
 ghost use Rattle.sd_tool.specs.Effects.{after, after_effect, DoesPart};
 ghost use Rattle.sd_tool.specs.Ends.{Unwritable};
-ghost use Rattle.sd_tool.specs.Devices.{contents, faults, HasCause, NotFewer};
+ghost use Rattle.sd_tool.specs.Devices.{contents, faults, HasDeviceCause, NotFewer};
 ghost use Rattle.sd_commands.specs.Standing.{effect_of, effects_of};
 ghost use Rattle.sd_tool.specs.Stops.{StandsFor, FailsAt};
 
 use crate::stop::Stop;
 use sd_base::{Shelf, Sink, write_all, write_all_to};
-use sd_commands::Act;
+use sd_commands::Effect;
 
 /// Does what a command asks for outside, if anything.
 pub fn perform_any<F: Shelf, O: Sink>(
     shelf: &mut F,
     out: &mut O,
-    act: Option<Act>,
+    effect: Option<Effect>,
 ) -> Result<(), Stop>
     requires { F.hand shelf.old ≡ NoFile }
     ensures hand { F.hand shelf.new ≡ NoFile }
     ensures ok { OnOk result (contents F.files O.written shelf.new out.new
-        ≡ after (effects_of act) (contents F.files O.written shelf.old out.old)) }
-    ensures stop { IfErr result (λ stop. FailsAt stop (effects_of act)
-        (contents F.files O.written shelf.old out.old) (contents F.files O.written shelf.new out.new)
+        ≡ after (effects_of effect) (contents F.files O.written shelf.old out.old)) }
+    ensures stop { IfErr result (λ stop. FailsAt stop (effects_of effect)
+        (contents F.files O.written shelf.old out.old)
+        (contents F.files O.written shelf.new out.new)
         (faults F.read_faults F.write_faults O.faults shelf.old out.old)
         (faults F.read_faults F.write_faults O.faults shelf.new out.new)) }
     ensures fewer { NotFewer (faults F.read_faults F.write_faults O.faults shelf.old out.old)
         (faults F.read_faults F.write_faults O.faults shelf.new out.new) }
 {
-    match act {
-        Some(act) => perform(shelf, out, act),
+    match effect {
+        Some(effect) => perform(shelf, out, effect),
         None => Ok(()),
     }
 }
 
 // Does this outside.
-fn perform<F: Shelf, O: Sink>(shelf: &mut F, out: &mut O, act: Act) -> Result<(), Stop>
+fn perform<F: Shelf, O: Sink>(shelf: &mut F, out: &mut O, effect: Effect) -> Result<(), Stop>
     requires { F.hand shelf.old ≡ NoFile }
     ensures hand { F.hand shelf.new ≡ NoFile }
     ensures ok { OnOk result (contents F.files O.written shelf.new out.new
-        ≡ after_effect (effect_of act) (contents F.files O.written shelf.old out.old)) }
-    ensures part { IfErr result (λ stop. DoesPart (effect_of act)
-        (contents F.files O.written shelf.old out.old) (contents F.files O.written shelf.new out.new)) }
-    ensures stop { IfErr result (λ stop. StandsFor stop (Unwritable (effect_of act))) }
-    ensures cause { IfErr result (λ stop. HasCause (Unwritable (effect_of act)) (F.files shelf.old)
+        ≡ after_effect (effect_of effect) (contents F.files O.written shelf.old out.old)) }
+    ensures part { IfErr result (λ stop. DoesPart (effect_of effect)
+        (contents F.files O.written shelf.old out.old)
+        (contents F.files O.written shelf.new out.new)) }
+    ensures stop { IfErr result (λ stop. StandsFor stop (Unwritable (effect_of effect))) }
+    ensures cause { IfErr result
+        (λ stop. HasDeviceCause (Unwritable (effect_of effect)) (F.files shelf.old)
         (faults F.read_faults F.write_faults O.faults shelf.old out.old)
         (faults F.read_faults F.write_faults O.faults shelf.new out.new)) }
     ensures fewer { NotFewer (faults F.read_faults F.write_faults O.faults shelf.old out.old)
         (faults F.read_faults F.write_faults O.faults shelf.new out.new) }
 {
-    match act {
-        Act::WriteFile(name, bytes) => match write_all_to(shelf, name.as_str(), bytes.as_slice()) {
+    match effect {
+        Effect::WriteFile(name, bytes) => match write_all_to(
+            shelf,
+            name.as_str(),
+            bytes.as_slice(),
+        ) {
             Ok(()) => Ok(()),
             Err(_) => Err(Stop::WriteFault(name)),
         },
-        Act::PrintLine(line) => match write_all(out, line.as_slice()) {
+        Effect::PrintLine(line) => match write_all(out, line.as_slice()) {
             Ok(()) => Ok(()),
             Err(_) => Err(Stop::OutputFault),
         },

@@ -1,10 +1,10 @@
-// A line of text in parts, of which two may be numbers. It is written without memory, so that want of memory can't
-// come between a status and its line.
+// A line of text in parts, of which two may be numbers. It is written without memory, so that
+// running out of memory can't come between a status and its line.
 ghost use Rattle.std.specs.Prelude.{◌≡◌, ◌≤◌, ◌++◌, OnOk, OnErr, codes, if◌then◌else◌};
 ghost use Rattle.sd_base.specs.Faults.{Rose};
 ghost use Rattle.sd_base.specs.Sink.{told_then, AppendsPart};
 ghost use Rattle.sd_model.specs.Text.{number_text};
-ghost use Rattle.sd_tool.specs.Devices.{Says};
+ghost use Rattle.sd_tool.specs.Devices.{WritesLine};
 ghost use Rattle.sd_tool.specs.Ends.{line_of};
 ghost use Rattle.sd_tool.specs.Parts.{parts_text, number_seen};
 ghost use Rattle.sd_tool.specs.Refusals.{at_line, counts, signed_text};
@@ -106,7 +106,7 @@ pub fn counts(file: &[u8], stated: u64, found: u64) -> Parts<'_>
 
 /// Writes the line of these parts, as far as it goes.
 pub fn write_line<E: Sink>(err: &mut E, parts: &Parts<'_>)
-    ensures { Says (line_of (parts_text parts.now))
+    ensures { WritesLine (line_of (parts_text parts.now))
         (E.written err.old) (E.written err.new) (E.faults err.old) (E.faults err.new) }
 {
     let mut first = Buffer::new();
@@ -144,7 +144,8 @@ fn write_text<E: Sink>(
 ) -> Result<(), WriteFault>
     requires first { first.now ≡ number_seen parts.now.first }
     requires second { second.now ≡ number_seen parts.now.second }
-    ensures ok { OnOk result (E.written err.new ≡ told_then (E.written err.old) (line_of (parts_text parts.now))) }
+    ensures ok { OnOk result (E.written err.new
+        ≡ told_then (E.written err.old) (line_of (parts_text parts.now))) }
     ensures err { OnErr result
         (AppendsPart (E.written err.old) (line_of (parts_text parts.now)) (E.written err.new)) }
     ensures cause { OnErr result (Rose (E.faults err.old) (E.faults err.new)) }

@@ -1,58 +1,59 @@
 // What the commands of a run begin with, and the commands of a run without a script.
 ghost use Rattle.std.specs.Prelude.{◌≡◌, ◌++◌, OnOk, IfOk};
 ghost use Rattle.std.specs.Prelude.{Option};
-ghost use Rattle.sd_commands.specs.declared.command.Command.TheVariants.{Write, WriteVtree};
-ghost use Rattle.sd_tool.specs.Readings.{for_file, stated};
+ghost use Rattle.sd_commands.specs.declared.command.RunCommand.TheVariants.{Write, WriteVtree};
+ghost use Rattle.sd_tool.specs.Readings.{for_file, default_of};
 
 use sd_base::Name;
-use sd_commands::{Command, State};
+use sd_commands::{RunCommand, RunState};
 use sd_formula::Formula;
 use sd_words::Job;
 use std::alloc::{AllocError, Global};
 
 /// The formula of a run, the state that the commands begin with, the limit of the total size, and the commands.
 #[derive(Drop)]
-pub struct Plan {
+pub struct RunPlan {
     pub formula: Formula,
-    pub state: State,
+    pub state: RunState,
     pub limit: u32,
-    pub commands: Vec<Command>,
+    pub commands: Vec<RunCommand>,
 }
 
 /// The commands of a run without a script.
-pub fn stated_commands(alloc: Global, job: &Job) -> Result<Vec<Command>, AllocError>
-    ensures { IfOk result (λ commands. commands.items ≡ stated job.now) }
+pub fn default_commands(alloc: Global, job: &Job) -> Result<Vec<RunCommand>, AllocError>
+    ensures { IfOk result (λ commands. commands.items ≡ default_of job.now) }
 {
     let mut commands = Vec::new(alloc);
-    commands.push(Command::Input(0))?;
+    commands.push(RunCommand::Input(0))?;
     push_vtree(alloc, &mut commands, &job.out_vtree)?;
     push_diagram(alloc, &mut commands, &job.out_sdd)?;
-    commands.push(Command::Size(0))?;
+    commands.push(RunCommand::Size(0))?;
     Ok(commands)
 }
 
 fn push_vtree(
     alloc: Global,
-    commands: &mut Vec<Command>,
+    commands: &mut Vec<RunCommand>,
     file: &Option<Name>,
 ) -> Result<(), AllocError>
-    ensures { OnOk result (commands.new.items ≡ commands.old.items ++ for_file WriteVtree file.now) }
+    ensures { OnOk result (commands.new.items ≡ commands.old.items
+        ++ for_file WriteVtree file.now) }
 {
     if let Some(file) = file {
-        commands.push(Command::WriteVtree(Name::copy_of(alloc, file.as_str())?))?;
+        commands.push(RunCommand::WriteVtree(Name::copy_of(alloc, file.as_str())?))?;
     }
     Ok(())
 }
 
 fn push_diagram(
     alloc: Global,
-    commands: &mut Vec<Command>,
+    commands: &mut Vec<RunCommand>,
     file: &Option<Name>,
 ) -> Result<(), AllocError>
     ensures { OnOk result (commands.new.items ≡ commands.old.items ++ for_file (Write 0) file.now) }
 {
     if let Some(file) = file {
-        commands.push(Command::Write(0, Name::copy_of(alloc, file.as_str())?))?;
+        commands.push(RunCommand::Write(0, Name::copy_of(alloc, file.as_str())?))?;
     }
     Ok(())
 }

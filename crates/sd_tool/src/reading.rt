@@ -5,23 +5,23 @@ ghost use Rattle.sd_base.specs.Shelf.{NoFile};
 ghost use Rattle.sd_model.specs.Tree.{leaves};
 ghost use Rattle.sd_formula.specs.Dimacs.{Groups, dimacs};
 ghost use Rattle.sd_vfile.specs.Reads.{vtree_file};
-ghost use Rattle.sd_vtree.specs.Numbered.{forget};
+ghost use Rattle.sd_vtree.specs.Numbered.{plain_tree};
 ghost use Rattle.sd_words.specs.declared.jobs.Job.{Job as SeenJob};
 ghost use Rattle.sd_commands.specs.Fits.{AllFit};
-ghost use Rattle.sd_tool.specs.Given.{plan_of, IsReady};
+ghost use Rattle.sd_tool.specs.PlanViews.{plan_of, IsReady};
 ghost use Rattle.sd_tool.specs.Readings.{reading_of, Begins, Reads, input_file, is_plain, plan_for};
 ghost use Rattle.sd_tool.specs.Readings.{with_input, with_input_word, with_tree_word, with_tree, with_vtree_text};
 ghost use Rattle.sd_tool.specs.Stops.{LeadsTo, GivesText};
 ghost use Rattle.sd_tool.specs.declared.refusal.Refusal.TheVariants as refusals;
 ghost use Rattle.sd_tool.specs.declared.stop.Stop.TheVariants as stops;
 
-use crate::plan::Plan;
+use crate::plan::RunPlan;
 use crate::refusal::Refusal;
 use crate::scripts::read_commands;
 use crate::stop::Stop;
 use crate::texts::{read_text, too_long};
 use sd_base::{Name, Shelf};
-use sd_commands::{Command, State};
+use sd_commands::{RunCommand, RunState};
 use sd_formula::{Formula, FormulaError, Kind, read_dimacs};
 use sd_vfile::{VtreeFault, read_vtree};
 use sd_vtree::Vtree;
@@ -30,7 +30,7 @@ use std::alloc::{AllocError, Global};
 
 /// Reads what the words ask for, up to the first command: the formula file, the vtree file, the script, and the files
 /// that it loads.
-pub fn prepare<F: Shelf>(alloc: Global, words: &[String], shelf: &mut F) -> Result<Plan, Stop>
+pub fn prepare<F: Shelf>(alloc: Global, words: &[String], shelf: &mut F) -> Result<RunPlan, Stop>
     requires { F.hand shelf.old ≡ NoFile }
     ensures hand { F.hand shelf.new ≡ NoFile }
     ensures files { F.files shelf.new ≡ F.files shelf.old }
@@ -47,7 +47,7 @@ pub fn prepare<F: Shelf>(alloc: Global, words: &[String], shelf: &mut F) -> Resu
 }
 
 // The plan of a job that runs have.
-fn prepare_job<F: Shelf>(alloc: Global, job: &Job, shelf: &mut F) -> Result<Plan, Stop>
+fn prepare_job<F: Shelf>(alloc: Global, job: &Job, shelf: &mut F) -> Result<RunPlan, Stop>
     requires { F.hand shelf.old ≡ NoFile }
     ensures hand { F.hand shelf.new ≡ NoFile }
     ensures files { F.files shelf.new ≡ F.files shelf.old }
@@ -69,7 +69,7 @@ fn prepare_formula<F: Shelf>(
     job: &Job,
     formula: Formula,
     shelf: &mut F,
-) -> Result<Plan, Stop>
+) -> Result<RunPlan, Stop>
     requires { F.hand shelf.old ≡ NoFile }
     ensures hand { F.hand shelf.new ≡ NoFile }
     ensures files { F.files shelf.new ≡ F.files shelf.old }
@@ -92,14 +92,14 @@ fn prepare_tree<F: Shelf>(
     formula: Formula,
     vtree: Vtree,
     shelf: &mut F,
-) -> Result<Plan, Stop>
+) -> Result<RunPlan, Stop>
     requires hand { F.hand shelf.old ≡ NoFile }
-    requires variables { leaves (forget vtree) ≡ formula.variables }
+    requires variables { leaves (plain_tree vtree) ≡ formula.variables }
     ensures hand { F.hand shelf.new ≡ NoFile }
     ensures files { F.files shelf.new ≡ F.files shelf.old }
     ensures read_faults { F.read_faults shelf.old ≤ F.read_faults shelf.new }
     ensures write_faults { F.write_faults shelf.new ≡ F.write_faults shelf.old }
-    ensures leads { LeadsTo (F.files shelf.old) (with_tree job.now formula (forget vtree))
+    ensures leads { LeadsTo (F.files shelf.old) (with_tree job.now formula (plain_tree vtree))
         (λ plan. Begins (plan_of plan)) result (F.read_faults shelf.old) (F.read_faults shelf.new) }
     ensures ready { IfOk result IsReady }
 {
@@ -115,18 +115,18 @@ fn make_plan(
     job: &Job,
     formula: Formula,
     vtree: Vtree,
-    commands: Vec<Command>,
-) -> Result<Plan, Stop>
-    requires variables { leaves (forget vtree) ≡ formula.variables }
+    commands: Vec<RunCommand>,
+) -> Result<RunPlan, Stop>
+    requires variables { leaves (plain_tree vtree) ≡ formula.variables }
     requires fit { AllFit formula.variables [] commands.items }
-    requires few { length commands.items ≤ 100000 }
+    requires within_limit { length commands.items ≤ 100000 }
     ensures leads { (told : Option Files) (before now : ℕ)
-        → LeadsTo told (Begins (plan_for job.now formula (forget vtree) commands.items))
+        → LeadsTo told (Begins (plan_for job.now formula (plain_tree vtree) commands.items))
         (λ plan. Begins (plan_of plan)) result before now }
     ensures ready { IfOk result IsReady }
 {
-    match State::new(alloc, vtree) {
-        Ok(state) => Ok(Plan {
+    match RunState::new(alloc, vtree) {
+        Ok(state) => Ok(RunPlan {
             formula,
             state,
             limit: job.limit,
@@ -138,7 +138,8 @@ fn make_plan(
 
 // The job of the words, if runs have it yet.
 fn read_job(alloc: Global, words: &[String]) -> Result<Job, Stop>
-    ensures { (told : Option Files) (before now : ℕ) → LeadsTo told (reading_of (map string_bytes words.now))
+    ensures { (told : Option Files) (before now : ℕ)
+        → LeadsTo told (reading_of (map string_bytes words.now))
         (λ job. with_input_word job (input_file job.input)) result before now }
 {
     match read_words(alloc, words) {
@@ -206,7 +207,8 @@ fn read_groups<F: Shelf>(
 // The formula of the text of this file.
 fn formula_in(alloc: Global, file: &str, bytes: &[u8], kind: Kind) -> Result<Formula, Stop>
     requires { length bytes.now ≤ 67108864 }
-    ensures { GivesText (λ formula. formula) (refusals.BadFormula file.now) (dimacs kind bytes.now) result }
+    ensures { GivesText (λ formula. formula) (refusals.BadFormula file.now) (dimacs kind bytes.now)
+        result }
 {
     match read_dimacs(alloc, bytes, kind) {
         Ok(formula) => Ok(formula),
@@ -231,9 +233,9 @@ fn read_tree<F: Shelf>(
     ensures read_faults { F.read_faults shelf.old ≤ F.read_faults shelf.new }
     ensures write_faults { F.write_faults shelf.new ≡ F.write_faults shelf.old }
     ensures leads { LeadsTo (F.files shelf.old) (with_tree_word job.now formula.now job.now.tree)
-        (λ vtree. with_tree job.now formula.now (forget vtree))
+        (λ vtree. with_tree job.now formula.now (plain_tree vtree))
         result (F.read_faults shelf.old) (F.read_faults shelf.new) }
-    ensures variables { IfOk result (λ vtree. leaves (forget vtree) ≡ formula.now.variables) }
+    ensures variables { IfOk result (λ vtree. leaves (plain_tree vtree) ≡ formula.now.variables) }
 {
     let variables = formula.variables();
     match &job.tree {
@@ -262,17 +264,17 @@ fn read_vtree_file<F: Shelf>(
     shelf: &mut F,
 ) -> Result<Vtree, Stop>
     requires hand { F.hand shelf.old ≡ NoFile }
-    requires some { 1 ≤ variables }
-    requires few { variables ≤ 1024 }
+    requires at_least_one { 1 ≤ variables }
+    requires within_limit { variables ≤ 1024 }
     ensures hand { F.hand shelf.new ≡ NoFile }
     ensures files { F.files shelf.new ≡ F.files shelf.old }
     ensures read_faults { F.read_faults shelf.old ≤ F.read_faults shelf.new }
     ensures write_faults { F.write_faults shelf.new ≡ F.write_faults shelf.old }
     ensures leads { (job : SeenJob) (formula : Groups) → formula.variables ≡ variables
         → LeadsTo (F.files shelf.old) (Reads file.now (with_vtree_text job formula file.now))
-        (λ vtree. with_tree job formula (forget vtree))
+        (λ vtree. with_tree job formula (plain_tree vtree))
         result (F.read_faults shelf.old) (F.read_faults shelf.new) }
-    ensures variables { IfOk result (λ vtree. leaves (forget vtree) ≡ variables) }
+    ensures variables { IfOk result (λ vtree. leaves (plain_tree vtree) ≡ variables) }
 {
     match read_text(alloc, file, shelf) {
         Ok(Some(bytes)) => vtree_in(alloc, file, bytes.as_slice(), variables),
@@ -283,11 +285,12 @@ fn read_vtree_file<F: Shelf>(
 
 // The vtree of the text of this file.
 fn vtree_in(alloc: Global, file: &str, bytes: &[u8], variables: u32) -> Result<Vtree, Stop>
-    requires short { length bytes.now ≤ 67108864 }
-    requires some { 1 ≤ variables }
-    requires few { variables ≤ 1024 }
-    ensures gives { GivesText forget (refusals.BadVtree file.now) (vtree_file variables bytes.now) result }
-    ensures variables { IfOk result (λ vtree. leaves (forget vtree) ≡ variables) }
+    requires fits { length bytes.now ≤ 67108864 }
+    requires at_least_one { 1 ≤ variables }
+    requires within_limit { variables ≤ 1024 }
+    ensures gives { GivesText plain_tree (refusals.BadVtree file.now)
+        (vtree_file variables bytes.now) result }
+    ensures variables { IfOk result (λ vtree. leaves (plain_tree vtree) ≡ variables) }
 {
     match read_vtree(alloc, bytes, variables) {
         Ok(vtree) => Ok(vtree),

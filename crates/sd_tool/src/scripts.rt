@@ -7,19 +7,19 @@ ghost use Rattle.sd_script.specs.Read.{IsScript, reads};
 ghost use Rattle.sd_script.specs.Commands.{writes};
 ghost use Rattle.sd_script.specs.Scripts.{script_of};
 ghost use Rattle.sd_commands.specs.Fits.{AllFit};
-ghost use Rattle.sd_commands.specs.declared.command.Command.{Command as Seen};
-ghost use Rattle.sd_tool.specs.Readings.{Reading, Reads, with_commands, with_script_text, with_script};
+ghost use Rattle.sd_commands.specs.declared.command.RunCommand.{RunCommand as Seen};
+ghost use Rattle.sd_tool.specs.Readings.{Reading, Reads, with_commands, with_script_text, script_reading};
 ghost use Rattle.sd_tool.specs.Readings.{with_lines, with_action, with_sdd, is_served};
 ghost use Rattle.sd_tool.specs.Actions.{IsCommandOf, plain_of};
 ghost use Rattle.sd_tool.specs.Stops.{LeadsTo, GivesText, StopsFor};
 ghost use Rattle.sd_tool.specs.declared.refusal.Refusal.TheVariants as refusals;
 
-use crate::plan::stated_commands;
+use crate::plan::default_commands;
 use crate::refusal::Refusal;
 use crate::stop::Stop;
 use crate::texts::{read_text, too_long};
 use sd_base::{Bits, Name, Shelf};
-use sd_commands::Command;
+use sd_commands::RunCommand;
 use sd_file::{SddFault, SddFile, read_sdd};
 use sd_script::{Action, Command as Line, Script, ScriptFault, read_script};
 use sd_words::Job;
@@ -31,10 +31,10 @@ pub fn read_commands<F: Shelf>(
     job: &Job,
     variables: u32,
     shelf: &mut F,
-) -> Result<Vec<Command>, Stop>
+) -> Result<Vec<RunCommand>, Stop>
     requires hand { F.hand shelf.old ≡ NoFile }
-    requires some { 1 ≤ variables }
-    requires few { variables ≤ 1024 }
+    requires at_least_one { 1 ≤ variables }
+    requires within_limit { variables ≤ 1024 }
     ensures hand { F.hand shelf.new ≡ NoFile }
     ensures files { F.files shelf.new ≡ F.files shelf.old }
     ensures read_faults { F.read_faults shelf.old ≤ F.read_faults shelf.new }
@@ -43,10 +43,10 @@ pub fn read_commands<F: Shelf>(
         (with_commands job.now variables begin job.now.script) (λ commands. begin commands.items)
         result (F.read_faults shelf.old) (F.read_faults shelf.new) }
     ensures fit { IfOk result (λ commands. AllFit variables [] commands.items) }
-    ensures few { IfOk result (λ commands. length commands.items ≤ 100000) }
+    ensures within_limit { IfOk result (λ commands. length commands.items ≤ 100000) }
 {
     match &job.script {
-        None => match stated_commands(alloc, job) {
+        None => match default_commands(alloc, job) {
             Ok(commands) => Ok(commands),
             Err(_) => Err(Stop::OutOfMemory),
         },
@@ -65,17 +65,18 @@ fn read_script_file<F: Shelf>(
     shelf: &mut F,
 ) -> Result<Script, Stop>
     requires hand { F.hand shelf.old ≡ NoFile }
-    requires some { 1 ≤ variables }
-    requires few { variables ≤ 1024 }
+    requires at_least_one { 1 ≤ variables }
+    requires within_limit { variables ≤ 1024 }
     ensures hand { F.hand shelf.new ≡ NoFile }
     ensures files { F.files shelf.new ≡ F.files shelf.old }
     ensures read_faults { F.read_faults shelf.old ≤ F.read_faults shelf.new }
     ensures write_faults { F.write_faults shelf.new ≡ F.write_faults shelf.old }
     ensures leads { (begin : List Seen → Reading) → LeadsTo (F.files shelf.old)
-        (Reads file.now (with_script_text file.now variables begin)) (with_script variables begin)
+        (Reads file.now (with_script_text file.now variables begin))
+        (script_reading variables begin)
         result (F.read_faults shelf.old) (F.read_faults shelf.new) }
     ensures script { IfOk result (IsScript variables) }
-    ensures few { IfOk result (λ script. length script.commands ≤ 100000) }
+    ensures within_limit { IfOk result (λ script. length script.commands ≤ 100000) }
 {
     match read_text(alloc, file, shelf) {
         Ok(Some(bytes)) => script_in(alloc, file, bytes.as_slice(), variables),
@@ -96,13 +97,13 @@ fn long_script(alloc: Global, file: &str) -> Stop
 
 // The script of the text of this file.
 fn script_in(alloc: Global, file: &str, bytes: &[u8], variables: u32) -> Result<Script, Stop>
-    requires short { length bytes.now ≤ 67108864 }
-    requires some { 1 ≤ variables }
-    requires few { variables ≤ 1024 }
+    requires fits { length bytes.now ≤ 67108864 }
+    requires at_least_one { 1 ≤ variables }
+    requires within_limit { variables ≤ 1024 }
     ensures gives { GivesText (λ script. script) (refusals.BadScript file.now)
         (script_of variables bytes.now) result }
     ensures script { IfOk result (IsScript variables) }
-    ensures few { IfOk result (λ script. length script.commands ≤ 100000) }
+    ensures within_limit { IfOk result (λ script. length script.commands ≤ 100000) }
 {
     match read_script(alloc, bytes, variables) {
         Ok(script) => Ok(script),
@@ -120,10 +121,10 @@ fn script_commands<F: Shelf>(
     script: &Script,
     variables: u32,
     shelf: &mut F,
-) -> Result<Vec<Command>, Stop>
+) -> Result<Vec<RunCommand>, Stop>
     requires hand { F.hand shelf.old ≡ NoFile }
-    requires some { 1 ≤ variables }
-    requires few { variables ≤ 1024 }
+    requires at_least_one { 1 ≤ variables }
+    requires within_limit { variables ≤ 1024 }
     requires script { IsScript variables script.now }
     requires lines { length script.now.commands ≤ 100000 }
     ensures hand { F.hand shelf.new ≡ NoFile }
@@ -131,10 +132,10 @@ fn script_commands<F: Shelf>(
     ensures read_faults { F.read_faults shelf.old ≤ F.read_faults shelf.new }
     ensures write_faults { F.write_faults shelf.new ≡ F.write_faults shelf.old }
     ensures leads { (begin : List Seen → Reading) → LeadsTo (F.files shelf.old)
-        (with_script variables begin script.now) (λ commands. begin commands.items)
+        (script_reading variables begin script.now) (λ commands. begin commands.items)
         result (F.read_faults shelf.old) (F.read_faults shelf.new) }
     ensures fit { IfOk result (λ commands. AllFit variables [] commands.items) }
-    ensures few { IfOk result (λ commands. length commands.items ≤ 100000) }
+    ensures within_limit { IfOk result (λ commands. length commands.items ≤ 100000) }
 {
     if all_served(script.commands()) {
         served_commands(alloc, script, variables, shelf)
@@ -170,10 +171,10 @@ fn served_commands<F: Shelf>(
     script: &Script,
     variables: u32,
     shelf: &mut F,
-) -> Result<Vec<Command>, Stop>
+) -> Result<Vec<RunCommand>, Stop>
     requires hand { F.hand shelf.old ≡ NoFile }
-    requires some { 1 ≤ variables }
-    requires few { variables ≤ 1024 }
+    requires at_least_one { 1 ≤ variables }
+    requires within_limit { variables ≤ 1024 }
     requires script { IsScript variables script.now }
     requires lines { length script.now.commands ≤ 100000 }
     ensures hand { F.hand shelf.new ≡ NoFile }
@@ -181,10 +182,11 @@ fn served_commands<F: Shelf>(
     ensures read_faults { F.read_faults shelf.old ≤ F.read_faults shelf.new }
     ensures write_faults { F.write_faults shelf.new ≡ F.write_faults shelf.old }
     ensures leads { (begin : List Seen → Reading) → LeadsTo (F.files shelf.old)
-        (with_lines variables script.now begin [] script.now.commands) (λ commands. begin commands.items)
+        (with_lines variables script.now begin [] script.now.commands)
+        (λ commands. begin commands.items)
         result (F.read_faults shelf.old) (F.read_faults shelf.new) }
     ensures fit { IfOk result (λ commands. AllFit variables [] commands.items) }
-    ensures few { IfOk result (λ commands. length commands.items ≤ 100000) }
+    ensures within_limit { IfOk result (λ commands. length commands.items ≤ 100000) }
 {
     let mut commands = Vec::new(alloc);
     for line in script.commands() {
@@ -200,7 +202,7 @@ fn served_commands<F: Shelf>(
 }
 
 // Puts a command behind the others.
-fn put(commands: &mut Vec<Command>, command: Command) -> Result<(), AllocError>
+fn put(commands: &mut Vec<RunCommand>, command: RunCommand) -> Result<(), AllocError>
     ensures { OnOk result (commands.new.items ≡ commands.old.items ++ command ∷ []) }
 {
     commands.push(command)?;
@@ -214,11 +216,12 @@ fn command_of<F: Shelf>(
     action: &Action,
     variables: u32,
     shelf: &mut F,
-) -> Result<Command, Stop>
+) -> Result<RunCommand, Stop>
     requires hand { F.hand shelf.old ≡ NoFile }
-    requires some { 1 ≤ variables }
-    requires few { variables ≤ 1024 }
-    requires known { AllByRecursion (λ n. n < length script.now.files) (reads action.now ++ writes action.now) }
+    requires at_least_one { 1 ≤ variables }
+    requires within_limit { variables ≤ 1024 }
+    requires known { AllByRecursion (λ n. n < length script.now.files) (reads action.now
+        ++ writes action.now) }
     ensures hand { F.hand shelf.new ≡ NoFile }
     ensures files { F.files shelf.new ≡ F.files shelf.old }
     ensures read_faults { F.read_faults shelf.old ≤ F.read_faults shelf.new }
@@ -236,21 +239,21 @@ fn command_of<F: Shelf>(
 }
 
 // The command of an action without a file, if runs have it yet.
-fn plain_command(alloc: Global, action: &Action) -> Result<Option<Command>, AllocError>
+fn plain_command(alloc: Global, action: &Action) -> Result<Option<RunCommand>, AllocError>
     ensures { IfOk result (λ command. command ≡ plain_of action.now) }
 {
     match action {
-        Action::Input(name) => Ok(Some(Command::Input(*name))),
-        Action::Lit(name, literal) => Ok(Some(Command::Literal(*name, *literal))),
-        Action::Constant(name, value) => Ok(Some(Command::Constant(*name, *value))),
+        Action::Input(name) => Ok(Some(RunCommand::Input(*name))),
+        Action::Lit(name, literal) => Ok(Some(RunCommand::Literal(*name, *literal))),
+        Action::Constant(name, value) => Ok(Some(RunCommand::Constant(*name, *value))),
         Action::Binary(operation, name, a, b) => {
-            Ok(Some(Command::Combine(*operation, *name, *a, *b)))
+            Ok(Some(RunCommand::Combine(*operation, *name, *a, *b)))
         }
-        Action::Not(name, a) => Ok(Some(Command::Negate(*name, *a))),
-        Action::Drop(name) => Ok(Some(Command::Drop(*name))),
-        Action::Same(a, b) => Ok(Some(Command::Same(*a, *b))),
-        Action::Size(name) => Ok(Some(Command::Size(*name))),
-        Action::Value(name, bits) => Ok(Some(Command::Value(*name, copy_of_bits(alloc, bits)?))),
+        Action::Not(name, a) => Ok(Some(RunCommand::Negate(*name, *a))),
+        Action::Drop(name) => Ok(Some(RunCommand::Drop(*name))),
+        Action::Same(a, b) => Ok(Some(RunCommand::Same(*a, *b))),
+        Action::Size(name) => Ok(Some(RunCommand::Size(*name))),
+        Action::Value(name, bits) => Ok(Some(RunCommand::Value(*name, copy_of_bits(alloc, bits)?))),
         _ => Ok(None),
     }
 }
@@ -269,11 +272,12 @@ fn file_command<F: Shelf>(
     action: &Action,
     variables: u32,
     shelf: &mut F,
-) -> Result<Command, Stop>
+) -> Result<RunCommand, Stop>
     requires hand { F.hand shelf.old ≡ NoFile }
-    requires some { 1 ≤ variables }
-    requires few { variables ≤ 1024 }
-    requires known { AllByRecursion (λ n. n < length script.now.files) (reads action.now ++ writes action.now) }
+    requires at_least_one { 1 ≤ variables }
+    requires within_limit { variables ≤ 1024 }
+    requires known { AllByRecursion (λ n. n < length script.now.files) (reads action.now
+        ++ writes action.now) }
     requires with_file { plain_of action.now ≡ None }
     ensures hand { F.hand shelf.new ≡ NoFile }
     ensures files { F.files shelf.new ≡ F.files shelf.old }
@@ -286,15 +290,15 @@ fn file_command<F: Shelf>(
 {
     match action {
         Action::Load(name, file) => match load(alloc, script.file(*file), variables, shelf) {
-            Ok(read) => Ok(Command::Load(*name, read)),
+            Ok(read) => Ok(RunCommand::Load(*name, read)),
             Err(stop) => Err(stop),
         },
         Action::Write(name, file) => match Name::copy_of(alloc, script.file(*file)) {
-            Ok(file) => Ok(Command::Write(*name, file)),
+            Ok(file) => Ok(RunCommand::Write(*name, file)),
             Err(_) => Err(Stop::OutOfMemory),
         },
         Action::Vtree(file) => match Name::copy_of(alloc, script.file(*file)) {
-            Ok(file) => Ok(Command::WriteVtree(file)),
+            Ok(file) => Ok(RunCommand::WriteVtree(file)),
             Err(_) => Err(Stop::OutOfMemory),
         },
         _ => Err(Stop::Refused(Refusal::NotYet)),
@@ -304,8 +308,8 @@ fn file_command<F: Shelf>(
 // The SDD file of this name, over so many variables.
 fn load<F: Shelf>(alloc: Global, file: &str, variables: u32, shelf: &mut F) -> Result<SddFile, Stop>
     requires hand { F.hand shelf.old ≡ NoFile }
-    requires some { 1 ≤ variables }
-    requires few { variables ≤ 1024 }
+    requires at_least_one { 1 ≤ variables }
+    requires within_limit { variables ≤ 1024 }
     ensures hand { F.hand shelf.new ≡ NoFile }
     ensures files { F.files shelf.new ≡ F.files shelf.old }
     ensures read_faults { F.read_faults shelf.old ≤ F.read_faults shelf.new }
@@ -324,10 +328,11 @@ fn load<F: Shelf>(alloc: Global, file: &str, variables: u32, shelf: &mut F) -> R
 
 // The nodes of the text of this SDD file.
 fn sdd_in(alloc: Global, file: &str, bytes: &[u8], variables: u32) -> Result<SddFile, Stop>
-    requires short { length bytes.now ≤ 67108864 }
-    requires some { 1 ≤ variables }
-    requires few { variables ≤ 1024 }
-    ensures gives { GivesText (λ read. read) (refusals.BadSdd file.now) (sdd_file variables bytes.now) result }
+    requires fits { length bytes.now ≤ 67108864 }
+    requires at_least_one { 1 ≤ variables }
+    requires within_limit { variables ≤ 1024 }
+    ensures gives { GivesText (λ read. read) (refusals.BadSdd file.now)
+        (sdd_file variables bytes.now) result }
     ensures variables { IfOk result (λ read. read.variables ≡ variables) }
 {
     match read_sdd(alloc, bytes, variables) {

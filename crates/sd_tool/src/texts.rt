@@ -19,7 +19,7 @@ pub fn read_text<F: Shelf>(alloc: Global, file: &str, shelf: &mut F) -> Result<O
     ensures write_faults { F.write_faults shelf.new ≡ F.write_faults shelf.old }
     ensures leads { (next : Text → Reading) → LeadsTo (F.files shelf.old) (Reads file.now next)
         (λ text. next (text_read text)) result (F.read_faults shelf.old) (F.read_faults shelf.new) }
-    ensures short { IfOk result IsShort }
+    ensures fits { IfOk result IsShort }
 {
     match read_all(alloc, shelf, file) {
         Ok(bytes) => Ok(Some(bytes)),

@@ -2,18 +2,18 @@
 ghost use Rattle.std.specs.Prelude.{◌≡◌, ℕ, Some, None, cond, map, string_bytes};
 ghost use Rattle.sd_base.specs.Shelf.{NoFile};
 ghost use Rattle.sd_tool.specs.Devices.{contents, faults, between, NotFewer};
-ghost use Rattle.sd_tool.specs.Given.{plan_of, plan_with, IsReady, IsReadyWith};
-ghost use Rattle.sd_tool.specs.Headline.{Went, HasEffects, HasLine, HasEnd, IsComplete};
-ghost use Rattle.sd_tool.specs.Stops.{GoesOn, CarriesOut, Attempts, is_full};
+ghost use Rattle.sd_tool.specs.PlanViews.{plan_of, plan_with, IsReady, IsReadyWith};
+ghost use Rattle.sd_tool.specs.Headline.{IsCourse, HasEffects, HasLine, HasEnd, IsComplete};
+ghost use Rattle.sd_tool.specs.Stops.{RunsToEnd, CarriesOut, Attempts, is_full};
 ghost use Rattle.sd_tool.specs.Written.{HasWritten, HasEqualTexts};
 
 use crate::devices::perform_any;
 use crate::parts::write_line;
-use crate::plan::Plan;
+use crate::plan::RunPlan;
 use crate::reading::prepare;
 use crate::stop::Stop;
 use sd_base::{Shelf, Sink};
-use sd_commands::{Command, State, step};
+use sd_commands::{RunCommand, RunState, step};
 use sd_formula::Formula;
 use sd_manager::Manager;
 use sd_runs::TakeError;
@@ -40,18 +40,29 @@ pub fn run<R: Threads + Sync, F: Shelf, O: Sink, E: Sink>(
     requires hand { F.hand shelf.old ≡ NoFile }
     requires none { kept.old ≡ None }
     ensures hand { F.hand shelf.new ≡ NoFile }
-    ensures course { between F.files F.read_faults F.write_faults O.written O.faults E.written E.faults
-        shelf.old out.old err.old shelf.new out.new err.new (Went (map string_bytes words.now) result kept.new) }
-    ensures effects { between F.files F.read_faults F.write_faults O.written O.faults E.written E.faults
-        shelf.old out.old err.old shelf.new out.new err.new (HasEffects (map string_bytes words.now) result) }
-    ensures line { between F.files F.read_faults F.write_faults O.written O.faults E.written E.faults
+    ensures course { between F.files F.read_faults F.write_faults O.written O.faults E.written
+        E.faults
+        shelf.old out.old err.old shelf.new out.new err.new
+        (IsCourse (map string_bytes words.now) result kept.new) }
+    ensures effects { between F.files F.read_faults F.write_faults O.written O.faults E.written
+        E.faults
+        shelf.old out.old err.old shelf.new out.new err.new
+        (HasEffects (map string_bytes words.now) result) }
+    ensures line { between F.files F.read_faults F.write_faults O.written O.faults E.written
+        E.faults
         shelf.old out.old err.old shelf.new out.new err.new (HasLine result) }
-    ensures ends { between F.files F.read_faults F.write_faults O.written O.faults E.written E.faults
-        shelf.old out.old err.old shelf.new out.new err.new (HasEnd (map string_bytes words.now) result kept.new) }
-    ensures complete { between F.files F.read_faults F.write_faults O.written O.faults E.written E.faults
-        shelf.old out.old err.old shelf.new out.new err.new (IsComplete (map string_bytes words.now) result) }
-    ensures written { between F.files F.read_faults F.write_faults O.written O.faults E.written E.faults
-        shelf.old out.old err.old shelf.new out.new err.new (HasWritten (map string_bytes words.now) result) }
+    ensures ends { between F.files F.read_faults F.write_faults O.written O.faults E.written
+        E.faults
+        shelf.old out.old err.old shelf.new out.new err.new
+        (HasEnd (map string_bytes words.now) result kept.new) }
+    ensures complete { between F.files F.read_faults F.write_faults O.written O.faults E.written
+        E.faults
+        shelf.old out.old err.old shelf.new out.new err.new
+        (IsComplete (map string_bytes words.now) result) }
+    ensures written { between F.files F.read_faults F.write_faults O.written O.faults E.written
+        E.faults
+        shelf.old out.old err.old shelf.new out.new err.new
+        (HasWritten (map string_bytes words.now) result) }
     ensures equal_texts { HasEqualTexts (map string_bytes words.now) (F.files shelf.old) }
 {
     conduct(alloc, words, shelf, out, err, kept)
@@ -69,8 +80,10 @@ fn conduct<F: Shelf, O: Sink, E: Sink>(
     requires hand { F.hand shelf.old ≡ NoFile }
     requires none { kept.old ≡ None }
     ensures hand { F.hand shelf.new ≡ NoFile }
-    ensures course { between F.files F.read_faults F.write_faults O.written O.faults E.written E.faults
-        shelf.old out.old err.old shelf.new out.new err.new (Went (map string_bytes words.now) result kept.new) }
+    ensures course { between F.files F.read_faults F.write_faults O.written O.faults E.written
+        E.faults
+        shelf.old out.old err.old shelf.new out.new err.new
+        (IsCourse (map string_bytes words.now) result kept.new) }
 {
     match attempt(alloc, words, shelf, out, kept) {
         Ok(()) => 0,
@@ -93,7 +106,8 @@ fn attempt<F: Shelf, O: Sink>(
     requires none { kept.old ≡ None }
     ensures hand { F.hand shelf.new ≡ NoFile }
     ensures ends { Attempts (map string_bytes words.now) kept.new result
-        (contents F.files O.written shelf.old out.old) (contents F.files O.written shelf.new out.new)
+        (contents F.files O.written shelf.old out.old)
+        (contents F.files O.written shelf.new out.new)
         (faults F.read_faults F.write_faults O.faults shelf.old out.old)
         (faults F.read_faults F.write_faults O.faults shelf.new out.new) }
 {
@@ -108,7 +122,7 @@ fn carry_out<F: Shelf, O: Sink>(
     alloc: Global,
     shelf: &mut F,
     out: &mut O,
-    plan: Plan,
+    plan: RunPlan,
     kept: &mut Option<Manager>,
 ) -> Result<(), Stop>
     requires hand { F.hand shelf.old ≡ NoFile }
@@ -116,11 +130,12 @@ fn carry_out<F: Shelf, O: Sink>(
     requires ready { IsReady plan }
     ensures hand { F.hand shelf.new ≡ NoFile }
     ensures goes { CarriesOut (plan_of plan) kept.new result
-        (contents F.files O.written shelf.old out.old) (contents F.files O.written shelf.new out.new)
+        (contents F.files O.written shelf.old out.old)
+        (contents F.files O.written shelf.new out.new)
         (faults F.read_faults F.write_faults O.faults shelf.old out.old)
         (faults F.read_faults F.write_faults O.faults shelf.new out.new) }
 {
-    let Plan {
+    let RunPlan {
         formula,
         mut state,
         commands,
@@ -150,26 +165,28 @@ fn do_all<F: Shelf, O: Sink>(
     shelf: &mut F,
     out: &mut O,
     formula: &Formula,
-    state: &mut State,
-    commands: &[Command],
+    state: &mut RunState,
+    commands: &[RunCommand],
 ) -> Result<(), Stop>
     requires hand { F.hand shelf.old ≡ NoFile }
     requires ready { IsReadyWith formula.now state.old commands.now }
     ensures hand { F.hand shelf.new ≡ NoFile }
     ensures fewer { NotFewer (faults F.read_faults F.write_faults O.faults shelf.old out.old)
         (faults F.read_faults F.write_faults O.faults shelf.new out.new) }
-    ensures goes { (limit : ℕ) → GoesOn (plan_with formula.now state.old limit commands.now) state.new.manager result
-        (contents F.files O.written shelf.old out.old) (contents F.files O.written shelf.new out.new)
+    ensures goes { (limit : ℕ)
+        → RunsToEnd (plan_with formula.now state.old limit commands.now) state.new.manager result
+        (contents F.files O.written shelf.old out.old)
+        (contents F.files O.written shelf.new out.new)
         (faults F.read_faults F.write_faults O.faults shelf.old out.old)
         (faults F.read_faults F.write_faults O.faults shelf.new out.new) }
 {
     for command in commands {
-        let act = match step(alloc, formula, state, command) {
-            Ok(act) => act,
+        let effect = match step(alloc, formula, state, command) {
+            Ok(effect) => effect,
             Err(TakeError::ArenaFull { elements }) => return Err(Stop::ArenaFull(elements)),
             Err(TakeError::OutOfMemory) => return Err(Stop::OutOfMemory),
         };
-        match perform_any(shelf, out, act) {
+        match perform_any(shelf, out, effect) {
             Ok(()) => {}
             Err(stop) => return Err(stop),
         }

@@ -10,10 +10,10 @@ use Rattle.sd_unique.specs.declared.record.Record.{Record}
 use Rattle.sd_unique.specs.declared.record.Links.{Links}
 use Rattle.sd_unique.specs.declared.record.State.{State}
 use Rattle.sd_unique.specs.declared.record.State.TheVariants.{Free, Linked, Detached}
-use Rattle.sd_unique.specs.Filed.{IsChain, IsWalkable, Has}
+use Rattle.sd_unique.specs.Filed.{IsChain, IsWalkable, IsMember}
 use Rattle.sd_unique.specs.Record.{if_linked, key_of, linked_key, nodes_of}
-use Rattle.sd_unique.specs.Relinking.{IsAt}
-use Rattle.sd_unique.specs.Chains.{AreListed, after_of, head_of, list_by, list_under, no_record}
+use Rattle.sd_unique.specs.Relinking.{IsLinkedAt}
+use Rattle.sd_unique.specs.Chains.{AreInLists, after_of, head_of, list_by, list_under, no_record}
 use Rattle.sd_unique.proofs.Both.{chain_short}
 use Rattle.sd_unique.proofs.Numbered.{linked_at, linked_record}
 use Rattle.sd_unique.proofs.Stacked.{chain_empty, head_has, get_or_any}
@@ -25,9 +25,9 @@ pub record OnPlace (records : List Record) (next : ℕ → ℕ) (none first plac
   where
     pub walk : IsWalkable next none at size rest
     pub short : length rest + step ≤ size
-    pub part : (xs : List ℕ) → IsChain next none first xs → (y : ℕ) → Has y rest → Has y xs
-    pub passed : (xs : List ℕ) → IsChain next none first xs → (n : ℕ) (r : Record) → Has n xs
-        → slice_get records n ≡ Some r → r.place ≡ place → Has n rest
+    pub part : (xs : List ℕ) → IsChain next none first xs → (y : ℕ) → IsMember y rest → IsMember y xs
+    pub passed : (xs : List ℕ) → IsChain next none first xs → (n : ℕ) (r : Record) → IsMember n xs
+        → slice_get records n ≡ Some r → r.place ≡ place → IsMember n rest
 
 module _ {records : List Record} {next : ℕ → ℕ} {none first place size : ℕ} where
   pub place_first : {xs : List ℕ} → IsWalkable next none first size xs
@@ -36,19 +36,19 @@ module _ {records : List Record} {next : ℕ → ℕ} {none first place size : �
       record {
         walk = w;
         short = omega (arith, chain_short size xs w.once w.below);
-        part = λ ys c y h. subst (λ z. Has y z) (chain_one next none first xs ys w.chain c) h;
-        passed = λ ys c n r h e p. subst (λ z. Has n z) (chain_one next none first ys xs c w.chain) h;
+        part = λ ys c y h. subst (λ z. IsMember y z) (chain_one next none first xs ys w.chain c) h;
+        passed = λ ys c n r h e p. subst (λ z. IsMember n z) (chain_one next none first ys xs c w.chain) h;
       }
 
   -- the number that is reached is in the chain
   pub place_has : {at step : ℕ} {rest : List ℕ} → at ≢ none
-      → OnPlace records next none first place size at step rest → Has at rest
+      → OnPlace records next none first place size at step rest → IsMember at rest
   place_has {at} {step} {rest} ne w = head_has next none at rest (w.walk).chain ne
 
   -- at the end no number of this place was passed
   pub place_end : {at step : ℕ} {rest : List ℕ} → at ≡ none
       → OnPlace records next none first place size at step rest → (xs : List ℕ) → IsChain next none first xs
-      → (n : ℕ) (r : Record) → Has n xs → slice_get records n ≡ Some r → r.place ≢ place
+      → (n : ℕ) (r : Record) → IsMember n xs → slice_get records n ≡ Some r → r.place ≢ place
   place_end {at} {step} {rest} e w xs c n r h there p =
       chain_empty next none at n rest (w.walk).chain e (w.passed xs c n r h there p)
 
@@ -84,7 +84,7 @@ in_place Linked b c e = refl
 in_place Detached b c e = let same : 0 ≡ c + 1 = cc in absurd (omega arith)
 
 module _ (arena : Arena) (rs : List Record) (links : List Links) (places : List ℕ)
-    (f : AreListed links places (list_under rs)) (place : ℕ) where
+    (f : AreInLists links places (list_under rs)) (place : ℕ) where
   -- the list of a remainder can be walked
   pub place_walk : (b : ℕ)
       → IsWalkable (after_of links) no_record (head_of places b) (length rs) ((f.forth).lists b)
@@ -96,8 +96,8 @@ module _ (arena : Arena) (rs : List Record) (links : List Links) (places : List 
       }
 
   -- a number in it whose record has this place is that of a node at it
-  pub at_some : (n : ℕ) (r : Record) → Has n ((f.forth).lists (bit_and place 2047 + 1))
-      → slice_get rs n ≡ Some r → r.place ≡ place → IsAt (nodes_of arena rs) place n
+  pub at_some : (n : ℕ) (r : Record) → IsMember n ((f.forth).lists (bit_and place 2047 + 1))
+      → slice_get rs n ≡ Some r → r.place ≡ place → IsLinkedAt (nodes_of arena rs) place n
   at_some n r h there e =
       let under = (f.forth).only (bit_and place 2047 + 1) n h in
       let linked = in_place r.state (bit_and r.place 2047) (bit_and place 2047)
@@ -110,8 +110,8 @@ module _ (arena : Arena) (rs : List Record) (links : List Links) (places : List 
       }
 
   -- and where there is none, no node is at it
-  pub at_none : ((n : ℕ) (r : Record) → Has n ((f.forth).lists (bit_and place 2047 + 1))
-      → slice_get rs n ≡ Some r → r.place ≢ place) → (n : ℕ) → ¬ IsAt (nodes_of arena rs) place n
+  pub at_none : ((n : ℕ) (r : Record) → IsMember n ((f.forth).lists (bit_and place 2047 + 1))
+      → slice_get rs n ≡ Some r → r.place ≢ place) → (n : ℕ) → ¬ IsLinkedAt (nodes_of arena rs) place n
   at_none none n at =
       let r = linked_record arena rs n (place, at.list) at.is in
       let e : (r.0).place ≡ place = ap (λ k. k.0) r.3 in
@@ -122,7 +122,7 @@ module _ (arena : Arena) (rs : List Record) (links : List Links) (places : List 
 
 -- the walk as the code begins it
 pub walk_of : (arena : Arena) (rs rs' : List Record) (links links' : List Links) (places : List ℕ)
-    (f : AreListed links places (list_under rs)) (place first : ℕ) → length places ≡ 2049 → rs' ≡ rs → links' ≡ links
+    (f : AreInLists links places (list_under rs)) (place first : ℕ) → length places ≡ 2049 → rs' ≡ rs → links' ≡ links
     → first ≡ get_or places (bit_and place 2047 + 1) first
     → IsWalkable (after_of links') no_record first (length rs') ((f.forth).lists (bit_and place 2047 + 1))
 walk_of arena rs rs' links links' places f place first size same_records same_links is =

@@ -12,7 +12,7 @@ use Rattle.sd_unique.specs.declared.record.State.TheVariants.{Linked, Detached}
 use Rattle.sd_unique.specs.Filed.{IsFiled, unfiled, filed_at}
 use Rattle.sd_unique.specs.Record.{key_of, nodes_of}
 use Rattle.sd_unique.specs.Chains.{next_of, chain_by, list_by, chain_under, list_under, stack_under, bucket_of}
-use Rattle.sd_unique.specs.Chains.{head_of, no_record, Kept, KeepsStack, AreListed}
+use Rattle.sd_unique.specs.Chains.{head_of, no_record, HoldsNodes, KeepsStack, AreInLists}
 use Rattle.sd_unique.specs.Relinking.{relinked, IsAbsent}
 use Rattle.sd_unique.proofs.Changed.{set_which}
 use Rattle.sd_unique.proofs.Cutting.{all_kept}
@@ -71,15 +71,15 @@ module _ (arena : Arena) (rs : List Record) (n : ℕ) (r t : Record) (there : sl
   pub attached_kept : (links new : List Links) (heads places places' : List ℕ) (top b : ℕ)
       → bucket_of (key_of arena r) (length heads - 1) ≡ b → b + 1 < length heads → t.next ≡ head_of heads (b + 1)
       → length places' ≡ length places → KeepsStack links new
-      → AreListed new places' (filed_at n (bit_and r.place 2047 + 1) (unfiled n (list_under rs)))
+      → AreInLists new places' (filed_at n (bit_and r.place 2047 + 1) (unfiled n (list_under rs)))
       → IsAbsent (nodes_of arena rs) (key_of arena r) → (r.uses ≡ 0 → stack_under links n ≡ Some 0)
-      → Kept arena rs links heads places top → Kept arena (set rs n t) new (set heads (b + 1) n) places' top
+      → HoldsNodes arena rs links heads places top → HoldsNodes arena (set rs n t) new (set heads (b + 1) n) places' top
   attached_kept links new heads places places' top b at inside next same_places stack lists absent queued k =
       record {
         stored = stored_relinked arena rs n r t there (slice_get_inside rs n r there) place start size uses mark
             was is absent k.stored;
         linked_all = stack.size ∙ k.linked_all ∙ sym (length-set rs n t);
-        some = omega (arith, k.some, length-set heads (b + 1) n);
+        at_least_one = omega (arith, k.at_least_one, length-set heads (b + 1) n);
         places_all = same_places ∙ k.places_all;
         in_chains = subst (λ h. IsFiled (next_of (set rs n t)) no_record (head_of (set heads (b + 1) n))
             (chain_under arena (h - 1) (set rs n t))) (sym (length-set heads (b + 1) n))

@@ -6,7 +6,7 @@ use Rattle.std.proofs.Math.Seq.{map-set_same}
 use Rattle.std.proofs.lemmas.List.{length-set}
 use Rattle.std.specs.FinMap.{get, insert, remove}
 use Rattle.sd_runs.specs.Arena.{Arena, live_length}
-use Rattle.sd_runs.proofs.Maps.{get-remove_other}
+use Rattle.sd_runs.proofs.Maps.{get_remove_other}
 use Rattle.sd_runs.proofs.Places.{by_cases}
 use Rattle.sd_unique.specs.declared.record.Record.{Record}
 use Rattle.sd_unique.specs.declared.record.Links.{Links}
@@ -14,9 +14,10 @@ use Rattle.sd_unique.specs.declared.record.State.{State}
 use Rattle.sd_unique.specs.declared.record.State.TheVariants.{Free, Linked, Detached}
 use Rattle.sd_unique.specs.Relinking.{with_key, exchanged}
 use Rattle.sd_unique.specs.Record.{if_linked, if_detached, if_node, IsNode, without_run, key_of, linked_key}
-use Rattle.sd_unique.specs.Record.{detached_key, uses_in, mark_in, loose_of, counts_of, nodes_of, Stored}
+use Rattle.sd_unique.specs.Record.{detached_key, uses_of_record, mark_of_record, loose_of, counts_of}
+use Rattle.sd_unique.specs.Record.{nodes_of, AreRecordsStored}
 use Rattle.sd_unique.specs.Chains.{next_of, chain_by, list_by, chain_under, list_under}
-use Rattle.sd_unique.specs.Chains.{bucket_of, no_record, Kept}
+use Rattle.sd_unique.specs.Chains.{bucket_of, no_record, HoldsNodes}
 use Rattle.sd_unique.proofs.Changed.{set_which, read_same, stored_set}
 use Rattle.sd_unique.proofs.Filed.{filed_same, both_same}
 use Rattle.sd_unique.proofs.Loose.{Map, removes, insert_removed, loose_same, loose_split, loose_there}
@@ -53,7 +54,8 @@ freed r =
     }
 
 -- without the record of a node its run is loose
-pub loose_freed : (arena : Arena) (rs : List Record) (n : ℕ) (r : Record) → Stored arena rs → slice_get rs n ≡ Some r
+pub loose_freed : (arena : Arena) (rs : List Record) (n : ℕ) (r : Record) → AreRecordsStored arena rs
+    → slice_get rs n ≡ Some r
     → IsNode r.state → get (loose_of arena.live (set rs n (freed r))) r.start ≡ get arena.live r.start
 loose_freed arena rs n r st there node =
     loose_there arena.live (set rs n (freed r)) r.start
@@ -71,7 +73,7 @@ loose_exchanged live rs n r t l inside there node new differ had =
     loose_split live (set rs n t) n t (freed r) (slice_set_same rs n t inside) new refl
     ∙ ap (λ ts. remove (loose_of live ts) t.start) (set_twice rs n t (freed r))
     ∙ sym (insert_removed (remove (loose_of live (set rs n (freed r))) t.start) r.start l
-    (get-remove_other (loose_of live (set rs n (freed r))) t.start r.start differ ∙ had))
+    (get_remove_other (loose_of live (set rs n (freed r))) t.start r.start differ ∙ had))
     ∙ ap (λ m. insert m r.start l) (removes (loose_of live (set rs n (freed r))) t.start r.start)
     ∙ ap (λ m. insert (remove m t.start) r.start l) (sym (loose_split live rs n r (freed r) there node refl))
 
@@ -94,20 +96,20 @@ module _ (arena : Arena) (rs : List Record) (n : ℕ) (r t : Record) (there : sl
 
   pub stored_detached : live_length arena t.start ≡ Some t.length
       → ((i : ℕ) (x : Record) → ¬ (i ≡ n) → slice_get rs i ≡ Some x → IsNode x.state → ¬ (x.start ≡ t.start))
-      → Stored arena rs → Stored arena (set rs n t)
+      → AreRecordsStored arena rs → AreRecordsStored arena (set rs n t)
   stored_detached live apart st =
       stored_set arena rs n r t there (λ node. live) (λ i x ne e nx nt. apart i x ne e nx)
       (λ i x ne e nx nt same. not_linked t.state is nt) st
 
   pub kept_detached : (links : List Links) (heads places : List ℕ) (candidates : ℕ)
-      → t.next ≡ r.next → r ≡ get_or rs n r → Stored arena (set rs n t)
-      → Kept arena rs links heads places candidates
-      → Kept arena (set rs n t) links heads places candidates
+      → t.next ≡ r.next → r ≡ get_or rs n r → AreRecordsStored arena (set rs n t)
+      → HoldsNodes arena rs links heads places candidates
+      → HoldsNodes arena (set rs n t) links heads places candidates
   kept_detached links heads places candidates next read st k =
       record {
         stored = st;
         linked_all = k.linked_all ∙ sym (length-set rs n t);
-        some = k.some;
+        at_least_one = k.at_least_one;
         places_all = k.places_all;
         in_chains = filed_same _ _ no_record _ _ _ _ (λ b i e. links_kept next read i) (λ b. refl)
             (chain_kept (length heads - 1)) k.in_chains;
@@ -132,9 +134,9 @@ module _ (arena : Arena) (rs : List Record) (n : ℕ) (r t : Record) (there : sl
         loose = loose_same arena.live rs n r t there
             (λ m. ap (λ s. without_run s t.start m) is ∙ ap (λ s. without_run Detached s m) start
             ∙ sym (ap (λ s. without_run s r.start m) was)) i;
-        uses = picked_same (λ (x : Record). uses_in x) rs n t r there inside
+        uses = picked_same (λ (x : Record). uses_of_record x) rs n t r there inside
             (ap (λ s. if_node s t.uses) (is ∙ sym was) ∙ ap (if_node r.state) uses) i;
-        marks = picked_same (λ (x : Record). mark_in x) rs n t r there inside
+        marks = picked_same (λ (x : Record). mark_of_record x) rs n t r there inside
             (ap (λ s. if_node s t.mark) (is ∙ sym was) ∙ ap (if_node r.state) mark) i;
         free = counts_of arena.free;
         records = length-set rs n t i;
@@ -143,7 +145,7 @@ module _ (arena : Arena) (rs : List Record) (n : ℕ) (r t : Record) (there : sl
       }
 
   -- the nodes after a detached one got the list of a loose run
-  pub nodes_exchanged : (list l : List (ℕ × ℕ)) → Stored arena rs → t.place ≡ r.place → t.uses ≡ r.uses
+  pub nodes_exchanged : (list l : List (ℕ × ℕ)) → AreRecordsStored arena rs → t.place ≡ r.place → t.uses ≡ r.uses
       → t.mark ≡ r.mark → get (nodes_of arena rs).loose t.start ≡ Some list → get arena.live r.start ≡ Some l
       → nodes_of arena (set rs n t) ≡ exchanged (nodes_of arena rs) n r.place t.start list r.start l
   nodes_exchanged list l st place uses mark run had i =
@@ -156,9 +158,9 @@ module _ (arena : Arena) (rs : List Record) (n : ℕ) (r t : Record) (there : sl
             (detached_node t.state is)
             (λ same. loose_untaken arena.live rs t.start list run n r there (detached_node r.state was) (sym same))
             (loose_freed arena rs n r st there (detached_node r.state was) ∙ had) i;
-        uses = picked_same (λ (x : Record). uses_in x) rs n t r there inside
+        uses = picked_same (λ (x : Record). uses_of_record x) rs n t r there inside
             (ap (λ s. if_node s t.uses) (is ∙ sym was) ∙ ap (if_node r.state) uses) i;
-        marks = picked_same (λ (x : Record). mark_in x) rs n t r there inside
+        marks = picked_same (λ (x : Record). mark_of_record x) rs n t r there inside
             (ap (λ s. if_node s t.mark) (is ∙ sym was) ∙ ap (if_node r.state) mark) i;
         free = counts_of arena.free;
         records = length-set rs n t i;

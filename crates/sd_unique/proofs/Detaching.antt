@@ -12,7 +12,7 @@ use Rattle.sd_unique.specs.declared.record.State.TheVariants.{Linked, Detached}
 use Rattle.sd_unique.specs.Filed.{IsFiled, unfiled, filed_at}
 use Rattle.sd_unique.specs.Record.{key_of, nodes_of}
 use Rattle.sd_unique.specs.Chains.{next_of, chain_by, list_by, chain_under, list_under, bucket_of, head_of}
-use Rattle.sd_unique.specs.Chains.{no_record, Kept, KeepsRecords, KeepsStack, AreListed}
+use Rattle.sd_unique.specs.Chains.{no_record, HoldsNodes, KeepsRecords, KeepsStack, AreInLists}
 use Rattle.sd_unique.specs.Relinking.{unlinked}
 use Rattle.sd_unique.proofs.Changed.{set_which}
 use Rattle.sd_unique.proofs.Entries.{slice_get_inside}
@@ -39,14 +39,14 @@ module _ (arena : Arena) (rs mid : List Record) (n : ℕ) (m t : Record) (kept :
       → IsSome (get (nodes_of arena rs).linked n) → t.next ≡ m.next → length heads' ≡ length heads
       → length places' ≡ length places → KeepsStack links new
       → IsFiled (next_of mid) no_record (head_of heads') (unfiled n (chain_under arena (length heads - 1) rs))
-      → AreListed new places' (filed_at n 0 (unfiled n (list_under rs)))
-      → Kept arena rs links heads places top → Kept arena (set mid n t) new heads' places' top
+      → AreInLists new places' (filed_at n 0 (unfiled n (list_under rs)))
+      → HoldsNodes arena rs links heads places top → HoldsNodes arena (set mid n t) new heads' places' top
   detached_kept links new heads heads' places places' top was next same_heads same_places stack chains lists k =
       record {
         stored = stored_unlinked arena mid n m t there (slice_get_inside mid n m there) place start size uses mark
             (was_linked was) is (stored_kept rs mid kept arena k.stored);
         linked_all = stack.size ∙ k.linked_all ∙ sym kept.size ∙ sym (length-set mid n t);
-        some = omega (arith, k.some, same_heads);
+        at_least_one = omega (arith, k.at_least_one, same_heads);
         places_all = same_places ∙ k.places_all;
         in_chains = filed_same (next_of mid) (next_of (set mid n t)) no_record (head_of heads') (head_of heads')
             (unfiled n (chain_under arena (length heads - 1) rs)) (chain_under arena (length heads' - 1) (set mid n t))

@@ -5,15 +5,15 @@ use Rattle.std.proofs.Math.ListN.{set}
 use Rattle.std.proofs.lemmas.List.{length-set, get_or-set_same, get_or-set_other}
 use Rattle.std.specs.FinMap.{get}
 use Rattle.sd_runs.specs.Arena.{Arena, IsArena}
-use Rattle.sd_runs.specs.Taking.{given}
+use Rattle.sd_runs.specs.Taking.{given_back}
 use Rattle.sd_runs.proofs.Places.{by_cases}
 use Rattle.sd_unique.specs.declared.record.Record.{Record}
 use Rattle.sd_unique.specs.declared.record.Links.{Links}
 use Rattle.sd_unique.specs.declared.record.State.TheVariants.{Free, Detached}
 use Rattle.sd_unique.specs.Filed.{IsFiled, unfiled}
-use Rattle.sd_unique.specs.Record.{key_of, nodes_of, Stored}
+use Rattle.sd_unique.specs.Record.{key_of, nodes_of, AreRecordsStored}
 use Rattle.sd_unique.specs.Chains.{next_of, chain_by, list_by, chain_under, list_under, bucket_of, head_of}
-use Rattle.sd_unique.specs.Chains.{no_record, Kept, KeepsStack, AreListed}
+use Rattle.sd_unique.specs.Chains.{no_record, HoldsNodes, KeepsStack, AreInLists}
 use Rattle.sd_unique.specs.Relinking.{removed}
 use Rattle.sd_unique.proofs.Changed.{set_which}
 use Rattle.sd_unique.proofs.Cutting.{all_kept}
@@ -48,19 +48,19 @@ module _ (arena : Arena) (rs : List Record) (n : ℕ) (r t : Record) (there : sl
 
   -- what holds of the fields is kept, before the run is given back
   freed_kept : (links new : List Links) (heads places places' : List ℕ) (top : ℕ) → t.next ≡ head_of heads 0
-      → length places' ≡ length places → KeepsStack links new → AreListed new places' (unfiled n (list_under rs))
-      → Stored arena (set rs n t) → Kept arena rs links heads places top
-      → Kept arena (set rs n t) new (set heads 0 n) places' top
+      → length places' ≡ length places → KeepsStack links new → AreInLists new places' (unfiled n (list_under rs))
+      → AreRecordsStored arena (set rs n t) → HoldsNodes arena rs links heads places top
+      → HoldsNodes arena (set rs n t) new (set heads 0 n) places' top
   freed_kept links new heads places places' top next same_places stack lists st k =
       record {
         stored = st;
         linked_all = stack.size ∙ k.linked_all ∙ sym (length-set rs n t);
-        some = omega (arith, k.some, length-set heads 0 n);
+        at_least_one = omega (arith, k.at_least_one, length-set heads 0 n);
         places_all = same_places ∙ k.places_all;
         in_chains = subst (λ h. IsFiled (next_of (set rs n t)) no_record (head_of (set heads 0 n))
             (chain_under arena (h - 1) (set rs n t))) (sym (length-set heads 0 n))
             (chained (length heads - 1) heads (is_record n k.stored (slice_get_inside rs n r there))
-            (omega (arith, k.some)) next k.in_chains);
+            (omega (arith, k.at_least_one)) next k.in_chains);
         in_lists = both_same _ _ _ _ no_record _ _ (unfiled n (list_under rs)) (list_under (set rs n t))
             (λ b i e. refl) (λ b i e. refl) (λ b. refl)
             (unlisted arena rs rs n r t (all_kept rs) there (ap (λ s. list_by s (bit_and t.place 2047)) is)) lists;
@@ -71,7 +71,8 @@ module _ (arena : Arena) (rs : List Record) (n : ℕ) (r t : Record) (there : sl
             (set_which rs n r t there i x e);
       }
 
-  module _ (new : Arena) (st : Stored arena rs) (well : IsArena new) (gave : new ≡ given arena r.start r.length)
+  module _ (new : Arena) (st : AreRecordsStored arena rs) (well : IsArena new) (gave : new
+      ≡ given_back arena r.start r.length)
       (list : List (ℕ × ℕ)) (live : get arena.live r.start ≡ Some list) (size : length list ≡ r.length) where
     inside : n < length rs
     inside = slice_get_inside rs n r there
@@ -79,8 +80,8 @@ module _ (arena : Arena) (rs : List Record) (n : ℕ) (r t : Record) (there : sl
     -- and after that
     pub released_kept : (links more : List Links) (heads places places' : List ℕ) (top : ℕ) → t.next ≡ head_of heads 0
         → length places' ≡ length places → KeepsStack links more
-        → AreListed more places' (unfiled n (list_under rs)) → Kept arena rs links heads places top
-        → Kept new (set rs n t) more (set heads 0 n) places' top
+        → AreInLists more places' (unfiled n (list_under rs)) → HoldsNodes arena rs links heads places top
+        → HoldsNodes new (set rs n t) more (set heads 0 n) places' top
     released_kept links more heads places places' top next same_places stack lists k =
         let stored = stored_freed arena new rs n r t there inside was is st well gave list size in
         let apart = untaken arena new rs n r t there inside was is st well gave list size in

@@ -11,7 +11,7 @@ use Rattle.sd_unique.specs.declared.record.Record.{Record}
 use Rattle.sd_unique.specs.declared.record.State.{State}
 use Rattle.sd_unique.specs.declared.record.State.TheVariants.{Free, Linked, Detached}
 use Rattle.sd_unique.specs.Record.{key_of}
-use Rattle.sd_unique.specs.Filed.{IsChain, Has, IsOnce, IsFiled, filed_at}
+use Rattle.sd_unique.specs.Filed.{IsChain, IsMember, HasNoCopies, IsFiled, filed_at}
 use Rattle.sd_unique.specs.Growing.{free_by, IsLinkedBelow}
 use Rattle.sd_unique.specs.Chains.{next_of, head_of, chain_by, chain_under, bucket_of, no_record}
 use Rattle.sd_unique.proofs.Both.{filed_here, filed_other}
@@ -75,20 +75,20 @@ module _ (arena : Arena) (rs : List Record) where
           get_or-set_other (replicate size no_record) 0 (suc b) first no_record (λ e. omega arith)
           ∙ no_heads size (suc b)
 
-      once : (b : ℕ) → IsOnce (first_alone f.lists b)
+      once : (b : ℕ) → HasNoCopies (first_alone f.lists b)
       once zero = f.once 0
       once (suc b) = tt
 
-      filed : (b n : ℕ) → free_under rs n ≡ Some b → Has n (first_alone f.lists b)
+      filed : (b n : ℕ) → free_under rs n ≡ Some b → IsMember n (first_alone f.lists b)
       filed b n e =
           let r = picked_from (λ (r : Record). free_by r.state) (slice_get rs n) b e in
           let free = free_first (r.0).state b r.2 in
-          subst (λ z. Has n (first_alone f.lists z)) (sym free.1)
+          subst (λ z. IsMember n (first_alone f.lists z)) (sym free.1)
           (f.filed 0 n
           (ap (option_and_then (λ (x : Record). chain_by x.state (bucket_of (key_of arena x) old))) r.1
           ∙ ap (λ s. chain_by s (bucket_of (key_of arena r.0) old)) free.0))
 
-      only : (b n : ℕ) → Has n (first_alone f.lists b) → free_under rs n ≡ Some b
+      only : (b n : ℕ) → IsMember n (first_alone f.lists b) → free_under rs n ≡ Some b
       only zero n h =
           let r = picked_from (λ (r : Record). chain_by r.state (bucket_of (key_of arena r) old)) (slice_get rs n) 0
           (f.only 0 n h) in

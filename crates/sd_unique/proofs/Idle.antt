@@ -5,9 +5,9 @@ use Rattle.sd_runs.specs.Arena.{Arena}
 use Rattle.sd_unique.specs.declared.record.Record.{Record}
 use Rattle.sd_unique.specs.declared.record.Links.{Links}
 use Rattle.sd_unique.specs.declared.record.State.TheVariants.{Linked}
-use Rattle.sd_unique.specs.Record.{if_linked, key_of, linked_key, uses_in, nodes_of}
+use Rattle.sd_unique.specs.Record.{if_linked, key_of, linked_key, uses_of_record, nodes_of}
 use Rattle.sd_unique.specs.Relinking.{IsIdle}
-use Rattle.sd_unique.specs.Chains.{waiting_of, no_record, IsUnused, Kept}
+use Rattle.sd_unique.specs.Chains.{waiting_of, no_record, IsUnused, HoldsNodes}
 use Rattle.sd_unique.proofs.Numbered.{linked_at, linked_there, uses_in_at, node_some}
 use Rattle.sd_unique.proofs.Stacked.{chain_empty}
 use Rattle.sd_unique.proofs.Taken.{linked_state}
@@ -20,7 +20,7 @@ idle_some arena rs n r there u =
       linked = subst IsSome (sym (linked_at arena rs n
           ∙ ap (option_and_then (λ (x : Record). linked_key arena x)) there
           ∙ ap (λ s. if_linked s (key_of arena r)) u.linked)) refl;
-      unused = uses_in_at arena rs n ∙ ap (option_and_then (λ (x : Record). uses_in x)) there
+      unused = uses_in_at arena rs n ∙ ap (option_and_then (λ (x : Record). uses_of_record x)) there
           ∙ node_some r.state r.uses (linked_state r.state u.linked) ∙ ap Some u.none;
     }
 
@@ -29,14 +29,14 @@ idle_record : (arena : Arena) (rs : List Record) (n : ℕ) → IsIdle (nodes_of 
 idle_record arena rs n idle =
     let r = linked_there arena rs n idle.linked in
     let uses : Some (r.0).uses ≡ Some 0 =
-    sym (uses_in_at arena rs n ∙ ap (option_and_then (λ (x : Record). uses_in x)) r.1
+    sym (uses_in_at arena rs n ∙ ap (option_and_then (λ (x : Record). uses_of_record x)) r.1
     ∙ node_some (r.0).state (r.0).uses (linked_state (r.0).state r.2)) ∙ idle.unused in
     let none : (r.0).uses ≡ 0 = cc in
     (r.0, r.1, r.2, none)
 
 -- where the stack is empty, no linked node is without uses
 pub idle_none : (arena : Arena) (rs : List Record) (links : List Links) (heads places : List ℕ) (top : ℕ)
-    → Kept arena rs links heads places top → top ≡ no_record → (n : ℕ) → ¬ IsIdle (nodes_of arena rs) n
+    → HoldsNodes arena rs links heads places top → top ≡ no_record → (n : ℕ) → ¬ IsIdle (nodes_of arena rs) n
 idle_none arena rs links heads places top k e n idle =
     let r = idle_record arena rs n idle in
     chain_empty (waiting_of links) no_record top n ((k.in_stack).lists 0) ((k.in_stack).chained 0) e

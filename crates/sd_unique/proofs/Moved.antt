@@ -7,7 +7,7 @@ use Rattle.std.proofs.lemmas.List.{length-set}
 use Rattle.std.specs.Option.{option_and_then}
 use Rattle.std.specs.FinMap.{get, remove}
 use Rattle.sd_runs.specs.Arena.{Arena, IsArena, live_length}
-use Rattle.sd_runs.specs.Taking.{given}
+use Rattle.sd_runs.specs.Taking.{given_back}
 use Rattle.sd_runs.proofs.Places.{by_cases}
 use Rattle.sd_unique.specs.declared.record.Record.{Record}
 use Rattle.sd_unique.specs.declared.record.State.{State}
@@ -15,7 +15,8 @@ use Rattle.sd_unique.specs.declared.record.State.TheVariants.{Free, Linked, Deta
 use Rattle.sd_unique.specs.Inserting.{with_count}
 use Rattle.sd_unique.specs.Relinking.{unlinked, relinked, removed, IsAbsent}
 use Rattle.sd_unique.specs.Record.{if_linked, if_detached, if_node, IsNode, without_run, key_of, linked_key}
-use Rattle.sd_unique.specs.Record.{detached_key, uses_in, mark_in, loose_of, counts_of, nodes_of, Stored}
+use Rattle.sd_unique.specs.Record.{detached_key, uses_of_record, mark_of_record, loose_of, counts_of}
+use Rattle.sd_unique.specs.Record.{nodes_of, AreRecordsStored}
 use Rattle.sd_unique.proofs.Changed.{set_which, stored_set}
 use Rattle.sd_unique.proofs.Counts.{count_is}
 use Rattle.sd_unique.proofs.Loose.{IsUntaken, loose_same, loose_split, loose_given}
@@ -44,7 +45,7 @@ module _ (arena : Arena) (rs : List Record) (n : ℕ) (r t : Record) (there : sl
 
   module _ (was : r.state ≡ Linked) (is : t.state ≡ Detached) where
     -- what holds of the records is kept when a node is unlinked
-    pub stored_unlinked : Stored arena rs → Stored arena (set rs n t)
+    pub stored_unlinked : AreRecordsStored arena rs → AreRecordsStored arena (set rs n t)
     stored_unlinked st =
         let node = state_node r.state (inl was) in
         stored_set arena rs n r t there
@@ -62,9 +63,9 @@ module _ (arena : Arena) (rs : List Record) (n : ℕ) (r t : Record) (there : sl
           loose = loose_same arena.live rs n r t there
               (λ m. ap (λ s. without_run s t.start m) is ∙ ap (remove m) start
               ∙ sym (ap (λ s. without_run s r.start m) was)) i;
-          uses = picked_same (λ (x : Record). uses_in x) rs n t r there inside
+          uses = picked_same (λ (x : Record). uses_of_record x) rs n t r there inside
               (ap (λ s. if_node s t.uses) is ∙ ap Some uses ∙ sym (ap (λ s. if_node s r.uses) was)) i;
-          marks = picked_same (λ (x : Record). mark_in x) rs n t r there inside
+          marks = picked_same (λ (x : Record). mark_of_record x) rs n t r there inside
               (ap (λ s. if_node s t.mark) is ∙ ap Some mark ∙ sym (ap (λ s. if_node s r.mark) was)) i;
           free = counts_of arena.free;
           records = length-set rs n t i;
@@ -74,7 +75,8 @@ module _ (arena : Arena) (rs : List Record) (n : ℕ) (r t : Record) (there : sl
 
   module _ (was : r.state ≡ Detached) (is : t.state ≡ Linked) where
     -- a detached node whose key no linked node has is linked again
-    pub stored_relinked : IsAbsent (nodes_of arena rs) (key_of arena r) → Stored arena rs → Stored arena (set rs n t)
+    pub stored_relinked : IsAbsent (nodes_of arena rs) (key_of arena r) → AreRecordsStored arena rs
+        → AreRecordsStored arena (set rs n t)
     stored_relinked absent st =
         let node = state_node r.state (inr was) in
         stored_set arena rs n r t there
@@ -95,9 +97,9 @@ module _ (arena : Arena) (rs : List Record) (n : ℕ) (r t : Record) (there : sl
           loose = loose_same arena.live rs n r t there
               (λ m. ap (λ s. without_run s t.start m) is ∙ ap (remove m) start
               ∙ sym (ap (λ s. without_run s r.start m) was)) i;
-          uses = picked_same (λ (x : Record). uses_in x) rs n t r there inside
+          uses = picked_same (λ (x : Record). uses_of_record x) rs n t r there inside
               (ap (λ s. if_node s t.uses) is ∙ ap Some uses ∙ sym (ap (λ s. if_node s r.uses) was)) i;
-          marks = picked_same (λ (x : Record). mark_in x) rs n t r there inside
+          marks = picked_same (λ (x : Record). mark_of_record x) rs n t r there inside
               (ap (λ s. if_node s t.mark) is ∙ ap Some mark ∙ sym (ap (λ s. if_node s r.mark) was)) i;
           free = counts_of arena.free;
           records = length-set rs n t i;
@@ -107,10 +109,10 @@ module _ (arena : Arena) (rs : List Record) (n : ℕ) (r t : Record) (there : sl
 
 -- a detached node is removed: its record becomes free, then its run is given back
 module _ (arena new : Arena) (rs : List Record) (n : ℕ) (r t : Record) (there : slice_get rs n ≡ Some r)
-    (inside : n < length rs) (was : r.state ≡ Detached) (is : t.state ≡ Free) (st : Stored arena rs)
-    (well : IsArena new) (gave : new ≡ given arena r.start r.length) (list : List (ℕ × ℕ))
+    (inside : n < length rs) (was : r.state ≡ Detached) (is : t.state ≡ Free) (st : AreRecordsStored arena rs)
+    (well : IsArena new) (gave : new ≡ given_back arena r.start r.length) (list : List (ℕ × ℕ))
     (size : length list ≡ r.length) where
-  pub stored_freed : Stored arena (set rs n t)
+  pub stored_freed : AreRecordsStored arena (set rs n t)
   stored_freed =
       stored_set arena rs n r t there (λ k. absurd (not_free t.state is k))
       (λ i x ne e nx nt same. not_free t.state is nt) (λ i x ne e nx nt same. free_not_linked t.state is nt) st
@@ -123,7 +125,7 @@ module _ (arena new : Arena) (rs : List Record) (n : ℕ) (r t : Record) (there 
       (λ h. h.0 (st.apart i n x r h.1 there nx (state_node r.state (inr was)) (sym same)))
       (set_which rs n r t there i x e)
 
-  pub stored_removed : Stored new (set rs n t)
+  pub stored_removed : AreRecordsStored new (set rs n t)
   stored_removed =
       stored_arena arena new (set rs n t) stored_freed well
       (given_same arena new (set rs n t) stored_freed well list r.start r.length gave size untaken)
@@ -147,8 +149,8 @@ module _ (arena new : Arena) (rs : List Record) (n : ℕ) (r t : Record) (there 
             (ap (λ s. if_detached s (key_of arena t)) is)) i;
         loose = (ap (λ a. loose_of a.live (set rs n t)) gave ∙ loose_given arena.live (set rs n t) r.start
             ∙ sym (loose_split arena.live rs n r t there (state_node r.state (inr was)) is)) i;
-        uses = picked_unset (λ (x : Record). uses_in x) rs n t inside (ap (λ s. if_node s t.uses) is) i;
-        marks = picked_unset (λ (x : Record). mark_in x) rs n t inside (ap (λ s. if_node s t.mark) is) i;
+        uses = picked_unset (λ (x : Record). uses_of_record x) rs n t inside (ap (λ s. if_node s t.uses) is) i;
+        marks = picked_unset (λ (x : Record). mark_of_record x) rs n t inside (ap (λ s. if_node s t.mark) is) i;
         free = (free_given arena new (set rs n t) stored_freed well list r.start r.length gave size untaken
             ∙ ap (λ k. with_count (counts_of arena.free) (length list) (k + 1))
             (sym (count_is arena rs (length list)))) i;

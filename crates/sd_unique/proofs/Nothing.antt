@@ -9,7 +9,7 @@ use Rattle.sd_unique.specs.declared.record.Record.{Record}
 use Rattle.sd_unique.specs.declared.record.Links.{Links}
 use Rattle.sd_unique.specs.Inserting.{no_nodes}
 use Rattle.sd_unique.specs.Record.{nodes_of}
-use Rattle.sd_unique.specs.Chains.{Kept, no_record}
+use Rattle.sd_unique.specs.Chains.{HoldsNodes, no_record}
 use Rattle.sd_unique.proofs.Empty.{kept_nothing}
 use Rattle.sd_unique.proofs.Growing.{no_heads}
 use Rattle.sd_unique.proofs.Occupied.{kept_fields}
@@ -36,7 +36,7 @@ module _ (arena : Arena) (bound : ℕ) (rs : List Record) (is : arena ≡ empty_
 
   pub kept_new : (links : List Links) (heads places : List ℕ) (buckets : ℕ) → IsArena arena → bound < 2 ^ 31
       → links ≡ [] → heads ≡ replicate buckets no_record → places ≡ replicate 2049 no_record → 1 < buckets
-      → Kept arena rs links heads places no_record
+      → HoldsNodes arena rs links heads places no_record
   kept_new links heads places buckets well fits no_links no_chains no_lists some =
       kept_tables arena [] rs links (replicate buckets no_record) heads places no_record none no_chains
       (kept_fields arena [] [] links (replicate buckets no_record) (replicate 2049 no_record) places no_record

@@ -16,10 +16,11 @@ use Rattle.sd_unique.specs.Nodes.{key_at}
 use Rattle.sd_unique.specs.Occupying.{occupied, IsFreeNumber}
 use Rattle.sd_unique.specs.Relinking.{IsAbsent, IsLoose}
 use Rattle.sd_unique.specs.Record.{if_linked, if_detached, if_node, IsNode, key_of, linked_key}
-use Rattle.sd_unique.specs.Record.{detached_key, uses_in, mark_in, loose_of, counts_of, nodes_of, Stored}
+use Rattle.sd_unique.specs.Record.{detached_key, uses_of_record, mark_of_record, loose_of, counts_of}
+use Rattle.sd_unique.specs.Record.{nodes_of, AreRecordsStored}
 use Rattle.sd_unique.specs.Filed.{IsFiled, unfiled, filed_at}
 use Rattle.sd_unique.specs.Chains.{next_of, head_of, chain_by, list_by, chain_under, list_under}
-use Rattle.sd_unique.specs.Chains.{stack_under, bucket_of, no_record, Kept, AreListed, AreStacked, KeepsLists}
+use Rattle.sd_unique.specs.Chains.{stack_under, bucket_of, no_record, HoldsNodes, AreInLists, AreStacked, KeepsLists}
 use Rattle.sd_unique.specs.Chains.{KeepsStack, IsPushed}
 use Rattle.sd_unique.proofs.Both.{unfiled_here, unfiled_other, filed_here, filed_other}
 use Rattle.sd_unique.proofs.Changed.{set_which, stored_set}
@@ -103,7 +104,8 @@ module _ (arena : Arena) (rs : List Record) (n : ℕ) (r t : Record) (there : sl
     key_new i = (t.place, unwrap_or (loose_live arena.live rs t.start list run i) [])
 
     -- what holds of the records is kept where no linked node has the key
-    pub stored_occupied : IsAbsent (nodes_of arena rs) (t.place, list) → Stored arena rs → Stored arena (set rs n t)
+    pub stored_occupied : IsAbsent (nodes_of arena rs) (t.place, list) → AreRecordsStored arena rs
+        → AreRecordsStored arena (set rs n t)
     stored_occupied absent st =
         stored_set arena rs n r t there
         (λ node. ap (option_map length) (loose_live arena.live rs t.start list run) ∙ ap Some (sym size))
@@ -129,9 +131,9 @@ module _ (arena : Arena) (rs : List Record) (n : ℕ) (r t : Record) (there : sl
           detached = picked_same (λ (x : Record). detached_key arena x) rs n t r there inside
               (ap (λ s. if_detached s (key_of arena t)) is ∙ sym (ap (λ s. if_detached s (key_of arena r)) was)) i;
           loose = loose_occupied i;
-          uses = picked_set (λ (x : Record). uses_in x) rs n t 0 inside
+          uses = picked_set (λ (x : Record). uses_of_record x) rs n t 0 inside
               (ap (λ s. if_node s t.uses) is ∙ ap Some uses) i;
-          marks = picked_set (λ (x : Record). mark_in x) rs n t 0 inside
+          marks = picked_set (λ (x : Record). mark_of_record x) rs n t 0 inside
               (ap (λ s. if_node s t.mark) is ∙ ap Some mark) i;
           free = counts_of arena.free;
           records = length-set rs n t i;
@@ -145,15 +147,15 @@ module _ (arena : Arena) (rs : List Record) (n : ℕ) (r t : Record) (there : sl
         → length new ≡ length links → length heads' ≡ length heads → length places' ≡ length places
         → IsFiled (next_of (set rs n t)) no_record (head_of heads')
         (chain_under arena (length heads - 1) (set rs n t))
-        → AreListed new places' (list_under (set rs n t)) → AreStacked new top'
+        → AreInLists new places' (list_under (set rs n t)) → AreStacked new top'
         → ((m : ℕ) → stack_under links m ≡ Some 0 → stack_under new m ≡ Some 0) → stack_under new n ≡ Some 0
-        → Kept arena rs links heads places top → Kept arena (set rs n t) new heads' places' top'
+        → HoldsNodes arena rs links heads places top → HoldsNodes arena (set rs n t) new heads' places' top'
     kept_occupied links new heads heads' places places' top top' absent size hsize psize chains lists stacked flags
         here k =
         record {
           stored = stored_occupied absent k.stored;
           linked_all = size ∙ k.linked_all ∙ sym (length-set rs n t);
-          some = omega (arith, hsize, k.some);
+          at_least_one = omega (arith, hsize, k.at_least_one);
           places_all = psize ∙ k.places_all;
           in_chains = subst (λ s. IsFiled (next_of (set rs n t)) no_record (head_of heads')
               (chain_under arena (s - 1) (set rs n t))) (sym hsize) chains;
@@ -167,13 +169,13 @@ module _ (arena : Arena) (rs : List Record) (n : ℕ) (r t : Record) (there : sl
 
 -- the lists, read from another function of the same places
 pub lists_by : (links : List Links) (places : List ℕ) (under under' : ℕ → Option ℕ) → ((m : ℕ) → under' m ≡ under m)
-    → AreListed links places under → AreListed links places under'
+    → AreInLists links places under → AreInLists links places under'
 lists_by links places under under' same f =
     both_same _ _ _ _ no_record _ _ _ _ (λ b i e. refl) (λ b i e. refl) (λ b. refl) same f
 
 -- the lists after a push onto the stack
 pub lists_pushed : (links new : List Links) (places : List ℕ) (under : ℕ → Option ℕ) → KeepsLists links new
-    → AreListed links places under → AreListed new places under
+    → AreInLists links places under → AreInLists new places under
 lists_pushed links new places under kept f =
     both_same _ _ _ _ no_record _ _ _ _ (λ b i e. kept.after i) (λ b i e. kept.before i) (λ b. refl) (λ m. refl) f
 
@@ -228,17 +230,17 @@ module _ (arena : Arena) (rs : List Record) (heads : List ℕ) (count : ℕ)
 
 -- the fields are the same, each by its equation
 pub kept_fields : (arena : Arena) (rs : List Record) (links links' : List Links) (heads places places' : List ℕ)
-    (top : ℕ) → links' ≡ links → places' ≡ places → Kept arena rs links heads places top
-    → Kept arena rs links' heads places' top
+    (top : ℕ) → links' ≡ links → places' ≡ places → HoldsNodes arena rs links heads places top
+    → HoldsNodes arena rs links' heads places' top
 kept_fields arena rs links links' heads places places' top e f k =
-    subst (λ l. Kept arena rs l heads places' top) (sym e)
-    (subst (λ p. Kept arena rs links heads p top) (sym f) k)
+    subst (λ l. HoldsNodes arena rs l heads places' top) (sym e)
+    (subst (λ p. HoldsNodes arena rs links heads p top) (sym f) k)
 
 module _ (arena : Arena) (rs : List Record) (links : List Links) (heads places : List ℕ) (top : ℕ)
-    (k : Kept arena rs links heads places top) (first : ℕ) (read : first ≡ get_or heads 0 first)
+    (k : HoldsNodes arena rs links heads places top) (first : ℕ) (read : first ≡ get_or heads 0 first)
     (free : (m : ℕ) × IsFreeNumber (nodes_of arena rs) m) where
   first_is : head_of heads 0 ≡ first
-  first_is = get_or_any heads 0 no_record first (omega (arith, k.some)) ∙ sym read
+  first_is = get_or_any heads 0 no_record first (omega (arith, k.at_least_one)) ∙ sym read
 
   pub first_some : first ≢ no_record
   first_some e = some_free arena rs heads (length heads - 1) k.in_chains free.0 free.1 (first_is ∙ e)
@@ -273,7 +275,7 @@ module _ (arena : Arena) (rs : List Record) (links : List Links) (heads places :
 
   -- what putting it first in the list of its place asks
   pub first_ready : (under : ℕ → Option ℕ) × (under first ≡ None)
-      × ((n b : ℕ) → under n ≡ Some b → n < length links) × AreListed links places under
+      × ((n b : ℕ) → under n ≡ Some b → n < length links) × AreInLists links places under
   first_ready = (
     list_under rs,
     first_unlisted,
@@ -291,9 +293,9 @@ module _ (arena : Arena) (rs : List Record) (links : List Links) (heads places :
         → b ≡ bucket_of (t.place, list) (length heads - 1) → b < length heads - 1 → head ≡ suc b
         → t.next ≡ get_or (set heads 0 next) head t.next
         → (mid new : List Links) (places' : List ℕ) (top' at : ℕ) → at ≡ suc (bit_and t.place 2047)
-        → AreListed mid places' (filed_at first at (list_under rs)) → KeepsStack links mid
+        → AreInLists mid places' (filed_at first at (list_under rs)) → KeepsStack links mid
         → length places' ≡ length places → KeepsLists mid new → AreStacked new top' → IsPushed mid new first
-        → Kept arena (set rs first t) new (set (set heads 0 next) head first) places' top'
+        → HoldsNodes arena (set rs first t) new (set (set heads 0 next) head first) places' top'
     kept_steps next b head next_is bucket fits head_is t_next mid new places' top' at at_is listed stack size lists
         stacked pushed =
         let r = first_there in

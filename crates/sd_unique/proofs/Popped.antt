@@ -8,7 +8,7 @@ use Rattle.std.specs.Option.{option_and_then}
 use Rattle.sd_runs.proofs.Places.{by_cases}
 use Rattle.sd_unique.specs.declared.record.Record.{Record}
 use Rattle.sd_unique.specs.declared.record.Links.{Links}
-use Rattle.sd_unique.specs.Filed.{Has, unfiled}
+use Rattle.sd_unique.specs.Filed.{IsMember, unfiled}
 use Rattle.sd_unique.specs.Chains.{waiting_of, stack_under, top_of, no_record, waiting_count, IsUnused}
 use Rattle.sd_unique.specs.Chains.{AreStacked, KeepsLists}
 use Rattle.sd_unique.proofs.Both.{unfiled_here, unfiled_other}
@@ -36,10 +36,10 @@ module _ (links : List Links) (top : ℕ) (some : top ≢ no_record) (f : AreSta
   pub top_inside : top < length links
   top_inside = read_inside (λ (l : Links). cond l.is_waiting (Some 0) None) links top 0 top_waits
 
-  has_first : (y c : ℕ) → stack_under links y ≡ Some c → Has y (f.lists 0)
+  has_first : (y c : ℕ) → stack_under links y ≡ Some c → IsMember y (f.lists 0)
   has_first y c e =
       let l = picked_from (λ (l : Links). cond l.is_waiting (Some 0) None) (slice_get links y) c e in
-      subst (λ b. Has y (f.lists b)) (only_first (l.0).is_waiting c l.2) (f.filed c y e)
+      subst (λ b. IsMember y (f.lists b)) (only_first (l.0).is_waiting c l.2) (f.filed c y e)
 
   heads : (next c : ℕ) → next ≡ waiting_of links top
       → top_of next c ≡ passing top (waiting_of links top) (top_of top c)

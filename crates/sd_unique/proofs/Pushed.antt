@@ -12,7 +12,7 @@ use Rattle.std.specs.Option.{option_and_then, IsSome}
 use Rattle.std.specs.FinMap.{get}
 use Rattle.sd_runs.specs.Arena.{Arena, IsArena, live_length}
 use Rattle.sd_runs.specs.Taking.{taken, next_start, KeepsLive}
-use Rattle.sd_runs.proofs.Maps.{same_at_each, get-insert_same}
+use Rattle.sd_runs.proofs.Maps.{same_at_each, get_insert_same}
 use Rattle.sd_runs.proofs.Places.{by_cases}
 use Rattle.sd_unique.specs.declared.record.Record.{Record}
 use Rattle.sd_unique.specs.declared.record.Links.{Links}
@@ -24,19 +24,20 @@ use Rattle.sd_unique.specs.Inserting.{inserted, IsNewNumber}
 use Rattle.sd_unique.specs.Relinking.{with_loose, IsLoose, IsAbsent}
 use Rattle.sd_unique.specs.Record.{if_linked, if_detached, if_node, IsNode, without_run, picked_map, key_of}
 use Rattle.sd_unique.specs.Record.{linked_key}
-use Rattle.sd_unique.specs.Record.{detached_key, uses_in, mark_in, loose_of, counts_of, nodes_of, Stored}
+use Rattle.sd_unique.specs.Record.{detached_key, uses_of_record, mark_of_record, loose_of, counts_of}
+use Rattle.sd_unique.specs.Record.{nodes_of, AreRecordsStored}
 use Rattle.sd_unique.specs.Filed.{IsFiled}
 use Rattle.sd_unique.specs.Chains.{next_of, head_of, chain_by, list_by, chain_under, list_under}
-use Rattle.sd_unique.specs.Chains.{stack_under, bucket_of, hash_of, no_record, Kept}
+use Rattle.sd_unique.specs.Chains.{stack_under, bucket_of, hash_of, no_record, HoldsNodes}
 use Rattle.sd_unique.proofs.Entries.{slice_get_inside, slice_get_push, slice_get_before}
 use Rattle.sd_unique.proofs.Filed.{filed_first, filed_same, both_same}
-use Rattle.sd_unique.proofs.Loose.{loose_none, loose_push, length_in, total-remove, total-loose, remove_insert}
+use Rattle.sd_unique.proofs.Loose.{loose_none, loose_push, length_in, total_remove, total_loose, remove_insert}
 use Rattle.sd_unique.proofs.Entries.{option_map_some}
 use Rattle.sd_unique.proofs.Numbered.{some_length, length_there, picked_from, key_at_is, node_key}
 use Rattle.sd_unique.proofs.Occupied.{free_first, none_free, all_nodes}
 use Rattle.sd_unique.proofs.Stacked.{get_or_any}
 use Rattle.sd_unique.proofs.Taken.{kept_arena, taken_same, taken_longer, taken_bound, nodes_taken}
-use Rattle.sd_unique.proofs.Picked.{get-picked}
+use Rattle.sd_unique.proofs.Picked.{get_picked}
 
 -- the nodes with so many records
 abbrev pub with_records : Nodes → ℕ → Nodes
@@ -83,7 +84,7 @@ link_last f (y ∷ xs) x = link_last f xs x
 picked_push : {X Y : Type 0} (f : X → Option Y) (xs : List X) (x : X) → f x ≡ None
     → picked_map f (xs ++ x ∷ []) ≡ picked_map f xs
 picked_push f xs x none =
-    same_at_each _ _ (λ q. get-picked f (xs ++ x ∷ []) q ∙ read_push xs x f none q ∙ sym (get-picked f xs q))
+    same_at_each _ _ (λ q. get_picked f (xs ++ x ∷ []) q ∙ read_push xs x f none q ∙ sym (get_picked f xs q))
 
 free_no_node : (s : State) → s ≡ Free → IsNode s → ⊥
 free_no_node s f node = subst IsNode f node
@@ -92,7 +93,7 @@ free_no_link : (s : State) → s ≡ Free → s ≡ Linked → ⊥
 free_no_link s f l = let e : Free ≡ Linked = sym f ∙ l in cc
 
 module _ (arena : Arena) (rs : List Record) (r : Record) (free : r.state ≡ Free) where
-  stored_free : length rs + 1 ≤ arena.extent → Stored arena rs → Stored arena (rs ++ r ∷ [])
+  stored_free : length rs + 1 ≤ arena.extent → AreRecordsStored arena rs → AreRecordsStored arena (rs ++ r ∷ [])
   stored_free room st =
       record {
         well = st.well;
@@ -114,7 +115,7 @@ module _ (arena : Arena) (rs : List Record) (r : Record) (free : r.state ≡ Fre
             (λ b. st.unique i j x y a b nx ny same)
             (push_which rs r j y q))
             (push_which rs r i x p);
-        few = omega (arith, room, length_push rs r);
+        within_limit = omega (arith, room, length_push rs r);
         bound_fits = st.bound_fits;
       }
 
@@ -141,17 +142,17 @@ module _ (arena : Arena) (rs : List Record) (r : Record) (free : r.state ≡ Fre
   -- what holds of the fields is kept when a free record is put behind the others
   pub kept_free : (links : List Links) (l : Links) (heads places : List ℕ) (top : ℕ) → l.is_waiting ≡ false
       → length rs + 1 ≤ arena.extent → length rs < 2 ^ 32 - 1 → head_of heads 0 ≡ r.next
-      → Kept arena rs links heads places top
-      → Kept arena (rs ++ r ∷ []) (links ++ l ∷ []) (set heads 0 (length rs)) places top
+      → HoldsNodes arena rs links heads places top
+      → HoldsNodes arena (rs ++ r ∷ []) (links ++ l ∷ []) (set heads 0 (length rs)) places top
   kept_free links l heads places top flag room fits next k =
       record {
         stored = stored_free room k.stored;
         linked_all = omega (arith, length_push rs r, length_push links l, k.linked_all);
-        some = omega (arith, length-set heads 0 (length rs), k.some);
+        at_least_one = omega (arith, length-set heads 0 (length rs), k.at_least_one);
         places_all = k.places_all;
         in_chains = subst (λ s. IsFiled (next_of (rs ++ r ∷ [])) no_record (head_of (set heads 0 (length rs)))
             (chain_under arena (s - 1) (rs ++ r ∷ []))) (sym (length-set heads 0 (length rs)))
-            (chains_free heads (length heads - 1) (omega (arith, k.some)) next fits k.in_chains);
+            (chains_free heads (length heads - 1) (omega (arith, k.at_least_one)) next fits k.in_chains);
         in_lists = both_same _ _ _ _ no_record _ _ _ _
             (λ b i e. link_before (λ (x : Links). x.after) links l i (listed_other i b e))
             (λ b i e. link_before (λ (x : Links). x.before) links l i (listed_other i b e)) (λ b. refl)
@@ -187,8 +188,8 @@ module _ (arena : Arena) (rs : List Record) (r : Record) (free : r.state ≡ Fre
         detached = picked_push (λ (x : Record). detached_key arena x) rs r
             (ap (λ s. if_detached s (key_of arena r)) free) i;
         loose = (loose_push arena.live rs r ∙ ap (λ s. loose_of (without_run s r.start arena.live) rs) free) i;
-        uses = picked_push (λ (x : Record). uses_in x) rs r (ap (λ s. if_node s r.uses) free) i;
-        marks = picked_push (λ (x : Record). mark_in x) rs r (ap (λ s. if_node s r.mark) free) i;
+        uses = picked_push (λ (x : Record). uses_of_record x) rs r (ap (λ s. if_node s r.uses) free) i;
+        marks = picked_push (λ (x : Record). mark_of_record x) rs r (ap (λ s. if_node s r.mark) free) i;
         free = counts_of arena.free;
         records = length_push rs r i;
         extent = arena.extent;
@@ -210,11 +211,11 @@ length_node arena Linked start n node e = length_there (get arena.live start) n 
 length_node arena Detached start n node e = length_there (get arena.live start) n e
 
 -- where each record is that of a node, a loose run leaves room for one more record
-pub few_free : (arena : Arena) (rs : List Record) (start : ℕ) (list : List (ℕ × ℕ)) → Stored arena rs
+pub few_free : (arena : Arena) (rs : List Record) (start : ℕ) (list : List (ℕ × ℕ)) → AreRecordsStored arena rs
     → ((m : ℕ) (r : Record) → slice_get rs m ≡ Some r → IsNode r.state)
     → get (loose_of arena.live rs) start ≡ Some list → 0 < length list → length rs + 1 ≤ arena.extent
 few_free arena rs start list st nodes run some =
-    let total = total-loose arena.live rs
+    let total = total_loose arena.live rs
     (λ i r e node. let l = option_map_some length (get arena.live r.start) r.length (st.live i r e node) in (
       l.0,
       l.1,
@@ -225,7 +226,7 @@ few_free arena rs start list st nodes run some =
     (λ i r e. let node = nodes i r e in
     let size = length_node arena r.state r.start r.length node (st.live i r e node) in
     omega (arith, size, some_length st i r e node)) in
-    omega (arith, total, least, total-remove (loose_of arena.live rs) start list run, some, (st.well).used)
+    omega (arith, total, least, total_remove (loose_of arena.live rs) start list run, some, (st.well).used)
 
 -- what comes of a run that was taken and a free record that was occupied over it is an insertion
 pub inserted_is : (a : Nodes) (records n place start : ℕ) (list : List (ℕ × ℕ)) → get a.loose start ≡ None
@@ -237,7 +238,7 @@ inserted_is a records n place start list fresh most i =
 -- a loose run is there after it was taken
 pub run_taken : (a : Nodes) (records start : ℕ) (list : List (ℕ × ℕ))
     → IsLoose (with_records (with_loose a start list) records) start (length list) list
-run_taken a records start list = record { is = get-insert_same a.loose start list; counted = refl }
+run_taken a records start list = record { is = get_insert_same a.loose start list; counted = refl }
 
 -- the number that was free is a new one, whether its record was there before
 pub number_old : (a : Nodes) (n : ℕ) → IsFreeNumber a n → IsNewNumber a n × (a.records ≡ max a.records (n + 1))
@@ -262,11 +263,11 @@ number_new a n all free =
     node h = let no = subst IsSome free.1 h in cc
 
 module _ (arena new : Arena) (rs : List Record) (links : List Links) (heads places : List ℕ) (top : ℕ)
-    (k : Kept arena rs links heads places top) (well : IsArena new) (list : List (ℕ × ℕ)) (start : ℕ)
+    (k : HoldsNodes arena rs links heads places top) (well : IsArena new) (list : List (ℕ × ℕ)) (start : ℕ)
     (is : new ≡ taken arena list) (at : start ≡ next_start arena (length list))
     (fresh : get arena.live start ≡ None) (keeps : KeepsLive arena new) (a : Nodes)
     (view : nodes_of arena rs ≡ a) where
-  kept_taken : Kept new rs links heads places top
+  kept_taken : HoldsNodes new rs links heads places top
   kept_taken =
       kept_arena arena new rs k.stored well
       (taken_same arena new rs k.stored well list start is at fresh keeps)
@@ -283,10 +284,10 @@ module _ (arena new : Arena) (rs : List Record) (links : List Links) (heads plac
 
   -- a free record is there
   module _ (ts : List Record) (ls : List Links) (same : ts ≡ rs) (alike : ls ≡ links) where
-    pub free_kept : Kept new ts ls heads places top
+    pub free_kept : HoldsNodes new ts ls heads places top
     free_kept =
-        subst (λ x. Kept new x ls heads places top) (sym same)
-        (subst (λ x. Kept new rs x heads places top) (sym alike) kept_taken)
+        subst (λ x. HoldsNodes new x ls heads places top) (sym same)
+        (subst (λ x. HoldsNodes new rs x heads places top) (sym alike) kept_taken)
 
     free_view : nodes_of new ts ≡ with_loose a start list
     free_view = ap (nodes_of new) same ∙ view_taken
@@ -301,7 +302,8 @@ module _ (arena new : Arena) (rs : List Record) (links : List Links) (heads plac
     pub free_number : (first : ℕ) → first ≡ get_or heads 0 first → first ≢ no_record
         → (n : ℕ) × IsFreeNumber (nodes_of new ts) n
     free_number first read ne =
-        let head : head_of heads 0 ≡ first = get_or_any heads 0 no_record first (omega (arith, k.some)) ∙ sym read in (
+        let head : head_of heads 0 ≡ first = get_or_any heads 0 no_record first (omega (arith, k.at_least_one))
+        ∙ sym read in (
           head_of heads 0,
           subst (λ x. IsFreeNumber (nodes_of new x) (head_of heads 0)) (sym same)
               (free_first new rs heads (length heads - 1) kept_taken.in_chains (λ e. ne (sym head ∙ e))),
@@ -326,19 +328,19 @@ module _ (arena new : Arena) (rs : List Record) (links : List Links) (heads plac
       (next : r.next ≡ no_record) (first : ℕ) (read : first ≡ get_or heads 0 first) (last : first ≡ no_record)
       (some : 0 < length list) where
     none_first : head_of heads 0 ≡ no_record
-    none_first = get_or_any heads 0 no_record first (omega (arith, k.some)) ∙ sym read ∙ last
+    none_first = get_or_any heads 0 no_record first (omega (arith, k.at_least_one)) ∙ sym read ∙ last
 
     room : length rs + 1 ≤ new.extent
     room =
         few_free new rs start list kept_taken.stored
         (none_free new rs heads (length heads - 1) kept_taken.in_chains none_first)
-        (ap (λ b. get b.loose start) view_taken ∙ get-insert_same a.loose start list) some
+        (ap (λ b. get b.loose start) view_taken ∙ get_insert_same a.loose start list) some
 
-    pub pushed_kept : (n : ℕ) → n ≡ length rs → Kept new ts ls (set heads 0 n) places top
+    pub pushed_kept : (n : ℕ) → n ≡ length rs → HoldsNodes new ts ls (set heads 0 n) places top
     pushed_kept n size =
-        subst (λ x. Kept new x ls (set heads 0 n) places top) (sym grown)
-        (subst (λ x. Kept new (rs ++ r ∷ []) x (set heads 0 n) places top) (sym linked)
-        (subst (λ x. Kept new (rs ++ r ∷ []) (links ++ l ∷ []) (set heads 0 x) places top) (sym size)
+        subst (λ x. HoldsNodes new x ls (set heads 0 n) places top) (sym grown)
+        (subst (λ x. HoldsNodes new (rs ++ r ∷ []) x (set heads 0 n) places top) (sym linked)
+        (subst (λ x. HoldsNodes new (rs ++ r ∷ []) (links ++ l ∷ []) (set heads 0 x) places top) (sym size)
         (kept_free new rs r free links l heads places top flag room
         (omega (arith, room, (kept_taken.stored).bound_fits, ((kept_taken.stored).well).bounded))
         (none_first ∙ sym next) kept_taken)))

@@ -4,7 +4,7 @@ use Rattle.sd_runs.specs.Arena.{Arena}
 use Rattle.sd_unique.specs.declared.record.Record.{Record}
 use Rattle.sd_unique.specs.declared.record.Links.{Links}
 use Rattle.sd_unique.specs.Filed.{IsFiled}
-use Rattle.sd_unique.specs.Chains.{next_of, head_of, chain_under, no_record, Kept, KeepsRecords}
+use Rattle.sd_unique.specs.Chains.{next_of, head_of, chain_under, no_record, HoldsNodes, KeepsRecords}
 use Rattle.sd_unique.proofs.Filed.{both_same}
 use Rattle.sd_unique.proofs.Relinked.{list_kept, stored_kept}
 
@@ -12,12 +12,12 @@ use Rattle.sd_unique.proofs.Relinked.{list_kept, stored_kept}
 pub kept_rechained : (arena : Arena) (rs ts : List Record) (links : List Links) (heads heads' places : List ℕ)
     (top : ℕ) → KeepsRecords rs ts → 1 < length heads'
     → IsFiled (next_of ts) no_record (head_of heads') (chain_under arena (length heads' - 1) ts)
-    → Kept arena rs links heads places top → Kept arena ts links heads' places top
+    → HoldsNodes arena rs links heads places top → HoldsNodes arena ts links heads' places top
 kept_rechained arena rs ts links heads heads' places top keeps some filed k =
     record {
       stored = stored_kept rs ts keeps arena k.stored;
       linked_all = k.linked_all ∙ sym keeps.size;
-      some = some;
+      at_least_one = some;
       places_all = k.places_all;
       in_chains = filed;
       in_lists = both_same _ _ _ _ no_record _ _ _ _ (λ b i e. refl) (λ b i e. refl) (λ b. refl)
@@ -30,7 +30,8 @@ kept_rechained arena rs ts links heads heads' places top keeps some filed k =
 
 -- the records and heads are the same, each by its equation
 pub kept_tables : (arena : Arena) (rs ts : List Record) (links : List Links) (heads heads' places : List ℕ) (top : ℕ)
-    → ts ≡ rs → heads' ≡ heads → Kept arena rs links heads places top → Kept arena ts links heads' places top
+    → ts ≡ rs → heads' ≡ heads → HoldsNodes arena rs links heads places top
+    → HoldsNodes arena ts links heads' places top
 kept_tables arena rs ts links heads heads' places top e f k =
-    subst (λ l. Kept arena l links heads' places top) (sym e)
-    (subst (λ h. Kept arena rs links h places top) (sym f) k)
+    subst (λ l. HoldsNodes arena l links heads' places top) (sym e)
+    (subst (λ h. HoldsNodes arena rs links h places top) (sym f) k)

@@ -7,12 +7,13 @@ use Rattle.sd_runs.specs.Arena.{Arena, live_length}
 use Rattle.sd_runs.proofs.Maps.{same_at_each}
 use Rattle.sd_unique.specs.declared.record.Record.{Record}
 use Rattle.sd_unique.specs.Record.{if_linked, if_detached, if_node, IsNode, without_run, key_of, linked_key}
-use Rattle.sd_unique.specs.Record.{detached_key, uses_in, mark_in, loose_of, counts_of, picked_map, nodes_of, Stored}
+use Rattle.sd_unique.specs.Record.{detached_key, uses_of_record, mark_of_record, loose_of, counts_of, picked_map}
+use Rattle.sd_unique.specs.Record.{nodes_of, AreRecordsStored}
 use Rattle.sd_unique.specs.Chains.{chain_by, list_by, chain_under, list_under, bucket_of, KeepsRecords}
 use Rattle.sd_unique.proofs.Entries.{slice_get_at, slice_get_inside}
 use Rattle.sd_unique.proofs.Filed.{none_is}
 use Rattle.sd_unique.proofs.Loose.{Map}
-use Rattle.sd_unique.proofs.Picked.{get-picked}
+use Rattle.sd_unique.proofs.Picked.{get_picked}
 use Rattle.sd_unique.proofs.Stacked.{none_or}
 
 -- the loose runs are the same
@@ -64,7 +65,7 @@ module _ (rs ts : List Record) (k : KeepsRecords rs ts) where
       → t.state ≡ r.state → f t ≡ f r)
       → picked_map f ts ≡ picked_map f rs
   picked_kept f same =
-      same_at_each _ _ (λ q. get-picked f ts q ∙ read_kept f same q ∙ sym (get-picked f rs q))
+      same_at_each _ _ (λ q. get_picked f ts q ∙ read_kept f same q ∙ sym (get_picked f rs q))
 
   -- the records stand for the same nodes
   pub nodes_kept : (arena : Arena) → nodes_of arena ts ≡ nodes_of arena rs
@@ -75,9 +76,9 @@ module _ (rs ts : List Record) (k : KeepsRecords rs ts) where
         detached = picked_kept (λ (x : Record). detached_key arena x) (λ r t place start uses mark state j.
             if_detached (state j) (place j, unwrap_or (get arena.live (start j)) [])) i;
         loose = loose_kept arena.live rs ts k i;
-        uses = picked_kept (λ (x : Record). uses_in x) (λ r t place start uses mark state j.
+        uses = picked_kept (λ (x : Record). uses_of_record x) (λ r t place start uses mark state j.
             if_node (state j) (uses j)) i;
-        marks = picked_kept (λ (x : Record). mark_in x) (λ r t place start uses mark state j.
+        marks = picked_kept (λ (x : Record). mark_of_record x) (λ r t place start uses mark state j.
             if_node (state j) (mark j)) i;
         free = counts_of arena.free;
         records = k.size i;
@@ -86,7 +87,7 @@ module _ (rs ts : List Record) (k : KeepsRecords rs ts) where
       }
 
   -- and what holds of them is kept
-  pub stored_kept : (arena : Arena) → Stored arena rs → Stored arena ts
+  pub stored_kept : (arena : Arena) → AreRecordsStored arena rs → AreRecordsStored arena ts
   stored_kept arena st =
       record {
         well = st.well;
@@ -102,7 +103,7 @@ module _ (rs ts : List Record) (k : KeepsRecords rs ts) where
             let w = k.was j y q in
             st.unique i j v.0 w.0 v.1 w.1 (sym v.7 ∙ nx) (sym w.7 ∙ ny)
             (sym (key_kept x v.0 v.2 v.3) ∙ same ∙ key_kept y w.0 w.2 w.3);
-        few = omega (arith, st.few, k.size);
+        within_limit = omega (arith, st.within_limit, k.size);
         bound_fits = st.bound_fits;
       }
     where

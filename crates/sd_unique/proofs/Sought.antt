@@ -10,8 +10,8 @@ use Rattle.sd_runs.proofs.Places.{by_cases}
 use Rattle.sd_unique.specs.declared.record.Record.{Record}
 use Rattle.sd_unique.specs.declared.record.State.{State}
 use Rattle.sd_unique.specs.declared.record.State.TheVariants.{Free, Linked, Detached}
-use Rattle.sd_unique.specs.Filed.{IsChain, Has, IsFiled}
-use Rattle.sd_unique.specs.Record.{if_linked, IsNode, key_of, linked_key, nodes_of, Stored}
+use Rattle.sd_unique.specs.Filed.{IsChain, IsMember, IsFiled}
+use Rattle.sd_unique.specs.Record.{if_linked, IsNode, key_of, linked_key, nodes_of, AreRecordsStored}
 use Rattle.sd_unique.specs.Chains.{chain_by, chain_under, bucket_of, next_of, head_of, no_record}
 use Rattle.sd_unique.proofs.Both.{chain_short}
 use Rattle.sd_unique.proofs.Entries.{slice_get_at, slice_get_inside}
@@ -29,8 +29,8 @@ pub record IsSought (arena : Arena) (rs : List Record) (key : ℕ × List (ℕ �
   where
     pub chain : IsChain (next_of rs) no_record at rest
     pub short : length rest + step ≤ length rs
-    pub linked : (y : ℕ) → Has y rest → (r : Record) × (slice_get rs y ≡ Some r) × (r.state ≡ Linked)
-    pub left : (n : ℕ) → get (nodes_of arena rs).linked n ≡ Some key → Has n rest
+    pub linked : (y : ℕ) → IsMember y rest → (r : Record) × (slice_get rs y ≡ Some r) × (r.state ≡ Linked)
+    pub left : (n : ℕ) → get (nodes_of arena rs).linked n ≡ Some key → IsMember n rest
 
 of_bucket : (s : State) (b c : ℕ) → chain_by s b ≡ Some (suc c) → s ≡ Linked
 of_bucket Free b c e = let no : 0 ≡ suc c = cc in absurd (omega arith)
@@ -70,7 +70,7 @@ module _ (arena : Arena) (rs : List Record) (heads : List ℕ) (key : ℕ × Lis
     },
   )
     where
-      linked : (y : ℕ) → Has y (f.lists (suc (bucket_of key count)))
+      linked : (y : ℕ) → IsMember y (f.lists (suc (bucket_of key count)))
           → (r : Record) × (slice_get rs y ≡ Some r) × (r.state ≡ Linked)
       linked y h =
           bucket_linked count y (bucket_of key count) (f.only (suc (bucket_of key count)) y h)
@@ -126,7 +126,8 @@ module _ (arena : Arena) (rs : List Record) (heads : List ℕ) (key : ℕ × Lis
     pub other_place : ¬ (t.place ≡ key.0) → get (nodes_of arena rs).linked at ≢ Some key
     other_place differ e = differ (ap (λ k. k.0) (key_same e))
 
-    pub other_length : Stored arena rs → ¬ (t.length ≡ length key.1) → get (nodes_of arena rs).linked at ≢ Some key
+    pub other_length : AreRecordsStored arena rs → ¬ (t.length ≡ length key.1)
+        → get (nodes_of arena rs).linked at ≢ Some key
     other_length st differ e = differ (sym (length_of st) ∙ ap (λ k. length k.1) (key_same e))
       where
         length_there : (o : Option (List (ℕ × ℕ))) (n : ℕ) → option_map length o ≡ Some n
@@ -134,7 +135,7 @@ module _ (arena : Arena) (rs : List Record) (heads : List ℕ) (key : ℕ × Lis
         length_there None n e = cc
         length_there (Some l) n e = cc
 
-        length_of : Stored arena rs → length (unwrap_or (get arena.live t.start) []) ≡ t.length
+        length_of : AreRecordsStored arena rs → length (unwrap_or (get arena.live t.start) []) ≡ t.length
         length_of st =
             length_there (get arena.live t.start) t.length
             (st.live at t (sought_read).0 (subst IsNode (sym (sought_read).1) tt))

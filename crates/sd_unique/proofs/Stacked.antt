@@ -1,5 +1,6 @@
 -- A number is put on the stack of candidates, and the lists of the detached are read.
-use Rattle.std.proofs.Common.{◌≡◌, ◌≢◌, inl, bit_and, ℕ, suc, zero, ◌<◌, ◌-◌, ◌^◌, ◌++◌, true, false, cond, List, [], ◌∷◌}
+use Rattle.std.proofs.Common.{◌≡◌, ◌≢◌, inl, bit_and, ℕ, suc, zero, ◌<◌, ◌-◌, ◌^◌, ◌++◌, true}
+use Rattle.std.proofs.Common.{false, cond, List, [], ◌∷◌}
 use Rattle.std.proofs.Common.{length, map, take, drop, get_or, slice_get, Option, Some, None, refl, sym, ap, subst}
 use Rattle.std.proofs.Common.{◌∙◌, arith}
 use Rattle.std.proofs.Math.ListN.{set}
@@ -16,10 +17,10 @@ use Rattle.sd_unique.specs.declared.record.Record.{Record}
 use Rattle.sd_unique.specs.declared.record.Links.{Links}
 use Rattle.sd_unique.specs.declared.record.State.{State}
 use Rattle.sd_unique.specs.declared.record.State.TheVariants.{Free, Linked, Detached}
-use Rattle.sd_unique.specs.Filed.{IsChain, Has}
+use Rattle.sd_unique.specs.Filed.{IsChain, IsMember}
 use Rattle.sd_unique.specs.Record.{detached_key, key_of, if_detached, nodes_of}
 use Rattle.sd_unique.specs.Chains.{after_of, waiting_of, stack_under, list_under, list_by, top_of}
-use Rattle.sd_unique.specs.Chains.{head_of, no_record, Kept, AreStacked, AreListed, KeepsLists, IsPushed}
+use Rattle.sd_unique.specs.Chains.{head_of, no_record, HoldsNodes, AreStacked, AreInLists, KeepsLists, IsPushed}
 use Rattle.sd_unique.proofs.Entries.{slice_get_inside, slice_get_set, slice_get_set_other}
 use Rattle.sd_unique.proofs.Filed.{filed_first, both_same}
 use Rattle.sd_unique.proofs.Numbered.{detached_at, detached_record, picked_from}
@@ -102,12 +103,12 @@ pub kept_queued : (arena : Arena) (rs : List Record) (links new : List Links) (h
     (top top' : ℕ) → KeepsLists links new → AreStacked new top'
     → ((n : ℕ) (r : Record) → slice_get rs n ≡ Some r → r.state ≡ Linked → r.uses ≡ 0 → stack_under links n ≡ Some 0
     → stack_under new n ≡ Some 0)
-    → Kept arena rs links heads places top → Kept arena rs new heads places top'
+    → HoldsNodes arena rs links heads places top → HoldsNodes arena rs new heads places top'
 kept_queued arena rs links new heads places top top' lists stacked others k =
     record {
       stored = k.stored;
       linked_all = lists.size ∙ k.linked_all;
-      some = k.some;
+      at_least_one = k.at_least_one;
       places_all = k.places_all;
       in_chains = k.in_chains;
       in_lists = both_same _ _ _ _ no_record _ _ _ _ (λ b i e. lists.after i) (λ b i e. lists.before i) (λ b. refl)
@@ -119,7 +120,7 @@ kept_queued arena rs links new heads places top top' lists stacked others k =
 -- as when one is put on it
 pub kept_push : (arena : Arena) (rs : List Record) (links new : List Links) (heads places : List ℕ)
     (top top' n : ℕ) → KeepsLists links new → AreStacked new top' → IsPushed links new n
-    → Kept arena rs links heads places top → Kept arena rs new heads places top'
+    → HoldsNodes arena rs links heads places top → HoldsNodes arena rs new heads places top'
 kept_push arena rs links new heads places top top' n lists stacked pushed k =
     kept_queued arena rs links new heads places top top' lists stacked
     (λ n r e linked none there. pushed.others n there) k
@@ -137,11 +138,11 @@ get_or_any (x ∷ xs) zero d e h = refl
 get_or_any (x ∷ xs) (suc i) d e h = get_or_any xs i d e (omega arith)
 
 -- a chain whose head is no record has no numbers, and another has its head
-pub chain_empty : (next : ℕ → ℕ) (none at n : ℕ) (xs : List ℕ) → IsChain next none at xs → at ≡ none → ¬ Has n xs
+pub chain_empty : (next : ℕ → ℕ) (none at n : ℕ) (xs : List ℕ) → IsChain next none at xs → at ≡ none → ¬ IsMember n xs
 chain_empty next none at n [] c e h = h
 chain_empty next none at n (x ∷ xs) c e h = c.1 (sym c.0 ∙ e)
 
-pub head_has : (next : ℕ → ℕ) (none at : ℕ) (xs : List ℕ) → IsChain next none at xs → at ≢ none → Has at xs
+pub head_has : (next : ℕ → ℕ) (none at : ℕ) (xs : List ℕ) → IsChain next none at xs → at ≢ none → IsMember at xs
 head_has next none at [] c ne = absurd (ne c)
 head_has next none at (x ∷ xs) c ne = inl (sym c.0)
 
@@ -155,7 +156,7 @@ first_list Linked b e = let same : suc b ≡ 0 = cc in absurd (omega arith)
 first_list Detached b e = refl
 
 module _ (arena : Arena) (rs : List Record) (links : List Links) (places : List ℕ)
-    (f : AreListed links places (list_under rs)) where
+    (f : AreInLists links places (list_under rs)) where
   -- where the first list is empty, no node is detached
   pub detached_none : head_of places 0 ≡ no_record → (nodes_of arena rs).detached ≡ empty
   detached_none e =
@@ -180,6 +181,6 @@ module _ (arena : Arena) (rs : List Record) (links : List Links) (places : List 
 
 -- what holds of the fields holds of the same fields
 pub kept_same : (arena : Arena) (rs : List Record) (links new : List Links) (heads places : List ℕ) (top : ℕ)
-    → new ≡ links → Kept arena rs links heads places top → Kept arena rs new heads places top
+    → new ≡ links → HoldsNodes arena rs links heads places top → HoldsNodes arena rs new heads places top
 kept_same arena rs links new heads places top same k =
-    subst (λ l. Kept arena rs l heads places top) (sym same) k
+    subst (λ l. HoldsNodes arena rs l heads places top) (sym same) k

@@ -11,7 +11,8 @@ use Rattle.sd_unique.specs.declared.record.Record.{Record}
 use Rattle.sd_unique.specs.declared.record.Links.{Links}
 use Rattle.sd_unique.specs.declared.record.State.TheVariants.{Linked, Detached}
 use Rattle.sd_unique.specs.Filed.{unfiled, filed_at}
-use Rattle.sd_unique.specs.Record.{if_detached, IsNode, uses_in, detached_key, key_of, nodes_of, Stored}
+use Rattle.sd_unique.specs.Record.{if_detached, IsNode, uses_of_record, detached_key, key_of}
+use Rattle.sd_unique.specs.Record.{nodes_of, AreRecordsStored}
 use Rattle.sd_unique.specs.Chains.{chain_by, list_by, chain_under, list_under, stack_under, bucket_of, top_of}
 use Rattle.sd_unique.specs.Chains.{waiting_of, no_record, KeepsRecords, KeepsStack, AreStacked}
 use Rattle.sd_unique.proofs.Both.{unfiled_here, unfiled_other, filed_here, filed_other}
@@ -87,7 +88,7 @@ module _ (arena : Arena) (rs : List Record) (n : ℕ) (r : Record) (there : slic
 
   pub detached_uses : get (nodes_of arena rs).uses n ≡ Some r.uses
   detached_uses =
-      uses_in_at arena rs n ∙ ap (option_and_then (λ (x : Record). uses_in x)) there
+      uses_in_at arena rs n ∙ ap (option_and_then (λ (x : Record). uses_of_record x)) there
       ∙ node_some r.state r.uses (subst IsNode (sym detached) tt)
 
 -- the bucket that the code computed, and the place that it read, are where the node stands
@@ -107,8 +108,8 @@ linked_place arena rs n d h =
     linked_list arena rs n (get_or rs n d) read.0 read.1
 
 -- the number of a record ends no chain
-pub is_record : {arena : Arena} {rs : List Record} (n : ℕ) → Stored arena rs → n < length rs → n ≢ no_record
-is_record n st inside e = omega (arith, st.few, (st.well).bounded, st.bound_fits)
+pub is_record : {arena : Arena} {rs : List Record} (n : ℕ) → AreRecordsStored arena rs → n < length rs → n ≢ no_record
+is_record n st inside e = omega (arith, st.within_limit, (st.well).bounded, st.bound_fits)
 
 -- the others stand where they stood
 pub unfiled_inside : (under : ℕ → Option ℕ) (n size : ℕ) → ((i b : ℕ) → under i ≡ Some b → i < size) → (i b : ℕ)

@@ -8,11 +8,11 @@ use Rattle.std.specs.Result.{IsErrAnd}
 use Rattle.std.specs.Ordering.{nat_cmp}
 use Rattle.std.specs.FinMap.{FinMap, get, insert, remove, from_entries}
 use Rattle.sd_runs.specs.Arena.{Arena, IsArena, free_of, with_list}
-use Rattle.sd_runs.specs.Taking.{taken, taken_at, given, KeepsLive, next_start, first, IsRefusal as ArenaRefusal}
+use Rattle.sd_runs.specs.Taking.{taken, taken_at, given_back, KeepsLive, next_start, first, IsRefusal as ArenaRefusal}
 use Rattle.sd_runs.specs.declared.error.TakeError.{TakeError}
 use Rattle.sd_runs.specs.declared.error.TakeError.TheVariants.{ArenaFull, OutOfMemory}
-use Rattle.sd_runs.proofs.Maps.{same_at_each, get-insert_same, get-insert_other, get-remove_same, get-remove_other}
-use Rattle.sd_runs.proofs.Maps.{shown, get-with_list_same, get-with_list_other}
+use Rattle.sd_runs.proofs.Maps.{same_at_each, get_insert_same, get_insert_other, get_remove_same, get_remove_other}
+use Rattle.sd_runs.proofs.Maps.{shown, get_with_list_same, get_with_list_other}
 use Rattle.sd_runs.proofs.Places.{by_cases}
 use Rattle.sd_unique.specs.declared.record.Record.{Record}
 use Rattle.sd_unique.specs.declared.record.Links.{Links}
@@ -21,9 +21,9 @@ use Rattle.sd_unique.specs.declared.record.State.TheVariants.{Free, Linked, Deta
 use Rattle.sd_unique.specs.Inserting.{with_count, extent_after, IsRefusal}
 use Rattle.sd_unique.specs.Relinking.{with_loose, without_loose}
 use Rattle.sd_unique.specs.Record.{if_linked, if_detached, IsNode, picked_map, key_of, linked_key, detached_key}
-use Rattle.sd_unique.specs.Record.{uses_in, mark_in, loose_of, counts_of, nodes_of, Stored}
-use Rattle.sd_unique.specs.Chains.{chain_by, chain_under, bucket_of, no_record, Kept}
-use Rattle.sd_unique.proofs.Counts.{get-counts, count_is}
+use Rattle.sd_unique.specs.Record.{uses_of_record, mark_of_record, loose_of, counts_of, nodes_of, AreRecordsStored}
+use Rattle.sd_unique.specs.Chains.{chain_by, chain_under, bucket_of, no_record, HoldsNodes}
+use Rattle.sd_unique.proofs.Counts.{get_counts, count_is}
 use Rattle.sd_unique.proofs.Entries.{option_map_some}
 use Rattle.sd_unique.proofs.Filed.{filed_same}
 use Rattle.sd_unique.proofs.Loose.{IsUntaken, loose_taken, loose_given}
@@ -38,24 +38,24 @@ shown_length : (l : List ℕ) → option_map length (shown l) ≡ count_shown (l
 shown_length [] = refl
 shown_length (x ∷ xs) = refl
 
-get-with_count_same : (m : FinMap nat_cmp ℕ) (n k : ℕ) → get (with_count m n k) n ≡ count_shown k
-get-with_count_same m n zero = get-remove_same m n
-get-with_count_same m n (suc k) = get-insert_same m n (suc k)
+get_with_count_same : (m : FinMap nat_cmp ℕ) (n k : ℕ) → get (with_count m n k) n ≡ count_shown k
+get_with_count_same m n zero = get_remove_same m n
+get_with_count_same m n (suc k) = get_insert_same m n (suc k)
 
-get-with_count_other : (m : FinMap nat_cmp ℕ) (n k q : ℕ) → ¬ (q ≡ n) → get (with_count m n k) q ≡ get m q
-get-with_count_other m n zero q ne = get-remove_other m n q ne
-get-with_count_other m n (suc k) q ne = get-insert_other m n (suc k) q ne
+get_with_count_other : (m : FinMap nat_cmp ℕ) (n k q : ℕ) → ¬ (q ≡ n) → get (with_count m n k) q ≡ get m q
+get_with_count_other m n zero q ne = get_remove_other m n q ne
+get_with_count_other m n (suc k) q ne = get_insert_other m n (suc k) q ne
 
 -- the counts after the free starts of one length were replaced
 counts_with_list : (f : FinMap nat_cmp (List ℕ)) (n : ℕ) (rest : List ℕ)
     → counts_of (with_list f n rest) ≡ with_count (counts_of f) n (length rest)
 counts_with_list f n rest =
     same_at_each _ _ (λ q. by_cases
-    (λ e. ap (get (counts_of (with_list f n rest))) e ∙ get-counts (with_list f n rest) n
-    ∙ ap (option_map length) (get-with_list_same f n rest) ∙ shown_length rest
-    ∙ sym (ap (get (with_count (counts_of f) n (length rest))) e ∙ get-with_count_same (counts_of f) n (length rest)))
-    (λ ne. get-counts (with_list f n rest) q ∙ ap (option_map length) (get-with_list_other f n rest q ne)
-    ∙ sym (get-counts f q) ∙ sym (get-with_count_other (counts_of f) n (length rest) q ne))
+    (λ e. ap (get (counts_of (with_list f n rest))) e ∙ get_counts (with_list f n rest) n
+    ∙ ap (option_map length) (get_with_list_same f n rest) ∙ shown_length rest
+    ∙ sym (ap (get (with_count (counts_of f) n (length rest))) e ∙ get_with_count_same (counts_of f) n (length rest)))
+    (λ ne. get_counts (with_list f n rest) q ∙ ap (option_map length) (get_with_list_other f n rest q ne)
+    ∙ sym (get_counts f q) ∙ sym (get_with_count_other (counts_of f) n (length rest) q ne))
     (cases_eq q n))
 
 absent_list : (o : Option (List ℕ)) → ¬ (o ≡ Some []) → unwrap_or o [] ≡ [] → o ≡ None
@@ -66,9 +66,9 @@ absent_list (Some (x ∷ xs)) h e = cc
 counts_without : (f : FinMap nat_cmp (List ℕ)) (n : ℕ) → get f n ≡ None → counts_of f ≡ with_count (counts_of f) n 0
 counts_without f n none =
     same_at_each _ _ (λ q. by_cases
-    (λ e. ap (get (counts_of f)) e ∙ get-counts f n ∙ ap (option_map length) none
-    ∙ sym (ap (get (remove (counts_of f) n)) e ∙ get-remove_same (counts_of f) n))
-    (λ ne. sym (get-remove_other (counts_of f) n q ne))
+    (λ e. ap (get (counts_of f)) e ∙ get_counts f n ∙ ap (option_map length) none
+    ∙ sym (ap (get (remove (counts_of f) n)) e ∙ get_remove_same (counts_of f) n))
+    (λ ne. sym (get_remove_other (counts_of f) n q ne))
     (cases_eq q n))
 
 -- the counts of free runs after a run was taken
@@ -98,10 +98,10 @@ pub refusal_is : (arena : Arena) (rs : List Record) (n : ℕ) (e : TakeError) �
 refusal_is arena rs n (ArenaFull elements) h = ((count_is arena rs n ∙ ap length h.0.0, h.0.1), h.1)
 refusal_is arena rs n OutOfMemory h = tt
 
-live-taken_at : (stack : List ℕ) (a : Arena) (list : List (ℕ × ℕ))
+live_taken_at : (stack : List ℕ) (a : Arena) (list : List (ℕ × ℕ))
     → (taken_at stack a list).live ≡ insert a.live (unwrap_or (first stack) a.extent) list
-live-taken_at [] a list = refl
-live-taken_at (start ∷ rest) a list = refl
+live_taken_at [] a list = refl
+live_taken_at (start ∷ rest) a list = refl
 
 module _ {X : Type 0} where
   linked_by : (s : State) (x y : X) → (IsNode s → x ≡ y) → if_linked s x ≡ if_linked s y
@@ -129,14 +129,14 @@ read_by f g None h = refl
 read_by f g (Some x) h = h x refl
 
 -- an arena in which the nodes keep their runs
-module _ (arena new : Arena) (rs : List Record) (st : Stored arena rs) (well : IsArena new)
+module _ (arena new : Arena) (rs : List Record) (st : AreRecordsStored arena rs) (well : IsArena new)
     (same : (i : ℕ) (r : Record) → slice_get rs i ≡ Some r → IsNode r.state
     → get new.live r.start ≡ get arena.live r.start)
     (extent : arena.extent ≤ new.extent) (bound : new.bound ≡ arena.bound) where
   pub key_kept : (i : ℕ) (r : Record) → slice_get rs i ≡ Some r → IsNode r.state → key_of new r ≡ key_of arena r
   key_kept i r e node j = (r.place, unwrap_or (same i r e node j) [])
 
-  pub stored_arena : Stored new rs
+  pub stored_arena : AreRecordsStored new rs
   stored_arena =
       record {
         well = well;
@@ -144,7 +144,7 @@ module _ (arena new : Arena) (rs : List Record) (st : Stored arena rs) (well : I
         apart = st.apart;
         unique = λ i j r t p q nr nt e. st.unique i j r t p q nr nt
             (sym (key_kept i r p (linked_state r.state nr)) ∙ e ∙ key_kept j t q (linked_state t.state nt));
-        few = omega (arith, st.few);
+        within_limit = omega (arith, st.within_limit);
         bound_fits = subst (λ b. b < 2 ^ 31) (sym bound) st.bound_fits;
       }
 
@@ -167,13 +167,13 @@ module _ (arena new : Arena) (rs : List Record) (st : Stored arena rs) (well : I
 
   -- the chains stay as they are
   pub kept_arena : (links : List Links) (heads places : List ℕ) (candidates : ℕ)
-      → Kept arena rs links heads places candidates
-      → Kept new rs links heads places candidates
+      → HoldsNodes arena rs links heads places candidates
+      → HoldsNodes new rs links heads places candidates
   kept_arena links heads places candidates k =
       record {
         stored = stored_arena;
         linked_all = k.linked_all;
-        some = k.some;
+        at_least_one = k.at_least_one;
         places_all = k.places_all;
         in_chains = filed_same _ _ no_record _ _ _ _ (λ b i e. refl) (λ b. refl)
             (chain_arena (length heads - 1)) k.in_chains;
@@ -183,7 +183,8 @@ module _ (arena new : Arena) (rs : List Record) (st : Stored arena rs) (well : I
       }
 
 -- what is live stays so
-module _ (arena new : Arena) (rs : List Record) (st : Stored arena rs) (well : IsArena new) (list : List (ℕ × ℕ))
+module _ (arena new : Arena) (rs : List Record) (st : AreRecordsStored arena rs) (well : IsArena new)
+    (list : List (ℕ × ℕ))
     (start : ℕ) (is : new ≡ taken arena list) (at : start ≡ next_start arena (length list))
     (fresh : get arena.live start ≡ None) (kept : KeepsLive arena new) where
   pub taken_same : (i : ℕ) (r : Record) → slice_get rs i ≡ Some r → IsNode r.state
@@ -219,11 +220,11 @@ module _ (arena new : Arena) (rs : List Record) (st : Stored arena rs) (well : I
         linked = linked_arena arena new rs st well taken_same taken_longer taken_bound i;
         detached = detached_arena arena new rs st well taken_same taken_longer taken_bound i;
         loose = (ap (λ a. loose_of a.live rs) is
-            ∙ ap (λ m. loose_of m rs) (live-taken_at (free_of arena (length list)) arena list)
+            ∙ ap (λ m. loose_of m rs) (live_taken_at (free_of arena (length list)) arena list)
             ∙ ap (λ k. loose_of (insert arena.live k list) rs) (sym at)
             ∙ loose_taken arena.live rs start list untaken) i;
-        uses = picked_map (λ r. uses_in r) rs;
-        marks = picked_map (λ r. mark_in r) rs;
+        uses = picked_map (λ r. uses_of_record r) rs;
+        marks = picked_map (λ r. mark_of_record r) rs;
         free = (ap (λ a. counts_of a.free) is ∙ free_taken arena list (free_of arena (length list)) st.well refl
             ∙ ap (λ k. with_count (counts_of arena.free) (length list) (k - 1))
             (sym (count_is arena rs (length list)))) i;
@@ -234,13 +235,14 @@ module _ (arena new : Arena) (rs : List Record) (st : Stored arena rs) (well : I
       }
 
 -- a run that is that of no node is given back
-module _ (arena new : Arena) (rs : List Record) (st : Stored arena rs) (well : IsArena new) (list : List (ℕ × ℕ))
-    (start n : ℕ) (is : new ≡ given arena start n) (size : length list ≡ n) (untaken : IsUntaken rs start) where
+module _ (arena new : Arena) (rs : List Record) (st : AreRecordsStored arena rs) (well : IsArena new)
+    (list : List (ℕ × ℕ))
+    (start n : ℕ) (is : new ≡ given_back arena start n) (size : length list ≡ n) (untaken : IsUntaken rs start) where
   pub given_same : (i : ℕ) (r : Record) → slice_get rs i ≡ Some r → IsNode r.state
       → get new.live r.start ≡ get arena.live r.start
   given_same i r e node =
       ap (λ a. get a.live r.start) is
-      ∙ get-remove_other arena.live start r.start (λ same. untaken i r e node (sym same))
+      ∙ get_remove_other arena.live start r.start (λ same. untaken i r e node (sym same))
 
   pub given_longer : arena.extent ≤ new.extent
   given_longer = omega (arith, ap (λ a. a.extent) is)
@@ -267,8 +269,8 @@ module _ (arena new : Arena) (rs : List Record) (st : Stored arena rs) (well : I
         linked = linked_arena arena new rs st well given_same given_longer given_bound i;
         detached = detached_arena arena new rs st well given_same given_longer given_bound i;
         loose = (ap (λ a. loose_of a.live rs) is ∙ loose_given arena.live rs start) i;
-        uses = picked_map (λ r. uses_in r) rs;
-        marks = picked_map (λ r. mark_in r) rs;
+        uses = picked_map (λ r. uses_of_record r) rs;
+        marks = picked_map (λ r. mark_of_record r) rs;
         free = (free_given ∙ ap (λ k. with_count (counts_of arena.free) (length list) (k + 1))
             (sym (count_is arena rs (length list)))) i;
         records = length rs;

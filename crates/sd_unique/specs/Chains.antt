@@ -6,7 +6,7 @@ use Rattle.std.specs.List.{fold, sum_by}
 use Rattle.std.specs.Option.{option_and_then}
 use Rattle.sd_runs.specs.Arena.{Arena}
 use Rattle.sd_unique.specs.Filed.{IsFiled, IsFiledBoth}
-use Rattle.sd_unique.specs.Record.{key_of, Stored}
+use Rattle.sd_unique.specs.Record.{key_of, AreRecordsStored}
 use Rattle.sd_unique.specs.declared.record.Record.{Record}
 use Rattle.sd_unique.specs.declared.record.Links.{Links}
 use Rattle.sd_unique.specs.declared.record.State.{State}
@@ -79,8 +79,8 @@ abbrev pub stack_under : List Links → ℕ → Option ℕ
 stack_under links n = option_and_then (λ l. cond l.is_waiting (Some 0) None) (slice_get links n)
 
 -- the lists of the links
-abbrev pub AreListed : List Links → List ℕ → (ℕ → Option ℕ) → Type 0
-AreListed links places under = IsFiledBoth (after_of links) (before_of links) no_record (head_of places) under
+abbrev pub AreInLists : List Links → List ℕ → (ℕ → Option ℕ) → Type 0
+AreInLists links places under = IsFiledBoth (after_of links) (before_of links) no_record (head_of places) under
 
 -- the stack of the links
 abbrev pub AreStacked : List Links → ℕ → Type 0
@@ -105,16 +105,16 @@ pub record IsPushed (old new : List Links) (number : ℕ) : Type 0 where
 
 -- What holds of the fields. The first head is that of the free records, the others are those of the buckets; the first
 -- place is that of the detached records.
-pub record Kept (arena : Arena) (records : List Record) (links : List Links) (heads places : List ℕ)
+pub record HoldsNodes (arena : Arena) (records : List Record) (links : List Links) (heads places : List ℕ)
     (candidates : ℕ) : Type 0 where
-  pub stored : Stored arena records
+  pub stored : AreRecordsStored arena records
   pub linked_all : length links ≡ length records
   -- there is a bucket, and a head for each remainder of places
-  pub some : 1 < length heads
+  pub at_least_one : 1 < length heads
   pub places_all : length places ≡ 2049
   -- each record stands where its state says
   pub in_chains : IsFiled (next_of records) no_record (head_of heads) (chain_under arena (length heads - 1) records)
-  pub in_lists : AreListed links places (list_under records)
+  pub in_lists : AreInLists links places (list_under records)
   pub in_stack : AreStacked links candidates
   -- each linked node without uses is a candidate
   pub queued : (n : ℕ) (r : Record) → slice_get records n ≡ Some r → r.state ≡ Linked → r.uses ≡ 0

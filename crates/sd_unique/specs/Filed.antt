@@ -12,23 +12,23 @@ IsBack prev before [] = Unit {0}
 IsBack prev before (x ∷ xs) = (prev x ≡ before) × IsBack prev x xs
 
 -- the number is in the list
-abbrev pub Has : ℕ → List ℕ → Type 0
-Has n [] = ⊥
-Has n (m ∷ ms) = (m ≡ n) ⊎ Has n ms
+abbrev pub IsMember : ℕ → List ℕ → Type 0
+IsMember n [] = ⊥
+IsMember n (m ∷ ms) = (m ≡ n) ⊎ IsMember n ms
 
 -- no number is twice in the list
-abbrev pub IsOnce : List ℕ → Type 0
-IsOnce [] = Unit {0}
-IsOnce (x ∷ xs) = (¬ Has x xs) × IsOnce xs
+abbrev pub HasNoCopies : List ℕ → Type 0
+HasNoCopies [] = Unit {0}
+HasNoCopies (x ∷ xs) = (¬ IsMember x xs) × HasNoCopies xs
 
 -- Each number stands once in the chain of the head under which it is filed, and in no other; one that is filed under no
 -- head stands in none.
 pub record IsFiled (next : ℕ → ℕ) (none : ℕ) (head : ℕ → ℕ) (under : ℕ → Option ℕ) : Type 0 where
   pub lists : ℕ → List ℕ
   pub chained : (b : ℕ) → IsChain next none (head b) (lists b)
-  pub once : (b : ℕ) → IsOnce (lists b)
-  pub filed : (b n : ℕ) → under n ≡ Some b → Has n (lists b)
-  pub only : (b n : ℕ) → Has n (lists b) → under n ≡ Some b
+  pub once : (b : ℕ) → HasNoCopies (lists b)
+  pub filed : (b n : ℕ) → under n ≡ Some b → IsMember n (lists b)
+  pub only : (b n : ℕ) → IsMember n (lists b) → under n ≡ Some b
 
 -- the same with the way back
 pub record IsFiledBoth (next prev : ℕ → ℕ) (none : ℕ) (head : ℕ → ℕ) (under : ℕ → Option ℕ) : Type 0 where
@@ -59,13 +59,13 @@ pub record IsLedBack (prev prev' : ℕ → ℕ) (none p q : ℕ) : Type 0 where
 -- From `first` on the chain has these numbers, each once and below `size`; x is one of them, and not the first.
 pub record Leads (next : ℕ → ℕ) (none first x size : ℕ) (xs : List ℕ) : Type 0 where
   pub chain : IsChain next none first xs
-  pub once : IsOnce xs
-  pub has : Has x xs
+  pub once : HasNoCopies xs
+  pub has : IsMember x xs
   pub later : first ≢ x
-  pub below : (y : ℕ) → Has y xs → y < size
+  pub below : (y : ℕ) → IsMember y xs → y < size
 
 -- From `first` on the chain has these numbers, each once and below `size`.
 pub record IsWalkable (next : ℕ → ℕ) (none first size : ℕ) (xs : List ℕ) : Type 0 where
   pub chain : IsChain next none first xs
-  pub once : IsOnce xs
-  pub below : (y : ℕ) → Has y xs → y < size
+  pub once : HasNoCopies xs
+  pub below : (y : ℕ) → IsMember y xs → y < size

@@ -3,7 +3,7 @@ ghost use Rattle.std.specs.Prelude.{◌≡◌, ◌+◌, ◌<◌, ◌-◌, length
 ghost use Rattle.sd_unique.specs.Chains.{chain_under, head_of, next_of, no_record, KeepsRecords};
 ghost use Rattle.sd_unique.specs.Filed.{IsFiled};
 ghost use Rattle.sd_unique.specs.Growing.{IsLinkedBelow};
-ghost use Rattle.sd_unique.specs.Record.{Stored};
+ghost use Rattle.sd_unique.specs.Record.{AreRecordsStored};
 
 use crate::hash::{bucket_at, hash};
 use crate::record::{NO_RECORD, Record, State};
@@ -19,8 +19,8 @@ pub(crate) fn empty_heads(alloc: Global, count: usize) -> Result<Vec<u32>, Alloc
 
 // Puts each linked record first in the chain of its bucket, where the other chains stand.
 pub(crate) fn link_all(runs: &Runs, records: &mut [Record], heads: &mut [u32])
-    requires stored { Stored runs.now records.old }
-    requires some { 1 < length heads.old }
+    requires stored { AreRecordsStored runs.now records.old }
+    requires at_least_one { 1 < length heads.old }
     requires linked { IsLinkedBelow runs.now (length heads.old - 1) 0 records.old heads.old }
     ensures kept { KeepsRecords records.old records.new }
     ensures linked { IsFiled (next_of records.new) no_record (head_of heads.new)
@@ -33,9 +33,9 @@ pub(crate) fn link_all(runs: &Runs, records: &mut [Record], heads: &mut [u32])
 
 // Puts the next record first in the chain of its bucket, if it is linked.
 fn link(runs: &Runs, records: &mut [Record], heads: &mut [u32], number: usize)
-    requires stored { Stored runs.now records.old }
+    requires stored { AreRecordsStored runs.now records.old }
     requires inside { number < length records.old }
-    requires some { 1 < length heads.old }
+    requires at_least_one { 1 < length heads.old }
     requires linked { IsLinkedBelow runs.now (length heads.old - 1) number records.old heads.old }
     ensures kept { KeepsRecords records.old records.new }
     ensures linked { IsLinkedBelow runs.now (length heads.new - 1) (number + 1) records.new

@@ -1,8 +1,9 @@
 // The lists of the places and of the detached records, through the links in both directions.
 ghost use Rattle.std.specs.Prelude.{◌≡◌, ◌≢◌, ◌<◌, length, slice_get, Some, None, Option, List, ℕ};
 ghost use Rattle.sd_unique.specs.declared.record.Record.{Record};
-ghost use Rattle.sd_unique.specs.Chains.{AreListed, KeepsStack, after_of, before_of, head_of, no_record};
-ghost use Rattle.sd_unique.specs.Filed.{unfiled, filed_at, Has, IsChain, IsOnce, IsLed, IsLedBack, IsWalkable};
+ghost use Rattle.sd_unique.specs.Chains.{AreInLists, KeepsStack, after_of, before_of, head_of, no_record};
+ghost use Rattle.sd_unique.specs.Filed.{unfiled, filed_at, IsMember, IsChain, HasNoCopies, IsLed};
+ghost use Rattle.sd_unique.specs.Filed.{IsLedBack, IsWalkable};
 
 use crate::record::{Links, NO_RECORD, Record};
 
@@ -12,10 +13,10 @@ pub(crate) fn take_out(links: &mut [Links], places: &mut [u32], head: usize, num
     requires head { head < length places.old }
     requires listed { (under : ℕ → Option ℕ) × (under number ≡ Some head)
         × ((n b : ℕ) → under n ≡ Some b → n < length links.old)
-        × AreListed links.old places.old under }
+        × AreInLists links.old places.old under }
     ensures listed { (under : ℕ → Option ℕ) → under number ≡ Some head
-        → AreListed links.old places.old under
-        → AreListed links.new places.new (unfiled number under) }
+        → AreInLists links.old places.old under
+        → AreInLists links.new places.new (unfiled number under) }
     ensures stack { KeepsStack links.old links.new }
 {
     let link = links[number as usize];
@@ -54,14 +55,14 @@ fn lead_back(links: &mut [Links], to: u32, from: u32)
 // Puts a number that is in no list first in the list of this head.
 pub(crate) fn put_first(links: &mut [Links], places: &mut [u32], head: usize, number: u32)
     requires inside { number < length links.old }
-    requires some { number ≢ no_record }
+    requires at_least_one { number ≢ no_record }
     requires head { head < length places.old }
     requires listed { (under : ℕ → Option ℕ) × (under number ≡ None)
         × ((n b : ℕ) → under n ≡ Some b → n < length links.old)
-        × AreListed links.old places.old under }
+        × AreInLists links.old places.old under }
     ensures listed { (under : ℕ → Option ℕ) → under number ≡ None
-        → AreListed links.old places.old under
-        → AreListed links.new places.new (filed_at number head under) }
+        → AreInLists links.old places.old under
+        → AreInLists links.new places.new (filed_at number head under) }
     ensures stack { KeepsStack links.old links.new }
 {
     let first = places[head];
@@ -80,11 +81,12 @@ pub(crate) fn at_place(records: &[Record], links: &[Links], first: u32, place: u
         × IsWalkable (after_of links.now) no_record first (length records.now) xs }
     ensures some { result ≢ no_record
         → (xs : List ℕ) → IsChain (after_of links.now) no_record first xs
-        → Has result xs × (r : Record) × (slice_get records.now result ≡ Some r)
+        → IsMember result xs × (r : Record) × (slice_get records.now result ≡ Some r)
         × (r.place ≡ place) }
     ensures none { result ≡ no_record
         → (xs : List ℕ) → IsChain (after_of links.now) no_record first xs
-        → (n : ℕ) (r : Record) → Has n xs → slice_get records.now n ≡ Some r → r.place ≢ place }
+        → (n : ℕ) (r : Record) → IsMember n xs → slice_get records.now n ≡ Some r
+        → r.place ≢ place }
 {
     let mut at = first;
     for _step in 0..records.len() {

@@ -36,7 +36,7 @@ pub struct Nodes {
 impl Model for Nodes {
     ghost use Rattle.sd_unique.specs.Nodes.{Nodes as NodesSeen, nodes_code};
     ghost use Rattle.sd_unique.specs.Record.{nodes_of};
-    ghost use Rattle.sd_unique.specs.Chains.{Kept};
+    ghost use Rattle.sd_unique.specs.Chains.{HoldsNodes};
 
     ghost Value = { NodesSeen };
 
@@ -44,7 +44,8 @@ impl Model for Nodes {
 
     ghost view = { λ a. nodes_of a.runs a.records.items };
 
-    ghost invariant = { λ a. Kept a.runs a.records.items a.links.items a.heads.items a.places.items
+    ghost invariant = { λ a. HoldsNodes a.runs a.records.items a.links.items a.heads.items
+        a.places.items
         a.candidates };
 }
 
@@ -59,9 +60,9 @@ impl Nodes {
     ghost use Rattle.sd_unique.specs.Nodes.{IsNodes, key_at, uses_at};
     ghost use Rattle.sd_unique.specs.Inserting.{no_nodes, inserted, with_uses, IsNewNumber, IsFull, IsRefusal};
     ghost use Rattle.sd_unique.specs.Relinking.{with_mark, with_loose, without_loose, exchanged, removed, unlinked};
-    ghost use Rattle.sd_unique.specs.Relinking.{relinked, with_key, IsAbsent, IsAt, IsIdle, IsLoose};
+    ghost use Rattle.sd_unique.specs.Relinking.{relinked, with_key, IsAbsent, IsLinkedAt, IsIdle, IsLoose};
 
-    /// No nodes, over an arena of at most `bound` elements. The only error is want of memory.
+    /// No nodes, over an arena of at most `bound` elements. The only error: out of memory.
     pub fn new(alloc: Global, bound: u32) -> Result<Nodes, AllocError>
         requires { bound < 2 ^ 31 }
         ensures empty { IfOk result (λ nodes. nodes ≡ no_nodes bound) }
@@ -117,7 +118,7 @@ impl Nodes {
     /// No linked node may have them yet, and the list has one element or more. After an error nothing
     /// is changed.
     pub fn insert(&mut self, place: u32, list: &[(u32, u32)]) -> Result<u32, TakeError>
-        requires some { 0 < length list.now }
+        requires at_least_one { 0 < length list.now }
         requires absent { (n : ℕ) → get self.old.linked n ≢ Some (place, list.now) }
         ensures number { IfOk result (λ n. IsNewNumber self.old n) }
         ensures ok { IfOk result (λ n. self.new ≡ inserted self.old n place list.now) }
@@ -132,7 +133,7 @@ impl Nodes {
     /// Finds the linked node with this place and list, or makes it as `insert` does. The list has one
     /// element or more. After an error nothing is changed.
     pub fn find_or_insert(&mut self, place: u32, list: &[(u32, u32)]) -> Result<Found, TakeError>
-        requires some { 0 < length list.now }
+        requires at_least_one { 0 < length list.now }
         ensures present { IfOk result (λ found. IfPresent found
             (λ n. get self.old.linked n ≡ Some (place, list.now))) }
         ensures same { IfOk result (λ found. IfPresent found (λ n. self.new ≡ self.old)) }
@@ -166,7 +167,7 @@ impl Nodes {
         list: &[(u32, u32)],
     ) -> Result<u32, TakeError>
         requires hash { hash ≡ hash_of (place, list.now) }
-        requires some { 0 < length list.now }
+        requires at_least_one { 0 < length list.now }
         requires absent { (n : ℕ) → get self.old.linked n ≢ Some (place, list.now) }
         ensures number { IfOk result (λ n. IsNewNumber self.old n) }
         ensures ok { IfOk result (λ n. self.new ≡ inserted self.old n place list.now) }
@@ -198,7 +199,7 @@ impl Nodes {
     // Makes a linked node as `insert_hashed` does, among the buckets that there are.
     fn add(&mut self, hash: u64, place: u32, list: &[(u32, u32)]) -> Result<u32, TakeError>
         requires hash { hash ≡ hash_of (place, list.now) }
-        requires some { 0 < length list.now }
+        requires at_least_one { 0 < length list.now }
         requires absent { (n : ℕ) → get self.old.linked n ≢ Some (place, list.now) }
         ensures number { IfOk result (λ n. IsNewNumber self.old n) }
         ensures ok { IfOk result (λ n. self.new ≡ inserted self.old n place list.now) }
@@ -348,7 +349,7 @@ impl Nodes {
     /// Makes a loose run of this list, of one element or more, and answers its start and length.
     /// After an error nothing is changed.
     pub fn take_run(&mut self, list: &[(u32, u32)]) -> Result<(u32, u32), TakeError>
-        requires some { 0 < length list.now }
+        requires at_least_one { 0 < length list.now }
         ensures fresh { IfOk result (λ run. get self.old.loose run.0 ≡ None) }
         ensures ok { IfOk result (λ run. (run.1 ≡ length list.now)
             × (self.new ≡ with_loose self.old run.0 list.now)) }
@@ -364,7 +365,7 @@ impl Nodes {
     /// Frees a loose run.
     pub fn give_run(&mut self, run: (u32, u32))
         requires { (list : List (ℕ × ℕ)) × IsLoose self.old run.0 run.1 list }
-        ensures given { (list : List (ℕ × ℕ)) → IsLoose self.old run.0 run.1 list
+        ensures given_back { (list : List (ℕ × ℕ)) → IsLoose self.old run.0 run.1 list
             → self.new ≡ without_loose self.old run.0 list }
         ensures nodes { IsNodes self.new }
     {
@@ -377,7 +378,8 @@ impl Nodes {
         requires node { IsSome (get self.old.detached node) }
         requires run { (list : List (ℕ × ℕ)) × IsLoose self.old run.0 run.1 list }
         ensures exchanged { (k : ℕ × List (ℕ × ℕ)) (list : List (ℕ × ℕ))
-            → get self.old.detached node ≡ Some k → IsLoose self.old run.0 run.1 list → (result.1 ≡ length k.1)
+            → get self.old.detached node ≡ Some k → IsLoose self.old run.0 run.1 list
+            → (result.1 ≡ length k.1)
             × (self.new ≡ exchanged self.old node k.0 run.0 list result.0 k.1) }
         ensures fresh { get self.old.loose result.0 ≡ None }
         ensures nodes { IsNodes self.new }
@@ -471,8 +473,8 @@ impl Nodes {
 
     /// A linked node at this place, where there is one.
     pub fn first_at(&self, place: u32) -> Option<u32>
-        ensures some { IfSome result (λ n. IsAt self.now place n) }
-        ensures none { IfNone result ((n : ℕ) → ¬ IsAt self.now place n) }
+        ensures some { IfSome result (λ n. IsLinkedAt self.now place n) }
+        ensures none { IfNone result ((n : ℕ) → ¬ IsLinkedAt self.now place n) }
     {
         let first = self.places[(place & 2047) as usize + 1];
         let found = at_place(&self.records, &self.links, first, place);

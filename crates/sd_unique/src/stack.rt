@@ -74,7 +74,7 @@ fn is_unused(node: &Record) -> bool
 
 // Takes the top off the stack, and answers what follows it.
 fn pop(links: &mut [Links], top: u32) -> u32
-    requires some { top ≢ no_record }
+    requires at_least_one { top ≢ no_record }
     requires stacked { AreStacked links.old top }
     ensures stacked { AreStacked links.new result }
     ensures lists { KeepsLists links.old links.new }

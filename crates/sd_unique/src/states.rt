@@ -2,7 +2,7 @@
 ghost use Rattle.std.specs.Prelude.{◌≡◌, Some, Option, ℕ, List};
 ghost use Rattle.std.specs.Option.{IsSome};
 ghost use Rattle.std.specs.FinMap.{get};
-ghost use Rattle.sd_unique.specs.Chains.{Kept, stack_under};
+ghost use Rattle.sd_unique.specs.Chains.{HoldsNodes, stack_under};
 ghost use Rattle.sd_unique.specs.Record.{nodes_of};
 ghost use Rattle.sd_unique.specs.Relinking.{unlinked, relinked, removed, IsAbsent};
 
@@ -22,9 +22,9 @@ pub(crate) fn detach(
     number: u32,
 )
     requires linked { IsSome (get (nodes_of runs.now records.old).linked number) }
-    requires kept { (top : ℕ) × Kept runs.now records.old links.old heads.old places.old top }
-    ensures kept { (top : ℕ) → Kept runs.now records.old links.old heads.old places.old top
-        → Kept runs.now records.new links.new heads.new places.new top }
+    requires kept { (top : ℕ) × HoldsNodes runs.now records.old links.old heads.old places.old top }
+    ensures kept { (top : ℕ) → HoldsNodes runs.now records.old links.old heads.old places.old top
+        → HoldsNodes runs.now records.new links.new heads.new places.new top }
     ensures nodes { (k : ℕ × List (ℕ × ℕ))
         → get (nodes_of runs.now records.old).linked number ≡ Some k
         → nodes_of runs.now records.new ≡ unlinked (nodes_of runs.now records.old) number k }
@@ -53,9 +53,9 @@ pub(crate) fn attach(
         → IsAbsent (nodes_of runs.now records.old) k }
     requires queued { get (nodes_of runs.now records.old).uses number ≡ Some 0
         → stack_under links.old number ≡ Some 0 }
-    requires kept { (top : ℕ) × Kept runs.now records.old links.old heads.old places.old top }
-    ensures kept { (top : ℕ) → Kept runs.now records.old links.old heads.old places.old top
-        → Kept runs.now records.new links.new heads.new places.new top }
+    requires kept { (top : ℕ) × HoldsNodes runs.now records.old links.old heads.old places.old top }
+    ensures kept { (top : ℕ) → HoldsNodes runs.now records.old links.old heads.old places.old top
+        → HoldsNodes runs.now records.new links.new heads.new places.new top }
     ensures nodes { (k : ℕ × List (ℕ × ℕ))
         → get (nodes_of runs.now records.old).detached number ≡ Some k
         → nodes_of runs.now records.new ≡ relinked (nodes_of runs.now records.old) number k }
@@ -81,9 +81,9 @@ pub(crate) fn release(
     number: u32,
 )
     requires detached { IsSome (get (nodes_of runs.old records.old).detached number) }
-    requires kept { (top : ℕ) × Kept runs.old records.old links.old heads.old places.old top }
-    ensures kept { (top : ℕ) → Kept runs.old records.old links.old heads.old places.old top
-        → Kept runs.new records.new links.new heads.new places.new top }
+    requires kept { (top : ℕ) × HoldsNodes runs.old records.old links.old heads.old places.old top }
+    ensures kept { (top : ℕ) → HoldsNodes runs.old records.old links.old heads.old places.old top
+        → HoldsNodes runs.new records.new links.new heads.new places.new top }
     ensures nodes { (k : ℕ × List (ℕ × ℕ))
         → get (nodes_of runs.old records.old).detached number ≡ Some k
         → nodes_of runs.new records.new ≡ removed (nodes_of runs.old records.old) number k.1 }

@@ -175,7 +175,7 @@ fn another_list(rt: HostRuntime) -> Result<(), Fail> {
 // Gives a detached node this list over a run of its own, and its old run back.
 fn give_list(nodes: &mut Nodes, node: u32, list: &[(u32, u32)]) -> Result<(), TakeError>
     requires node { IsSome (get nodes.old.detached node) }
-    requires some { 0 < length list.now }
+    requires at_least_one { 0 < length list.now }
 {
     let run = nodes.take_run(list)?;
     let old = nodes.replace_run(node, run);

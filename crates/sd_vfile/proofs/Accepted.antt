@@ -9,13 +9,13 @@ use Rattle.sd_base.specs.Lines.{TextLine, content_of}
 use Rattle.sd_base.specs.Reading.{◌>>=◌, ◌>>◌, each_after}
 use Rattle.sd_model.specs.Tree.{Tree, variables, leaves, IsVtree}
 use Rattle.sd_vtree.specs.Numbered.{times}
-use Rattle.sd_vtree.proofs.Times.{times-same, times-other}
+use Rattle.sd_vtree.proofs.Times.{times_same, times_other}
 use Rattle.sd_vtree.proofs.Pigeons.{distinct_times, all_times}
 use Rattle.sd_vfile.specs.declared.fault.VtreeFault.{VtreeFault}
 use Rattle.sd_vfile.specs.declared.fault.VtreeFault.TheVariants.{NoHeader, CountDiffers}
 use Rattle.sd_vfile.specs.Reads.{Entry, is_child, has_leaf, missing, none_missing, roots_of, one_root, whole_tree}
 use Rattle.sd_vfile.specs.Reads.{entry_of, stated_by, tree_of_lines, vtree_file}
-use Rattle.sd_vfile.proofs.Known.{leaf_count, below, leaf_none, leaf_some}
+use Rattle.sd_vfile.proofs.Forests.{leaf_count, below, leaf_none, leaf_some}
 use Rattle.sd_vfile.proofs.AreRead.{AreRead, none_read}
 use Rattle.sd_vfile.proofs.OneMore.{read_one_more}
 use Rattle.sd_vfile.proofs.Placed.{through, past, done, read_keeps}
@@ -79,30 +79,30 @@ times_to : ℕ → List ℕ → ℕ
 times_to zero xs = 0
 times_to (suc n) xs = times_to n xs + times (suc n) xs
 
-times_to-nil : (n : ℕ) → times_to n [] ≡ 0
+times_to_nil : (n : ℕ) → times_to n [] ≡ 0
 unfolding times_to
-times_to-nil zero = refl
-times_to-nil (suc n) = omega (arith, times_to-nil n)
+times_to_nil zero = refl
+times_to_nil (suc n) = omega (arith, times_to_nil n)
 
-times_to-past : (n x : ℕ) (xs : List ℕ) → n < x → times_to n (x ∷ xs) ≡ times_to n xs
+times_to_past : (n x : ℕ) (xs : List ℕ) → n < x → times_to n (x ∷ xs) ≡ times_to n xs
 unfolding times_to
-times_to-past zero x xs h = refl
-times_to-past (suc n) x xs h =
+times_to_past zero x xs h = refl
+times_to_past (suc n) x xs h =
     let apart : x ≡ suc n → ⊥ = λ e. omega arith in
-    omega (arith, times_to-past n x xs (omega arith), times-other (suc n) x xs apart)
+    omega (arith, times_to_past n x xs (omega arith), times_other (suc n) x xs apart)
 
-times_to-within : (n x : ℕ) (xs : List ℕ) → 1 ≤ x → x ≤ n → times_to n (x ∷ xs) ≡ 1 + times_to n xs
+times_to_within : (n x : ℕ) (xs : List ℕ) → 1 ≤ x → x ≤ n → times_to n (x ∷ xs) ≡ 1 + times_to n xs
 unfolding times_to
-times_to-within zero x xs low high = absurd (omega arith)
-times_to-within (suc n) x xs low high = elim (cases_eq x (suc n)) [
-  | inl e ↦ omega (arith, times_to-past n x xs (omega arith), times-same (suc n) x xs e)
-  | inr d ↦ omega (arith, times_to-within n x xs low (omega arith), times-other (suc n) x xs d)
+times_to_within zero x xs low high = absurd (omega arith)
+times_to_within (suc n) x xs low high = elim (cases_eq x (suc n)) [
+  | inl e ↦ omega (arith, times_to_past n x xs (omega arith), times_same (suc n) x xs e)
+  | inr d ↦ omega (arith, times_to_within n x xs low (omega arith), times_other (suc n) x xs d)
 ]
 
 -- a list of such numbers alone
-times_to-length : (n : ℕ) (xs : List ℕ) → AllByRecursion (λ x. (1 ≤ x) × (x ≤ n)) xs → times_to n xs ≡ length xs
-times_to-length n [] all = times_to-nil n
-times_to-length n (x ∷ xs) all = omega (arith, times_to-length n xs all.1, times_to-within n x xs all.0.0 all.0.1)
+times_to_length : (n : ℕ) (xs : List ℕ) → AllByRecursion (λ x. (1 ≤ x) × (x ≤ n)) xs → times_to n xs ≡ length xs
+times_to_length n [] all = times_to_nil n
+times_to_length n (x ∷ xs) all = omega (arith, times_to_length n xs all.1, times_to_within n x xs all.0.0 all.0.1)
 
 -- each once
 times_to_once : (n : ℕ) (xs : List ℕ) → ((x : ℕ) → 1 ≤ x → x ≤ n → times x xs ≡ 1) → times_to n xs ≡ n
@@ -129,16 +129,16 @@ tree_over : (v : ℕ) (es : List Entry) (t : Tree) → AreRead v es → one_root
     → none_missing (missing v es) ≡ Ok tt → IsVtreeOver v t
 tree_over v es t read root full =
     let same : (x : ℕ) → times x (variables t) ≡ leaf_count x es = λ x. times_in_tree v es t x read root in
-    let few : (x : ℕ) → times x (variables t) ≤ 1 = λ x. omega (arith, same x, read.leaf_once x) in
+    let within_limit : (x : ℕ) → times x (variables t) ≤ 1 = λ x. omega (arith, same x, read.leaf_once x) in
     let ranged : (x : ℕ) → 1 ≤ times x (variables t) → (1 ≤ x) × (x ≤ v) = λ x h. within x h (same x) in
     let all = all_times (λ x. (1 ≤ x) × (x ≤ v)) (variables t) ranged in
     let once : (x : ℕ) → 1 ≤ x → x ≤ v → times x (variables t) ≡ 1 =
     λ x low high. omega (arith, same x, read.leaf_once x, leaf_some x es (there x low high)) in
-    let count : leaves t ≡ v = sym (times_to-length v (variables t) all) ∙ times_to_once v (variables t) once in
+    let count : leaves t ≡ v = sym (times_to_length v (variables t) all) ∙ times_to_once v (variables t) once in
     record {
       vtree = record {
         in_range = subst (λ n. AllByRecursion (λ x. (1 ≤ x) × (x ≤ n)) (variables t)) (sym count) all;
-        distinct = distinct_times (variables t) few;
+        distinct = distinct_times (variables t) within_limit;
       };
       count = count;
     }

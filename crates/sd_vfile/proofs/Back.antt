@@ -10,27 +10,27 @@ use Rattle.sd_model.specs.Tree.{Tree, Leaf, Node, variables, leaves, right_base,
 use Rattle.sd_vtree.specs.Numbered.{times}
 use Rattle.sd_vtree.proofs.Building.{leaves_positive}
 use Rattle.sd_vtree.proofs.Pigeons.{times_distinct, has_variable, variable_in_range}
-use Rattle.sd_vtree.proofs.Times.{times-append, times-same}
+use Rattle.sd_vtree.proofs.Times.{times_append, times_same}
 use Rattle.sd_vfile.specs.Reads.{is_child, has_leaf}
 use Rattle.sd_vfile.specs.Reads.{entry_of, missing}
 use Rattle.sd_vfile.specs.Reads.{roots_of, whole_tree, tree_of_lines, vtree_file}
 use Rattle.sd_vfile.proofs.Texts.{IsTextLine, IsFullWord, numbered, full_number, natural_back, text_back}
-use Rattle.sd_vfile.proofs.Written.{root_entry, entries_in, leaves-node, position_in, root_free}
+use Rattle.sd_vfile.proofs.Written.{root_entry, entries_in, leaves_node, position_in, root_free}
 use Rattle.sd_vfile.proofs.Written.{a_leaf}
-use Rattle.sd_vfile.proofs.Kept.{length-entries_in, root_kept}
+use Rattle.sd_vfile.proofs.WrittenNodes.{length_entries_in, root_kept}
 use Rattle.sd_vfile.proofs.TreeRead.{IsBefore, tree_read}
 
 -- the lines of a tree are lines of words
 tree_lines : (t : Tree) (base : ℕ) → base + 2 * leaves t < 10 ^ 18 → ((x : ℕ) → 1 ≤ times x (variables t) → x < 10 ^ 18)
     → AllByRecursion (IsTextLine 99) (vtree_node_lines t base)
-tree_lines (Leaf x) base small few =
+tree_lines (Leaf x) base small within_limit =
     let letter : IsFullWord (76 ∷ []) = record { bytes = (omega arith, tt); filled = refl } in
-    let variable = full_number x (few x (omega (arith, times-same x x [] refl))) in
-    (record { words = (letter, (full_number base (omega arith), (variable, tt))); some = refl; plain = refl }, tt)
-tree_lines (Node l r) base small few =
+    let variable = full_number x (within_limit x (omega (arith, times_same x x [] refl))) in
+    (record { words = (letter, (full_number base (omega arith), (variable, tt))); not_blank = refl; plain = refl }, tt)
+tree_lines (Node l r) base small within_limit =
     let letter : IsFullWord (73 ∷ []) = record { bytes = (omega arith, tt); filled = refl } in
-    let more = λ (x : ℕ). times-append x (variables l) (variables r) in
-    let count = leaves-node l r in
+    let more = λ (x : ℕ). times_append x (variables l) (variables r) in
+    let count = leaves_node l r in
     let some_r = leaves_positive r in
     let in_l = position_in l base in
     let in_r = position_in r (right_base l base) in
@@ -47,11 +47,12 @@ tree_lines (Node l r) base small few =
           ),
         ),
       );
-      some = refl;
+      not_blank = refl;
       plain = refl;
     } in
-    let left = tree_lines l base (omega (arith, count)) (λ x h. few x (omega (arith, more x))) in
-    let right = tree_lines r (right_base l base) (omega (arith, count)) (λ x h. few x (omega (arith, more x))) in
+    let left = tree_lines l base (omega (arith, count)) (λ x h. within_limit x (omega (arith, more x))) in
+    let right = tree_lines r (right_base l base) (omega (arith, count))
+    (λ x h. within_limit x (omega (arith, more x))) in
     both _ _ (both _ _ left right) (own, tt)
   where
     both : (xs ys : List (List (List ℕ))) → AllByRecursion (IsTextLine 99) xs → AllByRecursion (IsTextLine 99) ys
@@ -70,7 +71,7 @@ none_left p a (suc n) h =
 whole_back : (t : Tree) → IsVtree t → whole_tree (leaves t) (2 * leaves t - 1) (entries_in t 0) ≡ Ok t
 whole_back t vtree =
     let nodes = entries_in t 0 in
-    let count : (2 * leaves t - 1) ≡ length nodes = omega (arith, length-entries_in t 0) in
+    let count : (2 * leaves t - 1) ≡ length nodes = omega (arith, length_entries_in t 0) in
     let roots : roots_of nodes ≡ root_entry t 0 ∷ [] =
     root_kept t 0 (λ i. is_child i nodes) (λ i h. h) (root_free t 0) in
     let full : missing (leaves t) nodes ≡ [] =
@@ -85,7 +86,7 @@ whole_back t vtree =
 -- the text of a vtree over at most 1,024 variables is read back as the vtree
 pub read_back : (t : Tree) → IsVtree t → leaves t ≤ 1024 → vtree_file (leaves t) (vtree_text t) ≡ Ok t
 unfolding vtree_file vtree_text
-read_back t vtree few =
+read_back t vtree within_limit =
     let some = leaves_positive t in
     let v = leaves t in
     let stated = 2 * leaves t - 1 in
@@ -95,7 +96,7 @@ read_back t vtree few =
     let name : IsFullWord (codes "vtree") =
     record { bytes = (omega arith, (omega arith, (omega arith, (omega arith, (omega arith, tt))))); filled = refl } in
     let head : IsTextLine 99 header =
-    record { words = (name, (full_number stated (omega arith), tt)); some = refl; plain = refl } in
+    record { words = (name, (full_number stated (omega arith), tt)); not_blank = refl; plain = refl } in
     let body = tree_lines t 0 (omega arith) (λ x h. (let high = (range x h).1 in omega arith)) in
     let begins : IsBefore v [] t 0 = record {
       new = λ i h. refl;

@@ -6,20 +6,20 @@ use Rattle.std.specs.List.{fold, list_any}
 use Rattle.std.proofs.lemmas.List.Folds.{list_any-append}
 use Rattle.sd_vfile.specs.declared.form.Form.{Form}
 use Rattle.sd_vfile.specs.declared.form.Form.TheVariants.{LeafLine, InnerLine}
-use Rattle.sd_vfile.specs.Reads.{Entry, tree_at, has_id, is_child, is_leaf, has_leaf}
+use Rattle.sd_vfile.specs.Reads.{Entry, tree_with_id, has_id, is_child, is_leaf, has_leaf}
 use Rattle.sd_vfile.specs.Steps.{id_of, has_child, is_leaf_line, tree_with, entry_after, grow, entries_of}
 
 -- the last line comes last
-fold-push : (acc : List Entry) (forms : List Form) (form : Form)
+fold_push : (acc : List Entry) (forms : List Form) (form : Form)
     → fold grow acc (forms ++ form ∷ []) ≡ grow (fold grow acc forms) form
-fold-push acc [] form = refl
-fold-push acc (f ∷ forms) form = fold-push (grow acc f) forms form
+fold_push acc [] form = refl
+fold_push acc (f ∷ forms) form = fold_push (grow acc f) forms form
 
 -- one more line is one more node
 pub pushed : (forms : List Form) (form : Form)
     → entries_of (forms ++ form ∷ []) ≡ entries_of forms ++ entry_after (entries_of forms) form ∷ []
 unfolding entries_of
-pushed forms form = fold-push [] forms form
+pushed forms form = fold_push [] forms form
 
 -- ---- tests
 
@@ -44,20 +44,20 @@ fold_any p q same acc (f ∷ forms) =
     ∙ ap (λ b. list_any p acc || (b || list_any q forms)) (same acc f)
 
 -- the tests of the reader
-pub has_id-entries_of : (id : ℕ) (forms : List Form)
+pub has_id_entries_of : (id : ℕ) (forms : List Form)
     → list_any (λ f. id_of f == id) forms ≡ has_id id (entries_of forms)
 unfolding entries_of
-has_id-entries_of id forms =
+has_id_entries_of id forms =
     sym (fold_any (λ e. e.id == id) (λ f. id_of f == id) (λ earlier f. refl) [] forms)
 
-pub is_child-entries_of : (id : ℕ) (forms : List Form) → list_any (has_child id) forms ≡ is_child id (entries_of forms)
+pub is_child_entries_of : (id : ℕ) (forms : List Form) → list_any (has_child id) forms ≡ is_child id (entries_of forms)
 unfolding entries_of
-is_child-entries_of id forms =
+is_child_entries_of id forms =
     sym (fold_any (λ e. list_any (λ child. child == id) e.children) (has_child id) (λ earlier f. refl) [] forms)
 
-pub has_leaf-entries_of : (x : ℕ) (forms : List Form) → list_any (is_leaf_line x) forms ≡ has_leaf x (entries_of forms)
+pub has_leaf_entries_of : (x : ℕ) (forms : List Form) → list_any (is_leaf_line x) forms ≡ has_leaf x (entries_of forms)
 unfolding entries_of
-has_leaf-entries_of x forms = sym (fold_any (λ e. is_leaf x e.tree) (is_leaf_line x) leaf [] forms)
+has_leaf_entries_of x forms = sym (fold_any (λ e. is_leaf x e.tree) (is_leaf_line x) leaf [] forms)
   where
     leaf : (earlier : List Entry) (f : Form) → is_leaf x (entry_after earlier f).tree ≡ is_leaf_line x f
     leaf earlier (LeafLine id y) = refl
@@ -66,24 +66,24 @@ has_leaf-entries_of x forms = sym (fold_any (λ e. is_leaf x e.tree) (is_leaf_li
 -- ---- look-ups
 
 -- no line has the id
-pub tree_at_none : (id : ℕ) (entries : List Entry) → has_id id entries ≡ false → tree_at id entries ≡ None
+pub tree_at_none : (id : ℕ) (entries : List Entry) → has_id id entries ≡ false → tree_with_id id entries ≡ None
 tree_at_none id [] h = refl
 tree_at_none id (e ∷ entries) h = go (e.id == id) refl h (tree_at_none id entries)
   where
     go : (b : Bool) → (e.id == id) ≡ b → (b || has_id id entries) ≡ false
-        → (has_id id entries ≡ false → tree_at id entries ≡ None) → tree_at id (e ∷ entries) ≡ None
+        → (has_id id entries ≡ false → tree_with_id id entries ≡ None) → tree_with_id id (e ∷ entries) ≡ None
     go true is h later = cc
     go false is h later = rw is (later h)
 
 -- a line has it
 pub tree_at_some : (id : ℕ) (entries : List Entry) → has_id id entries ≡ true
-    → tree_at id entries ≡ Some (tree_with id entries)
+    → tree_with_id id entries ≡ Some (tree_with id entries)
 tree_at_some id [] h = cc
 tree_at_some id (e ∷ entries) h = go (e.id == id) refl h (tree_at_some id entries)
   where
     go : (b : Bool) → (e.id == id) ≡ b → (b || has_id id entries) ≡ true
-        → (has_id id entries ≡ true → tree_at id entries ≡ Some (tree_with id entries))
-        → tree_at id (e ∷ entries) ≡ Some (tree_with id (e ∷ entries))
+        → (has_id id entries ≡ true → tree_with_id id entries ≡ Some (tree_with id entries))
+        → tree_with_id id (e ∷ entries) ≡ Some (tree_with id (e ∷ entries))
     go true is h later = rw is refl
     go false is h later = rw is (later h)
 

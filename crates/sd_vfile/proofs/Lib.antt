@@ -1,7 +1,7 @@
 -- the lines that were read, and their nodes
 pub mod Growing
 pub mod Placed
-pub mod Known
+pub mod Forests
 pub mod AreRead
 pub mod OneMore
 pub mod Accepted
@@ -13,7 +13,7 @@ pub mod Writing
 -- what is written is read back
 pub mod Texts
 pub mod Written
-pub mod Kept
+pub mod WrittenNodes
 pub mod TreeRead
 pub mod Back
 -- worked examples

@@ -1,4 +1,4 @@
--- Want of memory is never the fault of a text: no step of the reading gives it.
+-- OutOfMemory is never the fault of a text: no step of the reading gives it.
 use Rattle.std.proofs.Common.{◌≡◌, ℕ, Bool, true, false, ◌||◌, List, [], ◌∷◌, ◌++◌, length, Option, Some, None}
 use Rattle.std.proofs.Common.{Result, Ok, Err, ap}
 use Rattle.std.specs.Prelude.{◌==◌, ok_or}
@@ -6,7 +6,7 @@ use Rattle.sd_base.specs.Lines.{TextLine, content_of}
 use Rattle.sd_base.specs.Reading.{◌>>=◌, ◌>>◌, fault_if, each, read_more, each_after}
 use Rattle.sd_model.specs.Tree.{Tree, Node}
 use Rattle.sd_vfile.specs.Reads.{Entry, vtree_file, tree_of_lines, stated_by, whole_tree, one_root, roots_of, missing}
-use Rattle.sd_vfile.specs.Reads.{none_missing, entry_of, placed, form_of, tree_at, is_child}
+use Rattle.sd_vfile.specs.Reads.{none_missing, entry_of, placed, form_of, tree_with_id, is_child}
 use Rattle.sd_vfile.specs.declared.form.Form.{Form}
 use Rattle.sd_vfile.specs.declared.form.Form.TheVariants.{LeafLine, InnerLine}
 use Rattle.sd_vfile.specs.declared.fault.VtreeFault.{VtreeFault}
@@ -69,10 +69,10 @@ never_placed v line earlier (InnerLine id left right) =
     let node : Tree → Tree → Result Entry VtreeFault = λ l r.
     fault_if twice (vtree.ChildTwice line) >> Ok (record { id = id; tree = Node l r; children = left ∷ right ∷ [] }) in
     never_then vtree.OutOfMemory _ _ (never_if _ (vtree.IdTwice line) _ (λ e. cc))
-    (never_after vtree.OutOfMemory (ok_or (tree_at left earlier) (vtree.ChildUnknown line))
-    (λ l. ok_or (tree_at right earlier) (vtree.ChildUnknown line) >>= λ r. node l r)
+    (never_after vtree.OutOfMemory (ok_or (tree_with_id left earlier) (vtree.ChildUnknown line))
+    (λ l. ok_or (tree_with_id right earlier) (vtree.ChildUnknown line) >>= λ r. node l r)
     (never_or _ (vtree.ChildUnknown line) _ (λ e. cc))
-    (λ l. never_after vtree.OutOfMemory (ok_or (tree_at right earlier) (vtree.ChildUnknown line)) (λ r. node l r)
+    (λ l. never_after vtree.OutOfMemory (ok_or (tree_with_id right earlier) (vtree.ChildUnknown line)) (λ r. node l r)
     (never_or _ (vtree.ChildUnknown line) _ (λ e. cc))
     (λ r. never_then vtree.OutOfMemory _ _ (never_if _ (vtree.ChildTwice line) _ (λ e. cc)) (never_ok _ _))))
 
@@ -111,7 +111,7 @@ never_tree v (header ∷ lines) =
     (never_each_after vtree.OutOfMemory (entry_of v) [] lines (never_entry v))
     (λ entries. never_whole v stated entries))
 
--- want of memory is not the fault of a vtree file
-pub no_want_vtree : (v : ℕ) (bytes : List ℕ) → vtree_file v bytes ≡ Err vtree.OutOfMemory → ⊥
+-- OutOfMemory is not the fault of a vtree file
+pub not_out_of_memory_vtree : (v : ℕ) (bytes : List ℕ) → vtree_file v bytes ≡ Err vtree.OutOfMemory → ⊥
 unfolding vtree_file
-no_want_vtree v bytes = never_tree v (content_of 99 bytes)
+not_out_of_memory_vtree v bytes = never_tree v (content_of 99 bytes)

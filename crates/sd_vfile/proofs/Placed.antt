@@ -11,7 +11,7 @@ use Rattle.sd_vfile.specs.declared.fault.VtreeFault.TheVariants.{BadLine, IdTwic
 use Rattle.sd_vfile.specs.declared.fault.VtreeFault.TheVariants.{VariableWrong}
 use Rattle.sd_vfile.specs.declared.form.Form.{Form}
 use Rattle.sd_vfile.specs.declared.form.Form.TheVariants.{LeafLine, InnerLine}
-use Rattle.sd_vfile.specs.Reads.{Entry, tree_at, has_id, is_child, has_leaf, form_of, placed, entry_of}
+use Rattle.sd_vfile.specs.Reads.{Entry, tree_with_id, has_id, is_child, has_leaf, form_of, placed, entry_of}
 
 -- ---- steps that came to an end
 
@@ -43,12 +43,12 @@ done x = Ok x
 
 -- ---- the two forms
 
--- a leaf of a variable of its own, or a node over two nodes that were nobody's child
+-- a leaf of a variable of its own, or a node over two nodes that were roots
 pub data IsPlaced (v : ℕ) (earlier : List Entry) : Entry → Type 0 where
   leaf_placed : (id x : ℕ) → has_id id earlier ≡ false → 1 ≤ x → x ≤ v → has_leaf x earlier ≡ false →
       IsPlaced v earlier (record { id = id; tree = Leaf x; children = [] })
-  inner_placed : (id left right : ℕ) (l r : Tree) → has_id id earlier ≡ false → tree_at left earlier ≡ Some l →
-      tree_at right earlier ≡ Some r → (left == right) ≡ false → is_child left earlier ≡ false →
+  inner_placed : (id left right : ℕ) (l r : Tree) → has_id id earlier ≡ false → tree_with_id left earlier ≡ Some l →
+      tree_with_id right earlier ≡ Some r → (left == right) ≡ false → is_child left earlier ≡ false →
       is_child right earlier ≡ false →
       IsPlaced v earlier (record { id = id; tree = Node l r; children = left ∷ right ∷ [] })
 
@@ -83,8 +83,8 @@ is_placed v earlier line (InnerLine id left right) e h =
     let rest : Tree → Tree → Result Entry VtreeFault =
     λ l r. fault_if twice (ChildTwice line)
     >> Ok (record { id = id; tree = Node l r; children = left ∷ right ∷ [] }) in
-    let l_known : Result Tree VtreeFault = ok_or (tree_at left earlier) (ChildUnknown line) in
-    let r_known : Result Tree VtreeFault = ok_or (tree_at right earlier) (ChildUnknown line) in
+    let l_known : Result Tree VtreeFault = ok_or (tree_with_id left earlier) (ChildUnknown line) in
+    let r_known : Result Tree VtreeFault = ok_or (tree_with_id right earlier) (ChildUnknown line) in
     let first = past (has_id id earlier) (IdTwice line) (l_known >>= λ l. r_known >>= λ r. rest l r) e h in
     let second = through l_known (λ l. r_known >>= λ r. rest l r) e first.1 in
     let l = second.middle in
@@ -96,8 +96,8 @@ is_placed v earlier line (InnerLine id left right) e h =
     let whole : done entry ≡ done e = fourth.1 in
     let is : entry ≡ e = cc in
     subst (IsPlaced v earlier) is
-    (inner_placed id left right l r first.0 (had (tree_at left earlier) (ChildUnknown line) l second.gave)
-    (had (tree_at right earlier) (ChildUnknown line) r third.gave) tests.0 tests.1 tests.2)
+    (inner_placed id left right l r first.0 (had (tree_with_id left earlier) (ChildUnknown line) l second.gave)
+    (had (tree_with_id right earlier) (ChildUnknown line) r third.gave) tests.0 tests.1 tests.2)
 
 -- what holds of no line, and of one more line that was placed, holds of all lines that were read
 pub read_keeps : (v : ℕ) (P : List Entry → Type 0)

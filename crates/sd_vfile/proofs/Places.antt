@@ -1,4 +1,4 @@
--- The node at a place, and the place of the first node with an id.
+-- The node at a place, and the index of the first node with an id.
 use Rattle.std.proofs.Common.{◌≡◌, ℕ, zero, suc, ◌+◌, ◌<◌, ◌≤◌, true, false, ◌==◌}
 use Rattle.std.proofs.Common.{List, [], ◌∷◌, ◌++◌, length, take, drop, get_or, refl, sym, ap, ◌∙◌, subst, arith}
 use Rattle.std.proofs.Common.{append_assoc, length-append}
@@ -8,8 +8,8 @@ use Rattle.std.proofs.lemmas.List.{get_or-append-add, get_or-take, length-take-l
 use Rattle.sd_model.specs.Tree.{Tree}
 use Rattle.sd_vfile.specs.declared.form.Form.{Form}
 use Rattle.sd_vfile.specs.Reads.{Entry, has_id}
-use Rattle.sd_vfile.specs.Steps.{id_of, tree_after, entry_after, grow, entries_of, no_entry, tree_in, tree_with}
-use Rattle.sd_vfile.specs.Steps.{IsKnown, AreKnown}
+use Rattle.sd_vfile.specs.Steps.{id_of, tree_after, entry_after, grow, entries_of, no_entry, entry_tree, tree_with}
+use Rattle.sd_vfile.specs.Steps.{IsWellFormed, AreWellFormed}
 
 -- the nodes of more lines begin with those that were there
 record Front (acc whole : List Entry) : Type 0 where
@@ -29,14 +29,14 @@ front acc (f ∷ forms) =
       is = later.is ∙ append_assoc acc (entry_after acc f ∷ []) later.rest;
     }
 
-fold-length : (acc : List Entry) (forms : List Form) → length (fold grow acc forms) ≡ length acc + length forms
-fold-length acc [] = omega arith
-fold-length acc (f ∷ forms) = omega (arith, fold-length (grow acc f) forms, length-append acc (entry_after acc f ∷ []))
+fold_length : (acc : List Entry) (forms : List Form) → length (fold grow acc forms) ≡ length acc + length forms
+fold_length acc [] = omega arith
+fold_length acc (f ∷ forms) = omega (arith, fold_length (grow acc f) forms, length-append acc (entry_after acc f ∷ []))
 
 -- as many nodes as lines
-pub length-entries_of : (forms : List Form) → length (entries_of forms) ≡ length forms
+pub length_entries_of : (forms : List Form) → length (entries_of forms) ≡ length forms
 unfolding entries_of
-length-entries_of forms = omega (arith, fold-length [] forms)
+length_entries_of forms = omega (arith, fold_length [] forms)
 
 fold_take : (acc : List Entry) (forms : List Form) (p : ℕ)
     → take (length acc + p) (fold grow acc forms) ≡ fold grow acc (take p forms)
@@ -53,9 +53,9 @@ fold_take acc (f ∷ forms) (suc p) =
     ap (λ n. take n (fold grow (grow acc f) forms)) further ∙ fold_take (grow acc f) forms p
 
 -- the nodes of the first lines
-pub entries_of-take : (forms : List Form) (p : ℕ) → entries_of (take p forms) ≡ take p (entries_of forms)
+pub entries_of_take : (forms : List Form) (p : ℕ) → entries_of (take p forms) ≡ take p (entries_of forms)
 unfolding entries_of
-entries_of-take forms p =
+entries_of_take forms p =
     let whole : 0 + p ≡ p = omega arith in
     sym (fold_take [] forms p) ∙ ap (λ n. take n (fold grow [] forms)) whole
 
@@ -83,10 +83,10 @@ entry_at forms p d h =
     ap (λ n. get_or (fold grow [] forms) n no_entry) whole ∙ fold_at [] forms p d h
 
 -- a tree among the first lines is that of all lines
-pub tree_in-take : (forms : List Form) (p q : ℕ) → q < p
-    → tree_in (entries_of (take p forms)) q ≡ tree_in (entries_of forms) q
-tree_in-take forms p q h =
-    ap (λ (es : List Entry). tree_in es q) (entries_of-take forms p)
+pub tree_in_take : (forms : List Form) (p q : ℕ) → q < p
+    → entry_tree (entries_of (take p forms)) q ≡ entry_tree (entries_of forms) q
+tree_in_take forms p q h =
+    ap (λ (es : List Entry). entry_tree es q) (entries_of_take forms p)
     ∙ ap (λ (e : Entry). e.tree) (get_or-take p (entries_of forms) q no_entry h)
 
 -- ---- the first node with an id
@@ -108,7 +108,7 @@ more_lines id (suc p) (e ∷ es) h = let shorter = more_lines id p es h in omega
 
 -- the id is the one of this node
 pub here_found : (id p : ℕ) (es : List Entry) → p < length es → ((get_or es p no_entry).id == id) ≡ true
-    → tree_with id (drop p es) ≡ tree_in es p
+    → tree_with id (drop p es) ≡ entry_tree es p
 here_found id p es h is = rw (drop_at es p h, is) refl
 
 -- the id is of a later node
@@ -122,16 +122,16 @@ later_found id p es h other there =
 -- ---- what is known
 
 -- a larger bound on the variables
-pub known_below : (v w : ℕ) (es : List Entry) → v ≤ w → AreKnown v es → AreKnown w es
-known_below v w es h known p within =
-    let here = known p within in
+pub well_formed_below : (v w : ℕ) (es : List Entry) → v ≤ w → AreWellFormed v es → AreWellFormed w es
+well_formed_below v w es h well_formed p within =
+    let here = well_formed p within in
     record { variable = λ x leaf. le (here.variable x leaf); children = here.children }
   where
     le : {x : ℕ} → x ≤ v → x ≤ w
     le {x} k = omega arith
 
 -- what the count of lines rests on
-pub ruleset counted = (length-entries_of)
+pub ruleset counted = (length_entries_of)
 
 -- ---- lines and nodes
 
@@ -142,24 +142,25 @@ line_id forms p d h = ap (λ (e : Entry). e.id) (entry_at forms p d h)
 
 -- a node has the tree of its line behind the earlier ones
 pub line_tree : (forms : List Form) (p : ℕ) (d form : Form) → p < length forms → get_or forms p d ≡ form
-    → tree_in (entries_of forms) p ≡ tree_after (entries_of (take p forms)) form
+    → entry_tree (entries_of forms) p ≡ tree_after (entries_of (take p forms)) form
 line_tree forms p d form h is =
     ap (λ (e : Entry). e.tree) (entry_at forms p d h) ∙ ap (tree_after (entries_of (take p forms))) is
 
 -- what is known of a line
 pub line_known : (v : ℕ) (forms : List Form) (p : ℕ) (d form : Form) → p < length forms → get_or forms p d ≡ form
-    → AreKnown v (entries_of forms)
-    → IsKnown v (entries_of (take p forms)) (entry_after (entries_of (take p forms)) form)
-line_known v forms p d form h is known =
-    let within : p < length (entries_of forms) = omega (arith, length-entries_of forms) in
+    → AreWellFormed v (entries_of forms)
+    → IsWellFormed v (entries_of (take p forms)) (entry_after (entries_of (take p forms)) form)
+line_known v forms p d form h is well_formed =
+    let within : p < length (entries_of forms) = omega (arith, length_entries_of forms) in
     let entry = entry_at forms p d h ∙ ap (entry_after (entries_of (take p forms))) is in
-    subst (λ (e : Entry). IsKnown v (entries_of (take p forms)) e) entry
-    (subst (λ es. IsKnown v es (get_or (entries_of forms) p no_entry)) (sym (entries_of-take forms p)) (known p within))
+    subst (λ (e : Entry). IsWellFormed v (entries_of (take p forms)) e) entry
+    (subst (λ es. IsWellFormed v es (get_or (entries_of forms) p no_entry)) (sym (entries_of_take forms p))
+    (well_formed p within))
 
 -- the tree of a child, which stands on an earlier line
 pub child_tree : (forms : List Form) (p q id : ℕ) (t : Tree) → p < length forms → q < length (take p forms)
-    → t ≡ tree_in (entries_of forms) q
-    → tree_in (entries_of (take p forms)) q ≡ tree_with id (entries_of (take p forms))
+    → t ≡ entry_tree (entries_of forms) q
+    → entry_tree (entries_of (take p forms)) q ≡ tree_with id (entries_of (take p forms))
     → t ≡ tree_with id (entries_of (take p forms))
 child_tree forms p q id t h within is found =
-    is ∙ sym (tree_in-take forms p q (omega (arith, length-take-le p forms (omega arith)))) ∙ found
+    is ∙ sym (tree_in_take forms p q (omega (arith, length-take-le p forms (omega arith)))) ∙ found

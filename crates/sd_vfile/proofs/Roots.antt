@@ -1,4 +1,4 @@
--- The nodes that are nobody's child, and the variables that have no leaf, as the reader goes through them.
+-- The roots, and the variables that have no leaf, as the reader goes through them.
 use Rattle.std.proofs.Common.{◌≡◌, ℕ, zero, suc, ◌+◌, ◌-◌, ◌<◌, ◌≤◌, Bool, true, false, not}
 use Rattle.std.proofs.Common.{List, [], ◌∷◌, ◌++◌, length, take, get_or, filter, Ok, Err, refl, sym, ap, ◌∙◌}
 use Rattle.std.proofs.Common.{arith, append-nil, length-append}
@@ -7,18 +7,18 @@ use Rattle.std.proofs.lemmas.List.{take_all}
 use Rattle.std.proofs.lemmas.List.Elements.{filter_more}
 use Rattle.sd_vfile.specs.declared.fault.VtreeFault.TheVariants.{NotOneRoot, VariableMissing}
 use Rattle.sd_vfile.specs.Reads.{Entry, is_child, has_leaf, roots_of, one_root, none_missing}
-use Rattle.sd_vfile.specs.Steps.{no_entry, tree_in}
+use Rattle.sd_vfile.specs.Steps.{no_entry, entry_tree}
 
--- a node is nobody's child
+-- a node is a root
 abbrev pub is_root : List Entry → Entry → Bool
 is_root es e = not (is_child e.id es)
 
 -- the roots among the first nodes: how many, and which is the last
-pub record RootsTo (es : List Entry) (place roots root : ℕ) : Type 0 where
-  pub count : length (filter (is_root es) (take place es)) ≡ roots
-  pub one : roots ≡ 1 → filter (is_root es) (take place es) ≡ get_or es root no_entry ∷ []
+pub record RootsTo (es : List Entry) (index roots root : ℕ) : Type 0 where
+  pub count : length (filter (is_root es) (take index es)) ≡ roots
+  pub one : roots ≡ 1 → filter (is_root es) (take index es) ≡ get_or es root no_entry ∷ []
   pub before : 1 ≤ roots → root < length es
-  pub few : roots ≤ place
+  pub within_limit : roots ≤ index
 
 -- none among no nodes
 pub roots_none : (es : List Entry) → RootsTo es 0 0 0
@@ -26,7 +26,7 @@ roots_none es = record {
   count = refl;
   one = λ h. absurd (omega arith);
   before = λ h. absurd (omega arith);
-  few = omega arith;
+  within_limit = omega arith;
 }
 
 -- one more node that is a root
@@ -42,7 +42,7 @@ roots_yes es p n q so_far h root =
       one = λ e. more ∙ ap (λ front. front ++ get_or es p no_entry ∷ [])
           (empty (filter (is_root es) (take p es)) (so_far.count ∙ (let z : n ≡ 0 = omega arith in z)));
       before = λ e. h;
-      few = omega (arith, so_far.few);
+      within_limit = omega (arith, so_far.within_limit);
     }
   where
     empty : (xs : List Entry) → length xs ≡ 0 → xs ≡ []
@@ -59,7 +59,7 @@ roots_no es p n q so_far h child =
       count = ap length more ∙ so_far.count;
       one = λ e. more ∙ so_far.one e;
       before = so_far.before;
-      few = omega (arith, so_far.few);
+      within_limit = omega (arith, so_far.within_limit);
     }
 
 -- all nodes
@@ -68,7 +68,7 @@ all_roots es p h = ap (filter (is_root es)) (take_all p es h)
 
 -- there was one root
 pub root_is : (es : List Entry) (p n q : ℕ) → RootsTo es p n q → length es ≤ p → n ≡ 1
-    → one_root (roots_of es) ≡ Ok (tree_in es q)
+    → one_root (roots_of es) ≡ Ok (entry_tree es q)
 root_is es p n q so_far h one = ap one_root (sym (all_roots es p h) ∙ so_far.one one)
 
 -- there was none, or several

@@ -9,7 +9,7 @@ use Rattle.std.specs.Str.Parse.{digits_value}
 use Rattle.std.proofs.lemmas.Bool.{le-leb}
 use Rattle.std.proofs.lemmas.Fmt.{decimal_nonempty, length-decimal-le, digits_decimal, digits_value-decimal}
 use Rattle.std.proofs.lemmas.Str.Parse.{numerals_by_value, tells_all_ascii_digits}
-use Rattle.sd_base.specs.Lines.{TextLine, numbered_from, is_content, begins_with, is_blank, content_of}
+use Rattle.sd_base.specs.Lines.{TextLine, numbered_lines_from, is_content, begins_with, is_blank, content_of}
 use Rattle.sd_base.specs.Numbers.{natural_value}
 use Rattle.sd_base.specs.Words.{is_line_end, is_separator, is_filled, without_empty_end, words_of}
 use Rattle.sd_model.specs.Text.{number_text, spaced, line_text}
@@ -26,8 +26,8 @@ natural_back n h =
     let digits : all_ascii_digits (decimal n) ≡ true = digits_decimal own n small in
     let value : digits_value 10 (decimal n) ≡ n = digits_value-decimal own n small in
     let some = le-leb 1 (length (decimal n)) (decimal_nonempty n small) in
-    let few = le-leb (length (decimal n)) 18 (length-decimal-le 18 n (omega arith) h small) in
-    rw (number_text_decimal n small, some, few, digits, value) refl
+    let within_limit = le-leb (length (decimal n)) 18 (length-decimal-le 18 n (omega arith) h small) in
+    rw (number_text_decimal n small, some, within_limit, digits, value) refl
 
 -- ---- pieces
 
@@ -87,7 +87,7 @@ words_back w (v ∷ vs) h =
 -- a line with words, of which the first does not begin with a mark
 pub record IsTextLine (mark : ℕ) (line : List (List ℕ)) : Type 0 where
   pub words : AllByRecursion IsFullWord line
-  pub some : is_blank line ≡ false
+  pub not_blank : is_blank line ≡ false
   pub plain : begins_with mark line ≡ false
 
 -- the lines of words with their numbers
@@ -109,7 +109,7 @@ feedless_line w (v ∷ vs) h = feedless w (32 ∷ (v ++ spaced vs)) h.0.bytes (r
 lines_split : (lines : List (List (List ℕ))) (mark : ℕ) → AllByRecursion (IsTextLine mark) lines
     → slice_split is_line_end (flat_map line_text lines) ≡ map line_bytes lines ++ [] ∷ []
 lines_split [] mark h = refl
-lines_split ([] ∷ lines) mark h = let s = h.0.some in cc
+lines_split ([] ∷ lines) mark h = let s = h.0.not_blank in cc
 lines_split ((w ∷ ws) ∷ lines) mark h =
     let one = append_assoc (w ++ spaced ws) (10 ∷ []) (flat_map line_text lines) in
     rw one
@@ -125,9 +125,9 @@ no_empty_end ((b ∷ bs) ∷ pieces) = ap (λ ps. (b ∷ bs) ∷ ps) (no_empty_e
 
 -- the lines that count
 content_back : (n mark : ℕ) (lines : List (List (List ℕ))) → AllByRecursion (IsTextLine mark) lines
-    → filter (is_content mark) (numbered_from n (map line_bytes lines)) ≡ numbered n lines
+    → filter (is_content mark) (numbered_lines_from n (map line_bytes lines)) ≡ numbered n lines
 content_back n mark [] h = refl
-content_back n mark ([] ∷ lines) h = let s = h.0.some in cc
+content_back n mark ([] ∷ lines) h = let s = h.0.not_blank in cc
 content_back n mark ((w ∷ ws) ∷ lines) h =
     rw (words_back w ws h.0.words, h.0.plain)
     (ap (λ rest. record { number = n; words = w ∷ ws } ∷ rest) (content_back (n + 1) mark lines h.1))

@@ -11,11 +11,11 @@ use Rattle.sd_model.specs.Text.{number_text, vtree_node_lines}
 use Rattle.sd_model.specs.Tree.{Tree, Leaf, Node, variables, leaves, right_base, position}
 use Rattle.sd_vtree.specs.Numbered.{times}
 use Rattle.sd_vtree.proofs.Building.{leaves_positive}
-use Rattle.sd_vtree.proofs.Times.{times-append, times-same}
-use Rattle.sd_vfile.specs.Reads.{Entry, tree_at, has_id, is_child, has_leaf}
+use Rattle.sd_vtree.proofs.Times.{times_append, times_same}
+use Rattle.sd_vfile.specs.Reads.{Entry, tree_with_id, has_id, is_child, has_leaf}
 use Rattle.sd_vfile.specs.Reads.{entry_of, is_leaf}
 use Rattle.sd_vfile.proofs.Texts.{numbered, natural_back}
-use Rattle.sd_vfile.proofs.Written.{root_entry, entries_in, leaves-node, position_in, none_of_two, outside, root_free}
+use Rattle.sd_vfile.proofs.Written.{root_entry, entries_in, leaves_node, position_in, none_of_two, outside, root_free}
 use Rattle.sd_vfile.proofs.Written.{found_behind, found_before, root_found}
 use Rattle.sd_vfile.proofs.Written.{no_leaf}
 
@@ -31,7 +31,7 @@ leaf_line v base x n es small small_x new low high own =
 
 -- the line of an internal node
 inner_line : (v id left right n : ℕ) (l r : Tree) (es : List Entry) → id < 10 ^ 18 → left < 10 ^ 18 → right < 10 ^ 18
-    → has_id id es ≡ false → tree_at left es ≡ Some l → tree_at right es ≡ Some r → (left == right) ≡ false
+    → has_id id es ≡ false → tree_with_id left es ≡ Some l → tree_with_id right es ≡ Some r → (left == right) ≡ false
     → is_child left es ≡ false → is_child right es ≡ false
     → entry_of v es
     (record { number = n; words = codes "I" ∷ number_text id ∷ number_text left ∷ number_text right ∷ [] })
@@ -51,12 +51,12 @@ inner_line v id left right n l r es small small_l small_r new at_l at_r two free
 
 -- ---- the lines of a tree
 
-numbered-append : (n : ℕ) (xs ys : List (List (List ℕ)))
+numbered_append : (n : ℕ) (xs ys : List (List (List ℕ)))
     → numbered n (xs ++ ys) ≡ numbered n xs ++ numbered (n + length xs) ys
-numbered-append n [] ys = ap (λ k. numbered k ys) (let e : n ≡ n + 0 = omega arith in e)
-numbered-append n (x ∷ xs) ys =
+numbered_append n [] ys = ap (λ k. numbered k ys) (let e : n ≡ n + 0 = omega arith in e)
+numbered_append n (x ∷ xs) ys =
     ap (λ rest. record { number = n; words = x } ∷ rest)
-    (numbered-append (n + 1) xs ys
+    (numbered_append (n + 1) xs ys
     ∙ ap (λ k. numbered (n + 1) xs ++ numbered k ys)
     (let e : n + 1 + length xs ≡ n + suc (length xs) = omega arith in e))
 
@@ -71,7 +71,7 @@ pub record IsBefore (v : ℕ) (es : List Entry) (t : Tree) (base : ℕ) : Type 0
 -- so they are for the left child
 before_left : (v : ℕ) (es : List Entry) (l r : Tree) (base : ℕ) → IsBefore v es (Node l r) base → IsBefore v es l base
 before_left v es l r base b =
-    let more = λ (x : ℕ). times-append x (variables l) (variables r) in
+    let more = λ (x : ℕ). times_append x (variables l) (variables r) in
     record {
       new = b.new;
       free = b.free;
@@ -84,7 +84,7 @@ before_left v es l r base b =
 before_right : (v : ℕ) (es : List Entry) (l r : Tree) (base : ℕ) → IsBefore v es (Node l r) base
     → IsBefore v (es ++ entries_in l base) r (right_base l base)
 before_right v es l r base b =
-    let more = λ (x : ℕ). times-append x (variables l) (variables r) in
+    let more = λ (x : ℕ). times_append x (variables l) (variables r) in
     record {
       new = λ i h. none_of_two (λ e. e.id == i) es (entries_in l base) (b.new i (omega arith))
           (outside l base i (inr (omega arith))).0;
@@ -114,7 +114,7 @@ root_line v n es l r base b small =
     let ys = entries_in r (right_base l base) in
     let some_l = leaves_positive l in
     let some_r = leaves_positive r in
-    let count = leaves-node l r in
+    let count = leaves_node l r in
     let in_l = position_in l base in
     let in_r = position_in r (right_base l base) in
     let out_l = outside l base id (inr (omega (arith, some_l))) in
@@ -146,14 +146,14 @@ pub tree_read : (v n : ℕ) (t : Tree) (base : ℕ) (es : List Entry) (rest : Li
     → base + 2 * leaves t < 10 ^ 18 → IsBefore v es t base
     → each_after (entry_of v) es (numbered n (vtree_node_lines t base) ++ rest)
     ≡ each_after (entry_of v) (es ++ entries_in t base) rest
-tree_read v n (Leaf x) base es rest few small b =
-    let own : 1 ≤ times x (x ∷ []) = omega (arith, times-same x x [] refl) in
+tree_read v n (Leaf x) base es rest within_limit small b =
+    let own : 1 ≤ times x (x ∷ []) = omega (arith, times_same x x [] refl) in
     let range = b.in_range x own in
     one_read v es (record { number = n; words = codes "L" ∷ number_text base ∷ number_text x ∷ [] }) rest
     (root_entry (Leaf x) base)
     (leaf_line v base x n es (omega arith) (omega (arith, range.1)) (b.new base (omega arith)) range.0 range.1
     (b.leaf x own))
-tree_read v n (Node l r) base es rest few small b =
+tree_read v n (Node l r) base es rest within_limit small b =
     let left = vtree_node_lines l base in
     let right = vtree_node_lines r (right_base l base) in
     let words : List (List ℕ) = codes "I" ∷ number_text (position (Node l r) base)
@@ -163,16 +163,16 @@ tree_read v n (Node l r) base es rest few small b =
     let last : TextLine = record { number = k; words = words } in
     let xs = entries_in l base in
     let ys = entries_in r (right_base l base) in
-    let count = leaves-node l r in
+    let count = leaves_node l r in
     let some_r = leaves_positive r in
     let lines : numbered n ((left ++ right) ++ words ∷ []) ++ rest
     ≡ numbered n left ++ (numbered m right ++ last ∷ rest) =
-    rw (numbered-append n (left ++ right) (words ∷ []), numbered-append n left right)
+    rw (numbered_append n (left ++ right) (words ∷ []), numbered_append n left right)
     (append_assoc (numbered n left ++ numbered m right) (last ∷ []) rest
     ∙ append_assoc (numbered n left) (numbered m right) (last ∷ rest)) in
-    let first = tree_read v n l base es (numbered m right ++ last ∷ rest) few (omega (arith, count))
+    let first = tree_read v n l base es (numbered m right ++ last ∷ rest) within_limit (omega (arith, count))
     (before_left v es l r base b) in
-    let second = tree_read v m r (right_base l base) (es ++ xs) (last ∷ rest) few (omega (arith, count))
+    let second = tree_read v m r (right_base l base) (es ++ xs) (last ∷ rest) within_limit (omega (arith, count))
     (before_right v es l r base b) in
     let third = one_read v ((es ++ xs) ++ ys) last rest (root_entry (Node l r) base)
     (root_line v k es l r base b small) in

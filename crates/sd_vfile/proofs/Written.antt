@@ -8,8 +8,8 @@ use Rattle.std.proofs.lemmas.List.Folds.{list_any-append}
 use Rattle.sd_model.specs.Tree.{Tree, Leaf, Node, variables, leaves, right_base, position}
 use Rattle.sd_vtree.specs.Numbered.{times}
 use Rattle.sd_vtree.proofs.Building.{leaves_positive}
-use Rattle.sd_vtree.proofs.Times.{times-append, times-same, times-other}
-use Rattle.sd_vfile.specs.Reads.{Entry, tree_at, has_id, is_child, is_leaf, has_leaf}
+use Rattle.sd_vtree.proofs.Times.{times_append, times_same, times_other}
+use Rattle.sd_vfile.specs.Reads.{Entry, tree_with_id, has_id, is_child, is_leaf, has_leaf}
 
 -- the node of a tree's root, where positions are counted from a base
 abbrev pub root_entry : Tree → ℕ → Entry
@@ -26,8 +26,8 @@ entries_in (Leaf x) base = root_entry (Leaf x) base ∷ []
 entries_in (Node l r) base =
     (entries_in l base ++ entries_in r (right_base l base)) ++ root_entry (Node l r) base ∷ []
 
-pub leaves-node : (l r : Tree) → leaves (Node l r) ≡ leaves l + leaves r
-leaves-node l r = length-append (variables l) (variables r)
+pub leaves_node : (l r : Tree) → leaves (Node l r) ≡ leaves l + leaves r
+leaves_node l r = length-append (variables l) (variables r)
 
 -- a position is in its range
 pub position_in : (t : Tree) (base : ℕ) → (base ≤ position t base) × (position t base + 1 < base + 2 * leaves t)
@@ -35,7 +35,7 @@ position_in (Leaf x) base = (omega arith, omega arith)
 position_in (Node l r) base =
     let some_l = leaves_positive l in
     let some_r = leaves_positive r in
-    (omega (arith, some_l), omega (arith, some_l, some_r, leaves-node l r))
+    (omega (arith, some_l), omega (arith, some_l, some_r, leaves_node l r))
 
 -- three parts of which none passes a test
 pub none_of_three : (p : Entry → Bool) (xs ys : List Entry) (e : Entry) → list_any p xs ≡ false
@@ -62,15 +62,15 @@ outside (Node l r) base i out =
     let in_l = position_in l base in
     let in_r = position_in r (right_base l base) in
     let out_l : (i < base) ⊎ (base + 2 * leaves l ≤ i + 1) =
-    elim out [ inl low ↦ inl low | inr high ↦ inr (omega (arith, leaves-node l r)) ] in
+    elim out [ inl low ↦ inl low | inr high ↦ inr (omega (arith, leaves_node l r)) ] in
     let out_r : (i < right_base l base) ⊎ (right_base l base + 2 * leaves r ≤ i + 1) =
-    elim out [ inl low ↦ inl (omega arith) | inr high ↦ inr (omega (arith, leaves-node l r)) ] in
+    elim out [ inl low ↦ inl (omega arith) | inr high ↦ inr (omega (arith, leaves_node l r)) ] in
     let own : position (Node l r) base ≡ i → ⊥ =
-    λ e. elim out [ inl low ↦ omega (arith, some_l) | inr high ↦ omega (arith, some_r, leaves-node l r) ] in
+    λ e. elim out [ inl low ↦ omega (arith, some_l) | inr high ↦ omega (arith, some_r, leaves_node l r) ] in
     let left : position l base ≡ i → ⊥ =
-    λ e. elim out [ inl low ↦ omega (arith, in_l.0) | inr high ↦ omega (arith, in_l.1, some_r, leaves-node l r) ] in
+    λ e. elim out [ inl low ↦ omega (arith, in_l.0) | inr high ↦ omega (arith, in_l.1, some_r, leaves_node l r) ] in
     let right : position r (right_base l base) ≡ i → ⊥ =
-    λ e. elim out [ inl low ↦ omega (arith, in_r.0) | inr high ↦ omega (arith, in_r.1, leaves-node l r) ] in
+    λ e. elim out [ inl low ↦ omega (arith, in_r.0) | inr high ↦ omega (arith, in_r.1, leaves_node l r) ] in
     let a = outside l base i out_l in
     let b = outside r (right_base l base) i out_r in (
       none_of_three (λ e. e.id == i) (entries_in l base) (entries_in r (right_base l base)) (root_entry (Node l r) base)
@@ -80,7 +80,7 @@ outside (Node l r) base i out =
           (rw (ne_eqb (position l base) i left, ne_eqb (position r (right_base l base)) i right) refl),
     )
 
--- the root is nobody's child
+-- the root is no child
 pub root_free : (t : Tree) (base : ℕ) → is_child (position t base) (entries_in t base) ≡ false
 root_free (Leaf x) base = refl
 root_free (Node l r) base =
@@ -100,27 +100,29 @@ root_free (Node l r) base =
 -- ---- look-ups
 
 -- behind nodes without the id
-pub found_behind : (i : ℕ) (xs ys : List Entry) → has_id i xs ≡ false → tree_at i (xs ++ ys) ≡ tree_at i ys
+pub found_behind : (i : ℕ) (xs ys : List Entry) → has_id i xs ≡ false → tree_with_id i (xs ++ ys) ≡ tree_with_id i ys
 found_behind i [] ys h = refl
 found_behind i (x ∷ xs) ys h = go (x.id == i) refl h (found_behind i xs ys)
   where
     go : (b : Bool) → (x.id == i) ≡ b → (b || has_id i xs) ≡ false
-        → (has_id i xs ≡ false → tree_at i (xs ++ ys) ≡ tree_at i ys) → tree_at i (x ∷ (xs ++ ys)) ≡ tree_at i ys
+        → (has_id i xs ≡ false → tree_with_id i (xs ++ ys) ≡ tree_with_id i ys)
+        → tree_with_id i (x ∷ (xs ++ ys)) ≡ tree_with_id i ys
     go true is h later = cc
     go false is h later = rw is (later h)
 
 -- before other nodes
-pub found_before : (i : ℕ) (xs ys : List Entry) (t : Tree) → tree_at i xs ≡ Some t → tree_at i (xs ++ ys) ≡ Some t
+pub found_before : (i : ℕ) (xs ys : List Entry) (t : Tree) → tree_with_id i xs ≡ Some t
+    → tree_with_id i (xs ++ ys) ≡ Some t
 found_before i [] ys t h = cc
 found_before i (x ∷ xs) ys t h = go (x.id == i) refl (found_before i xs ys t)
   where
-    go : (b : Bool) → (x.id == i) ≡ b → (tree_at i xs ≡ Some t → tree_at i (xs ++ ys) ≡ Some t)
-        → tree_at i (x ∷ (xs ++ ys)) ≡ Some t
+    go : (b : Bool) → (x.id == i) ≡ b → (tree_with_id i xs ≡ Some t → tree_with_id i (xs ++ ys) ≡ Some t)
+        → tree_with_id i (x ∷ (xs ++ ys)) ≡ Some t
     go true is later = rw is (rw is at h)
     go false is later = rw is (later (rw is at h))
 
 -- the root is found
-pub root_found : (t : Tree) (base : ℕ) → tree_at (position t base) (entries_in t base) ≡ Some t
+pub root_found : (t : Tree) (base : ℕ) → tree_with_id (position t base) (entries_in t base) ≡ Some t
 root_found (Leaf x) base = rw (eq-eqb base base refl) refl
 root_found (Node l r) base =
     let p = position (Node l r) base in
@@ -136,11 +138,11 @@ root_found (Node l r) base =
 -- a variable that is not in the tree has no leaf
 pub no_leaf : (t : Tree) (base x : ℕ) → times x (variables t) ≡ 0 → has_leaf x (entries_in t base) ≡ false
 no_leaf (Leaf y) base x h = elim (cases_eq y x) [
-  | inl same ↦ absurd (omega (arith, times-same x y [] same))
+  | inl same ↦ absurd (omega (arith, times_same x y [] same))
   | inr other ↦ rw (ne_eqb y x other) refl
 ]
 no_leaf (Node l r) base x h =
-    let both = times-append x (variables l) (variables r) in
+    let both = times_append x (variables l) (variables r) in
     none_of_three (λ e. is_leaf x e.tree) (entries_in l base) (entries_in r (right_base l base))
     (root_entry (Node l r) base) (no_leaf l base x (omega (arith, both)))
     (no_leaf r (right_base l base) x (omega (arith, both))) refl
@@ -149,10 +151,10 @@ no_leaf (Node l r) base x h =
 pub a_leaf : (t : Tree) (base x : ℕ) → 1 ≤ times x (variables t) → has_leaf x (entries_in t base) ≡ true
 a_leaf (Leaf y) base x h = elim (cases_eq y x) [
   | inl same ↦ rw (eq-eqb y x same) refl
-  | inr other ↦ absurd (omega (arith, times-other x y [] other))
+  | inr other ↦ absurd (omega (arith, times_other x y [] other))
 ]
 a_leaf (Node l r) base x h =
-    let both = times-append x (variables l) (variables r) in
+    let both = times_append x (variables l) (variables r) in
     let left = entries_in l base in
     let right = entries_in r (right_base l base) in
     let p : Entry → Bool = λ e. is_leaf x e.tree in

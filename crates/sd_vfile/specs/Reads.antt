@@ -52,8 +52,8 @@ form_of (letter ∷ words) =
 -- ---- what the earlier lines have
 
 -- the tree of the line with an id
-abbrev pub tree_at : ℕ → List Entry → Option Tree
-tree_at id entries = option_map (λ e. e.tree) (find (λ e. e.id == id) entries)
+abbrev pub tree_with_id : ℕ → List Entry → Option Tree
+tree_with_id id entries = option_map (λ e. e.tree) (find (λ e. e.id == id) entries)
 
 -- a line has the id
 abbrev pub has_id : ℕ → List Entry → Bool
@@ -82,8 +82,8 @@ placed v earlier line (LeafLine id x) = do
   Ok (record { id = id; tree = Leaf x; children = [] })
 placed v earlier line (InnerLine id left right) = do
   fault_if (has_id id earlier) (IdTwice line)
-  l ← ok_or (tree_at left earlier) (ChildUnknown line)
-  r ← ok_or (tree_at right earlier) (ChildUnknown line)
+  l ← ok_or (tree_with_id left earlier) (ChildUnknown line)
+  r ← ok_or (tree_with_id right earlier) (ChildUnknown line)
   fault_if (left == right || is_child left earlier || is_child right earlier) (ChildTwice line)
   Ok (record { id = id; tree = Node l r; children = left ∷ right ∷ [] })
 
@@ -104,7 +104,7 @@ abbrev pub none_missing : List ℕ → Result (Unit {0}) VtreeFault
 none_missing [] = Ok tt
 none_missing (x ∷ xs) = Err (VariableMissing x)
 
--- the nodes that are nobody's child
+-- the roots
 abbrev pub roots_of : List Entry → List Entry
 roots_of entries = filter (λ e. not (is_child e.id entries)) entries
 
@@ -143,7 +143,7 @@ vtree_file v bytes = tree_of_lines v (content_of 99 bytes)
 
 -- ---- what a reader answers
 
--- a reading has this fault; want of memory says nothing of it
+-- a reading has this fault; OutOfMemory says nothing of it
 abbrev pub Fails : {Y : Type 0} → VtreeFault → Result Y VtreeFault → Type 0
 Fails OutOfMemory reading = Unit {0}
 Fails fault reading = reading ≡ Err fault

@@ -5,7 +5,7 @@ use Rattle.std.specs.List.{fold, list_any}
 use Rattle.sd_model.specs.Tree.{Tree, Leaf, Node}
 use Rattle.sd_vfile.specs.declared.form.Form.{Form}
 use Rattle.sd_vfile.specs.declared.form.Form.TheVariants.{LeafLine, InnerLine}
-use Rattle.sd_vfile.specs.Reads.{Entry, tree_at, has_id, is_leaf}
+use Rattle.sd_vfile.specs.Reads.{Entry, tree_with_id, has_id, is_leaf}
 
 -- ---- what a line has by itself
 
@@ -37,7 +37,7 @@ or_nothing None = Leaf 0
 
 -- the tree of the line with an id
 abbrev pub tree_with : ℕ → List Entry → Tree
-tree_with id entries = or_nothing (tree_at id entries)
+tree_with id entries = or_nothing (tree_with_id id entries)
 
 -- the tree of a line after earlier ones
 abbrev pub tree_after : List Entry → Form → Tree
@@ -61,18 +61,18 @@ entries_of forms = fold grow [] forms
 abbrev pub no_entry : Entry
 no_entry = record { id = 0; tree = Leaf 0; children = [] }
 
--- the tree at a place
-abbrev pub tree_in : List Entry → ℕ → Tree
-tree_in entries place = (slice_index_or entries place no_entry).tree
+-- the tree at an index
+abbrev pub entry_tree : List Entry → ℕ → Tree
+entry_tree entries index = (slice_index_or entries index no_entry).tree
 
 -- ---- what is known of lines that were read
 
 -- a leaf has a variable of 1 to v, and children are on earlier lines
-pub record IsKnown (v : ℕ) (earlier : List Entry) (e : Entry) : Type 0 where
+pub record IsWellFormed (v : ℕ) (earlier : List Entry) (e : Entry) : Type 0 where
   pub variable : (x : ℕ) → is_leaf x e.tree ≡ true → x ≤ v
   pub children : (id : ℕ) → list_any (λ child. child == id) e.children ≡ true → has_id id earlier ≡ true
 
 -- this is so of each line
-abbrev pub AreKnown : ℕ → List Entry → Type 0
-AreKnown v entries =
-    (p : ℕ) → p < length entries → IsKnown v (take p entries) (slice_index_or entries p no_entry)
+abbrev pub AreWellFormed : ℕ → List Entry → Type 0
+AreWellFormed v entries =
+    (p : ℕ) → p < length entries → IsWellFormed v (take p entries) (slice_index_or entries p no_entry)

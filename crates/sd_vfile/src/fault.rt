@@ -5,7 +5,7 @@ ghost use Rattle.std.specs.Prelude.{◌≡◌};
 use std::alloc::{AllocError, AllocFailed};
 use thiserror::Error;
 
-/// The first fault of a text, or want of memory. Lines are counted from 1, over all lines of the text.
+/// The first fault of a text, or that memory ran out. Lines are counted from 1, over all lines of the text.
 #[derive(Clone, Copy, Debug, PartialEq, Eq, Error)]
 pub enum VtreeFault {
     /// No line counts, or the first that does is not `vtree` and a number.
@@ -29,13 +29,13 @@ pub enum VtreeFault {
     /// The number of node lines is not the one that the header states.
     #[error("CountDiffers")]
     CountDiffers { stated: u64, found: u64 },
-    /// Not exactly one node is nobody's child.
+    /// Not exactly one node is a root.
     #[error("NotOneRoot")]
     NotOneRoot { roots: u64 },
     /// No leaf has this variable; it is the least such one.
     #[error("VariableMissing")]
     VariableMissing { variable: u32 },
-    /// Want of memory, whatever the text.
+    /// Out of memory, whatever the text.
     #[error("OutOfMemory")]
     OutOfMemory,
 }

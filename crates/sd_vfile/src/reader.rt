@@ -4,7 +4,7 @@ ghost use Rattle.std.specs.Prelude.{◌≡◌, ◌≤◌, length, Ok, IfOk, IfEr
 ghost use Rattle.sd_base.specs.Views.{line_view};
 ghost use Rattle.sd_model.specs.Seen.{tree_of};
 ghost use Rattle.sd_model.specs.Tree.{leaves};
-ghost use Rattle.sd_vtree.specs.Numbered.{IsNumbered, forget};
+ghost use Rattle.sd_vtree.specs.Numbered.{IsNumbered, plain_tree};
 ghost use Rattle.sd_vfile.specs.Reads as texts;
 ghost use Rattle.sd_vfile.specs.Reads.{Fails, Gives, vtree_file};
 
@@ -21,14 +21,14 @@ use std::alloc::Global;
 /// There are 1 to 1,024 variables, and the text has at most 67,108,864 bytes. The first line that
 /// counts is `vtree N`, and each of the N others is `L id variable` or `I id left right`, where the
 /// children are ids of earlier lines. Blank lines and lines that begin with `c` do not count. The
-/// tree is the one of the node that is nobody's child. Any text may answer `OutOfMemory`.
+/// tree is the one of the root, the node that is no child. Any text may answer `OutOfMemory`.
 pub fn read_vtree(alloc: Global, bytes: &[u8], variables: u32) -> Result<Vtree, VtreeFault>
-    requires some { 1 ≤ variables }
-    requires few { variables ≤ 1024 }
-    requires short { length bytes.now ≤ 67108864 }
-    ensures ok { IfOk result (λ t. vtree_file variables bytes.now ≡ Ok (forget t)) }
+    requires at_least_one { 1 ≤ variables }
+    requires within_limit { variables ≤ 1024 }
+    requires fits { length bytes.now ≤ 67108864 }
+    ensures ok { IfOk result (λ t. vtree_file variables bytes.now ≡ Ok (plain_tree t)) }
     ensures fault { IfErr result (λ e. Fails e (vtree_file variables bytes.now)) }
-    ensures leaves { IfOk result (λ t. leaves (forget t) ≡ variables) }
+    ensures leaves { IfOk result (λ t. leaves (plain_tree t) ≡ variables) }
     ensures numbered { IfOk result IsNumbered }
 {
     let tree = read_tree(alloc, bytes, variables)?;
@@ -39,8 +39,8 @@ pub fn read_vtree(alloc: Global, bytes: &[u8], variables: u32) -> Result<Vtree, 
 /// The plain tree of a text.
 #[tactic(auto, unfolding(crate::specs::Reads::vtree_file))]
 fn read_tree(alloc: Global, bytes: &[u8], variables: u32) -> Result<Tree, VtreeFault>
-    requires few { variables ≤ 1024 }
-    requires short { length bytes.now ≤ 67108864 }
+    requires within_limit { variables ≤ 1024 }
+    requires fits { length bytes.now ≤ 67108864 }
     ensures { Gives tree_of result (vtree_file variables bytes.now) }
 {
     let mut lines = ContentLines::new(bytes, b'c');

@@ -5,7 +5,7 @@ ghost use Rattle.sd_model.specs.Seen.{tree_of};
 ghost use Rattle.sd_model.specs.Tree.{Node};
 ghost use Rattle.sd_vfile.specs.Reads as texts;
 ghost use Rattle.sd_vfile.specs.Reads.{Gives, roots_of};
-ghost use Rattle.sd_vfile.specs.Steps.{entries_of, tree_in, tree_with, AreKnown};
+ghost use Rattle.sd_vfile.specs.Steps.{entries_of, entry_tree, tree_with, AreWellFormed};
 
 use crate::fault::VtreeFault;
 use crate::form::Form;
@@ -21,8 +21,8 @@ pub(crate) fn whole_tree(
     stated: u64,
     forms: &[Form],
 ) -> Result<Tree, VtreeFault>
-    requires few { variables ≤ 1024 }
-    requires known { AreKnown 1024 (entries_of forms.now) }
+    requires within_limit { variables ≤ 1024 }
+    requires well_formed { AreWellFormed 1024 (entries_of forms.now) }
     ensures { Gives tree_of result (texts.whole_tree variables stated (entries_of forms.now)) }
 {
     let found = forms.len() as u64;
@@ -35,18 +35,18 @@ pub(crate) fn whole_tree(
     Ok(tree)
 }
 
-/// The place of the node that is nobody's child, where there is one such node.
+/// The index of the root, where there is one root.
 fn root_of(forms: &[Form]) -> Result<usize, VtreeFault>
-    ensures root { Gives (λ place. tree_in (entries_of forms.now) place) result
+    ensures root { Gives (λ index. entry_tree (entries_of forms.now) index) result
         (texts.one_root (roots_of (entries_of forms.now))) }
-    ensures within { IfOk result (λ place. place < length forms.now) }
+    ensures within { IfOk result (λ index. index < length forms.now) }
 {
     let mut roots = 0;
     let mut root = 0;
-    for (place, form) in forms.iter().enumerate() {
+    for (index, form) in forms.iter().enumerate() {
         if !is_child(forms, form.id()) {
             roots += 1;
-            root = place;
+            root = index;
         }
     }
     if roots == 1 {
@@ -70,34 +70,34 @@ fn none_missing(variables: u32, forms: &[Form]) -> Result<(), VtreeFault>
     Ok(())
 }
 
-/// The tree at a place.
-fn tree_at(alloc: Global, forms: &[Form], place: usize) -> Result<Tree, AllocError>
-    requires known { AreKnown 1024 (entries_of forms.now) }
-    requires within { place < length forms.now }
-    ensures { IfOk result (λ t. tree_of t ≡ tree_in (entries_of forms.now) place) }
+/// The tree at an index.
+fn tree_at(alloc: Global, forms: &[Form], index: usize) -> Result<Tree, AllocError>
+    requires well_formed { AreWellFormed 1024 (entries_of forms.now) }
+    requires within { index < length forms.now }
+    ensures { IfOk result (λ t. tree_of t ≡ entry_tree (entries_of forms.now) index) }
 {
-    match forms[place] {
+    match forms[index] {
         Form::LeafLine { variable, .. } => Ok(Tree::Leaf(variable as u32)),
         Form::InnerLine { left, right, .. } => {
-            let earlier = &forms[..place];
-            let left = tree_at(alloc, forms, place_of(earlier, left))?;
-            let right = tree_at(alloc, forms, place_of(earlier, right))?;
+            let earlier = &forms[..index];
+            let left = tree_at(alloc, forms, index_of(earlier, left))?;
+            let right = tree_at(alloc, forms, index_of(earlier, right))?;
             node_over(alloc, left, right)
         }
     }
 }
 
-/// The place of the line with an id.
-fn place_of(forms: &[Form], id: u64) -> usize
+/// The index of the line with an id.
+fn index_of(forms: &[Form], id: u64) -> usize
     requires { texts.has_id id (entries_of forms.now) ≡ true }
     ensures within { result < length forms.now }
-    ensures tree { tree_in (entries_of forms.now) result ≡ tree_with id (entries_of forms.now) }
+    ensures tree { entry_tree (entries_of forms.now) result ≡ tree_with id (entries_of forms.now) }
 {
-    let mut place = 0;
-    while forms[place].id() != id {
-        place += 1;
+    let mut index = 0;
+    while forms[index].id() != id {
+        index += 1;
     }
-    place
+    index
 }
 
 /// A node over two trees.

@@ -5,7 +5,7 @@ ghost use Rattle.std.specs.List.{flat_map};
 ghost use Rattle.sd_model.specs.Seen.{tree_of};
 ghost use Rattle.sd_model.specs.Text.{number_text, line_text, vtree_node_lines, vtree_text};
 ghost use Rattle.sd_model.specs.Tree.{leaves, position};
-ghost use Rattle.sd_vtree.specs.Numbered.{forget};
+ghost use Rattle.sd_vtree.specs.Numbered.{plain_tree};
 ghost use Rattle.sd_vfile.specs.Reads.{vtree_file};
 
 use itoa::Buffer;
@@ -18,9 +18,9 @@ use std::alloc::{AllocError, Global};
 /// first, then the right child's, then the node's own. The id of a node is its position. What is
 /// written is read back as the same tree.
 pub fn write_vtree(alloc: Global, vtree: &Vtree) -> Result<Bytes, AllocError>
-    ensures text { IfOk result (λ bytes. bytes ≡ vtree_text (forget vtree.now)) }
+    ensures text { IfOk result (λ bytes. bytes ≡ vtree_text (plain_tree vtree.now)) }
     ensures read_back { IfOk result (λ bytes.
-        vtree_file (leaves (forget vtree.now)) bytes ≡ Ok (forget vtree.now)) }
+        vtree_file (leaves (plain_tree vtree.now)) bytes ≡ Ok (plain_tree vtree.now)) }
 {
     let tree = vtree.tree(alloc)?;
     let mut text = Vec::from_slice(alloc, b"vtree")?;

@@ -4,7 +4,7 @@ use Rattle.std.proofs.Common.{length-append, append_assoc, slice_get}
 use Rattle.std.proofs.lemmas.Option.{same_Some, none-some}
 use Rattle.sd_vtree.specs.Numbered.{Numbered, NumberedLeaf, NumberedNode, number_of, numbers, subtree, children_at}
 use Rattle.sd_vtree.specs.Numbered.{IsNumbered}
-use Rattle.sd_vtree.proofs.Times.{one_place, slice_get-append}
+use Rattle.sd_vtree.proofs.Times.{one_place, slice_get_append}
 use Rattle.sd_vtree.proofs.Subtrees.{InnerPart, once_numbered, subtree_number}
 use Rattle.sd_vtree.proofs.Movable.{leaf_part}
 
@@ -17,7 +17,7 @@ leaf_place t v n r e f (NumberedNode m l k) front back is split = absurd
 leaf_place t v n r e f (NumberedLeaf m x) front back is split =
     let k : m ≡ n = subtree_number t n (NumberedLeaf m x) is in
     let g : slice_get (numbers t) (length front + 0) ≡ Some n = ap (λ xs. slice_get xs (length front + 0)) split
-    ∙ (slice_get-append front (m ∷ back) 0 ∙ ap Some k) in
+    ∙ (slice_get_append front (m ∷ back) 0 ∙ ap Some k) in
     let p : r ≡ length front + 0 = one_place (numbers t) n r (length front + 0) (once_numbered t v n) f g in
     (omega arith, refl)
 

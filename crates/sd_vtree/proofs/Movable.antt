@@ -9,7 +9,7 @@ use Rattle.sd_vtree.specs.declared.shape.Shape.{Shape}
 use Rattle.sd_vtree.specs.Numbered.{Numbered, NumberedLeaf, NumberedNode, number_of, numbers, subtree, child_numbers}
 use Rattle.sd_vtree.specs.Numbered.{children_at, IsNumbered}
 use Rattle.sd_vtree.specs.NumberedMoves.{moved_top, moved_number}
-use Rattle.sd_vtree.specs.Stored.{IsKept}
+use Rattle.sd_vtree.specs.Stored.{HoldsTree}
 use Rattle.sd_vtree.proofs.Subtrees.{inner_part, once_numbered, subtree_some}
 use Rattle.sd_vtree.proofs.Put.{put_none, leaf_fixed}
 use Rattle.sd_vtree.proofs.Reading.{position_read}
@@ -56,7 +56,7 @@ left_not_movable {t} n {p} v e f =
 
 -- a kept position is one
 pub position_within : {nodes : List Shape} {positions order leaf_list : List ℕ} {t : Numbered} →
-    IsKept nodes positions order leaf_list t → (n : ℕ) → n < length (numbers t) →
+    HoldsTree nodes positions order leaf_list t → (n : ℕ) → n < length (numbers t) →
     get_or positions n 0 < length (numbers t)
 position_within {nodes} {positions} {order} {leaf_list} {t} kept n h =
     let p : n < length positions = (let placed = kept.placed in omega arith) in

@@ -7,18 +7,18 @@ use Rattle.sd_vtree.specs.declared.shape.Shape.{Shape}
 use Rattle.sd_vtree.specs.declared.shape.Shape.TheVariants.{Leaf, Inner}
 use Rattle.sd_vtree.specs.Numbered.{Numbered, NumberedLeaf, NumberedNode, number_of, numbers, subtree, times}
 use Rattle.sd_vtree.specs.Numbered.{child_numbers, leaf_variable, children_at, variable_at}
-use Rattle.sd_vtree.specs.Stored.{shape_of, IsStored}
-use Rattle.sd_vtree.proofs.Times.{times-same, times-other, times-node}
+use Rattle.sd_vtree.specs.Stored.{shape_of, HasShapes}
+use Rattle.sd_vtree.proofs.Times.{times_same, times_other, times_node}
 
 -- a number that is not in a tree names no subtree of it
 pub subtree_none : (t : Numbered) (n : ℕ) → times n (numbers t) ≡ 0 → subtree t n ≡ None
 subtree_none (NumberedLeaf m x) n h = elim (cases_eq m n) [
-  | inl e ↦ absurd (omega (arith, times-same n m [] e))
+  | inl e ↦ absurd (omega (arith, times_same n m [] e))
   | inr d ↦ rw (ne_eqb m n d) refl
 ]
 subtree_none (NumberedNode m l r) n h = elim (cases_eq m n) [
-  | inl e ↦ absurd (omega (arith, times-node n m (numbers l) (numbers r), times-same n m (numbers r) e))
-  | inr d ↦ (let s = times-node n m (numbers l) (numbers r) in let o = times-other n m (numbers r) d in
+  | inl e ↦ absurd (omega (arith, times_node n m (numbers l) (numbers r), times_same n m (numbers r) e))
+  | inr d ↦ (let s = times_node n m (numbers l) (numbers r) in let o = times_other n m (numbers r) d in
       rw (ne_eqb m n d, subtree_none l n (omega arith), subtree_none r n (omega arith)) refl)
 ]
 
@@ -37,20 +37,20 @@ pub record Found (t : Numbered) (n : ℕ) (nodes : List Shape) : Type 0 where
   pub part : Numbered
   pub is : subtree t n ≡ Some part
   pub number : number_of part ≡ n
-  pub stored : IsStored part nodes
+  pub stored : HasShapes part nodes
 
 -- a number that is in the tree names a subtree
-pub found : (t : Numbered) (n : ℕ) (nodes : List Shape) → IsStored t nodes → 1 ≤ times n (numbers t) → Found t n nodes
+pub found : (t : Numbered) (n : ℕ) (nodes : List Shape) → HasShapes t nodes → 1 ≤ times n (numbers t) → Found t n nodes
 found (NumberedLeaf m x) n nodes st h = elim (cases_eq m n) [
   | inl e ↦ record { part = NumberedLeaf m x; is = rw (eq-eqb m n e) refl; number = e; stored = st }
-  | inr d ↦ absurd (omega (arith, times-other n m [] d))
+  | inr d ↦ absurd (omega (arith, times_other n m [] d))
 ]
 found (NumberedNode m l r) n nodes st h = elim (cases_eq m n) [
   | inl e ↦ record { part = NumberedNode m l r; is = rw (eq-eqb m n e) refl; number = e; stored = st }
   | inr d ↦ elim (cases_lt 0 (times n (numbers l))) [
     | inl p ↦ (let f = found l n nodes st.1 (omega arith) in
         record { part = f.part; is = subtree_left m l r n f.part d f.is; number = f.number; stored = f.stored })
-    | inr z ↦ (let s = times-node n m (numbers l) (numbers r) in let o = times-other n m (numbers r) d in
+    | inr z ↦ (let s = times_node n m (numbers l) (numbers r) in let o = times_other n m (numbers r) d in
         let f = found r n nodes st.2 (omega arith) in
         record {
           part = f.part;
@@ -62,7 +62,7 @@ found (NumberedNode m l r) n nodes st h = elim (cases_eq m n) [
 ]
 
 -- a subtree's shape stands at its root's number
-pub stored_root : (s : Numbered) (nodes : List Shape) → IsStored s nodes →
+pub stored_root : (s : Numbered) (nodes : List Shape) → HasShapes s nodes →
     slice_get nodes (number_of s) ≡ Some (shape_of s)
 stored_root (NumberedLeaf n x) nodes st = st
 stored_root (NumberedNode n l r) nodes st = st.0
@@ -77,13 +77,13 @@ shape_variable (Leaf x) = Some x
 shape_variable (Inner l r) = None
 
 -- the shape tells the same as the subtree
-children-shape_of : (s : Numbered) → child_numbers s ≡ shape_children (shape_of s)
-children-shape_of (NumberedLeaf n x) = refl
-children-shape_of (NumberedNode n l r) = refl
+children_shape_of : (s : Numbered) → child_numbers s ≡ shape_children (shape_of s)
+children_shape_of (NumberedLeaf n x) = refl
+children_shape_of (NumberedNode n l r) = refl
 
-variable-shape_of : (s : Numbered) → leaf_variable s ≡ shape_variable (shape_of s)
-variable-shape_of (NumberedLeaf n x) = refl
-variable-shape_of (NumberedNode n l r) = refl
+variable_shape_of : (s : Numbered) → leaf_variable s ≡ shape_variable (shape_of s)
+variable_shape_of (NumberedLeaf n x) = refl
+variable_shape_of (NumberedNode n l r) = refl
 
 -- the shape at a number is that of the subtree's root
 found_shape : (t : Numbered) (n : ℕ) (nodes : List Shape) (f : Found t n nodes) (s : Shape) →
@@ -92,16 +92,16 @@ found_shape t n nodes f s e =
     same_Some (shape_of f.part) s (sym (stored_root f.part nodes f.stored) ∙ (ap (λ k. slice_get nodes k) f.number ∙ e))
 
 -- the children and the variable of a node are told by its shape
-pub children_at-shape : (t : Numbered) (n : ℕ) (nodes : List Shape) (s : Shape) → IsStored t nodes →
+pub children_at_shape : (t : Numbered) (n : ℕ) (nodes : List Shape) (s : Shape) → HasShapes t nodes →
     1 ≤ times n (numbers t) →
     slice_get nodes n ≡ Some s → children_at t n ≡ shape_children s
-children_at-shape t n nodes s st h e =
+children_at_shape t n nodes s st h e =
     let f = found t n nodes st h in
-    rw f.is (children-shape_of f.part ∙ ap shape_children (found_shape t n nodes f s e))
+    rw f.is (children_shape_of f.part ∙ ap shape_children (found_shape t n nodes f s e))
 
-pub variable_at-shape : (t : Numbered) (n : ℕ) (nodes : List Shape) (s : Shape) → IsStored t nodes →
+pub variable_at_shape : (t : Numbered) (n : ℕ) (nodes : List Shape) (s : Shape) → HasShapes t nodes →
     1 ≤ times n (numbers t) →
     slice_get nodes n ≡ Some s → variable_at t n ≡ shape_variable s
-variable_at-shape t n nodes s st h e =
+variable_at_shape t n nodes s st h e =
     let f = found t n nodes st h in
-    rw f.is (variable-shape_of f.part ∙ ap shape_variable (found_shape t n nodes f s e))
+    rw f.is (variable_shape_of f.part ∙ ap shape_variable (found_shape t n nodes f s e))

@@ -10,23 +10,24 @@ use Rattle.sd_model.specs.declared.trees.Move.{Move}
 use Rattle.sd_model.specs.declared.trees.Move.TheVariants.{RotateLeft, RotateRight, Swap}
 use Rattle.sd_model.specs.Tree.{Tree, Leaf, Node, position, right_base}
 use Rattle.sd_model.specs.Moves.{moved_root, moved, path_to, moved_at}
-use Rattle.sd_vtree.specs.Numbered.{Numbered, NumberedLeaf, NumberedNode, numbers, forget, or_else, IsNumbered}
+use Rattle.sd_vtree.specs.Numbered.{Numbered, NumberedLeaf, NumberedNode, numbers, plain_tree, or_else, IsNumbered}
 use Rattle.sd_vtree.specs.NumberedMoves.{moved_top, moved_number}
-use Rattle.sd_vtree.proofs.Times.{times-slice_get, slice_get-append, slice_get-left}
+use Rattle.sd_vtree.proofs.Times.{times_slice_get, slice_get_append, slice_get_left}
 use Rattle.sd_vtree.proofs.Subtrees.{AtMostOnce, once_left, once_right, once_numbered, left_apart, right_apart}
 use Rattle.sd_vtree.proofs.Put.{moved_none}
-use Rattle.sd_vtree.proofs.Sides.{length-numbers}
+use Rattle.sd_vtree.proofs.Sides.{length_numbers}
 
 -- at the root
-top_forget : (kind : Move) (t : Numbered) → option_map forget (moved_top kind t) ≡ moved_root kind (forget t)
-top_forget RotateRight (NumberedLeaf m x) = refl
-top_forget RotateLeft (NumberedLeaf m x) = refl
-top_forget Swap (NumberedLeaf m x) = refl
-top_forget RotateRight (NumberedNode m (NumberedLeaf k x) r) = refl
-top_forget RotateRight (NumberedNode m (NumberedNode k a b) r) = refl
-top_forget RotateLeft (NumberedNode m l (NumberedLeaf k x)) = refl
-top_forget RotateLeft (NumberedNode m l (NumberedNode k a b)) = refl
-top_forget Swap (NumberedNode m l r) = refl
+top_plain_tree : (kind : Move) (t : Numbered) → option_map plain_tree (moved_top kind t)
+    ≡ moved_root kind (plain_tree t)
+top_plain_tree RotateRight (NumberedLeaf m x) = refl
+top_plain_tree RotateLeft (NumberedLeaf m x) = refl
+top_plain_tree Swap (NumberedLeaf m x) = refl
+top_plain_tree RotateRight (NumberedNode m (NumberedLeaf k x) r) = refl
+top_plain_tree RotateRight (NumberedNode m (NumberedNode k a b) r) = refl
+top_plain_tree RotateLeft (NumberedNode m l (NumberedLeaf k x)) = refl
+top_plain_tree RotateLeft (NumberedNode m l (NumberedNode k a b)) = refl
+top_plain_tree Swap (NumberedNode m l r) = refl
 
 -- a leaf is not movable
 leaf_root : (kind : Move) (x : ℕ) → moved_root kind (Leaf x) ≡ None
@@ -48,14 +49,15 @@ along_right kind l r None = refl
 along_right kind l r (Some path) = refl
 
 -- the same for the numbered tree, where the other child is not moved
-into_left : (m : ℕ) (l r : Numbered) (o : Option Numbered) → option_map (λ u. Node u (forget r)) (option_map forget o) ≡
-    option_map forget (or_else (option_map (λ t. NumberedNode m t r) o) (option_map (λ t. NumberedNode m l t) None))
+into_left : (m : ℕ) (l r : Numbered) (o : Option Numbered)
+    → option_map (λ u. Node u (plain_tree r)) (option_map plain_tree o) ≡
+    option_map plain_tree (or_else (option_map (λ t. NumberedNode m t r) o) (option_map (λ t. NumberedNode m l t) None))
 into_left m l r None = refl
 into_left m l r (Some t) = refl
 
 into_right : (m : ℕ) (l r : Numbered) (o : Option Numbered) →
-    option_map (λ u. Node (forget l) u) (option_map forget o) ≡
-    option_map forget (or_else (option_map (λ t. NumberedNode m t r) None) (option_map (λ t. NumberedNode m l t) o))
+    option_map (λ u. Node (plain_tree l) u) (option_map plain_tree o) ≡
+    option_map plain_tree (or_else (option_map (λ t. NumberedNode m t r) None) (option_map (λ t. NumberedNode m l t) o))
 into_right m l r None = refl
 into_right m l r (Some t) = refl
 
@@ -89,59 +91,61 @@ number_below kind m l r n d = rw (ne_eqb m n d) refl
 
 -- counted from any base
 pub plain_from : (kind : Move) (t : Numbered) (b p n : ℕ) → AtMostOnce t → slice_get (numbers t) p ≡ Some n →
-    option_and_then (λ path. moved kind (forget t) path) (path_to (forget t) b (b + p)) ≡ option_map forget
+    option_and_then (λ path. moved kind (plain_tree t) path) (path_to (plain_tree t) b (b + p)) ≡ option_map plain_tree
     (moved_number kind t n)
 plain_from kind (NumberedLeaf m x) b (suc p) n o e = absurd (none-some n e)
 plain_from kind (NumberedLeaf m x) b zero n o e =
     ap (option_and_then (λ path. moved kind (Leaf x) path)) (path_leaf x b (b + 0) (omega arith)) ∙ leaf_root kind x
 plain_from kind (NumberedNode m l r) b p n o e =
-    let size = length-numbers l in
+    let size = length_numbers l in
     elim (cases_order p (length (numbers l))) [
       | inl h ↦ (let f : slice_get (numbers l ++ m ∷ numbers r) (length (numbers l) + 0) ≡ Some n = ap
           (slice_get (numbers l ++ m ∷ numbers r)) (let z : length (numbers l) + 0 ≡ p = omega arith in z) ∙ e in
-          let g : m ≡ n = same_Some m n (sym (slice_get-append (numbers l) (m ∷ numbers r) 0) ∙ f) in
-          ap (option_and_then (λ path. moved kind (Node (forget l) (forget r)) path))
-          (path_here (forget l) (forget r) b (b + p) (omega arith))
-          ∙ (sym (top_forget kind (NumberedNode m l r)) ∙ ap (option_map forget) (sym (number_here kind m l r n g))))
+          let g : m ≡ n = same_Some m n (sym (slice_get_append (numbers l) (m ∷ numbers r) 0) ∙ f) in
+          ap (option_and_then (λ path. moved kind (Node (plain_tree l) (plain_tree r)) path))
+          (path_here (plain_tree l) (plain_tree r) b (b + p) (omega arith))
+          ∙ (sym (top_plain_tree kind (NumberedNode m l r))
+          ∙ ap (option_map plain_tree) (sym (number_here kind m l r n g))))
       | inr s ↦ elim s [
-        | inl h ↦ (let f : slice_get (numbers l) p ≡ Some n = sym (slice_get-left (numbers l) (m ∷ numbers r) p h)
+        | inl h ↦ (let f : slice_get (numbers l) p ≡ Some n = sym (slice_get_left (numbers l) (m ∷ numbers r) p h)
             ∙ e in
-            let a = left_apart m l r o n (times-slice_get (numbers l) p n f) in
-            ap (option_and_then (λ path. moved kind (Node (forget l) (forget r)) path))
-            (path_left (forget l) (forget r) b (b + p) (omega arith))
-            ∙ (along_left kind (forget l) (forget r) (path_to (forget l) b (b + p))
-            ∙ (ap (option_map (λ u. Node u (forget r))) (plain_from kind l b p n (once_left m l r o) f)
+            let a = left_apart m l r o n (times_slice_get (numbers l) p n f) in
+            ap (option_and_then (λ path. moved kind (Node (plain_tree l) (plain_tree r)) path))
+            (path_left (plain_tree l) (plain_tree r) b (b + p) (omega arith))
+            ∙ (along_left kind (plain_tree l) (plain_tree r) (path_to (plain_tree l) b (b + p))
+            ∙ (ap (option_map (λ u. Node u (plain_tree r))) (plain_from kind l b p n (once_left m l r o) f)
             ∙ (into_left m l r (moved_number kind l n)
-            ∙ (ap (λ w. option_map forget
+            ∙ (ap (λ w. option_map plain_tree
             (or_else (option_map (λ t. NumberedNode m t r) (moved_number kind l n))
             (option_map (λ t. NumberedNode m l t) w))) (sym (moved_none kind r n a.1))
-            ∙ ap (option_map forget) (sym (number_below kind m l r n a.0)))))))
+            ∙ ap (option_map plain_tree) (sym (number_below kind m l r n a.0)))))))
         | inr h ↦ (let q = p - length (numbers l) - 1 in
-            let f : slice_get (numbers r) q ≡ Some n = sym (slice_get-append (numbers l) (m ∷ numbers r) (suc q))
+            let f : slice_get (numbers r) q ≡ Some n = sym (slice_get_append (numbers l) (m ∷ numbers r) (suc q))
             ∙ (ap (slice_get (numbers l ++ m ∷ numbers r))
             (let z : length (numbers l) + suc q ≡ p = omega arith in z) ∙ e) in
-            let a = right_apart m l r o n (times-slice_get (numbers r) q n f) in
-            let base : b + p ≡ right_base (forget l) b + q = omega arith in
-            ap (option_and_then (λ path. moved kind (Node (forget l) (forget r)) path))
-            (path_right (forget l) (forget r) b (b + p) (omega arith))
-            ∙ (along_right kind (forget l) (forget r) (path_to (forget r) (right_base (forget l) b) (b + p))
-            ∙ (ap (λ k. option_map (λ u. Node (forget l) u)
-            (option_and_then (λ path. moved kind (forget r) path)
-            (path_to (forget r) (right_base (forget l) b) k))) base
-            ∙ (ap (option_map (λ u. Node (forget l) u))
-            (plain_from kind r (right_base (forget l) b) q n (once_right m l r o) f)
+            let a = right_apart m l r o n (times_slice_get (numbers r) q n f) in
+            let base : b + p ≡ right_base (plain_tree l) b + q = omega arith in
+            ap (option_and_then (λ path. moved kind (Node (plain_tree l) (plain_tree r)) path))
+            (path_right (plain_tree l) (plain_tree r) b (b + p) (omega arith))
+            ∙ (along_right kind (plain_tree l) (plain_tree r)
+            (path_to (plain_tree r) (right_base (plain_tree l) b) (b + p))
+            ∙ (ap (λ k. option_map (λ u. Node (plain_tree l) u)
+            (option_and_then (λ path. moved kind (plain_tree r) path)
+            (path_to (plain_tree r) (right_base (plain_tree l) b) k))) base
+            ∙ (ap (option_map (λ u. Node (plain_tree l) u))
+            (plain_from kind r (right_base (plain_tree l) b) q n (once_right m l r o) f)
             ∙ (into_right m l r (moved_number kind r n)
-            ∙ (ap (λ w. option_map forget
+            ∙ (ap (λ w. option_map plain_tree
             (or_else (option_map (λ t. NumberedNode m t r) w)
             (option_map (λ t. NumberedNode m l t) (moved_number kind r n)))) (sym (moved_none kind l n a.1))
-            ∙ ap (option_map forget) (sym (number_below kind m l r n a.0))))))))
+            ∙ ap (option_map plain_tree) (sym (number_below kind m l r n a.0))))))))
       ]
     ]
 
 -- counted from 0, as vtrees are
 pub plain_move : (kind : Move) (t : Numbered) → IsNumbered t → (n p : ℕ) → slice_get (numbers t) p ≡ Some n →
-    moved_at kind (forget t) p ≡ option_map forget (moved_number kind t n)
+    moved_at kind (plain_tree t) p ≡ option_map plain_tree (moved_number kind t n)
 plain_move kind t v n p e =
-    ap (λ k. option_and_then (λ path. moved kind (forget t) path) (path_to (forget t) 0 k))
+    ap (λ k. option_and_then (λ path. moved kind (plain_tree t) path) (path_to (plain_tree t) 0 k))
     (let z : p ≡ 0 + p = omega arith in z)
     ∙ plain_from kind t 0 p n (once_numbered t v) e

@@ -10,10 +10,11 @@ use Rattle.sd_model.specs.declared.trees.Move.TheVariants.{RotateLeft, RotateRig
 use Rattle.sd_model.specs.Tree.{variables}
 use Rattle.sd_vtree.specs.declared.shape.Shape.{Shape}
 use Rattle.sd_vtree.specs.declared.shape.Shape.TheVariants.{Inner}
-use Rattle.sd_vtree.specs.Numbered.{Numbered, NumberedLeaf, NumberedNode, number_of, numbers, forget, subtree, times}
+use Rattle.sd_vtree.specs.Numbered.{Numbered, NumberedLeaf, NumberedNode, number_of, numbers}
+use Rattle.sd_vtree.specs.Numbered.{plain_tree, subtree, times}
 use Rattle.sd_vtree.specs.NumberedMoves.{moved_top, moved_number}
-use Rattle.sd_vtree.specs.Stored.{IsStored}
-use Rattle.sd_vtree.proofs.Times.{times-same, times-other, times-node}
+use Rattle.sd_vtree.specs.Stored.{HasShapes}
+use Rattle.sd_vtree.proofs.Times.{times_same, times_other, times_node}
 use Rattle.sd_vtree.proofs.Subtrees.{AtMostOnce, once_left, once_right, left_apart, right_apart, Here, Left, Right}
 use Rattle.sd_vtree.proofs.Subtrees.{way, subtree_in, subtree_times}
 
@@ -28,27 +29,27 @@ pub record Put (kind : Move) (t : Numbered) (n : ℕ) (s s' : Numbered) : Type 0
   pub new_split : numbers result ≡ front ++ (numbers s' ++ back)
   pub first : List ℕ
   pub last : List ℕ
-  pub leaf_split : variables (forget t) ≡ first ++ (variables (forget s) ++ last)
-  pub new_leaf_split : variables (forget result) ≡ first ++ (variables (forget s') ++ last)
-  pub stored : (nodes nodes' : List Shape) → IsStored t nodes → IsStored s' nodes' →
-      ((k : ℕ) → times k (numbers s) ≡ 0 → slice_get nodes' k ≡ slice_get nodes k) → IsStored result nodes'
+  pub leaf_split : variables (plain_tree t) ≡ first ++ (variables (plain_tree s) ++ last)
+  pub new_leaf_split : variables (plain_tree result) ≡ first ++ (variables (plain_tree s') ++ last)
+  pub stored : (nodes nodes' : List Shape) → HasShapes t nodes → HasShapes s' nodes' →
+      ((k : ℕ) → times k (numbers s) ≡ 0 → slice_get nodes' k ≡ slice_get nodes k) → HasShapes result nodes'
 
 -- a tree is kept where its own nodes are
-pub stored_same : (t : Numbered) (nodes nodes' : List Shape) → IsStored t nodes →
-    ((k : ℕ) → 1 ≤ times k (numbers t) → slice_get nodes' k ≡ slice_get nodes k) → IsStored t nodes'
-stored_same (NumberedLeaf m x) nodes nodes' st h = h m (omega (arith, times-same m m [] refl)) ∙ st
+pub stored_same : (t : Numbered) (nodes nodes' : List Shape) → HasShapes t nodes →
+    ((k : ℕ) → 1 ≤ times k (numbers t) → slice_get nodes' k ≡ slice_get nodes k) → HasShapes t nodes'
+stored_same (NumberedLeaf m x) nodes nodes' st h = h m (omega (arith, times_same m m [] refl)) ∙ st
 stored_same (NumberedNode m l r) nodes nodes' st h = (
-  h m (omega (arith, times-node m m (numbers l) (numbers r), times-same m m (numbers r) refl)) ∙ st.0,
-  stored_same l nodes nodes' st.1 (λ k p. h k (omega (arith, times-node k m (numbers l) (numbers r)))),
-  stored_same r nodes nodes' st.2 (λ k p. h k (omega (arith, times-node k m (numbers l) (numbers r)))),
+  h m (omega (arith, times_node m m (numbers l) (numbers r), times_same m m (numbers r) refl)) ∙ st.0,
+  stored_same l nodes nodes' st.1 (λ k p. h k (omega (arith, times_node k m (numbers l) (numbers r)))),
+  stored_same r nodes nodes' st.2 (λ k p. h k (omega (arith, times_node k m (numbers l) (numbers r)))),
 )
 
 -- a number that is not there is not moved
 pub moved_none : (kind : Move) (t : Numbered) (n : ℕ) → times n (numbers t) ≡ 0 → moved_number kind t n ≡ None
 moved_none kind (NumberedLeaf m x) n h = refl
 moved_none kind (NumberedNode m l r) n h = elim (cases_eq m n) [
-  | inl e ↦ absurd (omega (arith, times-node n m (numbers l) (numbers r), times-same n m (numbers r) e))
-  | inr d ↦ (let s = times-node n m (numbers l) (numbers r) in let o = times-other n m (numbers r) d in
+  | inl e ↦ absurd (omega (arith, times_node n m (numbers l) (numbers r), times_same n m (numbers r) e))
+  | inr d ↦ (let s = times_node n m (numbers l) (numbers r) in let o = times_other n m (numbers r) d in
       moved_apart kind m l r n d (moved_none kind l n (omega arith)) (moved_none kind r n (omega arith)))
 ]
   where
@@ -115,8 +116,8 @@ put kind (NumberedNode m l r) n s s' o e f g = elim (way m l r n s e) [
     new_split = sym (append-nil (numbers s'));
     first = [];
     last = [];
-    leaf_split = ap (λ u. variables (forget u)) k ∙ sym (append-nil (variables (forget s)));
-    new_leaf_split = sym (append-nil (variables (forget s')));
+    leaf_split = ap (λ u. variables (plain_tree u)) k ∙ sym (append-nil (variables (plain_tree s)));
+    new_leaf_split = sym (append-nil (variables (plain_tree s')));
     stored = λ nodes nodes' st st' same. st';
   }
   | Left d k ↦ (let p = put kind l n s s' (once_left m l r o) k f g in
@@ -133,13 +134,13 @@ put kind (NumberedNode m l r) n s s' o e f g = elim (way m l r n s e) [
             ∙ (append_assoc p.front (numbers s' ++ p.back) (m ∷ numbers r)
             ∙ ap (λ xs. p.front ++ xs) (append_assoc (numbers s') p.back (m ∷ numbers r)));
         first = p.first;
-        last = p.last ++ variables (forget r);
-        leaf_split = ap (λ xs. xs ++ variables (forget r)) p.leaf_split
-            ∙ (append_assoc p.first (variables (forget s) ++ p.last) (variables (forget r))
-            ∙ ap (λ xs. p.first ++ xs) (append_assoc (variables (forget s)) p.last (variables (forget r))));
-        new_leaf_split = ap (λ xs. xs ++ variables (forget r)) p.new_leaf_split
-            ∙ (append_assoc p.first (variables (forget s') ++ p.last) (variables (forget r))
-            ∙ ap (λ xs. p.first ++ xs) (append_assoc (variables (forget s')) p.last (variables (forget r))));
+        last = p.last ++ variables (plain_tree r);
+        leaf_split = ap (λ xs. xs ++ variables (plain_tree r)) p.leaf_split
+            ∙ (append_assoc p.first (variables (plain_tree s) ++ p.last) (variables (plain_tree r))
+            ∙ ap (λ xs. p.first ++ xs) (append_assoc (variables (plain_tree s)) p.last (variables (plain_tree r))));
+        new_leaf_split = ap (λ xs. xs ++ variables (plain_tree r)) p.new_leaf_split
+            ∙ (append_assoc p.first (variables (plain_tree s') ++ p.last) (variables (plain_tree r))
+            ∙ ap (λ xs. p.first ++ xs) (append_assoc (variables (plain_tree s')) p.last (variables (plain_tree r))));
         stored = λ nodes nodes' st st' same. (
           same m (outside_left m l r s n o k) ∙ (st.0 ∙ ap (λ i. Some (Inner i (number_of r))) (sym p.root)),
           p.stored nodes nodes' st.1 st' same,
@@ -159,12 +160,12 @@ put kind (NumberedNode m l r) n s s' o e f g = elim (way m l r n s e) [
             ∙ sym (append_assoc (numbers l) (m ∷ p.front) (numbers s ++ p.back));
         new_split = ap (λ xs. numbers l ++ m ∷ xs) p.new_split
             ∙ sym (append_assoc (numbers l) (m ∷ p.front) (numbers s' ++ p.back));
-        first = variables (forget l) ++ p.first;
+        first = variables (plain_tree l) ++ p.first;
         last = p.last;
-        leaf_split = ap (λ xs. variables (forget l) ++ xs) p.leaf_split
-            ∙ sym (append_assoc (variables (forget l)) p.first (variables (forget s) ++ p.last));
-        new_leaf_split = ap (λ xs. variables (forget l) ++ xs) p.new_leaf_split
-            ∙ sym (append_assoc (variables (forget l)) p.first (variables (forget s') ++ p.last));
+        leaf_split = ap (λ xs. variables (plain_tree l) ++ xs) p.leaf_split
+            ∙ sym (append_assoc (variables (plain_tree l)) p.first (variables (plain_tree s) ++ p.last));
+        new_leaf_split = ap (λ xs. variables (plain_tree l) ++ xs) p.new_leaf_split
+            ∙ sym (append_assoc (variables (plain_tree l)) p.first (variables (plain_tree s') ++ p.last));
         stored = λ nodes nodes' st st' same. (
           same m (outside_right m l r s n o k) ∙ (st.0 ∙ ap (λ i. Some (Inner (number_of l) i)) (sym p.root)),
           stored_same l nodes nodes' st.1
@@ -180,8 +181,8 @@ put kind (NumberedNode m l r) n s s' o e f g = elim (way m l r n s e) [
         omega (
           arith,
           o m,
-          times-node m m (numbers l) (numbers r),
-          times-same m m (numbers r) refl,
+          times_node m m (numbers l) (numbers r),
+          times_same m m (numbers r) refl,
           subtree_times l n s k m,
         )
 
@@ -191,7 +192,7 @@ put kind (NumberedNode m l r) n s s' o e f g = elim (way m l r n s e) [
         omega (
           arith,
           o m,
-          times-node m m (numbers l) (numbers r),
-          times-same m m (numbers r) refl,
+          times_node m m (numbers l) (numbers r),
+          times_same m m (numbers r) refl,
           subtree_times r n s k m,
         )

@@ -8,8 +8,8 @@ use Rattle.sd_model.specs.declared.trees.Move.TheVariants.{RotateLeft, RotateRig
 use Rattle.sd_vtree.specs.declared.shape.Shape.{Shape}
 use Rattle.sd_vtree.specs.declared.shape.Shape.TheVariants.{Inner}
 use Rattle.sd_vtree.specs.Numbered.{Numbered, NumberedNode, number_of, numbers, subtree, times, children_at}
-use Rattle.sd_vtree.specs.Stored.{IsStored, IsKept}
-use Rattle.sd_vtree.proofs.Times.{times-node, times-same, times-append}
+use Rattle.sd_vtree.specs.Stored.{HasShapes, HoldsTree}
+use Rattle.sd_vtree.proofs.Times.{times_node, times_same, times_append}
 use Rattle.sd_vtree.proofs.Parts.{found}
 use Rattle.sd_vtree.proofs.Subtrees.{once_numbered, inner_part, subtree_once, subtree_number, subtree_in}
 use Rattle.sd_vtree.proofs.Subtrees.{number_of_in, node_within, left_apart, right_apart, once_left, once_right}
@@ -19,25 +19,25 @@ use Rattle.sd_vtree.proofs.Moved.{Rearranged, rearranged_right, rearranged_left,
 
 -- the vectors hold each subtree
 pub stored_subtree : {nodes : List Shape} {positions order leaf_list : List ℕ} {t : Numbered} →
-    IsKept nodes positions order leaf_list t → (n : ℕ) (s : Numbered) →
-    subtree t n ≡ Some s → IsStored s nodes
+    HoldsTree nodes positions order leaf_list t → (n : ℕ) (s : Numbered) →
+    subtree t n ≡ Some s → HasShapes s nodes
 stored_subtree {nodes} {positions} {order} {leaf_list} {t} kept n s e =
     let f = found t n nodes kept.stored (subtree_in t n s e) in
-    subst (λ p. IsStored p nodes) (same_Some f.part s (sym f.is ∙ e)) f.stored
+    subst (λ p. HasShapes p nodes) (same_Some f.part s (sym f.is ∙ e)) f.stored
 
 -- the position that is kept for the number at a place
 pub kept_place : {nodes : List Shape} {positions order leaf_list : List ℕ} {t : Numbered} →
-    IsKept nodes positions order leaf_list t → (p x : ℕ) →
+    HoldsTree nodes positions order leaf_list t → (p x : ℕ) →
     p < length (numbers t) → get_or (numbers t) p 0 ≡ x → get_or positions x 0 ≡ p
 kept_place {nodes} {positions} {order} {leaf_list} {t} kept p x h e = ap (λ k. get_or positions k 0) (sym e)
     ∙ kept.inverse p h
 
 -- a rotation of the upper node n with the lower node l, which exchange their positions
 pub rotated : {kind : Move} {nodes : List Shape} {positions order leaf_list : List ℕ} {t : Numbered} →
-    IsKept nodes positions order leaf_list t →
+    HoldsTree nodes positions order leaf_list t →
     (n l : ℕ) (s s' : Numbered) (p : Put kind t n s s') → Rearranged s s' → subtree t n ≡ Some s → n ≢ l →
     1 ≤ times l (numbers s) →
-    (v w : Shape) → IsStored s' (set (set nodes n v) l w) → (a b c d : ℕ) → slice_get nodes n ≡ Some (Inner a b) →
+    (v w : Shape) → HasShapes s' (set (set nodes n v) l w) → (a b c d : ℕ) → slice_get nodes n ≡ Some (Inner a b) →
     slice_get nodes l ≡ Some (Inner c d) →
     (pn pl : ℕ) → pn ≢ pl → pn < length (numbers t) → pl < length (numbers t) → get_or (numbers t) pn 0 ≡ n →
     get_or (numbers t) pl 0 ≡ l →
@@ -65,7 +65,7 @@ rotated {kind} {nodes} {positions} {order} {leaf_list} {t} kept n l s s' p h is 
     (omega arith) (omega arith) ne qn ql (omega arith) (omega arith) np in
     let osize : length order' ≡ length order = ap length fo
     ∙ (length-set (set order pn l) pl n ∙ length-set order pn l) in
-    turned kept p h (subst (λ xs. IsStored s' xs) (sym e) st)
+    turned kept p h (subst (λ xs. HasShapes s' xs) (sym e) st)
     (λ k z. ap (λ xs. slice_get xs k) e ∙ two.2 k (λ x. apart k n z x (number_in s n is)) (λ x. apart k l z x il))
     (λ k x z. (ap (λ xs. slice_get xs k) e
     ∙ two.2 k (λ y. not_leaf nodes k x a b z (ap (slice_get nodes) y ∙ cn))
@@ -85,10 +85,10 @@ rotated {kind} {nodes} {positions} {order} {leaf_list} {t} kept n l s s' p h is 
 
 -- the numbers below a child are among those of its node
 below_left : (l : ℕ) (a b : Numbered) (k : ℕ) → 1 ≤ times k (numbers a) → 1 ≤ times k (numbers (NumberedNode l a b))
-below_left l a b k h = omega (arith, times-node k l (numbers a) (numbers b))
+below_left l a b k h = omega (arith, times_node k l (numbers a) (numbers b))
 
 below_right : (l : ℕ) (a b : Numbered) (k : ℕ) → 1 ≤ times k (numbers b) → 1 ≤ times k (numbers (NumberedNode l a b))
-below_right l a b k h = omega (arith, times-node k l (numbers a) (numbers b))
+below_right l a b k h = omega (arith, times_node k l (numbers a) (numbers b))
 
 -- a number is not both in a list and absent
 not_in : (k l : ℕ) (xs : List ℕ) → k ≡ l → times k xs ≡ 0 → 1 ≤ times l xs → ⊥
@@ -96,7 +96,7 @@ not_in k l xs x z y = let r : times l xs ≡ 0 = subst (λ i. times i xs ≡ 0) 
 
 -- the right rotation: p has the lower node and the right child, q the lower node's children
 pub rotated_right : {nodes : List Shape} {positions order leaf_list : List ℕ} {t : Numbered} →
-    IsKept nodes positions order leaf_list t →
+    HoldsTree nodes positions order leaf_list t →
     (n : ℕ) {p q : ℕ × ℕ} → Some p ≡ children_at t n → Some q ≡ children_at t p.0 →
     (nodes' : List Shape) (order' positions' : List ℕ) →
     nodes' ≡ set (set nodes n (Inner q.0 p.0)) p.0 (Inner q.1 p.1) →
@@ -138,7 +138,7 @@ rotated_right {nodes} {positions} {order} {leaf_list} {t} kept n {p} {q} e1 e2 n
     let pn = length P.front + length (numbers a) + suc (length (numbers b)) in
     let np : pn ≢ pl = λ x. omega arith in
     rotated kept n l s s' P (rearranged_right n l a b c) is ne
-    (omega (arith, times-append l (numbers (NumberedNode l a b)) (n ∷ numbers c)))
+    (omega (arith, times_append l (numbers (NumberedNode l a b)) (n ∷ numbers c)))
     (Inner q.0 l) (Inner q.1 p.1) (
       two.0 ∙ ap (λ k. Some (Inner k l)) (sym na),
       stored_same a nodes new st.1.1
@@ -165,7 +165,7 @@ rotated_right {nodes} {positions} {order} {leaf_list} {t} kept n {p} {q} e1 e2 n
 
 -- the left rotation: p has the left child and the lower node, q the lower node's children
 pub rotated_left : {nodes : List Shape} {positions order leaf_list : List ℕ} {t : Numbered} →
-    IsKept nodes positions order leaf_list t →
+    HoldsTree nodes positions order leaf_list t →
     (n : ℕ) {p q : ℕ × ℕ} → Some p ≡ children_at t n → Some q ≡ children_at t p.1 →
     (nodes' : List Shape) (order' positions' : List ℕ) →
     nodes' ≡ set (set nodes n (Inner p.1 q.1)) p.1 (Inner p.0 q.0) →
@@ -209,9 +209,9 @@ rotated_left {nodes} {positions} {order} {leaf_list} {t} kept n {p} {q} e1 e2 no
     rotated kept n l s s' P (rearranged_left n l a b c) is ne
     (omega (
       arith,
-      times-append l (numbers a) (n ∷ (numbers b ++ l ∷ numbers c)),
-      times-append l (numbers b) (l ∷ numbers c),
-      times-same l l (numbers c) refl,
+      times_append l (numbers a) (n ∷ (numbers b ++ l ∷ numbers c)),
+      times_append l (numbers b) (l ∷ numbers c),
+      times_same l l (numbers c) refl,
     ))
     (Inner l q.1) (Inner p.0 q.0) (
       two.0 ∙ ap (λ k. Some (Inner l k)) (sym nc),

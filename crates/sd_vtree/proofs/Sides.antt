@@ -4,7 +4,7 @@ use Rattle.std.proofs.Common.{length-append, append_assoc, get_or, take, drop}
 use Rattle.std.proofs.lemmas.List.{take_at, drop_at}
 use borrow.Rule.Slice.PartMut.{put_mid}
 use Rattle.sd_model.specs.Tree.{variables, leaves}
-use Rattle.sd_vtree.specs.Numbered.{Numbered, NumberedLeaf, NumberedNode, numbers, forget, IsNumbered}
+use Rattle.sd_vtree.specs.Numbered.{Numbered, NumberedLeaf, NumberedNode, numbers, plain_tree, IsNumbered}
 use Rattle.sd_vtree.proofs.Moved.{rearranged_swap, put_rearranged, numbered_again}
 use Rattle.sd_vtree.proofs.Swapped.{Sides}
 
@@ -31,14 +31,14 @@ part_rotated f x y k xs new a m e s fa xm ye n =
     ∙ (ap (λ zs. f ++ ((y ++ x) ++ zs)) p ∙ ap (λ zs. f ++ zs) (append_assoc y x k)))
 
 -- two rotations that exchange the sides of a place
-pub sides_exchanged : (f a b k : List ℕ) (u : ℕ) (from place to : ℕ) (old half new : List ℕ) →
-    old ≡ f ++ ((a ++ u ∷ b) ++ k) → length f ≡ from → from + length a ≡ place → place + 1 + length b ≡ to →
-    ((f x y k : List ℕ) → old ≡ f ++ (x ++ (y ++ k)) → length f ≡ from → from + length x ≡ place + 1 →
-    place + 1 + length y ≡ to → half ≡ f ++ (y ++ (x ++ k))) →
-    ((f x y k : List ℕ) → half ≡ f ++ (x ++ (y ++ k)) → length f ≡ from + (to - place - 1) →
-    from + (to - place - 1) + length x ≡ to - 1 → to - 1 + length y ≡ to → new ≡ f ++ (y ++ (x ++ k))) →
+pub sides_exchanged : (f a b k : List ℕ) (u : ℕ) (from position to : ℕ) (old half new : List ℕ) →
+    old ≡ f ++ ((a ++ u ∷ b) ++ k) → length f ≡ from → from + length a ≡ position → position + 1 + length b ≡ to →
+    ((f x y k : List ℕ) → old ≡ f ++ (x ++ (y ++ k)) → length f ≡ from → from + length x ≡ position + 1 →
+    position + 1 + length y ≡ to → half ≡ f ++ (y ++ (x ++ k))) →
+    ((f x y k : List ℕ) → half ≡ f ++ (x ++ (y ++ k)) → length f ≡ from + (to - position - 1) →
+    from + (to - position - 1) + length x ≡ to - 1 → to - 1 + length y ≡ to → new ≡ f ++ (y ++ (x ++ k))) →
     new ≡ f ++ ((b ++ u ∷ a) ++ k)
-sides_exchanged f a b k u from place to old half new s fa pa eb g h =
+sides_exchanged f a b k u from position to old half new s fa pa eb g h =
     let au = a ++ u ∷ [] in
     let n : length au ≡ length a + 1 = length-append a (u ∷ []) in
     let o : old ≡ f ++ (au ++ (b ++ k)) =
@@ -50,40 +50,41 @@ sides_exchanged f a b k u from place to old half new s fa pa eb g h =
     ∙ (append_assoc f b (u ∷ (a ++ k)) ∙ ap (λ zs. f ++ zs) (sym (append_assoc b (u ∷ a) k)))
 
 -- the order after the sides were exchanged
-pub order_swapped : {t : Numbered} {n a b from place to : ℕ} (s : Sides t n a b from place to) → (seen after : List ℕ) →
+pub order_swapped : {t : Numbered} {n a b from position to : ℕ} (s : Sides t n a b from position to)
+    → (seen after : List ℕ) →
     seen ≡ numbers t →
-    ((f x y k : List ℕ) (u : ℕ) → seen ≡ f ++ ((x ++ u ∷ y) ++ k) → length f ≡ from → from + length x ≡ place →
-    place + 1 + length y ≡ to → after ≡ f ++ ((y ++ u ∷ x) ++ k)) →
+    ((f x y k : List ℕ) (u : ℕ) → seen ≡ f ++ ((x ++ u ∷ y) ++ k) → length f ≡ from → from + length x ≡ position →
+    position + 1 + length y ≡ to → after ≡ f ++ ((y ++ u ∷ x) ++ k)) →
     after ≡ numbers s.moved.result
-order_swapped {t} {n} {a} {b} {from} {place} {to} s seen after e h =
+order_swapped {t} {n} {a} {b} {from} {position} {to} s seen after e h =
     h s.moved.front (numbers s.left) (numbers s.right) s.moved.back n (e ∙ s.moved.split) s.starts s.middle s.ends
     ∙ sym s.moved.new_split
 
 -- the tree after a swap is numbered, and has as many nodes
-pub swapped_numbered : {t : Numbered} {n a b from place to : ℕ} (s : Sides t n a b from place to) → IsNumbered t →
+pub swapped_numbered : {t : Numbered} {n a b from position to : ℕ} (s : Sides t n a b from position to) → IsNumbered t →
     IsNumbered s.moved.result
 swapped_numbered {t} {n} s v = numbered_again t s.moved.result v
     (put_rearranged s.moved (rearranged_swap n s.left s.right))
 
-pub swapped_length : {t : Numbered} {n a b from place to : ℕ} (s : Sides t n a b from place to) →
+pub swapped_length : {t : Numbered} {n a b from position to : ℕ} (s : Sides t n a b from position to) →
     length (numbers s.moved.result) ≡ length (numbers t)
 swapped_length {t} {n} s = (put_rearranged s.moved (rearranged_swap n s.left s.right)).numbers_length
 
 -- the bounds and the place are in order
-pub sides_order : {t : Numbered} {n a b from place to : ℕ} → Sides t n a b from place to →
-    (from ≤ place) × (place < to) × (to ≤ length (numbers t))
+pub sides_order : {t : Numbered} {n a b from position to : ℕ} → Sides t n a b from position to →
+    (from ≤ position) × (position < to) × (to ≤ length (numbers t))
 sides_order s = let m = s.middle in let e = s.ends in let w = s.within in (omega arith, omega arith, w)
 
 -- how many nodes a tree has
-pub length-numbers : (t : Numbered) → length (numbers t) + 1 ≡ 2 * leaves (forget t)
-length-numbers (NumberedLeaf n x) = omega arith
-length-numbers (NumberedNode n l r) =
+pub length_numbers : (t : Numbered) → length (numbers t) + 1 ≡ 2 * leaves (plain_tree t)
+length_numbers (NumberedLeaf n x) = omega arith
+length_numbers (NumberedNode n l r) =
     omega (
       arith,
-      length-numbers l,
-      length-numbers r,
+      length_numbers l,
+      length_numbers r,
       length-append (numbers l) (n ∷ numbers r),
-      length-append (variables (forget l)) (variables (forget r)),
+      length-append (variables (plain_tree l)) (variables (plain_tree r)),
     )
 
 -- what was written, by the names that the fields have

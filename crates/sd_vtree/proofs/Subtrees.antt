@@ -7,7 +7,7 @@ use Rattle.std.proofs.lemmas.List.{append-nil}
 use Rattle.std.proofs.lemmas.Option.{same_Some, none-some, some_pair_parts}
 use Rattle.sd_vtree.specs.Numbered.{Numbered, NumberedLeaf, NumberedNode, number_of, numbers, subtree, or_else, times}
 use Rattle.sd_vtree.specs.Numbered.{children_at, child_numbers, IsNumbered}
-use Rattle.sd_vtree.proofs.Times.{times-same, times-other, times-node}
+use Rattle.sd_vtree.proofs.Times.{times_same, times_other, times_node}
 use Rattle.sd_vtree.proofs.Parts.{subtree_none, subtree_left, subtree_right}
 
 -- no number stands twice in the tree
@@ -16,32 +16,32 @@ AtMostOnce t = (n : ℕ) → times n (numbers t) ≤ 1
 
 -- nor does one stand twice below a child
 pub once_left : (m : ℕ) (l r : Numbered) → AtMostOnce (NumberedNode m l r) → AtMostOnce l
-once_left m l r o n = omega (arith, o n, times-node n m (numbers l) (numbers r))
+once_left m l r o n = omega (arith, o n, times_node n m (numbers l) (numbers r))
 
 pub once_right : (m : ℕ) (l r : Numbered) → AtMostOnce (NumberedNode m l r) → AtMostOnce r
 once_right m l r o n = elim (cases_eq m n) [
-  | inl e ↦ omega (arith, o n, times-node n m (numbers l) (numbers r), times-same n m (numbers r) e)
-  | inr d ↦ omega (arith, o n, times-node n m (numbers l) (numbers r), times-other n m (numbers r) d)
+  | inl e ↦ omega (arith, o n, times_node n m (numbers l) (numbers r), times_same n m (numbers r) e)
+  | inr d ↦ omega (arith, o n, times_node n m (numbers l) (numbers r), times_other n m (numbers r) d)
 ]
 
 -- a number below the left child is neither the root's nor below the right child
 pub left_apart : (m : ℕ) (l r : Numbered) → AtMostOnce (NumberedNode m l r) → (n : ℕ) → 1 ≤ times n (numbers l) →
     (m ≡ n → ⊥) × (times n (numbers r) ≡ 0)
 left_apart m l r o n h =
-    let d : m ≡ n → ⊥ = λ e. omega (arith, o n, times-node n m (numbers l) (numbers r), times-same n m (numbers r) e) in
-    (d, omega (arith, o n, times-node n m (numbers l) (numbers r), times-other n m (numbers r) d))
+    let d : m ≡ n → ⊥ = λ e. omega (arith, o n, times_node n m (numbers l) (numbers r), times_same n m (numbers r) e) in
+    (d, omega (arith, o n, times_node n m (numbers l) (numbers r), times_other n m (numbers r) d))
 
 pub right_apart : (m : ℕ) (l r : Numbered) → AtMostOnce (NumberedNode m l r) → (n : ℕ) → 1 ≤ times n (numbers r) →
     (m ≡ n → ⊥) × (times n (numbers l) ≡ 0)
 right_apart m l r o n h =
-    let d : m ≡ n → ⊥ = λ e. omega (arith, o n, times-node n m (numbers l) (numbers r), times-same n m (numbers r) e) in
-    (d, omega (arith, o n, times-node n m (numbers l) (numbers r), times-other n m (numbers r) d))
+    let d : m ≡ n → ⊥ = λ e. omega (arith, o n, times_node n m (numbers l) (numbers r), times_same n m (numbers r) e) in
+    (d, omega (arith, o n, times_node n m (numbers l) (numbers r), times_other n m (numbers r) d))
 
 -- a tree has its root's number
 pub number_of_in : (t : Numbered) → 1 ≤ times (number_of t) (numbers t)
-number_of_in (NumberedLeaf m x) = omega (arith, times-same m m [] refl)
+number_of_in (NumberedLeaf m x) = omega (arith, times_same m m [] refl)
 number_of_in (NumberedNode m l r) = omega
-    (arith, times-node m m (numbers l) (numbers r), times-same m m (numbers r) refl)
+    (arith, times_node m m (numbers l) (numbers r), times_same m m (numbers r) refl)
 
 -- the root's number names the whole tree
 pub subtree_root : (t : Numbered) → subtree t (number_of t) ≡ Some t
@@ -89,8 +89,8 @@ subtree_times (NumberedLeaf m x) n s e k = elim (cases_eq m n) [
 ]
 subtree_times (NumberedNode m l r) n s e k = elim (way m l r n s e) [
   | Here h f ↦ subst (λ u. times k (numbers u) ≤ times k (numbers (NumberedNode m l r))) f (omega arith)
-  | Left d f ↦ omega (arith, subtree_times l n s f k, times-node k m (numbers l) (numbers r))
-  | Right d z f ↦ omega (arith, subtree_times r n s f k, times-node k m (numbers l) (numbers r))
+  | Left d f ↦ omega (arith, subtree_times l n s f k, times_node k m (numbers l) (numbers r))
+  | Right d z f ↦ omega (arith, subtree_times r n s f k, times_node k m (numbers l) (numbers r))
 ]
 
 -- a subtree has no number twice either
@@ -134,7 +134,7 @@ subtree_number (NumberedNode m l r) n s e = elim (way m l r n s e) [
 pub subtree_some : (t : Numbered) (n : ℕ) → 1 ≤ times n (numbers t) → (s : Numbered) × (subtree t n ≡ Some s)
 subtree_some (NumberedLeaf m x) n h = elim (cases_eq m n) [
   | inl e ↦ (NumberedLeaf m x, ap (λ b. if b then Some (NumberedLeaf m x) else None) (eq-eqb m n e))
-  | inr d ↦ absurd (omega (arith, times-other n m [] d))
+  | inr d ↦ absurd (omega (arith, times_other n m [] d))
 ]
 subtree_some (NumberedNode m l r) n h = elim (cases_eq m n) [
   | inl e ↦ (
@@ -144,7 +144,7 @@ subtree_some (NumberedNode m l r) n h = elim (cases_eq m n) [
   | inr d ↦ elim (cases_lt 0 (times n (numbers l))) [
     | inl p ↦ (let s = subtree_some l n (omega arith) in (s.0, subtree_left m l r n s.0 d s.1))
     | inr z ↦ (let s = subtree_some r n
-        (omega (arith, times-node n m (numbers l) (numbers r), times-other n m (numbers r) d)) in
+        (omega (arith, times_node n m (numbers l) (numbers r), times_other n m (numbers r) d)) in
         (s.0, subtree_right m l r n s.0 d (omega arith) s.1))
   ]
 ]

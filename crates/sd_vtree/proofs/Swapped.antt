@@ -9,17 +9,17 @@ use Rattle.sd_vtree.specs.declared.shape.Shape.{Shape}
 use Rattle.sd_vtree.specs.declared.shape.Shape.TheVariants.{Inner}
 use Rattle.sd_vtree.specs.Numbered.{Numbered, NumberedNode, number_of, numbers, subtree, times, children_at}
 use Rattle.sd_vtree.specs.Numbered.{IsNumbered}
-use Rattle.sd_vtree.specs.Stored.{IsKept}
-use Rattle.sd_vtree.proofs.Times.{times-get_or, one_place, slice_get-append}
+use Rattle.sd_vtree.specs.Stored.{HoldsTree}
+use Rattle.sd_vtree.proofs.Times.{times_get_or, one_place, slice_get_append}
 use Rattle.sd_vtree.proofs.Subtrees.{once_numbered, inner_part, subtree_once, subtree_number, number_of_in}
 use Rattle.sd_vtree.proofs.Subtrees.{left_apart, right_apart}
 use Rattle.sd_vtree.proofs.Put.{Put, put, stored_same}
 use Rattle.sd_vtree.proofs.Moved.{rearranged_swap, put_rearranged, numbered_again, Turned, turned, not_leaf}
-use Rattle.sd_vtree.proofs.Moved.{slice_get-set_same, slice_get-set_other}
+use Rattle.sd_vtree.proofs.Moved.{slice_get_set_same, slice_get_set_other}
 use Rattle.sd_vtree.proofs.Rotated.{stored_subtree}
 
 -- a node whose sides are exchanged, and where they stand in the order
-pub record Sides (t : Numbered) (n a b from place to : ℕ) : Type 0 where
+pub record Sides (t : Numbered) (n a b from position to : ℕ) : Type 0 where
   pub left : Numbered
   pub right : Numbered
   pub is : subtree t n ≡ Some (NumberedNode n left right)
@@ -27,19 +27,19 @@ pub record Sides (t : Numbered) (n a b from place to : ℕ) : Type 0 where
   pub right_number : number_of right ≡ b
   pub moved : Put Swap t n (NumberedNode n left right) (NumberedNode n right left)
   pub starts : length moved.front ≡ from
-  pub middle : from + length (numbers left) ≡ place
-  pub ends : place + 1 + length (numbers right) ≡ to
+  pub middle : from + length (numbers left) ≡ position
+  pub ends : position + 1 + length (numbers right) ≡ to
   pub within : to ≤ length (numbers t)
 
 -- the sides of a node, by the positions that the code has read
-pub sides : {t : Numbered} {n : ℕ} {p : ℕ × ℕ} → IsNumbered t → Some p ≡ children_at t n → (place from last : ℕ) →
-    slice_get (numbers t) place ≡ Some n →
+pub sides : {t : Numbered} {n : ℕ} {p : ℕ × ℕ} → IsNumbered t → Some p ≡ children_at t n → (position from last : ℕ) →
+    slice_get (numbers t) position ≡ Some n →
     ((s : Numbered) (front back : List ℕ) → subtree t n ≡ Some s → numbers t ≡ front ++ (numbers s ++ back) →
     from ≡ length front) →
     ((s : Numbered) (front back : List ℕ) → subtree t n ≡ Some s → numbers t ≡ front ++ (numbers s ++ back) →
     last + 1 ≡ length front + length (numbers s)) →
-    Sides t n p.0 p.1 from place (last + 1)
-sides {t} {n} {p} v e place from last at first final =
+    Sides t n p.0 p.1 from position (last + 1)
+sides {t} {n} {p} v e position from last at first final =
     let o = once_numbered t v in
     let i = inner_part t v n p.0 p.1 e in
     let l = i.left in let r = i.right in
@@ -55,11 +55,11 @@ sides {t} {n} {p} v e place from last at first final =
     let here : slice_get (numbers t) (length P.front + length (numbers l)) ≡ Some n =
     ap (λ xs. slice_get xs (length P.front + length (numbers l))) (P.split
     ∙ ap (λ xs. P.front ++ xs) (append_assoc (numbers l) (n ∷ numbers r) P.back))
-    ∙ (slice_get-append P.front (numbers l ++ n ∷ (numbers r ++ P.back)) (length (numbers l))
+    ∙ (slice_get_append P.front (numbers l ++ n ∷ (numbers r ++ P.back)) (length (numbers l))
     ∙ (ap (slice_get (numbers l ++ n ∷ (numbers r ++ P.back)))
     (let z : length (numbers l) ≡ length (numbers l) + 0 = omega arith in z)
-    ∙ slice_get-append (numbers l) (n ∷ (numbers r ++ P.back)) 0)) in
-    let q : place ≡ length P.front + length (numbers l) = one_place (numbers t) n place
+    ∙ slice_get_append (numbers l) (n ∷ (numbers r ++ P.back)) 0)) in
+    let q : position ≡ length P.front + length (numbers l) = one_place (numbers t) n position
     (length P.front + length (numbers l)) (o n) at here in
     record {
       left = l;
@@ -93,7 +93,7 @@ numbers_within u v xs e p h = elim (cases_lt (get_or xs p 0) (length xs)) [
   | inr w ↦ (let s : length xs ≡ length (numbers u) = ap length e in
       let z = v.no_other (get_or xs p 0) (omega arith) in
       let i : 1 ≤ times (get_or xs p 0) (numbers u) = subst (λ ys. 1 ≤ times (get_or xs p 0) ys) e
-      (times-get_or xs p h) in
+      (times_get_or xs p h) in
       absurd (omega arith))
 ]
 
@@ -122,14 +122,15 @@ outside_same f xs ys k i e n = elim (cases_lt i (length f)) [
 ]
 
 -- the vectors after a swap
-pub swapped : {nodes : List Shape} {positions order leaf_list : List ℕ} {t : Numbered} {n a b from place to : ℕ} →
-    IsKept nodes positions order leaf_list t →
-    (s : Sides t n a b from place to) → (i : ℕ) → i ≡ n → n < length (numbers t) → (order' positions' : List ℕ) →
+pub swapped : {nodes : List Shape} {positions order leaf_list : List ℕ} {t : Numbered} {n a b from position to : ℕ} →
+    HoldsTree nodes positions order leaf_list t →
+    (s : Sides t n a b from position to) → (i : ℕ) → i ≡ n → n < length (numbers t) → (order' positions' : List ℕ) →
     order' ≡ numbers s.moved.result → length positions' ≡ length positions →
     ((p : ℕ) → from ≤ p → p < to → get_or positions' (get_or order' p 0) 0 ≡ p) →
     ((m : ℕ) → ((p : ℕ) → from ≤ p → p < to → get_or order' p 0 ≢ m) → get_or positions' m 0 ≡ get_or positions m 0) →
     Turned Swap t n (set nodes i (Inner b a)) positions' order' leaf_list
-swapped {nodes} {positions} {order} {leaf_list} {t} {n} {a} {b} {from} {place} {to} kept s i ie hn order' positions' e
+swapped {nodes} {positions} {order} {leaf_list} {t} {n} {a} {b} {from} {position} {to} kept s i ie hn order' positions'
+    e
     size inside outside =
     let l = s.left in let r = s.right in
     let P = s.moved in
@@ -142,10 +143,10 @@ swapped {nodes} {positions} {order} {leaf_list} {t} {n} {a} {b} {from} {place} {
     let new = set nodes i (Inner b a) in
     let ne : new ≡ set nodes n (Inner b a) = ap (λ k. set nodes k (Inner b a)) ie in
     let cell : slice_get new n ≡ Some (Inner b a) = ap (λ xs. slice_get xs n) ne
-    ∙ slice_get-set_same nodes n (Inner b a) (omega arith) in
+    ∙ slice_get_set_same nodes n (Inner b a) (omega arith) in
     let other : (k : ℕ) → k ≢ n →
     slice_get new k ≡ slice_get nodes k = (λ k z. ap (λ xs. slice_get xs k) ne
-    ∙ slice_get-set_other nodes n k (Inner b a) z) in
+    ∙ slice_get_set_other nodes n k (Inner b a) z) in
     turned kept P h (
       cell ∙ (ap (λ k. Some (Inner k a)) (sym s.right_number)
           ∙ ap (λ k. Some (Inner (number_of r) k)) (sym s.left_number)),

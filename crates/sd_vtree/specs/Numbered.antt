@@ -15,9 +15,9 @@ number_of (NumberedLeaf n x) = n
 number_of (NumberedNode n l r) = n
 
 -- the vtree without its numbers
-abbrev pub forget : Numbered → Tree
-forget (NumberedLeaf n x) = Leaf x
-forget (NumberedNode n l r) = Node (forget l) (forget r)
+abbrev pub plain_tree : Numbered → Tree
+plain_tree (NumberedLeaf n x) = Leaf x
+plain_tree (NumberedNode n l r) = Node (plain_tree l) (plain_tree r)
 
 -- the numbers in order: the number at place p of this list is that of the node at position p
 abbrev pub numbers : Numbered → List ℕ
@@ -63,8 +63,8 @@ times n (m ∷ ms) = (if m == n then 1 else 0) + times n ms
 pub record IsNumbered (t : Numbered) : Type 0 where
   pub once : (n : ℕ) → n < length (numbers t) → times n (numbers t) ≡ 1
   pub no_other : (n : ℕ) → length (numbers t) ≤ n → times n (numbers t) ≡ 0
-  pub vtree : IsVtree (forget t)
-  pub few : leaves (forget t) ≤ 1024
+  pub vtree : IsVtree (plain_tree t)
+  pub within_limit : leaves (plain_tree t) ≤ 1024
 
 -- a stands at n or below it
 pub record IsUnder (t : Numbered) (a n : ℕ) : Type 0 where

@@ -27,15 +27,15 @@ last_tree [] = NumberedLeaf 0 0
 last_tree (t ∷ trees) = t
 
 -- a tree that was written is the next one read
-with_nodes-written : (t : Numbered) (es : List (ℕ × ℕ)) (trees : List Numbered) →
+with_nodes_written : (t : Numbered) (es : List (ℕ × ℕ)) (trees : List Numbered) →
     with_nodes (written t ++ es) trees ≡ with_nodes es (t ∷ trees)
-with_nodes-written (NumberedLeaf n x) es trees = refl
-with_nodes-written (NumberedNode n l r) es trees =
+with_nodes_written (NumberedLeaf n x) es trees = refl
+with_nodes_written (NumberedNode n l r) es trees =
     rw (
       append_assoc (written l ++ written r) ((n, 0) ∷ []) es,
       append_assoc (written l) (written r) ((n, 0) ∷ es),
-      with_nodes-written l (written r ++ (n, 0) ∷ es) trees,
-      with_nodes-written r ((n, 0) ∷ es) (l ∷ trees),
+      with_nodes_written l (written r ++ (n, 0) ∷ es) trees,
+      with_nodes_written r ((n, 0) ∷ es) (l ∷ trees),
     ) refl
 
 -- what was written is read back
@@ -44,8 +44,8 @@ read_back (NumberedLeaf n x) = refl
 read_back (NumberedNode n l r) =
     rw (
       append_assoc (written l) (written r) ((n, 0) ∷ []),
-      with_nodes-written l (written r ++ (n, 0) ∷ []) [],
-      with_nodes-written r ((n, 0) ∷ []) (l ∷ []),
+      with_nodes_written l (written r ++ (n, 0) ∷ []) [],
+      with_nodes_written r ((n, 0) ∷ []) (l ∷ []),
     ) refl
 
 -- by which a proof tells numbered trees apart

@@ -59,7 +59,7 @@ pub(crate) fn leaves_of(
 ) -> Result<Vec<VNode>, AllocError>
     requires positive { (k x : ℕ) → slice_get nodes.now k ≡ Some (Leaf x) → 1 ≤ x }
     requires within { (k x : ℕ) → slice_get nodes.now k ≡ Some (Leaf x) → x ≤ variables }
-    requires few { length nodes.now < 2 ^ 32 }
+    requires within_limit { length nodes.now < 2 ^ 32 }
     ensures count { IfOk result (λ v. length v.items ≡ variables) }
     ensures leaves { IfOk result (λ v. (k x : ℕ) → slice_get nodes.now k ≡ Some (Leaf x) →
         slice_get nodes.now (slice_index v.items (x - 1)) ≡ Some (Leaf x)) }

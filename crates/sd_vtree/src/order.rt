@@ -38,16 +38,16 @@ fn rotate_part(order: &mut [VNode], from: usize, middle: usize, to: usize)
 }
 
 // Exchanges what stands before and what stands after a place, between two bounds.
-pub(crate) fn exchange_sides(order: &mut [VNode], from: usize, place: usize, to: usize)
-    requires first { from ≤ place }
-    requires second { place < to }
+pub(crate) fn exchange_sides(order: &mut [VNode], from: usize, position: usize, to: usize)
+    requires first { from ≤ position }
+    requires second { position < to }
     requires within { to ≤ length order.old }
     ensures { (f a b k : List ℕ) (u : ℕ) → order.old ≡ f ++ ((a ++ u ∷ b) ++ k) →
-        length f ≡ from → from + length a ≡ place → place + 1 + length b ≡ to →
+        length f ≡ from → from + length a ≡ position → position + 1 + length b ≡ to →
         order.new ≡ f ++ ((b ++ u ∷ a) ++ k) }
 {
-    rotate_part(order, from, place + 1, to);
-    rotate_part(order, from + (to - place - 1), to - 1, to);
+    rotate_part(order, from, position + 1, to);
+    rotate_part(order, from + (to - position - 1), to - 1, to);
 }
 
 // Writes the positions of the nodes between two places of the order.
@@ -64,7 +64,7 @@ pub(crate) fn write_positions(order: &[VNode], positions: &mut [u32], from: usiz
     ensures outside { (n : ℕ) → ((p : ℕ) → from ≤ p → p < to → slice_index order.now p ≢ n) →
         slice_index positions.new n ≡ slice_index positions.old n }
 {
-    for place in from..to {
-        positions[order[place].index()] = place as u32;
+    for position in from..to {
+        positions[order[position].index()] = position as u32;
     }
 }

@@ -19,7 +19,7 @@ pub(crate) fn node_over(alloc: Global, left: Tree, right: Tree) -> Result<Tree, 
 
 // The balanced tree over so many variables from the first one on.
 pub(crate) fn balanced_over(alloc: Global, first: u32, count: u32) -> Result<Tree, AllocError>
-    requires some { 1 ≤ count }
+    requires at_least_one { 1 ≤ count }
     requires fits { first + count < 2 ^ 32 }
     ensures { IfOk result (λ t. tree_of t ≡ balanced_from count first count) }
 {

@@ -3,7 +3,7 @@ use Rattle.std.proofs.Common.{◌≡◌, refl, [], ◌∷◌, Ok, Err, codes, No
 use Rattle.std.specs.Prelude.{⊤}
 use Rattle.clap.proofs.OnLiterals.{clap_on_literals}
 use Rattle.sd_words.specs.Command.{rows_found, sddc, usage_faults}
-use Rattle.sd_words.specs.JobOf.{job_from, job_given, job_of}
+use Rattle.sd_words.specs.JobOf.{job_from, job_of_parsed, job_of}
 use Rattle.sd_words.specs.Numbers.{natural}
 use Rattle.sd_words.specs.Refusals.{empty_name, file_twice, no_input, number_range}
 use Rattle.sd_words.specs.Refusals.{start_unknown, two_inputs, two_vtrees, with_script}
@@ -19,7 +19,7 @@ table_on_literals = tt
 
 -- and for all words of an example
 unfoldable job_on_literals : ⊤
-unfolding clap_on_literals table_on_literals job_of usage_faults rows_found sddc natural job_from job_given
+unfolding clap_on_literals table_on_literals job_of usage_faults rows_found sddc natural job_from job_of_parsed
 job_on_literals = tt
 
 no_words : job_of [] ≡ Err fault.NoInput

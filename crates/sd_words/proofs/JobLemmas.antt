@@ -12,11 +12,11 @@ use Rattle.clap.specs.Walk.{Row, Text, is_empty, rows_of}
 use Rattle.clap.specs.Kinds.{Kinds}
 use Rattle.clap.specs.Matches.{found_of}
 use Rattle.clap.specs.declared.parser.matches.ArgMatches.{ArgMatches}
-use Rattle.sd_words.specs.Command.{given_in, given_of, handed, rows_found, usage_faults}
-use Rattle.sd_words.specs.Given.{Given, fails, has}
+use Rattle.sd_words.specs.Command.{parsed_in, parsed_of, handed, rows_found, usage_faults}
+use Rattle.sd_words.specs.ParsedOptions.{ParsedOptions, fails, has_option}
 use Rattle.sd_words.specs.JobOf.{Answers, first_some, job_from, job_of}
 use Rattle.sd_words.specs.Options.{inputs}
-use Rattle.sd_words.specs.Refusals.{fault_if, no_input, refusals, two_inputs}
+use Rattle.sd_words.specs.Refusals.{fault_where, no_input, refusals, two_inputs}
 use Rattle.sd_words.specs.declared.faults.WordsFault.{WordsFault}
 use Rattle.sd_words.specs.declared.faults.WordsFault.TheVariants as fault
 use Rattle.sd_words.specs.declared.jobs.Job.{Job}
@@ -28,23 +28,23 @@ first_two None b rest = refl
 first_two (Some f) b rest = refl
 
 -- the exit of a `?` at the first fault
-pub refused : (given : Given) (r : Result Job WordsFault) (f : WordsFault) → IsErrAnd r (λ e. e ≡ f)
-    → first_some (refusals given) ≡ Some f → Answers (job_from given) r
+pub refused : (parsed : ParsedOptions) (r : Result Job WordsFault) (f : WordsFault) → IsErrAnd r (λ e. e ≡ f)
+    → first_some (refusals parsed) ≡ Some f → Answers (job_from parsed) r
 unfolding job_from
-refused given r f is first =
+refused parsed r f is first =
     let p = err_from_is_err_and r is in
     rw (p.1, p.2) (inr (rw first refl))
 
 -- and where memory ran out
-pub ran_out : (given : Given) (r : Result Job WordsFault) (f : WordsFault) → IsErrAnd r (λ e. e ≡ f)
-    → f ≡ fault.OutOfMemory → Answers (job_from given) r
-ran_out given r f is memory =
+pub ran_out : (parsed : ParsedOptions) (r : Result Job WordsFault) (f : WordsFault) → IsErrAnd r (λ e. e ≡ f)
+    → f ≡ fault.OutOfMemory → Answers (job_from parsed) r
+ran_out parsed r f is memory =
     let p = err_from_is_err_and r is in
     rw p.1 (inl (p.2 ∙ memory))
 
 -- ---- what the checks leave for the job
 
-not_refused : (b : Bool) (f : WordsFault) (next : Option WordsFault) → option_or (fault_if b f) next ≡ None
+not_refused : (b : Bool) (f : WordsFault) (next : Option WordsFault) → option_or (fault_where b f) next ≡ None
     → b ≡ false
 not_refused true f next e = cc
 not_refused false f next e = refl
@@ -61,16 +61,16 @@ counted test (x ∷ xs) some = go (test x) refl (counted test xs)
     go false e rest = rw e (rest (rw e at some))
 
 -- an input is there
-pub some_input : (given : Given) → option_or (no_input given) (two_inputs given) ≡ None
-    → list_any (has given) inputs ≡ true
+pub some_input : (parsed : ParsedOptions) → option_or (no_input parsed) (two_inputs parsed) ≡ None
+    → list_any (has_option parsed) inputs ≡ true
 unfolding no_input two_inputs
-some_input given one = counted (has given) inputs (not_refused _ _ _ one)
+some_input parsed one = counted (has_option parsed) inputs (not_refused _ _ _ one)
 
 -- a value that does not fail reads as something
-pub some-reads : {T : Type 0} (read : Text → Option T) (value : Option Text) → fails read value ≡ false
+pub some_reads : {T : Type 0} (read : Text → Option T) (value : Option Text) → fails read value ≡ false
     → is_some (option_and_then read value) ≡ is_some value
-some-reads read None h = refl
-some-reads read (Some text) h = go (read text) h
+some_reads read None h = refl
+some_reads read (Some text) h = go (read text) h
   where
     go : {T : Type 0} (o : Option T) → is_none o ≡ false → is_some o ≡ true
     go None h = absurd (true≢false h)
@@ -90,8 +90,8 @@ usage words all is some =
 
 -- of others the answer goes by what the parse gave
 pub accepted : (words all : List Text) (m : ArgMatches) → all ≡ handed words → usage_faults all ≡ []
-    → rows_of (found_of m) ≡ rows_found all → job_of words ≡ job_from (given_of m)
-unfolding job_of given_of
+    → rows_of (found_of m) ≡ rows_found all → job_of words ≡ job_from (parsed_of m)
+unfolding job_of parsed_of
 accepted words all m is none found =
     rw (ap usage_faults (sym is) ∙ none)
-    (ap (λ (rows : List Row). job_from (given_in rows)) (sym (found ∙ ap rows_found is)))
+    (ap (λ (rows : List Row). job_from (parsed_in rows)) (sym (found ∙ ap rows_found is)))

@@ -81,9 +81,9 @@ at_missing id change missing (r ∷ rs) none = go (bytes_eq r.id id) refl (at_mi
     go true e rest = let bad : true ≡ false = rw e at none in cc
     go false e rest = rw e (ap (λ xs. r ∷ xs) (rest (rw e at none)))
 
-pub append-nil : (rows : List Row) → rows ++ [] ≡ rows
-append-nil [] = refl
-append-nil (r ∷ rs) = ap (λ xs. r ∷ xs) (append-nil rs)
+pub append_nil : (rows : List Row) → rows ++ [] ≡ rows
+append_nil [] = refl
+append_nil (r ∷ rs) = ap (λ xs. r ∷ xs) (append_nil rs)
 
 -- an option that was not used before gets a row of its own
 added : (o : OptionName) (v : Text) (rows : List Row) → has_row (word_of o) rows ≡ false
@@ -92,7 +92,7 @@ added : (o : OptionName) (v : Text) (rows : List Row) → has_row (word_of o) ro
 unfolding row_of
 added o v rows none =
     let kept : without (word_of o) rows ≡ rows =
-    at_missing (word_of o) (λ _. []) [] rows none ∙ append-nil rows in
+    at_missing (word_of o) (λ _. []) [] rows none ∙ append_nil rows in
     rw kept (at_missing (word_of o) (more_values CommandLine (v ∷ [])) _ rows none)
 
 used_left : (o : OptionName) (v : Text) (rows : List Row) → has_row (word_of o) rows ≡ false

@@ -7,10 +7,10 @@ use Rattle.std.specs.Str.{bytes_eq}
 use Rattle.clap.specs.Walk.{Row, Rule, Text, first_of, has_row, with_default}
 use Rattle.clap.specs.Faults.{default_fault, defaults_fault, given_default_fault}
 use Rattle.clap.proofs.WalkLemmas.{both}
-use Rattle.sd_words.specs.Command.{given_by, handed, rows_found, sddc, usage_faults}
+use Rattle.sd_words.specs.Command.{parsed_by, handed, rows_found, sddc, usage_faults}
 use Rattle.sd_words.specs.JobOf.{Answers, job_from, job_of}
 use Rattle.sd_words.specs.Options.{word_of}
-use Rattle.sd_words.specs.Ordinary.{Setting, Spells, has_each_once, is_spelled, setting_of, words_of}
+use Rattle.sd_words.specs.Ordinary.{Setting, Spells, has_each_once, is_spelled, setting_of, words_of_settings}
 use Rattle.sd_words.specs.declared.faults.WordsFault.{WordsFault}
 use Rattle.sd_words.specs.declared.jobs.Job.{Job}
 use Rattle.sd_words.specs.declared.options.OptionName.{OptionName}
@@ -85,12 +85,12 @@ found (s ∷ rest) o = go (bytes_eq (word_of s.option) (word_of o)) refl (found 
     go : (b : Bool) → bytes_eq (word_of s.option) (word_of o) ≡ b
         → first_of (word_of o) (map row_for rest) ≡ setting_of rest o
         → first_of (word_of o) (row_for s ∷ map row_for rest) ≡ setting_of (s ∷ rest) o
-    go true e given = rw e refl
-    go false e given = rw e given
+    go true e parsed = rw e refl
+    go false e parsed = rw e parsed
 
 -- the ordinary words are accepted
 ordinary_accepted : (settings : List Setting) → has_each_once settings ≡ true
-    → list_all is_spelled settings ≡ true → usage_faults (handed (words_of settings)) ≡ []
+    → list_all is_spelled settings ≡ true → usage_faults (handed (words_of_settings settings)) ≡ []
 unfolding usage_faults sddc
 ordinary_accepted settings once spelled =
     let ends = walk_all settings [] None tt (all_fresh settings) once spelled in
@@ -104,7 +104,7 @@ ordinary_accepted settings once spelled =
 
 -- and each option has the value that they give it
 ordinary_values : (settings : List Setting) (o : OptionName) → has_each_once settings ≡ true
-    → list_all is_spelled settings ≡ true → given_by (words_of settings) o ≡ setting_of settings o
+    → list_all is_spelled settings ≡ true → parsed_by (words_of_settings settings) o ≡ setting_of settings o
 unfolding rows_found sddc
 ordinary_values settings o once spelled =
     let ends = walk_all settings [] None tt (all_fresh settings) once spelled in
@@ -115,17 +115,17 @@ ordinary_values settings o once spelled =
       ends.whole,
     ) (found settings o)
 
-job_of-words_of : (settings : List Setting) → has_each_once settings ≡ true
-    → list_all is_spelled settings ≡ true → job_of (words_of settings) ≡ job_from (setting_of settings)
+job_of_words_of : (settings : List Setting) → has_each_once settings ≡ true
+    → list_all is_spelled settings ≡ true → job_of (words_of_settings settings) ≡ job_from (setting_of settings)
 unfolding job_of
-job_of-words_of settings once spelled =
-    let given : given_by (words_of settings) ≡ setting_of settings =
+job_of_words_of settings once spelled =
+    let parsed : parsed_by (words_of_settings settings) ≡ setting_of settings =
     λ i o. ordinary_values settings o once spelled i in
-    rw (ordinary_accepted settings once spelled) (ap job_from given)
+    rw (ordinary_accepted settings once spelled) (ap job_from parsed)
 
 -- so an answer at such words is the one at the settings' values
 pub answers_ordinary : (words : List Text) (r : Result Job WordsFault) → Answers (job_of words) r
     → (settings : List Setting) → Spells settings words → Answers (job_from (setting_of settings)) r
 answers_ordinary words r answer settings spells =
     subst (λ (a : Result Job WordsFault). Answers a r)
-    (ap job_of spells.written ∙ job_of-words_of settings spells.once spells.spelled) answer
+    (ap job_of spells.written ∙ job_of_words_of settings spells.once spells.spelled) answer

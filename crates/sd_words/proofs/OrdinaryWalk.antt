@@ -11,9 +11,9 @@ use Rattle.clap.proofs.WalkLemmas.{both}
 use Rattle.sd_words.specs.Command.{sddc}
 use Rattle.sd_words.specs.Options.{word_of}
 use Rattle.sd_words.specs.Ordinary.{Setting, can_stand_apart, has_each_once, is_spelled, sets}
-use Rattle.sd_words.specs.Ordinary.{words_of, words_of_setting}
+use Rattle.sd_words.specs.Ordinary.{words_of_settings, words_of_setting}
 use Rattle.sd_words.specs.declared.options.OptionName.{OptionName}
-use Rattle.sd_words.proofs.OptionSteps.{IsFresh, Left, append-nil, at, false_of, left_passes, left_used}
+use Rattle.sd_words.proofs.OptionSteps.{IsFresh, Left, append_nil, at, false_of, left_passes, left_used}
 use Rattle.sd_words.proofs.OptionSteps.{no_fault, no_fault_name, no_fault_value, row_of}
 use Rattle.sd_words.proofs.OptionSteps.{step, step_name, step_value, the_rules, with_left}
 
@@ -120,9 +120,9 @@ pub record Ends (w : Walk) (all : List Row) : Type 0 where
 pub walk_all : (settings : List Setting) (rows : List Row) (left : Left) → IsFresh left rows
     → fresh_in settings (with_left rows left) ≡ true → has_each_once settings ≡ true
     → list_all is_spelled settings ≡ true
-    → Ends (run (at rows left) (words_of settings)) (with_left rows left ++ map row_for settings)
+    → Ends (run (at rows left) (words_of_settings settings)) (with_left rows left ++ map row_for settings)
 walk_all [] rows left fresh unused once spelled =
-    record { rows = rows; left = left; is = refl; whole = sym (append-nil (with_left rows left)); fresh = fresh }
+    record { rows = rows; left = left; is = refl; whole = sym (append_nil (with_left rows left)); fresh = fresh }
 walk_all (s ∷ rest) rows left fresh unused once spelled =
     let unused_each = both _ _ unused in
     let once_each = both _ _ once in
@@ -137,7 +137,7 @@ walk_all (s ∷ rest) rows left fresh unused once spelled =
     record {
       rows = again.rows;
       left = again.left;
-      is = setting_walked s.option s.value s.is_attached (words_of rest) rows left fresh none spelled_each.0
+      is = setting_walked s.option s.value s.is_attached (words_of_settings rest) rows left fresh none spelled_each.0
           ∙ again.is;
       whole = again.whole ∙ ap (λ (rs : List Row). rs ++ map row_for rest) whole
           ∙ append_assoc all (row_for s ∷ []) (map row_for rest);
@@ -148,7 +148,7 @@ walk_all (s ∷ rest) rows left fresh unused once spelled =
 pub faults_all : (settings : List Setting) (rows : List Row) (left : Left) → IsFresh left rows
     → fresh_in settings (with_left rows left) ≡ true → has_each_once settings ≡ true
     → list_all is_spelled settings ≡ true
-    → walk_fault (built sddc).top [] (at rows left) (words_of settings) ≡ []
+    → walk_fault (built sddc).top [] (at rows left) (words_of_settings settings) ≡ []
 unfolding walk_fault
 faults_all [] rows left fresh unused once spelled = refl
 faults_all (s ∷ rest) rows left fresh unused once spelled =
@@ -157,7 +157,7 @@ faults_all (s ∷ rest) rows left fresh unused once spelled =
     let spelled_each = both _ _ spelled in
     let all = with_left rows left in
     let none = false_of _ unused_each.0 in
-    setting_passes s.option s.value s.is_attached (words_of rest) rows left fresh none spelled_each.0
+    setting_passes s.option s.value s.is_attached (words_of_settings rest) rows left fresh none spelled_each.0
     ∙ faults_all rest (next_rows s.is_attached all s.option s.value)
     (next_left s.is_attached s.option s.value)
     (next_fresh s.is_attached all s.option s.value none)

@@ -7,7 +7,7 @@ use Rattle.clap.specs.Kinds.{Kinds}
 use Rattle.clap.specs.Matches.{found_of}
 use Rattle.clap.specs.declared.parser.matches.ArgMatches.{ArgMatches}
 use Rattle.clap.specs.declared.builder.action.ArgAction.TheVariants.{Set}
-use Rattle.sd_words.specs.Given.{Given}
+use Rattle.sd_words.specs.ParsedOptions.{ParsedOptions}
 use Rattle.sd_words.specs.Options.{all_options, word_of}
 use Rattle.sd_words.specs.declared.options.OptionName.{OptionName}
 
@@ -48,13 +48,13 @@ abbrev pub accepts : List Text → Bool
 accepts words = is_empty (usage_faults (handed words))
 
 -- the first value of each option, among what was found
-abbrev pub given_in : List Row → Given
-given_in rows o = first_of (word_of o) rows
+abbrev pub parsed_in : List Row → ParsedOptions
+parsed_in rows o = first_of (word_of o) rows
 
 -- what a parse gave
-unfoldable pub given_of : ArgMatches → Given
-given_of m = given_in (rows_of (found_of m))
+unfoldable pub parsed_of : ArgMatches → ParsedOptions
+parsed_of m = parsed_in (rows_of (found_of m))
 
 -- what the words give
-abbrev pub given_by : List Text → Given
-given_by words = given_in (rows_found (handed words))
+abbrev pub parsed_by : List Text → ParsedOptions
+parsed_by words = parsed_in (rows_found (handed words))

@@ -3,8 +3,8 @@ use Rattle.std.specs.Prelude.{◌≡◌, ◌⊎◌, ℕ, List, [], ◌∷◌, Re
 use Rattle.std.specs.Prelude.{Option, Some, None, unwrap_or, option_and_then, if◌then◌else◌}
 use Rattle.std.specs.Option.{option_map_or}
 use Rattle.clap.specs.Walk.{Text}
-use Rattle.sd_words.specs.Command.{accepts, given_by}
-use Rattle.sd_words.specs.Given.{Given, generated, number, start_of}
+use Rattle.sd_words.specs.Command.{accepts, parsed_by}
+use Rattle.sd_words.specs.ParsedOptions.{ParsedOptions, generated, option_number, start_of}
 use Rattle.sd_words.specs.Options.{default_limit, default_slack}
 use Rattle.sd_words.specs.Refusals.{refusals}
 use Rattle.sd_words.specs.declared.jobs.InputWord.{InputWord}
@@ -17,28 +17,28 @@ use Rattle.sd_words.specs.declared.faults.WordsFault.{WordsFault}
 use Rattle.sd_words.specs.declared.faults.WordsFault.TheVariants as fault
 
 -- the input that is there; where none is, the words were refused before
-abbrev pub input_of : Given → Option (ℕ × ℕ) → InputWord
-input_of given numbers = option_map_or input.Cnf (given option.Cnf)
-    (option_map_or input.Dnf (given option.Dnf)
+abbrev pub input_of : ParsedOptions → Option (ℕ × ℕ) → InputWord
+input_of parsed numbers = option_map_or input.Cnf (parsed option.Cnf)
+    (option_map_or input.Dnf (parsed option.Dnf)
     (option_map_or (λ g. input.Generate g.0 g.1) numbers (input.Generate 0 0)))
 
 -- by the values of `--vtree` and `--start`: balanced, where neither is there
-abbrev pub tree_of : Option Text → Option Text → TreeWord
-tree_of (Some name) _ = tree.File name
-tree_of None start = unwrap_or (option_and_then start_of start) tree.Balanced
+abbrev pub tree_word_of : Option Text → Option Text → TreeWord
+tree_word_of (Some name) _ = tree.File name
+tree_word_of None start = unwrap_or (option_and_then start_of start) tree.Balanced
 
 -- the job, where nothing is refused
-unfoldable pub job_given : Given → Job
-job_given given = record {
-  input = input_of given (generated given);
-  tree = tree_of (given option.Vtree) (given option.Start);
-  script = given option.Script;
-  out_vtree = given option.OutVtree;
-  out_sdd = given option.OutSdd;
-  minimise = number given option.Minimise;
-  every = number given option.Every;
-  slack = unwrap_or (number given option.Slack) default_slack;
-  limit = unwrap_or (number given option.Limit) default_limit;
+unfoldable pub job_of_parsed : ParsedOptions → Job
+job_of_parsed parsed = record {
+  input = input_of parsed (generated parsed);
+  tree = tree_word_of (parsed option.Vtree) (parsed option.Start);
+  script = parsed option.Script;
+  out_vtree = parsed option.OutVtree;
+  out_sdd = parsed option.OutSdd;
+  minimise = option_number parsed option.Minimise;
+  every = option_number parsed option.Every;
+  slack = unwrap_or (option_number parsed option.Slack) default_slack;
+  limit = unwrap_or (option_number parsed option.Limit) default_limit;
 }
 
 -- the first fault of a list that is there
@@ -53,12 +53,12 @@ unless (Some f) _ = Err f
 unless None x = Ok x
 
 -- the job, or the first refusal of the table
-unfoldable pub job_from : Given → Result Job WordsFault
-job_from given = unless (first_some (refusals given)) (job_given given)
+unfoldable pub job_from : ParsedOptions → Result Job WordsFault
+job_from parsed = unless (first_some (refusals parsed)) (job_of_parsed parsed)
 
 -- the same of the words, where `clap` takes them
 unfoldable pub job_of : List Text → Result Job WordsFault
-job_of words = if accepts words then job_from (given_by words) else Err fault.Usage
+job_of words = if accepts words then job_from (parsed_by words) else Err fault.Usage
 
 -- the result is this answer, or memory ran out
 abbrev pub Answers : {T : Type 0} → Result T WordsFault → Result T WordsFault → Type 0

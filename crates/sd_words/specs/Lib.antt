@@ -1,5 +1,5 @@
 pub mod Options
-pub mod Given
+pub mod ParsedOptions
 pub mod Command
 pub mod Numbers
 pub mod Refusals

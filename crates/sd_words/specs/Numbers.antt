@@ -25,8 +25,8 @@ abbrev pub number_within : ℕ → ℕ → Text → Option ℕ
 number_within least most text = option_and_then (within least most) (natural text)
 
 -- the number that an option has, where the text writes one in its range
-abbrev pub number_of : OptionName → Text → Option ℕ
-number_of o text = option_and_then (λ range. number_within range.0 range.1 text) (range_of o)
+abbrev pub number_of_text : OptionName → Text → Option ℕ
+number_of_text o text = option_and_then (λ range. number_within range.0 range.1 text) (range_of o)
 
 -- both, where both are there
 abbrev pub both : Option ℕ → Option ℕ → Option (ℕ × ℕ)

@@ -46,8 +46,8 @@ abbrev pub inputs : List OptionName
 inputs = option.Cnf ∷ option.Dnf ∷ option.Generate ∷ []
 
 -- those whose value is one number or two
-abbrev pub numbers : List OptionName
-numbers = option.Generate ∷ option.Minimise ∷ option.Every ∷ option.Slack ∷ option.Limit ∷ []
+abbrev pub number_options : List OptionName
+number_options = option.Generate ∷ option.Minimise ∷ option.Every ∷ option.Slack ∷ option.Limit ∷ []
 
 -- those whose value is the name of a file
 abbrev pub files : List OptionName

@@ -4,7 +4,7 @@ use Rattle.std.specs.Prelude.{codes, find, option_map}
 use Rattle.std.specs.List.{list_all}
 use Rattle.std.specs.Str.{bytes_eq}
 use Rattle.clap.specs.Walk.{Text}
-use Rattle.sd_words.specs.Given.{Given}
+use Rattle.sd_words.specs.ParsedOptions.{ParsedOptions}
 use Rattle.sd_words.specs.Options.{word_of}
 use Rattle.sd_words.specs.declared.options.OptionName.{OptionName}
 
@@ -28,9 +28,9 @@ words_of_setting o value true rest = attached o value ∷ rest
 words_of_setting o value false rest = dashed o ∷ value ∷ rest
 
 -- the words of settings, one after another
-abbrev pub words_of : List Setting → List Text
-words_of [] = []
-words_of (s ∷ rest) = words_of_setting s.option s.value s.is_attached (words_of rest)
+abbrev pub words_of_settings : List Setting → List Text
+words_of_settings [] = []
+words_of_settings (s ∷ rest) = words_of_setting s.option s.value s.is_attached (words_of_settings rest)
 
 -- a value in a word of its own begins with no hyphen
 abbrev pub can_stand_apart : Text → Bool
@@ -51,11 +51,11 @@ has_each_once [] = true
 has_each_once (s ∷ rest) = list_all (λ q. not (sets q.option s)) rest && has_each_once rest
 
 -- the value that the settings give an option
-abbrev pub setting_of : List Setting → Given
+abbrev pub setting_of : List Setting → ParsedOptions
 setting_of settings o = option_map (λ s. s.value) (find (sets o) settings)
 
 -- the words are those of the settings, and as they have to be
 pub record Spells (settings : List Setting) (words : List Text) : Type 0 where
   pub once : has_each_once settings ≡ true
   pub spelled : list_all is_spelled settings ≡ true
-  pub written : words ≡ words_of settings
+  pub written : words ≡ words_of_settings settings

@@ -1,13 +1,13 @@
 //! The tests that give no value, in the order in which they are made.
 ghost use Rattle.std.specs.Option.{option_or};
-ghost use Rattle.sd_words.specs.Command.{given_of};
+ghost use Rattle.sd_words.specs.Command.{parsed_of};
 ghost use Rattle.sd_words.specs.Reading.{RefusesBy, RefusesOrRunsOut};
 ghost use Rattle.sd_words.specs.Refusals.{empty_name, file_twice, no_input, two_inputs};
 ghost use Rattle.sd_words.specs.Refusals.{two_vtrees, with_script};
 
 use crate::faults::WordsFault;
-use crate::given::{count_given, first_beside, first_empty, is_given, value};
 use crate::options::{FILES, INPUTS, OptionName, REPLACED_BY_SCRIPT};
+use crate::parsed_options::{count_present, first_beside, first_empty, is_present, value};
 use clap::ArgMatches;
 use sd_base::Name;
 use std::alloc::Global;
@@ -15,10 +15,10 @@ use std::alloc::Global;
 /// Checks that exactly one input is there.
 #[tactic(auto, unfolding(crate::specs::Refusals::no_input, crate::specs::Refusals::two_inputs))]
 pub(crate) fn check_inputs(options: &ArgMatches<'_>) -> Result<(), WordsFault>
-    ensures { let given = given_of options.now in
-        RefusesBy (option_or (no_input given) (two_inputs given)) result }
+    ensures { let parsed = parsed_of options.now in
+        RefusesBy (option_or (no_input parsed) (two_inputs parsed)) result }
 {
-    match count_given(options, INPUTS.as_slice()) {
+    match count_present(options, INPUTS.as_slice()) {
         0 => Err(WordsFault::NoInput),
         1 => Ok(()),
         _ => Err(WordsFault::TwoInputs),
@@ -28,9 +28,9 @@ pub(crate) fn check_inputs(options: &ArgMatches<'_>) -> Result<(), WordsFault>
 /// Checks that `--vtree` and `--start` are not both there.
 #[tactic(auto, unfolding(crate::specs::Refusals::two_vtrees))]
 pub(crate) fn check_vtrees(options: &ArgMatches<'_>) -> Result<(), WordsFault>
-    ensures { RefusesBy (two_vtrees (given_of options.now)) result }
+    ensures { RefusesBy (two_vtrees (parsed_of options.now)) result }
 {
-    if is_given(options, OptionName::Vtree) && is_given(options, OptionName::Start) {
+    if is_present(options, OptionName::Vtree) && is_present(options, OptionName::Start) {
         Err(WordsFault::TwoVtrees)
     } else {
         Ok(())
@@ -40,7 +40,7 @@ pub(crate) fn check_vtrees(options: &ArgMatches<'_>) -> Result<(), WordsFault>
 /// Checks that a script is not there with what it stands in place of.
 #[tactic(auto, unfolding(crate::specs::Refusals::with_script))]
 pub(crate) fn check_script(options: &ArgMatches<'_>) -> Result<(), WordsFault>
-    ensures { RefusesBy (with_script (given_of options.now)) result }
+    ensures { RefusesBy (with_script (parsed_of options.now)) result }
 {
     match first_beside(options, OptionName::Script, REPLACED_BY_SCRIPT.as_slice()) {
         Some(option) => Err(WordsFault::WithScript { option }),
@@ -51,7 +51,7 @@ pub(crate) fn check_script(options: &ArgMatches<'_>) -> Result<(), WordsFault>
 /// Checks that the two output files are two. The memory is for the name in the fault.
 #[tactic(auto, unfolding(crate::specs::Refusals::file_twice))]
 pub(crate) fn check_outputs(alloc: Global, options: &ArgMatches<'_>) -> Result<(), WordsFault>
-    ensures { RefusesOrRunsOut (file_twice (given_of options.now)) result }
+    ensures { RefusesOrRunsOut (file_twice (parsed_of options.now)) result }
 {
     match (
         value(options, OptionName::OutVtree),
@@ -67,7 +67,7 @@ pub(crate) fn check_outputs(alloc: Global, options: &ArgMatches<'_>) -> Result<(
 /// Checks that no file has an empty name.
 #[tactic(auto, unfolding(crate::specs::Refusals::empty_name))]
 pub(crate) fn check_names(options: &ArgMatches<'_>) -> Result<(), WordsFault>
-    ensures { RefusesBy (empty_name (given_of options.now)) result }
+    ensures { RefusesBy (empty_name (parsed_of options.now)) result }
 {
     match first_empty(options, FILES.as_slice()) {
         Some(option) => Err(WordsFault::EmptyName { option }),

@@ -9,7 +9,7 @@ use clap::error::ErrorKind;
 use clap::{Arg, ArgAction, ArgMatches, Command};
 use std::alloc::{AllocError, Global};
 
-/// What `clap` finds in the words. Want of memory, also while the command is built, is no `Usage`.
+/// What `clap` finds in the words. Running out of memory, also while the command is built, is no `Usage`.
 pub(crate) fn parse<'a, 'w>(
     alloc: Global,
     words: &'a [&'w str],

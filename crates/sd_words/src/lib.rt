@@ -6,10 +6,10 @@
 mod checks;
 mod command;
 mod faults;
-mod given;
 mod jobs;
 mod numbers;
 mod options;
+mod parsed_options;
 mod read;
 mod values;
 

@@ -3,7 +3,7 @@ ghost use Rattle.std.specs.Prelude.{◌≡◌};
 ghost use Rattle.std.specs.Char.{is_ascii_digit};
 ghost use Rattle.std.specs.List.{list_all};
 ghost use Rattle.sd_words.specs.Numbers.{count_and_seed, is_number, natural};
-ghost use Rattle.sd_words.specs.Numbers.{number_of, number_within};
+ghost use Rattle.sd_words.specs.Numbers.{number_of_text, number_within};
 
 use crate::options::OptionName;
 
@@ -11,7 +11,7 @@ const MOST_DIGITS: usize = 10;
 
 /// The number that an option has, where the text writes one in its range.
 pub(crate) fn number_of(option: OptionName, text: &str) -> Option<u32>
-    ensures { result ≡ number_of option text.now }
+    ensures { result ≡ number_of_text option text.now }
 {
     let (least, most) = option.range()?;
     number_within(text, least, most)

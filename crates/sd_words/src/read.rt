@@ -1,9 +1,9 @@
 //! The job that the words stand for.
 ghost use Rattle.std.specs.Prelude.{◌≡◌, IfOk, List, None, is_some, map, string_bytes, true};
 ghost use Rattle.std.specs.List.{list_any};
-ghost use Rattle.sd_words.specs.Command.{given_of};
-ghost use Rattle.sd_words.specs.Given.{has};
-ghost use Rattle.sd_words.specs.JobOf.{Answers, input_of, job_from, job_given, job_of, tree_of};
+ghost use Rattle.sd_words.specs.Command.{parsed_of};
+ghost use Rattle.sd_words.specs.ParsedOptions.{has_option};
+ghost use Rattle.sd_words.specs.JobOf.{Answers, input_of, job_from, job_of_parsed, job_of, tree_word_of};
 ghost use Rattle.sd_words.specs.Options.{inputs};
 ghost use Rattle.sd_words.specs.Ordinary.{Setting, Spells, setting_of};
 ghost use Rattle.sd_words.specs.Reading.{HasNumbers};
@@ -11,9 +11,9 @@ ghost use Rattle.sd_words.specs.Reading.{HasNumbers};
 use crate::checks::{check_inputs, check_names, check_outputs, check_script, check_vtrees};
 use crate::command::{hand, parse};
 use crate::faults::WordsFault;
-use crate::given::value;
 use crate::jobs::{InputWord, Job, TreeWord};
 use crate::options::{DEFAULT_LIMIT, DEFAULT_SLACK, OptionName};
+use crate::parsed_options::value;
 use crate::values::{Numbers, read_numbers, read_start};
 use clap::ArgMatches;
 use sd_base::Name;
@@ -39,7 +39,7 @@ pub fn read_words(alloc: Global, words: &[String]) -> Result<Job, WordsFault>
 
 // The job of the options that `clap` found, or the first refusal.
 fn read_options(alloc: Global, options: &ArgMatches<'_>) -> Result<Job, WordsFault>
-    ensures { Answers (job_from (given_of options.now)) result }
+    ensures { Answers (job_from (parsed_of options.now)) result }
 {
     check_inputs(options)?;
     check_vtrees(options)?;
@@ -52,19 +52,19 @@ fn read_options(alloc: Global, options: &ArgMatches<'_>) -> Result<Job, WordsFau
 }
 
 // The job of options that nothing refuses.
-#[tactic(auto, unfolding(crate::specs::JobOf::job_given))]
+#[tactic(auto, unfolding(crate::specs::JobOf::job_of_parsed))]
 fn job(
     alloc: Global,
     options: &ArgMatches<'_>,
     numbers: Numbers,
     start: TreeWord,
 ) -> Result<Job, AllocError>
-    requires input { list_any (has (given_of options.now)) inputs ≡ true }
+    requires input { list_any (has_option (parsed_of options.now)) inputs ≡ true }
     requires generated { is_some numbers.generated
-        ≡ has (given_of options.now) OptionName.Generate }
-    requires numbers { HasNumbers (given_of options.now) numbers }
-    requires start { start ≡ tree_of None (given_of options.now OptionName.Start) }
-    ensures { IfOk result (λ j. j ≡ job_given (given_of options.now)) }
+        ≡ has_option (parsed_of options.now) OptionName.Generate }
+    requires numbers { HasNumbers (parsed_of options.now) numbers }
+    requires start { start ≡ tree_word_of None (parsed_of options.now OptionName.Start) }
+    ensures { IfOk result (λ j. j ≡ job_of_parsed (parsed_of options.now)) }
 {
     Ok(Job {
         input: input_word(alloc, options, numbers.generated)?,
@@ -84,7 +84,7 @@ fn file(
     options: &ArgMatches<'_>,
     option: OptionName,
 ) -> Result<Option<Name>, AllocError>
-    ensures { IfOk result (λ name. name ≡ given_of options.now option) }
+    ensures { IfOk result (λ name. name ≡ parsed_of options.now option) }
 {
     match value(options, option) {
         Some(text) => Ok(Some(Name::copy_of(alloc, text)?)),
@@ -97,9 +97,10 @@ fn input_word(
     options: &ArgMatches<'_>,
     generated: Option<(u32, u32)>,
 ) -> Result<InputWord, AllocError>
-    requires input { list_any (has (given_of options.now)) inputs ≡ true }
-    requires generated { is_some generated ≡ has (given_of options.now) OptionName.Generate }
-    ensures { IfOk result (λ w. w ≡ input_of (given_of options.now) generated) }
+    requires input { list_any (has_option (parsed_of options.now)) inputs ≡ true }
+    requires generated { is_some generated
+        ≡ has_option (parsed_of options.now) OptionName.Generate }
+    ensures { IfOk result (λ w. w ≡ input_of (parsed_of options.now) generated) }
 {
     if let Some(text) = value(options, OptionName::Cnf) {
         return Ok(InputWord::Cnf(Name::copy_of(alloc, text)?));
@@ -119,9 +120,9 @@ fn tree_word(
     options: &ArgMatches<'_>,
     start: TreeWord,
 ) -> Result<TreeWord, AllocError>
-    requires { start ≡ tree_of None (given_of options.now OptionName.Start) }
-    ensures { let given = given_of options.now in
-        IfOk result (λ t. t ≡ tree_of (given OptionName.Vtree) (given OptionName.Start)) }
+    requires { start ≡ tree_word_of None (parsed_of options.now OptionName.Start) }
+    ensures { let parsed = parsed_of options.now in
+        IfOk result (λ t. t ≡ tree_word_of (parsed OptionName.Vtree) (parsed OptionName.Start)) }
 {
     match value(options, OptionName::Vtree) {
         Some(text) => Ok(TreeWord::File(Name::copy_of(alloc, text)?)),

@@ -1,17 +1,17 @@
 //! The values of the options that are more than names.
 ghost use Rattle.std.specs.Prelude.{◌≡◌, IfErr, IfOk, None, OnOk, false, true};
-ghost use Rattle.sd_words.specs.Command.{given_of};
-ghost use Rattle.sd_words.specs.Given.{fails, generated, number, start_of};
-ghost use Rattle.sd_words.specs.JobOf.{tree_of};
-ghost use Rattle.sd_words.specs.Numbers.{count_and_seed, number_of};
+ghost use Rattle.sd_words.specs.Command.{parsed_of};
+ghost use Rattle.sd_words.specs.ParsedOptions.{fails, generated, option_number, start_of};
+ghost use Rattle.sd_words.specs.JobOf.{tree_word_of};
+ghost use Rattle.sd_words.specs.Numbers.{count_and_seed, number_of_text};
 ghost use Rattle.sd_words.specs.Reading.{HasNumbers, RefusesBy};
 ghost use Rattle.sd_words.specs.Refusals.{number_range, start_unknown};
 
 use crate::faults::WordsFault;
-use crate::given::value;
 use crate::jobs::TreeWord;
 use crate::numbers::{count_and_seed, number_of};
 use crate::options::OptionName;
+use crate::parsed_options::value;
 use clap::ArgMatches;
 
 /// The numbers that the options have; `None` where an option is not there.
@@ -28,10 +28,10 @@ pub(crate) struct Numbers {
 /// The numbers that are there, each of which has to be in its range.
 #[tactic(auto, unfolding(crate::specs::Refusals::number_range))]
 pub(crate) fn read_numbers(options: &ArgMatches<'_>) -> Result<Numbers, WordsFault>
-    ensures range { RefusesBy (number_range (given_of options.now)) result }
+    ensures range { RefusesBy (number_range (parsed_of options.now)) result }
     ensures readable { OnOk result
-        (fails count_and_seed (given_of options.now OptionName.Generate) ≡ false) }
-    ensures numbers { IfOk result (HasNumbers (given_of options.now)) }
+        (fails count_and_seed (parsed_of options.now OptionName.Generate) ≡ false) }
+    ensures numbers { IfOk result (HasNumbers (parsed_of options.now)) }
 {
     Ok(Numbers {
         generated: generated(options)?,
@@ -45,8 +45,9 @@ pub(crate) fn read_numbers(options: &ArgMatches<'_>) -> Result<Numbers, WordsFau
 /// The shape that `--start` names, or the balanced one. Three words are known.
 #[tactic(auto, unfolding(crate::specs::Refusals::start_unknown))]
 pub(crate) fn read_start(options: &ArgMatches<'_>) -> Result<TreeWord, WordsFault>
-    ensures known { RefusesBy (start_unknown (given_of options.now)) result }
-    ensures start { IfOk result (λ t. t ≡ tree_of None (given_of options.now OptionName.Start)) }
+    ensures known { RefusesBy (start_unknown (parsed_of options.now)) result }
+    ensures start { IfOk result (λ t. t
+        ≡ tree_word_of None (parsed_of options.now OptionName.Start)) }
 {
     match value(options, OptionName::Start) {
         None => Ok(TreeWord::Balanced),
@@ -55,11 +56,11 @@ pub(crate) fn read_start(options: &ArgMatches<'_>) -> Result<TreeWord, WordsFaul
 }
 
 fn generated(options: &ArgMatches<'_>) -> Result<Option<(u32, u32)>, WordsFault>
-    ensures reads { let given = given_of options.now in
-        IfOk result (λ g. (fails count_and_seed (given OptionName.Generate) ≡ false)
-        × (g ≡ generated given)) }
+    ensures reads { let parsed = parsed_of options.now in
+        IfOk result (λ g. (fails count_and_seed (parsed OptionName.Generate) ≡ false)
+        × (g ≡ generated parsed)) }
     ensures bad { IfErr result (λ fault. (fault ≡ WordsFault.NumberRange OptionName.Generate)
-        × (fails count_and_seed (given_of options.now OptionName.Generate) ≡ true)) }
+        × (fails count_and_seed (parsed_of options.now OptionName.Generate) ≡ true)) }
 {
     match value(options, OptionName::Generate) {
         None => Ok(None),
@@ -73,11 +74,11 @@ fn generated(options: &ArgMatches<'_>) -> Result<Option<(u32, u32)>, WordsFault>
 }
 
 fn number(options: &ArgMatches<'_>, option: OptionName) -> Result<Option<u32>, WordsFault>
-    ensures reads { let given = given_of options.now in
-        IfOk result (λ n. (fails (number_of option) (given option) ≡ false)
-        × (n ≡ number given option)) }
+    ensures reads { let parsed = parsed_of options.now in
+        IfOk result (λ n. (fails (number_of_text option) (parsed option) ≡ false)
+        × (n ≡ option_number parsed option)) }
     ensures bad { IfErr result (λ fault. (fault ≡ WordsFault.NumberRange option)
-        × (fails (number_of option) (given_of options.now option) ≡ true)) }
+        × (fails (number_of_text option) (parsed_of options.now option) ≡ true)) }
 {
     match value(options, option) {
         None => Ok(None),

@@ -15,7 +15,7 @@ pub struct NamedBytes {
     pub bytes: Bytes,
 }
 
-// The place of the first file of this name.
+// The index of the first file of this name.
 fn find_file(files: &[NamedBytes], name: &str) -> Option<usize>
     ensures some { IfSome result (λ i. IsFirst files.now name.now i) }
     ensures within { IfSome result (λ i. i < length files.now) }

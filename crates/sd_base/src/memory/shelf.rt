@@ -4,8 +4,8 @@
 ghost use Rattle.std.specs.Prelude.{◌+◌, ◌<◌, ◌≤◌, ◌^◌, length};
 ghost use Rattle.sd_base.specs.Shelf.{AreNext};
 
+use super::fault_plan::{FaultPlan, count_fault};
 use super::named_bytes::{extend_file, find_bytes, make_empty};
-use super::plan::{Plan, count_fault};
 use crate::{Failed, Name, NamedBytes, PlannedFault, Shelf, ShelfCall};
 use std::alloc::Global;
 use std::mem;
@@ -25,7 +25,7 @@ pub struct MemoryShelf {
     files: Vec<NamedBytes>,
     // what one `append` takes at most
     piece: usize,
-    plan: Plan,
+    plan: FaultPlan,
     hand: InHand,
     // what was being read when a `finish` of it last failed
     unfinished: InHand,
@@ -41,7 +41,7 @@ impl MemoryShelf {
     ghost use Rattle.sd_base.specs.Memory.{files_of};
     ghost use Rattle.sd_base.specs.MemoryShown.{memory_files, memory_hand, memory_unfinished};
     ghost use Rattle.sd_base.specs.MemoryShown.{memory_piece, memory_plan, read_faults_of, write_faults_of};
-    ghost use Rattle.sd_base.specs.Plan.{IsNewPlan};
+    ghost use Rattle.sd_base.specs.FaultPlan.{IsNewPlan};
     ghost use Rattle.sd_base.specs.Shelf.{NoFile};
 
     /// A shelf of these files, with none in hand. One `append` takes at most `piece` bytes.
@@ -64,7 +64,7 @@ impl MemoryShelf {
             alloc,
             files,
             piece,
-            plan: Plan::new(planned),
+            plan: FaultPlan::new(planned),
             hand: InHand::Nothing,
             unfinished: InHand::Nothing,
             read_faults: 0,
@@ -102,12 +102,12 @@ impl Shelf for MemoryShelf {
     ghost use Rattle.std.specs.Prelude.{IfOk, OnOk, OnErr, IsErr};
     ghost use Rattle.sd_base.specs.Faults.{Rose, HasCause};
     ghost use Rattle.sd_base.specs.Files.{Lacks, told_with};
-    ghost use Rattle.sd_base.specs.Plan.{GoesByPlan};
+    ghost use Rattle.sd_base.specs.FaultPlan.{GoesByPlan};
     ghost use Rattle.sd_base.specs.Shelf.{NoFile, Reading, Writing, IsReading, IsWriting, TakesNext, appended};
     ghost use Rattle.sd_base.specs.MemoryShown.{memory_hand, memory_piece, memory_plan, told};
     ghost use Rattle.sd_base.specs.MemoryShown.{memory_unfinished};
     ghost use Rattle.sd_base.specs.MemoryShown.{read_faults_of, write_faults_of};
-    ghost use Rattle.sd_base.specs.declared.memory.plan.ShelfCall.TheVariants as calls;
+    ghost use Rattle.sd_base.specs.declared.memory.fault_plan.ShelfCall.TheVariants as calls;
     ghost use Rattle.sd_base.specs.Memory.{files_of, hand_of};
 
     ghost files = { λ shelf. Some (files_of shelf.files.items) };
@@ -128,11 +128,13 @@ impl Shelf for MemoryShelf {
         ensures lacks { Lacks (told self.old) name.now
             → IsErr result × (read_faults_of self.new ≡ read_faults_of self.old) }
         ensures cause { OnErr result (
-            Lacks (told self.old) name.now ⊎ Rose (read_faults_of self.old) (read_faults_of self.new)) }
+            Lacks (told self.old) name.now
+            ⊎ Rose (read_faults_of self.old) (read_faults_of self.new)) }
         ensures read_faults { read_faults_of self.old ≤ read_faults_of self.new }
         ensures write_faults { write_faults_of self.new ≡ write_faults_of self.old }
         ensures unfinished { memory_unfinished self.new ≡ memory_unfinished self.old }
-        ensures plan { GoesByPlan (memory_plan self.old) calls.StartRead (memory_plan self.new) result }
+        ensures plan { GoesByPlan (memory_plan self.old) calls.StartRead (memory_plan self.new)
+            result }
     {
         let planned = self.plan.fails(ShelfCall::StartRead);
         let Some(_) = find_bytes(&self.files, name) else {
@@ -153,7 +155,8 @@ impl Shelf for MemoryShelf {
         requires room { 0 < length into.old }
         ensures within { IfOk result (λ count. count ≤ length into.new) }
         ensures ok { IfOk result (λ count.
-            TakesNext (told self.old) (memory_hand self.old) count into.new (memory_hand self.new)) }
+            TakesNext (told self.old) (memory_hand self.old) count into.new
+            (memory_hand self.new)) }
         ensures err { OnErr result (memory_hand self.new ≡ NoFile) }
         ensures files { told self.new ≡ told self.old }
         ensures cause { HasCause (read_faults_of self.old) (read_faults_of self.new) result }
@@ -185,7 +188,8 @@ impl Shelf for MemoryShelf {
             (memory_hand self.new ≡ NoFile) × (told self.new ≡ told self.old)) }
         ensures read_faults { read_faults_of self.new ≡ read_faults_of self.old }
         ensures cause { HasCause (write_faults_of self.old) (write_faults_of self.new) result }
-        ensures plan { GoesByPlan (memory_plan self.old) calls.StartWrite (memory_plan self.new) result }
+        ensures plan { GoesByPlan (memory_plan self.old) calls.StartWrite (memory_plan self.new)
+            result }
     {
         if self.plan.fails(ShelfCall::StartWrite) {
             return Err(count_fault(&mut self.write_faults));
@@ -202,17 +206,20 @@ impl Shelf for MemoryShelf {
 
     fn append(&mut self, piece: &[u8]) -> Result<usize, Failed>
         requires in_hand { IsWriting (memory_hand self.old) }
-        requires some { 0 < length piece.now }
+        requires at_least_one { 0 < length piece.now }
         ensures within { IfOk result (λ count. (0 < count) × (count ≤ length piece.now)) }
         ensures ok { IfOk result (λ count.
             (memory_hand self.new ≡ memory_hand self.old)
-            × (told self.new ≡ appended (told self.old) (memory_hand self.old) (take count piece.now))) }
+            × (told self.new
+            ≡ appended (told self.old) (memory_hand self.old) (take count piece.now))) }
         ensures err { OnErr result (
             (memory_hand self.new ≡ NoFile) × (told self.new ≡ told self.old)) }
         ensures read_faults { read_faults_of self.new ≡ read_faults_of self.old }
         ensures cause { HasCause (write_faults_of self.old) (write_faults_of self.new) result }
-        ensures piece { IfOk result (λ count. count ≡ min (length piece.now) (memory_piece self.old)) }
-        ensures plan { GoesByPlan (memory_plan self.old) calls.Append (memory_plan self.new) result }
+        ensures piece { IfOk result (λ count. count
+            ≡ min (length piece.now) (memory_piece self.old)) }
+        ensures plan { GoesByPlan (memory_plan self.old) calls.Append (memory_plan self.new)
+            result }
     {
         if self.plan.fails(ShelfCall::Append) {
             self.hand = InHand::Nothing;
@@ -242,7 +249,8 @@ impl Shelf for MemoryShelf {
         ensures finished { OnOk result (memory_unfinished self.new ≡ memory_unfinished self.old) }
         ensures unfinished { IsReading (memory_hand self.old)
             → OnErr result (memory_unfinished self.new ≡ memory_hand self.old) }
-        ensures plan { GoesByPlan (memory_plan self.old) calls.Finish (memory_plan self.new) result }
+        ensures plan { GoesByPlan (memory_plan self.old) calls.Finish (memory_plan self.new)
+            result }
     {
         let held = mem::replace(&mut self.hand, InHand::Nothing);
         if !self.plan.fails(ShelfCall::Finish) {

@@ -1,7 +1,7 @@
 //! A sink in memory, for tests. It tells what was written.
 //! Where it finds no memory, it counts a fault.
 
-use super::plan::count_fault;
+use super::fault_plan::count_fault;
 use crate::{Failed, Sink};
 use std::alloc::Global;
 

@@ -1,6 +1,6 @@
 // The order of elements over the vtree (1 2).
 ghost use Rattle.std.specs.Prelude.{◌≡◌, IfOk};
-ghost use Rattle.sd_manager.specs.Shown.{IsKnown};
+ghost use Rattle.sd_manager.specs.Shown.{IsNodeOf};
 ghost use Rattle.sd_manager.specs.OverTwo.{IsOverTwo};
 
 use super::*;
@@ -20,7 +20,7 @@ fn over_two(alloc: Global) -> Result<(Manager, VNode), AllocError>
 // The node of `1 or 2`: where 1 is false it is 2, and where 1 is true it is true.
 fn one_or_two(m: &mut Manager, root: VNode) -> Result<NodeId, Fail>
     requires { IsOverTwo m.old root }
-    ensures { IfOk result (λ c. IsKnown m.new c) }
+    ensures { IfOk result (λ c. IsNodeOf m.new c) }
 {
     let (other, two) = (m.literal(-1), m.literal(2));
     let (one, yes) = (m.literal(1), m.constant(true));

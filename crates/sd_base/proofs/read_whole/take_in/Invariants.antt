@@ -2,7 +2,7 @@ use Rattle.std.proofs.Common.{◌≡◌, ◌≤◌, ◌-◌, length}
 use Rattle.sd_base.proofs.ReadLemmas.{ReadSoFar}
 use Rattle.sd_base.proofs.read_whole.take_in.Given as goal
 
--- a front of the file was read, and no more than one byte past the limit
+-- a prefix of the file was read, and no more than one byte past the limit
 abbrev pub invariant-reading : goal.invariant-reading
 invariant-reading g l = record {
   files : g.F.Shelf.files l.shelf ≡ g.F.Shelf.files l.fn.shelf;

@@ -2,7 +2,7 @@ use Rattle.std.proofs.Common.{◌≡◌, ◌≤◌, ℕ, List, ◌++◌, length}
 use Rattle.sd_base.specs.Sink.{told_then}
 use Rattle.sd_base.proofs.write_whole.write_all.Given as goal
 
--- a front of the bytes was written, and the rest is to come
+-- a prefix of the bytes was written, and the rest is to come
 abbrev pub invariant-loop-left : goal.invariant-loop-left
 invariant-loop-left g l =
     ((front : List ℕ) × (front ++ l.left ≡ l.bytes)

@@ -3,7 +3,7 @@ use Rattle.sd_base.specs.Files.{told_with}
 use Rattle.sd_base.specs.Shelf.{Writing}
 use Rattle.sd_base.proofs.write_whole.write_all_to.Given as goal
 
--- the file in hand holds a front of the bytes, and the rest is to come
+-- the file in hand holds a prefix of the bytes, and the rest is to come
 abbrev pub invariant-loop-rest : goal.invariant-loop-rest
 invariant-loop-rest g l =
     ((front : List ℕ) × (front ++ l.rest ≡ l.bytes)

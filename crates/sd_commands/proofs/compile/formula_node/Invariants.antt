@@ -9,8 +9,8 @@ use Rattle.sd_commands.proofs.compile.formula_node.Given as goal
 
 abbrev pub invariant-loop-index : goal.invariant-loop-index
 invariant-loop-index l = record {
-  shown : HasAnswer l.m (λ given. joined (outer l.fn.formula.kind)
-      (λ group. joined (inner l.fn.formula.kind) (literal_holds given) group)
+  shown : HasAnswer l.m (λ assignment. joined (outer l.fn.formula.kind)
+      (λ group. joined (inner l.fn.formula.kind) (literal_holds assignment) group)
       (take l.index l.fn.formula.groups)) l.node;
   kept : Extends l.fn.m l.m;
   serves : Serves l.c l.m;

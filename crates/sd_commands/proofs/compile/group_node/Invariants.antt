@@ -10,7 +10,7 @@ use Rattle.sd_commands.proofs.compile.group_node.Given as goal
 abbrev pub invariant-loop-index : goal.invariant-loop-index
 invariant-loop-index l = record {
   shown : HasAnswer l.m
-      (λ given. joined l.fn.operation (literal_holds given)
+      (λ assignment. joined l.fn.operation (literal_holds assignment)
       (drop (length l.fn.literals - l.index) l.fn.literals)) l.node;
   kept : Extends l.fn.m l.m;
   serves : Serves l.c l.m;

@@ -1,6 +1,6 @@
 use Rattle.std.proofs.Common.{◌+◌, drop, sym, ap, subst, ◌∙◌, arith}
 use Rattle.sd_model.specs.Tree.{leaves}
-use Rattle.sd_vtree.specs.Numbered.{forget}
+use Rattle.sd_vtree.specs.Numbered.{plain_tree}
 use Rattle.sd_commands.specs.Fits.{Fits, AllFit}
 use Rattle.sd_commands.specs.Standing.{names_of, start}
 use Rattle.sd_commands.proofs.Outcomes.{fit_at, names_after}
@@ -12,7 +12,7 @@ step-requires c =
     let next = fit_at 2 (names_of was.fit.0) c.args.commands.now c.loop-command.command-index c.command-item.result
     (omega arith) c.command-item.is was.fit.2 in
     record {
-      stands = (
+      represents = (
         was.fit.0,
         was.fit.1,
         subst (λ v. Fits v (names_of was.fit.0) c.command-item.result) (sym c.requires.two) next.0,
@@ -23,8 +23,8 @@ step-requires c =
 
 pub loop-command-init : goal.loop-command-init
 loop-command-init c = record {
-  fit = (start (forget c.in_ok-balanced.field-0) 0, c.in_ok-state.ensures.stands 0, c.requires.fit);
-  tree = ap (λ v. leaves (forget v)) c.in_ok-state.ensures.vtree ∙ ap leaves c.in_ok-balanced.ensures.tree;
+  fit = (start (plain_tree c.in_ok-balanced.field-0) 0, c.in_ok-state.ensures.represents 0, c.requires.fit);
+  tree = ap (λ v. leaves (plain_tree v)) c.in_ok-state.ensures.vtree ∙ ap leaves c.in_ok-balanced.ensures.tree;
   room = omega (arith, c.in_ok-state.ensures.roots);
 }
 
@@ -37,10 +37,10 @@ loop-command-preserved c =
     record {
       fit = (
         done.next,
-        done.stands,
+        done.represents,
         subst (λ names. AllFit 2 names (drop (c.loop-command.command-index + 1) c.args.commands.now))
             (sym (names_after _ was.fit.0 done.next c.command-item.result _ done.step)) next.1,
       );
-      tree = ap (λ v. leaves (forget v)) c.in-Ok.ensures.vtree ∙ was.tree;
+      tree = ap (λ v. leaves (plain_tree v)) c.in-Ok.ensures.vtree ∙ was.tree;
       room = let more = c.in-Ok.ensures.roots in let room = was.room in omega arith;
     }

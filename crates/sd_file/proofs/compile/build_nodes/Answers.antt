@@ -1,6 +1,6 @@
 use Rattle.std.proofs.Common.{◌+◌, ◌∙◌, length, ap}
 use Rattle.std.proofs.lemmas.List.{length_push}
-use Rattle.sd_apply.proofs.Listed.{extends-on}
+use Rattle.sd_apply.proofs.Listed.{extends_on}
 use Rattle.sd_file.proofs.Building.{built_more}
 use Rattle.sd_file.proofs.compile.build_nodes.Goals as goal
 
@@ -12,7 +12,7 @@ loop-index-preserved c = record {
       c.in_ok-node.ensures.ok c.in_ok-push.ensures.items;
   all = ap length c.in_ok-push.ensures.items ∙ length_push c.loop-index.built.items c.in_ok-node.node
       ∙ ap (λ n. n + 1) c.loop-index.invariant.all;
-  kept = extends-on _ _ _ c.loop-index.invariant.kept c.in_ok-node.ensures.kept;
+  kept = extends_on _ _ _ c.loop-index.invariant.kept c.in_ok-node.ensures.kept;
   serves = c.in_ok-node.ensures.serves;
   table = c.in_ok-node.ensures.table;
 }

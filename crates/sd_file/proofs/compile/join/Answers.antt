@@ -1,4 +1,4 @@
-use Rattle.sd_apply.proofs.Listed.{extends-on, answer-on}
+use Rattle.sd_apply.proofs.Listed.{extends_on, answer_on}
 use Rattle.sd_file.proofs.Building.{known, built_at, pair_answer, pair_more}
 use Rattle.sd_file.proofs.compile.join.Goals as goal
 
@@ -18,7 +18,7 @@ and-requires-clause-second c =
 -- the disjunction so far stays
 pub or-requires-clause-first : goal.or-requires-clause-first
 or-requires-clause-first c =
-    known _ _ _ (answer-on _ _ c.in_ok-product.ensures.kept _ _ c.loop-element.invariant.shown)
+    known _ _ _ (answer_on _ _ c.in_ok-product.ensures.kept _ _ c.loop-element.invariant.shown)
 
 -- a conjunction has an answer
 pub or-requires-clause-second : goal.or-requires-clause-second
@@ -45,7 +45,7 @@ loop-element-preserved c =
       shown = pair_more c.args.file.now _ _ _ c.args.index c.loop-element.element c.pair-prime.result _ _ _
           c.pair-prime.ensures.value c.in_ok-product.ensures.kept c.loop-element.invariant.shown product
           c.in_ok-node.ensures.ok;
-      kept = extends-on _ _ _ (extends-on _ _ _ c.loop-element.invariant.kept c.in_ok-product.ensures.kept)
+      kept = extends_on _ _ _ (extends_on _ _ _ c.loop-element.invariant.kept c.in_ok-product.ensures.kept)
           c.in_ok-node.ensures.kept;
       serves = c.in_ok-node.ensures.serves;
       table = c.in_ok-node.ensures.table;

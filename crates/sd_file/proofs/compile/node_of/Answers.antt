@@ -19,7 +19,7 @@ returns-in-Literal-clause-ok c =
     c.requires.file c.requires.index (sym c.in-Literal.is ∙ c.node.ensures.value) (
       shown.0,
       shown.1,
-      λ given. shown.2 given ∙ ap (literal_holds given) (to_z-of_z w32 c.in-Literal.literal range),
+      λ assignment. shown.2 assignment ∙ ap (literal_holds assignment) (to_z-of_z w32 c.in-Literal.literal range),
     )
 
 pub returns-in-Decomposition-clause-ok : goal.returns-in-Decomposition-clause-ok

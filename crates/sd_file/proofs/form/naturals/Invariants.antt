@@ -11,5 +11,5 @@ invariant-loop-word l = record {
   ends : (goal.iterator-loop-word).is_finite l.word-iterator;
   same : option_map (λ ns. l.numbers.items ++ ns) (all_values natural_value (words_left l.word-iterator))
       ≡ all_values natural_value (words_left l.fn.words);
-  few : length l.numbers.items + length (words_left l.word-iterator) ≤ length (words_left l.fn.words);
+  within_limit : length l.numbers.items + length (words_left l.word-iterator) ≤ length (words_left l.fn.words);
 }

@@ -64,10 +64,10 @@ collect-returns-in_ok-collect_below-in-Decomposition-clause-collected t c =
     c.in_ok-collect_below-in-Decomposition.ensures.collected c.in_ok-collect_below-in-Decomposition.ensures.stand
     c.add.ensures.found c.add.ensures.more)
 
-pub collect-returns-in_ok-collect_below-in-Decomposition-clause-still :
-    goal.collect-returns-in_ok-collect_below-in-Decomposition-clause-still
-collect-returns-in_ok-collect_below-in-Decomposition-clause-still t c =
-    on_ok c.add.result (λ k b s. k.still b (c.in_ok-collect_below-in-Decomposition.ensures.still b s))
+pub collect-returns-in_ok-collect_below-in-Decomposition-clause-keeps_all :
+    goal.collect-returns-in_ok-collect_below-in-Decomposition-clause-keeps_all
+collect-returns-in_ok-collect_below-in-Decomposition-clause-keeps_all t c =
+    on_ok c.add.result (λ k b s. k.keeps_all b (c.in_ok-collect_below-in-Decomposition.ensures.keeps_all b s))
     (added_collected c.add.result c.args.m.now c.collect_below.new.o c.collect_below.new.found c.add.new.self
     c.position.result c.node-in-Decomposition-2.inside.0 c.args.node c.node-in-Decomposition-2.view_is
     (at_place c.args.m.now c.requires.table.numbered c.args.node c.in-Decomposition.place c.in-Decomposition.count
@@ -121,5 +121,5 @@ collect_below-loop-index-preserved t c =
     collected_more c.args.m.now c.args.o.now c.loop-index.o c.collect.new.o c.collect-in-loop-index.new.o
     c.args.found.now c.loop-index.found c.collect.new.found c.collect-in-loop-index.new.found c.args.node
     c.loop-index.index c.element-prime.result c.loop-index.invariant c.element-prime.ensures.pair
-    c.in_ok-collect.ensures.still c.in_ok-collect.ensures.stands c.in_ok-collect-2.ensures.collected
-    c.in_ok-collect-2.ensures.still c.in_ok-collect-2.ensures.stands
+    c.in_ok-collect.ensures.keeps_all c.in_ok-collect.ensures.stands c.in_ok-collect-2.ensures.collected
+    c.in_ok-collect-2.ensures.keeps_all c.in_ok-collect-2.ensures.stands

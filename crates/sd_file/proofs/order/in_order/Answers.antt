@@ -1,8 +1,8 @@
 use Rattle.std.proofs.Common.{◌≡◌, sym, ◌∙◌, ap, subst, arith}
 use Rattle.sd_model.specs.Tree.{leaves}
-use Rattle.sd_vtree.specs.Numbered.{forget, number_of}
-use Rattle.sd_laws.proofs.Depths.{depth-canonical}
-use Rattle.sd_file.specs.Ranks.{IsBelow}
+use Rattle.sd_vtree.specs.Numbered.{plain_tree, number_of}
+use Rattle.sd_laws.proofs.Depths.{depth_canonical}
+use Rattle.sd_file.specs.Ranks.{IsCanonicalForSubtree}
 use Rattle.sd_file.proofs.Collected.{nothing_collected}
 use Rattle.sd_file.proofs.Collecting.{all_left, in_order_below}
 use Rattle.sd_file.proofs.RankedBelow.{root_below, ranked_or}
@@ -20,9 +20,9 @@ collect-requires-clause-known c = (
   c.requires.1,
   omega (
     arith,
-    depth-canonical c.requires.1.canonical,
+    depth_canonical c.requires.1.canonical,
     c.variables-levels.ensures.count,
-    ap (λ t. leaves (forget t)) c.vtree.ensures.vtree,
+    ap (λ t. leaves (plain_tree t)) c.vtree.ensures.vtree,
   ),
 )
 
@@ -36,8 +36,10 @@ returns c = λ d shows.
     let w = c.in_ok-rank_below.ensures in
     let root : c.root.result ≡ number_of c.args.m.now.vtree =
     c.root.ensures.root ∙ ap number_of c.vtree-2.ensures.vtree in
-    let below : IsBelow c.args.m.now.vtree c.root.result d =
-    subst (λ u. IsBelow c.args.m.now.vtree u d) (sym root) (root_below c.args.m.now.vtree d shows.canonical) in
+    let below : IsCanonicalForSubtree c.args.m.now.vtree c.root.result d =
+    subst (λ u. IsCanonicalForSubtree c.args.m.now.vtree u d) (sym root)
+    (root_below c.args.m.now.vtree d shows.canonical) in
     in_order_below c.args.m.now table c.rank_below.new.o w.left.ranks d c.args.node
     (ranked_or c.rank_below.new.o c.rank_below.new.groups c.args.node
-    (w.still c.args.node c.in_ok-collect.ensures.stands) (λ l. w.none c.args.node d l shows.shows below)) shows.shows
+    (w.keeps_all c.args.node c.in_ok-collect.ensures.stands) (λ l. w.none c.args.node d l shows.shows below))
+    shows.shows

@@ -2,7 +2,7 @@ use Rattle.std.proofs.Common.{sym, subst}
 use Rattle.std.specs.List.{AllByRecursion}
 use Rattle.std.specs.Option.{IsSome}
 use Rattle.sd_file.specs.Ordered.{rank_of}
-use Rattle.sd_file.specs.Ranks.{IsGiving, Entry}
+use Rattle.sd_file.specs.Ranks.{IsGiving, RankedNode}
 use Rattle.sd_file.proofs.Grouping.{on_ok, giving_start, ranks_codes}
 use Rattle.sd_file.proofs.order.rank_group.Goals as goal
 
@@ -25,5 +25,5 @@ returns-clause-given c =
     (λ h.
     ranks_codes c.give_all.new.self c.args.group.now c.in_ok-entries.entries.items c.sort_entries.new.entries.items
     c.in_ok-entries.ensures.codes c.sort_entries.ensures.permutation
-    (subst (AllByRecursion (λ (e : Entry). IsSome (rank_of c.give_all.new.self e.2))) c.deref.ensures.value h))
+    (subst (AllByRecursion (λ (e : RankedNode). IsSome (rank_of c.give_all.new.self e.2))) c.deref.ensures.value h))
     c.give_all.ensures.given

@@ -2,7 +2,7 @@ use Rattle.std.proofs.Common.{◌≡◌, Some, sym, ◌∙◌, subst}
 use Rattle.std.specs.Option.{IsSome}
 use Rattle.sd_manager.specs.Views.{pairs_at}
 use Rattle.sd_manager.proofs.Reading.{among_at}
-use Rattle.sd_laws.proofs.Lists.{all-at}
+use Rattle.sd_laws.proofs.Lists.{all_at}
 use Rattle.sd_file.proofs.Grouping.{ranked_more}
 use Rattle.sd_file.specs.Ordered.{rank_of}
 use Rattle.sd_file.specs.Ranks.{HasRanks}
@@ -11,14 +11,14 @@ use Rattle.sd_file.proofs.order.ranked_elements.Goals as goal
 pub unwrap-prime_rank-requires : goal.unwrap-prime_rank-requires
 unwrap-prime_rank-requires c =
     let pairs = pairs_at c.args.m.now c.args.node in
-    let both = all-at (HasRanks c.args.o.now) pairs c.element-prime.result c.requires.ready
+    let both = all_at (HasRanks c.args.o.now) pairs c.element-prime.result c.requires.ready
     (among_at pairs c.loop-index.index c.element-prime.result c.element-prime.ensures.pair) in
     subst IsSome (sym c.rank.ensures) both.0
 
 pub unwrap-sub_rank-requires : goal.unwrap-sub_rank-requires
 unwrap-sub_rank-requires c =
     let pairs = pairs_at c.args.m.now c.args.node in
-    let both = all-at (HasRanks c.args.o.now) pairs c.element-prime.result c.requires.ready
+    let both = all_at (HasRanks c.args.o.now) pairs c.element-prime.result c.requires.ready
     (among_at pairs c.loop-index.index c.element-prime.result c.element-prime.ensures.pair) in
     subst IsSome (sym c.rank-in-loop-index.ensures) both.1
 

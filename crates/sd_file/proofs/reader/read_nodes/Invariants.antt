@@ -13,5 +13,5 @@ invariant-loop-line l = record {
   read : IsRead l.nodes;
   same : each_after (entry_of l.variables) (nodes_view l.nodes) (content_left l.line-iterator)
       ≡ each_after (entry_of l.variables) [] (content_left l.fn.lines);
-  few : length l.nodes.known.kept.items + word_count (content_left l.line-iterator) ≤ 67108864;
+  within_limit : length l.nodes.id_table.entries.items + word_count (content_left l.line-iterator) ≤ 67108864;
 }

@@ -6,10 +6,10 @@ use Rattle.sd_file.proofs.FewWords.{few_words}
 use Rattle.sd_file.proofs.reader.read_text.Goals as goal
 
 -- there are no more words than bytes
-pub read_nodes-requires-clause-few : goal.read_nodes-requires-clause-few
-read_nodes-requires-clause-few c =
+pub read_nodes-requires-clause-within_limit : goal.read_nodes-requires-clause-within_limit
+read_nodes-requires-clause-within_limit c =
     let lines = sym c.new-lines.ensures ∙ c.in-Some.ensures.steps in
-    omega (arith, few_words c.args.bytes.now _ _ lines, c.requires.short)
+    omega (arith, few_words c.args.bytes.now _ _ lines, c.requires.fits)
 
 -- an accepted text fits, and its ids are distinct
 pub finish-requires-clause-fit : goal.finish-requires-clause-fit

@@ -9,14 +9,14 @@ use Rattle.sd_model.specs.Diagram.{Decomposition}
 use Rattle.sd_model.specs.Size.{walk, walk_elements}
 use Rattle.sd_model.specs.Listing.{add}
 use Rattle.sd_vtree.specs.Numbered.{numbers}
-use Rattle.sd_laws.proofs.Codes.{one-diagram}
+use Rattle.sd_laws.proofs.Codes.{one_diagram}
 use Rattle.sd_manager.specs.declared.view.View.TheVariants.{Literal as LiteralView}
 use Rattle.sd_manager.specs.Shown.{Shows}
 use Rattle.sd_manager.specs.Views.{IsViewOf}
 use Rattle.sd_manager.proofs.Reading.{shown_has_node}
 use Rattle.sd_file.specs.Numbers.{mark_at}
 use Rattle.sd_file.specs.Ordered.{list_of}
-use Rattle.sd_file.specs.Lines.{IsWritten}
+use Rattle.sd_file.specs.Lines.{HasNodeLines}
 use Rattle.sd_file.proofs.Added.{walk_done, is_new, constant_written, literal_written, inner_can_give}
 use Rattle.sd_file.proofs.Added.{decomposition_written}
 use Rattle.sd_file.proofs.Complete.{children_added}
@@ -31,14 +31,14 @@ add_elements-add_node-requires t c =
     let k = both_at c.args.m.now (list_of c.args.ordered.now) c.args.levels c.args.elements.now
     c.loop-element.element-index c.element-item.result c.requires.known c.loop-element-test.true
     c.element-item.is in
-    (omega (arith, c.decreases), (c.requires.table, (k.0, c.loop-element.invariant.some)))
+    (omega (arith, c.decreases), (c.requires.table, (k.0, c.loop-element.invariant.listed)))
 
 pub add_elements-add_node-requires-in-loop-element : goal.add_elements-add_node-requires-in-loop-element
 add_elements-add_node-requires-in-loop-element t c =
     let k = both_at c.args.m.now (list_of c.args.ordered.now) c.args.levels c.args.elements.now
     c.loop-element.element-index c.element-item.result c.requires.known c.loop-element-test.true
     c.element-item.is in
-    let s = c.loop-element.invariant.some in (
+    let s = c.loop-element.invariant.listed in (
       omega (arith, c.decreases),
       (
         c.requires.table,
@@ -134,7 +134,7 @@ pub add_node-returns-in-Constant : goal.add_node-returns-in-Constant
 add_node-returns-in-Constant t c = λ d ds shown w.
     let is = c.in-Constant.ensures.shown d shown in
     on_ok_weaker c.add_constant.result
-    (λ line. subst (λ x. IsWritten c.args.m.now c.add_constant.new.self (add ds (walk x))) (sym is)
+    (λ line. subst (λ x. HasNodeLines c.args.m.now c.add_constant.new.self (add ds (walk x))) (sym is)
     (constant_written c.args.m.now c.requires.table c.args.listing.now c.add_constant.new.self c.args.node
     c.in-Constant.value ds (subst (Shows c.args.m.now c.args.node) is shown) w
     (subst (λ x. ltb 0 (mark_at c.args.listing.now.numbers x) ≡ false) c.node.view_is
@@ -148,7 +148,7 @@ add_node-returns-in-Literal t c = λ d ds shown w.
     (subst (λ l. IsViewOf c.args.m.now (LiteralView l) d) (sym (to_z-of_z w32 c.in-Literal.literal range))
     (c.in-Literal.ensures.shown d shown)) in
     on_ok_weaker c.add_literal.result
-    (λ line. subst (λ x. IsWritten c.args.m.now c.add_literal.new.self (add ds (walk x))) is
+    (λ line. subst (λ x. HasNodeLines c.args.m.now c.add_literal.new.self (add ds (walk x))) is
     (literal_written c.args.m.now c.requires.table c.args.listing.now c.add_literal.new.self c.args.node
     c.leaf_of.result.position c.leaf_of.result.variable c.leaf_of.result.positive ds
     (subst (Shows c.args.m.now c.args.node) (sym is) shown) w
@@ -164,14 +164,14 @@ add_node-returns-in_ok-add_elements-in-Decomposition t c = λ d ds shown w.
     (c.in-Decomposition.ensures.shown c.requires.known.0 c.requires.known.1.shows) in
     let pairs = inside_shown c.args.m.now (list_of c.args.ordered.now) c.args.levels c.args.node
     c.in-Decomposition.place c.requires.known.0 c.elements-elements.result.now i c.elements-elements.ensures in
-    let same = one-diagram c.args.m.now.vtree (get c.args.m.now.linked) c.requires.table.numbered d c.args.node
+    let same = one_diagram c.args.m.now.vtree (get c.args.m.now.linked) c.requires.table.numbered d c.args.node
     (Decomposition i.position i.elements) shown i.shown.shows in
     let place = same_position c.args.m.now.vtree c.requires.table.numbered c.in-Decomposition.place c.position.result
     i.position
     (subst (λ z. slice_get (numbers z) c.position.result ≡ Some c.in-Decomposition.place) c.vtree.ensures.vtree
     c.position.ensures.position) i.at in
     on_ok_weaker c.add_decomposition.result
-    (λ line. subst (λ x. IsWritten c.args.m.now c.add_decomposition.new.self (add ds (walk x))) (sym same)
+    (λ line. subst (λ x. HasNodeLines c.args.m.now c.add_decomposition.new.self (add ds (walk x))) (sym same)
     (decomposition_written c.args.m.now c.requires.table c.add_elements.new.listing c.add_decomposition.new.self
     c.args.node c.position.result i.position i.elements c.elements-elements.result.now ds i.shown.shows
     (c.in_ok-add_elements-in-Decomposition.ensures i.elements ds pairs w)

@@ -1,7 +1,7 @@
 use Rattle.std.proofs.Common.{ap, arith, ◌∙◌, []}
 use Rattle.sd_model.specs.Tree.{leaves}
-use Rattle.sd_vtree.specs.Numbered.{forget}
-use Rattle.sd_laws.proofs.Depths.{depth-canonical}
+use Rattle.sd_vtree.specs.Numbered.{plain_tree}
+use Rattle.sd_laws.proofs.Depths.{depth_canonical}
 use Rattle.sd_file.proofs.Added.{whole_text, held_shown, none_written}
 use Rattle.sd_file.proofs.FewNodes.{written_reads_back}
 use Rattle.sd_file.proofs.writer.write_sdd.Goals as goal
@@ -16,9 +16,9 @@ add_node-requires-clause-known c =
       shown,
       omega (
         arith,
-        depth-canonical shown.canonical,
+        depth_canonical shown.canonical,
         c.variables.ensures.count,
-        ap (λ t. leaves (forget t)) c.vtree.ensures.vtree,
+        ap (λ t. leaves (plain_tree t)) c.vtree.ensures.vtree,
       ),
       c.in_ok-ordered.ensures d shown,
     )

@@ -11,5 +11,5 @@ invariant-loop-line l = record {
   ends : (goal.iterator-loop-line).is_finite l.line-iterator;
   same : put_words l.variables (body_view l.body) (body_of (content_left l.line-iterator))
       ≡ put_words l.variables no_parts (body_of (content_left l.fn.lines));
-  few : length l.body.literals.items + length (body_of (content_left l.line-iterator)) ≤ 67108864;
+  within_limit : length l.body.literals.items + length (body_of (content_left l.line-iterator)) ≤ 67108864;
 }

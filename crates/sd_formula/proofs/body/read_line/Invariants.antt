@@ -12,6 +12,6 @@ invariant-loop-word l =
       ends : (goal.iterator-loop-word).is_finite l.word-iterator;
       same : put_words l.variables (body_view l.body) left
           ≡ put_words l.variables (body_view l.initial.body) (words_at (line_view l.line));
-      few : length l.body.literals.items + length left
+      within_limit : length l.body.literals.items + length left
           ≤ length l.initial.body.literals.items + length (words_at (line_view l.line));
     }

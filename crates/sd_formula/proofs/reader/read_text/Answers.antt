@@ -32,7 +32,7 @@ finish-requires-clause-literals c =
     (record { closed = tt; open_part = tt }) c.in_ok-body.ensures
 
 -- there are no more words than bytes
-pub read_body-requires-clause-few : goal.read_body-requires-clause-few
-read_body-requires-clause-few c =
+pub read_body-requires-clause-within_limit : goal.read_body-requires-clause-within_limit
+read_body-requires-clause-within_limit c =
     let lines = sym c.new-lines.ensures ∙ c.in-Some.ensures.steps in
     omega (arith, few_words c.args.bytes.now _ _ lines, c.requires)

@@ -2,7 +2,7 @@ use Rattle.std.proofs.Common.{ℕ, sym, ap, subst, ◌∙◌, refl, arith}
 use Rattle.std.specs.Option.{IsSome}
 use Rattle.std.specs.Ordering.{nat_cmp}
 use Rattle.std.specs.FinMap.{get, len, len-empty}
-use Rattle.sd_runs.proofs.Maps.{get-insert_same}
+use Rattle.sd_runs.proofs.Maps.{get_insert_same}
 use Rattle.sd_manager.proofs.tests.a_held_node.Goals as goal
 
 pub hold-requires-clause-room : goal.hold-requires-clause-room
@@ -13,4 +13,4 @@ pub release-requires-clause-root : goal.release-requires-clause-root
 release-requires-clause-root g c =
     subst IsSome
     (sym (ap (λ t. get t.roots c.in_ok-held.held) (c.idle.ensures.same ∙ c.in_ok-held.ensures.ok)
-    ∙ get-insert_same c.one_or_two.new.m.roots c.in_ok-held.held c.in_ok-clause.clause)) refl
+    ∙ get_insert_same c.one_or_two.new.m.roots c.in_ok-held.held c.in_ok-clause.clause)) refl

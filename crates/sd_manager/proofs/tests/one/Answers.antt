@@ -12,9 +12,9 @@ make-requires-clause-partition c =
 
 pub returns-clause-known : goal.returns-clause-known
 returns-clause-known c =
-    let split = literal_asked c.args.m.now c.args.root c.literal-other.result c.constant-no.result
+    let partition = literal_asked c.args.m.now c.args.root c.literal-other.result c.constant-no.result
     c.literal-one.result c.constant-yes.result c.requires c.literal-other.ensures.code c.constant-no.ensures.code
     c.literal-one.ensures.code c.constant-yes.ensures.code in
     let pairs : List (ℕ × ℕ) =
     (c.literal-other.result, c.constant-no.result) ∷ (c.literal-one.result, c.constant-yes.result) ∷ [] in
-    made_known c.args.m.now c.make.new.self c.args.root pairs split.0 split.1 c.make.result c.make.ensures.ok
+    made_known c.args.m.now c.make.new.self c.args.root pairs partition.0 partition.1 c.make.result c.make.ensures.ok

@@ -6,11 +6,12 @@ use Rattle.sd_model.proofs.nodes.add_node.Goals as goal
 pub returns-in_ok-push : goal.returns-in_ok-push
 returns-in_ok-push c =
     node_added c.args.nodes.now.items c.push.new.self.items c.args.d c.in_ok-push.ensures.items
-    (sym (rw c.deref.ensures.value at c.place.ensures) ∙ c.if-place-len.true ∙ c.len.ensures ∙ c.args.nodes.now.ok.0)
+    (sym (rw c.deref.ensures.value at c.find_index.ensures) ∙ c.if-find_index-len.true ∙ c.len.ensures
+    ∙ c.args.nodes.now.ok.0)
 
 -- it is another one: the diagram was there
-pub returns-else-place-len : goal.returns-else-place-len
-returns-else-place-len c =
+pub returns-else-find_index-len : goal.returns-else-find_index-len
+returns-else-find_index-len c =
     node_there c.args.nodes.now.items c.args.d
-    (λ e. c.if-place-len.false
-    ((rw c.deref.ensures.value at c.place.ensures) ∙ e ∙ sym c.args.nodes.now.ok.0 ∙ sym c.len.ensures))
+    (λ e. c.if-find_index-len.false
+    ((rw c.deref.ensures.value at c.find_index.ensures) ∙ e ∙ sym c.args.nodes.now.ok.0 ∙ sym c.len.ensures))

@@ -1,5 +1,5 @@
 use Rattle.std.proofs.Common.{◌≡◌}
-use Rattle.sd_base.specs.Lines.{numbered_from}
+use Rattle.sd_base.specs.Lines.{numbered_lines_from}
 use Rattle.sd_base.specs.Views.{lines_left}
 use Rattle.sd_base.specs.Words.{lines_of}
 use Rattle.sd_script.specs.Scripts.{after_lines, empty}
@@ -12,6 +12,6 @@ invariant-loop-line l = record {
   can_go : (goal.iterator-loop-line).can_next l.line-iterator;
   ends : (goal.iterator-loop-line).is_finite l.line-iterator;
   same : after_lines l.variables (script_view l.reader) (lines_left l.line-iterator)
-      ≡ after_lines l.variables empty (numbered_from 1 (lines_of l.bytes));
+      ≡ after_lines l.variables empty (numbered_lines_from 1 (lines_of l.bytes));
   room : HasRoomFor (lines_left l.line-iterator) (script_view l.reader);
 }

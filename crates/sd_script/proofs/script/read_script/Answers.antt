@@ -22,6 +22,6 @@ returns-clause-script c =
     })) (sym c.in_ok-names.ensures) read)
 
 -- and it has a line of the text for each command
-pub returns-clause-few : goal.returns-clause-few
-returns-clause-few c =
+pub returns-clause-within_limit : goal.returns-clause-within_limit
+returns-clause-within_limit c =
     few_commands c.args.variables c.args.bytes.now (script_view c.in_ok-reader.reader) c.in_ok-reader.ensures

@@ -1,16 +1,16 @@
 use Rattle.std.proofs.Common.{◌∙◌, sym, ap, subst, arith}
 use Rattle.std.proofs.lemmas.Result.{on_ok_weaker}
 use Rattle.sd_laws.specs.Depth.{depth}
-use Rattle.sd_manager.specs.Shown.{IsShown}
+use Rattle.sd_manager.specs.Shown.{ShowsCanonical}
 use Rattle.sd_manager.proofs.Reading.{shown_has_node}
 use Rattle.sd_manager.proofs.Evaluating.{children, count_is}
-use Rattle.sd_size.proofs.Listing.{adds-known, constant-added, literal-added, decomposition-added}
-use Rattle.sd_size.proofs.Listing.{listed-more, all-listed}
+use Rattle.sd_size.proofs.Listing.{adds_known, constant_added, literal_added, decomposition_added}
+use Rattle.sd_size.proofs.Listing.{listed_more, all_listed}
 use Rattle.sd_size.proofs.size.+listing.Goals as goal
 
 pub list_below-returns-then-contains : goal.list_below-returns-then-contains
 list_below-returns-then-contains t c = λ d h.
-    adds-known c.args.m.now c.requires.table c.args.node c.args.nodes.now
+    adds_known c.args.m.now c.requires.table c.args.node c.args.nodes.now
     (sym c.contains.ensures ∙ c.if-contains.true) d h
 
 pub list_below-view-requires : goal.list_below-view-requires
@@ -20,14 +20,14 @@ list_below-view-requires t c =
 pub list_below-returns-in-Constant : goal.list_below-returns-in-Constant
 list_below-returns-in-Constant t c =
     on_ok_weaker c.push.result
-    (λ pushed d h. constant-added c.args.m.now c.requires.table c.args.node c.args.nodes.now c.push.new.self
+    (λ pushed d h. constant_added c.args.m.now c.requires.table c.args.node c.args.nodes.now c.push.new.self
     (sym c.contains.ensures ∙ c.if-contains.false) c.in-Constant.field-0 d h (c.in-Constant.ensures.shown d h.shows)
     pushed) c.push.ensures
 
 pub list_below-returns-in-Literal : goal.list_below-returns-in-Literal
 list_below-returns-in-Literal t c =
     on_ok_weaker c.push-in-Literal.result
-    (λ pushed d h. literal-added c.args.m.now c.requires.table c.args.node c.args.nodes.now
+    (λ pushed d h. literal_added c.args.m.now c.requires.table c.args.node c.args.nodes.now
     c.push-in-Literal.new.self (sym c.contains.ensures ∙ c.if-contains.false) c.in-Literal.field-0 d h
     (c.in-Literal.ensures.shown d h.shows) pushed) c.push-in-Literal.ensures
 
@@ -35,7 +35,7 @@ pub list_below-returns-in_ok-list_children-in-Decomposition :
     goal.list_below-returns-in_ok-list_children-in-Decomposition
 list_below-returns-in_ok-list_children-in-Decomposition t c =
     on_ok_weaker c.push-in-Decomposition.result
-    (λ pushed d h. decomposition-added c.args.m.now c.requires.table c.args.node c.args.nodes.now
+    (λ pushed d h. decomposition_added c.args.m.now c.requires.table c.args.node c.args.nodes.now
     c.list_children.new.nodes c.push-in-Decomposition.new.self (sym c.contains.ensures ∙ c.if-contains.false)
     c.in-Decomposition.place c.in-Decomposition.count d h (c.in-Decomposition.ensures.shown d h.shows)
     c.in_ok-list_children-in-Decomposition.ensures pushed) c.push-in-Decomposition.ensures
@@ -43,7 +43,7 @@ list_below-returns-in_ok-list_children-in-Decomposition t c =
 pub list_below-list_children-requires : goal.list_below-list_children-requires
 list_below-list_children-requires t c =
     let w = c.in-Decomposition.ensures.shown c.requires.known.0 c.requires.known.1.shows in
-    let is = subst (IsShown c.args.m.now c.args.node) w.2 c.requires.known.1 in (
+    let is = subst (ShowsCanonical c.args.m.now c.args.node) w.2 c.requires.known.1 in (
       omega (arith, c.decreases),
       (
         c.requires.table,
@@ -78,12 +78,12 @@ list_children-loop-index-preserved t c =
     let w = c.requires.known in
     let k = children c.args.m.now c.args.node w.0 c.loop-index.index w.1 c.element-prime.result w.2
     c.element-prime.ensures.pair in
-    listed-more c.args.m.now c.requires.table c.args.node w.0 c.loop-index.index w.1 c.element-prime.result
+    listed_more c.args.m.now c.requires.table c.args.node w.0 c.loop-index.index w.1 c.element-prime.result
     c.args.nodes.now c.loop-index.nodes c.list_below.new.nodes c.list_below-in-loop-index.new.nodes
     c.loop-index.invariant c.element-prime.ensures.pair k
     (c.in_ok-list_below.ensures k.prime k.prime_is) (c.in_ok-list_below-2.ensures k.sub k.sub_is)
 
 pub list_children-returns : goal.list_children-returns
 list_children-returns t c = λ p es h.
-    all-listed c.args.m.now c.args.node c.loop-index.index c.args.nodes.now c.loop-index.nodes c.loop-index.invariant
+    all_listed c.args.m.now c.args.node c.loop-index.index c.args.nodes.now c.loop-index.nodes c.loop-index.invariant
     (omega (arith, c.requires.count)) p es h

@@ -1,8 +1,8 @@
 use Rattle.std.proofs.Common.{subst, sym}
 use Rattle.std.specs.List.{AllByRecursion, AllZip}
-use Rattle.sd_manager.specs.Shown.{IsShown, IsKnown}
+use Rattle.sd_manager.specs.Shown.{ShowsCanonical, IsNodeOf}
 use Rattle.sd_manager.proofs.Same.{held_code}
-use Rattle.sd_size.proofs.Totals.{all-known, size-below}
+use Rattle.sd_size.proofs.Totals.{all_known, size_below}
 use Rattle.sd_size.proofs.size.size_of_root.Goals as goal
 
 pub total-requires-clause-known : goal.total-requires-clause-known
@@ -10,15 +10,15 @@ total-requires-clause-known c =
     let is = held_code c.args.m.now c.args.root.now c.node_of.result c.requires.held.0 c.node_of.ensures.held
     c.requires.held.1 in
     let below = c.in_ok-nodes.ensures.below c.requires.held.0 is in
-    subst (AllByRecursion (IsKnown c.args.m.now)) (sym c.deref.ensures.value)
-    (all-known c.args.m.now c.in_ok-nodes.nodes.items below.diagrams below.shown)
+    subst (AllByRecursion (IsNodeOf c.args.m.now)) (sym c.deref.ensures.value)
+    (all_known c.args.m.now c.in_ok-nodes.nodes.items below.diagrams below.shown)
 
 pub returns : goal.returns
 returns c = record {
   size = λ d h.
       let is = held_code c.args.m.now c.args.root.now c.node_of.result d c.node_of.ensures.held h in
       let below = c.in_ok-nodes.ensures.below d is in
-      size-below c.args.m.now c.in_ok-nodes.nodes.items d c.total.result below
+      size_below c.args.m.now c.in_ok-nodes.nodes.items d c.total.result below
       (c.total.ensures below.diagrams
-      (subst (λ l. AllZip (IsShown c.args.m.now) l below.diagrams) (sym c.deref.ensures.value) below.shown));
+      (subst (λ l. AllZip (ShowsCanonical c.args.m.now) l below.diagrams) (sym c.deref.ensures.value) below.shown));
 }

@@ -1,7 +1,7 @@
 use Rattle.std.proofs.Common.{ℕ, ap, arith}
 use Rattle.std.specs.Ordering.{nat_cmp}
 use Rattle.std.specs.FinMap.{len, len-empty}
-use Rattle.sd_size.proofs.Tried.{held-diagram}
+use Rattle.sd_size.proofs.Tried.{held_diagram}
 use Rattle.sd_size.proofs.tests.two_terms_have_size_eight.Goals as goal
 
 pub hold-requires-clause-room : goal.hold-requires-clause-room
@@ -15,6 +15,6 @@ hold-requires-clause-room g c =
 
 pub size_of_root-requires : goal.size_of_root-requires
 size_of_root-requires g c = record {
-  held = held-diagram c.two_terms.new.m c.hold.new.self c.in_ok-root.root c.in_ok-node.node c.in_ok-root.ensures.ok
+  held = held_diagram c.two_terms.new.m c.hold.new.self c.in_ok-root.root c.in_ok-node.node c.in_ok-root.ensures.ok
       c.in_ok-node.ensures.known;
 }

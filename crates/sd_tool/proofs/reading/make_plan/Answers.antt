@@ -7,5 +7,5 @@ returns-in-Ok-clause-leads c = λ told before now.
 
 pub returns-in-Ok-clause-ready : goal.returns-in-Ok-clause-ready
 returns-in-Ok-clause-ready c =
-    ready_made c.args.formula c.args.vtree c.in-Ok.state c.args.commands.items c.in-Ok.ensures.stands
-    c.in-Ok.ensures.vtree c.in-Ok.ensures.roots c.requires.variables c.requires.fit c.requires.few
+    ready_made c.args.formula c.args.vtree c.in-Ok.state c.args.commands.items c.in-Ok.ensures.represents
+    c.in-Ok.ensures.vtree c.in-Ok.ensures.roots c.requires.variables c.requires.fit c.requires.within_limit

@@ -1,5 +1,5 @@
 use Rattle.std.proofs.Common.{map, string_bytes, refl, arith}
-use Rattle.sd_tool.specs.Given.{plan_of}
+use Rattle.sd_tool.specs.PlanViews.{plan_of}
 use Rattle.sd_tool.specs.Readings.{Begins, reading_of, with_input_word, input_file}
 use Rattle.sd_tool.proofs.ReadingLemmas.{leads_on}
 use Rattle.sd_tool.proofs.reading.prepare.Goals as goal

@@ -1,4 +1,4 @@
-use Rattle.sd_tool.specs.Given.{plan_of}
+use Rattle.sd_tool.specs.PlanViews.{plan_of}
 use Rattle.sd_tool.specs.Readings.{Begins, with_input_word, with_tree_word, input_file}
 use Rattle.sd_tool.proofs.ReadingLemmas.{leads_on}
 use Rattle.sd_tool.proofs.reading.prepare_job.Goals as goal

@@ -1,7 +1,7 @@
 use Rattle.std.proofs.Common.{ℕ, [], subst}
-use Rattle.sd_vtree.specs.Numbered.{forget}
+use Rattle.sd_vtree.specs.Numbered.{plain_tree}
 use Rattle.sd_commands.specs.Fits.{AllFit}
-use Rattle.sd_tool.specs.Given.{plan_of}
+use Rattle.sd_tool.specs.PlanViews.{plan_of}
 use Rattle.sd_tool.specs.Readings.{Begins, ReadsTo, with_commands, plan_for, with_tree}
 use Rattle.sd_tool.specs.Stops.{StopsReading}
 use Rattle.sd_tool.proofs.ReadingLemmas.{leads_on}
@@ -15,7 +15,7 @@ pub returns-in-Ok-clause-leads : goal.returns-in-Ok-clause-leads
 returns-in-Ok-clause-leads g c =
     let told = g.F.Shelf.files c.args.shelf.now in
     let job = c.args.job.now in
-    let tree = forget c.args.vtree in
+    let tree = plain_tree c.args.vtree in
     let last = g.F.Shelf.read_faults c.read_commands.new.shelf in
     leads_on told (g.F.Shelf.files c.read_commands.new.shelf) (with_tree job c.args.formula tree)
     (Begins (plan_for job c.args.formula tree c.in-Ok.commands.items)) (λ plan. Begins (plan_of plan))
@@ -31,7 +31,7 @@ pub returns-in-Err-clause-leads : goal.returns-in-Err-clause-leads
 returns-in-Err-clause-leads g c =
     let told = g.F.Shelf.files c.args.shelf.now in
     let job = c.args.job.now in
-    let tree = forget c.args.vtree in
+    let tree = plain_tree c.args.vtree in
     subst (λ (v : ℕ). StopsReading c.in-Err.stop told (with_commands job v
     (λ cs. Begins (plan_for job c.args.formula tree cs)) job.script) (g.F.Shelf.read_faults c.args.shelf.now)
     (g.F.Shelf.read_faults c.read_commands.new.shelf)) c.variables.ensures.value

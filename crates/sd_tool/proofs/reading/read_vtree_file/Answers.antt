@@ -1,5 +1,5 @@
 use Rattle.std.proofs.Common.{ℕ, refl, subst}
-use Rattle.sd_vtree.specs.Numbered.{forget}
+use Rattle.sd_vtree.specs.Numbered.{plain_tree}
 use Rattle.sd_vfile.specs.Reads.{vtree_file}
 use Rattle.sd_tool.specs.Readings.{Reads, ReadsTo, with_vtree_text, with_vtree_reading}
 use Rattle.sd_tool.specs.declared.refusal.Refusal.TheVariants.{BadVtree, TooLong}
@@ -12,7 +12,7 @@ returns-in-Ok-Some-clause-leads g c = λ job formula same.
     let file = c.args.file.now in
     let next = with_vtree_text job formula file in
     let bytes = c.as_slice.result.now in
-    text_leads told (Reads file next) (with_vtree_reading job formula file) forget (BadVtree file)
+    text_leads told (Reads file next) (with_vtree_reading job formula file) plain_tree (BadVtree file)
     (vtree_file c.args.variables bytes) c.vtree_in.result (g.F.Shelf.read_faults c.args.shelf.now)
     (g.F.Shelf.read_faults c.read_text.new.shelf) (λ fault. refl)
     (subst (λ (v : ℕ). ReadsTo told (Reads file next) (with_vtree_reading job formula file (vtree_file v bytes))) same

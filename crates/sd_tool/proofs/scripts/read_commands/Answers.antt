@@ -1,5 +1,5 @@
 use Rattle.std.proofs.Common.{Ok, Err, sym, ap, ◌∙◌}
-use Rattle.sd_tool.specs.Readings.{with_commands, with_script}
+use Rattle.sd_tool.specs.Readings.{with_commands, script_reading}
 use Rattle.sd_tool.proofs.ReadingLemmas.{reads_same, leads_on, script_leads}
 use Rattle.sd_tool.proofs.scripts.read_commands.Goals as goal
 
@@ -15,7 +15,7 @@ returns-in-Ok-read_script_file-clause-leads g c = λ begin.
     let v = c.args.variables in
     let script = c.in-Ok-read_script_file.script in
     leads_on told (g.F.Shelf.files c.read_script_file.new.shelf) (with_commands job v begin job.script)
-    (with_script v begin script) (λ commands. begin commands.items) c.script_commands.result
+    (script_reading v begin script) (λ commands. begin commands.items) c.script_commands.result
     (g.F.Shelf.read_faults c.args.shelf.now) (g.F.Shelf.read_faults c.read_script_file.new.shelf)
     (g.F.Shelf.read_faults c.script_commands.new.shelf) c.in-Ok-read_script_file.ensures.files
     c.in-Ok-read_script_file.ensures.read_faults

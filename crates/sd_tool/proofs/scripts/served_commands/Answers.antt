@@ -1,7 +1,7 @@
 use Rattle.std.proofs.Common.{◌+◌, List, [], drop, Ok, Err, refl, sym, subst, ◌∙◌, arith}
 use Rattle.sd_script.specs.declared.command.Command.{Command as Line}
-use Rattle.sd_commands.specs.declared.command.Command.{Command}
-use Rattle.sd_tool.specs.Actions.{Becomes}
+use Rattle.sd_commands.specs.declared.command.RunCommand.{RunCommand}
+use Rattle.sd_tool.specs.Actions.{AreCommandsOf}
 use Rattle.sd_tool.specs.Readings.{ReadsTo, with_lines}
 use Rattle.sd_tool.proofs.ReadingLemmas.{reads_here}
 use Rattle.sd_tool.proofs.ScriptLemmas.{IsNext, next_allowed, becomes_first, becomes_next, line_leads}
@@ -19,9 +19,10 @@ loop-line-init g c =
       read_faults = omega arith;
       write_faults = refl;
       same = c.commands-line-items.ensures;
-      becomes = subst (λ (done : List Command). Becomes v script.commands 0 done) (sym c.new-commands.ensures.items)
+      commands_of = subst (λ (done : List RunCommand). AreCommandsOf v script.commands 0 done)
+          (sym c.new-commands.ensures.items)
           (becomes_first v script.commands);
-      leads = λ begin. subst (λ (done : List Command). ReadsTo told (with_lines v script begin [] script.commands)
+      leads = λ begin. subst (λ (done : List RunCommand). ReadsTo told (with_lines v script begin [] script.commands)
           (with_lines v script begin done script.commands)) (sym c.new-commands.ensures.items)
           (reads_here told (with_lines v script begin [] script.commands));
     }
@@ -69,10 +70,11 @@ loop-line-preserved g c =
       read_faults = omega (arith, was.read_faults, c.in-Ok.ensures.read_faults);
       write_faults = c.in-Ok.ensures.write_faults ∙ was.write_faults;
       same = was.same;
-      becomes = subst (λ (cs : List Command). Becomes v script.commands (index + 1) cs) (sym c.in-Ok-put.ensures)
+      commands_of = subst (λ (cs : List RunCommand). AreCommandsOf v script.commands (index + 1) cs)
+          (sym c.in-Ok-put.ensures)
           (becomes_next v script index done line c.in-Ok.command c.requires.script next c.in-Ok.ensures.same
-          was.becomes);
-      leads = λ begin. subst (λ (cs : List Command). ReadsTo told (with_lines v script begin [] script.commands)
+          was.commands_of);
+      leads = λ begin. subst (λ (cs : List RunCommand). ReadsTo told (with_lines v script begin [] script.commands)
           (with_lines v script begin cs (drop (index + 1) script.commands))) (sym c.in-Ok-put.ensures)
           (line_leads told (g.F.Shelf.files c.loop-line.shelf) v script index line done begin (Ok c.in-Ok.command)
           (g.F.Shelf.read_faults c.args.shelf.now) (g.F.Shelf.read_faults c.loop-line.shelf)

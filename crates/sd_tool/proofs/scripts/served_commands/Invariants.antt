@@ -1,7 +1,7 @@
 use Rattle.std.proofs.Common.{◌≡◌, ◌≤◌, List, [], drop}
 use Rattle.sd_base.specs.Shelf.{NoFile}
-use Rattle.sd_commands.specs.declared.command.Command.{Command}
-use Rattle.sd_tool.specs.Actions.{Becomes}
+use Rattle.sd_commands.specs.declared.command.RunCommand.{RunCommand}
+use Rattle.sd_tool.specs.Actions.{AreCommandsOf}
 use Rattle.sd_tool.specs.Readings.{Reading, ReadsTo, with_lines}
 use Rattle.sd_tool.proofs.scripts.served_commands.Given as goal
 
@@ -13,8 +13,8 @@ invariant-loop-line g l = record {
   read_faults : g.F.Shelf.read_faults l.fn.shelf ≤ g.F.Shelf.read_faults l.shelf;
   write_faults : g.F.Shelf.write_faults l.shelf ≡ g.F.Shelf.write_faults l.fn.shelf;
   same : l.line-items ≡ l.fn.script.commands;
-  becomes : Becomes l.fn.variables l.fn.script.commands l.line-index l.commands.items;
-  leads : (begin : List Command → Reading) → ReadsTo (g.F.Shelf.files l.fn.shelf)
+  commands_of : AreCommandsOf l.fn.variables l.fn.script.commands l.line-index l.commands.items;
+  leads : (begin : List RunCommand → Reading) → ReadsTo (g.F.Shelf.files l.fn.shelf)
       (with_lines l.fn.variables l.fn.script begin [] l.fn.script.commands)
       (with_lines l.fn.variables l.fn.script begin l.commands.items (drop l.line-index l.fn.script.commands));
 }

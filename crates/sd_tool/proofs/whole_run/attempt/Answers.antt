@@ -1,6 +1,6 @@
 use Rattle.std.proofs.Common.{map, string_bytes, ap, arith}
 use Rattle.sd_tool.specs.Devices.{faults, NotFewer}
-use Rattle.sd_tool.specs.Given.{plan_of}
+use Rattle.sd_tool.specs.PlanViews.{plan_of}
 use Rattle.sd_tool.proofs.EndLemmas.{reading_stops, commands_go}
 use Rattle.sd_tool.proofs.whole_run.attempt.Goals as goal
 

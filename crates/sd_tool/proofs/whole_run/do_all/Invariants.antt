@@ -2,7 +2,7 @@ use Rattle.std.proofs.Common.{◌≡◌, ℕ, ◌≤◌}
 use Rattle.sd_base.specs.Shelf.{NoFile}
 use Rattle.sd_commands.specs.Standing.{root_count}
 use Rattle.sd_tool.specs.Devices.{contents, faults, NotFewer}
-use Rattle.sd_tool.specs.Given.{plan_with}
+use Rattle.sd_tool.specs.PlanViews.{plan_with}
 use Rattle.sd_tool.proofs.StepLemmas.{SoFar}
 use Rattle.sd_tool.proofs.whole_run.do_all.Given as goal
 

@@ -26,7 +26,7 @@ returns-clause-linked c =
       state = r.state;
     } in
     let fits : c.bucket_at-head.result + 1 < length c.args.heads.now =
-    omega (arith, c.bucket_at-head.ensures.inside, c.requires.some) in
+    omega (arith, c.bucket_at-head.ensures.inside, c.requires.at_least_one) in
     subst (λ n. IsLinkedBelow c.args.runs.now (n - 1) (c.args.number + 1) (set c.args.records.now c.args.number t)
     (set c.args.heads.now (c.bucket_at-head.result + 1) c.args.number))
     (sym (length-set c.args.heads.now (c.bucket_at-head.result + 1) c.args.number))
@@ -41,7 +41,7 @@ returns-clause-linked c =
       arith,
       e,
       c.requires.inside,
-      c.requires.stored.few,
+      c.requires.stored.within_limit,
       c.requires.stored.well.bounded,
       c.requires.stored.bound_fits,
     ))

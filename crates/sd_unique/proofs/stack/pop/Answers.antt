@@ -10,15 +10,15 @@ abbrev blank : Links
 blank = record { before = 0; after = 0; waiting = 0; is_waiting = false }
 
 pub slice_copy_out-link : goal.slice_copy_out-link
-slice_copy_out-link c = top_inside c.args.links.now c.args.top c.requires.some c.requires.stacked
+slice_copy_out-link c = top_inside c.args.links.now c.args.top c.requires.at_least_one c.requires.stacked
 
 pub bounds-links-top : goal.bounds-links-top
-bounds-links-top c = top_inside c.args.links.now c.args.top c.requires.some c.requires.stacked
+bounds-links-top c = top_inside c.args.links.now c.args.top c.requires.at_least_one c.requires.stacked
 
 pub returns-clause-stacked : goal.returns-clause-stacked
 returns-clause-stacked c =
-    let inside = top_inside c.args.links.now c.args.top c.requires.some c.requires.stacked in
-    popped_stacked c.args.links.now c.args.top c.requires.some c.requires.stacked
+    let inside = top_inside c.args.links.now c.args.top c.requires.at_least_one c.requires.stacked in
+    popped_stacked c.args.links.now c.args.top c.requires.at_least_one c.requires.stacked
     (get_or c.args.links.now c.args.top blank) _ (slice_get_at c.args.links.now c.args.top blank inside) refl _ refl
     (sym (link_read (λ (l : Links). l.waiting) c.args.links.now c.args.top blank inside))
 
@@ -26,18 +26,18 @@ pub returns-clause-lists : goal.returns-clause-lists
 returns-clause-lists c =
     lists_kept c.args.links.now c.args.top (get_or c.args.links.now c.args.top blank) _
     (slice_get_at c.args.links.now c.args.top blank
-    (top_inside c.args.links.now c.args.top c.requires.some c.requires.stacked)) refl refl
+    (top_inside c.args.links.now c.args.top c.requires.at_least_one c.requires.stacked)) refl refl
 
 pub returns-clause-off : goal.returns-clause-off
 returns-clause-off c = λ n.
-    popped_off c.args.links.now c.args.top c.requires.some c.requires.stacked
+    popped_off c.args.links.now c.args.top c.requires.at_least_one c.requires.stacked
     (get_or c.args.links.now c.args.top blank) _
     (slice_get_at c.args.links.now c.args.top blank
-    (top_inside c.args.links.now c.args.top c.requires.some c.requires.stacked)) refl n
+    (top_inside c.args.links.now c.args.top c.requires.at_least_one c.requires.stacked)) refl n
 
 pub returns-clause-fewer : goal.returns-clause-fewer
 returns-clause-fewer c =
-    popped_fewer c.args.links.now c.args.top c.requires.some c.requires.stacked
+    popped_fewer c.args.links.now c.args.top c.requires.at_least_one c.requires.stacked
     (get_or c.args.links.now c.args.top blank) _
     (slice_get_at c.args.links.now c.args.top blank
-    (top_inside c.args.links.now c.args.top c.requires.some c.requires.stacked)) refl
+    (top_inside c.args.links.now c.args.top c.requires.at_least_one c.requires.stacked)) refl

@@ -53,8 +53,8 @@ put_first-requires-clause-inside c =
       detached_inside c.args.runs.now c.args.records.now c.args.number c.requires.detached,
     )
 
-pub put_first-requires-clause-some : goal.put_first-requires-clause-some
-put_first-requires-clause-some c =
+pub put_first-requires-clause-at_least_one : goal.put_first-requires-clause-at_least_one
+put_first-requires-clause-at_least_one c =
     is_record c.args.number c.requires.kept.1.stored
     (detached_inside c.args.runs.now c.args.records.now c.args.number c.requires.detached)
 
@@ -85,7 +85,7 @@ returns-clause-kept c = λ top k.
     let inside : c.bucket_at-head.result + 1 < length c.args.heads.now = omega (
       arith,
       c.bucket_at-head.ensures.inside,
-      c.requires.kept.1.some,
+      c.requires.kept.1.at_least_one,
     ) in
     attached_kept c.args.runs.now c.args.records.now c.args.number (get_or c.args.records.now c.args.number blank) _
     read.0 refl refl refl refl refl read.1 refl c.args.links.now c.put_first.new.links c.args.heads.now

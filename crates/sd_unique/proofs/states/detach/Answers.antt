@@ -66,8 +66,8 @@ put_first-requires-clause-inside c =
       linked_inside c.args.runs.now c.args.records.now c.args.number c.requires.linked,
     )
 
-pub put_first-requires-clause-some : goal.put_first-requires-clause-some
-put_first-requires-clause-some c =
+pub put_first-requires-clause-at_least_one : goal.put_first-requires-clause-at_least_one
+put_first-requires-clause-at_least_one c =
     is_record c.args.number c.requires.kept.1.stored
     (linked_inside c.args.runs.now c.args.records.now c.args.number c.requires.linked)
 

@@ -54,9 +54,9 @@ returns-clause-kept c = λ top k.
     (detached_node (get_or c.args.records.now c.args.number blank).state read.1)) in
     released_kept c.args.runs.now c.args.records.now c.args.number
     (get_or c.args.records.now c.args.number blank) _ read.0 read.1 refl c.give.new.self k.stored
-    c.give.ensures.arena c.give.ensures.given had.0 had.1 had.2 c.args.links.now c.take_out.new.links
+    c.give.ensures.arena c.give.ensures.given_back had.0 had.1 had.2 c.args.links.now c.take_out.new.links
     c.args.heads.now c.args.places.now c.take_out.new.places top
-    (get_or_any c.args.heads.now 0 0 no_record (omega (arith, k.some))) c.take_out.auto.places
+    (get_or_any c.args.heads.now 0 0 no_record (omega (arith, k.at_least_one))) c.take_out.auto.places
     c.take_out.ensures.stack
     (c.take_out.ensures.listed (list_under c.args.records.now)
     (detached_list c.args.runs.now c.args.records.now c.args.number (get_or c.args.records.now c.args.number blank)
@@ -74,4 +74,4 @@ returns-clause-nodes c = λ k e.
     (detached_node (get_or c.args.records.now c.args.number blank).state read.1)) in
     nodes_released c.args.runs.now c.args.records.now c.args.number
     (get_or c.args.records.now c.args.number blank) _ read.0 read.1 refl c.give.new.self c.requires.kept.1.stored
-    c.give.ensures.arena c.give.ensures.given had.0 had.1 had.2 k e
+    c.give.ensures.arena c.give.ensures.given_back had.0 had.1 had.2 k e

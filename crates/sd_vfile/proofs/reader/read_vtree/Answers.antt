@@ -9,10 +9,10 @@ pub of_tree-requires-clause-vtree : goal.of_tree-requires-clause-vtree
 of_tree-requires-clause-vtree c =
     (accepted c.args.variables c.args.bytes.now (tree_of c.in_ok-tree.tree) c.in_ok-tree.ensures).vtree
 
-pub of_tree-requires-clause-few : goal.of_tree-requires-clause-few
-of_tree-requires-clause-few c =
+pub of_tree-requires-clause-within_limit : goal.of_tree-requires-clause-within_limit
+of_tree-requires-clause-within_limit c =
     let over = accepted c.args.variables c.args.bytes.now (tree_of c.in_ok-tree.tree) c.in_ok-tree.ensures in
-    omega (arith, over.count, c.requires.few)
+    omega (arith, over.count, c.requires.within_limit)
 
 -- over the variables asked for
 pub returns-clause-leaves : goal.returns-clause-leaves

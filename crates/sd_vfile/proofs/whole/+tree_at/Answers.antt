@@ -2,51 +2,53 @@ use Rattle.std.proofs.Common.{◌≡◌, ◌==◌, take, refl, sym, ◌∙◌, e
 use Rattle.std.proofs.lemmas.Result.{IfOk-weaker}
 use Rattle.sd_model.specs.Seen.{tree_of}
 use Rattle.sd_model.specs.Tree.{Node}
-use Rattle.sd_vfile.specs.Steps.{entries_of, tree_in, tree_with}
-use Rattle.sd_vfile.proofs.Known.{or_true}
+use Rattle.sd_vfile.specs.Steps.{entries_of, entry_tree, tree_with}
+use Rattle.sd_vfile.proofs.Forests.{or_true}
 use Rattle.sd_vfile.proofs.Places.{line_known, line_tree, child_tree}
 use Rattle.sd_vfile.proofs.whole.+tree_at.Goals as goal
 
 -- the variable is at most 1,024
 pub overflow_cast-result : goal.overflow_cast-result
 overflow_cast-result t c =
-    let known = line_known 1024 c.args.forms.now c.args.place _ _ c.requires.within c.in-LeafLine.is c.requires.known in
-    let small = known.variable c.in-LeafLine.variable (eq-eqb c.in-LeafLine.variable c.in-LeafLine.variable refl) in
+    let well_formed = line_known 1024 c.args.forms.now c.args.index _ _ c.requires.within c.in-LeafLine.is
+    c.requires.well_formed in
+    let small = well_formed.variable c.in-LeafLine.variable
+    (eq-eqb c.in-LeafLine.variable c.in-LeafLine.variable refl) in
     omega (arith, small)
 
 -- the children stand on earlier lines
-pub place_of-requires : goal.place_of-requires
-place_of-requires t c =
-    let known = line_known 1024 c.args.forms.now c.args.place _ _ c.requires.within c.in-InnerLine.is
-    c.requires.known in
-    known.children c.in-InnerLine.left (rw (eq-eqb c.in-InnerLine.left c.in-InnerLine.left refl) refl)
+pub index_of-requires : goal.index_of-requires
+index_of-requires t c =
+    let well_formed = line_known 1024 c.args.forms.now c.args.index _ _ c.requires.within c.in-InnerLine.is
+    c.requires.well_formed in
+    well_formed.children c.in-InnerLine.left (rw (eq-eqb c.in-InnerLine.left c.in-InnerLine.left refl) refl)
 
-pub place_of-requires-in-InnerLine : goal.place_of-requires-in-InnerLine
-place_of-requires-in-InnerLine t c =
-    let known = line_known 1024 c.args.forms.now c.args.place _ _ c.requires.within c.in-InnerLine.is
-    c.requires.known in
-    known.children c.in-InnerLine.right
+pub index_of-requires-in-InnerLine : goal.index_of-requires-in-InnerLine
+index_of-requires-in-InnerLine t c =
+    let well_formed = line_known 1024 c.args.forms.now c.args.index _ _ c.requires.within c.in-InnerLine.is
+    c.requires.well_formed in
+    well_formed.children c.in-InnerLine.right
     (rw (eq-eqb c.in-InnerLine.right c.in-InnerLine.right refl) (or_true (c.in-InnerLine.left == c.in-InnerLine.right)))
 
 pub returns-in-LeafLine : goal.returns-in-LeafLine
-returns-in-LeafLine t c = sym (line_tree c.args.forms.now c.args.place _ _ c.requires.within c.in-LeafLine.is)
+returns-in-LeafLine t c = sym (line_tree c.args.forms.now c.args.index _ _ c.requires.within c.in-LeafLine.is)
 
 -- the trees of the children make the tree
 pub returns-in_ok-right-in-InnerLine : goal.returns-in_ok-right-in-InnerLine
 returns-in_ok-right-in-InnerLine t c =
     let forms = c.args.forms.now in
-    let place = c.args.place in
-    let earlier = entries_of (take place forms) in
+    let index = c.args.index in
+    let earlier = entries_of (take index forms) in
     let left : tree_of c.in_ok-left-in-InnerLine.left ≡ tree_with c.in-InnerLine.left earlier =
-    child_tree forms place c.place_of.result c.in-InnerLine.left _ c.requires.within c.place_of.ensures.within
-    c.in_ok-left-in-InnerLine.ensures c.place_of.ensures.tree in
+    child_tree forms index c.index_of.result c.in-InnerLine.left _ c.requires.within c.index_of.ensures.within
+    c.in_ok-left-in-InnerLine.ensures c.index_of.ensures.tree in
     let right : tree_of c.in_ok-right-in-InnerLine.right ≡ tree_with c.in-InnerLine.right earlier =
-    child_tree forms place c.place_of-in-InnerLine.result c.in-InnerLine.right _ c.requires.within
-    c.place_of-in-InnerLine.ensures.within c.in_ok-right-in-InnerLine.ensures c.place_of-in-InnerLine.ensures.tree in
-    let whole : tree_in (entries_of forms) place
+    child_tree forms index c.index_of-in-InnerLine.result c.in-InnerLine.right _ c.requires.within
+    c.index_of-in-InnerLine.ensures.within c.in_ok-right-in-InnerLine.ensures c.index_of-in-InnerLine.ensures.tree in
+    let whole : entry_tree (entries_of forms) index
     ≡ Node (tree_with c.in-InnerLine.left earlier) (tree_with c.in-InnerLine.right earlier) =
-    line_tree forms place _ _ c.requires.within c.in-InnerLine.is in
+    line_tree forms index _ _ c.requires.within c.in-InnerLine.is in
     IfOk-weaker c.node_over.result
     (λ t'. tree_of t' ≡ Node (tree_of c.in_ok-left-in-InnerLine.left) (tree_of c.in_ok-right-in-InnerLine.right))
-    (λ t'. tree_of t' ≡ tree_in (entries_of forms) place) (λ t' e. e ∙ rw (left, right) (sym whole))
+    (λ t'. tree_of t' ≡ entry_tree (entries_of forms) index) (λ t' e. e ∙ rw (left, right) (sym whole))
     c.node_over.ensures

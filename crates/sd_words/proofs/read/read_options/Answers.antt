@@ -1,11 +1,11 @@
 -- Each exit is the first refusal of the table, since the checks before it found none.
 use Rattle.std.proofs.Common.{◌∙◌, is_some, Ok, ap, inl, inr, refl, sym}
-use Rattle.sd_words.specs.Command.{given_of}
+use Rattle.sd_words.specs.Command.{parsed_of}
 use Rattle.sd_words.specs.JobOf.{job_from}
 use Rattle.sd_words.specs.Numbers.{count_and_seed}
 use Rattle.sd_words.specs.declared.options.OptionName.TheVariants as option
 use Rattle.sd_words.specs.declared.jobs.Job.{Job}
-use Rattle.sd_words.proofs.JobLemmas.{first_two, ran_out, refused, some-reads, some_input}
+use Rattle.sd_words.proofs.JobLemmas.{first_two, ran_out, refused, some_reads, some_input}
 use Rattle.sd_words.proofs.read.read_options.Goals as goal
 
 pub returns-in_err-check_inputs : goal.returns-in_err-check_inputs
@@ -81,12 +81,12 @@ returns-in_err-check_names c =
     ) refl)
 
 pub job-requires-clause-input : goal.job-requires-clause-input
-job-requires-clause-input c = some_input (given_of c.args.options.now) c.in_ok-check_inputs.ensures
+job-requires-clause-input c = some_input (parsed_of c.args.options.now) c.in_ok-check_inputs.ensures
 
 pub job-requires-clause-generated : goal.job-requires-clause-generated
 job-requires-clause-generated c =
     ap is_some c.in_ok-numbers.ensures.numbers.generated
-    ∙ some-reads count_and_seed (given_of c.args.options.now option.Generate) c.in_ok-numbers.ensures.readable
+    ∙ some_reads count_and_seed (parsed_of c.args.options.now option.Generate) c.in_ok-numbers.ensures.readable
 
 -- no check found a fault, so the answer is the job
 pub returns : goal.returns

@@ -1,4 +1,4 @@
--- Want of memory, a refusal of `clap`, or the answer of the checks; each is also one at ordinary words.
+-- Out of memory, a refusal of `clap`, or the answer of the checks; each is also one at ordinary words.
 use Rattle.std.proofs.Common.{◌≡◌, ◌∙◌, ap, inl, inr, map, string_bytes, sym, Err}
 use Rattle.std.specs.Borrow.{Bor}
 use Rattle.std.proofs.lemmas.Result.{err_from_is_err_and}

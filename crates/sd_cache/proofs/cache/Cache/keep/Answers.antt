@@ -1,7 +1,7 @@
 use Rattle.std.proofs.Common.{inl, subst}
 use Rattle.sd_cache.specs.Entries.{AreEarly, call}
 use Rattle.sd_cache.proofs.Early.{replaces_none}
-use Rattle.sd_cache.proofs.Kept.{kept-put, put_kept}
+use Rattle.sd_cache.proofs.Keeping.{kept_put, put_kept}
 use Rattle.sd_cache.proofs.cache.Cache.keep.Goals as goal
 
 -- past all epochs there is no answer that could be replaced
@@ -22,13 +22,13 @@ invariant_of-self c =
 
 pub returns-in-Ok-clause-keeps : goal.returns-in-Ok-clause-keeps
 returns-in-Ok-clause-keeps c =
-    inl (kept-put c.self.inside.answers c.put.new.self c.args.self.now c.new-key.result
+    inl (kept_put c.self.inside.answers c.put.new.self c.args.self.now c.new-key.result
     (call c.args.epoch c.args.operation c.args.a c.args.b) c.args.answer
     c.self.invariant.0 c.self.view_is c.new-key.ensures c.in-Ok.ensures.entries)
 
 pub returns-in-Ok-clause-replaces : goal.returns-in-Ok-clause-replaces
 returns-in-Ok-clause-replaces c =
-    λ _. kept-put c.self.inside.answers c.put.new.self c.args.self.now c.new-key.result
+    λ _. kept_put c.self.inside.answers c.put.new.self c.args.self.now c.new-key.result
     (call c.args.epoch c.args.operation c.args.a c.args.b) c.args.answer
     c.self.invariant.0 c.self.view_is c.new-key.ensures c.in-Ok.ensures.entries
 

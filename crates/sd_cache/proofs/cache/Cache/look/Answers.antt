@@ -1,7 +1,7 @@
 use Rattle.std.proofs.Common.{subst, sym}
 use Rattle.sd_cache.specs.Entries.{AreEarly, call}
 use Rattle.sd_cache.proofs.Early.{no_answer, not_promoted}
-use Rattle.sd_cache.proofs.Kept.{looked_kept}
+use Rattle.sd_cache.proofs.Keeping.{looked_kept}
 use Rattle.sd_cache.proofs.cache.Cache.look.Goals as goal
 
 -- past all epochs there is no answer, and nothing to move

@@ -2,7 +2,7 @@ use Rattle.std.proofs.Common.{◌≡◌, ◌<◌, length, slice_get, Some, sym, 
 use Rattle.sd_formula.specs.Formulas.{IsFormula}
 use Rattle.sd_formula.specs.Dimacs.{Groups}
 use Rattle.sd_formula.specs.Flat.{cut}
-use Rattle.sd_formula.proofs.FlatLaws.{length-cut}
+use Rattle.sd_formula.proofs.FlatLaws.{length_cut}
 use Rattle.sd_formula.proofs.GroupLaws.{literals_at}
 use Rattle.sd_formula.proofs.formula.Formula.group.Goals as goal
 
@@ -12,7 +12,7 @@ group_between-requires-clause-below c =
     let f = c.self.inside in
     let below : c.args.index < length (cut 0 f.ends.items f.literals.items) =
     subst (λ (g : Groups). c.args.index < length g.groups) (sym c.self.view_is) c.requires in
-    rw c.deref-2.ensures.value (rw length-cut at below)
+    rw c.deref-2.ensures.value (rw length_cut at below)
 
 -- each group of a formula has literals of its variables
 pub returns-clause-literals : goal.returns-clause-literals

@@ -3,10 +3,10 @@ use Rattle.std.proofs.Common.{rules}
 use Rattle.std.proofs.lemmas.Int.{to_z-of_z}
 use mir.Val.{SFits, to_z, of_z}
 use Rattle.sd_model.specs.Tree.{leaves}
-use Rattle.sd_vtree.specs.Numbered.{forget}
+use Rattle.sd_vtree.specs.Numbered.{plain_tree}
 use Rattle.sd_model.specs.Diagram.{meaning}
 use Rattle.sd_laws.specs.Depth.{depth}
-use Rattle.sd_manager.specs.Shown.{IsShown}
+use Rattle.sd_manager.specs.Shown.{ShowsCanonical}
 use Rattle.sd_manager.specs.Literals.{IsLiteralTo}
 use Rattle.sd_manager.proofs.Reading.{shown_has_node}
 use Rattle.sd_manager.proofs.Evaluating.{literal_fits, children, passed_none, passed_more}
@@ -21,7 +21,7 @@ pub literal_value-requires : goal.literal_value-requires
 literal_value-requires t c =
     let range : SFits w32 c.in-Literal.literal = search rules in
     subst (λ n. IsLiteralTo n (to_z w32 (of_z w32 c.in-Literal.literal))) (sym c.requires.values)
-    (subst (IsLiteralTo (leaves (forget c.args.self.now.vtree))) (sym (to_z-of_z w32 c.in-Literal.literal range))
+    (subst (IsLiteralTo (leaves (plain_tree c.args.self.now.vtree))) (sym (to_z-of_z w32 c.in-Literal.literal range))
     (literal_fits c.args.self.now c.requires.table c.in-Literal.literal c.requires.known.0
     (c.in-Literal.ensures.shown c.requires.known.0 c.requires.known.1.shows)))
 
@@ -31,7 +31,7 @@ loop-index-init t c = passed_none c.args.self.now c.args.node c.args.assignment.
 pub value_below-requires : goal.value_below-requires
 value_below-requires t c =
     let w = c.in-Decomposition.ensures.shown c.requires.known.0 c.requires.known.1.shows in
-    let is = subst (IsShown c.args.self.now c.args.node) w.2 c.requires.known.1 in
+    let is = subst (ShowsCanonical c.args.self.now c.args.node) w.2 c.requires.known.1 in
     let k = children c.args.self.now c.args.node w.0 c.loop-index.index w.1 c.element-prime.result is
     c.element-prime.ensures.pair in (
       omega (arith, c.decreases, ap depth w.2, c.requires.known.2, k.prime_depth),
@@ -56,7 +56,7 @@ value_below-requires t c =
 pub value_below-requires-then-value_below : goal.value_below-requires-then-value_below
 value_below-requires-then-value_below t c =
     let w = c.in-Decomposition.ensures.shown c.requires.known.0 c.requires.known.1.shows in
-    let is = subst (IsShown c.args.self.now c.args.node) w.2 c.requires.known.1 in
+    let is = subst (ShowsCanonical c.args.self.now c.args.node) w.2 c.requires.known.1 in
     let k = children c.args.self.now c.args.node w.0 c.loop-index.index w.1 c.element-prime.result is
     c.element-prime.ensures.pair in (
       omega (arith, c.decreases, ap depth w.2, c.requires.known.2, k.sub_depth),
@@ -72,7 +72,7 @@ value_below-requires-then-value_below t c =
 pub returns-then-value_below : goal.returns-then-value_below
 returns-then-value_below t c = λ d h.
     let w = c.in-Decomposition.ensures.shown d h.shows in
-    let is = subst (IsShown c.args.self.now c.args.node) w.2 h in
+    let is = subst (ShowsCanonical c.args.self.now c.args.node) w.2 h in
     let k = children c.args.self.now c.args.node w.0 c.loop-index.index w.1 c.element-prime.result is
     c.element-prime.ensures.pair in
     c.value_below-then-value_below.ensures k.sub k.sub_is
@@ -90,7 +90,7 @@ loop-index-preserved t c =
 pub returns : goal.returns
 returns t c = λ d h.
     let w = c.in-Decomposition.ensures.shown d h.shows in
-    let is = subst (IsShown c.args.self.now c.args.node) w.2 h in
+    let is = subst (ShowsCanonical c.args.self.now c.args.node) w.2 h in
     sym (ap (λ x. meaning x c.args.assignment.now) w.2
     ∙ all_passed c.args.self.now c.requires.table c.args.node w.0 c.loop-index.index w.1 is c.args.assignment.now
     c.loop-index.invariant

@@ -23,7 +23,7 @@ add_use-requires-clause-room c =
 pub invariant_of-self-2 : goal.invariant_of-self-2
 invariant_of-self-2 c =
     let s = c.self.inside in
-    let still = ap (λ t. t.moving) c.self.view_is ∙ c.requires.still in
+    let still = ap (λ t. t.moving) c.self.view_is ∙ c.requires.no_move in
     subst (λ m. IsStored c.add_use.new.nodes (table_of s.vtree c.add_use.new.nodes m s.epoch s.moving))
     (sym c.in_ok-root.ensures.ok)
     (stored_hold s.vtree s.nodes s.roots s.epoch s.moving c.self.invariant

@@ -13,7 +13,7 @@ use Rattle.sd_manager.proofs.Found.{if_present, if_new}
 use Rattle.sd_manager.proofs.manager.Manager.make.Goals as goal
 
 pub returns-in-Some-clause-ok : goal.returns-in-Some-clause-ok
-returns-in-Some-clause-ok c = λ ds split.
+returns-in-Some-clause-ok c = λ ds partition.
     let s = c.self.inside in
     let h = asked s.vtree s.nodes s.roots s.epoch s.moving c.args.self.now c.args.place c.args.place c.args.elements.now
     c.as_slice-list.result.now c.sort_into.new.list.items c.self.invariant c.self.view_is refl
@@ -22,10 +22,10 @@ returns-in-Some-clause-ok c = λ ds split.
     made_trimmed s.vtree s.nodes s.roots s.epoch s.moving c.args.place c.args.elements.now c.as_slice-list.result.now h
     c.in-Some.code (sym c.trimmed.ensures ∙ c.in-Some.is) ds
     (partition_inside (table_of s.vtree s.nodes s.roots s.epoch s.moving) c.args.self.now c.args.place c.args.place
-    c.args.elements.now ds c.self.view_is refl split)
+    c.args.elements.now ds c.self.view_is refl partition)
 
 pub returns-in-Present-clause-ok : goal.returns-in-Present-clause-ok
-returns-in-Present-clause-ok c = λ ds split.
+returns-in-Present-clause-ok c = λ ds partition.
     let s = c.self.inside in
     let h = asked s.vtree s.nodes s.roots s.epoch s.moving c.args.self.now c.place.inside.0 c.args.place
     c.args.elements.now
@@ -42,7 +42,7 @@ returns-in-Present-clause-ok c = λ ds split.
     (made_found s.vtree s.nodes s.roots s.epoch s.moving c.place.inside.0 c.args.elements.now
     c.as_slice-list.result.now h none c.in-Present.number there ds
     (partition_inside (table_of s.vtree s.nodes s.roots s.epoch s.moving) c.args.self.now c.place.inside.0 c.args.place
-    c.args.elements.now ds c.self.view_is c.place.view_is split))
+    c.args.elements.now ds c.self.view_is c.place.view_is partition))
 
 pub find_or_insert-requires : goal.find_or_insert-requires
 find_or_insert-requires c =
@@ -54,7 +54,7 @@ find_or_insert-requires c =
     c.as_slice-list.ensures.value in
     let none = sym c.trimmed.ensures ∙ c.in_default.is in
     record {
-      some = omega (
+      at_least_one = omega (
         arith,
         two_pairs s.vtree s.nodes s.roots s.epoch s.moving c.place.inside.0 c.args.elements.now
             c.as_slice-list.result.now h none,
@@ -171,7 +171,7 @@ invariant_of-self-2 c =
     c.in-New.number number w counts valid)
 
 pub returns-clause-ok : goal.returns-clause-ok
-returns-clause-ok c = λ ds split.
+returns-clause-ok c = λ ds partition.
     let s = c.self.inside in
     let h = asked s.vtree s.nodes s.roots s.epoch s.moving c.args.self.now c.place.inside.0 c.args.place
     c.args.elements.now
@@ -193,7 +193,7 @@ returns-clause-ok c = λ ds split.
     c.as_slice-list.result.now h none
     c.in-New.number number w counts valid ds
     (partition_inside (table_of s.vtree s.nodes s.roots s.epoch s.moving) c.args.self.now c.place.inside.0 c.args.place
-    c.args.elements.now ds c.self.view_is c.place.view_is split))
+    c.args.elements.now ds c.self.view_is c.place.view_is partition))
 
 pub returns-clause-kept : goal.returns-clause-kept
 returns-clause-kept c =

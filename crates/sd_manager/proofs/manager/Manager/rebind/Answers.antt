@@ -24,7 +24,7 @@ add_use-requires-clause-room c =
 pub drop_use-requires-clause-counted : goal.drop_use-requires-clause-counted
 drop_use-requires-clause-counted c =
     let s = c.self.inside in
-    let still = ap (λ t. t.moving) c.self.view_is ∙ c.requires.still in
+    let still = ap (λ t. t.moving) c.self.view_is ∙ c.requires.no_move in
     still_counted s.nodes c.add_use.new.nodes c.rebind-former.result c.add_use.ensures.uses
     (known_counted s.vtree s.nodes s.roots s.epoch s.moving c.rebind-former.result c.self.invariant.table.numbered
     (c.self.invariant.table.held still c.args.root.now c.rebind-former.result c.rebind-former.ensures.held))
@@ -32,7 +32,7 @@ drop_use-requires-clause-counted c =
 pub drop_use-requires-clause-used : goal.drop_use-requires-clause-used
 drop_use-requires-clause-used c = λ least.
     let s = c.self.inside in
-    let still = ap (λ t. t.moving) c.self.view_is ∙ c.requires.still in
+    let still = ap (λ t. t.moving) c.self.view_is ∙ c.requires.no_move in
     let counted = known_counted s.vtree s.nodes s.roots s.epoch s.moving c.rebind-former.result
     c.self.invariant.table.numbered
     (c.self.invariant.table.held still c.args.root.now c.rebind-former.result c.rebind-former.ensures.held) in
@@ -47,7 +47,7 @@ drop_use-requires-clause-used c = λ least.
 pub invariant_of-self : goal.invariant_of-self
 invariant_of-self c =
     let s = c.self.inside in
-    let still = ap (λ t. t.moving) c.self.view_is ∙ c.requires.still in
+    let still = ap (λ t. t.moving) c.self.view_is ∙ c.requires.no_move in
     subst (λ m. IsStored c.drop_use.new.nodes (table_of s.vtree c.drop_use.new.nodes m s.epoch s.moving))
     (sym c.rebind-former.ensures.bound)
     (stored_rebind s.vtree s.nodes s.roots s.epoch s.moving c.self.invariant

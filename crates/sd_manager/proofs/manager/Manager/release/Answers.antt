@@ -6,7 +6,7 @@ use Rattle.sd_manager.proofs.manager.Manager.release.Goals as goal
 pub drop_use-requires-clause-counted : goal.drop_use-requires-clause-counted
 drop_use-requires-clause-counted c =
     let s = c.self.inside in
-    let still = ap (λ t. t.moving) c.self.view_is ∙ c.requires.still in
+    let still = ap (λ t. t.moving) c.self.view_is ∙ c.requires.no_move in
     known_counted s.vtree s.nodes s.roots s.epoch s.moving c.release-held.result c.self.invariant.table.numbered
     (c.self.invariant.table.held still c.args.root c.release-held.result c.release-held.ensures.held)
 
@@ -24,7 +24,7 @@ drop_use-requires-clause-used c = λ least.
 pub invariant_of-self : goal.invariant_of-self
 invariant_of-self c =
     let s = c.self.inside in
-    let still = ap (λ t. t.moving) c.self.view_is ∙ c.requires.still in
+    let still = ap (λ t. t.moving) c.self.view_is ∙ c.requires.no_move in
     subst (λ m. IsStored c.drop_use.new.nodes (table_of s.vtree c.drop_use.new.nodes m s.epoch s.moving))
     (sym c.release-held.ensures.removed)
     (stored_release s.vtree s.nodes s.roots s.epoch s.moving c.self.invariant

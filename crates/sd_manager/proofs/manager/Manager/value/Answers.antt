@@ -1,7 +1,7 @@
 use Rattle.std.proofs.Common.{ap, arith}
 use Rattle.sd_model.specs.Tree.{leaves}
-use Rattle.sd_vtree.specs.Numbered.{forget}
-use Rattle.sd_laws.proofs.Depths.{depth-canonical}
+use Rattle.sd_vtree.specs.Numbered.{plain_tree}
+use Rattle.sd_laws.proofs.Depths.{depth_canonical}
 use Rattle.sd_manager.proofs.Same.{held_code}
 use Rattle.sd_manager.proofs.manager.Manager.value.Goals as goal
 
@@ -13,9 +13,9 @@ value_below-requires-clause-known c =
       is,
       omega (
         arith,
-        depth-canonical is.canonical,
+        depth_canonical is.canonical,
         c.variables.ensures.count,
-        ap (λ t. leaves (forget t.vtree)) c.self.view_is,
+        ap (λ t. leaves (plain_tree t.vtree)) c.self.view_is,
       ),
     )
 

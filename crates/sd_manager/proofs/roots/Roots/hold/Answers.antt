@@ -1,14 +1,14 @@
 use Rattle.std.proofs.Common.{None, get_or, sym, ap, ◌∙◌, arith}
 use Rattle.std.specs.FinMap.{get, insert}
 use Rattle.sd_manager.specs.Stored.{held_map}
-use Rattle.sd_manager.proofs.Held.{get-held, held_push, held_set}
+use Rattle.sd_manager.proofs.Held.{get_held, held_push, held_set}
 use Rattle.sd_manager.proofs.roots.Roots.hold.Goals.{then-index-len+else-index+in_ok-push, else-index-len}
 use Rattle.sd_manager.proofs.roots.Roots.hold.Goals as goal
 
 pub returns-clause-absent : goal.returns-clause-absent
 returns-clause-absent c =
     ap (λ m. get m c.empty_slot-index.result) (sym c.self.view_is)
-    ∙ get-held c.self.inside.slots.items c.empty_slot-index.result
+    ∙ get_held c.self.inside.slots.items c.empty_slot-index.result
     ∙ ap (λ l. get_or l c.empty_slot-index.result None) (sym c.as_slice.ensures.value)
     ∙ c.empty_slot-index.ensures.empty
 

@@ -5,8 +5,8 @@ use Rattle.sd_script.proofs.Seeing.{known_as, room_as}
 use Rattle.sd_script.proofs.reader.Reader.read_command.Goals as goal
 
 -- the numbers are those of words that were just seen
-pub place-requires-clause-known : goal.place-requires-clause-known
-place-requires-clause-known c =
+pub put_checked-requires-clause-known : goal.put_checked-requires-clause-known
+put_checked-requires-clause-known c =
     known_as (script_view c.args.self.now) (script_view c.number.new.self)
     (viewed (λ (word : Bor (List ℕ)). word.now) c.in_ok-words.words) (numbers_view c.in_ok-phrase.phrase)
     c.in_ok-phrase.ensures.seen c.in_ok-phrase.ensures.numbered
@@ -15,5 +15,5 @@ place-requires-clause-known c =
 pub returns-clause-room : goal.returns-clause-room
 returns-clause-room c =
     room_as c.args.line.now.number (script_view c.args.self.now) (script_view c.number.new.self)
-    (script_view c.place.new.self) (viewed (λ (word : Bor (List ℕ)). word.now) c.in_ok-words.words)
-    c.requires.room c.in_ok-phrase.ensures.seen c.place.ensures.names c.place.ensures.files
+    (script_view c.put_checked.new.self) (viewed (λ (word : Bor (List ℕ)). word.now) c.in_ok-words.words)
+    c.requires.room c.in_ok-phrase.ensures.seen c.put_checked.ensures.names c.put_checked.ensures.files

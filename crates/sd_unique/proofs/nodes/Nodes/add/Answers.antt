@@ -2,7 +2,7 @@ use Rattle.std.proofs.Common.{◌≡◌, [], ◌∷◌, ◌++◌, length, sym, a
 use Rattle.std.proofs.lemmas.List.{nil_from_length}
 use Rattle.sd_runs.proofs.Places.{pushed}
 use Rattle.sd_unique.specs.Inserting.{IsFull, IsRefusal}
-use Rattle.sd_unique.specs.Record.{Stored}
+use Rattle.sd_unique.specs.Record.{AreRecordsStored}
 use Rattle.sd_unique.proofs.Counts.{count_is}
 use Rattle.sd_unique.proofs.Numbered.{is_nodes}
 use Rattle.sd_unique.proofs.Pushed.{free_kept, free_run, free_number, free_new, free_inserted}
@@ -12,16 +12,17 @@ use Rattle.sd_unique.proofs.nodes.Nodes.add.Goals as goal
 
 pub returns-in_err-reserve-clause-nodes : goal.returns-in_err-reserve-clause-nodes
 returns-in_err-reserve-clause-nodes c =
-    is_nodes (subst (Stored c.self.inside.runs) (sym c.in_err-reserve.ensures.items) c.self.invariant.stored)
+    is_nodes (subst (AreRecordsStored c.self.inside.runs) (sym c.in_err-reserve.ensures.items) c.self.invariant.stored)
 
 pub returns-in_err-reserve-2-clause-nodes : goal.returns-in_err-reserve-2-clause-nodes
 returns-in_err-reserve-2-clause-nodes c =
-    is_nodes (subst (Stored c.self.inside.runs) (sym c.in_ok-reserve.ensures.items) c.self.invariant.stored)
+    is_nodes (subst (AreRecordsStored c.self.inside.runs) (sym c.in_ok-reserve.ensures.items) c.self.invariant.stored)
 
 pub returns-in_err-start-clause-nodes : goal.returns-in_err-start-clause-nodes
 returns-in_err-start-clause-nodes c =
-    is_nodes (subst (Stored c.take.new.self) (sym c.in_ok-reserve.ensures.items)
-    (subst (λ a. Stored a c.self.inside.records.items) (sym c.in_err-start.ensures.err) c.self.invariant.stored))
+    is_nodes (subst (AreRecordsStored c.take.new.self) (sym c.in_ok-reserve.ensures.items)
+    (subst (λ a. AreRecordsStored a c.self.inside.records.items) (sym c.in_err-start.ensures.err)
+    c.self.invariant.stored))
 
 pub returns-in_err-start-clause-full : goal.returns-in_err-start-clause-full
 returns-in_err-start-clause-full c =
@@ -106,7 +107,7 @@ invariant_of-self-2 c =
     c.in_ok-start.ensures.kept c.args.self.now c.self.view_is c.push.new.self.items c.push-2.new.self.items
     c.free.result
     c.new.result grown linked c.free.ensures.state c.new.ensures c.free.ensures.next c.index.result.now
-    c.index.ensures c.if-index.false c.requires.some
+    c.index.ensures c.if-index.false c.requires.at_least_one
     c.len.result (omega (arith, ap length c.in_ok-reserve.ensures.items))
 
 pub occupy-requires-2-clause-run : goal.occupy-requires-2-clause-run
@@ -126,7 +127,7 @@ occupy-requires-2-clause-run c =
     c.in_ok-start.ensures.kept c.args.self.now c.self.view_is c.push.new.self.items c.push-2.new.self.items
     c.free.result
     c.new.result grown linked c.free.ensures.state c.new.ensures c.free.ensures.next c.index.result.now
-    c.index.ensures c.if-index.false c.requires.some
+    c.index.ensures c.if-index.false c.requires.at_least_one
     c.args.hash c.args.place c.requires.hash c.requires.absent
 
 pub occupy-requires-2-clause-free : goal.occupy-requires-2-clause-free
@@ -146,7 +147,7 @@ occupy-requires-2-clause-free c =
     c.in_ok-start.ensures.kept c.args.self.now c.self.view_is c.push.new.self.items c.push-2.new.self.items
     c.free.result
     c.new.result grown linked c.free.ensures.state c.new.ensures c.free.ensures.next c.index.result.now
-    c.index.ensures c.if-index.false c.requires.some
+    c.index.ensures c.if-index.false c.requires.at_least_one
 
 pub returns-clause-number : goal.returns-clause-number
 returns-clause-number c =
@@ -165,7 +166,7 @@ returns-clause-number c =
     c.in_ok-start.ensures.kept c.args.self.now c.self.view_is c.push.new.self.items c.push-2.new.self.items
     c.free.result
     c.new.result grown linked c.free.ensures.state c.new.ensures c.free.ensures.next c.index.result.now
-    c.index.ensures c.if-index.false c.requires.some
+    c.index.ensures c.if-index.false c.requires.at_least_one
     c.occupy-2.result c.occupy-2.ensures.number
 
 pub returns-clause-ok : goal.returns-clause-ok
@@ -185,7 +186,7 @@ returns-clause-ok c =
     c.in_ok-start.ensures.kept c.args.self.now c.self.view_is c.push.new.self.items c.push-2.new.self.items
     c.free.result
     c.new.result grown linked c.free.ensures.state c.new.ensures c.free.ensures.next c.index.result.now
-    c.index.ensures c.if-index.false c.requires.some
+    c.index.ensures c.if-index.false c.requires.at_least_one
     c.occupy-2.result c.args.place c.occupy-2.new.self c.occupy-2.ensures.number c.occupy-2.ensures.ok
 
 pub returns-clause-room : goal.returns-clause-room

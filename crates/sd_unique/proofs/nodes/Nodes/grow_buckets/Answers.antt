@@ -23,7 +23,7 @@ link_all-requires-clause-linked c =
     (length c.self.inside.heads.items - 1) (length c.deref_mut-in-Ok.result.now - 1)
     (2 * (c.len-buckets.result - 1) + 1) c.index.result.now (omega arith)
     (c.index.ensures ∙ get_or_any c.self.inside.heads.items 0 c.index.result.now no_record
-    (omega (arith, c.self.invariant.some))) c.self.invariant.in_chains))
+    (omega (arith, c.self.invariant.at_least_one))) c.self.invariant.in_chains))
 
 pub invariant_of-self : goal.invariant_of-self
 invariant_of-self c =
@@ -38,7 +38,7 @@ invariant_of-self c =
       length-set c.in-Ok.heads.items 0 c.index.result.now,
       ap length c.in-Ok.ensures,
       length-replicate (2 * (c.len-buckets.result - 1) + 1) no_record,
-      c.self.invariant.some,
+      c.self.invariant.at_least_one,
     ) in
     kept_tables c.self.inside.runs c.link_all.new.records _ c.self.inside.links.items c.link_all.new.heads _
     c.self.inside.places.items c.self.inside.candidates records heads

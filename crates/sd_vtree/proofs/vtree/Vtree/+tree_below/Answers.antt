@@ -2,7 +2,7 @@ use Rattle.std.proofs.Common.{◌≡◌, subst, sym, arith, IsSome}
 use Rattle.sd_model.specs.Seen.{tree_of}
 use Rattle.sd_model.specs.Tree.{Node}
 use Rattle.std.specs.Option.{option_map}
-use Rattle.sd_vtree.specs.Numbered.{forget, subtree}
+use Rattle.sd_vtree.specs.Numbered.{plain_tree, subtree}
 use Rattle.sd_vtree.proofs.Subtrees.{inner_pair, size_at}
 use Rattle.sd_vtree.proofs.Times.{smaller}
 use Rattle.sd_vtree.proofs.PlainTrees.{has_variable_at, node_forgotten, ok_some}
@@ -31,7 +31,7 @@ returns-in_ok-right-in-Some t c =
     let p = inner_pair c.children.ensures.numbered c.in-Some.ensures.children in
     ok_some c.node_over.result tree_of
     (Node (tree_of c.in_ok-left-in-Some.left) (tree_of c.in_ok-right-in-Some.right))
-    (option_map forget (subtree c.args.self.now c.args.node))
+    (option_map plain_tree (subtree c.args.self.now c.args.node))
     c.node_over.ensures
     (node_forgotten c.args.self.now c.args.node _ _ p (tree_of c.in_ok-left-in-Some.left)
     (tree_of c.in_ok-right-in-Some.right)

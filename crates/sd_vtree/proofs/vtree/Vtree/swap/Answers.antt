@@ -8,7 +8,7 @@ use Rattle.sd_vtree.proofs.Times.{smaller}
 use Rattle.sd_vtree.proofs.Moved.{view_root, turned_kept, turned_moved, turned_count, turned_numbered, turned_some}
 use Rattle.sd_vtree.proofs.Movable.{leaf_not_movable}
 use Rattle.sd_vtree.proofs.Swapped.{sides, swapped, numbers_apart, numbers_within}
-use Rattle.sd_vtree.proofs.Sides.{order_swapped, swapped_numbered, swapped_length, sides_order, length-numbers}
+use Rattle.sd_vtree.proofs.Sides.{order_swapped, swapped_numbered, swapped_length, sides_order, length_numbers}
 use Rattle.sd_vtree.proofs.Sides.{inside_after, outside_after}
 use Rattle.sd_vtree.proofs.vtree.Vtree.swap.Goals as goal
 
@@ -22,9 +22,9 @@ returns-in_default-clause-not_movable c = (
 pub exchange_sides-requires : goal.exchange_sides-requires
 exchange_sides-requires c =
     let kept = kept_as c.self.invariant c.self.view_is in
-    let s = sides c.children.ensures.numbered c.in-Some.ensures.children c.position-place.result
+    let s = sides c.children.ensures.numbered c.in-Some.ensures.children c.position-position.result
     c.first_below-from.result c.last_below.result
-    c.position-place.ensures.position c.first_below-from.ensures c.last_below.ensures in
+    c.position-position.ensures.position c.first_below-from.ensures c.last_below.ensures in
     let o = sides_order s in
     record {
       first = o.0;
@@ -35,18 +35,18 @@ exchange_sides-requires c =
 pub write_positions-requires-clause-order : goal.write_positions-requires-clause-order
 write_positions-requires-clause-order c =
     let kept = kept_as c.self.invariant c.self.view_is in
-    let s = sides c.children.ensures.numbered c.in-Some.ensures.children c.position-place.result
+    let s = sides c.children.ensures.numbered c.in-Some.ensures.children c.position-position.result
     c.first_below-from.result c.last_below.result
-    c.position-place.ensures.position c.first_below-from.ensures c.last_below.ensures in
+    c.position-position.ensures.position c.first_below-from.ensures c.last_below.ensures in
     let o = sides_order s in let a = o.0 in let b = o.1 in
     omega arith
 
 pub write_positions-requires-clause-within : goal.write_positions-requires-clause-within
 write_positions-requires-clause-within c =
     let kept = kept_as c.self.invariant c.self.view_is in
-    let s = sides c.children.ensures.numbered c.in-Some.ensures.children c.position-place.result
+    let s = sides c.children.ensures.numbered c.in-Some.ensures.children c.position-position.result
     c.first_below-from.result c.last_below.result
-    c.position-place.ensures.position c.first_below-from.ensures c.last_below.ensures in
+    c.position-position.ensures.position c.first_below-from.ensures c.last_below.ensures in
     let e = order_swapped s c.deref_mut.result.now c.exchange_sides.new.order (c.deref_mut.ensures.value
     ∙ kept.ordered) c.exchange_sides.ensures in
     let w = with_items_is c.self.inside.order c.exchange_sides.new.order (ap length e
@@ -59,24 +59,24 @@ write_positions-requires-clause-within c =
 pub write_positions-requires-clause-fits : goal.write_positions-requires-clause-fits
 write_positions-requires-clause-fits c =
     let kept = kept_as c.self.invariant c.self.view_is in
-    let s = sides c.children.ensures.numbered c.in-Some.ensures.children c.position-place.result
+    let s = sides c.children.ensures.numbered c.in-Some.ensures.children c.position-position.result
     c.first_below-from.result c.last_below.result
-    c.position-place.ensures.position c.first_below-from.ensures c.last_below.ensures in
+    c.position-position.ensures.position c.first_below-from.ensures c.last_below.ensures in
     let e = order_swapped s c.deref_mut.result.now c.exchange_sides.new.order (c.deref_mut.ensures.value
     ∙ kept.ordered) c.exchange_sides.ensures in
     let w = with_items_is c.self.inside.order c.exchange_sides.new.order (ap length e
     ∙ (swapped_length s ∙ (sym (ap length kept.ordered) ∙ sym c.self.inside.order.ok.0))) in
     let d : c.deref.result.now ≡ numbers s.moved.result = c.deref.ensures.value ∙ (w ∙ e) in
     let size : length c.deref.result.now ≡ length (numbers c.args.self.now) = ap length d ∙ swapped_length s in
-    let f = c.children.ensures.numbered.few in
-    omega (arith, length-numbers c.args.self.now)
+    let f = c.children.ensures.numbered.within_limit in
+    omega (arith, length_numbers c.args.self.now)
 
 pub write_positions-requires-clause-nodes : goal.write_positions-requires-clause-nodes
 write_positions-requires-clause-nodes c = λ p h.
     let kept = kept_as c.self.invariant c.self.view_is in
-    let s = sides c.children.ensures.numbered c.in-Some.ensures.children c.position-place.result
+    let s = sides c.children.ensures.numbered c.in-Some.ensures.children c.position-position.result
     c.first_below-from.result c.last_below.result
-    c.position-place.ensures.position c.first_below-from.ensures c.last_below.ensures in
+    c.position-position.ensures.position c.first_below-from.ensures c.last_below.ensures in
     let e = order_swapped s c.deref_mut.result.now c.exchange_sides.new.order (c.deref_mut.ensures.value
     ∙ kept.ordered) c.exchange_sides.ensures in
     let w = with_items_is c.self.inside.order c.exchange_sides.new.order (ap length e
@@ -90,9 +90,9 @@ write_positions-requires-clause-nodes c = λ p h.
 pub write_positions-requires-clause-apart : goal.write_positions-requires-clause-apart
 write_positions-requires-clause-apart c = λ p q x y.
     let kept = kept_as c.self.invariant c.self.view_is in
-    let s = sides c.children.ensures.numbered c.in-Some.ensures.children c.position-place.result
+    let s = sides c.children.ensures.numbered c.in-Some.ensures.children c.position-position.result
     c.first_below-from.result c.last_below.result
-    c.position-place.ensures.position c.first_below-from.ensures c.last_below.ensures in
+    c.position-position.ensures.position c.first_below-from.ensures c.last_below.ensures in
     let e = order_swapped s c.deref_mut.result.now c.exchange_sides.new.order (c.deref_mut.ensures.value
     ∙ kept.ordered) c.exchange_sides.ensures in
     let w = with_items_is c.self.inside.order c.exchange_sides.new.order (ap length e
@@ -104,9 +104,9 @@ write_positions-requires-clause-apart c = λ p q x y.
 pub invariant_of-self : goal.invariant_of-self
 invariant_of-self c =
     let kept = kept_as c.self.invariant c.self.view_is in
-    let s = sides c.children.ensures.numbered c.in-Some.ensures.children c.position-place.result
+    let s = sides c.children.ensures.numbered c.in-Some.ensures.children c.position-position.result
     c.first_below-from.result c.last_below.result
-    c.position-place.ensures.position c.first_below-from.ensures c.last_below.ensures in
+    c.position-position.ensures.position c.first_below-from.ensures c.last_below.ensures in
     let e = order_swapped s c.deref_mut.result.now c.exchange_sides.new.order (c.deref_mut.ensures.value
     ∙ kept.ordered) c.exchange_sides.ensures in
     let w = with_items_is c.self.inside.order c.exchange_sides.new.order (ap length e
@@ -127,9 +127,9 @@ invariant_of-self c =
 pub returns : goal.returns
 returns c =
     let kept = kept_as c.self.invariant c.self.view_is in
-    let s = sides c.children.ensures.numbered c.in-Some.ensures.children c.position-place.result
+    let s = sides c.children.ensures.numbered c.in-Some.ensures.children c.position-position.result
     c.first_below-from.result c.last_below.result
-    c.position-place.ensures.position c.first_below-from.ensures c.last_below.ensures in
+    c.position-position.ensures.position c.first_below-from.ensures c.last_below.ensures in
     let e = order_swapped s c.deref_mut.result.now c.exchange_sides.new.order (c.deref_mut.ensures.value
     ∙ kept.ordered) c.exchange_sides.ensures in
     let w = with_items_is c.self.inside.order c.exchange_sides.new.order (ap length e

@@ -1,0 +1,60 @@
+use Rattle.std.proofs.Common.{◌∙◌, sym}
+use Rattle.sd_cache.specs.Entries.{call}
+use Rattle.sd_apply.proofs.Listed.{extends_self}
+use Rattle.sd_apply.proofs.Served.{serves_on, serves_look, serves_keep, looked_applies, applies_right}
+use Rattle.sd_apply.proofs.Opposite.{opposite_applies}
+use Rattle.sd_apply.proofs.cached.look_up_or_apply.Goals as goal
+
+-- the cache is asked
+pub returns-in-Some-clause-ok : goal.returns-in-Some-clause-ok
+returns-in-Some-clause-ok c =
+    looked_applies c.args.c.now c.args.m.now c.args.operation c.number-kind.result c.args.at
+    c.args.a c.args.b c.epoch-epoch.result c.a.inside.0 c.b.inside.0 c.in-Some.code
+    c.epoch-epoch.ensures.table c.requires.serves c.number-kind.ensures
+    c.epoch-epoch.ensures.epoch c.a.view_is c.b.view_is c.in-Some.ensures.early
+    c.in-Some.ensures.value
+
+pub returns-in-Some-clause-serves : goal.returns-in-Some-clause-serves
+returns-in-Some-clause-serves c =
+    serves_look c.args.c.now c.look.new.self c.args.m.now
+    (call c.epoch-epoch.result c.number-kind.result c.a.inside.0 c.b.inside.0)
+    c.look.ensures.entries c.requires.serves
+
+-- and whether one operand is known to be the negation of the other
+pub are_opposite-requires : goal.are_opposite-requires
+are_opposite-requires c = record {
+  serves = serves_look c.args.c.now c.look.new.self c.args.m.now
+      (call c.epoch-epoch.result c.number-kind.result c.a.inside.0 c.b.inside.0)
+      c.look.ensures.entries c.requires.serves;
+}
+
+pub returns-then-are_opposite-clause-ok : goal.returns-then-are_opposite-clause-ok
+returns-then-are_opposite-clause-ok c =
+    opposite_applies c.args.m.now c.args.m.now (extends_self c.args.m.now) c.args.operation
+    c.args.at c.args.a c.args.b c.at_opposites.result
+    (c.are_opposite.ensures.opposite c.if-are_opposite.true) c.at_opposites.ensures
+
+-- the operation begins with a table of its own
+pub apply-requires-clause-knows : goal.apply-requires-clause-knows
+apply-requires-clause-knows c = c.new-recent.ensures c.args.m.now
+
+pub returns-in_err-code-clause-serves : goal.returns-in_err-code-clause-serves
+returns-in_err-code-clause-serves c =
+    serves_on c.are_opposite.new.c c.args.m.now c.apply.new.m c.apply.ensures.kept
+    c.are_opposite.ensures.serves
+
+-- and the cache keeps its answer
+pub returns-clause-serves : goal.returns-clause-serves
+returns-clause-serves c =
+    let m = c.args.m.now in
+    let n = c.apply.new.m in
+    let x = c.apply.ensures.kept in
+    let epoch = c.epoch-epoch.result in
+    let kind = c.number-kind.result in
+    serves_keep c.are_opposite.new.c c.keep.new.self n
+    (call epoch kind c.a-2.inside.0 c.b-2.inside.0) c.code.inside.0 c.keep.ensures.keeps
+    (c.epoch-epoch.ensures.epoch ∙ sym x.epoch)
+    (serves_on c.are_opposite.new.c m n x c.are_opposite.ensures.serves)
+    (applies_right m n c.args.operation kind epoch c.args.at c.args.a c.args.b c.in_ok-code.code
+    c.a-2.inside.0 c.b-2.inside.0 c.code.inside.0 x c.number-kind.ensures c.a-2.view_is
+    c.b-2.view_is c.code.view_is c.requires.a c.requires.b c.in_ok-code.ensures.ok)

@@ -1,0 +1,53 @@
+use Rattle.std.proofs.Common.{◌∙◌, ap, sym}
+use Rattle.sd_cache.specs.Entries.{call}
+use Rattle.sd_apply.specs.Terminal.{opposite_of}
+use Rattle.sd_apply.proofs.TerminalLaws.{opposite_negates}
+use Rattle.sd_apply.proofs.Served.{serves_on, serves_look, looked_negates}
+use Rattle.sd_apply.proofs.Opposite.{negates_opposite, operand_node_of}
+use Rattle.sd_apply.proofs.cached.negate_cached.Goals as goal
+
+pub returns-in-Some-clause-ok : goal.returns-in-Some-clause-ok
+returns-in-Some-clause-ok c =
+    opposite_negates c.args.m.now c.epoch-epoch.ensures.table c.args.at c.args.a c.in-Some.code
+    (sym (c.in-Some.ensures ∙ ap opposite_of c.a.view_is))
+
+-- the cache is asked
+pub returns-in-Some-look-clause-ok : goal.returns-in-Some-look-clause-ok
+returns-in-Some-look-clause-ok c =
+    looked_negates c.args.c.now c.args.m.now c.args.at c.args.a c.epoch-epoch.result
+    c.a.inside.0 c.in-Some-look.code c.epoch-epoch.ensures.table c.requires.serves
+    c.epoch-epoch.ensures.epoch c.a.view_is c.in-Some-look.ensures.early
+    c.in-Some-look.ensures.value
+
+pub returns-in-Some-look-clause-serves : goal.returns-in-Some-look-clause-serves
+returns-in-Some-look-clause-serves c =
+    serves_look c.args.c.now c.look.new.self c.args.m.now
+    (call c.epoch-epoch.result 3 c.a.inside.0 0) c.look.ensures.entries c.requires.serves
+
+-- the operation begins with a table of its own
+pub negate_at-requires-clause-knows : goal.negate_at-requires-clause-knows
+negate_at-requires-clause-knows c = c.new-recent.ensures c.args.m.now
+
+pub returns-in_err-code-clause-serves : goal.returns-in_err-code-clause-serves
+returns-in_err-code-clause-serves c =
+    serves_on c.look.new.self c.args.m.now c.negate_at.new.m c.negate_at.ensures.kept
+    (serves_look c.args.c.now c.look.new.self c.args.m.now
+    (call c.epoch-epoch.result 3 c.a.inside.0 0) c.look.ensures.entries c.requires.serves)
+
+-- and the cache keeps its answer, both ways round
+pub keep_opposites-requires-clause-first : goal.keep_opposites-requires-clause-first
+keep_opposites-requires-clause-first c =
+    operand_node_of c.args.m.now c.negate_at.new.m c.negate_at.ensures.kept c.args.at c.args.a
+    c.requires.a
+
+pub keep_opposites-requires-clause-opposite : goal.keep_opposites-requires-clause-opposite
+keep_opposites-requires-clause-opposite c =
+    negates_opposite c.args.m.now c.negate_at.new.m c.negate_at.ensures.table
+    c.negate_at.ensures.kept c.args.at c.args.a c.in_ok-code.code c.in_ok-code.ensures.ok
+    c.requires.a
+
+pub keep_opposites-requires-clause-serves : goal.keep_opposites-requires-clause-serves
+keep_opposites-requires-clause-serves c =
+    serves_on c.look.new.self c.args.m.now c.negate_at.new.m c.negate_at.ensures.kept
+    (serves_look c.args.c.now c.look.new.self c.args.m.now
+    (call c.epoch-epoch.result 3 c.a.inside.0 0) c.look.ensures.entries c.requires.serves)

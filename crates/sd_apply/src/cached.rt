@@ -1,0 +1,120 @@
+// The operations of one call: the cache is asked once, and keeps the answer. What the operation asks
+// on its way stands in a table of its own.
+ghost use Rattle.std.specs.Prelude.{◌≡◌, IfOk, IfErr};
+ghost use Rattle.sd_manager.specs.Valid.{IsTable};
+ghost use Rattle.sd_manager.specs.Making.{Extends, KeepsRule};
+ghost use Rattle.sd_apply.specs.Growing.{GrowsBelow};
+ghost use Rattle.sd_apply.specs.Serving.{Serves};
+ghost use Rattle.sd_apply.specs.Places.{IsBelow, IsThere};
+ghost use Rattle.sd_apply.specs.Calls.{Applies, NegatesAt};
+
+use crate::calls::{apply, negate_at};
+use crate::opposites::{are_opposite, keep_opposites};
+use crate::recent::Recent;
+use crate::terminal::{NEGATION, at_opposites, number, opposite, terminal};
+use sd_cache::Cache;
+use sd_manager::{Manager, NodeId};
+use sd_model::Operation;
+use sd_runs::TakeError;
+use sd_vtree::VNode;
+use std::alloc::Global;
+
+/// A connective at two nodes below a vtree node.
+pub(crate) fn apply_cached(
+    alloc: Global,
+    m: &mut Manager,
+    c: &mut Cache,
+    operation: Operation,
+    at: VNode,
+    a: NodeId,
+    b: NodeId,
+) -> Result<NodeId, TakeError>
+    requires at { IsThere m.old.vtree at }
+    requires a { IsBelow m.old at a }
+    requires b { IsBelow m.old at b }
+    requires serves { Serves c.old m.old }
+    ensures ok { IfOk result (λ r. Applies m.old m.new operation at a b r) }
+    ensures kept { Extends m.old m.new }
+    ensures grown { GrowsBelow m.old m.new at }
+    ensures serves { Serves c.new m.new }
+    ensures rule { IfErr result (λ e. KeepsRule m.new e) }
+    ensures table { IsTable m.new }
+{
+    // its contract tells that the table is valid
+    let _ = m.vtree();
+    if let Some(code) = terminal(number(operation), a.0, b.0) {
+        return Ok(NodeId(code));
+    }
+    // both orders of the operands have one entry
+    if a.0 < b.0 {
+        look_up_or_apply(alloc, m, c, operation, at, a, b)
+    } else {
+        look_up_or_apply(alloc, m, c, operation, at, b, a)
+    }
+}
+
+// The same where no terminal case answers: from the cache, or applied and kept there.
+fn look_up_or_apply(
+    alloc: Global,
+    m: &mut Manager,
+    c: &mut Cache,
+    operation: Operation,
+    at: VNode,
+    a: NodeId,
+    b: NodeId,
+) -> Result<NodeId, TakeError>
+    requires at { IsThere m.old.vtree at }
+    requires a { IsBelow m.old at a }
+    requires b { IsBelow m.old at b }
+    requires serves { Serves c.old m.old }
+    ensures ok { IfOk result (λ r. Applies m.old m.new operation at a b r) }
+    ensures kept { Extends m.old m.new }
+    ensures grown { GrowsBelow m.old m.new at }
+    ensures serves { Serves c.new m.new }
+    ensures rule { IfErr result (λ e. KeepsRule m.new e) }
+    ensures table { IsTable m.new }
+{
+    let epoch = m.epoch();
+    let kind = number(operation);
+    if let Some(code) = c.look(epoch, kind, a.0, b.0) {
+        return Ok(NodeId(code));
+    }
+    if are_opposite(m, c, a, b) {
+        return Ok(at_opposites(operation));
+    }
+    let mut recent = Recent::new(alloc);
+    let code = apply(alloc, m, &mut recent, operation, at, a, b)?;
+    c.keep(epoch, kind, a.0, b.0, code.0);
+    Ok(code)
+}
+
+/// The negation of a node below a vtree node.
+pub(crate) fn negate_cached(
+    alloc: Global,
+    m: &mut Manager,
+    c: &mut Cache,
+    at: VNode,
+    a: NodeId,
+) -> Result<NodeId, TakeError>
+    requires at { IsThere m.old.vtree at }
+    requires a { IsBelow m.old at a }
+    requires serves { Serves c.old m.old }
+    ensures ok { IfOk result (λ r. NegatesAt m.old m.new at a r) }
+    ensures kept { Extends m.old m.new }
+    ensures grown { GrowsBelow m.old m.new at }
+    ensures serves { Serves c.new m.new }
+    ensures rule { IfErr result (λ e. KeepsRule m.new e) }
+    ensures table { IsTable m.new }
+{
+    let epoch = m.epoch();
+    if let Some(code) = opposite(a.0) {
+        return Ok(NodeId(code));
+    }
+    if let Some(code) = c.look(epoch, NEGATION, a.0, 0) {
+        return Ok(NodeId(code));
+    }
+    let mut recent = Recent::new(alloc);
+    let code = negate_at(alloc, m, &mut recent, at, a)?;
+    keep_opposites(m, c, a, code);
+    Ok(code)
+}

@@ -1,0 +1,81 @@
+// The terminal cases of the operations: answers that need no node.
+ghost use Rattle.std.specs.Prelude.{◌≡◌, ◌≤◌, ◌==◌, ℕ, if◌then◌else◌, Some, None};
+ghost use Rattle.sd_apply.specs.Operations.{operation_number};
+ghost use Rattle.sd_apply.specs.Terminal.{terminal_of, opposite_of, opposites_code};
+
+use sd_manager::NodeId;
+use sd_model::Operation;
+
+/// The number of negation among the operations.
+pub(crate) const NEGATION: u8 = 3;
+
+/// The number of a connective.
+pub(crate) fn number(operation: Operation) -> u8
+    ensures { result ≡ operation_number operation }
+{
+    match operation {
+        Operation::And => 0,
+        Operation::Or => 1,
+        Operation::Xor => 2,
+    }
+}
+
+/// The answer at equal, constant and opposite codes.
+pub(crate) fn terminal(number: u8, a: u32, b: u32) -> Option<u32>
+    ensures { result ≡ terminal_of number a b }
+{
+    if a == b {
+        return if number == 2 { Some(0) } else { Some(a) };
+    }
+    if a == 0 {
+        return if number == 0 { Some(0) } else { Some(b) };
+    }
+    if b == 0 {
+        return if number == 0 { Some(0) } else { Some(a) };
+    }
+    if a == 1 {
+        return with_true(number, b);
+    }
+    if b == 1 {
+        return with_true(number, a);
+    }
+    if a / 2 == b / 2 && a < 2050 {
+        return if number == 0 { Some(0) } else { Some(1) };
+    }
+    None
+}
+
+// The answer where the other code is that of true.
+fn with_true(number: u8, a: u32) -> Option<u32>
+    ensures { result ≡ (if number == 0 then Some a else (if number == 1 then Some 1 else None)) }
+{
+    match number {
+        0 => Some(a),
+        1 => Some(1),
+        _ => None,
+    }
+}
+
+/// The negation of a constant or a literal.
+pub(crate) fn opposite(a: u32) -> Option<u32>
+    ensures { result ≡ opposite_of a }
+{
+    if a < 2 {
+        return Some(1 - a);
+    }
+    if a < 2050 {
+        return if a % 2 == 0 { Some(a + 1) } else { Some(a - 1) };
+    }
+    None
+}
+
+/// The answer of a connective at a node and its negation.
+pub(crate) fn at_opposites(operation: Operation) -> NodeId
+    ensures { result ≡ opposites_code operation }
+{
+    match operation {
+        Operation::And => NodeId(0),
+        Operation::Or => NodeId(1),
+        Operation::Xor => NodeId(1),
+    }
+}

@@ -1,0 +1,40 @@
+use Rattle.std.proofs.Common.{refl}
+use Rattle.sd_model.specs.Expression.{Combined}
+use Rattle.sd_commands.specs.Commands.{formula_named}
+use Rattle.sd_commands.proofs.Values.{combined_value, value_known}
+use Rattle.sd_commands.proofs.Standing.{stands_on}
+use Rattle.sd_commands.proofs.Stepping.{bound_steps}
+use Rattle.sd_commands.proofs.bind.bind_combination.Goals as goal
+
+pub bind-requires-clause-represents : goal.bind-requires-clause-represents
+bind-requires-clause-represents c = (
+  c.requires.represents.0,
+  stands_on c.args.state.now _ _ _ c.requires.represents.1 c.in-Ok.ensures.kept c.in-Ok.ensures.serves,
+)
+
+pub bind-requires-clause-known : goal.bind-requires-clause-known
+bind-requires-clause-known c = (
+  Combined c.args.operation (formula_named c.requires.represents.0 c.args.a)
+      (formula_named c.requires.represents.0 c.args.b),
+  combined_value c.args.state.now.manager _ c.args.operation _ _ _ _ _ c.in-Ok.ensures.kept
+      (c.node-first.ensures c.requires.represents.0 c.requires.represents.1)
+      (c.node-second.ensures c.requires.represents.0 c.requires.represents.1) c.in-Ok.ensures.ok,
+)
+
+pub returns-in-Ok-clause-done : goal.returns-in-Ok-clause-done
+returns-in-Ok-clause-done c = λ input seen was.
+    bound_steps _ seen _ c.args.name
+    (Combined c.args.operation (formula_named seen c.args.a) (formula_named seen c.args.b)) _ _
+    refl
+    (c.bind.ensures.done seen (Combined c.args.operation (formula_named seen c.args.a) (formula_named seen c.args.b))
+    (stands_on c.args.state.now _ _ seen was c.in-Ok.ensures.kept c.in-Ok.ensures.serves)
+    (combined_value c.args.state.now.manager _ c.args.operation _ _ _ _ _ c.in-Ok.ensures.kept
+    (c.node-first.ensures seen was) (c.node-second.ensures seen was) c.in-Ok.ensures.ok))
+
+pub connect-requires-clause-first : goal.connect-requires-clause-first
+connect-requires-clause-first c =
+    value_known _ _ _ (c.node-first.ensures c.requires.represents.0 c.requires.represents.1)
+
+pub connect-requires-clause-second : goal.connect-requires-clause-second
+connect-requires-clause-second c =
+    value_known _ _ _ (c.node-second.ensures c.requires.represents.0 c.requires.represents.1)

@@ -1,0 +1,22 @@
+use Rattle.std.proofs.Common.{refl}
+use Rattle.sd_file.specs.Reads.{expression_of_file}
+use Rattle.sd_commands.proofs.Values.{answer_value}
+use Rattle.sd_commands.proofs.Standing.{stands_on}
+use Rattle.sd_commands.proofs.Stepping.{bound_steps}
+use Rattle.sd_commands.proofs.bind.bind_file.Goals as goal
+
+pub bind-requires-clause-represents : goal.bind-requires-clause-represents
+bind-requires-clause-represents c = (
+  c.requires.represents.0,
+  stands_on c.args.state.now _ _ _ c.requires.represents.1 c.in-Ok.ensures.kept c.in-Ok.ensures.serves,
+)
+
+pub bind-requires-clause-known : goal.bind-requires-clause-known
+bind-requires-clause-known c = (expression_of_file c.args.file.now, answer_value _ _ _ c.in-Ok.ensures.ok)
+
+pub returns-in-Ok-clause-done : goal.returns-in-Ok-clause-done
+returns-in-Ok-clause-done c = λ input seen was.
+    bound_steps _ seen _ c.args.name (expression_of_file c.args.file.now) _ _ refl
+    (c.bind.ensures.done seen (expression_of_file c.args.file.now)
+    (stands_on c.args.state.now _ _ seen was c.in-Ok.ensures.kept c.in-Ok.ensures.serves)
+    (answer_value _ _ _ c.in-Ok.ensures.ok))

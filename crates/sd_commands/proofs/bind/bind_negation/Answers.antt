@@ -1,0 +1,32 @@
+use Rattle.std.proofs.Common.{refl}
+use Rattle.sd_model.specs.Expression.{Negated}
+use Rattle.sd_commands.specs.Commands.{formula_named}
+use Rattle.sd_commands.proofs.Values.{negated_value, value_known}
+use Rattle.sd_commands.proofs.Standing.{stands_on}
+use Rattle.sd_commands.proofs.Stepping.{bound_steps}
+use Rattle.sd_commands.proofs.bind.bind_negation.Goals as goal
+
+pub bind-requires-clause-represents : goal.bind-requires-clause-represents
+bind-requires-clause-represents c = (
+  c.requires.represents.0,
+  stands_on c.args.state.now _ _ _ c.requires.represents.1 c.in-Ok.ensures.kept c.in-Ok.ensures.serves,
+)
+
+pub bind-requires-clause-known : goal.bind-requires-clause-known
+bind-requires-clause-known c = (
+  Negated (formula_named c.requires.represents.0 c.args.a),
+  negated_value c.args.state.now.manager _ _ _ _ c.in-Ok.ensures.kept
+      (c.node-positive.ensures c.requires.represents.0 c.requires.represents.1) c.in-Ok.ensures.ok,
+)
+
+pub returns-in-Ok-clause-done : goal.returns-in-Ok-clause-done
+returns-in-Ok-clause-done c = λ input seen was.
+    bound_steps _ seen _ c.args.name (Negated (formula_named seen c.args.a)) _ _ refl
+    (c.bind.ensures.done seen (Negated (formula_named seen c.args.a))
+    (stands_on c.args.state.now _ _ seen was c.in-Ok.ensures.kept c.in-Ok.ensures.serves)
+    (negated_value c.args.state.now.manager _ _ _ _ c.in-Ok.ensures.kept
+    (c.node-positive.ensures seen was) c.in-Ok.ensures.ok))
+
+pub negate-requires-clause-node : goal.negate-requires-clause-node
+negate-requires-clause-node c =
+    value_known _ _ _ (c.node-positive.ensures c.requires.represents.0 c.requires.represents.1)

@@ -1,6 +1,0 @@
-use Rattle.std.proofs.Common.{refl}
-use Rattle.sd_commands.proofs.binds.bind.Goals as goal
-
-pub returns-in-Ok-clause-done : goal.returns-in-Ok-clause-done
-returns-in-Ok-clause-done c = λ seen f was shows.
-    record { quiet = refl; stands = c.in-Ok.ensures.stands seen f was shows }

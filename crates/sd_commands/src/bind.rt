@@ -1,0 +1,184 @@
+//! The commands that bind a name or free one.
+ghost use Rattle.std.specs.Prelude.{◌≡◌, ◌<◌, ◌≤◌, ◌+◌, ◌-◌, ◌^◌, IfOk, IfErr};
+ghost use Rattle.sd_model.specs.Tree.{leaves};
+ghost use Rattle.sd_model.specs.Expression.{Expression};
+ghost use Rattle.sd_vtree.specs.Numbered.{plain_tree};
+ghost use Rattle.sd_formula.specs.Formulas.{expression_of};
+ghost use Rattle.sd_runs.specs.declared.error.TakeError.TheVariants.{OutOfMemory};
+ghost use Rattle.sd_manager.specs.Literals.{IsLiteralTo};
+ghost use Rattle.sd_commands.specs.Commands.{State};
+ghost use Rattle.sd_commands.specs.Standing.{Represents, ShowsFormula, HasRoot, BindsTo, StepsTo, StopsAt, root_count};
+
+use crate::command::{Effect, RunCommand};
+use crate::compile::{connect, formula_node};
+use crate::state::RunState;
+use sd_apply::negate;
+use sd_file::{SddFile, build};
+use sd_formula::Formula;
+use sd_manager::NodeId;
+use sd_model::Operation;
+use sd_runs::TakeError;
+use std::alloc::Global;
+
+// Binds a name to a node that shows the diagram of a formula.
+fn bind(state: &mut RunState, name: u32, node: NodeId) -> Result<Option<Effect>, TakeError>
+    requires represents { (seen : State) × Represents state.old seen }
+    requires known { (f : Expression) × ShowsFormula state.old.manager node f }
+    requires room { root_count state.old < 2 ^ 32 - 1 }
+    ensures done { (seen : State) (f : Expression) → Represents state.old seen →
+        ShowsFormula state.old.manager node f
+        → IfOk result (λ effect. BindsTo seen name f state.new effect) }
+    ensures stops { IfErr result (λ e. e ≡ OutOfMemory) }
+    ensures vtree { state.new.manager.vtree ≡ state.old.manager.vtree }
+    ensures roots { root_count state.new ≤ root_count state.old + 1 }
+{
+    match state.bind(name, node) {
+        Ok(()) => Ok(None),
+        Err(_) => Err(TakeError::OutOfMemory),
+    }
+}
+
+/// Binds a name to the input's formula.
+pub(crate) fn bind_input(
+    alloc: Global,
+    input: &Formula,
+    state: &mut RunState,
+    name: u32,
+) -> Result<Option<Effect>, TakeError>
+    requires represents { (seen : State) × Represents state.old seen }
+    requires variables { leaves (plain_tree state.old.manager.vtree) ≡ input.now.variables }
+    requires room { root_count state.old < 2 ^ 32 - 1 }
+    ensures done { (seen : State) → Represents state.old seen →
+        IfOk result (λ effect. StepsTo (expression_of input.now) seen (RunCommand.Input name)
+        state.new effect) }
+    ensures stops { IfErr result (λ e. StopsAt (RunCommand.Input name) state.new.manager e) }
+    ensures vtree { state.new.manager.vtree ≡ state.old.manager.vtree }
+    ensures roots { root_count state.new ≤ root_count state.old + 1 }
+{
+    match formula_node(alloc, &mut state.manager, &mut state.cache, input) {
+        Ok(node) => bind(state, name, node),
+        Err(e) => Err(e),
+    }
+}
+
+/// Binds a name to the value of a file.
+pub(crate) fn bind_file(
+    alloc: Global,
+    state: &mut RunState,
+    name: u32,
+    file: &SddFile,
+) -> Result<Option<Effect>, TakeError>
+    requires represents { (seen : State) × Represents state.old seen }
+    requires variables { leaves (plain_tree state.old.manager.vtree) ≡ file.now.variables }
+    requires room { root_count state.old < 2 ^ 32 - 1 }
+    ensures done { (input : Expression) (seen : State) → Represents state.old seen →
+        IfOk result
+        (λ effect. StepsTo input seen (RunCommand.Load name file.now) state.new effect) }
+    ensures stops { IfErr result
+        (λ e. StopsAt (RunCommand.Load name file.now) state.new.manager e) }
+    ensures vtree { state.new.manager.vtree ≡ state.old.manager.vtree }
+    ensures roots { root_count state.new ≤ root_count state.old + 1 }
+{
+    match build(alloc, &mut state.manager, &mut state.cache, file) {
+        Ok(node) => bind(state, name, node),
+        Err(e) => Err(e),
+    }
+}
+
+/// Binds a name to a literal.
+pub(crate) fn bind_literal(
+    state: &mut RunState,
+    name: u32,
+    literal: i32,
+) -> Result<Option<Effect>, TakeError>
+    requires represents { (seen : State) × Represents state.old seen }
+    requires literal { IsLiteralTo (leaves (plain_tree state.old.manager.vtree)) literal }
+    requires room { root_count state.old < 2 ^ 32 - 1 }
+    ensures done { (input : Expression) (seen : State) → Represents state.old seen →
+        IfOk result
+        (λ effect. StepsTo input seen (RunCommand.Literal name literal) state.new effect) }
+    ensures stops { IfErr result (λ e. e ≡ OutOfMemory) }
+    ensures vtree { state.new.manager.vtree ≡ state.old.manager.vtree }
+    ensures roots { root_count state.new ≤ root_count state.old + 1 }
+{
+    let node = state.manager.literal(literal);
+    bind(state, name, node)
+}
+
+/// Binds a name to a constant.
+pub(crate) fn bind_constant(
+    state: &mut RunState,
+    name: u32,
+    value: bool,
+) -> Result<Option<Effect>, TakeError>
+    requires represents { (seen : State) × Represents state.old seen }
+    requires room { root_count state.old < 2 ^ 32 - 1 }
+    ensures done { (input : Expression) (seen : State) → Represents state.old seen →
+        IfOk result
+        (λ effect. StepsTo input seen (RunCommand.Constant name value) state.new effect) }
+    ensures stops { IfErr result (λ e. e ≡ OutOfMemory) }
+    ensures vtree { state.new.manager.vtree ≡ state.old.manager.vtree }
+    ensures roots { root_count state.new ≤ root_count state.old + 1 }
+{
+    let node = state.manager.constant(value);
+    bind(state, name, node)
+}
+
+/// Binds a name to two formulas, joined by a connective.
+pub(crate) fn bind_combination(
+    alloc: Global,
+    state: &mut RunState,
+    operation: Operation,
+    name: u32,
+    a: u32,
+    b: u32,
+) -> Result<Option<Effect>, TakeError>
+    requires represents { (seen : State) × Represents state.old seen }
+    requires first { HasRoot state.old a }
+    requires second { HasRoot state.old b }
+    requires room { root_count state.old < 2 ^ 32 - 1 }
+    ensures done { (input : Expression) (seen : State) → Represents state.old seen →
+        IfOk result (λ effect. StepsTo input seen (RunCommand.Combine operation name a b) state.new
+        effect) }
+    ensures stops { IfErr result
+        (λ e. StopsAt (RunCommand.Combine operation name a b) state.new.manager e) }
+    ensures vtree { state.new.manager.vtree ≡ state.old.manager.vtree }
+    ensures roots { root_count state.new ≤ root_count state.old + 1 }
+{
+    let first = state.node(a);
+    let second = state.node(b);
+    match connect(
+        alloc,
+        &mut state.manager,
+        &mut state.cache,
+        operation,
+        first,
+        second,
+    ) {
+        Ok(joined) => bind(state, name, joined),
+        Err(e) => Err(e),
+    }
+}
+
+/// Binds a name to the negation of a formula.
+pub(crate) fn bind_negation(
+    alloc: Global,
+    state: &mut RunState,
+    name: u32,
+    a: u32,
+) -> Result<Option<Effect>, TakeError>
+    requires represents { (seen : State) × Represents state.old seen }
+    requires bound { HasRoot state.old a }
+    requires room { root_count state.old < 2 ^ 32 - 1 }
+    ensures done { (input : Expression) (seen : State) → Represents state.old seen →
+        IfOk result (λ effect. StepsTo input seen (RunCommand.Negate name a) state.new effect) }
+    ensures stops { IfErr result (λ e. StopsAt (RunCommand.Negate name a) state.new.manager e) }
+    ensures vtree { state.new.manager.vtree ≡ state.old.manager.vtree }
+    ensures roots { root_count state.new ≤ root_count state.old + 1 }
+{
+    let positive = state.node(a);
+    match negate(alloc, &mut state.manager, &mut state.cache, positive) {
+        Ok(opposite) => bind(state, name, opposite),
+        Err(e) => Err(e),
+    }
+}

@@ -1,9 +1,0 @@
-use Rattle.std.proofs.Common.{◌≡◌, ◌+◌, drop}
-use Rattle.sd_model.specs.Text.{place_of}
-use Rattle.sd_model.specs.Seen.{diagram_of, diagrams_of}
-use Rattle.sd_model.proofs.nodes.place.Given as goal
-
--- the diagram is not one of the nodes so far
-abbrev pub invariant-loop-i : goal.invariant-loop-i
-invariant-loop-i l =
-    place_of (diagram_of l.d) (diagrams_of l.nodes) ≡ place_of (diagram_of l.d) (diagrams_of (drop l.i l.nodes)) + l.i

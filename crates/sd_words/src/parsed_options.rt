@@ -1,0 +1,74 @@
+//! What a parse gave: the value of an option, and which of several options are there.
+ghost use Rattle.std.specs.Prelude.{◌≡◌, count_by, find, option_map};
+ghost use Rattle.clap.specs.Walk.{is_empty};
+ghost use Rattle.sd_words.specs.Command.{parsed_of};
+ghost use Rattle.sd_words.specs.ParsedOptions.{first_beside, has_option, has_that};
+
+use crate::options::OptionName;
+use clap::ArgMatches;
+
+/// The value of an option.
+pub(crate) fn value<'a>(options: &ArgMatches<'a>, option: OptionName) -> Option<&'a str>
+    ensures { option_map (λ s. s.now) result ≡ parsed_of options.now option }
+{
+    options.get_str(option.word())
+}
+
+pub(crate) fn is_present(options: &ArgMatches<'_>, option: OptionName) -> bool
+    ensures { result ≡ has_option (parsed_of options.now) option }
+{
+    value(options, option).is_some()
+}
+
+/// How many of these are there.
+pub(crate) fn count_present(options: &ArgMatches<'_>, among: &[OptionName]) -> usize
+    ensures { result ≡ count_by (has_option (parsed_of options.now)) among.now }
+{
+    among
+        .iter()
+        .filter(|option| is_present(options, **option))
+        .count()
+}
+
+/// The first of these that is there with an empty value.
+pub(crate) fn first_empty(options: &ArgMatches<'_>, among: &[OptionName]) -> Option<OptionName>
+    ensures { result ≡ find (has_that is_empty (parsed_of options.now)) among.now }
+{
+    among
+        .iter()
+        .copied()
+        .find(|option| is_empty(options, *option))
+}
+
+/// The first of these that is there, where another is there too.
+pub(crate) fn first_beside(
+    options: &ArgMatches<'_>,
+    option: OptionName,
+    others: &[OptionName],
+) -> Option<OptionName>
+    ensures { result ≡ first_beside option others.now (parsed_of options.now) }
+{
+    if is_present(options, option) {
+        first_present(options, others)
+    } else {
+        None
+    }
+}
+
+fn is_empty(options: &ArgMatches<'_>, option: OptionName) -> bool
+    ensures { result ≡ has_that is_empty (parsed_of options.now) option }
+{
+    match value(options, option) {
+        Some(text) => text.is_empty(),
+        None => false,
+    }
+}
+
+fn first_present(options: &ArgMatches<'_>, among: &[OptionName]) -> Option<OptionName>
+    ensures { result ≡ find (has_option (parsed_of options.now)) among.now }
+{
+    among
+        .iter()
+        .copied()
+        .find(|option| is_present(options, *option))
+}
