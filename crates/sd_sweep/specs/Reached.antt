@@ -1,6 +1,7 @@
 -- The nodes under the held roots and the loose runs, what a sweep leaves, and the size of all held diagrams.
 use Rattle.std.specs.Prelude.{◌≡◌, ◌⊎◌, ℕ, ◌+◌, List, Some}
 use Rattle.std.specs.List.{AllZip}
+use Rattle.std.specs.Option.{IsSome}
 use Rattle.std.specs.FinMap.{get, values}
 use Rattle.sd_model.specs.Diagram.{Diagram}
 use Rattle.sd_laws.specs.Shown.{Lookup}
@@ -31,12 +32,17 @@ IsHeld t n = IsReachedFrom (IsHeldBy t) (get t.linked) n
 abbrev pub IsReached : Table → ℕ → Type 0
 IsReached t n = IsReachedFrom (λ k. IsHeldBy t k ⊎ IsInRun t k) (get t.linked) n
 
--- Just the nodes that are not reached are gone, and where one is gone the epoch is a later one; nothing else changed
--- but the marks and the free runs.
+-- some node is not reached
+abbrev pub HasUnreached : Table → Type 0
+HasUnreached t = (n : ℕ) × IsSome (get t.linked n) × ¬ IsReached t n
+
+-- Just the nodes that are not reached are gone. Where there are such, the epoch is a later one, and the free runs and
+-- the marks of the nodes that are gone changed too. Where there are none, nothing changed.
 pub record IsSwept (old new : Table) : Type 0 where
   pub vtree : new.vtree ≡ old.vtree
   pub kept : (n : ℕ) (k : ℕ × List (ℕ × ℕ)) → get old.linked n ≡ Some k → IsReached old n → get new.linked n ≡ Some k
   pub only : (n : ℕ) (k : ℕ × List (ℕ × ℕ)) → get new.linked n ≡ Some k → (get old.linked n ≡ Some k) × IsReached old n
+  pub marks : (n : ℕ) → IsSome (get new.linked n) → get new.marks n ≡ get old.marks n
   pub detached : new.detached ≡ old.detached
   pub loose : new.loose ≡ old.loose
   pub roots : new.roots ≡ old.roots
@@ -44,7 +50,7 @@ pub record IsSwept (old new : Table) : Type 0 where
   pub moving : new.moving ≡ old.moving
   pub records : new.records ≡ old.records
   pub extent : new.extent ≡ old.extent
-  pub epoch : ((new.epoch ≡ old.epoch) × (new.linked ≡ old.linked)) ⊎ IsLater old new
+  pub changed : (new ≡ old) ⊎ (IsLater old new × HasUnreached old)
 
 -- ds is the list of the diagrams that the roots show
 abbrev pub AreHeldDiagrams : Table → List Diagram → Type 0

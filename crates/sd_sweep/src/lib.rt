@@ -1,2 +1,9 @@
-//! What a sweep keeps: the nodes under the held roots. Definitions and laws; no code.
+//! Sweeping: taking away the nodes that no held root and no loose run needs.
 #![tactic(auto)]
+
+mod sweeping;
+
+pub use sweeping::sweep;
+
+#[cfg(test)]
+mod tests;

@@ -1,0 +1,67 @@
+ghost use Rattle.std.specs.Prelude.{◌≡◌, IfOk};
+ghost use Rattle.sd_model.specs.Tree.{leaves};
+ghost use Rattle.sd_vtree.specs.Numbered.{plain_tree};
+ghost use Rattle.sd_manager.specs.Shown.{IsNodeOf};
+ghost use Rattle.sd_manager.specs.Making.{Extends};
+ghost use Rattle.sd_manager.specs.Literals.{IsLiteralTo};
+ghost use Rattle.sd_apply.specs.Serving.{Serves};
+
+use super::*;
+use sd_apply::{and, or};
+use sd_cache::Cache;
+use sd_manager::{Manager, NodeId};
+use sd_runs::TakeError;
+use sd_vtree::Vtree;
+use std::alloc::Global;
+use std::test::Fail;
+
+// The conjunction of two literals.
+fn both(
+    alloc: Global,
+    m: &mut Manager,
+    c: &mut Cache,
+    first: i32,
+    second: i32,
+) -> Result<NodeId, TakeError>
+    requires first { IsLiteralTo (leaves (plain_tree m.old.vtree)) first }
+    requires second { IsLiteralTo (leaves (plain_tree m.old.vtree)) second }
+    requires serves { Serves c.old m.old }
+    ensures known { IfOk result (λ r. IsNodeOf m.new r) }
+    ensures kept { Extends m.old m.new }
+    ensures serves { Serves c.new m.new }
+{
+    let first = m.literal(first);
+    let second = m.literal(second);
+    and(alloc, m, c, first, second)
+}
+
+// The node of `(1 and 2) or (3 and 4)`.
+fn two_terms(alloc: Global, m: &mut Manager, c: &mut Cache) -> Result<NodeId, TakeError>
+    requires four { leaves (plain_tree m.old.vtree) ≡ 4 }
+    requires serves { Serves c.old m.old }
+    ensures known { IfOk result (λ r. IsNodeOf m.new r) }
+    ensures kept { Extends m.old m.new }
+{
+    let first = both(alloc, m, c, 1, 2)?;
+    let second = both(alloc, m, c, 3, 4)?;
+    or(alloc, m, c, first, second)
+}
+
+/// On the balanced vtree the two terms are four decompositions. While a root holds the upper one, a sweep leaves them
+/// all. Then it takes them all away, and the epoch rises by four.
+#[test]
+fn what_is_held_stays(rt: HostRuntime) -> Result<(), Fail> {
+    let alloc = rt.alloc();
+    let vtree = Vtree::balanced(alloc, 4)?;
+    let mut m = Manager::new(alloc, vtree, 1000)?;
+    let mut c = Cache::new(alloc)?;
+    let node = two_terms(alloc, &mut m, &mut c)?;
+    let root = m.hold(node)?;
+    sweep(&mut m);
+    let epoch = m.epoch();
+    assert_eq!(rt; m.node_of(&root), node);
+    m.release(root);
+    sweep(&mut m);
+    assert_eq!(rt; m.epoch().checked_sub(epoch), Some(4));
+    Ok(())
+}
