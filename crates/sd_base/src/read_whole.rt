@@ -27,7 +27,7 @@ pub enum ReadError {
 }
 
 /// Reads the whole file of this name, and leaves no file in hand.
-/// A byte past the limit makes it too long: no more is read then. There, and after running out of memory,
+/// A byte past the limit makes it too long: no more is read then. There, and where memory runs out,
 /// a fault of `finish` changes nothing.
 pub fn read_all<F: Shelf>(alloc: Global, shelf: &mut F, name: &str) -> Result<Bytes, ReadError>
     requires { F.hand shelf.old ≡ NoFile }

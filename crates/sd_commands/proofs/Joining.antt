@@ -80,9 +80,9 @@ joined_push : {X : Type 0} (o : Operation) (p : X → Bool) (xs : List X) (x : X
 joined_push o p [] x = alone o (p x)
 joined_push o p (y ∷ xs) x = ap (combine o (p y)) (joined_push o p xs x) ∙ grouped o (p y) (joined o p xs) (p x)
 
--- a node that shows a value is known
-pub known : (t : Table) (f : List Bool → Bool) (c : ℕ) → HasAnswer t f c → IsNodeOf t c
-known t f c h = record { diagram = h.diagram; is = h.is }
+-- a node that shows a value is answer_node
+pub answer_node : (t : Table) (f : List Bool → Bool) (c : ℕ) → HasAnswer t f c → IsNodeOf t c
+answer_node t f c h = record { diagram = h.diagram; is = h.is }
 
 -- a node shows the same in a later table
 pub shown_on : (old new : Table) (d : Diagram) (c : ℕ) → Extends old new → ShowsCanonical old c d

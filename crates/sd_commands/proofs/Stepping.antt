@@ -32,7 +32,7 @@ bound_steps input seen command name f code (Ok effect) step binds = record {
   represents = binds.represents;
 }
 
--- ---- an effect is handed out
+-- ---- a command with an effect, and no change of the state
 
 -- a line is printed
 pub printed : (input : Expression) (seen : State) (command : RunCommand) (code : RunState) (line said : List ℕ)
@@ -92,7 +92,7 @@ pub first_used : (code : RunState) (seen : State) (v : ℕ) (command : RunComman
     → Represents code seen → Fits v (names_of seen) command → uses command ≡ a ∷ others → HasRoot code a
 first_used code seen v command a others was fits is =
     let all : list_all (has (names_of seen)) (a ∷ others) ≡ true =
-    ap (list_all (has (names_of seen))) (sym is) ∙ fits.known in
+    ap (list_all (has (names_of seen))) (sym is) ∙ fits.used_bound in
     has_root code seen a was (and_parts _ _ all).0
 
 -- and the second one
@@ -100,5 +100,5 @@ pub second_used : (code : RunState) (seen : State) (v : ℕ) (command : RunComma
     → Represents code seen → Fits v (names_of seen) command → uses command ≡ a ∷ b ∷ others → HasRoot code b
 second_used code seen v command a b others was fits is =
     let all : list_all (has (names_of seen)) (a ∷ b ∷ others) ≡ true =
-    ap (list_all (has (names_of seen))) (sym is) ∙ fits.known in
+    ap (list_all (has (names_of seen))) (sym is) ∙ fits.used_bound in
     has_root code seen b was (and_parts _ _ (and_parts _ _ all).1).0

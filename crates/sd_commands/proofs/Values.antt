@@ -17,8 +17,8 @@ use Rattle.sd_commands.specs.Commands.{Compares, IsTextOf}
 use Rattle.sd_commands.specs.Standing.{HoldsValue, ShowsFormula}
 
 -- a node that shows a formula is known
-pub value_known : (t : Table) (c : ℕ) (f : Expression) → ShowsFormula t c f → IsNodeOf t c
-value_known t c f h = record { diagram = h.diagram; is = h.is }
+pub value_node : (t : Table) (c : ℕ) (f : Expression) → ShowsFormula t c f → IsNodeOf t c
+value_node t c f h = record { diagram = h.diagram; is = h.is }
 
 -- a node with the value of a formula shows its diagram
 pub answer_value : (t : Table) (c : ℕ) (f : Expression) → HasAnswer t (expression_value f) c → ShowsFormula t c f

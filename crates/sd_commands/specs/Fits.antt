@@ -48,7 +48,7 @@ in_range v command = true
 
 -- the command can be done over v variables, where these names are bound
 pub record Fits (v : ℕ) (names : List ℕ) (c : RunCommand) : Type 0 where
-  pub known : list_all (has names) (uses c) ≡ true
+  pub used_bound : list_all (has names) (uses c) ≡ true
   pub ranges : in_range v c ≡ true
 
 -- so can each of these commands, after those before it

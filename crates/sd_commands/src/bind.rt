@@ -23,7 +23,7 @@ use std::alloc::Global;
 // Binds a name to a node that shows the diagram of a formula.
 fn bind(state: &mut RunState, name: u32, node: NodeId) -> Result<Option<Effect>, TakeError>
     requires represents { (seen : State) × Represents state.old seen }
-    requires known { (f : Expression) × ShowsFormula state.old.manager node f }
+    requires shown { (f : Expression) × ShowsFormula state.old.manager node f }
     requires room { root_count state.old < 2 ^ 32 - 1 }
     ensures done { (seen : State) (f : Expression) → Represents state.old seen →
         ShowsFormula state.old.manager node f

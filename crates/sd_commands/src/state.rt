@@ -68,7 +68,7 @@ impl RunState {
     /// Binds a name to a node that shows the diagram of a formula. The only error: out of memory.
     pub(crate) fn bind(&mut self, name: u32, node: NodeId) -> Result<(), AllocError>
         requires represents { (seen : State) × Represents self.old seen }
-        requires known { (f : Expression) × ShowsFormula self.old.manager node f }
+        requires shown { (f : Expression) × ShowsFormula self.old.manager node f }
         requires room { root_count self.old < 2 ^ 32 - 1 }
         ensures represents { OnOk result ((seen : State) (f : Expression) → Represents self.old seen
             → ShowsFormula self.old.manager node f → Represents self.new (with_name seen name f)) }

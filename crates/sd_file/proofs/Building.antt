@@ -28,15 +28,15 @@ use Rattle.sd_file.proofs.Values.{value_there, last_value}
 
 -- ---- answers
 
--- a node that shows a value is known
-pub known : (t : Table) (f : List Bool → Bool) (c : ℕ) → HasAnswer t f c → IsNodeOf t c
-known t f c h = record { diagram = h.diagram; is = h.is }
+-- a node that shows a value is answer_node
+pub answer_node : (t : Table) (f : List Bool → Bool) (c : ℕ) → HasAnswer t f c → IsNodeOf t c
+answer_node t f c h = record { diagram = h.diagram; is = h.is }
 
--- it stays known in a larger table
+-- it stays answer_node in a larger table
 pub known_on : (old new : Table) (c : ℕ) → Extends old new → IsNodeOf old c → IsNodeOf new c
 known_on old new c kept k = record { diagram = k.diagram; is = shown_on old new kept c k.diagram k.is }
 
--- the answer of a connective is known
+-- the answer of a connective is answer_node
 pub known_combined : (old new : Table) (o : Operation) (a b c : ℕ) → Combines old new o a b c → IsNodeOf old a
     → IsNodeOf old b → IsNodeOf new c
 known_combined old new o a b c combines p q =

@@ -157,7 +157,7 @@ fn ranked_elements(
 // How many elements a decomposition has.
 fn count_of(m: &Manager, node: NodeId) -> u32
     requires table { IsTable m.now }
-    requires known { (p : ℕ) × IsNodeAt m.now p node }
+    requires shown { (p : ℕ) × IsNodeAt m.now p node }
     ensures { length (pairs_at m.now node) ≡ result }
 {
     match m.view(node) {
@@ -170,7 +170,7 @@ fn count_of(m: &Manager, node: NodeId) -> u32
 fn entry_of(alloc: Global, m: &Manager, o: &Ordered, code: u32) -> Result<Entry, AllocError>
     requires table { IsTable m.now }
     requires ranks { AreRanks m.now o.now }
-    requires known { (p : ℕ) × IsNodeAt m.now p code }
+    requires shown { (p : ℕ) × IsNodeAt m.now p code }
     requires ready { HasRankedPairs m.now o.now code }
     ensures code { IfOk result (λ e. e.2 ≡ code) }
     ensures entry { IfOk result (λ e. (p : ℕ) → IsNodeAt m.now p code → IsEntry m.now o.now p e) }
@@ -191,7 +191,7 @@ fn entries_of(
 ) -> Result<Vec<Entry>, AllocError>
     requires table { IsTable m.now }
     requires ranks { AreRanks m.now o.now }
-    requires known { (p : ℕ) × AllByRecursion (IsNodeAt m.now p) group.now }
+    requires shown { (p : ℕ) × AllByRecursion (IsNodeAt m.now p) group.now }
     requires ready { AllByRecursion (HasRankedPairs m.now o.now) group.now }
     ensures codes { IfOk result (λ v. map (λ e. e.2) v.items ≡ group.now) }
     ensures entries { IfOk result (λ v. (p : ℕ) → AllByRecursion (IsNodeAt m.now p) group.now →
@@ -327,7 +327,7 @@ fn constant_rank(value: bool) -> Rank
 // The rank of a literal of the vtree, as DIMACS has it.
 fn literal_rank(m: &Manager, literal: i32) -> Rank
     requires table { IsTable m.now }
-    requires known { (d : Diagram) × IsViewOf m.now (LiteralView literal) d }
+    requires shown { (d : Diagram) × IsViewOf m.now (LiteralView literal) d }
     ensures { (d : Diagram) → IsViewOf m.now (LiteralView literal) d → FitsPlain d result }
 {
     let variable = literal.unsigned_abs();
@@ -353,7 +353,7 @@ fn collect(
 ) -> Result<(), AllocError>
     requires table { IsTable m.now }
     requires collected { AreCollected m.now o.old found.old }
-    requires known { (d : Diagram) × ShowsCanonical m.now node d × (depth d ≤ levels) }
+    requires shown { (d : Diagram) × ShowsCanonical m.now node d × (depth d ≤ levels) }
     ensures collected { OnOk result (AreCollected m.now o.new found.new) }
     ensures keeps_all { OnOk result (KeepCollected o.old o.new found.old found.new) }
     ensures stands { OnOk result (HasRankOrGroup o.new found.new.groups node) }
@@ -385,7 +385,7 @@ fn collect_below(
     requires table { IsTable m.now }
     requires collected { AreCollected m.now o.old found.old }
     requires count { length (pairs_at m.now node) ≡ count }
-    requires known { (p : ℕ) × (es : Elements) × ShowsCanonical m.now node (Decomposition p es)
+    requires shown { (p : ℕ) × (es : Elements) × ShowsCanonical m.now node (Decomposition p es)
         × (depth (Decomposition p es) ≤ levels) }
     ensures collected { OnOk result (AreCollected m.now o.new found.new) }
     ensures keeps_all { OnOk result (KeepCollected o.old o.new found.old found.new) }

@@ -66,7 +66,7 @@ fn add_node(
     listing: &mut Listing,
 ) -> Result<(), AllocError>
     requires table { IsTable m.now }
-    requires known { CanBeWalked m.now (list_of ordered.now) levels node }
+    requires shown { CanBeWalked m.now (list_of ordered.now) levels node }
     requires written { (ds : List Diagram) × HasNodeLines m.now listing.old ds }
     ensures { (d : Diagram) (ds : List Diagram) → Shows m.now node d
         → HasNodeLines m.now listing.old ds →
@@ -96,7 +96,7 @@ fn add_elements(
     listing: &mut Listing,
 ) -> Result<(), AllocError>
     requires table { IsTable m.now }
-    requires known { AllByRecursion (BothCanBeWalked m.now (list_of ordered.now) levels)
+    requires shown { AllByRecursion (BothCanBeWalked m.now (list_of ordered.now) levels)
         elements.now }
     requires written { (ds : List Diagram) × HasNodeLines m.now listing.old ds }
     ensures { (es : Elements) (ds : List Diagram)
@@ -114,7 +114,7 @@ fn add_elements(
 // The literal of the vtree, as DIMACS has it, at its leaf.
 fn leaf_of(m: &Manager, literal: i32) -> Leaf
     requires table { IsTable m.now }
-    requires known { (d : Diagram) × IsViewOf m.now (LiteralView literal) d }
+    requires shown { (d : Diagram) × IsViewOf m.now (LiteralView literal) d }
     ensures { (d : Diagram) → IsViewOf m.now (LiteralView literal) d →
         Literal result.position result.variable result.positive ≡ d }
 {

@@ -1,9 +1,9 @@
--- Groups that stand one after another in one list, with the places where they end.
+-- Groups that stand one after another in one list, with the indices where they end.
 use Rattle.std.specs.Prelude.{ℕ, zero, suc, ◌≤◌, List, [], ◌∷◌, slice_range, ℤ}
 use Rattle.std.specs.Coded.{le_prop}
 use mathlib.Core.HLevel.{×_prop}
 
--- ends that rise, from a place to at most another
+-- ends that rise, from an index to at most another
 abbrev pub AreEnds : ℕ → List ℕ → ℕ → Type 0
 AreEnds from [] total = from ≤ total
 AreEnds from (end ∷ ends) total = (from ≤ end) × AreEnds end ends total

@@ -24,7 +24,7 @@ pub record IsFormula (f : Groups) : Type 0 where
   pub count : length f.groups ≤ 1000000
   pub literals : AllByRecursion (AreLiterals f.variables) f.groups
 
--- the groups that end at these places
+-- the groups that end at these indices
 abbrev pub groups_between : Kind → ℕ → List ℕ → List ℤ → Groups
 groups_between kind variables ends literals =
     record { kind = kind; variables = variables; groups = cut 0 ends literals }

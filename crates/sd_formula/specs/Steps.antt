@@ -22,7 +22,7 @@ pub record Parts : Type 0 where
   pub closed : List (List ℤ)
   pub open_part : List ℤ
 
--- the groups that end at these places, and the literals after them
+-- the groups that end at these indices, and the literals after them
 abbrev pub parts_of : List ℕ → List ℤ → Parts
 parts_of ends literals = record { closed = cut 0 ends literals; open_part = drop (last_end 0 ends) literals }
 

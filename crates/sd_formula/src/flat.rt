@@ -3,7 +3,7 @@
 ghost use Rattle.std.specs.Prelude.{◌≡◌, ◌<◌, ◌≤◌, length, slice_get};
 ghost use Rattle.sd_formula.specs.Flat.{AreEnds, start_at, cut};
 
-/// The group of a number, counted from 0, where the groups end at these places.
+/// The group of a number, counted from 0, where the groups end at these indices.
 pub(crate) fn group_between<'a>(literals: &'a [i32], ends: &[u32], index: usize) -> &'a [i32]
     requires rise { AreEnds 0 ends.now (length literals.now) }
     requires below { index < length ends.now }

@@ -10,7 +10,7 @@ use std::alloc::{AllocError, Global};
 // For how many more items a list gets room at least.
 const LEAST_ROOM: usize = 16;
 
-/// The literals that were read, without zeros, and the places at which groups end.
+/// The literals that were read, without zeros, and the indices at which groups end.
 #[derive(Drop)]
 pub(crate) struct Body {
     pub(crate) literals: Vec<i32>,

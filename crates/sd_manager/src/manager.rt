@@ -174,7 +174,7 @@ impl Manager {
     /// A new root that holds a node. The only error: out of memory, and then nothing is changed.
     pub fn hold(&mut self, node: NodeId) -> Result<Root, AllocError>
         requires no_move { self.old.moving ≡ None }
-        requires known { IsNodeOf self.old node }
+        requires shown { IsNodeOf self.old node }
         requires room { len self.old.roots < 2 ^ 32 - 1 }
         ensures absent { IfOk result (λ root. get self.old.roots root ≡ None) }
         ensures ok { IfOk result (λ root. self.new ≡ with_root self.old root node) }
@@ -201,7 +201,7 @@ impl Manager {
     pub fn rebind(&mut self, root: &mut Root, node: NodeId) -> NodeId
         requires no_move { self.old.moving ≡ None }
         requires root { IsSome (get self.old.roots root.old) }
-        requires known { IsNodeOf self.old node }
+        requires shown { IsNodeOf self.old node }
         ensures held { get self.old.roots root.old ≡ Some result }
         ensures rebound { self.new ≡ with_root self.old root.old node }
         ensures root { root.new ≡ root.old }
@@ -217,7 +217,7 @@ impl Manager {
     pub fn node_of(&self, root: &Root) -> NodeId
         requires { IsSome (get self.now.roots root.now) }
         ensures held { get self.now.roots root.now ≡ Some result }
-        ensures known { self.now.moving ≡ None → IsNodeOf self.now result }
+        ensures shown { self.now.moving ≡ None → IsNodeOf self.now result }
         ensures table { IsTable self.now }
     {
         NodeId(self.roots.code(root))
@@ -257,7 +257,7 @@ impl Manager {
     // The value of a node that shows a diagram of at most so many levels of decompositions.
     fn value_below(&self, node: NodeId, assignment: &[bool], levels: u32) -> bool
         requires table { IsTable self.now }
-        requires known { (d : Diagram) × ShowsCanonical self.now node d × (depth d ≤ levels) }
+        requires shown { (d : Diagram) × ShowsCanonical self.now node d × (depth d ≤ levels) }
         requires values { length assignment.now ≡ leaves (plain_tree self.now.vtree) }
         ensures { (d : Diagram) → ShowsCanonical self.now node d
             → result ≡ meaning d assignment.now }

@@ -25,7 +25,7 @@ fn over_two(alloc: Global, bound: u32) -> Result<(Manager, VNode), AllocError>
 // The node of `1 or 2`: where 1 is false it is 2, and where 1 is true it is true.
 fn one_or_two(m: &mut Manager, root: VNode) -> Result<NodeId, TakeError>
     requires { IsOverTwo m.old root }
-    ensures known { IfOk result (λ c. IsNodeOf m.new c) }
+    ensures shown { IfOk result (λ c. IsNodeOf m.new c) }
     ensures kept { Extends m.old m.new }
     ensures over { IsOverTwo m.new root }
 {
@@ -37,7 +37,7 @@ fn one_or_two(m: &mut Manager, root: VNode) -> Result<NodeId, TakeError>
 // The node of `1`, as a partition: where 1 is false it is false, and where 1 is true it is true.
 fn one(m: &mut Manager, root: VNode) -> Result<NodeId, TakeError>
     requires { IsOverTwo m.old root }
-    ensures known { IfOk result (λ c. IsNodeOf m.new c) }
+    ensures shown { IfOk result (λ c. IsNodeOf m.new c) }
     ensures kept { Extends m.old m.new }
     ensures over { IsOverTwo m.new root }
 {

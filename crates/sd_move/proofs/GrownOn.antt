@@ -9,7 +9,7 @@ use Rattle.std.proofs.lemmas.Option.{none-some}
 use Rattle.sd_model.specs.Tree.{Tree, Node}
 use Rattle.sd_model.specs.Diagram.{Diagram, Literal, meaning}
 use Rattle.sd_vtree.specs.Numbered.{IsUnder, or_else}
-use Rattle.sd_runs.specs.Arena.{Has}
+use Rattle.sd_runs.specs.Arena.{IsMember}
 use Rattle.sd_laws.specs.Depends.{DependsOn}
 use Rattle.sd_laws.specs.Shown.{Lookup, literal_code, ShowsCanonical as ShowsCanonicalBy}
 use Rattle.sd_laws.specs.Values.{Valuation, IsSame, pairs_value, StandsIn, IsWhole, IsPlaced, GivesLiterals, AreOrderly}
@@ -329,7 +329,7 @@ grown_on m0 m m' x p left right v g h =
         let j = there (get m.linked n) w.0 in
         g.above n u l (j.1 ∙ sym (h.extends.nodes n j.0 j.1) ∙ e) (λ k. s (settled_after m m' h.extends u k))
 
-    lists : (n u q : ℕ) (l old : List (ℕ × ℕ)) → get m0.linked n ≡ Some (q, old) → ¬ Has n p.discarded →
+    lists : (n u q : ℕ) (l old : List (ℕ × ℕ)) → get m0.linked n ≡ Some (q, old) → ¬ IsMember n p.discarded →
         Origin m m' n (u, l) → ((get p.rewritten n ≡ None) × (l ≡ old)) ⊎ (get p.rewritten n ≡ Some l)
     lists n u q l old f d (Old e) = g.lists n u q l old e f d
     lists n u q l old f d (New z e) =

@@ -8,7 +8,7 @@ use Rattle.std.specs.FinMap.{FinMap, get, insert, remove}
 use Rattle.std.proofs.lemmas.Bool.{cases_eq}
 use Rattle.std.proofs.lemmas.Option.{none-some, some_pair_parts}
 use Rattle.sd_vtree.specs.Numbered.{Numbered, or_else}
-use Rattle.sd_runs.specs.Arena.{Has}
+use Rattle.sd_runs.specs.Arena.{IsMember}
 use Rattle.sd_runs.proofs.Maps.{get_insert_same, get_insert_other, get_remove_same, get_remove_other}
 use Rattle.sd_laws.specs.Shown.{Lookup, AreKeys, Keeps}
 use Rattle.sd_laws.specs.Values.{Valuation, IsSame, pairs_value, IsWhole, IsPlaced, ShowsValue}
@@ -28,7 +28,7 @@ linked_with m n key loose free extent =
 
 -- the number is new beside these discarded ones
 abbrev IsNewBeside : Table → ℕ → List ℕ → Type 0
-IsNewBeside m0 i numbers = (get m0.linked i ≡ None) ⊎ Has i numbers
+IsNewBeside m0 i numbers = (get m0.linked i ≡ None) ⊎ IsMember i numbers
 
 -- keys
 
@@ -102,14 +102,14 @@ linked_on m0 m x h h' v t g n p l loose free extent c apart_codes =
     record {
       literals = g.literals;
       moving = g.moving;
-      began = λ i a b. g.began i a (subst (λ d. ¬ Has i d) c.discarded b);
-      kept = λ i a b. kept i a (subst (λ d. ¬ Has i d) c.discarded b) (cases_eq i n);
+      began = λ i a b. g.began i a (subst (λ d. ¬ IsMember i d) c.discarded b);
+      kept = λ i a b. kept i a (subst (λ d. ¬ IsMember i d) c.discarded b) (cases_eq i n);
       value = λ i u k e. value i u k e (cases_eq i n);
       whole = λ i u k e. whole i u k e (cases_eq i n);
       placed = λ i u k e. placed i u k e (cases_eq i n);
       settled = λ i u k e s. settled i u k e s (cases_eq i n);
       above = λ i u k e s. above i u k e s (cases_eq i n);
-      lists = λ i u q k old e f b. lists i u q k old e f (subst (λ d. ¬ Has i d) c.discarded b) (cases_eq i n);
+      lists = λ i u q k old e f b. lists i u q k old e f (subst (λ d. ¬ IsMember i d) c.discarded b) (cases_eq i n);
       free = apart_codes;
       new_below = λ i u k e f. new_below i u k e (subst (IsNewBeside m0 i) c.discarded f) (cases_eq i n);
       new_linked = λ a i d k. new_linked a i d (subst (IsNewBeside m0 i) c.discarded k) (cases_eq i n);
@@ -139,7 +139,7 @@ linked_on m0 m x h h' v t g n p l loose free extent c apart_codes =
         subst (λ j. IsSome (key_at m j)) (sym z) own
     number i e (inr d) = subst IsSome (other_key m n i (p, l) d) e
 
-    kept : (i : ℕ) → IsSome (get m0.linked i) → ¬ Has i h.discarded → (i ≡ n) ⊎ (i ≢ n) →
+    kept : (i : ℕ) → IsSome (get m0.linked i) → ¬ IsMember i h.discarded → (i ≡ n) ⊎ (i ≢ n) →
         IsSome (key_after m n (p, l) i)
     kept i a b (inl z) = subst IsSome (sym (new_key m n i (p, l) z)) refl
     kept i a b (inr d) = subst IsSome (sym (other_key m n i (p, l) d)) (g.kept i a b)
@@ -191,7 +191,7 @@ linked_on m0 m x h h' v t g n p l loose free extent c apart_codes =
     above i u k e s (inr d) = g.above i u k (before_linked i u k d e) s
 
     lists : (i u q : ℕ) (k old : List (ℕ × ℕ)) → key_after m n (p, l) i ≡ Some (u, k) →
-        get m0.linked i ≡ Some (q, old) → ¬ Has i h.discarded → (i ≡ n) ⊎ (i ≢ n) →
+        get m0.linked i ≡ Some (q, old) → ¬ IsMember i h.discarded → (i ≡ n) ⊎ (i ≢ n) →
         ((get h'.rewritten i ≡ None) × (k ≡ old)) ⊎ (get h'.rewritten i ≡ Some k)
     lists i u q k old e f b (inl z) =
         subst (λ j. ((get h'.rewritten j ≡ None) × (k ≡ old)) ⊎ (get h'.rewritten j ≡ Some k)) (sym z)

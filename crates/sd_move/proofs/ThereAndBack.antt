@@ -9,7 +9,7 @@ use Rattle.sd_model.specs.Moves.{inverse_move}
 use Rattle.sd_vtree.specs.Numbered.{IsNumbered}
 use Rattle.sd_vtree.specs.NumberedMoves.{moved_number}
 use Rattle.sd_laws.proofs.Turning.{inverse_numbered}
-use Rattle.sd_runs.specs.Arena.{Has}
+use Rattle.sd_runs.specs.Arena.{IsMember}
 use Rattle.sd_runs.proofs.Maps.{get_remove_same, get_remove_other}
 use Rattle.sd_manager.specs.Table.{Table}
 use Rattle.sd_sweep.specs.Reached.{reached_first, reached_below, IsReached, KeepsReached}
@@ -22,7 +22,7 @@ use Rattle.sd_move.proofs.UndoKept.{needed_kept, back_same}
 
 -- a run that is there without these was there, and is none of these
 without_kept : (loose : FinMap nat_cmp (List (ℕ × ℕ))) (starts : List ℕ) (s : ℕ) (l : List (ℕ × ℕ)) →
-    get (without_runs loose starts) s ≡ Some l → (get loose s ≡ Some l) × (¬ Has s starts)
+    get (without_runs loose starts) s ≡ Some l → (get loose s ≡ Some l) × (¬ IsMember s starts)
 without_kept loose [] s l h = (h, λ k. k)
 without_kept loose (m ∷ ms) s l h =
     let i = without_kept (remove loose m) ms s l h in elim (cases_eq s m) [
@@ -31,21 +31,21 @@ without_kept loose (m ∷ ms) s l h =
       | inr z ↦ (sym (get_remove_other loose m s z) ∙ i.0, neither z i.1)
     ]
   where
-    neither : (s ≡ m → ⊥) → ¬ Has s ms → ¬ Has s (m ∷ ms)
+    neither : (s ≡ m → ⊥) → ¬ IsMember s ms → ¬ IsMember s (m ∷ ms)
     neither z n (inl e) = z e
     neither z n (inr e) = n e
 
 -- the start of an own run is one of the journal's
-own_start : (es : List Named) (s : ℕ) → IsOwnRun es s → Has s (starts_of es)
+own_start : (es : List Named) (s : ℕ) → IsOwnRun es s → IsMember s (starts_of es)
 own_start [] s h = absurd h
 own_start (e ∷ es) s (inl h) = go e.run h.1
   where
-    go : (o : Option (ℕ × ℕ)) → o ≡ Some (s, h.0) → Has s (with_start o (starts_of es))
+    go : (o : Option (ℕ × ℕ)) → o ≡ Some (s, h.0) → IsMember s (with_start o (starts_of es))
     go None k = absurd (none-some (s, h.0) k)
     go (Some run) k = inl (sym (ap (λ (x : ℕ × ℕ). x.0) (same_Some run (s, h.0) k)))
 own_start (e ∷ es) s (inr h) = go (own_start es s h) e.run
   where
-    go : Has s (starts_of es) → (o : Option (ℕ × ℕ)) → Has s (with_start o (starts_of es))
+    go : IsMember s (starts_of es) → (o : Option (ℕ × ℕ)) → IsMember s (with_start o (starts_of es))
     go k None = k
     go k (Some run) = inr k
 

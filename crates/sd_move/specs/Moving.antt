@@ -5,7 +5,7 @@ use Rattle.std.specs.Option.{IsSome}
 use Rattle.std.specs.Ordering.{nat_cmp}
 use Rattle.std.specs.FinMap.{FinMap, get}
 use Rattle.sd_vtree.specs.Numbered.{IsUnder}
-use Rattle.sd_runs.specs.Arena.{Has}
+use Rattle.sd_runs.specs.Arena.{IsMember}
 use Rattle.sd_laws.specs.Values.{Valuation, IsSame, pairs_value, IsWhole, IsPlaced, GivesLiterals, ShowsValue, AreApart}
 use Rattle.sd_manager.specs.Table.{Table, key_at}
 use Rattle.sd_manager.specs.Valid.{IsSettled}
@@ -32,17 +32,17 @@ IsBelowNode t x place = (place ≢ x) × IsUnder t.vtree place x
 
 -- The number is none of a node of m0, or was discarded: where it is one of a node, that node is new.
 abbrev pub IsNew : Table → Progress → ℕ → Type 0
-IsNew m0 h n = (get m0.linked n ≡ None) ⊎ Has n h.discarded
+IsNew m0 h n = (get m0.linked n ≡ None) ⊎ IsMember n h.discarded
 
 -- A move at x is on its way from the table m0 to m, and v gives each node its function.
 pub record MoveInProgress (m0 m : Table) (x : ℕ) (h : Progress) (v : Valuation) : Type 0 where
   pub literals : GivesLiterals v
   pub moving : m.moving ≡ Some x
   -- v gives the nodes of m0 the functions that they showed there; a number that was discarded may be another node's
-  pub began : (n : ℕ) → IsSome (get m0.linked n) → ¬ Has n h.discarded →
+  pub began : (n : ℕ) → IsSome (get m0.linked n) → ¬ IsMember n h.discarded →
       ShowsValue m0.vtree (get m0.linked) v (2050 + n)
   -- each of them that was not discarded is linked or detached
-  pub kept : (n : ℕ) → IsSome (get m0.linked n) → ¬ Has n h.discarded → HasNumber m n
+  pub kept : (n : ℕ) → IsSome (get m0.linked n) → ¬ IsMember n h.discarded → HasNumber m n
   -- each node has the function of its list, whose values make a compressed and trimmed partition
   pub value : (n u : ℕ) (list : List (ℕ × ℕ)) → key_at m n ≡ Some (u, list) → IsSame (v (2050 + n)) (pairs_value v list)
   pub whole : (n u : ℕ) (list : List (ℕ × ℕ)) → key_at m n ≡ Some (u, list) → IsWhole v list
@@ -56,7 +56,7 @@ pub record MoveInProgress (m0 m : Table) (x : ℕ) (h : Progress) (v : Valuation
       get m0.linked n ≡ Some (u, list)
   -- a node of m0 has its list of m0, or the one that it was given last and that was not put back
   pub lists : (n u p : ℕ) (list old : List (ℕ × ℕ)) → key_at m n ≡ Some (u, list) → get m0.linked n ≡ Some (p, old) →
-      ¬ Has n h.discarded → ((get h.rewritten n ≡ None) × (list ≡ old)) ⊎ (get h.rewritten n ≡ Some list)
+      ¬ IsMember n h.discarded → ((get h.rewritten n ≡ None) × (list ≡ old)) ⊎ (get h.rewritten n ≡ Some list)
   -- from the first rewriting until the way back no detached node stands in the list of another
   pub free : h.has_rewritten ≡ true → h.goes_back ≡ false → (n u : ℕ) (list : List (ℕ × ℕ)) →
       get m.detached n ≡ Some (u, list) →

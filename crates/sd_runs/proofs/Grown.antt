@@ -10,7 +10,7 @@ use Rattle.std.specs.List.{sum_by}
 use Rattle.std.specs.FinMap.{get, insert}
 use Rattle.sd_runs.specs.Arena.{free_of}
 use Rattle.sd_runs.specs.Taking.{taken, taken_at}
-use Rattle.sd_runs.specs.Fields.{chain, list_at, lists_of, stacks_of, lengths_of, filled_map, no_run, zeros, block}
+use Rattle.sd_runs.specs.Fields.{chain, run_list, lists_of, stacks_of, lengths_of, filled_map, no_run, zeros, block}
 use Rattle.sd_runs.specs.Stored.{AreRunsStored, HoldsRuns, IsFreeChain}
 use Rattle.sd_runs.proofs.Arenas.{arena_of, same_arena}
 use Rattle.sd_runs.proofs.Chains.{chain_kept}
@@ -186,20 +186,20 @@ module _ (elements : List (ℕ × ℕ)) (lengths heads : List ℕ) (used bound n
       part_grown (x ∷ xs) ys (suc t) (suc m) h = part_grown xs ys t (suc m) (omega arith)
 
   listed : (t : ℕ) → get_or lists t []
-      ≡ list_at new (stacks_of elements heads) t (get_or (lengths_of (lengths ++ n ∷ [])) t 0)
+      ≡ run_list new (stacks_of elements heads) t (get_or (lengths_of (lengths ++ n ∷ [])) t 0)
   listed t =
       placed (lists_of elements lengths heads ++ blanks n) (length elements) list [] t
-      (λ l. l ≡ list_at new (stacks_of elements heads) t (get_or (lengths_of (lengths ++ n ∷ [])) t 0)) list_inside
-      (λ e. subst (λ j. list ≡ list_at new (stacks_of elements heads) j (get_or (lengths_of (lengths ++ n ∷ [])) j 0))
+      (λ l. l ≡ run_list new (stacks_of elements heads) t (get_or (lengths_of (lengths ++ n ∷ [])) t 0)) list_inside
+      (λ e. subst (λ j. list ≡ run_list new (stacks_of elements heads) j (get_or (lengths_of (lengths ++ n ∷ [])) j 0))
       (sym e)
-      (sym (ap (list_at new (stacks_of elements heads) (length elements)) size_here
+      (sym (ap (run_list new (stacks_of elements heads) (length elements)) size_here
       ∙ list_live new (stacks_of elements heads) (length elements) n
       (λ h. not_end k.stored n (length elements) h refl)
       ∙ ap (take n) (drop_at elements list (length elements) refl)
       ∙ ap (take n) (sym (append-nil list)) ∙ take_at list [] n size)))
       (λ ne. blank_read (lists_of elements lengths heads) n t
       ∙ list_first elements (stacks_of elements heads) (lengths_of lengths) t
-      ∙ sym (ap (list_at new (stacks_of elements heads) t) (size_there t ne)
+      ∙ sym (ap (run_list new (stacks_of elements heads) t) (size_there t ne)
       ∙ list_same elements new (stacks_of elements heads) (stacks_of elements heads) t
       (get_or (lengths_of lengths) t 0) refl
       (λ pos. old_part t (get_or (lengths_of lengths) t 0) (k.stored.within t pos))))

@@ -4,9 +4,9 @@ use Rattle.std.proofs.Common.{None, refl, sym, ap, subst, ◌∙◌, arith, inl,
 use Rattle.std.proofs.Math.ListN.{set}
 use Rattle.std.proofs.lemmas.List.{length-map, length-set, get_or-set_same, get_or-set_other, get_or_default}
 use Rattle.std.specs.FinMap.{get}
-use Rattle.sd_runs.specs.Arena.{Has, IsOnce, free_of, with_list}
+use Rattle.sd_runs.specs.Arena.{IsMember, HasNoCopies, free_of, with_list}
 use Rattle.sd_runs.specs.Taking.{taken, taken_at}
-use Rattle.sd_runs.specs.Fields.{chain, is_in, list_at, lists_of, stacks_of, lengths_of, filled_map, no_run}
+use Rattle.sd_runs.specs.Fields.{chain, is_in, run_list, lists_of, stacks_of, lengths_of, filled_map, no_run}
 use Rattle.sd_runs.specs.Stored.{AreRunsStored, HoldsRuns, IsFreeChain}
 use Rattle.sd_runs.proofs.Arenas.{arena_of, same_arena, free_at}
 use Rattle.sd_runs.proofs.Chains.{chain_kept}
@@ -26,8 +26,8 @@ module _ (elements : List (ℕ × ℕ)) (lengths heads : List ℕ) (used bound s
   on_stack =
       sym (free_at (lists_of elements lengths heads) (stacks_of elements heads) (length elements) bound n) ∙ free
 
-  first : Has s (get_or (stacks_of elements heads) n [])
-  first = subst (Has s) (sym on_stack) (inl refl)
+  first : IsMember s (get_or (stacks_of elements heads) n [])
+  first = subst (IsMember s) (sym on_stack) (inl refl)
 
   run : get_or (lengths_of lengths) s 0 ≡ n
   run = k.stored.sized n s first
@@ -54,8 +54,8 @@ module _ (elements : List (ℕ × ℕ)) (lengths heads : List ℕ) (used bound s
   stack_inside : n < length (stacks_of elements heads)
   stack_inside = omega (arith, has_head, length-map heads (λ head. chain (length elements) elements head))
 
-  alone : IsOnce (s ∷ rest)
-  alone = subst IsOnce on_stack (k.stored.once n)
+  alone : HasNoCopies (s ∷ rest)
+  alone = subst HasNoCopies on_stack (k.stored.once n)
 
   chain_here : IsFreeChain elements (get_or heads n no_run) (s ∷ rest)
   chain_here = subst (IsFreeChain elements (get_or heads n no_run)) on_stack (k.chained n)
@@ -79,7 +79,7 @@ module _ (elements : List (ℕ × ℕ)) (lengths heads : List ℕ) (used bound s
         (stored_reuse k.stored n s rest list on_stack size at_least_one stack_inside)
 
     -- the first elements of the other free runs stay
-    other : (m x : ℕ) → Has x (get_or (stacks_of elements heads) m []) → ¬ (x ≡ s)
+    other : (m x : ℕ) → IsMember x (get_or (stacks_of elements heads) m []) → ¬ (x ≡ s)
         → get_or new x (0, 0) ≡ get_or elements x (0, 0)
     other m x h ne =
         let there : get_or (lengths_of lengths) x 0 ≡ m = k.stored.sized m x h in
@@ -95,8 +95,8 @@ module _ (elements : List (ℕ × ℕ)) (lengths heads : List ℕ) (used bound s
         (λ e. subst (λ at. IsFreeChain new at rest)
         (sym (ap (λ j. get_or (set heads n next) j no_run) e ∙ get_or-set_same heads n next no_run has_head))
         (chain_kept elements new next rest
-        (λ x h. other n x (subst (Has x) (sym on_stack) (inr h))
-        (λ same_start. alone.0 (subst (λ j. Has j rest) same_start h)))
+        (λ x h. other n x (subst (IsMember x) (sym on_stack) (inr h))
+        (λ same_start. alone.0 (subst (λ j. IsMember j rest) same_start h)))
         chain_here.1))
         (λ ne. subst (λ at. IsFreeChain new at (get_or (stacks_of elements heads) m []))
         (sym (get_or-set_other heads n m next no_run ne))
@@ -112,13 +112,13 @@ module _ (elements : List (ℕ × ℕ)) (lengths heads : List ℕ) (used bound s
         ∙ ap (λ b. cond b true (is_in t rest)) (not_equal t s ne)))
         (λ _. refl)
 
-    listed : (t : ℕ) → get_or lists t [] ≡ list_at new starts t (get_or (lengths_of lengths) t 0)
+    listed : (t : ℕ) → get_or lists t [] ≡ run_list new starts t (get_or (lengths_of lengths) t 0)
     listed t =
         placed (lists_of elements lengths heads) s list [] t
-        (λ l. l ≡ list_at new starts t (get_or (lengths_of lengths) t 0)) list_inside
-        (λ e. subst (λ j. list ≡ list_at new starts j (get_or (lengths_of lengths) j 0)) (sym e)
-        (sym (ap (list_at new starts s) run
-        ∙ list_live new starts s n (λ h. alone.0 (subst (Has s)
+        (λ l. l ≡ run_list new starts t (get_or (lengths_of lengths) t 0)) list_inside
+        (λ e. subst (λ j. list ≡ run_list new starts j (get_or (lengths_of lengths) j 0)) (sym e)
+        (sym (ap (run_list new starts s) run
+        ∙ list_live new starts s n (λ h. alone.0 (subst (IsMember s)
         (get_or-set_same (stacks_of elements heads) n rest [] stack_inside) h))
         ∙ with_it)))
         (λ ne. list_first elements (stacks_of elements heads) (lengths_of lengths) t

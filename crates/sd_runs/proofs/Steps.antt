@@ -5,7 +5,7 @@ use Rattle.std.proofs.Math.ListN.{set}
 use Rattle.std.proofs.lemmas.Bool.{cases_eq}
 use Rattle.std.proofs.lemmas.List.{length-set, get_or-set_same, get_or-set_other}
 use Rattle.std.proofs.lemmas.List.Sums.{sum_by-set}
-use Rattle.sd_runs.specs.Arena.{Has, IsOnce}
+use Rattle.sd_runs.specs.Arena.{IsMember, HasNoCopies}
 use Rattle.sd_runs.specs.Stored.{AreRunsStored}
 use Rattle.sd_runs.proofs.Places.{by_cases, placed, list_inside, no_elements, sum_below}
 use Rattle.sd_runs.proofs.Totals.{free_sum_set, times_more}
@@ -26,7 +26,7 @@ module _ {lists : List (List (ℕ × ℕ))} {lengths : List ℕ} {stacks : List 
   used_fits = omega (arith, st.uses, st.fills, sum_below lists lengths st.same_length fits_each)
 
   -- a free run lies within the extent
-  pub free_inside : (n s : ℕ) → Has s (get_or stacks n []) → s + n ≤ extent
+  pub free_inside : (n s : ℕ) → IsMember s (get_or stacks n []) → s + n ≤ extent
   free_inside n s h =
       let size : get_or lengths s 0 ≡ n = st.sized n s h in
       let pos : 0 < n = st.at_least_one n s h in
@@ -49,18 +49,18 @@ module _ {lists : List (List (ℕ × ℕ))} {lengths : List ℕ} {stacks : List 
             (λ _ h. absurd (omega arith)) (λ _. st.held t);
         within = st.within;
         apart = st.apart;
-        sized = λ m t. placed stacks n (s ∷ get_or stacks n []) [] m (λ l. Has t l → get_or lengths t 0 ≡ m) in_stacks
-            (λ e. by_cases (λ same. ap (λ j. get_or lengths j 0) same ∙ sym size_is ∙ size ∙ sym e)
+        sized = λ m t. placed stacks n (s ∷ get_or stacks n []) [] m (λ l. IsMember t l → get_or lengths t 0 ≡ m) in_stacks
+            (λ e. by_cases (λ same. ap (λ j. get_or lengths j 0) (sym same) ∙ sym size_is ∙ size ∙ sym e)
             (λ h. st.sized n t h ∙ sym e))
             (λ _. st.sized m t);
-        at_least_one = λ m t. placed stacks n (s ∷ get_or stacks n []) [] m (λ l. Has t l → 0 < m) in_stacks
+        at_least_one = λ m t. placed stacks n (s ∷ get_or stacks n []) [] m (λ l. IsMember t l → 0 < m) in_stacks
             (λ e _. omega arith) (λ _. st.at_least_one m t);
         free = λ m t. placed stacks n (s ∷ get_or stacks n []) [] m
-            (λ l. Has t l → get_or (set lists s []) t [] ≡ []) in_stacks
+            (λ l. IsMember t l → get_or (set lists s []) t [] ≡ []) in_stacks
             (λ e h. placed lists s [] [] t (λ l. l ≡ []) inside (λ _. refl)
-            (λ ne. by_cases (λ same. absurd (ne same)) (λ old. st.free n t old) h))
+            (λ ne. by_cases (λ same. absurd (ne (sym same))) (λ old. st.free n t old) h))
             (λ _ h. placed lists s [] [] t (λ l. l ≡ []) inside (λ _. refl) (λ _. st.free m t h));
-        once = λ m. placed stacks n (s ∷ get_or stacks n []) [] m IsOnce in_stacks
+        once = λ m. placed stacks n (s ∷ get_or stacks n []) [] m HasNoCopies in_stacks
             (λ _. (
               (λ h. let none : length (get_or lists s []) ≡ 0 = ap length (st.free n s h) in omega arith),
               st.once n,
@@ -86,29 +86,29 @@ module _ {lists : List (List (ℕ × ℕ))} {lengths : List ℕ} {stacks : List 
       → length list ≡ n → 0 < n → n < length stacks
       → AreRunsStored (set lists s list) lengths (set stacks n rest) (used + n) extent bound
   stored_reuse n s rest list stack size pos in_stacks =
-      let first : Has s (get_or stacks n []) = subst (Has s) (sym stack) (inl refl) in
+      let first : IsMember s (get_or stacks n []) = subst (IsMember s) (sym stack) (inl refl) in
       let inside : s < length lists = omega (arith, free_inside n s first, st.covered) in
       let empty : get_or lists s [] ≡ [] = st.free n s first in
       let size_is : get_or lengths s 0 ≡ n = st.sized n s first in
-      let alone : IsOnce (s ∷ rest) = subst IsOnce stack (st.once n) in
+      let alone : HasNoCopies (s ∷ rest) = subst HasNoCopies stack (st.once n) in
       record {
         same_length = length-set lists s list ∙ st.same_length;
         held = λ t. placed lists s list [] t (λ l. 0 < length l → length l ≡ get_or lengths t 0) inside
             (λ e _. size ∙ sym size_is ∙ ap (λ j. get_or lengths j 0) (sym e)) (λ _. st.held t);
         within = st.within;
         apart = st.apart;
-        sized = λ m t. placed stacks n rest [] m (λ l. Has t l → get_or lengths t 0 ≡ m) in_stacks
-            (λ e h. st.sized n t (subst (Has t) (sym stack) (inr h)) ∙ sym e) (λ _. st.sized m t);
-        at_least_one = λ m t. placed stacks n rest [] m (λ l. Has t l → 0 < m) in_stacks (λ e _. omega arith)
+        sized = λ m t. placed stacks n rest [] m (λ l. IsMember t l → get_or lengths t 0 ≡ m) in_stacks
+            (λ e h. st.sized n t (subst (IsMember t) (sym stack) (inr h)) ∙ sym e) (λ _. st.sized m t);
+        at_least_one = λ m t. placed stacks n rest [] m (λ l. IsMember t l → 0 < m) in_stacks (λ e _. omega arith)
             (λ _. st.at_least_one m t);
-        free = λ m t. placed stacks n rest [] m (λ l. Has t l → get_or (set lists s list) t [] ≡ []) in_stacks
+        free = λ m t. placed stacks n rest [] m (λ l. IsMember t l → get_or (set lists s list) t [] ≡ []) in_stacks
             (λ e h. placed lists s list [] t (λ l. l ≡ []) inside
-            (λ same. absurd (alone.0 (subst (λ j. Has j rest) same h)))
-            (λ _. st.free n t (subst (Has t) (sym stack) (inr h))))
+            (λ same. absurd (alone.0 (subst (λ j. IsMember j rest) same h)))
+            (λ _. st.free n t (subst (IsMember t) (sym stack) (inr h))))
             (λ ne h. placed lists s list [] t (λ l. l ≡ []) inside
             (λ same. absurd (ne (sym (st.sized m t h) ∙ ap (λ j. get_or lengths j 0) same ∙ size_is)))
             (λ _. st.free m t h));
-        once = λ m. placed stacks n rest [] m IsOnce in_stacks (λ _. alone.1) (λ _. st.once m);
+        once = λ m. placed stacks n rest [] m HasNoCopies in_stacks (λ _. alone.1) (λ _. st.once m);
         uses = omega (arith, st.uses, sum_by-set length lists s list [] inside, size, ap length empty);
         fills = st.fills;
         whole = omega (
@@ -136,7 +136,7 @@ module _ {lists : List (List (ℕ × ℕ))} {lengths : List ℕ} {stacks : List 
       (λ h. let e : length (get_or lists extent []) ≡ get_or lengths extent 0 = st.held extent h in
       omega (arith, no_length))
 
-  pub not_end : (m t : ℕ) → Has t (get_or stacks m []) → ¬ (t ≡ extent)
+  pub not_end : (m t : ℕ) → IsMember t (get_or stacks m []) → ¬ (t ≡ extent)
   not_end m t h e =
       let pos : 0 < m = st.at_least_one m t h in
       let size : get_or lengths t 0 ≡ m = st.sized m t h in

@@ -3,8 +3,8 @@ use Rattle.std.proofs.Common.{◌≡◌, ◌⊎◌, ℕ, suc, zero, ◌+◌, ◌
 use Rattle.std.proofs.Common.{refl, sym, ap, subst, ◌∙◌, arith, inl, inr}
 use Rattle.std.proofs.Math.Nat.{mul-le-mul_right}
 use Rattle.std.proofs.lemmas.List.{length-map}
-use Rattle.sd_runs.specs.Arena.{Has, IsOnce}
-use Rattle.sd_runs.specs.Fields.{chain, is_in, list_at, lists_from, lists_of, stacks_of, lengths_of, free_sum, no_run}
+use Rattle.sd_runs.specs.Arena.{IsMember, HasNoCopies}
+use Rattle.sd_runs.specs.Fields.{chain, is_in, run_list, lists_from, lists_of, stacks_of, lengths_of, free_sum, no_run}
 use Rattle.sd_runs.specs.Padded.{IsPadded}
 use Rattle.sd_runs.specs.Stored.{AreRunsStored, HoldsRuns, IsFreeChain}
 use Rattle.sd_runs.proofs.Arenas.{arena_of, same_arena}
@@ -38,11 +38,11 @@ module _ {lists : List (List (ℕ × ℕ))} {lengths : List ℕ} {stacks : List 
       by_first : (xs : List ℕ) → get_or stacks n [] ≡ xs → length (get_or stacks n []) ≤ extent
       by_first [] e = omega (arith, ap length e)
       by_first (x ∷ xs) e =
-          let pos : 0 < n = st.at_least_one n x (subst (Has x) (sym e) (inl refl)) in
+          let pos : 0 < n = st.at_least_one n x (subst (IsMember x) (sym e) (inl refl)) in
           omega (arith, short_sum 0 stacks n (omega (arith, pos)), st.whole)
 
   -- a free run starts below the mark of no run
-  pub below : (n x : ℕ) → Has x (get_or stacks n []) → x < no_run
+  pub below : (n x : ℕ) → IsMember x (get_or stacks n []) → x < no_run
   below n x h = omega (arith, free_inside st n x h, st.at_least_one n x h, st.bounded, st.bound_fits)
 
   -- two runs do not overlap
@@ -61,7 +61,7 @@ module _ {lists : List (List (ℕ × ℕ))} {lengths : List ℕ} {stacks : List 
       → length new ≡ length old
       → ((k : ℕ) → (k < s) ⊎ (s + get_or lengths s 0 ≤ k) → get_or new k (0, 0) ≡ get_or old k (0, 0))
       → (is_in t (get_or after (get_or lengths t 0) []) ≡ is_in t (get_or stacks (get_or lengths t 0) []))
-      → list_at new after t (get_or lengths t 0) ≡ list_at old stacks t (get_or lengths t 0)
+      → run_list new after t (get_or lengths t 0) ≡ run_list old stacks t (get_or lengths t 0)
   list_other old new after s t ne here size same free =
       list_same old new stacks after t (get_or lengths t 0) free
       (λ there. part_same new old t (get_or lengths t 0) size
@@ -76,10 +76,10 @@ module _ {lists : List (List (ℕ × ℕ))} {lengths : List ℕ} {stacks : List 
         held = st.held;
         within = st.within;
         apart = st.apart;
-        sized = λ n s h. st.sized n s (subst (Has s) (same n) h);
-        at_least_one = λ n s h. st.at_least_one n s (subst (Has s) (same n) h);
-        free = λ n s h. st.free n s (subst (Has s) (same n) h);
-        once = λ n. subst IsOnce (sym (same n)) (st.once n);
+        sized = λ n s h. st.sized n s (subst (IsMember s) (same n) h);
+        at_least_one = λ n s h. st.at_least_one n s (subst (IsMember s) (same n) h);
+        free = λ n s h. st.free n s (subst (IsMember s) (same n) h);
+        once = λ n. subst HasNoCopies (sym (same n)) (st.once n);
         uses = st.uses;
         fills = st.fills;
         whole = ap (λ n. used + n) (free_sum_same 0 new stacks same) ∙ st.whole;
@@ -93,7 +93,7 @@ module _ (elements : List (ℕ × ℕ)) (lengths heads : List ℕ) {lists : List
     (st : AreRunsStored lists (lengths_of lengths) stacks used (length elements) bound)
     (places : length stacks ≡ length heads)
     (chained : (n : ℕ) → IsFreeChain elements (get_or heads n no_run) (get_or stacks n []))
-    (listed : (k : ℕ) → get_or lists k [] ≡ list_at elements stacks k (get_or (lengths_of lengths) k 0))
+    (listed : (k : ℕ) → get_or lists k [] ≡ run_list elements stacks k (get_or (lengths_of lengths) k 0))
     (filled : length (lengths_of lengths) ≡ length elements)
     (placed : (s : ℕ) → 0 < get_or (lengths_of lengths) s 0 → get_or (lengths_of lengths) s 0 < length heads) where
   -- the chains tell the starts of the free runs
@@ -141,7 +141,7 @@ module _ (elements : List (ℕ × ℕ)) (lengths heads more : List ℕ) {used bo
       (subst (IsFreeChain elements (get_or heads n no_run)) (sym (stacks_padded n)) (k.chained n))
 
   listed_padded : (s : ℕ) → get_or (lists_of elements lengths heads) s []
-      ≡ list_at elements (stacks_of elements more) s (get_or (lengths_of lengths) s 0)
+      ≡ run_list elements (stacks_of elements more) s (get_or (lengths_of lengths) s 0)
   listed_padded s =
       list_first elements (stacks_of elements heads) (lengths_of lengths) s
       ∙ sym (list_same elements elements (stacks_of elements heads) (stacks_of elements more) s

@@ -1,7 +1,7 @@
 -- What holds of the fields of the runs.
 use Rattle.std.specs.Prelude.{◌≡◌, ℕ, ◌+◌, ◌<◌, ◌≤◌, ◌^◌, List, [], ◌∷◌, length, get_or}
 use Rattle.std.specs.List.{sum_by}
-use Rattle.sd_runs.specs.Arena.{Has, IsOnce}
+use Rattle.sd_runs.specs.Arena.{IsMember, HasNoCopies}
 use Rattle.sd_runs.specs.Fields.{free_sum, lengths_of, no_run, stacks_of, lists_of}
 
 -- The lists of the live runs and the lengths of all runs stand at their starts; the starts of the free runs stand at
@@ -12,10 +12,10 @@ pub record AreRunsStored (lists : List (List (ℕ × ℕ))) (lengths : List ℕ)
   pub held : (s : ℕ) → 0 < length (get_or lists s []) → length (get_or lists s []) ≡ get_or lengths s 0
   pub within : (s : ℕ) → 0 < get_or lengths s 0 → s + get_or lengths s 0 ≤ extent
   pub apart : (s t : ℕ) → 0 < get_or lengths s 0 → 0 < get_or lengths t 0 → s < t → s + get_or lengths s 0 ≤ t
-  pub sized : (n s : ℕ) → Has s (get_or stacks n []) → get_or lengths s 0 ≡ n
-  pub at_least_one : (n s : ℕ) → Has s (get_or stacks n []) → 0 < n
-  pub free : (n s : ℕ) → Has s (get_or stacks n []) → get_or lists s [] ≡ []
-  pub once : (n : ℕ) → IsOnce (get_or stacks n [])
+  pub sized : (n s : ℕ) → IsMember s (get_or stacks n []) → get_or lengths s 0 ≡ n
+  pub at_least_one : (n s : ℕ) → IsMember s (get_or stacks n []) → 0 < n
+  pub free : (n s : ℕ) → IsMember s (get_or stacks n []) → get_or lists s [] ≡ []
+  pub once : (n : ℕ) → HasNoCopies (get_or stacks n [])
   pub uses : used ≡ sum_by length lists
   pub fills : sum_by (λ n. n) lengths ≡ extent
   pub whole : used + free_sum 0 stacks ≡ extent

@@ -20,7 +20,7 @@ use Rattle.sd_script.specs.Scripts.{numbers_fit, is_within}
 use Rattle.sd_script.specs.Scripts.{checked, with_phrase, with_command, with_line, after_line}
 use Rattle.sd_script.specs.Scripts.{after_lines, script_of}
 use Rattle.sd_script.proofs.Bits.{bits_fit, phrase_fits}
-use Rattle.sd_script.proofs.Seeing.{known, length_see_least}
+use Rattle.sd_script.proofs.Seeing.{numbers_within, length_see_least}
 
 -- ---- steps of a reading that has no fault
 
@@ -54,7 +54,7 @@ not_not false h = cc
 
 -- what the tests of a command tell
 record Passes (v : ℕ) (earlier : List Command) (phrase : Phrase ℕ) : Type 0 where
-  known : list_all (has (bound earlier)) (uses (action_of phrase)) ≡ true
+  used_bound : list_all (has (bound earlier)) (uses (action_of phrase)) ≡ true
   free : list_any (has (bound earlier)) (binds (action_of phrase)) ≡ false
   literals : literals_fit v phrase ≡ true
   numbers : numbers_fit v phrase ≡ true
@@ -70,7 +70,7 @@ passes v earlier line phrase h =
     let four = passed _ (faults.NumberRange line) _ tt three.1 in
     let five = passed _ (faults.FileTwice line) _ tt four.1 in
     record {
-      known = not_not _ one.0;
+      used_bound = not_not _ one.0;
       free = two.0;
       literals = not_not _ three.0;
       numbers = not_not _ four.0;
@@ -159,7 +159,7 @@ still_allowed : (v : ℕ) (s t : Script) (earlier : List Command) (c : Command)
 still_allowed v s t earlier c names files h = record {
   names = all_below (length s.names) (length t.names) _ names h.names;
   files = all_below (length s.files) (length t.files) _ files h.files;
-  known = h.known;
+  used_bound = h.used_bound;
   free = h.free;
   unwritten = h.unwritten;
   ranges = h.ranges;
@@ -173,11 +173,11 @@ allowed : (v : ℕ) (s : Script) (line : ℕ) (phrase : Phrase Word) → bits_fi
 allowed v s line phrase bits h =
     let q = numbered_phrase (seen s phrase) phrase in
     let t = seen s phrase in
-    let k = known s phrase in
+    let k = numbers_within s phrase in
     record {
       names = subst (AllByRecursion (λ n. n < length t.names)) (names_same q) k.names;
       files = subst (AllByRecursion (λ n. n < length t.files)) (files_same q) k.files;
-      known = h.known;
+      used_bound = h.used_bound;
       free = h.free;
       unwritten = h.unwritten;
       ranges =

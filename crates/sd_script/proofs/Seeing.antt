@@ -44,39 +44,39 @@ within_three words a b c =
     (has_see_other (see (see words a) b) a c (has_see_other (see words a) a b (has_see words a)))
 
 -- of two
-known_two : (words : List Word) (a b : Word)
+numbers_within_two : (words : List Word) (a b : Word)
     → AllByRecursion (λ n. n < length (see (see words a) b))
     (number_of_word (see (see words a) b) a ∷ number_of_word (see (see words a) b) b ∷ [])
-known_two words a b = (within_two words a b, (within_one (see words a) b, tt))
+numbers_within_two words a b = (within_two words a b, (within_one (see words a) b, tt))
 
 -- the numbers of a phrase are those of words that were seen
-pub known : (s : Script) (p : Phrase Word) → HasNamesIn (seen s p) (numbered_phrase (seen s p) p)
-known s (phrases.Input n) = record { names = (within_one s.names n, tt); files = tt }
-known s (phrases.Load n f) =
+pub numbers_within : (s : Script) (p : Phrase Word) → HasNamesIn (seen s p) (numbered_phrase (seen s p) p)
+numbers_within s (phrases.Input n) = record { names = (within_one s.names n, tt); files = tt }
+numbers_within s (phrases.Load n f) =
     record { names = (within_one s.names n, tt); files = (within_one s.files f, tt) }
-known s (phrases.Lit n literal) = record { names = (within_one s.names n, tt); files = tt }
-known s (phrases.Constant n value) = record { names = (within_one s.names n, tt); files = tt }
-known s (phrases.Binary operation n a b) = record {
-  names = (within_three s.names n a b, known_two (see s.names n) a b);
+numbers_within s (phrases.Lit n literal) = record { names = (within_one s.names n, tt); files = tt }
+numbers_within s (phrases.Constant n value) = record { names = (within_one s.names n, tt); files = tt }
+numbers_within s (phrases.Binary operation n a b) = record {
+  names = (within_three s.names n a b, numbers_within_two (see s.names n) a b);
   files = tt;
 }
-known s (phrases.Not n a) =
-    record { names = known_two s.names n a; files = tt }
-known s (phrases.Given n a literal) =
-    record { names = known_two s.names n a; files = tt }
-known s (phrases.Forget n a x) =
-    record { names = known_two s.names n a; files = tt }
-known s (phrases.Drop a) = record { names = (within_one s.names a, tt); files = tt }
-known s (phrases.Turn kind p) = record { names = tt; files = tt }
-known s (phrases.Minimise rounds) = record { names = tt; files = tt }
-known s (phrases.Limit k) = record { names = tt; files = tt }
-known s (phrases.Same a b) =
-    record { names = known_two s.names a b; files = tt }
-known s (phrases.Size a) = record { names = (within_one s.names a, tt); files = tt }
-known s (phrases.Value a bits) = record { names = (within_one s.names a, tt); files = tt }
-known s (phrases.Write a f) =
+numbers_within s (phrases.Not n a) =
+    record { names = numbers_within_two s.names n a; files = tt }
+numbers_within s (phrases.Given n a literal) =
+    record { names = numbers_within_two s.names n a; files = tt }
+numbers_within s (phrases.Forget n a x) =
+    record { names = numbers_within_two s.names n a; files = tt }
+numbers_within s (phrases.Drop a) = record { names = (within_one s.names a, tt); files = tt }
+numbers_within s (phrases.Turn kind p) = record { names = tt; files = tt }
+numbers_within s (phrases.Minimise rounds) = record { names = tt; files = tt }
+numbers_within s (phrases.Limit k) = record { names = tt; files = tt }
+numbers_within s (phrases.Same a b) =
+    record { names = numbers_within_two s.names a b; files = tt }
+numbers_within s (phrases.Size a) = record { names = (within_one s.names a, tt); files = tt }
+numbers_within s (phrases.Value a bits) = record { names = (within_one s.names a, tt); files = tt }
+numbers_within s (phrases.Write a f) =
     record { names = (within_one s.names a, tt); files = (within_one s.files f, tt) }
-known s (phrases.Vtree f) = record { names = tt; files = (within_one s.files f, tt) }
+numbers_within s (phrases.Vtree f) = record { names = tt; files = (within_one s.files f, tt) }
 
 -- ---- how many words there are
 
@@ -146,10 +146,10 @@ room_seen n s p h = record {
 
 -- ---- the same, of scripts that are equal
 
--- the numbers are known
-pub known_as : (s t : Script) (p : Phrase Word) (q : Phrase ℕ)
+-- the numbers are numbers_within
+pub numbers_within_as : (s t : Script) (p : Phrase Word) (q : Phrase ℕ)
     → t ≡ seen s p → q ≡ numbered_phrase t p → HasNamesIn t q
-known_as s t p q e f = rw (f, e) (known s p)
+numbers_within_as s t p q e f = rw (f, e) (numbers_within s p)
 
 -- there is room where no further names and files came
 pub room_as : (n : ℕ) (s t u : Script) (p : Phrase Word)

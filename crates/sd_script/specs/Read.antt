@@ -30,7 +30,7 @@ in_range v action = true
 pub record IsAllowed (v : ℕ) (s : Script) (earlier : List Command) (c : Command) : Type 0 where
   pub names : AllByRecursion (λ n. n < length s.names) (binds c.action ++ uses c.action)
   pub files : AllByRecursion (λ n. n < length s.files) (reads c.action ++ writes c.action)
-  pub known : list_all (has (bound earlier)) (uses c.action) ≡ true
+  pub used_bound : list_all (has (bound earlier)) (uses c.action) ≡ true
   pub free : list_any (has (bound earlier)) (binds c.action) ≡ false
   pub unwritten : list_any (has (written_files earlier)) (writes c.action) ≡ false
   pub ranges : in_range v c.action ≡ true

@@ -20,7 +20,7 @@ use Rattle.sd_script.specs.Phrases.{Phrase, Word, Lit, Given, Forget, Turn, Mini
 use Rattle.sd_script.specs.Phrases.{phrase_of, names_in, files_in, renamed}
 
 -- A script as it is seen. The names, and apart from them the files, stand in the order in which
--- they are first seen, and the commands have their places there, counted from 0.
+-- they are first seen, and the commands have their indices there, counted from 0.
 pub record Script : Type 0 where
   pub commands : List Command
   pub names : List Word

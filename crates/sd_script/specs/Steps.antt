@@ -12,7 +12,7 @@ use Rattle.sd_script.specs.Tables.{table_words}
 abbrev pub script_view : Reader → Script
 script_view r = record { commands = r.commands.items; names = table_words r.names; files = table_words r.files }
 
--- the numbers of a phrase are those of words
+-- the numbers of a phrase are those of names and files
 pub record HasNamesIn (script : Script) (phrase : Phrase ℕ) : Type 0 where
   pub names : AllByRecursion (λ n. n < length script.names) (names_in phrase)
   pub files : AllByRecursion (λ n. n < length script.files) (files_in phrase)

@@ -150,7 +150,7 @@ impl<'a> Reader<'a> {
     #[tactic(auto, using(crate::proofs::Marking::more))]
     fn put(&mut self, line: u32, action: Action, phrase: &Phrase<'a, u32>) -> Result<(), AllocError>
         requires action { action ≡ commands.action_of (numbers_view phrase.now) }
-        requires known { HasNamesIn (script_view self.old) (numbers_view phrase.now) }
+        requires names { HasNamesIn (script_view self.old) (numbers_view phrase.now) }
         requires loads { commands.is_load (commands.action_of (numbers_view phrase.now)) ≡ true
             → self.old.loaded < 64 }
         ensures value { OnOk result (script_view self.new ≡ record (script_view self.old) {
@@ -178,7 +178,7 @@ impl<'a> Reader<'a> {
     ) -> Result<(), ScriptFault>
         requires at_least_one { 1 ≤ variables }
         requires within_limit { variables ≤ 1024 }
-        requires known { HasNamesIn (script_view self.old) (numbers_view phrase.now) }
+        requires names { HasNamesIn (script_view self.old) (numbers_view phrase.now) }
         ensures value { Gives (λ _. script_view self.new) result
             (texts.with_phrase variables (script_view self.old) line (numbers_view phrase.now)) }
         ensures names { table_words self.new.names ≡ table_words self.old.names }

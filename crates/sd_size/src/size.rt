@@ -27,7 +27,7 @@ pub fn size_of_root(alloc: Global, m: &Manager, root: &Root) -> Result<u64, Allo
 
 /// The nodes of the distinct diagrams under the one that a node shows, each once. The only error: out of memory.
 pub fn nodes_below(alloc: Global, m: &Manager, node: NodeId) -> Result<Vec<NodeId>, AllocError>
-    requires known { (d : Diagram) × ShowsCanonical m.now node d }
+    requires shown { (d : Diagram) × ShowsCanonical m.now node d }
     ensures below { IfOk result (λ v. (d : Diagram) → ShowsCanonical m.now node d
         → AreBelow m.now v.items d) }
     ensures distinct { IfOk result (λ v. AreDistinct v.items) }
@@ -42,7 +42,7 @@ pub fn nodes_below(alloc: Global, m: &Manager, node: NodeId) -> Result<Vec<NodeI
 #[cycle(listing)]
 fn list_below(m: &Manager, node: NodeId, levels: u32, nodes: &mut Listed) -> Result<(), AllocError>
     requires table { IsTable m.now }
-    requires known { (d : Diagram) × ShowsCanonical m.now node d × (depth d ≤ levels) }
+    requires shown { (d : Diagram) × ShowsCanonical m.now node d × (depth d ≤ levels) }
     ensures { OnOk result ((d : Diagram) → ShowsCanonical m.now node d
         → Adds m.now nodes.old nodes.new (walk d)) }
 {
@@ -70,7 +70,7 @@ fn list_children(
 ) -> Result<(), AllocError>
     requires table { IsTable m.now }
     requires count { length (pairs_at m.now node) ≡ count }
-    requires known { (p : ℕ) × (es : Elements) × ShowsCanonical m.now node (Decomposition p es)
+    requires shown { (p : ℕ) × (es : Elements) × ShowsCanonical m.now node (Decomposition p es)
         × (depth (Decomposition p es) ≤ levels) }
     ensures { OnOk result ((p : ℕ) (es : Elements)
         → ShowsCanonical m.now node (Decomposition p es) →
@@ -88,7 +88,7 @@ fn list_children(
 fn total(m: &Manager, nodes: &[NodeId]) -> u64
     requires table { IsTable m.now }
     requires distinct { AreDistinct nodes.now }
-    requires known { AllByRecursion (IsNodeOf m.now) nodes.now }
+    requires shown { AllByRecursion (IsNodeOf m.now) nodes.now }
     ensures { (ds : List Diagram) → AllZip (ShowsCanonical m.now) nodes.now ds
         → result ≡ sum_by element_count ds }
 {
@@ -102,7 +102,7 @@ fn total(m: &Manager, nodes: &[NodeId]) -> u64
 // The number of elements of a decomposition, and 0 for what is none.
 fn elements_of(m: &Manager, node: NodeId) -> u32
     requires table { IsTable m.now }
-    requires known { IsNodeOf m.now node }
+    requires shown { IsNodeOf m.now node }
     ensures { (d : Diagram) → ShowsCanonical m.now node d → result ≡ element_count d }
 {
     match m.view(node) {

@@ -139,8 +139,8 @@ becomes_next v script index done line c is next same was =
           ∙ sym (fold_more lines.bound_after [] (take index script.commands) line)
           ∙ ap lines.bound (sym (taken script.commands index line next));
       fit = fit_more v [] done c was.fit (record {
-        known = ap (list_all (has (fold bound_after [] done))) same.uses
-            ∙ ap (λ (ns : List ℕ). list_all (has ns) (lines.uses line.action)) was.names ∙ allowed.known;
+        used_bound = ap (list_all (has (fold bound_after [] done))) same.uses
+            ∙ ap (λ (ns : List ℕ). list_all (has ns) (lines.uses line.action)) was.names ∙ allowed.used_bound;
         ranges = same.in_range allowed.ranges;
       });
     }
@@ -156,17 +156,17 @@ left_at xs index line next =
 
 -- its commands can be done
 pub stated_fit : (v : ℕ) (job : Job) → AllFit v [] (default_of job)
-stated_fit v job = (record { known = refl; ranges = refl }, go job.out_vtree job.out_sdd)
+stated_fit v job = (record { used_bound = refl; ranges = refl }, go job.out_vtree job.out_sdd)
   where
     go : (tree diagram : Option (List ℕ))
         → AllFit v (0 ∷ [])
         (for_file commands.WriteVtree tree ++ for_file (commands.Write 0) diagram ++ commands.Size 0 ∷ [])
-    go None None = (record { known = refl; ranges = refl }, tt)
-    go None (Some d) = (record { known = refl; ranges = refl }, (record { known = refl; ranges = refl }, tt))
-    go (Some t) None = (record { known = refl; ranges = refl }, (record { known = refl; ranges = refl }, tt))
+    go None None = (record { used_bound = refl; ranges = refl }, tt)
+    go None (Some d) = (record { used_bound = refl; ranges = refl }, (record { used_bound = refl; ranges = refl }, tt))
+    go (Some t) None = (record { used_bound = refl; ranges = refl }, (record { used_bound = refl; ranges = refl }, tt))
     go (Some t) (Some d) = (
-      record { known = refl; ranges = refl },
-      (record { known = refl; ranges = refl }, (record { known = refl; ranges = refl }, tt)),
+      record { used_bound = refl; ranges = refl },
+      (record { used_bound = refl; ranges = refl }, (record { used_bound = refl; ranges = refl }, tt)),
     )
 
 -- and there are few of them

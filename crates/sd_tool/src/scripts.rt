@@ -220,7 +220,7 @@ fn command_of<F: Shelf>(
     requires hand { F.hand shelf.old ≡ NoFile }
     requires at_least_one { 1 ≤ variables }
     requires within_limit { variables ≤ 1024 }
-    requires known { AllByRecursion (λ n. n < length script.now.files) (reads action.now
+    requires files { AllByRecursion (λ n. n < length script.now.files) (reads action.now
         ++ writes action.now) }
     ensures hand { F.hand shelf.new ≡ NoFile }
     ensures files { F.files shelf.new ≡ F.files shelf.old }
@@ -276,7 +276,7 @@ fn file_command<F: Shelf>(
     requires hand { F.hand shelf.old ≡ NoFile }
     requires at_least_one { 1 ≤ variables }
     requires within_limit { variables ≤ 1024 }
-    requires known { AllByRecursion (λ n. n < length script.now.files) (reads action.now
+    requires files { AllByRecursion (λ n. n < length script.now.files) (reads action.now
         ++ writes action.now) }
     requires with_file { plain_of action.now ≡ None }
     ensures hand { F.hand shelf.new ≡ NoFile }

@@ -4,13 +4,13 @@ use Rattle.std.proofs.Common.{get_or, unwrap_or, Some, refl, sym, ap, subst, ◌
 use Rattle.std.proofs.lemmas.Nat.{and_le_r}
 use Rattle.std.specs.Option.{option_and_then}
 use Rattle.std.specs.FinMap.{get}
-use Rattle.sd_runs.specs.Arena.{Arena}
+use Rattle.sd_runs.specs.Arena.{Arena, IsMember}
 use Rattle.sd_runs.proofs.Places.{by_cases}
 use Rattle.sd_unique.specs.declared.record.Record.{Record}
 use Rattle.sd_unique.specs.declared.record.Links.{Links}
-use Rattle.sd_unique.specs.declared.record.State.{State}
-use Rattle.sd_unique.specs.declared.record.State.TheVariants.{Free, Linked, Detached}
-use Rattle.sd_unique.specs.Filed.{IsChain, IsWalkable, IsMember}
+use Rattle.sd_unique.specs.declared.record.RecordState.{RecordState}
+use Rattle.sd_unique.specs.declared.record.RecordState.TheVariants.{Free, Linked, Detached}
+use Rattle.sd_unique.specs.Filed.{IsChain, IsWalkable}
 use Rattle.sd_unique.specs.Record.{if_linked, key_of, linked_key, nodes_of}
 use Rattle.sd_unique.specs.Relinking.{IsLinkedAt}
 use Rattle.sd_unique.specs.Chains.{AreInLists, after_of, head_of, list_by, list_under, no_record}
@@ -78,7 +78,7 @@ module _ {records : List Record} {next : ℕ → ℕ} {none first place size : �
     },
   )
 
-in_place : (s : State) (b c : ℕ) → list_by s b ≡ Some (c + 1) → s ≡ Linked
+in_place : (s : RecordState) (b c : ℕ) → list_by s b ≡ Some (c + 1) → s ≡ Linked
 in_place Free b c e = cc
 in_place Linked b c e = refl
 in_place Detached b c e = let same : 0 ≡ c + 1 = cc in absurd (omega arith)

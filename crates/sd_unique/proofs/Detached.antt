@@ -10,8 +10,8 @@ use Rattle.sd_runs.proofs.Maps.{get_remove_other}
 use Rattle.sd_runs.proofs.Places.{by_cases}
 use Rattle.sd_unique.specs.declared.record.Record.{Record}
 use Rattle.sd_unique.specs.declared.record.Links.{Links}
-use Rattle.sd_unique.specs.declared.record.State.{State}
-use Rattle.sd_unique.specs.declared.record.State.TheVariants.{Free, Linked, Detached}
+use Rattle.sd_unique.specs.declared.record.RecordState.{RecordState}
+use Rattle.sd_unique.specs.declared.record.RecordState.TheVariants.{Free, Linked, Detached}
 use Rattle.sd_unique.specs.Relinking.{with_key, exchanged}
 use Rattle.sd_unique.specs.Record.{if_linked, if_detached, if_node, IsNode, without_run, key_of, linked_key}
 use Rattle.sd_unique.specs.Record.{detached_key, uses_of_record, mark_of_record, loose_of, counts_of}
@@ -24,10 +24,10 @@ use Rattle.sd_unique.proofs.Loose.{Map, removes, insert_removed, loose_same, loo
 use Rattle.sd_unique.proofs.Loose.{loose_untaken, loose_live}
 use Rattle.sd_unique.proofs.Picked.{picked_set, picked_same}
 
-not_linked : (s : State) → s ≡ Detached → s ≡ Linked → ⊥
+not_linked : (s : RecordState) → s ≡ Detached → s ≡ Linked → ⊥
 not_linked s d l = let e : Detached ≡ Linked = sym d ∙ l in cc
 
-pub detached_node : (s : State) → s ≡ Detached → IsNode s
+pub detached_node : (s : RecordState) → s ≡ Detached → IsNode s
 detached_node s e = subst IsNode (sym e) tt
 
 pub set_twice : {X : Type 0} (xs : List X) (n : ℕ) (x y : X) → set (set xs n x) n y ≡ set xs n y

@@ -9,7 +9,7 @@ use Rattle.sd_runs.specs.Taking.{given_back}
 use Rattle.sd_runs.proofs.Places.{by_cases}
 use Rattle.sd_unique.specs.declared.record.Record.{Record}
 use Rattle.sd_unique.specs.declared.record.Links.{Links}
-use Rattle.sd_unique.specs.declared.record.State.TheVariants.{Free, Detached}
+use Rattle.sd_unique.specs.declared.record.RecordState.TheVariants.{Free, Detached}
 use Rattle.sd_unique.specs.Filed.{IsFiled, unfiled}
 use Rattle.sd_unique.specs.Record.{key_of, nodes_of, AreRecordsStored}
 use Rattle.sd_unique.specs.Chains.{next_of, chain_by, list_by, chain_under, list_under, bucket_of, head_of}

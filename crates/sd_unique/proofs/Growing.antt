@@ -5,13 +5,13 @@ use Rattle.std.proofs.Math.ListN.{set}
 use Rattle.std.proofs.lemmas.Bool.{cases_eq}
 use Rattle.std.proofs.lemmas.List.{length-replicate, get_or-set_same, get_or-set_other}
 use Rattle.std.specs.Option.{option_and_then}
-use Rattle.sd_runs.specs.Arena.{Arena}
+use Rattle.sd_runs.specs.Arena.{Arena, IsMember, HasNoCopies}
 use Rattle.sd_runs.proofs.Places.{by_cases}
 use Rattle.sd_unique.specs.declared.record.Record.{Record}
-use Rattle.sd_unique.specs.declared.record.State.{State}
-use Rattle.sd_unique.specs.declared.record.State.TheVariants.{Free, Linked, Detached}
+use Rattle.sd_unique.specs.declared.record.RecordState.{RecordState}
+use Rattle.sd_unique.specs.declared.record.RecordState.TheVariants.{Free, Linked, Detached}
 use Rattle.sd_unique.specs.Record.{key_of}
-use Rattle.sd_unique.specs.Filed.{IsChain, IsMember, HasNoCopies, IsFiled, filed_at}
+use Rattle.sd_unique.specs.Filed.{IsChain, IsFiled, filed_at}
 use Rattle.sd_unique.specs.Growing.{free_by, IsLinkedBelow}
 use Rattle.sd_unique.specs.Chains.{next_of, head_of, chain_by, chain_under, bucket_of, no_record}
 use Rattle.sd_unique.proofs.Both.{filed_here, filed_other}
@@ -26,12 +26,12 @@ no_heads zero b = refl
 no_heads (suc n) zero = refl
 no_heads (suc n) (suc b) = no_heads n b
 
-free_first : (s : State) (b : ℕ) → free_by s ≡ Some b → (s ≡ Free) × (b ≡ 0)
+free_first : (s : RecordState) (b : ℕ) → free_by s ≡ Some b → (s ≡ Free) × (b ≡ 0)
 free_first Free b e = let same : b ≡ 0 = cc in (refl, same)
 free_first Linked b e = cc
 free_first Detached b e = cc
 
-first_free : (s : State) (b : ℕ) → chain_by s b ≡ Some 0 → s ≡ Free
+first_free : (s : RecordState) (b : ℕ) → chain_by s b ≡ Some 0 → s ≡ Free
 first_free Free b e = refl
 first_free Linked b e = let no : suc b ≡ 0 = cc in absurd (omega arith)
 first_free Detached b e = cc
@@ -96,7 +96,7 @@ module _ (arena : Arena) (rs : List Record) where
           ∙ ap free_by (first_free (r.0).state (bucket_of (key_of arena r.0) old) r.2)
       only (suc b) n h = absurd h
 
-  not_linked : (s : State) (b : ℕ) → ¬ (s ≡ Linked) → free_by s ≡ chain_by s b
+  not_linked : (s : RecordState) (b : ℕ) → ¬ (s ≡ Linked) → free_by s ≡ chain_by s b
   not_linked Free b h = refl
   not_linked Linked b h = absurd (h refl)
   not_linked Detached b h = refl

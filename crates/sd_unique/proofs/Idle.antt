@@ -4,7 +4,7 @@ use Rattle.std.specs.Option.{option_and_then, IsSome}
 use Rattle.sd_runs.specs.Arena.{Arena}
 use Rattle.sd_unique.specs.declared.record.Record.{Record}
 use Rattle.sd_unique.specs.declared.record.Links.{Links}
-use Rattle.sd_unique.specs.declared.record.State.TheVariants.{Linked}
+use Rattle.sd_unique.specs.declared.record.RecordState.TheVariants.{Linked}
 use Rattle.sd_unique.specs.Record.{if_linked, key_of, linked_key, uses_of_record, nodes_of}
 use Rattle.sd_unique.specs.Relinking.{IsIdle}
 use Rattle.sd_unique.specs.Chains.{waiting_of, no_record, IsUnused, HoldsNodes}

@@ -10,8 +10,8 @@ use Rattle.sd_runs.specs.Arena.{Arena, IsArena, live_length}
 use Rattle.sd_runs.specs.Taking.{given_back}
 use Rattle.sd_runs.proofs.Places.{by_cases}
 use Rattle.sd_unique.specs.declared.record.Record.{Record}
-use Rattle.sd_unique.specs.declared.record.State.{State}
-use Rattle.sd_unique.specs.declared.record.State.TheVariants.{Free, Linked, Detached}
+use Rattle.sd_unique.specs.declared.record.RecordState.{RecordState}
+use Rattle.sd_unique.specs.declared.record.RecordState.TheVariants.{Free, Linked, Detached}
 use Rattle.sd_unique.specs.Inserting.{with_count}
 use Rattle.sd_unique.specs.Relinking.{unlinked, relinked, removed, IsAbsent}
 use Rattle.sd_unique.specs.Record.{if_linked, if_detached, if_node, IsNode, without_run, key_of, linked_key}
@@ -25,16 +25,16 @@ use Rattle.sd_unique.proofs.Picked.{picked_set, picked_unset, picked_same}
 use Rattle.sd_unique.proofs.Taken.{linked_arena, detached_arena, stored_arena, given_same, given_longer, given_bound}
 use Rattle.sd_unique.proofs.Taken.{free_given}
 
-state_node : (s : State) → (s ≡ Linked) ⊎ (s ≡ Detached) → IsNode s
+state_node : (s : RecordState) → (s ≡ Linked) ⊎ (s ≡ Detached) → IsNode s
 state_node s h = by_cases (λ e. subst IsNode (sym e) tt) (λ e. subst IsNode (sym e) tt) h
 
-pub not_both : (s : State) → s ≡ Detached → s ≡ Linked → ⊥
+pub not_both : (s : RecordState) → s ≡ Detached → s ≡ Linked → ⊥
 not_both s d l = let e : Detached ≡ Linked = sym d ∙ l in cc
 
-not_free : (s : State) → s ≡ Free → IsNode s → ⊥
+not_free : (s : RecordState) → s ≡ Free → IsNode s → ⊥
 not_free s f node = subst IsNode f node
 
-pub free_not_linked : (s : State) → s ≡ Free → s ≡ Linked → ⊥
+pub free_not_linked : (s : RecordState) → s ≡ Free → s ≡ Linked → ⊥
 free_not_linked s f l = let e : Free ≡ Linked = sym f ∙ l in cc
 
 module _ (arena : Arena) (rs : List Record) (n : ℕ) (r t : Record) (there : slice_get rs n ≡ Some r)

@@ -10,8 +10,8 @@ use Rattle.sd_runs.specs.Arena.{Arena}
 use Rattle.sd_runs.proofs.Places.{by_cases}
 use Rattle.sd_unique.specs.declared.record.Record.{Record}
 use Rattle.sd_unique.specs.declared.record.Links.{Links}
-use Rattle.sd_unique.specs.declared.record.State.{State}
-use Rattle.sd_unique.specs.declared.record.State.TheVariants.{Free, Linked, Detached}
+use Rattle.sd_unique.specs.declared.record.RecordState.{RecordState}
+use Rattle.sd_unique.specs.declared.record.RecordState.TheVariants.{Free, Linked, Detached}
 use Rattle.sd_unique.specs.Nodes.{key_at}
 use Rattle.sd_unique.specs.Occupying.{occupied, IsFreeNumber}
 use Rattle.sd_unique.specs.Relinking.{IsAbsent, IsLoose}
@@ -33,10 +33,10 @@ use Rattle.sd_unique.proofs.Numbered.{linked_at, key_at_is, node_key, node_some,
 use Rattle.sd_unique.proofs.Picked.{picked_set, picked_same}
 use Rattle.sd_unique.proofs.Stacked.{link_there, link_other, head_has, chain_empty, get_or_any}
 
-linked_node : (s : State) → s ≡ Linked → IsNode s
+linked_node : (s : RecordState) → s ≡ Linked → IsNode s
 linked_node s e = subst IsNode (sym e) tt
 
-in_first : (s : State) (b : ℕ) → chain_by s b ≡ Some 0 → s ≡ Free
+in_first : (s : RecordState) (b : ℕ) → chain_by s b ≡ Some 0 → s ≡ Free
 in_first Free b e = refl
 in_first Linked b e = let no : suc b ≡ 0 = cc in absurd (omega arith)
 in_first Detached b e = cc
@@ -210,7 +210,7 @@ module _ (arena : Arena) (rs : List Record) (heads : List ℕ) (count : ℕ)
       (f.filed 0 m (ap (option_and_then (λ x. chain_by x.state (bucket_of (key_of arena x) count))) there
       ∙ ap (λ s. chain_by s (bucket_of (key_of arena r) count)) free)))
     where
-      by_state : (s : State) → ¬ (s ≡ Free) → IsNode s
+      by_state : (s : RecordState) → ¬ (s ≡ Free) → IsNode s
       by_state Free h = absurd (h refl)
       by_state Linked h = tt
       by_state Detached h = tt

@@ -8,7 +8,8 @@ use Rattle.std.specs.Option.{option_and_then}
 use Rattle.sd_runs.proofs.Places.{by_cases}
 use Rattle.sd_unique.specs.declared.record.Record.{Record}
 use Rattle.sd_unique.specs.declared.record.Links.{Links}
-use Rattle.sd_unique.specs.Filed.{IsMember, unfiled}
+use Rattle.sd_runs.specs.Arena.{IsMember}
+use Rattle.sd_unique.specs.Filed.{unfiled}
 use Rattle.sd_unique.specs.Chains.{waiting_of, stack_under, top_of, no_record, waiting_count, IsUnused}
 use Rattle.sd_unique.specs.Chains.{AreStacked, KeepsLists}
 use Rattle.sd_unique.proofs.Both.{unfiled_here, unfiled_other}

@@ -16,8 +16,8 @@ use Rattle.sd_runs.proofs.Maps.{same_at_each, get_insert_same}
 use Rattle.sd_runs.proofs.Places.{by_cases}
 use Rattle.sd_unique.specs.declared.record.Record.{Record}
 use Rattle.sd_unique.specs.declared.record.Links.{Links}
-use Rattle.sd_unique.specs.declared.record.State.{State}
-use Rattle.sd_unique.specs.declared.record.State.TheVariants.{Free, Linked, Detached}
+use Rattle.sd_unique.specs.declared.record.RecordState.{RecordState}
+use Rattle.sd_unique.specs.declared.record.RecordState.TheVariants.{Free, Linked, Detached}
 use Rattle.sd_unique.specs.Nodes.{Nodes, key_at}
 use Rattle.sd_unique.specs.Occupying.{occupied, IsFreeNumber}
 use Rattle.sd_unique.specs.Inserting.{inserted, IsNewNumber}
@@ -86,10 +86,10 @@ picked_push : {X Y : Type 0} (f : X → Option Y) (xs : List X) (x : X) → f x 
 picked_push f xs x none =
     same_at_each _ _ (λ q. get_picked f (xs ++ x ∷ []) q ∙ read_push xs x f none q ∙ sym (get_picked f xs q))
 
-free_no_node : (s : State) → s ≡ Free → IsNode s → ⊥
+free_no_node : (s : RecordState) → s ≡ Free → IsNode s → ⊥
 free_no_node s f node = subst IsNode f node
 
-free_no_link : (s : State) → s ≡ Free → s ≡ Linked → ⊥
+free_no_link : (s : RecordState) → s ≡ Free → s ≡ Linked → ⊥
 free_no_link s f l = let e : Free ≡ Linked = sym f ∙ l in cc
 
 module _ (arena : Arena) (rs : List Record) (r : Record) (free : r.state ≡ Free) where
@@ -204,7 +204,7 @@ positive_sum f (r ∷ rs) h =
     let rest : length rs ≤ sum_by f rs = positive_sum f rs (λ i. h (suc i)) in
     omega (arith, rest, h 0 r refl, sum_by-cons f r rs)
 
-length_node : (arena : Arena) (s : State) (start n : ℕ) → IsNode s → live_length arena start ≡ Some n
+length_node : (arena : Arena) (s : RecordState) (start n : ℕ) → IsNode s → live_length arena start ≡ Some n
     → length_in arena.live s start ≡ n
 length_node arena Free start n node e = absurd node
 length_node arena Linked start n node e = length_there (get arena.live start) n e

@@ -7,16 +7,16 @@ use Rattle.sd_unique.specs.Nodes.{Nodes}
 use Rattle.sd_unique.specs.Relinking.{unlinked, with_loose, exchanged, IsIdle, IsLoose}
 
 -- what is there is some value
-pub known : {X : Type 0} (o : Option X) → IsSome o → (x : X) × (o ≡ Some x)
-known None h = cc
-known (Some x) h = (x, refl)
+pub there_is : {X : Type 0} (o : Option X) → IsSome o → (x : X) × (o ≡ Some x)
+there_is None h = cc
+there_is (Some x) h = (x, refl)
 
 -- an idle node is detached after it was unlinked, and still without uses
 pub idle_unlinked : (a b : Nodes) (n : ℕ) → IsIdle a n
     → ((k : ℕ × List (ℕ × ℕ)) → get a.linked n ≡ Some k → b ≡ unlinked a n k)
     → IsSome (get b.detached n) × (get b.uses n ≡ Some 0)
 idle_unlinked a b n idle is =
-    let k = known (get a.linked n) idle.linked in (
+    let k = there_is (get a.linked n) idle.linked in (
       subst IsSome (sym (ap (λ x. get x.detached n) (is k.0 k.1) ∙ get_insert_same a.detached n k.0)) refl,
       ap (λ x. get x.uses n) (is k.0 k.1) ∙ idle.unused,
     )

@@ -5,12 +5,12 @@ use Rattle.std.proofs.lemmas.Bool.Decides.{Decides-and, Decides-eqb}
 use Rattle.std.specs.Bool.{Decides}
 use Rattle.std.specs.Option.{option_and_then, option_map}
 use Rattle.std.specs.FinMap.{get}
-use Rattle.sd_runs.specs.Arena.{Arena}
+use Rattle.sd_runs.specs.Arena.{Arena, IsMember}
 use Rattle.sd_runs.proofs.Places.{by_cases}
 use Rattle.sd_unique.specs.declared.record.Record.{Record}
-use Rattle.sd_unique.specs.declared.record.State.{State}
-use Rattle.sd_unique.specs.declared.record.State.TheVariants.{Free, Linked, Detached}
-use Rattle.sd_unique.specs.Filed.{IsChain, IsMember, IsFiled}
+use Rattle.sd_unique.specs.declared.record.RecordState.{RecordState}
+use Rattle.sd_unique.specs.declared.record.RecordState.TheVariants.{Free, Linked, Detached}
+use Rattle.sd_unique.specs.Filed.{IsChain, IsFiled}
 use Rattle.sd_unique.specs.Record.{if_linked, IsNode, key_of, linked_key, nodes_of, AreRecordsStored}
 use Rattle.sd_unique.specs.Chains.{chain_by, chain_under, bucket_of, next_of, head_of, no_record}
 use Rattle.sd_unique.proofs.Both.{chain_short}
@@ -32,7 +32,7 @@ pub record IsSought (arena : Arena) (rs : List Record) (key : ℕ × List (ℕ �
     pub linked : (y : ℕ) → IsMember y rest → (r : Record) × (slice_get rs y ≡ Some r) × (r.state ≡ Linked)
     pub left : (n : ℕ) → get (nodes_of arena rs).linked n ≡ Some key → IsMember n rest
 
-of_bucket : (s : State) (b c : ℕ) → chain_by s b ≡ Some (suc c) → s ≡ Linked
+of_bucket : (s : RecordState) (b c : ℕ) → chain_by s b ≡ Some (suc c) → s ≡ Linked
 of_bucket Free b c e = let no : 0 ≡ suc c = cc in absurd (omega arith)
 of_bucket Linked b c e = refl
 of_bucket Detached b c e = cc

@@ -10,14 +10,14 @@ use Rattle.std.proofs.lemmas.List.{length-set, length-map, map-set, get_or-set_s
 use Rattle.std.specs.Option.{option_and_then, IsSome}
 use Rattle.std.specs.Ordering.{nat_cmp}
 use Rattle.std.specs.FinMap.{empty, get, get-empty}
-use Rattle.sd_runs.specs.Arena.{Arena}
+use Rattle.sd_runs.specs.Arena.{Arena, IsMember}
 use Rattle.sd_runs.proofs.Maps.{same_at_each}
 use Rattle.sd_runs.proofs.Places.{by_cases}
 use Rattle.sd_unique.specs.declared.record.Record.{Record}
 use Rattle.sd_unique.specs.declared.record.Links.{Links}
-use Rattle.sd_unique.specs.declared.record.State.{State}
-use Rattle.sd_unique.specs.declared.record.State.TheVariants.{Free, Linked, Detached}
-use Rattle.sd_unique.specs.Filed.{IsChain, IsMember}
+use Rattle.sd_unique.specs.declared.record.RecordState.{RecordState}
+use Rattle.sd_unique.specs.declared.record.RecordState.TheVariants.{Free, Linked, Detached}
+use Rattle.sd_unique.specs.Filed.{IsChain}
 use Rattle.sd_unique.specs.Record.{detached_key, key_of, if_detached, nodes_of}
 use Rattle.sd_unique.specs.Chains.{after_of, waiting_of, stack_under, list_under, list_by, top_of}
 use Rattle.sd_unique.specs.Chains.{head_of, no_record, HoldsNodes, AreStacked, AreInLists, KeepsLists, IsPushed}
@@ -150,7 +150,7 @@ pub none_or : {X : Type 0} (o : Option X) → ((x : X) → o ≡ Some x → ⊥)
 none_or None h = refl
 none_or (Some x) h = absurd (h x refl)
 
-first_list : (s : State) (b : ℕ) → list_by s b ≡ Some 0 → s ≡ Detached
+first_list : (s : RecordState) (b : ℕ) → list_by s b ≡ Some 0 → s ≡ Detached
 first_list Free b e = cc
 first_list Linked b e = let same : suc b ≡ 0 = cc in absurd (omega arith)
 first_list Detached b e = refl

@@ -9,7 +9,7 @@ use Rattle.sd_runs.specs.Arena.{Arena}
 use Rattle.sd_runs.proofs.Places.{by_cases}
 use Rattle.sd_unique.specs.declared.record.Record.{Record}
 use Rattle.sd_unique.specs.declared.record.Links.{Links}
-use Rattle.sd_unique.specs.declared.record.State.TheVariants.{Linked, Detached}
+use Rattle.sd_unique.specs.declared.record.RecordState.TheVariants.{Linked, Detached}
 use Rattle.sd_unique.specs.Filed.{unfiled, filed_at}
 use Rattle.sd_unique.specs.Record.{if_detached, IsNode, uses_of_record, detached_key, key_of}
 use Rattle.sd_unique.specs.Record.{nodes_of, AreRecordsStored}

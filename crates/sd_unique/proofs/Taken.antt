@@ -16,8 +16,8 @@ use Rattle.sd_runs.proofs.Maps.{shown, get_with_list_same, get_with_list_other}
 use Rattle.sd_runs.proofs.Places.{by_cases}
 use Rattle.sd_unique.specs.declared.record.Record.{Record}
 use Rattle.sd_unique.specs.declared.record.Links.{Links}
-use Rattle.sd_unique.specs.declared.record.State.{State}
-use Rattle.sd_unique.specs.declared.record.State.TheVariants.{Free, Linked, Detached}
+use Rattle.sd_unique.specs.declared.record.RecordState.{RecordState}
+use Rattle.sd_unique.specs.declared.record.RecordState.TheVariants.{Free, Linked, Detached}
 use Rattle.sd_unique.specs.Inserting.{with_count, extent_after, IsRefusal}
 use Rattle.sd_unique.specs.Relinking.{with_loose, without_loose}
 use Rattle.sd_unique.specs.Record.{if_linked, if_detached, IsNode, picked_map, key_of, linked_key, detached_key}
@@ -104,22 +104,22 @@ live_taken_at [] a list = refl
 live_taken_at (start ∷ rest) a list = refl
 
 module _ {X : Type 0} where
-  linked_by : (s : State) (x y : X) → (IsNode s → x ≡ y) → if_linked s x ≡ if_linked s y
+  linked_by : (s : RecordState) (x y : X) → (IsNode s → x ≡ y) → if_linked s x ≡ if_linked s y
   linked_by Free x y e = refl
   linked_by Linked x y e = ap Some (e tt)
   linked_by Detached x y e = refl
 
-  detached_by : (s : State) (x y : X) → (IsNode s → x ≡ y) → if_detached s x ≡ if_detached s y
+  detached_by : (s : RecordState) (x y : X) → (IsNode s → x ≡ y) → if_detached s x ≡ if_detached s y
   detached_by Free x y e = refl
   detached_by Linked x y e = refl
   detached_by Detached x y e = ap Some (e tt)
 
-chain_of : (s : State) (b c : ℕ) → (IsNode s → b ≡ c) → chain_by s b ≡ chain_by s c
+chain_of : (s : RecordState) (b c : ℕ) → (IsNode s → b ≡ c) → chain_by s b ≡ chain_by s c
 chain_of Free b c e = refl
 chain_of Linked b c e = ap (λ n. Some (suc n)) (e tt)
 chain_of Detached b c e = refl
 
-pub linked_state : (s : State) → s ≡ Linked → IsNode s
+pub linked_state : (s : RecordState) → s ≡ Linked → IsNode s
 linked_state s e = subst IsNode (sym e) tt
 
 -- what is read of elements by two functions that agree on them

@@ -4,7 +4,7 @@ use Rattle.sd_runs.specs.Arena.{Arena}
 use Rattle.sd_unique.specs.declared.record.Record.{Record}
 use Rattle.sd_unique.specs.declared.record.Links.{Links}
 use Rattle.sd_unique.specs.Chains.{HoldsNodes, KeepsLists, AreStacked, stack_under}
-use Rattle.sd_unique.specs.declared.record.State.TheVariants.{Linked}
+use Rattle.sd_unique.specs.declared.record.RecordState.TheVariants.{Linked}
 use Rattle.sd_unique.proofs.Stacked.{kept_queued, kept_same, whole_slice}
 
 -- what holds of the fields holds of the same fields

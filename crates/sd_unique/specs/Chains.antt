@@ -9,8 +9,8 @@ use Rattle.sd_unique.specs.Filed.{IsFiled, IsFiledBoth}
 use Rattle.sd_unique.specs.Record.{key_of, AreRecordsStored}
 use Rattle.sd_unique.specs.declared.record.Record.{Record}
 use Rattle.sd_unique.specs.declared.record.Links.{Links}
-use Rattle.sd_unique.specs.declared.record.State.{State}
-use Rattle.sd_unique.specs.declared.record.State.TheVariants.{Free, Linked, Detached}
+use Rattle.sd_unique.specs.declared.record.RecordState.{RecordState}
+use Rattle.sd_unique.specs.declared.record.RecordState.TheVariants.{Free, Linked, Detached}
 
 -- a hash with one more word in it
 unfoldable pub mixed : ℕ → ℕ → ℕ
@@ -54,13 +54,13 @@ top_of top zero = top
 top_of top (suc b) = no_record
 
 -- A free record stands in the first chain, a linked one in that of its bucket, a detached one in none.
-abbrev pub chain_by : State → ℕ → Option ℕ
+abbrev pub chain_by : RecordState → ℕ → Option ℕ
 chain_by Free b = Some 0
 chain_by Linked b = Some (suc b)
 chain_by Detached b = None
 
 -- A detached record stands in the first list, a linked one in that of its place, a free one in none.
-abbrev pub list_by : State → ℕ → Option ℕ
+abbrev pub list_by : RecordState → ℕ → Option ℕ
 list_by Free b = None
 list_by Linked b = Some (suc b)
 list_by Detached b = Some 0

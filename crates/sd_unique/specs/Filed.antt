@@ -1,5 +1,6 @@
 -- Numbers filed in chains: the chain from each head, and which numbers stand in it.
 use Rattle.std.specs.Prelude.{◌≡◌, ◌≢◌, ◌⊎◌, ◌<◌, ℕ, List, [], ◌∷◌, ◌==◌, if◌then◌else◌, Option, Some, None}
+use Rattle.sd_runs.specs.Arena.{IsMember, HasNoCopies}
 
 -- From `at` on the chain has just these numbers, and `none` ends it.
 abbrev pub IsChain : (ℕ → ℕ) → ℕ → ℕ → List ℕ → Type 0
@@ -10,16 +11,6 @@ IsChain next none at (x ∷ xs) = (at ≡ x) × (x ≢ none) × IsChain next non
 abbrev pub IsBack : (ℕ → ℕ) → ℕ → List ℕ → Type 0
 IsBack prev before [] = Unit {0}
 IsBack prev before (x ∷ xs) = (prev x ≡ before) × IsBack prev x xs
-
--- the number is in the list
-abbrev pub IsMember : ℕ → List ℕ → Type 0
-IsMember n [] = ⊥
-IsMember n (m ∷ ms) = (m ≡ n) ⊎ IsMember n ms
-
--- no number is twice in the list
-abbrev pub HasNoCopies : List ℕ → Type 0
-HasNoCopies [] = Unit {0}
-HasNoCopies (x ∷ xs) = (¬ IsMember x xs) × HasNoCopies xs
 
 -- Each number stands once in the chain of the head under which it is filed, and in no other; one that is filed under no
 -- head stands in none.

@@ -4,11 +4,11 @@ use Rattle.sd_runs.specs.Arena.{Arena}
 use Rattle.sd_unique.specs.Filed.{IsFiled}
 use Rattle.sd_unique.specs.Chains.{next_of, head_of, no_record, chain_under}
 use Rattle.sd_unique.specs.declared.record.Record.{Record}
-use Rattle.sd_unique.specs.declared.record.State.{State}
-use Rattle.sd_unique.specs.declared.record.State.TheVariants.{Free, Linked, Detached}
+use Rattle.sd_unique.specs.declared.record.RecordState.{RecordState}
+use Rattle.sd_unique.specs.declared.record.RecordState.TheVariants.{Free, Linked, Detached}
 
 -- a free record stands in the first chain, another in none
-abbrev pub free_by : State → Option ℕ
+abbrev pub free_by : RecordState → Option ℕ
 free_by Free = Some 0
 free_by Linked = None
 free_by Detached = None

@@ -6,7 +6,7 @@ ghost use Rattle.sd_unique.specs.Growing.{IsLinkedBelow};
 ghost use Rattle.sd_unique.specs.Record.{AreRecordsStored};
 
 use crate::hash::{bucket_at, hash};
-use crate::record::{NO_RECORD, Record, State};
+use crate::record::{NO_RECORD, Record, RecordState};
 use sd_runs::Runs;
 use std::alloc::{AllocError, Global};
 
@@ -42,7 +42,7 @@ fn link(runs: &Runs, records: &mut [Record], heads: &mut [u32], number: usize)
         heads.new }
 {
     let mut record = records[number];
-    let State::Linked = record.state else {
+    let RecordState::Linked = record.state else {
         return;
     };
     let list = runs.get(record.start, record.length);

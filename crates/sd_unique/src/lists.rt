@@ -2,7 +2,8 @@
 ghost use Rattle.std.specs.Prelude.{◌≡◌, ◌≢◌, ◌<◌, length, slice_get, Some, None, Option, List, ℕ};
 ghost use Rattle.sd_unique.specs.declared.record.Record.{Record};
 ghost use Rattle.sd_unique.specs.Chains.{AreInLists, KeepsStack, after_of, before_of, head_of, no_record};
-ghost use Rattle.sd_unique.specs.Filed.{unfiled, filed_at, IsMember, IsChain, HasNoCopies, IsLed};
+ghost use Rattle.sd_runs.specs.Arena.{IsMember, HasNoCopies};
+ghost use Rattle.sd_unique.specs.Filed.{unfiled, filed_at, IsChain, IsLed};
 ghost use Rattle.sd_unique.specs.Filed.{IsLedBack, IsWalkable};
 
 use crate::record::{Links, NO_RECORD, Record};

@@ -6,7 +6,7 @@ use crate::buckets::{empty_heads, link_all};
 use crate::found::Found;
 use crate::hash::{bucket_at, hash};
 use crate::lists::{at_place, put_first};
-use crate::record::{Links, NO_RECORD, Record, State};
+use crate::record::{Links, NO_RECORD, Record, RecordState};
 use crate::stack::{pop_used, push, push_unused};
 use crate::states::{attach, detach, release};
 use sd_runs::{Runs, TakeError};
@@ -242,7 +242,7 @@ impl Nodes {
             next: self.heads[head],
             uses: 0,
             mark: 0,
-            state: State::Linked,
+            state: RecordState::Linked,
         };
         self.heads[head] = number;
         put_first(
@@ -302,7 +302,7 @@ impl Nodes {
         requires { number < self.now.records }
         ensures { result ≡ contains_key self.now.linked number }
     {
-        matches!(self.records[number as usize].state, State::Linked)
+        matches!(self.records[number as usize].state, RecordState::Linked)
     }
 
     /// How often a node is used.

@@ -3,7 +3,7 @@ ghost use Rattle.std.specs.Prelude.{◌≡◌};
 
 /// What a record is.
 #[derive(Clone, Copy, Drop)]
-pub(crate) enum State {
+pub(crate) enum RecordState {
     /// Of no node: its number is free.
     Free,
     /// Of a node that is found by its key.
@@ -28,7 +28,7 @@ pub(crate) struct Record {
     /// A word of the layer above.
     pub(crate) mark: u32,
     /// Says in which chain and in which list the record stands.
-    pub(crate) state: State,
+    pub(crate) state: RecordState,
 }
 
 /// The links of a record that no look-up follows.
@@ -55,7 +55,7 @@ impl Record {
     // Of no node, the last of a chain.
     pub(crate) fn free() -> Record
         ensures next { result.next ≡ no_record }
-        ensures state { result.state ≡ State.Free }
+        ensures state { result.state ≡ RecordState.Free }
     {
         Record {
             place: 0,
@@ -64,7 +64,7 @@ impl Record {
             next: NO_RECORD,
             uses: 0,
             mark: 0,
-            state: State::Free,
+            state: RecordState::Free,
         }
     }
 }

@@ -5,7 +5,7 @@ ghost use Rattle.sd_unique.specs.Chains.{AreStacked, KeepsLists, IsPushed, IsUnu
 ghost use Rattle.sd_unique.specs.Chains.{waiting_count};
 ghost use Rattle.sd_unique.specs.Filed.{unfiled};
 
-use crate::record::{Links, NO_RECORD, Record, State};
+use crate::record::{Links, NO_RECORD, Record, RecordState};
 
 // Puts a number on the stack, where it is not there yet, and answers the top.
 pub(crate) fn push(links: &mut [Links], top: u32, number: u32) -> u32
@@ -69,7 +69,7 @@ pub(crate) fn pop_used(records: &[Record], links: &mut [Links], top: u32) -> u32
 fn is_unused(node: &Record) -> bool
     ensures { MatchBool result (IsUnused node.now) (¬ IsUnused node.now) }
 {
-    matches!(node.state, State::Linked) && node.uses == 0
+    matches!(node.state, RecordState::Linked) && node.uses == 0
 }
 
 // Takes the top off the stack, and answers what follows it.

@@ -9,7 +9,7 @@ ghost use Rattle.sd_unique.specs.Relinking.{unlinked, relinked, removed, IsAbsen
 use crate::chains::cut;
 use crate::hash::{bucket_at, hash};
 use crate::lists::{put_first, take_out};
-use crate::record::{Links, Record, State};
+use crate::record::{Links, Record, RecordState};
 use sd_runs::Runs;
 
 // Makes a linked record a detached one.
@@ -35,7 +35,7 @@ pub(crate) fn detach(
     cut(records, heads, head, number);
     take_out(links, places, (record.place & 2047) as usize + 1, number);
     put_first(links, places, 0, number);
-    records[number as usize].state = State::Detached;
+    records[number as usize].state = RecordState::Detached;
 }
 
 // Makes a detached record a linked one, which stands on the stack of candidates if it has no uses.
@@ -66,7 +66,7 @@ pub(crate) fn attach(
     take_out(links, places, 0, number);
     put_first(links, places, (record.place & 2047) as usize + 1, number);
     record.next = heads[head];
-    record.state = State::Linked;
+    record.state = RecordState::Linked;
     records[number as usize] = record;
     heads[head] = number;
 }
@@ -91,7 +91,7 @@ pub(crate) fn release(
     take_out(links, places, 0, number);
     let mut record = records[number as usize];
     record.next = heads[0];
-    record.state = State::Free;
+    record.state = RecordState::Free;
     records[number as usize] = record;
     heads[0] = number;
     runs.give(record.start, record.length);

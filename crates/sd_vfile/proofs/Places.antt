@@ -1,4 +1,4 @@
--- The node at a place, and the index of the first node with an id.
+-- The node at an index, and the index of the first node with an id.
 use Rattle.std.proofs.Common.{◌≡◌, ℕ, zero, suc, ◌+◌, ◌<◌, ◌≤◌, true, false, ◌==◌}
 use Rattle.std.proofs.Common.{List, [], ◌∷◌, ◌++◌, length, take, drop, get_or, refl, sym, ap, ◌∙◌, subst, arith}
 use Rattle.std.proofs.Common.{append_assoc, length-append}
@@ -74,7 +74,7 @@ fold_at acc (f ∷ forms) (suc p) d h =
     omega (arith, length-append acc (entry_after acc f ∷ [])) in
     ap (λ n. get_or (fold grow (grow acc f) forms) n no_entry) further ∙ fold_at (grow acc f) forms p d (omega arith)
 
--- the node at a place is that of its line behind the earlier ones
+-- the node at an index is that of its line behind the earlier ones
 pub entry_at : (forms : List Form) (p : ℕ) (d : Form) → p < length forms
     → get_or (entries_of forms) p no_entry ≡ entry_after (entries_of (take p forms)) (get_or forms p d)
 unfolding entries_of
@@ -91,7 +91,7 @@ tree_in_take forms p q h =
 
 -- ---- the first node with an id
 
--- a node at a place before those after it
+-- a node at an index before those after it
 pub drop_at : (es : List Entry) (p : ℕ) → p < length es → drop p es ≡ get_or es p no_entry ∷ drop (p + 1) es
 drop_at [] p h = absurd (omega arith)
 drop_at (e ∷ es) zero h = refl

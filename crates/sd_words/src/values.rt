@@ -45,7 +45,7 @@ pub(crate) fn read_numbers(options: &ArgMatches<'_>) -> Result<Numbers, WordsFau
 /// The shape that `--start` names, or the balanced one. Three words are known.
 #[tactic(auto, unfolding(crate::specs::Refusals::start_unknown))]
 pub(crate) fn read_start(options: &ArgMatches<'_>) -> Result<TreeWord, WordsFault>
-    ensures known { RefusesBy (start_unknown (parsed_of options.now)) result }
+    ensures unknown { RefusesBy (start_unknown (parsed_of options.now)) result }
     ensures start { IfOk result (λ t. t
         ≡ tree_word_of None (parsed_of options.now OptionName.Start)) }
 {

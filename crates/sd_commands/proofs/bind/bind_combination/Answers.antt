@@ -1,7 +1,7 @@
 use Rattle.std.proofs.Common.{refl}
 use Rattle.sd_model.specs.Expression.{Combined}
 use Rattle.sd_commands.specs.Commands.{formula_named}
-use Rattle.sd_commands.proofs.Values.{combined_value, value_known}
+use Rattle.sd_commands.proofs.Values.{combined_value, value_node}
 use Rattle.sd_commands.proofs.Standing.{stands_on}
 use Rattle.sd_commands.proofs.Stepping.{bound_steps}
 use Rattle.sd_commands.proofs.bind.bind_combination.Goals as goal
@@ -12,8 +12,8 @@ bind-requires-clause-represents c = (
   stands_on c.args.state.now _ _ _ c.requires.represents.1 c.in-Ok.ensures.kept c.in-Ok.ensures.serves,
 )
 
-pub bind-requires-clause-known : goal.bind-requires-clause-known
-bind-requires-clause-known c = (
+pub bind-requires-clause-shown : goal.bind-requires-clause-shown
+bind-requires-clause-shown c = (
   Combined c.args.operation (formula_named c.requires.represents.0 c.args.a)
       (formula_named c.requires.represents.0 c.args.b),
   combined_value c.args.state.now.manager _ c.args.operation _ _ _ _ _ c.in-Ok.ensures.kept
@@ -33,8 +33,8 @@ returns-in-Ok-clause-done c = λ input seen was.
 
 pub connect-requires-clause-first : goal.connect-requires-clause-first
 connect-requires-clause-first c =
-    value_known _ _ _ (c.node-first.ensures c.requires.represents.0 c.requires.represents.1)
+    value_node _ _ _ (c.node-first.ensures c.requires.represents.0 c.requires.represents.1)
 
 pub connect-requires-clause-second : goal.connect-requires-clause-second
 connect-requires-clause-second c =
-    value_known _ _ _ (c.node-second.ensures c.requires.represents.0 c.requires.represents.1)
+    value_node _ _ _ (c.node-second.ensures c.requires.represents.0 c.requires.represents.1)

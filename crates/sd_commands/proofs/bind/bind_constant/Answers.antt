@@ -4,8 +4,8 @@ use Rattle.sd_commands.proofs.Values.{constant_value}
 use Rattle.sd_commands.proofs.Stepping.{bound_steps}
 use Rattle.sd_commands.proofs.bind.bind_constant.Goals as goal
 
-pub bind-requires-clause-known : goal.bind-requires-clause-known
-bind-requires-clause-known c = (Constant c.args.value, constant_value _ _ _ c.constant-node.ensures.shown)
+pub bind-requires-clause-shown : goal.bind-requires-clause-shown
+bind-requires-clause-shown c = (Constant c.args.value, constant_value _ _ _ c.constant-node.ensures.shown)
 
 pub returns-clause-done : goal.returns-clause-done
 returns-clause-done c = λ input seen was.

@@ -11,8 +11,8 @@ bind-requires-clause-represents c = (
   stands_on c.args.state.now _ _ _ c.requires.represents.1 c.in-Ok.ensures.kept c.in-Ok.ensures.serves,
 )
 
-pub bind-requires-clause-known : goal.bind-requires-clause-known
-bind-requires-clause-known c = (expression_of_file c.args.file.now, answer_value _ _ _ c.in-Ok.ensures.ok)
+pub bind-requires-clause-shown : goal.bind-requires-clause-shown
+bind-requires-clause-shown c = (expression_of_file c.args.file.now, answer_value _ _ _ c.in-Ok.ensures.ok)
 
 pub returns-in-Ok-clause-done : goal.returns-in-Ok-clause-done
 returns-in-Ok-clause-done c = λ input seen was.

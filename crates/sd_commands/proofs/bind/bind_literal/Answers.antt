@@ -6,8 +6,8 @@ use Rattle.sd_commands.proofs.Values.{literal_value}
 use Rattle.sd_commands.proofs.Stepping.{bound_steps}
 use Rattle.sd_commands.proofs.bind.bind_literal.Goals as goal
 
-pub bind-requires-clause-known : goal.bind-requires-clause-known
-bind-requires-clause-known c = (
+pub bind-requires-clause-shown : goal.bind-requires-clause-shown
+bind-requires-clause-shown c = (
   Atom c.args.literal,
   subst (λ (z : ℤ). ShowsFormula c.args.state.now.manager c.literal-node.result (Atom z))
       (to_z-of_z w32 c.args.literal c.ranges.literal) (literal_value _ _ _ c.literal-node.ensures.shown),

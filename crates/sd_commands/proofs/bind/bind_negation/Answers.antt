@@ -1,7 +1,7 @@
 use Rattle.std.proofs.Common.{refl}
 use Rattle.sd_model.specs.Expression.{Negated}
 use Rattle.sd_commands.specs.Commands.{formula_named}
-use Rattle.sd_commands.proofs.Values.{negated_value, value_known}
+use Rattle.sd_commands.proofs.Values.{negated_value, value_node}
 use Rattle.sd_commands.proofs.Standing.{stands_on}
 use Rattle.sd_commands.proofs.Stepping.{bound_steps}
 use Rattle.sd_commands.proofs.bind.bind_negation.Goals as goal
@@ -12,8 +12,8 @@ bind-requires-clause-represents c = (
   stands_on c.args.state.now _ _ _ c.requires.represents.1 c.in-Ok.ensures.kept c.in-Ok.ensures.serves,
 )
 
-pub bind-requires-clause-known : goal.bind-requires-clause-known
-bind-requires-clause-known c = (
+pub bind-requires-clause-shown : goal.bind-requires-clause-shown
+bind-requires-clause-shown c = (
   Negated (formula_named c.requires.represents.0 c.args.a),
   negated_value c.args.state.now.manager _ _ _ _ c.in-Ok.ensures.kept
       (c.node-positive.ensures c.requires.represents.0 c.requires.represents.1) c.in-Ok.ensures.ok,
@@ -29,4 +29,4 @@ returns-in-Ok-clause-done c = λ input seen was.
 
 pub negate-requires-clause-node : goal.negate-requires-clause-node
 negate-requires-clause-node c =
-    value_known _ _ _ (c.node-positive.ensures c.requires.represents.0 c.requires.represents.1)
+    value_node _ _ _ (c.node-positive.ensures c.requires.represents.0 c.requires.represents.1)

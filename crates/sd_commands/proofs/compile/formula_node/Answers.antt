@@ -1,11 +1,11 @@
 use Rattle.std.proofs.Common.{◌∙◌, ap, arith}
 use Rattle.sd_commands.specs.Joined.{outer, inner}
-use Rattle.sd_commands.proofs.Joining.{known, answer_on, group_more, all_groups, extends_on}
+use Rattle.sd_commands.proofs.Joining.{answer_node, answer_on, group_more, all_groups, extends_on}
 use Rattle.sd_commands.proofs.compile.formula_node.Goals as goal
 
 pub connect-requires-clause-first : goal.connect-requires-clause-first
 connect-requires-clause-first c =
-    known _ _ _ (answer_on _ _ _ _ c.group_node.ensures.kept c.loop-index.invariant.shown)
+    answer_node _ _ _ (answer_on _ _ _ _ c.group_node.ensures.kept c.loop-index.invariant.shown)
 
 pub loop-index-preserved : goal.loop-index-preserved
 loop-index-preserved c = record {

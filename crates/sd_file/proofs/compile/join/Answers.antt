@@ -1,24 +1,24 @@
 use Rattle.sd_apply.proofs.Listed.{extends_on, answer_on}
-use Rattle.sd_file.proofs.Building.{known, built_at, pair_answer, pair_more}
+use Rattle.sd_file.proofs.Building.{answer_node, built_at, pair_answer, pair_more}
 use Rattle.sd_file.proofs.compile.join.Goals as goal
 
 -- primes and subs are earlier nodes, which are built
 pub and-requires-clause-first : goal.and-requires-clause-first
 and-requires-clause-first c =
-    known _ _ _ (built_at c.args.file.now c.args.m.now c.loop-element.m c.args.built.now c.args.index
+    answer_node _ _ _ (built_at c.args.file.now c.args.m.now c.loop-element.m c.args.built.now c.args.index
     c.pair-prime.result.0 c.index-built-prime.result c.loop-element.invariant.kept c.requires.built c.requires.all
     c.pair-prime.ensures.earlier.prime c.index-built-prime.is)
 
 pub and-requires-clause-second : goal.and-requires-clause-second
 and-requires-clause-second c =
-    known _ _ _ (built_at c.args.file.now c.args.m.now c.loop-element.m c.args.built.now c.args.index
+    answer_node _ _ _ (built_at c.args.file.now c.args.m.now c.loop-element.m c.args.built.now c.args.index
     c.pair-prime.result.1 c.index-built-sub.result c.loop-element.invariant.kept c.requires.built c.requires.all
     c.pair-prime.ensures.earlier.sub c.index-built-sub.is)
 
 -- the disjunction so far stays
 pub or-requires-clause-first : goal.or-requires-clause-first
 or-requires-clause-first c =
-    known _ _ _ (answer_on _ _ c.in_ok-product.ensures.kept _ _ c.loop-element.invariant.shown)
+    answer_node _ _ _ (answer_on _ _ c.in_ok-product.ensures.kept _ _ c.loop-element.invariant.shown)
 
 -- a conjunction has an answer
 pub or-requires-clause-second : goal.or-requires-clause-second
@@ -29,7 +29,8 @@ or-requires-clause-second c =
     let second = built_at c.args.file.now c.args.m.now c.loop-element.m c.args.built.now c.args.index
     c.pair-prime.result.1 c.index-built-sub.result c.loop-element.invariant.kept c.requires.built c.requires.all
     c.pair-prime.ensures.earlier.sub c.index-built-sub.is in
-    known _ _ _ (pair_answer c.args.file.now _ _ c.pair-prime.result _ _ _ first second c.in_ok-product.ensures.ok)
+    answer_node _ _ _
+        (pair_answer c.args.file.now _ _ c.pair-prime.result _ _ _ first second c.in_ok-product.ensures.ok)
 
 -- one pair more
 pub loop-element-preserved : goal.loop-element-preserved

@@ -15,11 +15,11 @@ use Rattle.sd_file.proofs.order.+collect.Goals as goal
 
 pub collect-view-requires : goal.collect-view-requires
 collect-view-requires t c =
-    shown_has_node c.args.m.now c.requires.table.numbered c.args.node c.requires.known.0 c.requires.known.1.shows
+    shown_has_node c.args.m.now c.requires.table.numbered c.args.node c.requires.shown.0 c.requires.shown.1.shows
 
 pub collect-position-requires : goal.collect-position-requires
 collect-position-requires t c =
-    let w = c.in-Decomposition.ensures.shown c.requires.known.0 c.requires.known.1.shows in
+    let w = c.in-Decomposition.ensures.shown c.requires.shown.0 c.requires.shown.1.shows in
     subst (λ z. c.in-Decomposition.place < length (numbers z)) (sym c.vtree.ensures.vtree)
     (stands_within c.args.m.now.vtree c.requires.table.numbered w.0 c.in-Decomposition.place w.4)
 
@@ -57,8 +57,8 @@ collect-returns-in_ok-collect_below-in-Decomposition-clause-collected t c =
     (added_collected c.add.result c.args.m.now c.collect_below.new.o c.collect_below.new.found c.add.new.self
     c.position.result c.node-in-Decomposition-2.inside.0 c.args.node c.node-in-Decomposition-2.view_is
     (at_place c.args.m.now c.requires.table.numbered c.args.node c.in-Decomposition.place c.in-Decomposition.count
-    c.position.result c.requires.known.0 c.requires.known.1
-    (c.in-Decomposition.ensures.shown c.requires.known.0 c.requires.known.1.shows)
+    c.position.result c.requires.shown.0 c.requires.shown.1
+    (c.in-Decomposition.ensures.shown c.requires.shown.0 c.requires.shown.1.shows)
     (subst (λ z. slice_get (numbers z) c.position.result ≡ Some c.in-Decomposition.place) c.vtree.ensures.vtree
     c.position.ensures.position))
     c.in_ok-collect_below-in-Decomposition.ensures.collected c.in_ok-collect_below-in-Decomposition.ensures.stand
@@ -71,8 +71,8 @@ collect-returns-in_ok-collect_below-in-Decomposition-clause-keeps_all t c =
     (added_collected c.add.result c.args.m.now c.collect_below.new.o c.collect_below.new.found c.add.new.self
     c.position.result c.node-in-Decomposition-2.inside.0 c.args.node c.node-in-Decomposition-2.view_is
     (at_place c.args.m.now c.requires.table.numbered c.args.node c.in-Decomposition.place c.in-Decomposition.count
-    c.position.result c.requires.known.0 c.requires.known.1
-    (c.in-Decomposition.ensures.shown c.requires.known.0 c.requires.known.1.shows)
+    c.position.result c.requires.shown.0 c.requires.shown.1
+    (c.in-Decomposition.ensures.shown c.requires.shown.0 c.requires.shown.1.shows)
     (subst (λ z. slice_get (numbers z) c.position.result ≡ Some c.in-Decomposition.place) c.vtree.ensures.vtree
     c.position.ensures.position))
     c.in_ok-collect_below-in-Decomposition.ensures.collected c.in_ok-collect_below-in-Decomposition.ensures.stand
@@ -85,8 +85,8 @@ collect-returns-in_ok-collect_below-in-Decomposition-clause-stands t c =
     (added_collected c.add.result c.args.m.now c.collect_below.new.o c.collect_below.new.found c.add.new.self
     c.position.result c.node-in-Decomposition-2.inside.0 c.args.node c.node-in-Decomposition-2.view_is
     (at_place c.args.m.now c.requires.table.numbered c.args.node c.in-Decomposition.place c.in-Decomposition.count
-    c.position.result c.requires.known.0 c.requires.known.1
-    (c.in-Decomposition.ensures.shown c.requires.known.0 c.requires.known.1.shows)
+    c.position.result c.requires.shown.0 c.requires.shown.1
+    (c.in-Decomposition.ensures.shown c.requires.shown.0 c.requires.shown.1.shows)
     (subst (λ z. slice_get (numbers z) c.position.result ≡ Some c.in-Decomposition.place) c.vtree.ensures.vtree
     c.position.ensures.position))
     c.in_ok-collect_below-in-Decomposition.ensures.collected c.in_ok-collect_below-in-Decomposition.ensures.stand
@@ -94,7 +94,7 @@ collect-returns-in_ok-collect_below-in-Decomposition-clause-stands t c =
 
 pub collect_below-collect-requires : goal.collect_below-collect-requires
 collect_below-collect-requires t c =
-    let w = c.requires.known in
+    let w = c.requires.shown in
     let k = children c.args.m.now c.args.node w.0 c.loop-index.index w.1 c.element-prime.result w.2
     c.element-prime.ensures.pair in (
       omega (arith, c.decreases, w.3, k.prime_depth),
@@ -106,7 +106,7 @@ collect_below-collect-requires t c =
 
 pub collect_below-collect-requires-in-loop-index : goal.collect_below-collect-requires-in-loop-index
 collect_below-collect-requires-in-loop-index t c =
-    let w = c.requires.known in
+    let w = c.requires.shown in
     let k = children c.args.m.now c.args.node w.0 c.loop-index.index w.1 c.element-prime.result w.2
     c.element-prime.ensures.pair in (
       omega (arith, c.decreases, w.3, k.sub_depth),

@@ -14,8 +14,8 @@ collect-requires-clause-collected c =
     (record { groups = c.new-3.result; seen = c.new-4.result }) c.new-2.ensures.empty c.new-3.ensures.empty
     c.new-4.ensures.empty
 
-pub collect-requires-clause-known : goal.collect-requires-clause-known
-collect-requires-clause-known c = (
+pub collect-requires-clause-shown : goal.collect-requires-clause-shown
+collect-requires-clause-shown c = (
   c.requires.0,
   c.requires.1,
   omega (

@@ -29,14 +29,14 @@ use Rattle.sd_file.proofs.writer.+add.Goals as goal
 pub add_elements-add_node-requires : goal.add_elements-add_node-requires
 add_elements-add_node-requires t c =
     let k = both_at c.args.m.now (list_of c.args.ordered.now) c.args.levels c.args.elements.now
-    c.loop-element.element-index c.element-item.result c.requires.known c.loop-element-test.true
+    c.loop-element.element-index c.element-item.result c.requires.shown c.loop-element-test.true
     c.element-item.is in
     (omega (arith, c.decreases), (c.requires.table, (k.0, c.loop-element.invariant.listed)))
 
 pub add_elements-add_node-requires-in-loop-element : goal.add_elements-add_node-requires-in-loop-element
 add_elements-add_node-requires-in-loop-element t c =
     let k = both_at c.args.m.now (list_of c.args.ordered.now) c.args.levels c.args.elements.now
-    c.loop-element.element-index c.element-item.result c.requires.known c.loop-element-test.true
+    c.loop-element.element-index c.element-item.result c.requires.shown c.loop-element-test.true
     c.element-item.is in
     let s = c.loop-element.invariant.listed in (
       omega (arith, c.decreases),
@@ -49,7 +49,7 @@ add_elements-add_node-requires-in-loop-element t c =
 pub add_elements-loop-element-preserved : goal.add_elements-loop-element-preserved
 add_elements-loop-element-preserved t c =
     let k = both_at c.args.m.now (list_of c.args.ordered.now) c.args.levels c.args.elements.now
-    c.loop-element.element-index c.element-item.result c.requires.known c.loop-element-test.true
+    c.loop-element.element-index c.element-item.result c.requires.shown c.loop-element-test.true
     c.element-item.is in
     walked_more c.args.m.now (list_of c.args.ordered.now) c.args.levels c.args.elements.now
     c.loop-element.element-index c.element-item.result c.args.listing.now c.loop-element.listing
@@ -71,26 +71,26 @@ add_node-returns-then-has t c = λ d ds shown w.
 
 pub add_node-view-requires : goal.add_node-view-requires
 add_node-view-requires t c =
-    shown_has_node c.args.m.now c.requires.table.numbered c.args.node c.requires.known.0 c.requires.known.1.shows
+    shown_has_node c.args.m.now c.requires.table.numbered c.args.node c.requires.shown.0 c.requires.shown.1.shows
 
 pub add_node-elements-elements-requires : goal.add_node-elements-elements-requires
 add_node-elements-elements-requires t c =
     let i = inside c.args.m.now (list_of c.args.ordered.now) c.args.levels c.args.node c.in-Decomposition.place
-    c.in-Decomposition.count c.requires.known
-    (c.in-Decomposition.ensures.shown c.requires.known.0 c.requires.known.1.shows) in
+    c.in-Decomposition.count c.requires.shown
+    (c.in-Decomposition.ensures.shown c.requires.shown.0 c.requires.shown.1.shows) in
     subst IsSome (sym i.kept.is) refl
 
 pub add_node-add_elements-requires : goal.add_node-add_elements-requires
 add_node-add_elements-requires t c =
     let i = inside c.args.m.now (list_of c.args.ordered.now) c.args.levels c.args.node c.in-Decomposition.place
-    c.in-Decomposition.count c.requires.known
-    (c.in-Decomposition.ensures.shown c.requires.known.0 c.requires.known.1.shows) in (
+    c.in-Decomposition.count c.requires.shown
+    (c.in-Decomposition.ensures.shown c.requires.shown.0 c.requires.shown.1.shows) in (
       omega (arith, c.decreases, i.deep),
       (
         c.requires.table,
         (
           inside_walkable c.args.m.now (list_of c.args.ordered.now) c.args.levels c.args.node
-              c.in-Decomposition.place c.requires.known.0 c.elements-elements.result.now i c.elements-elements.ensures,
+              c.in-Decomposition.place c.requires.shown.0 c.elements-elements.result.now i c.elements-elements.ensures,
           c.requires.written,
         ),
       ),
@@ -98,7 +98,7 @@ add_node-add_elements-requires t c =
 
 pub add_node-position-requires : goal.add_node-position-requires
 add_node-position-requires t c =
-    let w = c.in-Decomposition.ensures.shown c.requires.known.0 c.requires.known.1.shows in
+    let w = c.in-Decomposition.ensures.shown c.requires.shown.0 c.requires.shown.1.shows in
     subst (λ z. c.in-Decomposition.place < length (numbers z)) (sym c.vtree.ensures.vtree)
     (stands_within c.args.m.now.vtree c.requires.table.numbered w.0 c.in-Decomposition.place w.4)
 
@@ -106,10 +106,10 @@ pub add_node-add_decomposition-requires-clause-given :
     goal.add_node-add_decomposition-requires-clause-given
 add_node-add_decomposition-requires-clause-given t c =
     let i = inside c.args.m.now (list_of c.args.ordered.now) c.args.levels c.args.node c.in-Decomposition.place
-    c.in-Decomposition.count c.requires.known
-    (c.in-Decomposition.ensures.shown c.requires.known.0 c.requires.known.1.shows) in
+    c.in-Decomposition.count c.requires.shown
+    (c.in-Decomposition.ensures.shown c.requires.shown.0 c.requires.shown.1.shows) in
     let pairs = inside_shown c.args.m.now (list_of c.args.ordered.now) c.args.levels c.args.node
-    c.in-Decomposition.place c.requires.known.0 c.elements-elements.result.now i c.elements-elements.ensures in
+    c.in-Decomposition.place c.requires.shown.0 c.elements-elements.result.now i c.elements-elements.ensures in
     let s = c.requires.written in
     inner_can_give c.args.m.now c.requires.table c.add_elements.new.listing c.args.node i.position i.elements s.0
     i.shown.shows (c.in_ok-add_elements-in-Decomposition.ensures i.elements s.0 pairs s.1)
@@ -121,10 +121,10 @@ pub add_node-add_decomposition-requires-clause-complete :
     goal.add_node-add_decomposition-requires-clause-complete
 add_node-add_decomposition-requires-clause-complete t c =
     let i = inside c.args.m.now (list_of c.args.ordered.now) c.args.levels c.args.node c.in-Decomposition.place
-    c.in-Decomposition.count c.requires.known
-    (c.in-Decomposition.ensures.shown c.requires.known.0 c.requires.known.1.shows) in
+    c.in-Decomposition.count c.requires.shown
+    (c.in-Decomposition.ensures.shown c.requires.shown.0 c.requires.shown.1.shows) in
     let pairs = inside_shown c.args.m.now (list_of c.args.ordered.now) c.args.levels c.args.node
-    c.in-Decomposition.place c.requires.known.0 c.elements-elements.result.now i c.elements-elements.ensures in
+    c.in-Decomposition.place c.requires.shown.0 c.elements-elements.result.now i c.elements-elements.ensures in
     let s = c.requires.written in
     have_numbers c.args.m.now c.add_elements.new.listing.numbers (add s.0 (walk_elements i.elements))
     (c.in_ok-add_elements-in-Decomposition.ensures i.elements s.0 pairs s.1).numbered
@@ -160,10 +160,10 @@ pub add_node-returns-in_ok-add_elements-in-Decomposition :
     goal.add_node-returns-in_ok-add_elements-in-Decomposition
 add_node-returns-in_ok-add_elements-in-Decomposition t c = λ d ds shown w.
     let i = inside c.args.m.now (list_of c.args.ordered.now) c.args.levels c.args.node c.in-Decomposition.place
-    c.in-Decomposition.count c.requires.known
-    (c.in-Decomposition.ensures.shown c.requires.known.0 c.requires.known.1.shows) in
+    c.in-Decomposition.count c.requires.shown
+    (c.in-Decomposition.ensures.shown c.requires.shown.0 c.requires.shown.1.shows) in
     let pairs = inside_shown c.args.m.now (list_of c.args.ordered.now) c.args.levels c.args.node
-    c.in-Decomposition.place c.requires.known.0 c.elements-elements.result.now i c.elements-elements.ensures in
+    c.in-Decomposition.place c.requires.shown.0 c.elements-elements.result.now i c.elements-elements.ensures in
     let same = one_diagram c.args.m.now.vtree (get c.args.m.now.linked) c.requires.table.numbered d c.args.node
     (Decomposition i.position i.elements) shown i.shown.shows in
     let place = same_position c.args.m.now.vtree c.requires.table.numbered c.in-Decomposition.place c.position.result

@@ -7,15 +7,15 @@ pub leaf-requires-clause-positive : goal.leaf-requires-clause-positive
 leaf-requires-clause-positive c =
     let fits : SFits w32 c.args.literal = search rules in
     (literal_range c.args.m.now c.requires.table c.vtree-vtree.result.now c.vtree-vtree.ensures.vtree c.args.literal
-    fits c.unsigned_abs-variable.result c.unsigned_abs-variable.ensures.value c.requires.known.0
-    c.requires.known.1).0
+    fits c.unsigned_abs-variable.result c.unsigned_abs-variable.ensures.value c.requires.shown.0
+    c.requires.shown.1).0
 
 pub leaf-requires-clause-within : goal.leaf-requires-clause-within
 leaf-requires-clause-within c =
     let fits : SFits w32 c.args.literal = search rules in
     (literal_range c.args.m.now c.requires.table c.vtree-vtree.result.now c.vtree-vtree.ensures.vtree c.args.literal
-    fits c.unsigned_abs-variable.result c.unsigned_abs-variable.ensures.value c.requires.known.0
-    c.requires.known.1).1
+    fits c.unsigned_abs-variable.result c.unsigned_abs-variable.ensures.value c.requires.shown.0
+    c.requires.shown.1).1
 
 pub returns : goal.returns
 returns c = λ d h.

@@ -7,8 +7,8 @@ use Rattle.sd_file.proofs.FewNodes.{written_reads_back}
 use Rattle.sd_file.proofs.writer.write_sdd.Goals as goal
 
 -- the walk may begin at the node
-pub add_node-requires-clause-known : goal.add_node-requires-clause-known
-add_node-requires-clause-known c =
+pub add_node-requires-clause-shown : goal.add_node-requires-clause-shown
+add_node-requires-clause-shown c =
     let d = c.requires.held.0 in
     let shown = held_shown c.args.m.now c.args.root.now c.node_of-node.result d c.requires.held.1
     c.node_of-node.ensures.held in (

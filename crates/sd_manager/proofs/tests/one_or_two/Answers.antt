@@ -10,8 +10,8 @@ make-requires-clause-partition c =
     c.literal-one.ensures.code
     c.constant-yes.ensures.code
 
-pub returns-clause-known : goal.returns-clause-known
-returns-clause-known c =
+pub returns-clause-shown : goal.returns-clause-shown
+returns-clause-shown c =
     let partition = clause_asked c.args.m.now c.args.root c.literal-other.result c.literal-two.result
     c.literal-one.result c.constant-yes.result c.requires c.literal-other.ensures.code c.literal-two.ensures.code
     c.literal-one.ensures.code c.constant-yes.ensures.code in

@@ -15,7 +15,7 @@ list_below-returns-then-contains t c = λ d h.
 
 pub list_below-view-requires : goal.list_below-view-requires
 list_below-view-requires t c =
-    shown_has_node c.args.m.now c.requires.table.numbered c.args.node c.requires.known.0 c.requires.known.1.shows
+    shown_has_node c.args.m.now c.requires.table.numbered c.args.node c.requires.shown.0 c.requires.shown.1.shows
 
 pub list_below-returns-in-Constant : goal.list_below-returns-in-Constant
 list_below-returns-in-Constant t c =
@@ -42,22 +42,22 @@ list_below-returns-in_ok-list_children-in-Decomposition t c =
 
 pub list_below-list_children-requires : goal.list_below-list_children-requires
 list_below-list_children-requires t c =
-    let w = c.in-Decomposition.ensures.shown c.requires.known.0 c.requires.known.1.shows in
-    let is = subst (ShowsCanonical c.args.m.now c.args.node) w.2 c.requires.known.1 in (
+    let w = c.in-Decomposition.ensures.shown c.requires.shown.0 c.requires.shown.1.shows in
+    let is = subst (ShowsCanonical c.args.m.now c.args.node) w.2 c.requires.shown.1 in (
       omega (arith, c.decreases),
       (
         c.requires.table,
         (
           count_is c.args.m.now c.args.node c.in-Decomposition.place c.in-Decomposition.count w.0 w.1 is
               c.in-Decomposition.ensures.view,
-          (w.0, w.1, is, omega (arith, ap depth w.2, c.requires.known.2)),
+          (w.0, w.1, is, omega (arith, ap depth w.2, c.requires.shown.2)),
         ),
       ),
     )
 
 pub list_children-list_below-requires : goal.list_children-list_below-requires
 list_children-list_below-requires t c =
-    let w = c.requires.known in
+    let w = c.requires.shown in
     let k = children c.args.m.now c.args.node w.0 c.loop-index.index w.1 c.element-prime.result w.2
     c.element-prime.ensures.pair in (
       omega (arith, c.decreases, w.3, k.prime_depth),
@@ -66,7 +66,7 @@ list_children-list_below-requires t c =
 
 pub list_children-list_below-requires-in-loop-index : goal.list_children-list_below-requires-in-loop-index
 list_children-list_below-requires-in-loop-index t c =
-    let w = c.requires.known in
+    let w = c.requires.shown in
     let k = children c.args.m.now c.args.node w.0 c.loop-index.index w.1 c.element-prime.result w.2
     c.element-prime.ensures.pair in (
       omega (arith, c.decreases, w.3, k.sub_depth),
@@ -75,7 +75,7 @@ list_children-list_below-requires-in-loop-index t c =
 
 pub list_children-loop-index-preserved : goal.list_children-loop-index-preserved
 list_children-loop-index-preserved t c =
-    let w = c.requires.known in
+    let w = c.requires.shown in
     let k = children c.args.m.now c.args.node w.0 c.loop-index.index w.1 c.element-prime.result w.2
     c.element-prime.ensures.pair in
     listed_more c.args.m.now c.requires.table c.args.node w.0 c.loop-index.index w.1 c.element-prime.result

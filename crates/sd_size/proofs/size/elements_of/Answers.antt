@@ -3,5 +3,5 @@ use Rattle.sd_size.proofs.size.elements_of.Goals as goal
 
 pub view-requires : goal.view-requires
 view-requires c =
-    shown_has_node c.args.m.now c.requires.table.numbered c.args.node c.requires.known.diagram
-    c.requires.known.is.shows
+    shown_has_node c.args.m.now c.requires.table.numbered c.args.node c.requires.shown.diagram
+    c.requires.shown.is.shows

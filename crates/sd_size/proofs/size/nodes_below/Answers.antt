@@ -5,13 +5,13 @@ use Rattle.sd_laws.proofs.Depths.{depth_canonical}
 use Rattle.sd_size.proofs.Totals.{all_below, all_distinct}
 use Rattle.sd_size.proofs.size.nodes_below.Goals as goal
 
-pub list_below-requires-clause-known : goal.list_below-requires-clause-known
-list_below-requires-clause-known c = (
-  c.requires.known.0,
-  c.requires.known.1,
+pub list_below-requires-clause-shown : goal.list_below-requires-clause-shown
+list_below-requires-clause-shown c = (
+  c.requires.shown.0,
+  c.requires.shown.1,
   omega (
     arith,
-    depth_canonical c.requires.known.1.canonical,
+    depth_canonical c.requires.shown.1.canonical,
     c.variables-levels.ensures.count,
     ap (λ t. leaves (plain_tree t)) c.vtree.ensures.vtree,
   ),
@@ -24,5 +24,5 @@ returns-clause-below c = λ d h.
 
 pub returns-clause-distinct : goal.returns-clause-distinct
 returns-clause-distinct c =
-    all_distinct c.args.m.now c.new-nodes.result c.list_below.new.nodes c.into_nodes.result.items c.requires.known.0
-    c.new-nodes.ensures (c.in_ok-list_below.ensures c.requires.known.0 c.requires.known.1) c.into_nodes.ensures
+    all_distinct c.args.m.now c.new-nodes.result c.list_below.new.nodes c.into_nodes.result.items c.requires.shown.0
+    c.new-nodes.ensures (c.in_ok-list_below.ensures c.requires.shown.0 c.requires.shown.1) c.into_nodes.ensures

@@ -5,8 +5,8 @@ use Rattle.sd_manager.proofs.Same.{held_code}
 use Rattle.sd_size.proofs.Totals.{all_known, size_below}
 use Rattle.sd_size.proofs.size.size_of_root.Goals as goal
 
-pub total-requires-clause-known : goal.total-requires-clause-known
-total-requires-clause-known c =
+pub total-requires-clause-shown : goal.total-requires-clause-shown
+total-requires-clause-shown c =
     let is = held_code c.args.m.now c.args.root.now c.node_of.result c.requires.held.0 c.node_of.ensures.held
     c.requires.held.1 in
     let below = c.in_ok-nodes.ensures.below c.requires.held.0 is in

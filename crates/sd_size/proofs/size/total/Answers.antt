@@ -7,7 +7,7 @@ overflow_add-sum c =
     let within_limit : c.elements_of.result < 2 ^ 32 = search rules in
     omega (
       arith,
-      sum_fits c.args.m.now c.requires.table c.args.nodes.now c.requires.distinct c.requires.known
+      sum_fits c.args.m.now c.requires.table c.args.nodes.now c.requires.distinct c.requires.shown
           c.loop-node.node-index c.loop-node.sum c.elements_of.result c.loop-node.invariant (omega arith) within_limit,
     )
 

@@ -5,8 +5,8 @@ use Rattle.sd_apply.specs.Answers.{Combines}
 use Rattle.sd_size.proofs.Tried.{combined_known}
 use Rattle.sd_size.proofs.tests.both.Goals as goal
 
-pub returns-clause-known : goal.returns-clause-known
-returns-clause-known c =
+pub returns-clause-shown : goal.returns-clause-shown
+returns-clause-shown c =
     IfOk-weaker c.and.result (Combines c.args.m.now c.and.new.m And c.literal-first.result c.literal-second.result)
     (IsNodeOf c.and.new.m)
     (λ r h. combined_known c.args.m.now c.and.new.m And c.literal-first.result c.literal-second.result r

@@ -16,5 +16,5 @@ hold-requires-clause-room g c =
 pub size_of_root-requires : goal.size_of_root-requires
 size_of_root-requires g c = record {
   held = held_diagram c.two_terms.new.m c.hold.new.self c.in_ok-root.root c.in_ok-node.node c.in_ok-root.ensures.ok
-      c.in_ok-node.ensures.known;
+      c.in_ok-node.ensures.shown;
 }

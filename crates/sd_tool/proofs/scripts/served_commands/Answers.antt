@@ -28,8 +28,8 @@ loop-line-init g c =
     }
 
 -- the files of a line are the script's
-pub command_of-requires-clause-known : goal.command_of-requires-clause-known
-command_of-requires-clause-known g c =
+pub command_of-requires-clause-files : goal.command_of-requires-clause-files
+command_of-requires-clause-files g c =
     let was = c.loop-line.invariant in
     let line = c.line-item.result in
     let here : IsNext c.commands-line-items.result.now c.loop-line.line-index line =

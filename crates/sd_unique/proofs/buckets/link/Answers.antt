@@ -4,7 +4,7 @@ use Rattle.std.proofs.lemmas.List.{length-set}
 use Rattle.sd_unique.specs.Chains.{bucket_of, no_record}
 use Rattle.sd_unique.specs.Growing.{IsLinkedBelow}
 use Rattle.sd_unique.specs.declared.record.Record.{Record}
-use Rattle.sd_unique.specs.declared.record.State.TheVariants.{Free}
+use Rattle.sd_unique.specs.declared.record.RecordState.TheVariants.{Free}
 use Rattle.sd_unique.proofs.Entries.{slice_get_at}
 use Rattle.sd_unique.proofs.Growing.{linked_next}
 use Rattle.sd_unique.proofs.Stacked.{get_or_any}

@@ -1,6 +1,6 @@
 use Rattle.std.proofs.Common.{get_or}
 use Rattle.sd_unique.specs.declared.record.Record.{Record}
-use Rattle.sd_unique.specs.declared.record.State.TheVariants.{Free}
+use Rattle.sd_unique.specs.declared.record.RecordState.TheVariants.{Free}
 use Rattle.sd_unique.proofs.Entries.{slice_get_at}
 use Rattle.sd_unique.proofs.Popped.{left_inside, left_popped}
 use Rattle.sd_unique.proofs.stack.pop_used.Goals as goal

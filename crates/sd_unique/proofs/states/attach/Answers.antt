@@ -1,6 +1,6 @@
 use Rattle.std.proofs.Common.{◌+◌, ◌<◌, ◌-◌, length, get_or, Some, refl, ap, ◌∙◌, arith}
 use Rattle.sd_unique.specs.declared.record.Record.{Record}
-use Rattle.sd_unique.specs.declared.record.State.TheVariants.{Free}
+use Rattle.sd_unique.specs.declared.record.RecordState.TheVariants.{Free}
 use Rattle.sd_unique.specs.Chains.{list_under, no_record}
 use Rattle.sd_unique.specs.Filed.{unfiled}
 use Rattle.sd_unique.specs.Record.{key_of}

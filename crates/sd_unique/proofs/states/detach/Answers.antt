@@ -1,6 +1,6 @@
 use Rattle.std.proofs.Common.{◌<◌, ◌-◌, length, get_or, refl, ◌∙◌, arith}
 use Rattle.sd_unique.specs.declared.record.Record.{Record}
-use Rattle.sd_unique.specs.declared.record.State.TheVariants.{Free}
+use Rattle.sd_unique.specs.declared.record.RecordState.TheVariants.{Free}
 use Rattle.sd_unique.specs.Chains.{chain_under, list_under}
 use Rattle.sd_unique.specs.Filed.{unfiled}
 use Rattle.sd_unique.proofs.Both.{unfiled_here}

@@ -1,7 +1,7 @@
 use Rattle.std.proofs.Common.{length, get_or, refl, arith}
 use Rattle.std.specs.FinMap.{get}
 use Rattle.sd_unique.specs.declared.record.Record.{Record}
-use Rattle.sd_unique.specs.declared.record.State.TheVariants.{Free}
+use Rattle.sd_unique.specs.declared.record.RecordState.TheVariants.{Free}
 use Rattle.sd_unique.specs.Chains.{list_under, no_record}
 use Rattle.sd_unique.proofs.Detached.{detached_node}
 use Rattle.sd_unique.proofs.Entries.{option_map_some}

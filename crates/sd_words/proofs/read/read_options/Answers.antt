@@ -63,7 +63,7 @@ returns-in_err-start c =
       c.in_ok-numbers.ensures.range,
       c.in_ok-check_script.ensures,
       c.in_ok-check_outputs.ensures,
-      c.in_err-start.ensures.known,
+      c.in_err-start.ensures.unknown,
     ) refl)
 
 pub returns-in_err-check_names : goal.returns-in_err-check_names
@@ -76,7 +76,7 @@ returns-in_err-check_names c =
       c.in_ok-numbers.ensures.range,
       c.in_ok-check_script.ensures,
       c.in_ok-check_outputs.ensures,
-      c.in_ok-start.ensures.known,
+      c.in_ok-start.ensures.unknown,
       c.in_err-check_names.ensures,
     ) refl)
 
@@ -99,6 +99,6 @@ returns c =
       c.in_ok-numbers.ensures.range,
       c.in_ok-check_script.ensures,
       c.in_ok-check_outputs.ensures,
-      c.in_ok-start.ensures.known,
+      c.in_ok-start.ensures.unknown,
       c.in_ok-check_names.ensures,
     ) (ap (λ (j : Job). Ok j) (sym c.in_ok-job.ensures))

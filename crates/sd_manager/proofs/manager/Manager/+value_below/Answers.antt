@@ -15,26 +15,26 @@ use Rattle.sd_manager.proofs.manager.Manager.+value_below.Goals as goal
 
 pub view-requires : goal.view-requires
 view-requires t c =
-    shown_has_node c.args.self.now c.requires.table.numbered c.args.node c.requires.known.0 c.requires.known.1.shows
+    shown_has_node c.args.self.now c.requires.table.numbered c.args.node c.requires.shown.0 c.requires.shown.1.shows
 
 pub literal_value-requires : goal.literal_value-requires
 literal_value-requires t c =
     let range : SFits w32 c.in-Literal.literal = search rules in
     subst (λ n. IsLiteralTo n (to_z w32 (of_z w32 c.in-Literal.literal))) (sym c.requires.values)
     (subst (IsLiteralTo (leaves (plain_tree c.args.self.now.vtree))) (sym (to_z-of_z w32 c.in-Literal.literal range))
-    (literal_fits c.args.self.now c.requires.table c.in-Literal.literal c.requires.known.0
-    (c.in-Literal.ensures.shown c.requires.known.0 c.requires.known.1.shows)))
+    (literal_fits c.args.self.now c.requires.table c.in-Literal.literal c.requires.shown.0
+    (c.in-Literal.ensures.shown c.requires.shown.0 c.requires.shown.1.shows)))
 
 pub loop-index-init : goal.loop-index-init
 loop-index-init t c = passed_none c.args.self.now c.args.node c.args.assignment.now
 
 pub value_below-requires : goal.value_below-requires
 value_below-requires t c =
-    let w = c.in-Decomposition.ensures.shown c.requires.known.0 c.requires.known.1.shows in
-    let is = subst (ShowsCanonical c.args.self.now c.args.node) w.2 c.requires.known.1 in
+    let w = c.in-Decomposition.ensures.shown c.requires.shown.0 c.requires.shown.1.shows in
+    let is = subst (ShowsCanonical c.args.self.now c.args.node) w.2 c.requires.shown.1 in
     let k = children c.args.self.now c.args.node w.0 c.loop-index.index w.1 c.element-prime.result is
     c.element-prime.ensures.pair in (
-      omega (arith, c.decreases, ap depth w.2, c.requires.known.2, k.prime_depth),
+      omega (arith, c.decreases, ap depth w.2, c.requires.shown.2, k.prime_depth),
       (
         c.requires.table,
         (
@@ -44,7 +44,7 @@ value_below-requires t c =
             omega (
               arith,
               ap depth w.2,
-              c.requires.known.2,
+              c.requires.shown.2,
               k.prime_depth,
             ),
           ),
@@ -55,15 +55,15 @@ value_below-requires t c =
 
 pub value_below-requires-then-value_below : goal.value_below-requires-then-value_below
 value_below-requires-then-value_below t c =
-    let w = c.in-Decomposition.ensures.shown c.requires.known.0 c.requires.known.1.shows in
-    let is = subst (ShowsCanonical c.args.self.now c.args.node) w.2 c.requires.known.1 in
+    let w = c.in-Decomposition.ensures.shown c.requires.shown.0 c.requires.shown.1.shows in
+    let is = subst (ShowsCanonical c.args.self.now c.args.node) w.2 c.requires.shown.1 in
     let k = children c.args.self.now c.args.node w.0 c.loop-index.index w.1 c.element-prime.result is
     c.element-prime.ensures.pair in (
-      omega (arith, c.decreases, ap depth w.2, c.requires.known.2, k.sub_depth),
+      omega (arith, c.decreases, ap depth w.2, c.requires.shown.2, k.sub_depth),
       (
         c.requires.table,
         (
-          (k.sub, k.sub_is, omega (arith, ap depth w.2, c.requires.known.2, k.sub_depth)),
+          (k.sub, k.sub_is, omega (arith, ap depth w.2, c.requires.shown.2, k.sub_depth)),
           c.requires.values,
         ),
       ),

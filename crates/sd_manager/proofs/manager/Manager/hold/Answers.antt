@@ -10,7 +10,7 @@ add_use-requires-clause-counted c =
     let s = c.self.inside in
     known_counted s.vtree s.nodes s.roots s.epoch s.moving c.node.inside.0 c.self.invariant.table.numbered
     (known_inside (table_of s.vtree s.nodes s.roots s.epoch s.moving) c.args.self.now c.node.inside.0 c.args.node
-    c.self.view_is c.node.view_is c.requires.known)
+    c.self.view_is c.node.view_is c.requires.shown)
 
 pub add_use-requires-clause-room : goal.add_use-requires-clause-room
 add_use-requires-clause-room c =
@@ -18,7 +18,7 @@ add_use-requires-clause-room c =
     room_for_use s.vtree s.nodes s.roots s.epoch s.moving c.node.inside.0 c.self.invariant
     (known_counted s.vtree s.nodes s.roots s.epoch s.moving c.node.inside.0 c.self.invariant.table.numbered
     (known_inside (table_of s.vtree s.nodes s.roots s.epoch s.moving) c.args.self.now c.node.inside.0 c.args.node
-    c.self.view_is c.node.view_is c.requires.known))
+    c.self.view_is c.node.view_is c.requires.shown))
 
 pub invariant_of-self-2 : goal.invariant_of-self-2
 invariant_of-self-2 c =
@@ -31,7 +31,7 @@ invariant_of-self-2 c =
     c.node.inside.0 c.in_ok-root.ensures.absent
     (omega (arith, ap (λ t. len t.roots) c.self.view_is, c.requires.room))
     (known_inside (table_of s.vtree s.nodes s.roots s.epoch s.moving) c.args.self.now c.node.inside.0 c.args.node
-    c.self.view_is c.node.view_is c.requires.known) c.add_use.ensures.uses c.add_use.ensures.valid)
+    c.self.view_is c.node.view_is c.requires.shown) c.add_use.ensures.uses c.add_use.ensures.valid)
 
 pub returns-clause-table : goal.returns-clause-table
 returns-clause-table c = (invariant_of-self-2 c).table

@@ -11,7 +11,7 @@ add_use-requires-clause-counted c =
     let s = c.self.inside in
     known_counted s.vtree s.nodes s.roots s.epoch s.moving c.node.inside.0 c.self.invariant.table.numbered
     (known_inside (table_of s.vtree s.nodes s.roots s.epoch s.moving) c.args.self.now c.node.inside.0 c.args.node
-    c.self.view_is c.node.view_is c.requires.known)
+    c.self.view_is c.node.view_is c.requires.shown)
 
 pub add_use-requires-clause-room : goal.add_use-requires-clause-room
 add_use-requires-clause-room c =
@@ -19,7 +19,7 @@ add_use-requires-clause-room c =
     room_for_use s.vtree s.nodes s.roots s.epoch s.moving c.node.inside.0 c.self.invariant
     (known_counted s.vtree s.nodes s.roots s.epoch s.moving c.node.inside.0 c.self.invariant.table.numbered
     (known_inside (table_of s.vtree s.nodes s.roots s.epoch s.moving) c.args.self.now c.node.inside.0 c.args.node
-    c.self.view_is c.node.view_is c.requires.known))
+    c.self.view_is c.node.view_is c.requires.shown))
 
 pub drop_use-requires-clause-counted : goal.drop_use-requires-clause-counted
 drop_use-requires-clause-counted c =
@@ -54,7 +54,7 @@ invariant_of-self c =
     still c.add_use.new.nodes c.drop_use.new.nodes
     c.args.root.now c.rebind-former.result c.node.inside.0 c.rebind-former.ensures.held
     (known_inside (table_of s.vtree s.nodes s.roots s.epoch s.moving) c.args.self.now c.node.inside.0 c.args.node
-    c.self.view_is c.node.view_is c.requires.known) c.add_use.ensures.uses c.drop_use.ensures.uses
+    c.self.view_is c.node.view_is c.requires.shown) c.add_use.ensures.uses c.drop_use.ensures.uses
     c.drop_use.ensures.valid)
 
 pub returns-clause-table : goal.returns-clause-table

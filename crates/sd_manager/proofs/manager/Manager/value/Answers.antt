@@ -5,8 +5,8 @@ use Rattle.sd_laws.proofs.Depths.{depth_canonical}
 use Rattle.sd_manager.proofs.Same.{held_code}
 use Rattle.sd_manager.proofs.manager.Manager.value.Goals as goal
 
-pub value_below-requires-clause-known : goal.value_below-requires-clause-known
-value_below-requires-clause-known c =
+pub value_below-requires-clause-shown : goal.value_below-requires-clause-shown
+value_below-requires-clause-shown c =
     let is = held_code c.args.self.now c.args.root.now c.node_of.result c.requires.held.0 c.node_of.ensures.held
     c.requires.held.1 in (
       c.requires.held.0,

@@ -1,13 +1,13 @@
 use Rattle.std.proofs.Common.{ℕ, List, Bor}
 use Rattle.sd_script.specs.Views.{viewed, numbers_view}
 use Rattle.sd_script.specs.Steps.{script_view}
-use Rattle.sd_script.proofs.Seeing.{known_as, room_as}
+use Rattle.sd_script.proofs.Seeing.{numbers_within_as, room_as}
 use Rattle.sd_script.proofs.reader.Reader.read_command.Goals as goal
 
 -- the numbers are those of words that were just seen
-pub put_checked-requires-clause-known : goal.put_checked-requires-clause-known
-put_checked-requires-clause-known c =
-    known_as (script_view c.args.self.now) (script_view c.number.new.self)
+pub put_checked-requires-clause-names : goal.put_checked-requires-clause-names
+put_checked-requires-clause-names c =
+    numbers_within_as (script_view c.args.self.now) (script_view c.number.new.self)
     (viewed (λ (word : Bor (List ℕ)). word.now) c.in_ok-words.words) (numbers_view c.in_ok-phrase.phrase)
     c.in_ok-phrase.ensures.seen c.in_ok-phrase.ensures.numbered
 

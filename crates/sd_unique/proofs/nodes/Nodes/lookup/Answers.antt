@@ -6,7 +6,7 @@ use Rattle.sd_unique.specs.Chains.{bucket_of, head_of, no_record}
 use Rattle.sd_unique.specs.Nodes.{IsNodes}
 use Rattle.sd_unique.specs.Record.{IsNode}
 use Rattle.sd_unique.specs.declared.record.Record.{Record}
-use Rattle.sd_unique.specs.declared.record.State.TheVariants.{Free}
+use Rattle.sd_unique.specs.declared.record.RecordState.TheVariants.{Free}
 use Rattle.sd_unique.proofs.Listed.{link_read}
 use Rattle.sd_unique.proofs.Numbered.{is_nodes}
 use Rattle.sd_unique.proofs.Sought.{pair_decides, sought_first, sought_end, sought_out, sought_inside}

@@ -7,7 +7,7 @@ use Rattle.sd_unique.specs.Chains.{list_under}
 use Rattle.sd_unique.specs.Occupying.{IsFreeNumber, occupied}
 use Rattle.sd_unique.specs.Relinking.{IsAbsent, IsLoose}
 use Rattle.sd_unique.specs.declared.record.Record.{Record}
-use Rattle.sd_unique.specs.declared.record.State.TheVariants.{Linked}
+use Rattle.sd_unique.specs.declared.record.RecordState.TheVariants.{Linked}
 use Rattle.sd_unique.proofs.Listed.{link_read}
 use Rattle.sd_unique.proofs.Numbered.{is_nodes}
 use Rattle.sd_unique.proofs.Occupied.{first_some, first_inside, first_linked, first_number, first_ready}
