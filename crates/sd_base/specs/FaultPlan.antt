@@ -1,5 +1,5 @@
 -- Faults that come by plan.
-use Rattle.std.specs.Prelude.{◌≡◌, ℕ, ◌+◌, ◌-◌, ◌^◌, min, List, Contains, Result, IsErr}
+use Rattle.std.specs.Prelude.{◌≡◌, ◌≢◌, ℕ, ◌+◌, ◌-◌, ◌^◌, min, List, Contains, Result, IsErr}
 use Rattle.sd_base.specs.declared.memory.fault_plan.FaultPlan.{FaultPlan}
 use Rattle.sd_base.specs.declared.memory.fault_plan.PlannedFault.{PlannedFault}
 use Rattle.sd_base.specs.declared.memory.fault_plan.ShelfCall.{ShelfCall}
@@ -17,10 +17,15 @@ calls_of plan Finish = plan.finishes
 abbrev pub IsPlanned : FaultPlan → ShelfCall → ℕ → Type 0
 IsPlanned plan call nth = Contains plan.planned.items (record { call = call; nth = nth })
 
--- a call of this kind is counted and fails where that is planned; the plan stays
+-- the counts of the other kinds of calls are as they were
+abbrev pub AreOthersKept : FaultPlan → ShelfCall → FaultPlan → Type 0
+AreOthersKept old call new = (other : ShelfCall) → other ≢ call → calls_of new other ≡ calls_of old other
+
+-- a call of this kind is counted, alone, and fails where that is planned; the plan stays
 pub record GoesByPlan {T E : Type 0} (old : FaultPlan) (call : ShelfCall) (new : FaultPlan) (result : Result T E)
     : Type 0 where
   pub counted : calls_of new call ≡ min (calls_of old call + 1) (2 ^ 64 - 1)
+  pub others : AreOthersKept old call new
   pub fails : IsPlanned old call (calls_of new call) → IsErr result
   pub kept : new.planned.items ≡ old.planned.items
 

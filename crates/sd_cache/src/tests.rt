@@ -13,13 +13,14 @@ fn an_answer_is_found_again(rt: HostRuntime) -> Result<(), Fail> {
     Ok(())
 }
 
-/// Of 65,537 answers the one whose last use is the longest ago is dropped, and others are there.
+/// 65,536 answers are all kept. One more drops the one whose last use is the longest ago.
 #[test]
 fn one_answer_too_many(rt: HostRuntime) -> Result<(), Fail> {
     let mut cache = Cache::new(rt.alloc())?;
     for a in 0..65536 {
         cache.keep(0, 0, a, 5, a);
     }
+    assert_eq!(rt; cache.len(), 65536);
     assert_eq!(rt; cache.look(0, 0, 0, 5), Some(0));
     cache.keep(0, 0, 65536, 5, 65536);
     assert_eq!(rt; cache.look(0, 0, 0, 5), Some(0));

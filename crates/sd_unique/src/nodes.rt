@@ -330,8 +330,9 @@ impl Nodes {
         ensures uses { self.new ≡ with_uses self.old node (uses_at self.old node - 1) }
         ensures nodes { IsNodes self.new }
     {
-        self.candidates = push(&mut self.links, self.candidates, node);
-        self.records[node as usize].uses -= 1;
+        let uses = self.records[node as usize].uses - 1;
+        self.candidates = push_unused(&mut self.links, self.candidates, node, uses);
+        self.records[node as usize].uses = uses;
     }
 
     /// A detached node, where there is one.

@@ -34,7 +34,7 @@ pub(crate) struct FaultPlan {
 }
 
 impl FaultPlan {
-    ghost use Rattle.sd_base.specs.FaultPlan.{calls_of, IsNewPlan, IsPlanned};
+    ghost use Rattle.sd_base.specs.FaultPlan.{calls_of, AreOthersKept, IsNewPlan, IsPlanned};
 
     /// No call was made yet.
     pub(crate) fn new(planned: Vec<PlannedFault>) -> FaultPlan
@@ -53,6 +53,7 @@ impl FaultPlan {
     /// Counts a call of this kind, and says whether it is to fail.
     pub(crate) fn fails(&mut self, call: ShelfCall) -> bool
         ensures counted { calls_of self.new call ≡ min (calls_of self.old call + 1) (2 ^ 64 - 1) }
+        ensures others { AreOthersKept self.old call self.new }
         ensures planned { IsTrue result ↔ IsPlanned self.old call (calls_of self.new call) }
         ensures kept { self.new.planned.items ≡ self.old.planned.items }
     {
@@ -64,6 +65,7 @@ impl FaultPlan {
     fn count(&mut self, call: ShelfCall) -> u64
         ensures number { result ≡ calls_of self.new call }
         ensures counted { calls_of self.new call ≡ min (calls_of self.old call + 1) (2 ^ 64 - 1) }
+        ensures others { AreOthersKept self.old call self.new }
         ensures planned { self.new.planned.items ≡ self.old.planned.items }
     {
         match call {

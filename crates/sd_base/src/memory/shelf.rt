@@ -102,7 +102,7 @@ impl Shelf for MemoryShelf {
     ghost use Rattle.std.specs.Prelude.{IfOk, OnOk, OnErr, IsErr};
     ghost use Rattle.sd_base.specs.Faults.{Rose, HasCause};
     ghost use Rattle.sd_base.specs.Files.{Lacks, told_with};
-    ghost use Rattle.sd_base.specs.FaultPlan.{GoesByPlan};
+    ghost use Rattle.sd_base.specs.FaultPlan.{calls_of, GoesByPlan, IsPlanned};
     ghost use Rattle.sd_base.specs.Shelf.{NoFile, Reading, Writing, IsReading, IsWriting, TakesNext, appended};
     ghost use Rattle.sd_base.specs.MemoryShown.{memory_hand, memory_piece, memory_plan, told};
     ghost use Rattle.sd_base.specs.MemoryShown.{memory_unfinished};
@@ -163,6 +163,9 @@ impl Shelf for MemoryShelf {
         ensures write_faults { write_faults_of self.new ≡ write_faults_of self.old }
         ensures unfinished { memory_unfinished self.new ≡ memory_unfinished self.old }
         ensures plan { GoesByPlan (memory_plan self.old) calls.Read (memory_plan self.new) result }
+        ensures planned { IsErr result
+            → IsPlanned (memory_plan self.old) calls.Read
+            (calls_of (memory_plan self.new) calls.Read) }
     {
         if self.plan.fails(ShelfCall::Read) {
             self.hand = InHand::Nothing;
@@ -251,6 +254,9 @@ impl Shelf for MemoryShelf {
             → OnErr result (memory_unfinished self.new ≡ memory_hand self.old) }
         ensures plan { GoesByPlan (memory_plan self.old) calls.Finish (memory_plan self.new)
             result }
+        ensures planned { IsErr result
+            → IsPlanned (memory_plan self.old) calls.Finish
+            (calls_of (memory_plan self.new) calls.Finish) }
     {
         let held = mem::replace(&mut self.hand, InHand::Nothing);
         if !self.plan.fails(ShelfCall::Finish) {

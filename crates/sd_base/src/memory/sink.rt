@@ -44,10 +44,11 @@ impl MemorySink {
 }
 
 impl Sink for MemorySink {
-    ghost use Rattle.std.specs.Prelude.{◌≡◌, ◌+◌, ◌-◌, ◌^◌, ◌<◌, ◌≤◌, Some, min, length, take};
+    ghost use Rattle.std.specs.Prelude.{◌≡◌, ◌+◌, ◌-◌, ◌^◌, ◌<◌, ◌≤◌, ◌⊎◌, Some, min, length, take};
     ghost use Rattle.std.specs.Prelude.{IfOk, OnErr, IsErr, Contains};
     ghost use Rattle.sd_base.specs.Faults.{HasCause};
-    ghost use Rattle.sd_base.specs.MemoryShown.{fails_at, calls_to, faults_of, memory_written};
+    ghost use Rattle.sd_base.specs.MemoryShown.{fails_at, calls_to, faults_of};
+    ghost use Rattle.sd_base.specs.MemoryShown.{memory_room, memory_written};
     ghost use Rattle.sd_base.specs.Sink.{told_then};
 
     ghost written = { λ sink. Some sink.written.items };
@@ -64,6 +65,9 @@ impl Sink for MemorySink {
         ensures cause { HasCause (faults_of self.old) (faults_of self.new) result }
         ensures counted { calls_to self.new ≡ min (calls_to self.old + 1) (2 ^ 64 - 1) }
         ensures planned { Contains (fails_at self.old) (calls_to self.new) → IsErr result }
+        ensures unplanned { OnErr result (
+            Contains (fails_at self.old) (calls_to self.new)
+            ⊎ (memory_room self.old < length (memory_written self.old) + length piece.now)) }
         ensures plan { fails_at self.new ≡ fails_at self.old }
         ensures whole { IfOk result (λ count. count ≡ length piece.now) }
     {
