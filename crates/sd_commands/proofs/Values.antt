@@ -16,7 +16,7 @@ use Rattle.sd_apply.specs.Answers.{HasAnswer, Combines, Negates}
 use Rattle.sd_commands.specs.Commands.{Compares, IsTextOf}
 use Rattle.sd_commands.specs.Standing.{HoldsValue, ShowsFormula}
 
--- a node that shows a formula is known
+-- a node that shows a formula is a node of the manager
 pub value_node : (t : Table) (c : ℕ) (f : Expression) → ShowsFormula t c f → IsNodeOf t c
 value_node t c f h = record { diagram = h.diagram; is = h.is }
 

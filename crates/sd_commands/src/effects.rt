@@ -11,6 +11,7 @@ use crate::state::RunState;
 use itoa::Buffer;
 use sd_base::{Bits, Bytes, Name};
 use sd_file::write_sdd;
+use sd_manager::value_of;
 use sd_size::size_of_root;
 use sd_vfile::write_vtree;
 use std::alloc::{AllocError, Global};
@@ -59,7 +60,7 @@ pub(crate) fn print_value(
         IfOk result (λ effect. StepsTo input seen (RunCommand.Value name bits.now) state.now
         (Some effect)) }
 {
-    let value = state.manager.value(state.root(name), bits.as_slice());
+    let value = value_of(alloc, &state.manager, state.root(name), bits.as_slice())?;
     let line = value_text(alloc, value)?;
     Ok(Effect::PrintLine(line))
 }

@@ -9,11 +9,13 @@ mod node_id;
 mod pairs;
 mod roots;
 mod uses;
+mod values;
 mod view;
 
 pub use manager::Manager;
 pub use node_id::NodeId;
 pub use roots::Root;
+pub use values::value_of;
 pub use view::View;
 
 #[cfg(test)]

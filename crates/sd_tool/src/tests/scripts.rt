@@ -1,5 +1,6 @@
 // Runs of scripts.
 use super::{file, ran, two_files};
+use std::alloc::{AllocError, Global};
 use std::test::Fail;
 
 const NO_CLAUSES: &str = "p cnf 2 0\n";
@@ -105,5 +106,28 @@ fn sdd_files_are_loaded(rt: HostRuntime) -> Result<(), Fail> {
             "{part}"
         );
     }
+    Ok(())
+}
+
+// The lines that bind `s60` to the parity of 60 variables, and twenty values of it under two assignments.
+fn parity_lines(alloc: Global) -> Result<String, AllocError> {
+    let mut text = String::from_str(alloc, "lit s1 1\n")?;
+    for x in 2..=60u32 {
+        text.push_str(&format!(in alloc; "lit l{x} {x}\nxor s{x} s{} l{x}\n", x - 1)?)?;
+    }
+    for _ in 0..10 {
+        text.push_str(&format!(in alloc; "value s60 {:060}\nvalue s60 {:060}\n", 0u32, 1u32)?)?;
+    }
+    Ok(text)
+}
+
+/// On the left tree a prime is reached on many ways; a value visits it once.
+#[test]
+fn values_on_the_left_tree(rt: HostRuntime) -> Result<(), Fail> {
+    let alloc = rt.alloc();
+    let script = parity_lines(alloc)?;
+    let files = two_files(alloc, "p cnf 60 0\n", "s", &script)?;
+    let end = ran(&rt, alloc, "--cnf in --start left --script s", files)?;
+    assert!(rt; end.ended(0, &"value 0\nvalue 1\n".repeat(alloc, 10)?, ""));
     Ok(())
 }

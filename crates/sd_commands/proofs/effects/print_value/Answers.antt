@@ -13,4 +13,4 @@ returns c = λ input seen was.
     (c.in_ok-line.ensures
     ∙ ap value_line (evaluated c.args.state.now.manager _ (formula_named seen c.args.name) c.args.bits.now _
     c.requires.values (c.root.ensures.value seen was)
-    (λ d holds. c.value-value.ensures.value d holds ∙ ap (meaning d) c.as_slice.ensures)))
+    (λ d holds. c.in_ok-value.ensures.value d holds ∙ ap (meaning d) c.as_slice.ensures)))

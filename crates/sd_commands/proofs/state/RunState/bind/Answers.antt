@@ -5,7 +5,7 @@ use Rattle.sd_commands.proofs.state.RunState.bind.Goals as goal
 pub hold-requires : goal.hold-requires
 hold-requires c = record {
   no_move = c.requires.represents.1.no_move;
-  known = record { diagram = c.requires.shown.1.diagram; is = c.requires.shown.1.is };
+  shown = record { diagram = c.requires.shown.1.diagram; is = c.requires.shown.1.is };
   room = c.requires.room;
 }
 
