@@ -1,5 +1,6 @@
 -- How a manager is kept: its nodes with their uses, and its roots in slots.
-use Rattle.std.specs.Prelude.{◌≡◌, ℕ, ◌+◌, List, [], ◌∷◌, Option, Some, None}
+use Rattle.std.specs.Prelude.{◌≡◌, ℕ, ◌+◌, ◌^◌, ◌<◌, ◌≤◌, List, [], ◌∷◌, length, Option, Some, None, slice_index_or}
+use Rattle.std.specs.Option.{IsSome}
 use Rattle.std.specs.Ordering.{nat_cmp}
 use Rattle.std.specs.FinMap.{FinMap, get, from_entries}
 use Rattle.sd_unique.specs.Nodes.{Nodes, IsNodes}
@@ -16,6 +17,15 @@ held_from i (Some c ∷ slots) = (i, c) ∷ held_from (i + 1) slots
 -- the map from the numbers of the slots to the codes in them
 abbrev pub held_map : List (Option ℕ) → FinMap nat_cmp ℕ
 held_map slots = from_entries (held_from 0 slots)
+
+-- no slot from the one index up to the other is empty
+pub record AreFilled (slots : List (Option ℕ)) (from to : ℕ) : Type 0 where
+  pub each : (k : ℕ) → from ≤ k → k < to → IsSome (slice_index_or slots k None)
+
+-- what holds of the slots of roots: as many as their numbers have room for, and none before the first is empty
+pub record AreSlots (slots : List (Option ℕ)) (first : ℕ) : Type 0 where
+  pub fits : length slots < 2 ^ 32
+  pub filled : AreFilled slots 0 first
 
 -- the table that these parts stand for
 abbrev pub table_of : Numbered → Nodes → FinMap nat_cmp ℕ → ℕ → Option ℕ → Table

@@ -3,6 +3,7 @@
 ghost use Rattle.std.specs.Prelude.{◌≡◌, ◌≤◌, length, slice_index_or, Some, None, IfOk, OnErr};
 ghost use Rattle.std.specs.Option.{IsSome};
 ghost use Rattle.std.specs.FinMap.{empty, get, insert, remove};
+ghost use Rattle.sd_manager.specs.Stored.{AreFilled};
 
 use std::alloc::{AllocError, Global};
 use std::marker::Model;
@@ -23,16 +24,16 @@ impl Model for Root {
 #[derive(Drop)]
 pub(crate) struct Roots {
     slots: Vec<Option<u32>>,
-    // Where the search for an empty slot begins.
+    // Where the search for an empty slot begins: no slot before is empty.
     first: usize,
 }
 
 impl Model for Roots {
-    ghost use Rattle.std.specs.Prelude.{ℕ, ◌<◌, ◌≤◌, ◌^◌, length};
+    ghost use Rattle.std.specs.Prelude.{ℕ};
     ghost use Rattle.std.specs.Ordering.{nat_cmp};
     ghost use Rattle.std.specs.FinMap.{FinMap, code};
     ghost use Rattle.std.specs.Coded.{coded_ℕ};
-    ghost use Rattle.sd_manager.specs.Stored.{held_map};
+    ghost use Rattle.sd_manager.specs.Stored.{held_map, AreSlots};
 
     ghost Value = { FinMap nat_cmp ℕ };
 
@@ -40,7 +41,7 @@ impl Model for Roots {
 
     ghost view = { λ a. held_map a.slots.items };
 
-    ghost invariant = { λ a. length a.slots.items < 2 ^ 32 };
+    ghost invariant = { λ a. AreSlots a.slots.items a.first };
 }
 
 impl Roots {
@@ -110,6 +111,7 @@ impl Roots {
 fn empty_slot(slots: &[Option<u32>], first: usize) -> usize
     ensures inside { result ≤ length slots.now }
     ensures empty { slice_index_or slots.now result None ≡ None }
+    ensures filled { AreFilled slots.now first result }
 {
     for index in first..slots.len() {
         if slots[index].is_none() {
