@@ -12,7 +12,7 @@ use Rattle.sd_formula.specs.Formulas.{IsLiteral, AreLiterals}
 use Rattle.sd_formula.specs.Steps.{Parts, put_literal, put_words, PartsFit}
 
 -- what holds of each element of a list, and of one more
-all_push : {X : Type 0} (P : X → Type 0) (xs : List X) (x : X) → AllByRecursion P xs → P x
+pub all_push : {X : Type 0} (P : X → Type 0) (xs : List X) (x : X) → AllByRecursion P xs → P x
     → AllByRecursion P (xs ++ x ∷ [])
 all_push P [] x all here = (here, tt)
 all_push P (y ∷ ys) x all here = (all.0, all_push P ys x all.1 here)

@@ -6,3 +6,4 @@ pub mod FlatLaws
 pub mod GroupLaws
 pub mod RangeLaws
 pub mod FewWords
+pub mod GeneratedLaws

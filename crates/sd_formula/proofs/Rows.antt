@@ -6,6 +6,7 @@ use Rattle.sd_formula.specs.declared.error.FormulaError.TheVariants.{NoHeader, B
 use Rattle.sd_formula.specs.declared.error.FormulaError.TheVariants.{LiteralRange, Unterminated, CountDiffers}
 use Rattle.sd_formula.specs.declared.error.FormulaError.TheVariants.{TooManyGroups}
 use Rattle.sd_formula.specs.Dimacs.{dimacs}
+use Rattle.sd_formula.specs.Generated.{generated_formula}
 
 -- ---- texts that stand for a formula
 
@@ -155,3 +156,12 @@ none_found = refl
 more_found : dimacs Dnf (codes "p dnf 2 0\n0 0\n") ≡ Err (CountDiffers 0 2)
 unfolding dimacs
 more_found = refl
+
+-- ---- generated formulas
+
+two_clauses : generated_formula 4 0 ≡ record {
+  kind = Cnf;
+  variables = 4;
+  groups = (pos 1 ∷ pos 2 ∷ negsuc 2 ∷ []) ∷ (negsuc 1 ∷ pos 3 ∷ negsuc 3 ∷ []) ∷ [];
+}
+two_clauses = refl

@@ -6,6 +6,7 @@ mod body;
 mod error;
 mod flat;
 mod formula;
+mod generated;
 mod header;
 pub mod laws;
 mod literals;
@@ -14,6 +15,7 @@ mod reader;
 
 pub use error::FormulaError;
 pub use formula::{Formula, Kind};
+pub use generated::{GenerateError, generate};
 pub use reader::read_dimacs;
 
 #[cfg(test)]

@@ -119,3 +119,25 @@ fn values_under_each_assignment(rt: HostRuntime) -> Result<(), Fail> {
     }
     Ok(())
 }
+
+/// The first six states from the seed 0 give these signs.
+#[test]
+fn a_generated_formula(rt: HostRuntime) -> Result<(), Fail> {
+    let formula = generate(rt.alloc(), 4, 0)?;
+    assert_eq!(rt; formula.kind(), Kind::Cnf);
+    assert_eq!(rt; formula.variables(), 4);
+    assert_eq!(rt; formula.groups(), 2);
+    for (index, group) in [[1, 2, -3], [-2, 3, -4]].iter().enumerate() {
+        assert!(rt; index < formula.groups());
+        assert_eq!(rt; formula.group(index), group.as_slice());
+    }
+    Ok(())
+}
+
+#[test]
+fn numbers_that_are_refused(rt: HostRuntime) {
+    for (count, seed) in [(2, 0), (1025, 0), (4, 4_294_967_296)] {
+        let answer = generate(rt.alloc(), count, seed);
+        assert!(rt; matches!(&answer, Err(GenerateError::BadNumber)));
+    }
+}
