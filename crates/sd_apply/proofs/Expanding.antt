@@ -387,6 +387,20 @@ pub below_at : (t : Table) (v p a : ℕ) → ((d : Diagram) → ShowsCanonical t
     IsBelow t v a → IsBelow t p a
 below_at t v p a under h = record { diagram = h.diagram; is = node_at t v p a h.diagram under h.is }
 
+-- what was answered at a lower vtree node below which the operands stand
+pub applies_over : (m n : Table) (o : Operation) (v p a b r : ℕ)
+    → ((d : Diagram) → ShowsCanonical m a d → IsCanonicalUnder m.vtree p d)
+    → ((d : Diagram) → ShowsCanonical m b d → IsCanonicalUnder m.vtree p d) → Applies m n o p a b r
+    → Applies m n o v a b r
+applies_over m n o v p a b r under_a under_b h = record {
+  each = λ x y px py. h.each x y (node_at m v p a x under_a px) (node_at m v p b y under_b py);
+}
+
+pub negates_over : (m n : Table) (v p a r : ℕ)
+    → ((d : Diagram) → ShowsCanonical m a d → IsCanonicalUnder m.vtree p d) → NegatesAt m n p a r
+    → NegatesAt m n v a r
+negates_over m n v p a r under h = record { each = λ x px. h.each x (node_at m v p a x under px) }
+
 -- the answer of an operation at two expansions
 pub applied_at_lca : (m0 m1 m2 m3 m4 : Table) (o : Operation) (v p u w a b r : ℕ)
     (l k q : List (ℕ × ℕ)) → Extends m0 m1 →

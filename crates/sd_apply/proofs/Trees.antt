@@ -12,7 +12,7 @@ use Rattle.sd_model.specs.Canonical.{IsCanonical, canonical_bottom, canonical_to
 use Rattle.sd_model.specs.Expression.{combine}
 use Rattle.sd_model.proofs.Blend.{IsApart, depends}
 use Rattle.sd_model.proofs.OverVtree.{vtree_apart}
-use Rattle.sd_vtree.specs.Numbered.{Numbered, plain_tree, numbers, subtree, times}
+use Rattle.sd_vtree.specs.Numbered.{Numbered, NumberedNode, plain_tree, numbers, subtree, times}
 use Rattle.sd_vtree.specs.Numbered.{IsNumbered}
 use Rattle.sd_vtree.specs.Numbered.{IsUnder as StandsUnder}
 use Rattle.sd_vtree.proofs.Subtrees.{InnerPart, inner_part}
@@ -208,6 +208,11 @@ left_there t v p u w e = let f = children_of t v p u w e in record { part = f.le
 
 pub right_there : (t : Numbered) → IsNumbered t → (p u w : ℕ) → HasChildren t p u w → IsThere t w
 right_there t v p u w e = let f = children_of t v p u w e in record { part = f.right; is = f.right_is }
+
+-- and so is the node itself
+pub there_inner : (t : Numbered) → IsNumbered t → (p u w : ℕ) → HasChildren t p u w → IsThere t p
+there_inner t v p u w e =
+    let f = inner_part t v p u w e in record { part = NumberedNode p f.left f.right; is = f.is }
 
 -- of two positions with different numbers one is before the other
 pub place_before : (t : Numbered) (pp po p own : ℕ) → slice_get (numbers t) pp ≡ Some p →

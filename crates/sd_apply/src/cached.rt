@@ -1,15 +1,16 @@
 // The operations of one call: the cache is asked once, and keeps the answer. What the operation asks
 // on its way stands in a table of its own.
-ghost use Rattle.std.specs.Prelude.{◌≡◌, IfOk, IfErr};
+ghost use Rattle.std.specs.Prelude.{◌≡◌, ◌≤◌, ◌/◌, IfOk, IfErr};
 ghost use Rattle.sd_manager.specs.Valid.{IsTable};
 ghost use Rattle.sd_manager.specs.Making.{Extends, KeepsRule};
-ghost use Rattle.sd_apply.specs.Growing.{GrowsBelow};
+ghost use Rattle.sd_apply.specs.Growing.{GrowsBelowBoth};
 ghost use Rattle.sd_apply.specs.Serving.{Serves};
 ghost use Rattle.sd_apply.specs.Places.{IsBelow, IsThere};
 ghost use Rattle.sd_apply.specs.Calls.{Applies, NegatesAt};
 
 use crate::calls::{apply, negate_at};
 use crate::opposites::{are_opposite, keep_opposites};
+use crate::places::{lca_with_children, place_with_children};
 use crate::recent::Recent;
 use crate::terminal::{NEGATION, at_opposites, number, opposite, terminal};
 use sd_cache::Cache;
@@ -35,7 +36,7 @@ pub(crate) fn apply_cached(
     requires serves { Serves c.old m.old }
     ensures ok { IfOk result (λ r. Applies m.old m.new operation at a b r) }
     ensures kept { Extends m.old m.new }
-    ensures grown { GrowsBelow m.old m.new at }
+    ensures grown { GrowsBelowBoth m.old m.new a b }
     ensures serves { Serves c.new m.new }
     ensures rule { IfErr result (λ e. KeepsRule m.new e) }
     ensures table { IsTable m.new }
@@ -45,6 +46,13 @@ pub(crate) fn apply_cached(
     if let Some(code) = terminal(number(operation), a.0, b.0) {
         return Ok(NodeId(code));
     }
+    // what no terminal case answers and has the constant true is the exclusive or with it
+    if a.0 == 1 {
+        return negate_cached(alloc, m, c, at, b);
+    }
+    if b.0 == 1 {
+        return negate_cached(alloc, m, c, at, a);
+    }
     // both orders of the operands have one entry
     if a.0 < b.0 {
         look_up_or_apply(alloc, m, c, operation, at, a, b)
@@ -53,7 +61,8 @@ pub(crate) fn apply_cached(
     }
 }
 
-// The same where no terminal case answers: from the cache, or applied and kept there.
+// The same at nodes that are neither constants nor of one leaf: from the cache, or applied at the
+// lowest vtree node below which both stand, and kept there.
 fn look_up_or_apply(
     alloc: Global,
     m: &mut Manager,
@@ -66,10 +75,13 @@ fn look_up_or_apply(
     requires at { IsThere m.old.vtree at }
     requires a { IsBelow m.old at a }
     requires b { IsBelow m.old at b }
+    requires least_a { 2 ≤ a }
+    requires least_b { 2 ≤ b }
+    requires differ { a / 2 ≡ b / 2 → 2050 ≤ a }
     requires serves { Serves c.old m.old }
     ensures ok { IfOk result (λ r. Applies m.old m.new operation at a b r) }
     ensures kept { Extends m.old m.new }
-    ensures grown { GrowsBelow m.old m.new at }
+    ensures grown { GrowsBelowBoth m.old m.new a b }
     ensures serves { Serves c.new m.new }
     ensures rule { IfErr result (λ e. KeepsRule m.new e) }
     ensures table { IsTable m.new }
@@ -82,8 +94,9 @@ fn look_up_or_apply(
     if are_opposite(m, c, a, b) {
         return Ok(at_opposites(operation));
     }
+    let over = lca_with_children(m, at, a, b).0;
     let mut recent = Recent::new(alloc);
-    let code = apply(alloc, m, &mut recent, operation, at, a, b)?;
+    let code = apply(alloc, m, &mut recent, operation, over, a, b)?;
     c.keep(epoch, kind, a.0, b.0, code.0);
     Ok(code)
 }
@@ -101,7 +114,7 @@ pub(crate) fn negate_cached(
     requires serves { Serves c.old m.old }
     ensures ok { IfOk result (λ r. NegatesAt m.old m.new at a r) }
     ensures kept { Extends m.old m.new }
-    ensures grown { GrowsBelow m.old m.new at }
+    ensures grown { GrowsBelowBoth m.old m.new a a }
     ensures serves { Serves c.new m.new }
     ensures rule { IfErr result (λ e. KeepsRule m.new e) }
     ensures table { IsTable m.new }
@@ -113,8 +126,9 @@ pub(crate) fn negate_cached(
     if let Some(code) = c.look(epoch, NEGATION, a.0, 0) {
         return Ok(NodeId(code));
     }
+    let over = place_with_children(m, at, a).0;
     let mut recent = Recent::new(alloc);
-    let code = negate_at(alloc, m, &mut recent, at, a)?;
+    let code = negate_at(alloc, m, &mut recent, over, a)?;
     keep_opposites(m, c, a, code);
     Ok(code)
 }

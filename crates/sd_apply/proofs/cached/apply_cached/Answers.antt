@@ -1,7 +1,9 @@
-use Rattle.std.proofs.Common.{Some}
+use Rattle.std.proofs.Common.{◌≡◌, ◌∙◌, sym, ◌≤◌, Some, None, arith}
 use Rattle.std.proofs.lemmas.Result.{IfOk-weaker}
-use Rattle.sd_apply.specs.Calls.{Applies}
+use Rattle.sd_apply.specs.Calls.{Applies, NegatesAt}
 use Rattle.sd_apply.proofs.TerminalLaws.{terminal_applies, terminal_at, applies_commutes}
+use Rattle.sd_apply.proofs.TerminalLaws.{unknown, unknown_commutes, xor_negation, xor_negation_second}
+use Rattle.sd_apply.proofs.Growing.{both_exchanged, both_first, both_second}
 use Rattle.sd_apply.proofs.cached.apply_cached.Goals as goal
 
 pub returns-in-Some-clause-ok : goal.returns-in-Some-clause-ok
@@ -19,3 +21,41 @@ returns-else-a-b-clause-ok c =
     IfOk-weaker d.result (λ r. Applies m d.new.m c.args.operation c.args.at c.args.b c.args.a r)
     (λ r. Applies m d.new.m c.args.operation c.args.at c.args.a c.args.b r)
     (λ r h. applies_commutes m d.new.m c.args.operation c.args.at c.args.a c.args.b r h) d.ensures.ok
+
+-- the exclusive or with true is the negation
+pub returns-then-a-eq1-clause-ok : goal.returns-then-a-eq1-clause-ok
+returns-then-a-eq1-clause-ok c =
+    let m = c.args.m.now in
+    let n = c.negate_cached.new.m in
+    let u = unknown c.args.operation c.args.a c.args.b
+    (terminal_at c.args.operation c.number.result c.args.a c.args.b c.a.inside.0 c.b.inside.0 None
+    c.number.ensures c.a.view_is c.b.view_is c.in_default.ensures) in
+    let one : c.args.a ≡ 1 = sym c.a.view_is ∙ c.if-a-eq1.true in
+    IfOk-weaker c.negate_cached.result (λ r. NegatesAt m n c.args.at c.args.b r)
+    (λ r. Applies m n c.args.operation c.args.at c.args.a c.args.b r)
+    (λ r h. xor_negation m n c.vtree.ensures.table c.args.operation c.args.at c.args.a c.args.b r
+    (u.one one) one h)
+    c.negate_cached.ensures.ok
+
+pub returns-then-a-eq1-clause-grown : goal.returns-then-a-eq1-clause-grown
+returns-then-a-eq1-clause-grown c =
+    both_second c.args.m.now c.negate_cached.new.m c.args.a c.args.b c.negate_cached.ensures.grown
+
+pub returns-then-b-eq1-clause-ok : goal.returns-then-b-eq1-clause-ok
+returns-then-b-eq1-clause-ok c =
+    let m = c.args.m.now in
+    let d = c.negate_cached-then-b-eq1 in
+    let u = unknown c.args.operation c.args.a c.args.b
+    (terminal_at c.args.operation c.number.result c.args.a c.args.b c.a.inside.0 c.b.inside.0 None
+    c.number.ensures c.a.view_is c.b.view_is c.in_default.ensures) in
+    let one : c.args.b ≡ 1 = sym c.b.view_is ∙ c.if-b-eq1.true in
+    IfOk-weaker d.result (λ r. NegatesAt m d.new.m c.args.at c.args.a r)
+    (λ r. Applies m d.new.m c.args.operation c.args.at c.args.a c.args.b r)
+    (λ r h. xor_negation_second m d.new.m c.vtree.ensures.table c.args.operation c.args.at
+    c.args.a c.args.b r (u.other one) one h)
+    d.ensures.ok
+
+pub returns-then-b-eq1-clause-grown : goal.returns-then-b-eq1-clause-grown
+returns-then-b-eq1-clause-grown c =
+    both_first c.args.m.now c.negate_cached-then-b-eq1.new.m c.args.a c.args.b
+    c.negate_cached-then-b-eq1.ensures.grown

@@ -3,6 +3,8 @@ use Rattle.sd_cache.specs.Entries.{call}
 use Rattle.sd_apply.proofs.Listed.{extends_self}
 use Rattle.sd_apply.proofs.Served.{serves_on, serves_look, serves_keep, looked_applies, applies_right}
 use Rattle.sd_apply.proofs.Opposite.{opposite_applies}
+use Rattle.sd_apply.proofs.Expanding.{applies_over, below_at}
+use Rattle.sd_apply.proofs.Growing.{both_lowest}
 use Rattle.sd_apply.proofs.cached.look_up_or_apply.Goals as goal
 
 -- the cache is asked
@@ -57,4 +59,30 @@ returns-clause-serves c =
     (serves_on c.are_opposite.new.c m n x c.are_opposite.ensures.serves)
     (applies_right m n c.args.operation kind epoch c.args.at c.args.a c.args.b c.in_ok-code.code
     c.a-2.inside.0 c.b-2.inside.0 c.code.inside.0 x c.number-kind.ensures c.a-2.view_is
-    c.b-2.view_is c.code.view_is c.requires.a c.requires.b c.in_ok-code.ensures.ok)
+    c.b-2.view_is c.code.view_is c.requires.a c.requires.b
+    (applies_over m n c.args.operation c.args.at c.lca_with_children-over.result.0 c.args.a c.args.b c.in_ok-code.code
+    c.lca_with_children-over.ensures.first c.lca_with_children-over.ensures.second c.in_ok-code.ensures.ok))
+
+-- new nodes stand below the lowest vtree node over both
+pub returns-in_err-code-clause-grown : goal.returns-in_err-code-clause-grown
+returns-in_err-code-clause-grown c =
+    both_lowest c.args.m.now c.apply.new.m c.apply.ensures.kept c.epoch-epoch.ensures.table.numbered
+    c.lca_with_children-over.result.0 c.args.a c.args.b c.lca_with_children-over.ensures.lowest c.apply.ensures.grown
+
+pub returns-clause-grown : goal.returns-clause-grown
+returns-clause-grown c =
+    both_lowest c.args.m.now c.apply.new.m c.apply.ensures.kept c.epoch-epoch.ensures.table.numbered
+    c.lca_with_children-over.result.0 c.args.a c.args.b c.lca_with_children-over.ensures.lowest c.apply.ensures.grown
+
+pub returns-clause-ok : goal.returns-clause-ok
+returns-clause-ok c =
+    applies_over c.args.m.now c.apply.new.m c.args.operation c.args.at c.lca_with_children-over.result.0 c.args.a c.args.b
+    c.in_ok-code.code c.lca_with_children-over.ensures.first c.lca_with_children-over.ensures.second c.in_ok-code.ensures.ok
+
+pub apply-requires-clause-a : goal.apply-requires-clause-a
+apply-requires-clause-a c =
+    below_at c.args.m.now c.args.at c.lca_with_children-over.result.0 c.args.a c.lca_with_children-over.ensures.first c.requires.a
+
+pub apply-requires-clause-b : goal.apply-requires-clause-b
+apply-requires-clause-b c =
+    below_at c.args.m.now c.args.at c.lca_with_children-over.result.0 c.args.b c.lca_with_children-over.ensures.second c.requires.b

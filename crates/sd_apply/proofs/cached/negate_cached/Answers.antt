@@ -4,6 +4,8 @@ use Rattle.sd_apply.specs.Terminal.{opposite_of}
 use Rattle.sd_apply.proofs.TerminalLaws.{opposite_negates}
 use Rattle.sd_apply.proofs.Served.{serves_on, serves_look, looked_negates}
 use Rattle.sd_apply.proofs.Opposite.{negates_opposite, operand_node_of}
+use Rattle.sd_apply.proofs.Expanding.{negates_over, below_at}
+use Rattle.sd_apply.proofs.Growing.{both_lowest}
 use Rattle.sd_apply.proofs.cached.negate_cached.Goals as goal
 
 pub returns-in-Some-clause-ok : goal.returns-in-Some-clause-ok
@@ -43,7 +45,9 @@ keep_opposites-requires-clause-first c =
 pub keep_opposites-requires-clause-opposite : goal.keep_opposites-requires-clause-opposite
 keep_opposites-requires-clause-opposite c =
     negates_opposite c.args.m.now c.negate_at.new.m c.negate_at.ensures.table
-    c.negate_at.ensures.kept c.args.at c.args.a c.in_ok-code.code c.in_ok-code.ensures.ok
+    c.negate_at.ensures.kept c.args.at c.args.a c.in_ok-code.code
+    (negates_over c.args.m.now c.negate_at.new.m c.args.at c.place_with_children-over.result.0 c.args.a
+    c.in_ok-code.code c.place_with_children-over.ensures.node c.in_ok-code.ensures.ok)
     c.requires.a
 
 pub keep_opposites-requires-clause-serves : goal.keep_opposites-requires-clause-serves
@@ -51,3 +55,26 @@ keep_opposites-requires-clause-serves c =
     serves_on c.look.new.self c.args.m.now c.negate_at.new.m c.negate_at.ensures.kept
     (serves_look c.args.c.now c.look.new.self c.args.m.now
     (call c.epoch-epoch.result 3 c.a.inside.0 0) c.look.ensures.entries c.requires.serves)
+
+-- new nodes stand below the node's own vtree node
+pub returns-in_err-code-clause-grown : goal.returns-in_err-code-clause-grown
+returns-in_err-code-clause-grown c =
+    both_lowest c.args.m.now c.negate_at.new.m c.negate_at.ensures.kept c.epoch-epoch.ensures.table.numbered
+    c.place_with_children-over.result.0 c.args.a c.args.a
+    (λ n there x y. c.place_with_children-over.ensures.lowest n there x) c.negate_at.ensures.grown
+
+pub returns-clause-grown : goal.returns-clause-grown
+returns-clause-grown c =
+    both_lowest c.args.m.now c.negate_at.new.m c.negate_at.ensures.kept c.epoch-epoch.ensures.table.numbered
+    c.place_with_children-over.result.0 c.args.a c.args.a
+    (λ n there x y. c.place_with_children-over.ensures.lowest n there x) c.negate_at.ensures.grown
+
+pub returns-clause-ok : goal.returns-clause-ok
+returns-clause-ok c =
+    negates_over c.args.m.now c.negate_at.new.m c.args.at c.place_with_children-over.result.0 c.args.a
+    c.in_ok-code.code c.place_with_children-over.ensures.node c.in_ok-code.ensures.ok
+
+pub negate_at-requires-clause-a : goal.negate_at-requires-clause-a
+negate_at-requires-clause-a c =
+    below_at c.args.m.now c.args.at c.place_with_children-over.result.0 c.args.a
+    c.place_with_children-over.ensures.node c.requires.a

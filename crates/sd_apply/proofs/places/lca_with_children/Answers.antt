@@ -3,7 +3,7 @@ use Rattle.sd_vtree.specs.Numbered.{children_at}
 use Rattle.sd_vtree.specs.Numbered.{IsUnder as StandsUnder}
 use Rattle.sd_apply.specs.Places.{HasChildren}
 use Rattle.sd_apply.proofs.Standing.{no_leaf, shown, place_under}
-use Rattle.sd_apply.proofs.Trees.{under_number, children_width}
+use Rattle.sd_apply.proofs.Trees.{under_number, children_width, there_inner}
 use Rattle.sd_apply.proofs.places.lca_with_children.Goals as goal
 
 -- two nodes that are not of one leaf stand at no leaf together
@@ -79,3 +79,23 @@ returns-clause-second c =
     (subst (λ t. StandsUnder t c.place_of-second.result c.lca_under-place.result) c.vtree.ensures.vtree
     c.lca_under-place.ensures.over_second)
     h.canonical (c.place_of-second.ensures.place d h)
+
+pub returns-clause-there : goal.returns-clause-there
+returns-clause-there c =
+    let q = c.lca_under-place.result in
+    there_inner c.args.m.now.vtree c.place_of-first.ensures.table.numbered q c.in-Some.children.0 c.in-Some.children.1
+    (subst (λ t. HasChildren t q c.in-Some.children.0 c.in-Some.children.1) c.vtree-2.ensures.vtree
+    (sym c.in-Some.is ∙ c.children.ensures.children))
+
+-- each vtree node below which both stand is over it
+pub returns-clause-lowest : goal.returns-clause-lowest
+returns-clause-lowest c = λ n there x y.
+    let m = c.args.m.now in
+    let i = c.place_of-first.ensures.table in
+    let e = c.vtree.ensures.vtree in
+    subst (λ t. StandsUnder t c.lca_under-place.result n) e
+    (c.lca_under-place.ensures.lowest n
+    (subst (λ t. StandsUnder t c.place_of-first.result n) (sym e)
+    (place_under m i n c.args.a c.place_of-first.result there x c.place_of-first.ensures.place))
+    (subst (λ t. StandsUnder t c.place_of-second.result n) (sym e)
+    (place_under m i n c.args.b c.place_of-second.result there y c.place_of-second.ensures.place)))

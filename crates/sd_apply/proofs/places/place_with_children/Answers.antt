@@ -1,8 +1,8 @@
 use Rattle.std.proofs.Common.{◌∙◌, ◌≡◌, subst, sym, None}
 use Rattle.sd_vtree.specs.Numbered.{children_at}
 use Rattle.sd_apply.specs.Places.{HasChildren}
-use Rattle.sd_apply.proofs.Standing.{own_inner, shown, place_under}
-use Rattle.sd_apply.proofs.Trees.{children_width}
+use Rattle.sd_apply.proofs.Standing.{own_inner, shown, place_under, stands_here}
+use Rattle.sd_apply.proofs.Trees.{children_width, there_inner, under_number}
 use Rattle.sd_apply.proofs.places.place_with_children.Goals as goal
 
 -- a decomposition stands at no leaf
@@ -33,3 +33,24 @@ returns-clause-narrow c =
     (sym c.in-Some.is ∙ c.children.ensures.children))
     (place_under m c.place_of-place.ensures.table c.args.at c.args.a q c.requires.at
     c.requires.node c.place_of-place.ensures.place)
+
+pub returns-clause-there : goal.returns-clause-there
+returns-clause-there c =
+    let q = c.place_of-place.result in
+    there_inner c.args.m.now.vtree c.place_of-place.ensures.table.numbered q c.in-Some.children.0 c.in-Some.children.1
+    (subst (λ t. HasChildren t q c.in-Some.children.0 c.in-Some.children.1) c.vtree.ensures.vtree
+    (sym c.in-Some.is ∙ c.children.ensures.children))
+
+pub returns-clause-node : goal.returns-clause-node
+returns-clause-node c = λ d h.
+    let m = c.args.m.now in
+    let q = c.place_of-place.result in
+    let there = returns-clause-there c in
+    under_number m.vtree c.place_of-place.ensures.table.numbered q q d (stands_here m.vtree q there.part there.is)
+    h.canonical (c.place_of-place.ensures.place d h)
+
+-- each vtree node below which the node stands is over its place
+pub returns-clause-lowest : goal.returns-clause-lowest
+returns-clause-lowest c = λ n there x.
+    place_under c.args.m.now c.place_of-place.ensures.table n c.args.a c.place_of-place.result there x
+    c.place_of-place.ensures.place
