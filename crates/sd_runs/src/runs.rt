@@ -1,8 +1,4 @@
 // The runs of one arena.
-ghost use Rattle.std.specs.Prelude.{◌≡◌, ◌+◌, ◌<◌, ◌≤◌, ◌^◌, [], ◌∷◌, length};
-ghost use Rattle.std.specs.Prelude.{OnOk, OnErr, IfOk, IfErr, Some, None, List, ℕ};
-ghost use Rattle.std.specs.FinMap.{get};
-
 use crate::TakeError;
 use crate::heads::{NONE, make_heads};
 use std::alloc::Global;
@@ -32,7 +28,7 @@ pub struct Runs {
 impl Model for Runs {
     ghost use Rattle.std.specs.Prelude.{length};
     ghost use Rattle.sd_runs.specs.Arena.{Arena, arena_code};
-    ghost use Rattle.sd_runs.specs.Fields.{filled_map, lengths_of, stacks_of, lists_of};
+    ghost use Rattle.sd_runs.specs.Fields.{filled_map, stacks_of, lists_of};
     ghost use Rattle.sd_runs.specs.Stored.{HoldsRuns};
 
     ghost Value = { Arena };
@@ -51,8 +47,8 @@ impl Model for Runs {
 }
 
 impl Runs {
-    ghost use Rattle.std.specs.Prelude.{◌≡◌, ◌+◌, ◌<◌, ◌≤◌, ◌^◌, [], ◌∷◌, length, OnOk};
-    ghost use Rattle.std.specs.Prelude.{OnErr, IfOk, IfErr, IfSome, IfNone, Some, None, List, ℕ};
+    ghost use Rattle.std.specs.Prelude.{◌≡◌, ◌+◌, ◌<◌, ◌≤◌, ◌^◌, [], length, OnOk};
+    ghost use Rattle.std.specs.Prelude.{OnErr, IfOk, IfErr, Some, None};
     ghost use Rattle.std.specs.FinMap.{get};
     ghost use Rattle.sd_runs.specs.Arena.{IsArena, free_of, live_length, live_total};
     ghost use Rattle.sd_runs.specs.Taking.{empty_arena, first, next_start, taken};

@@ -12,7 +12,7 @@ use Rattle.sd_unique.specs.declared.record.RecordState.TheVariants.{Linked, Deta
 use Rattle.sd_unique.specs.Filed.{IsFiled, unfiled, filed_at}
 use Rattle.sd_unique.specs.Record.{key_of, nodes_of}
 use Rattle.sd_unique.specs.Chains.{next_of, chain_by, list_by, chain_under, list_under, stack_under, bucket_of}
-use Rattle.sd_unique.specs.Chains.{head_of, no_record, HoldsNodes, KeepsStack, AreInLists}
+use Rattle.sd_unique.specs.Chains.{head_of, hash_of, kept_hash, no_record, HoldsNodes, KeepsStack, AreInLists}
 use Rattle.sd_unique.specs.Relinking.{relinked, IsAbsent}
 use Rattle.sd_unique.proofs.Changed.{set_which}
 use Rattle.sd_unique.proofs.Cutting.{all_kept}
@@ -73,8 +73,9 @@ module _ (arena : Arena) (rs : List Record) (n : ℕ) (r t : Record) (there : sl
       → length places' ≡ length places → KeepsStack links new
       → AreInLists new places' (filed_at n (bit_and r.place 2047 + 1) (unfiled n (list_under rs)))
       → IsAbsent (nodes_of arena rs) (key_of arena r) → (r.uses ≡ 0 → stack_under links n ≡ Some 0)
+      → kept_hash new n ≡ hash_of (key_of arena r) → ((i : ℕ) → i ≢ n → kept_hash new i ≡ kept_hash links i)
       → HoldsNodes arena rs links heads places top → HoldsNodes arena (set rs n t) new (set heads (b + 1) n) places' top
-  attached_kept links new heads places places' top b at inside next same_places stack lists absent queued k =
+  attached_kept links new heads places places' top b at inside next same_places stack lists absent queued hash hashes k =
       record {
         stored = stored_relinked arena rs n r t there (slice_get_inside rs n r there) place start size uses mark
             was is absent k.stored;
@@ -88,6 +89,10 @@ module _ (arena : Arena) (rs : List Record) (n : ℕ) (r t : Record) (there : sl
             (list_under (set rs n t)) (λ b i e. refl) (λ b i e. refl) (λ b. refl)
             (listed_at arena rs rs n r t (all_kept rs) there (bit_and r.place 2047 + 1) list_new) lists;
         in_stack = stacked_kept links new top stack k.in_stack;
+        hashed = λ i x e linked. by_cases
+            (λ h. ap (kept_hash new) h.0 ∙ hash ∙ ap hash_of (sym key_same) ∙ ap (λ y. hash_of (key_of arena y)) h.1)
+            (λ h. hashes i h.0 ∙ k.hashed i x h.1 linked)
+            (set_which rs n r t there i x e);
         queued = λ i x e linked none. by_cases
             (λ h. stack.flags i ∙ ap (stack_under links) h.0
             ∙ queued (sym uses ∙ ap (λ (y : Record). y.uses) h.1 ∙ none))

@@ -116,6 +116,10 @@ module _ (arena : Arena) (rs : List Record) (n : ℕ) (r t : Record) (there : sl
         in_lists = both_same _ _ _ _ no_record _ _ _ _ (λ b i e. refl) (λ b i e. refl) (λ b. refl) list_kept
             k.in_lists;
         in_stack = k.in_stack;
+        hashed = λ i x e linked. by_cases
+            (λ h. absurd (not_linked t.state is (ap (λ y. y.state) h.1 ∙ linked)))
+            (λ h. k.hashed i x h.1 linked)
+            (set_which rs n r t there i x e);
         queued = λ i x e linked none. by_cases
             (λ h. absurd (not_linked t.state is (ap (λ y. y.state) h.1 ∙ linked)))
             (λ h. k.queued i x h.1 linked none)

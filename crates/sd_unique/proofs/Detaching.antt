@@ -1,5 +1,6 @@
 -- A linked record becomes a detached one.
-use Rattle.std.proofs.Common.{◌≡◌, ℕ, ◌-◌, bit_and, List, length, slice_get, Some, refl, sym, ap, subst, ◌∙◌, arith}
+use Rattle.std.proofs.Common.{◌≡◌, ◌≢◌, ℕ, ◌-◌, bit_and, List, [], length, slice_get, Some, unwrap_or, refl, sym, ap}
+use Rattle.std.proofs.Common.{subst, ◌∙◌, arith}
 use Rattle.std.proofs.Math.ListN.{set}
 use Rattle.std.proofs.lemmas.List.{length-set}
 use Rattle.std.specs.Option.{IsSome}
@@ -12,7 +13,7 @@ use Rattle.sd_unique.specs.declared.record.RecordState.TheVariants.{Linked, Deta
 use Rattle.sd_unique.specs.Filed.{IsFiled, unfiled, filed_at}
 use Rattle.sd_unique.specs.Record.{key_of, nodes_of}
 use Rattle.sd_unique.specs.Chains.{next_of, chain_by, list_by, chain_under, list_under, bucket_of, head_of}
-use Rattle.sd_unique.specs.Chains.{no_record, HoldsNodes, KeepsRecords, KeepsStack, AreInLists}
+use Rattle.sd_unique.specs.Chains.{no_record, hash_of, kept_hash, HoldsNodes, KeepsRecords, KeepsStack, AreInLists}
 use Rattle.sd_unique.specs.Relinking.{unlinked}
 use Rattle.sd_unique.proofs.Changed.{set_which}
 use Rattle.sd_unique.proofs.Entries.{slice_get_inside}
@@ -35,13 +36,17 @@ module _ (arena : Arena) (rs mid : List Record) (n : ℕ) (m t : Record) (kept :
       let is : r.0 ≡ w.0 = cc in
       w.7 ∙ subst (λ (x : Record). x.state ≡ Linked) is r.2
 
+  key_back : (r x : Record) → x.place ≡ r.place → x.start ≡ r.start → key_of arena r ≡ key_of arena x
+  key_back r x p s i = (sym p i, unwrap_or (get arena.live (sym s i)) [])
+
   pub detached_kept : (links new : List Links) (heads heads' places places' : List ℕ) (top : ℕ)
       → IsSome (get (nodes_of arena rs).linked n) → t.next ≡ m.next → length heads' ≡ length heads
       → length places' ≡ length places → KeepsStack links new
       → IsFiled (next_of mid) no_record (head_of heads') (unfiled n (chain_under arena (length heads - 1) rs))
       → AreInLists new places' (filed_at n 0 (unfiled n (list_under rs)))
+      → ((i : ℕ) → i ≢ n → kept_hash new i ≡ kept_hash links i)
       → HoldsNodes arena rs links heads places top → HoldsNodes arena (set mid n t) new heads' places' top
-  detached_kept links new heads heads' places places' top was next same_heads same_places stack chains lists k =
+  detached_kept links new heads heads' places places' top was next same_heads same_places stack chains lists hashes k =
       record {
         stored = stored_unlinked arena mid n m t there (slice_get_inside mid n m there) place start size uses mark
             (was_linked was) is (stored_kept rs mid kept arena k.stored);
@@ -58,6 +63,12 @@ module _ (arena : Arena) (rs mid : List Record) (n : ℕ) (m t : Record) (kept :
             (list_under (set mid n t)) (λ b i e. refl) (λ b i e. refl) (λ b. refl)
             (listed_at arena rs mid n m t kept there 0 (ap (λ s. list_by s (bit_and t.place 2047)) is)) lists;
         in_stack = stacked_kept links new top stack k.in_stack;
+        hashed = λ i x e linked. by_cases
+            (λ h. absurd (not_both t.state is (ap (λ y. y.state) h.1 ∙ linked)))
+            (λ h. let w = kept.was i x h.1 in
+            hashes i h.0 ∙ k.hashed i w.0 w.1 (sym w.7 ∙ linked)
+            ∙ ap hash_of (key_back w.0 x w.2 w.3))
+            (set_which mid n m t there i x e);
         queued = λ i x e linked none. by_cases
             (λ h. absurd (not_both t.state is (ap (λ y. y.state) h.1 ∙ linked)))
             (λ h. let w = kept.was i x h.1 in

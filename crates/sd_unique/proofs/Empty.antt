@@ -48,5 +48,6 @@ kept_nothing arena heads places well fits some all no_heads no_places =
         filed = λ b n e. cc;
         only = λ b n h. absurd h;
       };
+      hashed = λ n r e linked. cc;
       queued = λ n r e linked none. cc;
     }

@@ -13,7 +13,7 @@ use Rattle.sd_unique.specs.declared.record.RecordState.TheVariants.{Free, Detach
 use Rattle.sd_unique.specs.Filed.{IsFiled, unfiled}
 use Rattle.sd_unique.specs.Record.{key_of, nodes_of, AreRecordsStored}
 use Rattle.sd_unique.specs.Chains.{next_of, chain_by, list_by, chain_under, list_under, bucket_of, head_of}
-use Rattle.sd_unique.specs.Chains.{no_record, HoldsNodes, KeepsStack, AreInLists}
+use Rattle.sd_unique.specs.Chains.{no_record, kept_hash, HoldsNodes, KeepsStack, AreInLists}
 use Rattle.sd_unique.specs.Relinking.{removed}
 use Rattle.sd_unique.proofs.Changed.{set_which}
 use Rattle.sd_unique.proofs.Cutting.{all_kept}
@@ -49,9 +49,10 @@ module _ (arena : Arena) (rs : List Record) (n : ℕ) (r t : Record) (there : sl
   -- what holds of the fields is kept, before the run is given back
   freed_kept : (links new : List Links) (heads places places' : List ℕ) (top : ℕ) → t.next ≡ head_of heads 0
       → length places' ≡ length places → KeepsStack links new → AreInLists new places' (unfiled n (list_under rs))
-      → AreRecordsStored arena (set rs n t) → HoldsNodes arena rs links heads places top
+      → ((i : ℕ) → kept_hash new i ≡ kept_hash links i) → AreRecordsStored arena (set rs n t)
+      → HoldsNodes arena rs links heads places top
       → HoldsNodes arena (set rs n t) new (set heads 0 n) places' top
-  freed_kept links new heads places places' top next same_places stack lists st k =
+  freed_kept links new heads places places' top next same_places stack lists hashes st k =
       record {
         stored = st;
         linked_all = stack.size ∙ k.linked_all ∙ sym (length-set rs n t);
@@ -65,6 +66,10 @@ module _ (arena : Arena) (rs : List Record) (n : ℕ) (r t : Record) (there : sl
             (λ b i e. refl) (λ b i e. refl) (λ b. refl)
             (unlisted arena rs rs n r t (all_kept rs) there (ap (λ s. list_by s (bit_and t.place 2047)) is)) lists;
         in_stack = stacked_kept links new top stack k.in_stack;
+        hashed = λ i x e linked. by_cases
+            (λ h. absurd (free_not_linked t.state is (ap (λ (y : Record). y.state) h.1 ∙ linked)))
+            (λ h. hashes i ∙ k.hashed i x h.1 linked)
+            (set_which rs n r t there i x e);
         queued = λ i x e linked none. by_cases
             (λ h. absurd (free_not_linked t.state is (ap (λ (y : Record). y.state) h.1 ∙ linked)))
             (λ h. stack.flags i ∙ k.queued i x h.1 linked none)
@@ -80,9 +85,10 @@ module _ (arena : Arena) (rs : List Record) (n : ℕ) (r t : Record) (there : sl
     -- and after that
     pub released_kept : (links more : List Links) (heads places places' : List ℕ) (top : ℕ) → t.next ≡ head_of heads 0
         → length places' ≡ length places → KeepsStack links more
-        → AreInLists more places' (unfiled n (list_under rs)) → HoldsNodes arena rs links heads places top
+        → AreInLists more places' (unfiled n (list_under rs)) → ((i : ℕ) → kept_hash more i ≡ kept_hash links i)
+        → HoldsNodes arena rs links heads places top
         → HoldsNodes new (set rs n t) more (set heads 0 n) places' top
-    released_kept links more heads places places' top next same_places stack lists k =
+    released_kept links more heads places places' top next same_places stack lists hashes k =
         let stored = stored_freed arena new rs n r t there inside was is st well gave list size in
         let apart = untaken arena new rs n r t there inside was is st well gave list size in
         kept_arena arena new (set rs n t) stored well
@@ -90,7 +96,7 @@ module _ (arena : Arena) (rs : List Record) (n : ℕ) (r t : Record) (there : sl
         (given_longer arena new (set rs n t) stored well list r.start r.length gave size apart)
         (given_bound arena new (set rs n t) stored well list r.start r.length gave size apart)
         more (set heads 0 n) places' top
-        (freed_kept links more heads places places' top next same_places stack lists stored k)
+        (freed_kept links more heads places places' top next same_places stack lists hashes stored k)
 
     pub nodes_released : (k : ℕ × List (ℕ × ℕ)) → get (nodes_of arena rs).detached n ≡ Some k
         → nodes_of new (set rs n t) ≡ removed (nodes_of arena rs) n k.1

@@ -5,12 +5,13 @@ use Rattle.sd_unique.specs.Chains.{bucket_of, hash_of, mixed}
 
 -- the hash of a key from its parts
 pub hash_is : (place : ℕ) (list : List (ℕ × ℕ)) (hash : ℕ)
-    → hash ≡ fold (λ hash pair. mixed (mixed hash pair.0) pair.1) (mixed 0 place) list → hash ≡ hash_of (place, list)
+    → hash ≡ fold (λ hash pair. mixed (mixed hash pair.0) pair.1) (mixed 0 place) list
+    → hash / 2 ^ 32 ≡ hash_of (place, list)
 unfolding hash_of
-hash_is place list hash e = e
+hash_is place list hash e = ap (λ h. h / 2 ^ 32) e
 
 -- the bucket of a key from its hash
 pub bucket_from : (key : ℕ × List (ℕ × ℕ)) (hash count : ℕ) → hash ≡ hash_of key
-    → bit_and (hash / 2 ^ 32) (count - 1) ≡ bucket_of key count
+    → bit_and hash (count - 1) ≡ bucket_of key count
 unfolding bucket_of
-bucket_from key hash count e = ap (λ h. bit_and (h / 2 ^ 32) (count - 1)) e
+bucket_from key hash count e = ap (λ h. bit_and h (count - 1)) e

@@ -21,7 +21,7 @@ use Rattle.sd_unique.specs.Record.{nodes_of, AreRecordsStored}
 use Rattle.sd_unique.specs.Filed.{IsFiled, unfiled, filed_at}
 use Rattle.sd_unique.specs.Chains.{next_of, head_of, chain_by, list_by, chain_under, list_under}
 use Rattle.sd_unique.specs.Chains.{stack_under, bucket_of, no_record, HoldsNodes, AreInLists, AreStacked, KeepsLists}
-use Rattle.sd_unique.specs.Chains.{KeepsStack, IsPushed}
+use Rattle.sd_unique.specs.Chains.{KeepsStack, IsPushed, hash_of, kept_hash}
 use Rattle.sd_unique.proofs.Both.{unfiled_here, unfiled_other, filed_here, filed_other}
 use Rattle.sd_unique.proofs.Changed.{set_which, stored_set}
 use Rattle.sd_unique.proofs.Cut.{filed_cut_first}
@@ -149,9 +149,10 @@ module _ (arena : Arena) (rs : List Record) (n : ℕ) (r t : Record) (there : sl
         (chain_under arena (length heads - 1) (set rs n t))
         → AreInLists new places' (list_under (set rs n t)) → AreStacked new top'
         → ((m : ℕ) → stack_under links m ≡ Some 0 → stack_under new m ≡ Some 0) → stack_under new n ≡ Some 0
+        → kept_hash new n ≡ hash_of (t.place, list) → ((m : ℕ) → m ≢ n → kept_hash new m ≡ kept_hash links m)
         → HoldsNodes arena rs links heads places top → HoldsNodes arena (set rs n t) new heads' places' top'
     kept_occupied links new heads heads' places places' top top' absent size hsize psize chains lists stacked flags
-        here k =
+        here hash hashes k =
         record {
           stored = stored_occupied absent k.stored;
           linked_all = size ∙ k.linked_all ∙ sym (length-set rs n t);
@@ -161,6 +162,11 @@ module _ (arena : Arena) (rs : List Record) (n : ℕ) (r t : Record) (there : sl
               (chain_under arena (s - 1) (set rs n t))) (sym hsize) chains;
           in_lists = lists;
           in_stack = stacked;
+          hashed = λ i x e linked. by_cases
+              (λ h. ap (kept_hash new) h.0 ∙ hash ∙ ap hash_of (sym key_new)
+              ∙ ap (λ y. hash_of (key_of arena y)) h.1)
+              (λ h. hashes i h.0 ∙ k.hashed i x h.1 linked)
+              (set_which rs n r t there i x e);
           queued = λ i x e linked none. by_cases
               (λ h. ap (stack_under new) h.0 ∙ here)
               (λ h. flags i (k.queued i x h.1 linked none))
@@ -295,9 +301,11 @@ module _ (arena : Arena) (rs : List Record) (links : List Links) (heads places :
         → (mid new : List Links) (places' : List ℕ) (top' at : ℕ) → at ≡ suc (bit_and t.place 2047)
         → AreInLists mid places' (filed_at first at (list_under rs)) → KeepsStack links mid
         → length places' ≡ length places → KeepsLists mid new → AreStacked new top' → IsPushed mid new first
+        → kept_hash mid first ≡ hash_of (t.place, list)
+        → ((m : ℕ) → m ≢ first → kept_hash mid m ≡ kept_hash links m)
         → HoldsNodes arena (set rs first t) new (set (set heads 0 next) head first) places' top'
     kept_steps next b head next_is bucket fits head_is t_next mid new places' top' at at_is listed stack size lists
-        stacked pushed =
+        stacked pushed hash hashes =
         let r = first_there in
         let key : key_of arena t ≡ (t.place, list) = key_new arena rs first r.0 t r.1 r.2 linked list run.is
         (sym run.counted) in
@@ -318,7 +326,8 @@ module _ (arena : Arena) (rs : List Record) (links : List Links) (heads places :
         (lists_by mid places' (filed_at first at (list_under rs)) (list_under (set rs first t))
         (λ m. list_occupied arena rs first r.0 t r.1 r.2 linked m
         ∙ ap (λ h. filed_at first h (list_under rs) m) (sym at_is)) listed))
-        stacked (λ m e. pushed.others m (stack.flags m ∙ e)) pushed.here k
+        stacked (λ m e. pushed.others m (stack.flags m ∙ e)) pushed.here (lists.hashes first ∙ hash)
+        (λ m ne. lists.hashes m ∙ hashes m ne) k
 
     pub nodes_steps : t.uses ≡ 0 → t.mark ≡ 0
         → nodes_of arena (set rs first t) ≡ occupied (nodes_of arena rs) first t.place t.start list

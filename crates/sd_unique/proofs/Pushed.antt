@@ -28,7 +28,7 @@ use Rattle.sd_unique.specs.Record.{detached_key, uses_of_record, mark_of_record,
 use Rattle.sd_unique.specs.Record.{nodes_of, AreRecordsStored}
 use Rattle.sd_unique.specs.Filed.{IsFiled}
 use Rattle.sd_unique.specs.Chains.{next_of, head_of, chain_by, list_by, chain_under, list_under}
-use Rattle.sd_unique.specs.Chains.{stack_under, bucket_of, hash_of, no_record, HoldsNodes}
+use Rattle.sd_unique.specs.Chains.{stack_under, is_waiting, bucket_of, hash_of, no_record, HoldsNodes}
 use Rattle.sd_unique.proofs.Entries.{slice_get_inside, slice_get_push, slice_get_before}
 use Rattle.sd_unique.proofs.Filed.{filed_first, filed_same, both_same}
 use Rattle.sd_unique.proofs.Loose.{loose_none, loose_push, length_in, total_remove, total_loose, remove_insert}
@@ -140,7 +140,7 @@ module _ (arena : Arena) (rs : List Record) (r : Record) (free : r.state ≡ Fre
       f
 
   -- what holds of the fields is kept when a free record is put behind the others
-  pub kept_free : (links : List Links) (l : Links) (heads places : List ℕ) (top : ℕ) → l.is_waiting ≡ false
+  pub kept_free : (links : List Links) (l : Links) (heads places : List ℕ) (top : ℕ) → is_waiting l ≡ false
       → length rs + 1 ≤ arena.extent → length rs < 2 ^ 32 - 1 → head_of heads 0 ≡ r.next
       → HoldsNodes arena rs links heads places top
       → HoldsNodes arena (rs ++ r ∷ []) (links ++ l ∷ []) (set heads 0 (length rs)) places top
@@ -160,11 +160,17 @@ module _ (arena : Arena) (rs : List Record) (r : Record) (free : r.state ≡ Fre
             (ap (λ s. list_by s (bit_and r.place 2047)) free)) k.in_lists;
         in_stack = filed_same _ _ no_record _ _ _ _
             (λ b i e. link_before (λ (x : Links). x.waiting) links l i (stacked_other i b e)) (λ b. refl)
-            (read_push links l (λ x. cond x.is_waiting (Some 0) None) (ap (λ b. cond b (Some 0) None) flag))
+            (read_push links l (λ x. cond (is_waiting x) (Some 0) None) (ap (λ b. cond b (Some 0) None) flag))
             k.in_stack;
+        hashed = λ i x e linked. by_cases
+            (λ h. absurd (free_no_link r.state free (ap (λ z. z.state) h.1 ∙ linked)))
+            (λ h. link_before (λ (x : Links). x.hash) links l i
+            (λ same. let inside = slice_get_inside rs i x h in omega (arith, same, inside, k.linked_all))
+            ∙ k.hashed i x h linked)
+            (push_which rs r i x e);
         queued = λ i x e linked none. by_cases
             (λ h. absurd (free_no_link r.state free (ap (λ z. z.state) h.1 ∙ linked)))
-            (λ h. read_push links l (λ x. cond x.is_waiting (Some 0) None) (ap (λ b. cond b (Some 0) None) flag) i
+            (λ h. read_push links l (λ x. cond (is_waiting x) (Some 0) None) (ap (λ b. cond b (Some 0) None) flag) i
             ∙ k.queued i x h linked none)
             (push_which rs r i x e);
       }
@@ -176,7 +182,7 @@ module _ (arena : Arena) (rs : List Record) (r : Record) (free : r.state ≡ Fre
 
       stacked_other : (i b : ℕ) → stack_under links i ≡ Some b → ¬ (i ≡ length links)
       stacked_other i b e same =
-          let x = picked_from (λ (x : Links). cond x.is_waiting (Some 0) None) (slice_get links i) b e in
+          let x = picked_from (λ (x : Links). cond (is_waiting x) (Some 0) None) (slice_get links i) b e in
           let inside = slice_get_inside links i x.0 x.1 in omega (arith, inside)
 
   -- the nodes are as before but for the number of records
@@ -324,7 +330,7 @@ module _ (arena new : Arena) (rs : List Record) (links : List Links) (heads plac
 
   -- each record is that of a node, so a free one is put behind them
   module _ (ts : List Record) (ls : List Links) (r : Record) (l : Links) (grown : ts ≡ rs ++ r ∷ [])
-      (linked : ls ≡ links ++ l ∷ []) (free : r.state ≡ Free) (flag : l.is_waiting ≡ false)
+      (linked : ls ≡ links ++ l ∷ []) (free : r.state ≡ Free) (flag : is_waiting l ≡ false)
       (next : r.next ≡ no_record) (first : ℕ) (read : first ≡ get_or heads 0 first) (last : first ≡ no_record)
       (some : 0 < length list) where
     none_first : head_of heads 0 ≡ no_record

@@ -1,11 +1,11 @@
 -- A number is put on the stack of candidates, and the lists of the detached are read.
-use Rattle.std.proofs.Common.{◌≡◌, ◌≢◌, inl, bit_and, ℕ, suc, zero, ◌<◌, ◌-◌, ◌^◌, ◌++◌, true}
+use Rattle.std.proofs.Common.{◌≡◌, ◌≢◌, inl, bit_and, ℕ, suc, zero, ◌<◌, ◌-◌, ◌^◌, ◌++◌, ◌==◌, not, true}
 use Rattle.std.proofs.Common.{false, cond, List, [], ◌∷◌}
 use Rattle.std.proofs.Common.{length, map, take, drop, get_or, slice_get, Option, Some, None, refl, sym, ap, subst}
 use Rattle.std.proofs.Common.{◌∙◌, arith}
 use Rattle.std.proofs.Math.ListN.{set}
 use Rattle.std.proofs.Math.Seq.{take-append_seam}
-use Rattle.std.proofs.lemmas.Bool.{cases_eq}
+use Rattle.std.proofs.lemmas.Bool.{cases_eq, eq-eqb, ne_eqb, not_from_true, not_from_false}
 use Rattle.std.proofs.lemmas.List.{length-set, length-map, map-set, get_or-set_same, get_or-set_other}
 use Rattle.std.specs.Option.{option_and_then, IsSome}
 use Rattle.std.specs.Ordering.{nat_cmp}
@@ -19,6 +19,7 @@ use Rattle.sd_unique.specs.declared.record.RecordState.{RecordState}
 use Rattle.sd_unique.specs.declared.record.RecordState.TheVariants.{Free, Linked, Detached}
 use Rattle.sd_unique.specs.Filed.{IsChain}
 use Rattle.sd_unique.specs.Record.{detached_key, key_of, if_detached, nodes_of}
+use Rattle.sd_unique.specs.Chains.{is_waiting, not_waiting}
 use Rattle.sd_unique.specs.Chains.{after_of, waiting_of, stack_under, list_under, list_by, top_of}
 use Rattle.sd_unique.specs.Chains.{head_of, no_record, HoldsNodes, AreStacked, AreInLists, KeepsLists, IsPushed}
 use Rattle.sd_unique.proofs.Entries.{slice_get_inside, slice_get_set, slice_get_set_other}
@@ -52,23 +53,30 @@ top_other : (a b c : ℕ) → c ≢ 0 → top_of a c ≡ top_of b c
 top_other a b zero ne = absurd (ne refl)
 top_other a b (suc c) ne = refl
 
+-- whether a number stands in the stack, from what follows it there
+pub waits_not : (next : ℕ) → next ≡ not_waiting → not (next == not_waiting) ≡ false
+waits_not next e = not_from_true (next == not_waiting) (eq-eqb next not_waiting e)
+
+pub waits : (next : ℕ) → next ≢ not_waiting → not (next == not_waiting) ≡ true
+waits next ne = not_from_false (next == not_waiting) (ne_eqb next not_waiting ne)
+
 module _ (links : List Links) (n : ℕ) (old t : Links) (there : slice_get links n ≡ Some old) where
-  pub stack_there : stack_under (set links n t) n ≡ cond t.is_waiting (Some 0) None
+  pub stack_there : stack_under (set links n t) n ≡ cond (is_waiting t) (Some 0) None
   stack_there =
-      ap (option_and_then (λ (l : Links). cond l.is_waiting (Some 0) None))
+      ap (option_and_then (λ (l : Links). cond (is_waiting l) (Some 0) None))
       (slice_get_set links n t (slice_get_inside links n old there))
 
   pub stack_other : (y : ℕ) → y ≢ n → stack_under (set links n t) y ≡ stack_under links y
   stack_other y ne =
-      ap (option_and_then (λ (l : Links). cond l.is_waiting (Some 0) None)) (slice_get_set_other links n t y ne)
+      ap (option_and_then (λ (l : Links). cond (is_waiting l) (Some 0) None)) (slice_get_set_other links n t y ne)
 
   -- a number that is put on the stack is its top
-  pub stacked_push : (top : ℕ) → old.is_waiting ≡ false → t.is_waiting ≡ true → t.waiting ≡ top → n < 2 ^ 32 - 1
+  pub stacked_push : (top : ℕ) → is_waiting old ≡ false → is_waiting t ≡ true → t.waiting ≡ top → n < 2 ^ 32 - 1
       → AreStacked links top → AreStacked (set links n t) n
   stacked_push top off on waiting fits f =
       filed_first (waiting_of links) (waiting_of (set links n t)) no_record (top_of top) (top_of n) (stack_under links)
       (stack_under (set links n t)) 0 n (λ e. omega arith)
-      (ap (option_and_then (λ (l : Links). cond l.is_waiting (Some 0) None)) there
+      (ap (option_and_then (λ (l : Links). cond (is_waiting l) (Some 0) None)) there
       ∙ ap (λ b. cond b (Some 0) None) off)
       (record {
         after = link_there (λ (l : Links). l.waiting) links n t (slice_get_inside links n old there) ∙ waiting;
@@ -80,15 +88,17 @@ module _ (links : List Links) (n : ℕ) (old t : Links) (there : slice_get links
       })
       f
 
-  pub lists_kept : t.after ≡ old.after → t.before ≡ old.before → KeepsLists links (set links n t)
-  lists_kept after before =
+  pub lists_kept : t.after ≡ old.after → t.before ≡ old.before → t.hash ≡ old.hash
+      → KeepsLists links (set links n t)
+  lists_kept after before hash =
       record {
         size = length-set links n t;
         after = λ y. link_same (λ (l : Links). l.after) links n t old there after y;
         before = λ y. link_same (λ (l : Links). l.before) links n t old there before y;
+        hashes = λ y. link_same (λ (l : Links). l.hash) links n t old there hash y;
       }
 
-  pub is_pushed : t.is_waiting ≡ true → IsPushed links (set links n t) n
+  pub is_pushed : is_waiting t ≡ true → IsPushed links (set links n t) n
   is_pushed on =
       record {
         here = stack_there ∙ ap (λ b. cond b (Some 0) None) on;
@@ -114,6 +124,7 @@ kept_queued arena rs links new heads places top top' lists stacked others k =
       in_lists = both_same _ _ _ _ no_record _ _ _ _ (λ b i e. lists.after i) (λ b i e. lists.before i) (λ b. refl)
           (λ i. refl) k.in_lists;
       in_stack = stacked;
+      hashed = λ i r e linked. lists.hashes i ∙ k.hashed i r e linked;
       queued = λ i r e linked none. others i r e linked none (k.queued i r e linked none);
     }
 

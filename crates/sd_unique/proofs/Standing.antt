@@ -1,5 +1,5 @@
 -- Where a record stands: in the chain and the list of its state.
-use Rattle.std.proofs.Common.{◌≡◌, ◌≢◌, ℕ, ◌+◌, ◌<◌, bit_and, List, [], length, get_or, slice_get, unwrap_or}
+use Rattle.std.proofs.Common.{◌≡◌, ◌≢◌, ℕ, ◌+◌, ◌<◌, bit_and, List, length, get_or, slice_get}
 use Rattle.std.proofs.Common.{Option, Some, None, refl, sym, ap, subst, ◌∙◌, arith}
 use Rattle.std.proofs.Math.ListN.{set}
 use Rattle.std.proofs.lemmas.Bool.{cases_eq}
@@ -14,7 +14,8 @@ use Rattle.sd_unique.specs.Filed.{unfiled, filed_at}
 use Rattle.sd_unique.specs.Record.{if_detached, IsNode, uses_of_record, detached_key, key_of}
 use Rattle.sd_unique.specs.Record.{nodes_of, AreRecordsStored}
 use Rattle.sd_unique.specs.Chains.{chain_by, list_by, chain_under, list_under, stack_under, bucket_of, top_of}
-use Rattle.sd_unique.specs.Chains.{waiting_of, no_record, KeepsRecords, KeepsStack, AreStacked}
+use Rattle.sd_unique.specs.Chains.{waiting_of, hash_of, kept_hash, no_record, AreHashed, KeepsRecords, KeepsStack}
+use Rattle.sd_unique.specs.Chains.{AreStacked}
 use Rattle.sd_unique.proofs.Both.{unfiled_here, unfiled_other, filed_here, filed_other}
 use Rattle.sd_unique.proofs.Entries.{slice_get_at, slice_get_inside, slice_get_set, slice_get_set_other}
 use Rattle.sd_unique.proofs.Filed.{filed_same, none_is}
@@ -92,14 +93,15 @@ module _ (arena : Arena) (rs : List Record) (n : ℕ) (r : Record) (there : slic
       ∙ node_some r.state r.uses (subst IsNode (sym detached) tt)
 
 -- the bucket that the code computed, and the place that it read, are where the node stands
-pub linked_head : (arena : Arena) (rs : List Record) (n : ℕ) (d : Record) (list : List (ℕ × ℕ)) (count b : ℕ)
-    → IsSome (get (nodes_of arena rs).linked n) → get arena.live (get_or rs n d).start ≡ Some list
-    → b ≡ bucket_of ((get_or rs n d).place, list) count → chain_under arena count rs n ≡ Some (b + 1)
-linked_head arena rs n d list count b h live is =
+pub linked_head : (arena : Arena) (rs : List Record) (links : List Links) (n hash : ℕ) (d : Record) (count b : ℕ)
+    → IsSome (get (nodes_of arena rs).linked n) → AreHashed arena rs links → kept_hash links n ≡ hash
+    → ((key : ℕ × List (ℕ × ℕ)) → hash ≡ hash_of key → b ≡ bucket_of key count)
+    → chain_under arena count rs n ≡ Some (b + 1)
+linked_head arena rs links n hash d count b h hashed kept is =
     let read = linked_here arena rs n d h in
     linked_chain arena rs n (get_or rs n d) read.0 read.1 count
-    ∙ ap (λ o. Some (bucket_of ((get_or rs n d).place, unwrap_or o []) count + 1)) live
-    ∙ ap (λ k. Some (k + 1)) (sym is)
+    ∙ ap (λ k. Some (k + 1))
+    (sym (is (key_of arena (get_or rs n d)) (sym kept ∙ hashed n (get_or rs n d) read.0 read.1)))
 
 pub linked_place : (arena : Arena) (rs : List Record) (n : ℕ) (d : Record)
     → IsSome (get (nodes_of arena rs).linked n) → list_under rs n ≡ Some (bit_and (get_or rs n d).place 2047 + 1)

@@ -1,7 +1,7 @@
 -- The chains of the records: of each bucket and of the free records, the lists of each place and of the detached, and
 -- the stack of candidates.
 use Rattle.std.specs.Prelude.{◌≡◌, ℕ, suc, zero, ◌+◌, ◌*◌, ◌/◌, ◌%◌, ◌-◌, ◌<◌, ◌^◌, List, length, map, get_or}
-use Rattle.std.specs.Prelude.{cond, Option, Some, None, slice_get, bit_and}
+use Rattle.std.specs.Prelude.{Bool, not, ◌==◌, cond, Option, Some, None, slice_get, bit_and}
 use Rattle.std.specs.List.{fold, sum_by}
 use Rattle.std.specs.Option.{option_and_then}
 use Rattle.sd_runs.specs.Arena.{Arena}
@@ -16,13 +16,13 @@ use Rattle.sd_unique.specs.declared.record.RecordState.TheVariants.{Free, Linked
 unfoldable pub mixed : ℕ → ℕ → ℕ
 mixed hash word = (hash + word) % 2 ^ 64 * 11400714819323198485 % 2 ^ 64
 
--- the hash of a place and a list
+-- the hash of a place and a list: the upper half of what all words give
 unfoldable pub hash_of : ℕ × List (ℕ × ℕ) → ℕ
-hash_of key = fold (λ hash pair. mixed (mixed hash pair.0) pair.1) (mixed 0 key.0) key.1
+hash_of key = fold (λ hash pair. mixed (mixed hash pair.0) pair.1) (mixed 0 key.0) key.1 / 2 ^ 32
 
 -- the bucket of a key among so many
 unfoldable pub bucket_of : ℕ × List (ℕ × ℕ) → ℕ → ℕ
-bucket_of key count = bit_and (hash_of key / 2 ^ 32) (count - 1)
+bucket_of key count = bit_and (hash_of key) (count - 1)
 
 -- ends a chain
 abbrev pub no_record : ℕ
@@ -43,6 +43,10 @@ before_of links n = get_or (map (λ l. l.before) links) n 0
 -- what follows it in the stack
 abbrev pub waiting_of : List Links → ℕ → ℕ
 waiting_of links n = get_or (map (λ l. l.waiting) links) n 0
+
+-- the hash that is kept for it
+abbrev pub kept_hash : List Links → ℕ → ℕ
+kept_hash links n = get_or (map (λ l. l.hash) links) n 0
 
 -- the first number of a chain
 abbrev pub head_of : List ℕ → ℕ → ℕ
@@ -74,9 +78,17 @@ chain_under arena count records n =
 abbrev pub list_under : List Record → ℕ → Option ℕ
 list_under records n = option_and_then (λ r. list_by r.state (bit_and r.place 2047)) (slice_get records n)
 
--- a number stands in the stack of candidates where its flag is on
+-- stands for what follows, where a number is not in the stack
+abbrev pub not_waiting : ℕ
+not_waiting = 2 ^ 32 - 2
+
+-- whether a number stands in the stack, by its links
+abbrev pub is_waiting : Links → Bool
+is_waiting l = not (l.waiting == not_waiting)
+
+-- a number stands in the stack of candidates where its links say so
 abbrev pub stack_under : List Links → ℕ → Option ℕ
-stack_under links n = option_and_then (λ l. cond l.is_waiting (Some 0) None) (slice_get links n)
+stack_under links n = option_and_then (λ l. cond (is_waiting l) (Some 0) None) (slice_get links n)
 
 -- the lists of the links
 abbrev pub AreInLists : List Links → List ℕ → (ℕ → Option ℕ) → Type 0
@@ -86,11 +98,12 @@ AreInLists links places under = IsFiledBoth (after_of links) (before_of links) n
 abbrev pub AreStacked : List Links → ℕ → Type 0
 AreStacked links top = IsFiled (waiting_of links) no_record (top_of top) (stack_under links)
 
--- the links of the lists are as before
+-- the links of the lists and the hashes are as before
 pub record KeepsLists (old new : List Links) : Type 0 where
   pub size : length new ≡ length old
   pub after : (n : ℕ) → after_of new n ≡ after_of old n
   pub before : (n : ℕ) → before_of new n ≡ before_of old n
+  pub hashes : (n : ℕ) → kept_hash new n ≡ kept_hash old n
 
 -- the stack is as before
 pub record KeepsStack (old new : List Links) : Type 0 where
@@ -102,6 +115,12 @@ pub record KeepsStack (old new : List Links) : Type 0 where
 pub record IsPushed (old new : List Links) (number : ℕ) : Type 0 where
   pub here : stack_under new number ≡ Some 0
   pub others : (n : ℕ) → stack_under old n ≡ Some 0 → stack_under new n ≡ Some 0
+
+-- the hash that is kept for each linked record is that of its key
+abbrev pub AreHashed : Arena → List Record → List Links → Type 0
+AreHashed arena records links =
+    (n : ℕ) (r : Record) → slice_get records n ≡ Some r → r.state ≡ Linked
+    → kept_hash links n ≡ hash_of (key_of arena r)
 
 -- What holds of the fields. The first head is that of the free records, the others are those of the buckets; the first
 -- place is that of the detached records.
@@ -116,6 +135,7 @@ pub record HoldsNodes (arena : Arena) (records : List Record) (links : List Link
   pub in_chains : IsFiled (next_of records) no_record (head_of heads) (chain_under arena (length heads - 1) records)
   pub in_lists : AreInLists links places (list_under records)
   pub in_stack : AreStacked links candidates
+  pub hashed : AreHashed arena records links
   -- each linked node without uses is a candidate
   pub queued : (n : ℕ) (r : Record) → slice_get records n ≡ Some r → r.state ≡ Linked → r.uses ≡ 0
       → stack_under links n ≡ Some 0
@@ -134,4 +154,4 @@ pub record IsUnused (r : Record) : Type 0 where
 
 -- how many numbers stand in the stack
 abbrev pub waiting_count : List Links → ℕ
-waiting_count links = sum_by (λ (l : Links). cond l.is_waiting 1 0) links
+waiting_count links = sum_by (λ (l : Links). cond (is_waiting l) 1 0) links

@@ -3,23 +3,23 @@ ghost use Rattle.std.specs.Prelude.{◌≡◌, ◌<◌, ℕ, List};
 ghost use Rattle.sd_unique.specs.Chains.{bucket_of, hash_of, mixed};
 
 // The hash of a place and a list.
-pub(crate) fn hash(place: u32, list: &[(u32, u32)]) -> u64
+pub(crate) fn hash(place: u32, list: &[(u32, u32)]) -> u32
     ensures { result ≡ hash_of (place, list.now) }
 {
     let mut hash = mix(0, place);
     for pair in list {
         hash = mix(mix(hash, pair.0), pair.1);
     }
-    hash
+    (hash >> 32) as u32
 }
 
 // The bucket of a key of this hash among so many.
-pub(crate) fn bucket_at(hash: u64, count: usize) -> usize
+pub(crate) fn bucket_at(hash: u32, count: usize) -> usize
     requires { 0 < count }
     ensures is { (key : ℕ × List (ℕ × ℕ)) → hash ≡ hash_of key → result ≡ bucket_of key count }
     ensures inside { result < count }
 {
-    (hash >> 32) as usize & (count - 1)
+    hash as usize & (count - 1)
 }
 
 // The hash with one more word in it.

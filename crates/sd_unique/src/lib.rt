@@ -7,16 +7,18 @@
 //! ```text
 //! heads     [ free | bucket 0 | bucket 1 | .. ]        places  [ detached | 0 | 1 | .. | 2047 ]
 //!               \       \ next                                     \ before, after
-//! records   [ place start length next uses mark state ]   links  [ before after waiting is_waiting ]
+//! records   [ place start length next uses mark state ]   links  [ before after waiting hash ]
 //!                    \                                             / candidates: the top of a stack
 //! runs      [ .. | (2, 3) (4, 5) | .. ]
 //! ```
 //!
-//! A look-up reads a head, then of each record of its bucket the record, and the list where place and
-//! length agree. It takes the length of the list and of the chain, and so do `insert` and `unlink`;
-//! `relink`, `take_run` and `remove` take the length of the list at most, `first_at` that of the list
-//! of its place, `idle` one step for each number pushed, and all else a few loads. The buckets double
-//! where they are as few as the records, which takes a step for each record.
+//! A look-up reads a head, then the records of its bucket until one has the key, and of these the list
+//! where place and length agree: it takes the length of the list and of the chain. `insert`, `relink`
+//! and `take_run` take the length of the list, `unlink` that of the chain, and `first_at` goes along the
+//! list of the place's remainder. `idle` takes candidates off the stack until it finds one, each of
+//! them once for each time that it was put there. The other calls are a few loads and stores, but for
+//! `new`, which makes the heads. The buckets double where they are as few as the records. That takes
+//! a step for each record, and reads no list: the links keep the hash of each linked record.
 //!
 //! A node of two elements has a record of 32 bytes, links of 16, a run of 16 with its length of 4, and
 //! 4 to 8 of the buckets: 72 to 76 bytes, beside the room that vectors keep for growth.

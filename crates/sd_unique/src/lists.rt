@@ -1,8 +1,9 @@
 // The lists of the places and of the detached records, through the links in both directions.
 ghost use Rattle.std.specs.Prelude.{◌≡◌, ◌≢◌, ◌<◌, length, slice_get, Some, None, Option, List, ℕ};
 ghost use Rattle.sd_unique.specs.declared.record.Record.{Record};
-ghost use Rattle.sd_unique.specs.Chains.{AreInLists, KeepsStack, after_of, before_of, head_of, no_record};
-ghost use Rattle.sd_runs.specs.Arena.{IsMember, HasNoCopies};
+ghost use Rattle.sd_unique.specs.Chains.{AreInLists, KeepsStack, after_of, before_of, head_of, kept_hash};
+ghost use Rattle.sd_unique.specs.Chains.{no_record};
+ghost use Rattle.sd_runs.specs.Arena.{IsMember};
 ghost use Rattle.sd_unique.specs.Filed.{unfiled, filed_at, IsChain, IsLed};
 ghost use Rattle.sd_unique.specs.Filed.{IsLedBack, IsWalkable};
 
@@ -19,6 +20,7 @@ pub(crate) fn take_out(links: &mut [Links], places: &mut [u32], head: usize, num
         → AreInLists links.old places.old under
         → AreInLists links.new places.new (unfiled number under) }
     ensures stack { KeepsStack links.old links.new }
+    ensures hashes { (n : ℕ) → kept_hash links.new n ≡ kept_hash links.old n }
 {
     let link = links[number as usize];
     lead(links, places, head, link.before, link.after);
@@ -33,6 +35,7 @@ fn lead(links: &mut [Links], places: &mut [u32], head: usize, from: u32, to: u32
         (head_of places.new) head from to }
     ensures before { (n : ℕ) → before_of links.new n ≡ before_of links.old n }
     ensures stack { KeepsStack links.old links.new }
+    ensures hashes { (n : ℕ) → kept_hash links.new n ≡ kept_hash links.old n }
 {
     if from == NO_RECORD {
         places[head] = to;
@@ -47,14 +50,21 @@ fn lead_back(links: &mut [Links], to: u32, from: u32)
     ensures led { IsLedBack (before_of links.old) (before_of links.new) no_record to from }
     ensures after { (n : ℕ) → after_of links.new n ≡ after_of links.old n }
     ensures stack { KeepsStack links.old links.new }
+    ensures hashes { (n : ℕ) → kept_hash links.new n ≡ kept_hash links.old n }
 {
     if from != NO_RECORD {
         links[from as usize].before = to;
     }
 }
 
-// Puts a number that is in no list first in the list of this head.
-pub(crate) fn put_first(links: &mut [Links], places: &mut [u32], head: usize, number: u32)
+// Puts a number that is in no list first in the list of this head, and keeps this hash for it.
+pub(crate) fn put_first(
+    links: &mut [Links],
+    places: &mut [u32],
+    head: usize,
+    number: u32,
+    hash: u32,
+)
     requires inside { number < length links.old }
     requires at_least_one { number ≢ no_record }
     requires head { head < length places.old }
@@ -65,12 +75,15 @@ pub(crate) fn put_first(links: &mut [Links], places: &mut [u32], head: usize, nu
         → AreInLists links.old places.old under
         → AreInLists links.new places.new (filed_at number head under) }
     ensures stack { KeepsStack links.old links.new }
+    ensures hash { kept_hash links.new number ≡ hash }
+    ensures hashes { (n : ℕ) → n ≢ number → kept_hash links.new n ≡ kept_hash links.old n }
 {
     let first = places[head];
     lead_back(links, number, first);
     let mut link = links[number as usize];
     link.before = NO_RECORD;
     link.after = first;
+    link.hash = hash;
     links[number as usize] = link;
     places[head] = number;
 }

@@ -1,6 +1,4 @@
 // Nodes by number and by key.
-ghost use Rattle.std.specs.Prelude.{◌≡◌, ◌≢◌, ◌+◌, ◌-◌, ◌<◌, ◌≤◌, ◌^◌, length};
-ghost use Rattle.std.specs.Prelude.{OnOk, OnErr, IfOk, IfErr, IfSome, IfNone, Some, None, ℕ, List};
 
 use crate::buckets::{empty_heads, link_all};
 use crate::found::Found;
@@ -53,7 +51,7 @@ impl Nodes {
     ghost use Rattle.sd_unique.specs.Chains.{hash_of};
     ghost use Rattle.sd_unique.specs.Finding.{IfPresent, IfNew};
     ghost use Rattle.sd_unique.specs.Occupying.{IsFreeNumber, occupied};
-    ghost use Rattle.std.specs.Prelude.{◌≡◌, ◌≢◌, ◌+◌, ◌-◌, ◌<◌, ◌≤◌, ◌^◌, length};
+    ghost use Rattle.std.specs.Prelude.{◌≡◌, ◌≢◌, ◌+◌, ◌-◌, ◌<◌, ◌^◌, length};
     ghost use Rattle.std.specs.Prelude.{OnOk, OnErr, IfOk, IfErr, IfSome, IfNone, Some, None, ℕ, List};
     ghost use Rattle.std.specs.Option.{option_map, IsSome};
     ghost use Rattle.std.specs.FinMap.{get, contains_key, empty};
@@ -90,7 +88,7 @@ impl Nodes {
     }
 
     // Finds a node as `find` does, by the hash of its key too.
-    fn lookup(&self, hash: u64, place: u32, list: &[(u32, u32)]) -> Option<u32>
+    fn lookup(&self, hash: u32, place: u32, list: &[(u32, u32)]) -> Option<u32>
         requires hash { hash ≡ hash_of (place, list.now) }
         ensures some { IfSome result (λ n. get self.now.linked n ≡ Some (place, list.now)) }
         ensures none { IfNone result ((n : ℕ) → get self.now.linked n ≢ Some (place, list.now)) }
@@ -162,7 +160,7 @@ impl Nodes {
     // Makes a linked node as `insert` does, by the hash of its key too.
     fn insert_hashed(
         &mut self,
-        hash: u64,
+        hash: u32,
         place: u32,
         list: &[(u32, u32)],
     ) -> Result<u32, TakeError>
@@ -191,13 +189,13 @@ impl Nodes {
         }
         if let Ok(mut heads) = empty_heads(self.alloc, 2 * buckets + 1) {
             heads[0] = self.heads[0];
-            link_all(&self.runs, &mut self.records, &mut heads);
+            link_all(&self.runs, &self.links, &mut self.records, &mut heads);
             self.heads = heads;
         }
     }
 
     // Makes a linked node as `insert_hashed` does, among the buckets that there are.
-    fn add(&mut self, hash: u64, place: u32, list: &[(u32, u32)]) -> Result<u32, TakeError>
+    fn add(&mut self, hash: u32, place: u32, list: &[(u32, u32)]) -> Result<u32, TakeError>
         requires hash { hash ≡ hash_of (place, list.now) }
         requires at_least_one { 0 < length list.now }
         requires absent { (n : ℕ) → get self.old.linked n ≢ Some (place, list.now) }
@@ -223,7 +221,7 @@ impl Nodes {
 
     // Makes the first free record that of a linked node with this place and the list of a loose run,
     // with no uses and mark 0, and answers its number.
-    fn occupy(&mut self, hash: u64, place: u32, run: (u32, u32)) -> u32
+    fn occupy(&mut self, hash: u32, place: u32, run: (u32, u32)) -> u32
         requires run { (list : List (ℕ × ℕ)) × IsLoose self.old run.0 run.1 list
             × (hash ≡ hash_of (place, list)) × IsAbsent self.old (place, list) }
         requires free { (n : ℕ) × IsFreeNumber self.old n }
@@ -250,6 +248,7 @@ impl Nodes {
             &mut self.places,
             (place & 2047) as usize + 1,
             number,
+            hash,
         );
         self.candidates = push(&mut self.links, self.candidates, number);
         number
@@ -459,7 +458,7 @@ impl Nodes {
         );
     }
 
-    /// A linked node without uses, where there is one. A call goes on where the last one stopped.
+    /// A linked node without uses, where there is one: any of them.
     pub fn idle(&mut self) -> Option<u32>
         ensures some { IfSome result (λ n. IsIdle self.new n) }
         ensures none { IfNone result ((n : ℕ) → ¬ IsIdle self.new n) }

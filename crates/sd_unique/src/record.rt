@@ -1,5 +1,4 @@
 // The records of the nodes, and the links between them.
-ghost use Rattle.std.specs.Prelude.{◌≡◌};
 
 /// What a record is.
 #[derive(Clone, Copy, Drop)]
@@ -38,15 +37,18 @@ pub(crate) struct Links {
     pub(crate) before: u32,
     /// The number after in that list.
     pub(crate) after: u32,
-    /// The number that follows in the stack of candidates.
+    /// The number that follows in the stack of candidates, or `NOT_WAITING` where this number does not
+    /// stand there. That of a linked node without uses does, and that of another record may.
     pub(crate) waiting: u32,
-    /// Whether the number stands in the stack of candidates: a linked node without uses does, and one
-    /// that is used, detached or free may.
-    pub(crate) is_waiting: bool,
+    /// The hash of the node's place and list, while it is linked.
+    pub(crate) hash: u32,
 }
 
 /// Ends a chain: no record has this number.
 pub(crate) const NO_RECORD: u32 = u32::MAX;
+
+/// Stands for what follows in the stack, where a number is not in it: no record has this number.
+pub(crate) const NOT_WAITING: u32 = u32::MAX - 1;
 
 impl Record {
     ghost use Rattle.std.specs.Prelude.{◌≡◌};
@@ -71,16 +73,17 @@ impl Record {
 
 impl Links {
     ghost use Rattle.std.specs.Prelude.{◌≡◌, false};
+    ghost use Rattle.sd_unique.specs.Chains.{is_waiting};
 
     // Of a number that stands nowhere.
     pub(crate) fn new() -> Links
-        ensures { result.is_waiting ≡ false }
+        ensures { is_waiting result ≡ false }
     {
         Links {
             before: NO_RECORD,
             after: NO_RECORD,
-            waiting: NO_RECORD,
-            is_waiting: false,
+            waiting: NOT_WAITING,
+            hash: 0,
         }
     }
 }

@@ -5,7 +5,7 @@ ghost use Rattle.sd_unique.specs.Chains.{AreStacked, KeepsLists, IsPushed, IsUnu
 ghost use Rattle.sd_unique.specs.Chains.{waiting_count};
 ghost use Rattle.sd_unique.specs.Filed.{unfiled};
 
-use crate::record::{Links, NO_RECORD, Record, RecordState};
+use crate::record::{Links, NO_RECORD, NOT_WAITING, Record, RecordState};
 
 // Puts a number on the stack, where it is not there yet, and answers the top.
 pub(crate) fn push(links: &mut [Links], top: u32, number: u32) -> u32
@@ -17,11 +17,10 @@ pub(crate) fn push(links: &mut [Links], top: u32, number: u32) -> u32
     ensures pushed { IsPushed links.old links.new number }
 {
     let mut link = links[number as usize];
-    if link.is_waiting {
+    if link.waiting != NOT_WAITING {
         return top;
     }
     link.waiting = top;
-    link.is_waiting = true;
     links[number as usize] = link;
     number
 }
@@ -81,8 +80,7 @@ fn pop(links: &mut [Links], top: u32) -> u32
     ensures off { (n : ℕ) → stack_under links.new n ≡ unfiled top (stack_under links.old) n }
     ensures fewer { waiting_count links.new < waiting_count links.old }
 {
-    let mut link = links[top as usize];
-    link.is_waiting = false;
-    links[top as usize] = link;
-    link.waiting
+    let next = links[top as usize].waiting;
+    links[top as usize].waiting = NOT_WAITING;
+    next
 }

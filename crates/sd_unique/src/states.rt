@@ -1,5 +1,5 @@
 // A record comes to another state: it leaves its chain and its list for those of that state.
-ghost use Rattle.std.specs.Prelude.{◌≡◌, Some, Option, ℕ, List};
+ghost use Rattle.std.specs.Prelude.{◌≡◌, Some, ℕ, List};
 ghost use Rattle.std.specs.Option.{IsSome};
 ghost use Rattle.std.specs.FinMap.{get};
 ghost use Rattle.sd_unique.specs.Chains.{HoldsNodes, stack_under};
@@ -29,12 +29,12 @@ pub(crate) fn detach(
         → get (nodes_of runs.now records.old).linked number ≡ Some k
         → nodes_of runs.now records.new ≡ unlinked (nodes_of runs.now records.old) number k }
 {
-    let record = records[number as usize];
-    let list = runs.get(record.start, record.length);
-    let head = bucket_at(hash(record.place, list), heads.len() - 1) + 1;
+    let place = records[number as usize].place;
+    let hash = links[number as usize].hash;
+    let head = bucket_at(hash, heads.len() - 1) + 1;
     cut(records, heads, head, number);
-    take_out(links, places, (record.place & 2047) as usize + 1, number);
-    put_first(links, places, 0, number);
+    take_out(links, places, (place & 2047) as usize + 1, number);
+    put_first(links, places, 0, number, hash);
     records[number as usize].state = RecordState::Detached;
 }
 
@@ -62,9 +62,11 @@ pub(crate) fn attach(
 {
     let mut record = records[number as usize];
     let list = runs.get(record.start, record.length);
-    let head = bucket_at(hash(record.place, list), heads.len() - 1) + 1;
+    let hash = hash(record.place, list);
+    let head = bucket_at(hash, heads.len() - 1) + 1;
     take_out(links, places, 0, number);
-    put_first(links, places, (record.place & 2047) as usize + 1, number);
+    let place = (record.place & 2047) as usize + 1;
+    put_first(links, places, place, number, hash);
     record.next = heads[head];
     record.state = RecordState::Linked;
     records[number as usize] = record;

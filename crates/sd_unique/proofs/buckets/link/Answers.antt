@@ -1,7 +1,10 @@
-use Rattle.std.proofs.Common.{◌+◌, ◌-◌, ◌<◌, [], get_or, length, unwrap_or, refl, sym, ap, subst, ◌∙◌, arith}
+use Rattle.std.proofs.Common.{◌+◌, ◌-◌, ◌<◌, get_or, length, refl, sym, subst, ◌∙◌, arith}
 use Rattle.std.proofs.Math.ListN.{set}
 use Rattle.std.proofs.lemmas.List.{length-set}
-use Rattle.sd_unique.specs.Chains.{bucket_of, no_record}
+use Rattle.sd_unique.specs.Chains.{no_record}
+use Rattle.sd_unique.specs.Record.{key_of}
+use Rattle.sd_unique.specs.declared.record.Links.{Links}
+use Rattle.sd_unique.proofs.Listed.{link_read}
 use Rattle.sd_unique.specs.Growing.{IsLinkedBelow}
 use Rattle.sd_unique.specs.declared.record.Record.{Record}
 use Rattle.sd_unique.specs.declared.record.RecordState.TheVariants.{Free}
@@ -12,6 +15,9 @@ use Rattle.sd_unique.proofs.buckets.link.Goals as goal
 
 abbrev blank : Record
 blank = record { place = 0; start = 0; length = 0; next = 0; uses = 0; mark = 0; state = Free }
+
+abbrev blank_links : Links
+blank_links = record { before = 0; after = 0; waiting = 0; hash = 0 }
 
 pub returns-clause-linked : goal.returns-clause-linked
 returns-clause-linked c =
@@ -34,8 +40,11 @@ returns-clause-linked c =
     c.bucket_at-head.result (c.bucket_at-head.result + 1) c.args.heads.now r t
     (slice_get_at c.args.records.now c.args.number blank c.requires.inside) c.in-Linked.is c.in-Linked.is refl
     fits (omega arith)
-    (c.bucket_at-head.ensures.is (r.place, c.get-list.result.now) c.hash.ensures
-    ∙ ap (λ o. bucket_of (r.place, unwrap_or o []) (length c.args.heads.now - 1)) (sym c.get-list.ensures))
+    (c.bucket_at-head.ensures.is (key_of c.args.runs.now r)
+    (sym (link_read (λ (l : Links). l.hash) c.args.links.now c.args.number blank_links
+    (omega (arith, c.requires.inside, c.requires.size)))
+    ∙ c.requires.hashed c.args.number r (slice_get_at c.args.records.now c.args.number blank c.requires.inside)
+    c.in-Linked.is))
     (get_or_any c.args.heads.now (c.bucket_at-head.result + 1) 0 no_record fits)
     (λ e. omega (
       arith,

@@ -1,4 +1,4 @@
-use Rattle.std.proofs.Common.{◌<◌, ◌+◌, ℕ, List, length, get_or, false, subst, arith}
+use Rattle.std.proofs.Common.{◌<◌, ◌+◌, ℕ, List, length, get_or, subst, arith}
 use Rattle.sd_unique.specs.Chains.{after_of, no_record}
 use Rattle.sd_unique.specs.declared.record.Record.{Record}
 use Rattle.sd_unique.specs.declared.record.Links.{Links}
@@ -12,7 +12,7 @@ abbrev blank : Record
 blank = record { place = 0; start = 0; length = 0; next = 0; uses = 0; mark = 0; state = Free }
 
 abbrev blank_links : Links
-blank_links = record { before = 0; after = 0; waiting = 0; is_waiting = false }
+blank_links = record { before = 0; after = 0; waiting = 0; hash = 0 }
 
 pub loop-step-init : goal.loop-step-init
 loop-step-init c = (c.requires.walk.0, place_first c.requires.walk.1)

@@ -1,7 +1,7 @@
-use Rattle.std.proofs.Common.{◌+◌, ◌<◌, ◌-◌, length, get_or, Some, refl, ap, ◌∙◌, arith}
+use Rattle.std.proofs.Common.{◌+◌, ◌<◌, ◌-◌, [], length, get_or, unwrap_or, Some, refl, sym, ap, ◌∙◌, arith}
 use Rattle.sd_unique.specs.declared.record.Record.{Record}
 use Rattle.sd_unique.specs.declared.record.RecordState.TheVariants.{Free}
-use Rattle.sd_unique.specs.Chains.{list_under, no_record}
+use Rattle.sd_unique.specs.Chains.{hash_of, list_under, no_record}
 use Rattle.sd_unique.specs.Filed.{unfiled}
 use Rattle.sd_unique.specs.Record.{key_of}
 use Rattle.sd_unique.proofs.Attaching.{bucket_at, attached_kept, nodes_attached}
@@ -94,7 +94,7 @@ returns-clause-kept c = λ top k.
     (length c.args.heads.now - 1) c.bucket_at-head.result c.get-list.ensures (c.bucket_at-head.ensures.is (
       (get_or c.args.records.now c.args.number blank).place,
       c.get-list.result.now,
-    ) c.hash.ensures))
+    ) c.hash-hash.ensures))
     inside (get_or_any c.args.heads.now (c.bucket_at-head.result + 1) 0 no_record inside)
     (c.put_first.auto.places ∙ c.take_out.auto.places)
     (keeps_both c.args.links.now c.take_out.new.links c.put_first.new.links c.take_out.ensures.stack
@@ -110,6 +110,10 @@ returns-clause-kept c = λ top k.
     (get_or c.args.records.now c.args.number blank) read.0 read.1))
     (λ none. c.requires.queued (detached_uses c.args.runs.now c.args.records.now c.args.number
     (get_or c.args.records.now c.args.number blank) read.0 read.1 ∙ ap Some none))
+    (c.put_first.ensures.hash ∙ c.hash-hash.ensures
+    ∙ ap (λ o. hash_of ((get_or c.args.records.now c.args.number blank).place, unwrap_or o []))
+    (sym c.get-list.ensures))
+    (λ i ne. c.put_first.ensures.hashes i ne ∙ c.take_out.ensures.hashes i)
     k
 
 pub returns-clause-nodes : goal.returns-clause-nodes

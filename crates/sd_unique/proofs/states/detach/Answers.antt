@@ -4,26 +4,31 @@ use Rattle.sd_unique.specs.declared.record.RecordState.TheVariants.{Free}
 use Rattle.sd_unique.specs.Chains.{chain_under, list_under}
 use Rattle.sd_unique.specs.Filed.{unfiled}
 use Rattle.sd_unique.proofs.Both.{unfiled_here}
-use Rattle.sd_unique.proofs.Listed.{keeps_both}
+use Rattle.sd_unique.proofs.Listed.{keeps_both, link_read}
+use Rattle.sd_unique.specs.declared.record.Links.{Links}
 use Rattle.sd_unique.proofs.Detaching.{detached_kept, nodes_detached}
-use Rattle.sd_unique.proofs.Standing.{chain_inside, list_inside, linked_here, linked_head, linked_place}
+use Rattle.sd_unique.proofs.Standing.{chain_inside, list_inside, linked_head, linked_place}
 use Rattle.sd_unique.proofs.Standing.{is_record, unfiled_inside}
 use Rattle.sd_unique.proofs.Entries.{slice_get_at}
 use Rattle.sd_unique.proofs.Numbered.{linked_inside}
-use Rattle.sd_unique.proofs.Taken.{linked_state}
 use Rattle.sd_unique.proofs.states.detach.Goals as goal
 
 abbrev blank : Record
 blank = record { place = 0; start = 0; length = 0; next = 0; uses = 0; mark = 0; state = Free }
 
-pub slice_copy_out-record : goal.slice_copy_out-record
-slice_copy_out-record c = linked_inside c.args.runs.now c.args.records.now c.args.number c.requires.linked
+abbrev blank_links : Links
+blank_links = record { before = 0; after = 0; waiting = 0; hash = 0 }
 
-pub get-list-requires : goal.get-list-requires
-get-list-requires c =
-    let read = linked_here c.args.runs.now c.args.records.now c.args.number blank c.requires.linked in
-    c.requires.kept.1.stored.live c.args.number (get_or c.args.records.now c.args.number blank) read.0
-    (linked_state (get_or c.args.records.now c.args.number blank).state read.1)
+pub bounds-records-number : goal.bounds-records-number
+bounds-records-number c = linked_inside c.args.runs.now c.args.records.now c.args.number c.requires.linked
+
+pub bounds-links-number : goal.bounds-links-number
+bounds-links-number c =
+    omega (
+      arith,
+      c.requires.kept.1.linked_all,
+      linked_inside c.args.runs.now c.args.records.now c.args.number c.requires.linked,
+    )
 
 pub cut-requires-clause-inside : goal.cut-requires-clause-inside
 cut-requires-clause-inside c = linked_inside c.args.runs.now c.args.records.now c.args.number c.requires.linked
@@ -31,12 +36,15 @@ cut-requires-clause-inside c = linked_inside c.args.runs.now c.args.records.now 
 pub cut-requires-clause-chained : goal.cut-requires-clause-chained
 cut-requires-clause-chained c = (
   chain_under c.args.runs.now (length c.args.heads.now - 1) c.args.records.now,
-  linked_head c.args.runs.now c.args.records.now c.args.number blank c.get-list.result.now
-      (length c.args.heads.now - 1) c.bucket_at-head.result c.requires.linked c.get-list.ensures
-      (c.bucket_at-head.ensures.is (
-        (get_or c.args.records.now c.args.number blank).place,
-        c.get-list.result.now,
-      ) c.hash.ensures),
+  linked_head c.args.runs.now c.args.records.now c.args.links.now c.args.number _ blank
+      (length c.args.heads.now - 1) c.bucket_at-head.result c.requires.linked c.requires.kept.1.hashed
+      (link_read (λ (l : Links). l.hash) c.args.links.now c.args.number blank_links
+      (omega (
+        arith,
+        c.requires.kept.1.linked_all,
+        linked_inside c.args.runs.now c.args.records.now c.args.number c.requires.linked,
+      )))
+      c.bucket_at-head.ensures.is,
   chain_inside c.args.runs.now (length c.args.heads.now - 1) c.args.records.now,
   c.requires.kept.1.in_chains,
 )
@@ -87,8 +95,8 @@ put_first-requires-clause-listed c = (
       c.requires.kept.1.in_lists,
 )
 
-pub bounds-records-number : goal.bounds-records-number
-bounds-records-number c =
+pub bounds-records-number-2 : goal.bounds-records-number-2
+bounds-records-number-2 c =
     omega (
       arith,
       c.cut.ensures.kept.size,
@@ -110,17 +118,21 @@ returns-clause-kept c = λ top k.
     (keeps_both c.args.links.now c.take_out.new.links c.put_first.new.links c.take_out.ensures.stack
     c.put_first.ensures.stack)
     (c.cut.ensures.chained (chain_under c.args.runs.now (length c.args.heads.now - 1) c.args.records.now)
-    (linked_head c.args.runs.now c.args.records.now c.args.number blank c.get-list.result.now
-    (length c.args.heads.now - 1) c.bucket_at-head.result c.requires.linked c.get-list.ensures
-    (c.bucket_at-head.ensures.is (
-      (get_or c.args.records.now c.args.number blank).place,
-      c.get-list.result.now,
-    ) c.hash.ensures))
+    (linked_head c.args.runs.now c.args.records.now c.args.links.now c.args.number _ blank
+    (length c.args.heads.now - 1) c.bucket_at-head.result c.requires.linked k.hashed
+    (link_read (λ (l : Links). l.hash) c.args.links.now c.args.number blank_links
+    (omega (
+      arith,
+      k.linked_all,
+      linked_inside c.args.runs.now c.args.records.now c.args.number c.requires.linked,
+    )))
+    c.bucket_at-head.ensures.is)
     k.in_chains)
     (c.put_first.ensures.listed (unfiled c.args.number (list_under c.args.records.now))
     (unfiled_here c.args.number (list_under c.args.records.now) c.args.number refl)
     (c.take_out.ensures.listed (list_under c.args.records.now)
     (linked_place c.args.runs.now c.args.records.now c.args.number blank c.requires.linked) k.in_lists))
+    (λ i ne. c.put_first.ensures.hashes i ne ∙ c.take_out.ensures.hashes i)
     k
 
 pub returns-clause-nodes : goal.returns-clause-nodes

@@ -62,7 +62,7 @@ returns-clause-kept c = λ top k.
     (detached_list c.args.runs.now c.args.records.now c.args.number (get_or c.args.records.now c.args.number blank)
     read.0 read.1)
     k.in_lists)
-    k
+    c.take_out.ensures.hashes k
 
 pub returns-clause-nodes : goal.returns-clause-nodes
 returns-clause-nodes c = λ k e.

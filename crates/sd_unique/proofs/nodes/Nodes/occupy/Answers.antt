@@ -3,7 +3,7 @@ use Rattle.std.proofs.Common.{sym, ap, subst}
 use Rattle.std.proofs.Common.{◌∙◌, arith}
 use Rattle.std.specs.FinMap.{get}
 use Rattle.sd_unique.specs.Chains.{bucket_of, hash_of, AreInLists, AreStacked, KeepsLists, KeepsStack, IsPushed}
-use Rattle.sd_unique.specs.Chains.{list_under}
+use Rattle.sd_unique.specs.Chains.{list_under, kept_hash}
 use Rattle.sd_unique.specs.Occupying.{IsFreeNumber, occupied}
 use Rattle.sd_unique.specs.Relinking.{IsAbsent, IsLoose}
 use Rattle.sd_unique.specs.declared.record.Record.{Record}
@@ -148,7 +148,9 @@ invariant_of-self c =
     (subst (λ l. KeepsLists l c.push-self-inside.new.links) mid c.push-self-inside.ensures.lists)
     c.push-self-inside.ensures.stacked
     (subst (λ l. IsPushed l c.push-self-inside.new.links c.index-number.result.now) mid
-    c.push-self-inside.ensures.pushed))
+    c.push-self-inside.ensures.pushed)
+    (c.put_first.ensures.hash ∙ asked.2)
+    (λ m ne. c.put_first.ensures.hashes m ne ∙ ap (λ l. kept_hash l m) c.deref_mut.ensures.value))
 
 pub returns-clause-number : goal.returns-clause-number
 returns-clause-number c =
