@@ -1,3 +1,4 @@
+pub mod AskedLemmas
 pub mod FileLemmas
 mod MemoryLemmas
 pub mod NextLine

@@ -1,6 +1,8 @@
 //! Whole files, read from a shelf.
 
 ghost use Rattle.std.specs.Prelude.{◌≡◌, ◌⊎◌, ◌≤◌, ℕ, List, [], length, OnOk, IfOk, IsErrOf};
+ghost use Rattle.std.specs.Prelude.{◌∷◌};
+ghost use Rattle.sd_base.specs.Asked.{Adds, ToRead};
 ghost use Rattle.sd_base.specs.Faults.{Rose};
 ghost use Rattle.sd_base.specs.Files.{HasBytes, HasLonger, IsTold, Lacks};
 ghost use Rattle.sd_base.specs.Shelf.{NoFile};
@@ -53,6 +55,7 @@ pub fn read_all<F: Shelf>(alloc: Global, shelf: &mut F, name: &str) -> Result<By
         (F.unfinished shelf.old) (F.unfinished shelf.new) }
     ensures read_faults { F.read_faults shelf.old ≤ F.read_faults shelf.new }
     ensures write_faults { F.write_faults shelf.new ≡ F.write_faults shelf.old }
+    ensures asked { Adds F.asked shelf.old shelf.new (ToRead name.now ∷ []) }
 {
     let mut bytes = Vec::new(alloc);
     match take_in(shelf, name, &mut bytes) {
@@ -87,6 +90,7 @@ fn take_in<F: Shelf>(shelf: &mut F, name: &str, bytes: &mut Vec<u8>) -> Result<(
         → HasLonger (F.files shelf.old) name.now LONGEST_FILE }
     ensures read_faults { F.read_faults shelf.old ≤ F.read_faults shelf.new }
     ensures write_faults { F.write_faults shelf.new ≡ F.write_faults shelf.old }
+    ensures asked { Adds F.asked shelf.old shelf.new (ToRead name.now ∷ []) }
 {
     if shelf.start_read(name).is_err() {
         return Err(ReadError::ReadFault);

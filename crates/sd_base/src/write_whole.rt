@@ -1,6 +1,7 @@
 //! Whole texts, written to a file of a shelf or to a sink.
 
-ghost use Rattle.std.specs.Prelude.{◌≡◌, ◌≤◌, OnOk, OnErr};
+ghost use Rattle.std.specs.Prelude.{◌≡◌, ◌≤◌, [], ◌∷◌, OnOk, OnErr};
+ghost use Rattle.sd_base.specs.Asked.{Adds, ToWrite};
 ghost use Rattle.sd_base.specs.Faults.{Rose};
 ghost use Rattle.sd_base.specs.Files.{told_with, WritesPart};
 ghost use Rattle.sd_base.specs.Shelf.{NoFile};
@@ -24,6 +25,7 @@ pub fn write_all_to<F: Shelf>(shelf: &mut F, name: &str, bytes: &[u8]) -> Result
     ensures cause { OnErr result (Rose (F.write_faults shelf.old) (F.write_faults shelf.new)) }
     ensures write_faults { F.write_faults shelf.old ≤ F.write_faults shelf.new }
     ensures read_faults { F.read_faults shelf.new ≡ F.read_faults shelf.old }
+    ensures asked { Adds F.asked shelf.old shelf.new (ToWrite name.now ∷ []) }
 {
     if shelf.start_write(name).is_err() {
         return Err(WriteFault);

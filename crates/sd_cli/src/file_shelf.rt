@@ -1,4 +1,4 @@
-// The real shelf. It tells nothing of content, and counts each fault.
+// The real shelf. It tells nothing of content, and counts each fault, and what it is asked to read and to write.
 use crate::retry::{read_some, write_some};
 use sd_base::{Failed, Name, Shelf};
 use std::alloc::Global;
@@ -24,16 +24,21 @@ pub struct FileShelf<'a, R: Files> {
     hand: InHand<R::File>,
     read_faults: u64,
     write_faults: u64,
+    // how many readings and writings were begun; at its last value a count stands
+    readings: u64,
+    writings: u64,
 }
 
 impl<'a, R: Files> FileShelf<'a, R> {
-    ghost use Rattle.std.specs.Prelude.{◌≡◌};
+    ghost use Rattle.std.specs.Prelude.{◌≡◌, []};
+    ghost use Rattle.sd_base.specs.Asked.{AreCounts};
     ghost use Rattle.sd_base.specs.Shelf.{NoFile};
     ghost use Rattle.sd_cli.specs.Outside.{hand_of};
 
-    /// The shelf with no file in hand and no fault counted.
+    /// The shelf with no file in hand, no fault counted, and nothing asked of it.
     pub fn new(rt: &'a R, alloc: Global) -> Self
-        ensures { hand_of result.hand ≡ NoFile }
+        ensures hand { hand_of result.hand ≡ NoFile }
+        ensures asked { AreCounts result.readings result.writings [] }
     {
         FileShelf {
             rt,
@@ -41,12 +46,15 @@ impl<'a, R: Files> FileShelf<'a, R> {
             hand: InHand::Nothing,
             read_faults: 0,
             write_faults: 0,
+            readings: 0,
+            writings: 0,
         }
     }
 }
 
 impl<'a, R: Files> Shelf for FileShelf<'a, R> {
     ghost use Rattle.std.specs.Prelude.{None};
+    ghost use Rattle.sd_base.specs.Asked.{AreCounts};
     ghost use Rattle.sd_cli.specs.Outside.{hand_of};
 
     ghost files = { λ _. None };
@@ -57,7 +65,11 @@ impl<'a, R: Files> Shelf for FileShelf<'a, R> {
 
     ghost write_faults = { λ shelf. shelf.write_faults };
 
+    // the readings and the writings that are begun are counted
+    ghost asked = { λ shelf requests. AreCounts shelf.readings shelf.writings requests };
+
     fn start_read(&mut self, name: &str) -> Result<(), Failed> {
+        self.readings = self.readings.saturating_add(1);
         let Ok(held) = Name::copy_of(self.alloc, name) else {
             self.read_faults = self.read_faults.saturating_add(1);
             return Err(Failed);
@@ -89,6 +101,7 @@ impl<'a, R: Files> Shelf for FileShelf<'a, R> {
     }
 
     fn start_write(&mut self, name: &str) -> Result<(), Failed> {
+        self.writings = self.writings.saturating_add(1);
         let Ok(held) = Name::copy_of(self.alloc, name) else {
             self.write_faults = self.write_faults.saturating_add(1);
             return Err(Failed);

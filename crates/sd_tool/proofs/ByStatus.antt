@@ -1,6 +1,7 @@
 -- What the course of a run says of each status.
 use Rattle.std.proofs.Common.{◌≡◌, ◌⊎◌, ℕ, Bool, true, false, ◌==◌, ◌||◌, List, [], Option, Some, None, inl, inr}
 use Rattle.std.proofs.Common.{refl, sym, ap, ◌∙◌}
+use Rattle.sd_base.specs.Asked.{Request}
 use Rattle.sd_base.specs.Files.{Files}
 use Rattle.sd_manager.specs.Table.{Table}
 use Rattle.sd_commands.specs.Effects.{Effect}
@@ -16,6 +17,7 @@ use Rattle.sd_tool.specs.Headline.{IsRefused, CouldNotRead, CouldNotWrite}
 use Rattle.sd_tool.specs.KeptManager.{KeepsManager}
 use Rattle.sd_tool.specs.declared.refusal.Refusal.{Refusal}
 use Rattle.sd_tool.specs.declared.refusal.Refusal.TheVariants as refusals
+use Rattle.sd_tool.proofs.AskLemmas.{goes_may_end}
 use Rattle.sd_tool.proofs.NotOutOfMemory.{refused_of_text}
 
 -- the statuses of refusals, and with them that of a file that was not read
@@ -53,7 +55,7 @@ no_refused status a other is (inr (inr (inl s))) = apart is_refused status a 3 i
 no_refused status a other is (inr (inr (inr s))) = apart is_refused status a 9 is s other refl
 
 -- nor that of a file that was not read
-no_idle : {A : Type 0} (status a : ℕ) → is_idle a ≡ false → status ≡ a
+pub no_idle : {A : Type 0} (status a : ℕ) → is_idle a ≡ false → status ≡ a
     → (status ≡ 1) ⊎ (status ≡ 2) ⊎ (status ≡ 3) ⊎ (status ≡ 5) ⊎ (status ≡ 9) → A
 no_idle status a other is (inl s) = apart is_idle status a 1 is s other refl
 no_idle status a other is (inr (inl s)) = apart is_idle status a 2 is s other refl
@@ -62,7 +64,7 @@ no_idle status a other is (inr (inr (inr (inl s)))) = apart is_idle status a 5 i
 no_idle status a other is (inr (inr (inr (inr s)))) = apart is_idle status a 9 is s other refl
 
 -- a refusal has no other status
-other_status : {A : Type 0} (refusal : Refusal) (status a : ℕ) → status ≡ refusal_status refusal
+pub other_status : {A : Type 0} (refusal : Refusal) (status a : ℕ) → status ≡ refusal_status refusal
     → is_refused a ≡ false → status ≡ a → A
 other_status refusal status a is other same = no_refused status a other same (one_of_four refusal status is)
 
@@ -108,10 +110,10 @@ nothing_done : (effects : List Effect) (old new : Contents) → effects ≡ [] �
 nothing_done effects old new none is = is ∙ ap (λ l. after l old) none
 
 -- the effects, status by status
-pub effects_at : (words : List (List ℕ)) (status : ℕ) (kept : Option Table) (old new : Moment)
-    → IsCourse words status kept old new
+pub effects_at : {asks : List Request → Type 0} (words : List (List ℕ)) (status : ℕ) (kept : Option Table) (old new : Moment)
+    → IsCourse asks words status kept old new
     → HasEffects words status old new
-effects_at words status kept old new went = go went.end went.may_end went.status_is went.leaves
+effects_at {asks = asks} words status kept old new went = go went.end (goes_may_end asks words old.contents.files went.effects went.end went.goes) went.status_is went.leaves
   where
     go : (end : End) → MayEnd words old.contents.files went.effects end → status ≡ status_of end
         → Leaves went.effects end old.contents new.contents → HasEffects words status old new
@@ -161,8 +163,8 @@ effects_at words status kept old new went = go went.end went.may_end went.status
     }
 
 -- the line is that of the end
-pub line_at : (words : List (List ℕ)) (status : ℕ) (kept : Option Table) (old new : Moment)
-    → IsCourse words status kept old new
+pub line_at : {asks : List Request → Type 0} (words : List (List ℕ)) (status : ℕ) (kept : Option Table) (old new : Moment)
+    → IsCourse asks words status kept old new
     → HasLine status old new
 line_at words status kept old new went = (went.end, went.status_is, went.line)
 
@@ -247,10 +249,10 @@ end_full words status kept old new is full = record {
 }
 
 -- the causes, status by status
-pub end_at : (words : List (List ℕ)) (status : ℕ) (kept : Option Table) (old new : Moment)
-    → IsCourse words status kept old new → HasEnd words status kept old new
-end_at words status kept old new went =
-    go went.effects went.end went.may_end went.status_is went.cause went.keeps went.line
+pub end_at : {asks : List Request → Type 0} (words : List (List ℕ)) (status : ℕ) (kept : Option Table) (old new : Moment)
+    → IsCourse asks words status kept old new → HasEnd words status kept old new
+end_at {asks = asks} words status kept old new went =
+    go went.effects went.end (goes_may_end asks words old.contents.files went.effects went.end went.goes) went.status_is went.cause went.keeps went.line
   where
     go : (effects : List Effect) (end : End) → MayEnd words old.contents.files effects end → status ≡ status_of end
         → HasDeviceCause end old.contents.files old.faults new.faults → KeepsManager end kept

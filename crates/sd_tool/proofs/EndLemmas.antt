@@ -1,6 +1,7 @@
 -- How a run ends: at its readings, among its commands, or at the end of them.
 use Rattle.std.proofs.Common.{◌≡◌, ℕ, List, [], Option, Some, None, Result, Ok, Err}
 use Rattle.std.proofs.Common.{inl, inr, cond, refl, sym, ap, subst, ◌∙◌}
+use Rattle.sd_base.specs.Asked.{Request}
 use Rattle.sd_base.specs.Files.{Files}
 use Rattle.sd_manager.specs.Table.{Table}
 use Rattle.sd_formula.specs.Dimacs.{Groups}
@@ -8,7 +9,8 @@ use Rattle.sd_commands.specs.Effects.{Effect}
 use Rattle.sd_commands.specs.declared.command.RunCommand.{RunCommand}
 use Rattle.sd_commands.specs.declared.state.RunState.{RunState}
 use Rattle.sd_tool.specs.Effects.{Contents}
-use Rattle.sd_tool.specs.Readings.{Plan, Begins, ReadsTo, reading_of}
+use Rattle.sd_tool.specs.Readings.{Plan, Begins, reading_of}
+use Rattle.sd_tool.specs.Asks.{ComesTo}
 use Rattle.sd_tool.specs.Course.{EndsAmong, Leaves}
 use Rattle.sd_tool.specs.PlanViews.{plan_with}
 use Rattle.sd_tool.specs.Headline.{IsCourse}
@@ -24,18 +26,19 @@ use Rattle.sd_tool.specs.declared.refusal.Refusal.TheVariants as refusals
 use Rattle.sd_tool.specs.declared.stop.Stop.{Stop}
 use Rattle.sd_tool.specs.declared.stop.Stop.TheVariants as stops
 use Rattle.sd_tool.specs.declared.stop.Stop.TheVariants.{ReadFault, WriteFault, OutputFault, OutOfMemory, ArenaFull}
+use Rattle.sd_tool.proofs.AskLemmas.{Joins}
 use Rattle.sd_tool.proofs.StepLemmas.{cause_since}
 
 -- the readings stop, and nothing was done
-pub reading_stops : (words : List (List ℕ)) (stop : Stop) (kept : Option Table) (old new : Contents)
+pub reading_stops : {asks : List Request → Type 0} (words : List (List ℕ)) (stop : Stop) (kept : Option Table) (old new : Contents)
     (before now : Faults) → kept ≡ None → new ≡ old
-    → StopsReading stop old.files (reading_of words) before.read now.read
-    → Attempts words kept (Err stop) old new before now
+    → StopsReading asks stop old.files (reading_of words) before.read now.read
+    → Attempts asks words kept (Err stop) old new before now
 reading_stops words (stops.Refused refusal) kept old new before now none same stops = record {
   end = Refused refusal;
   at = record { status = refl; text = refl; stopped = λ e. cc };
   effects = [];
-  may_end = inl (stops, refl);
+  goes = inl (stops, refl);
   keeps = none;
   leaves = same;
   cause = tt;
@@ -44,7 +47,7 @@ reading_stops words (ReadFault file) kept old new before now none same stops = r
   end = Unreadable file;
   at = record { status = refl; text = refl; stopped = λ e. cc };
   effects = [];
-  may_end = inl (stops.0, refl);
+  goes = inl (stops.0, refl);
   keeps = none;
   leaves = same;
   cause = stops.1;
@@ -56,7 +59,7 @@ reading_stops words OutOfMemory kept old new before now none same stops = record
   end = NoMemory;
   at = record { status = refl; text = refl; stopped = λ e. cc };
   effects = [];
-  may_end = inl (tt, refl);
+  goes = inl (stops, refl);
   keeps = none;
   leaves = same;
   cause = tt;
@@ -104,32 +107,33 @@ kept_none NoMemory other = refl
 kept_none (NoRoom n) other = absurd (other refl)
 
 -- the commands came to an end, and what is kept is that of the end
-carried : (plan : Plan) (t : Table) (kept : Option Table) (result : Result (Unit {0}) Stop)
-    (old new : Contents) (before now : Faults) → (goes : RunsToEnd plan t result old new before now)
-    → KeepsManager goes.end kept → CarriesOut plan kept result old new before now
+carried : {asks : List Request → Type 0} (plan : Plan) (t : Table) (kept : Option Table) (result : Result (Unit {0}) Stop)
+    (old new : Contents) (before now : Faults) → (goes : RunsToEnd asks plan t result old new before now)
+    → KeepsManager goes.end kept → CarriesOut asks plan kept result old new before now
 carried plan t kept result old new before now goes keeps = record {
   end = goes.end;
   at = goes.at;
   effects = goes.effects;
   ends = goes.ends;
+  asked = goes.asked;
   keeps = keeps;
   leaves = goes.leaves;
   cause = goes.cause;
 }
 
 -- the commands in hand are those of the plan
-abbrev with_own : Groups → RunState → ℕ → Option Table → Result (Unit {0}) Stop → Contents → Contents → Faults
-    → Faults → List RunCommand → Type 0
-with_own formula state limit kept result old new before now commands =
-    CarriesOut (plan_with formula state limit commands) kept result old new before now
+abbrev with_own : (List Request → Type 0) → Groups → RunState → ℕ → Option Table → Result (Unit {0}) Stop → Contents
+    → Contents → Faults → Faults → List RunCommand → Type 0
+with_own asks formula state limit kept result old new before now commands =
+    CarriesOut asks (plan_with formula state limit commands) kept result old new before now
 
 -- all commands were done
-pub carried_done : (formula : Groups) (state : RunState) (limit : ℕ) (done commands : List RunCommand) (t : Table)
+pub carried_done : {asks : List Request → Type 0} (formula : Groups) (state : RunState) (limit : ℕ) (done commands : List RunCommand) (t : Table)
     (kept : Option Table) (old new : Contents) (before now : Faults) → done ≡ commands → kept ≡ None
-    → RunsToEnd (plan_with formula state limit done) t (Ok tt) old new before now
-    → CarriesOut (plan_with formula state limit commands) kept (Ok tt) old new before now
-carried_done formula state limit done commands t kept old new before now all none goes =
-    subst (with_own formula state limit kept (Ok tt) old new before now) all
+    → RunsToEnd asks (plan_with formula state limit done) t (Ok tt) old new before now
+    → CarriesOut asks (plan_with formula state limit commands) kept (Ok tt) old new before now
+carried_done {asks = asks} formula state limit done commands t kept old new before now all none goes =
+    subst (with_own asks formula state limit kept (Ok tt) old new before now) all
     (carried (plan_with formula state limit done) t kept (Ok tt) old new before now goes
     (subst (KeepsManager goes.end) (sym none) (kept_none goes.end (λ e. other goes.at e))))
   where
@@ -160,26 +164,31 @@ keeps_at OutOfMemory end t kept was none is status full_at =
     kept_other OutOfMemory end kept was none is status (λ e. cc)
 
 -- the commands stopped, and the manager is kept if it was full
-pub carried_stop : (formula : Groups) (state : RunState) (limit : ℕ) (done commands : List RunCommand) (t : Table)
+pub carried_stop : {asks : List Request → Type 0} (formula : Groups) (state : RunState) (limit : ℕ) (done commands : List RunCommand) (t : Table)
     (kept was : Option Table) (stop : Stop) (old new : Contents) (before now : Faults) → done ≡ commands
     → was ≡ None → kept ≡ cond (is_full stop) (Some t) was
-    → RunsToEnd (plan_with formula state limit done) t (Err stop) old new before now
-    → CarriesOut (plan_with formula state limit commands) kept (Err stop) old new before now
-carried_stop formula state limit done commands t kept was stop old new before now all none is goes =
-    subst (with_own formula state limit kept (Err stop) old new before now) all
+    → RunsToEnd asks (plan_with formula state limit done) t (Err stop) old new before now
+    → CarriesOut asks (plan_with formula state limit commands) kept (Err stop) old new before now
+carried_stop {asks = asks} formula state limit done commands t kept was stop old new before now all none is goes =
+    subst (with_own asks formula state limit kept (Err stop) old new before now) all
     (carried (plan_with formula state limit done) t kept (Err stop) old new before now goes
     (keeps_at stop goes.end t kept was none is goes.at.status goes.full_at))
 
 -- the commands go on from where the readings led
-pub commands_go : (words : List (List ℕ)) (plan : Plan) (kept : Option Table) (result : Result (Unit {0}) Stop)
-    (old mid new : Contents) (first before last : Faults) → ReadsTo old.files (reading_of words) (Begins plan)
-    → mid ≡ old → NotFewer first before → CarriesOut plan kept result mid new before last
-    → Attempts words kept result old new first last
-commands_go words plan kept result old mid new first before last led same fewer goes = record {
+pub commands_go : {a b c : List Request → Type 0} (words : List (List ℕ)) (plan : Plan) (kept : Option Table) (result : Result (Unit {0}) Stop)
+    (old mid new : Contents) (first before last : Faults) → Joins a b c
+    → ComesTo a old.files (reading_of words) (Begins plan)
+    → mid ≡ old → NotFewer first before → CarriesOut b plan kept result mid new before last
+    → Attempts c words kept result old new first last
+commands_go words plan kept result old mid new first before last join led same fewer goes = record {
   end = goes.end;
   at = goes.at;
   effects = goes.effects;
-  may_end = inr (plan, led, goes.ends);
+  goes = inr (
+    plan,
+    record { names = led.names; asked = join.meets _ _ led.asked goes.asked; reads = led.reads },
+    goes.ends,
+  );
   keeps = goes.keeps;
   leaves = subst (λ (o : Contents). Leaves goes.effects goes.end o new) same goes.leaves;
   cause = cause_from plan goes.effects goes.end mid.files old.files first before last goes.ends fewer goes.cause;
@@ -201,15 +210,15 @@ says_end stop (NoRoom n) old new at says =
     subst (λ t. WritesLine (line_of t) old.errors new.errors old.err_faults new.err_faults) at.text says
 
 -- a run that stopped and said so went to that end
-pub went_to_stop : (words : List (List ℕ)) (stop : Stop) (status : ℕ) (text : List ℕ) (kept : Option Table)
+pub went_to_stop : {asks : List Request → Type 0} (words : List (List ℕ)) (stop : Stop) (status : ℕ) (text : List ℕ) (kept : Option Table)
     (old new : Moment)
-    → Attempts words kept (Err stop) old.contents new.contents old.faults new.faults → status ≡ stop_status stop
+    → Attempts asks words kept (Err stop) old.contents new.contents old.faults new.faults → status ≡ stop_status stop
     → text ≡ stop_text stop → WritesLine (line_of text) old.errors new.errors old.err_faults new.err_faults
-    → IsCourse words status kept old new
+    → IsCourse asks words status kept old new
 went_to_stop words stop status text kept old new attempt is text_is says = record {
   effects = attempt.effects;
   end = attempt.end;
-  may_end = attempt.may_end;
+  goes = attempt.goes;
   status_is = is ∙ attempt.at.status;
   leaves = attempt.leaves;
   cause = attempt.cause;

@@ -1,3 +1,5 @@
+pub mod AskLemmas
+pub mod AskedAt
 pub mod ByStatus
 pub mod EndLemmas
 pub mod FormulaFaults

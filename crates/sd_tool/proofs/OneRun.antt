@@ -2,6 +2,7 @@
 -- device fails comes to that end, or memory ran out.
 use Rattle.std.proofs.Common.{◌≡◌, ◌⊎◌, ℕ, List, Option, Some, None, inl, inr, refl, sym}
 use Rattle.std.proofs.Common.{ap, subst, ◌∙◌, if◌then◌else◌}
+use Rattle.sd_base.specs.Asked.{Request}
 use Rattle.sd_base.specs.Files.{Files, Lacks}
 use Rattle.sd_model.specs.StartTrees.{balanced_tree, right_tree, left_tree}
 use Rattle.sd_model.specs.Tree.{Tree}
@@ -23,6 +24,7 @@ use Rattle.sd_tool.specs.Devices.{Moment, Faults, NoneRose, HasDeviceCause}
 use Rattle.sd_tool.specs.Course.{EndsAmong, MayEnd, Leaves}
 use Rattle.sd_tool.specs.Headline.{IsCourse, IsOwn, IsComplete}
 use Rattle.sd_tool.specs.Written.{IsInput, IsStartTree}
+use Rattle.sd_tool.proofs.AskLemmas.{goes_may_end}
 use Rattle.sd_tool.proofs.OneCourse.{one_end_among}
 use Rattle.sd_tool.proofs.NotOutOfMemory.{valid_start}
 use Rattle.sd_tool.proofs.OnePoint.{one_point}
@@ -131,13 +133,14 @@ no_other_end words files effects done own OutOfMemory before now a all may_end c
 no_other_end words files effects done own (ArenaFull n) before now a all may_end cause calm = inr (inr (n, refl))
 
 -- where the words and the files lead to an end of their own, the run came to it, or there was no memory
-comes_to_own : (words : List (List ℕ)) (status : ℕ) (kept : Option Table) (old new : Moment)
-    → IsCourse words status kept old new
+comes_to_own : {asks : List Request → Type 0} (words : List (List ℕ)) (status : ℕ) (kept : Option Table) (old new : Moment)
+    → IsCourse asks words status kept old new
     → (files : Files) (effects : List Effect) (own : End) → old.contents.files ≡ Some files
     → NoneRose old.faults new.faults → IsOwn own → MayEnd words (Some files) effects own
     → ((status ≡ status_of own) × (new.contents ≡ after effects old.contents)) ⊎ (status ≡ 7) ⊎ (status ≡ 8)
-comes_to_own words status kept old new went files effects own told calm is all =
-    let may_end = subst (λ f. MayEnd words f went.effects went.end) told went.may_end in
+comes_to_own {asks = asks} words status kept old new went files effects own told calm is all =
+    let may_end = subst (λ f. MayEnd words f went.effects went.end) told
+    (goes_may_end asks words old.contents.files went.effects went.end went.goes) in
     let cause = subst (λ f. HasDeviceCause went.end f old.faults new.faults) told went.cause in
     elim (no_other_end words files effects went.effects own went.end old.faults new.faults is all may_end cause calm) [
       | inl whole ↦ inl (
@@ -234,11 +237,12 @@ done_or_none words files plan effects OutOfMemory before now leads may_end cause
 done_or_none words files plan effects (ArenaFull n) before now leads may_end cause calm = inr (inr refl)
 
 -- a run that went somewhere is complete
-pub completes : (words : List (List ℕ)) (status : ℕ) (kept : Option Table) (old new : Moment)
-    → IsCourse words status kept old new → IsComplete words status old new
-completes words status kept old new went = record {
+pub completes : {asks : List Request → Type 0} (words : List (List ℕ)) (status : ℕ) (kept : Option Table) (old new : Moment)
+    → IsCourse asks words status kept old new → IsComplete words status old new
+completes {asks = asks} words status kept old new went = record {
   served = λ files job formula tree told calm input start.
-      let may_end = subst (λ f. MayEnd words f went.effects went.end) told went.may_end in
+      let may_end = subst (λ f. MayEnd words f went.effects went.end) told
+    (goes_may_end asks words old.contents.files went.effects went.end went.goes) in
       let cause = subst (λ f. HasDeviceCause went.end f old.faults new.faults) told went.cause in
       let plan = plan_for job formula tree (default_of job) in
       let leads = leads_to_plan words files job formula tree input start in

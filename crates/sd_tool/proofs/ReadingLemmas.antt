@@ -1,8 +1,12 @@
 -- The readings of a run, one after another.
-use Rattle.std.proofs.Common.{◌≡◌, ◌⊎◌, ℕ, ◌≤◌, List, length, Option, Some, None, Result, Ok, Err}
+use Rattle.std.proofs.Common.{◌≡◌, ◌⊎◌, ℕ, ◌≤◌, List, [], ◌∷◌, length, Option, Some, None, Result, Ok, Err}
+use Rattle.std.proofs.Common.{IfOk, MatchResult, ◌∙◌}
 use Rattle.std.proofs.Common.{inl, inr, refl, sym, ap, subst, arith}
+use Rattle.std.specs.declared.alloc.AllocError.{AllocError}
+use Rattle.sd_base.specs.Asked.{Request, ToRead}
 use Rattle.sd_base.specs.Faults.{Rose}
 use Rattle.sd_base.specs.Files.{Files, HasBytes, HasLonger, Lacks}
+use Rattle.sd_model.specs.Tree.{Tree}
 use Rattle.sd_formula.specs.Dimacs.{Groups}
 use Rattle.sd_formula.specs.declared.formula.Kind.{Kind}
 use Rattle.sd_vtree.specs.Numbered.{Numbered, plain_tree}
@@ -15,7 +19,9 @@ use Rattle.sd_script.specs.Scripts.{Script}
 use Rattle.sd_commands.specs.declared.command.RunCommand.{RunCommand}
 use Rattle.sd_tool.specs.Readings.{with_commands, script_reading, with_script_text}
 use Rattle.sd_tool.specs.Readings.{input_file, with_input, with_input_word, with_tree_word, with_tree, with_vtree_text}
+use Rattle.sd_tool.specs.Asks.{ComesTo, AsksLast, BreaksOff}
 use Rattle.sd_tool.specs.Stops.{StopsReading, LeadsTo, StopsFor, GivesText, text_read}
+use Rattle.sd_tool.proofs.AskLemmas.{Joins, comes_on, last_on, breaks_on, last_here, comes_same, breaks_here}
 use Rattle.sd_tool.specs.declared.refusal.Refusal.{Refusal}
 use Rattle.sd_tool.specs.declared.stop.Stop.{Stop}
 use Rattle.sd_tool.specs.declared.stop.Stop.TheVariants.{Refused, ReadFault, WriteFault, OutputFault, OutOfMemory}
@@ -38,11 +44,6 @@ reads_here told (Refuses refusal) = refl
 reads_here told (Begins plan) = refl
 reads_here told (Reads file next) = inl refl
 
--- a file that was read goes on with its text
-pub reads_text : (told : Option Files) (file : List ℕ) (next : Text → Reading) (text : Text) → IsText told file text
-    → ReadsTo told (Reads file next) (next text)
-reads_text told file next text is = inr (text, is, reads_here told (next text))
-
 -- where the readings have come to a point, they go on from there
 pub reads_on : (told : Option Files) (reading mid point : Reading) → ReadsTo told reading mid → ReadsTo told mid point
     → ReadsTo told reading point
@@ -56,117 +57,153 @@ pub reads_same : (told : Option Files) (reading point : Reading) → reading ≡
 reads_same told reading point is = subst (λ r. ReadsTo told reading r) is (reads_here told reading)
 
 -- a stop at a point of the readings, with counts that have not fallen since, is a stop of all of them
-pub stops_on : (stop : Stop) (told : Option Files) (reading mid : Reading) (first before now : ℕ)
-    → ReadsTo told reading mid
-    → first ≤ before → StopsReading stop told mid before now → StopsReading stop told reading first now
-stops_on (Refused refusal) told reading mid first before now a later b = reads_on told reading mid _ a b
-stops_on (ReadFault file) told reading mid first before now a later ((next, b), inl lacks) =
-    ((next, reads_on told reading mid _ a b), inl lacks)
-stops_on (ReadFault file) told reading mid first before now a later ((next, b), inr rose) =
-    ((next, reads_on told reading mid _ a b), inr (omega arith))
-stops_on (WriteFault file) told reading mid first before now a later b = absurd b
-stops_on OutputFault told reading mid first before now a later b = absurd b
-stops_on OutOfMemory told reading mid first before now a later b = tt
-stops_on (ArenaFull n) told reading mid first before now a later b = absurd b
+pub stops_on : {a b c : List Request → Type 0} (stop : Stop) (told : Option Files) (reading mid : Reading)
+    (first before now : ℕ) → Joins a b c → ComesTo a told reading mid
+    → first ≤ before → StopsReading b stop told mid before now → StopsReading c stop told reading first now
+stops_on (Refused refusal) told reading mid first before now join a later b = comes_on told reading mid _ join a b
+stops_on (ReadFault file) told reading mid first before now join a later (asks, inl lacks) =
+    (last_on told reading mid file join a asks, inl lacks)
+stops_on (ReadFault file) told reading mid first before now join a later (asks, inr rose) =
+    (last_on told reading mid file join a asks, inr (omega arith))
+stops_on (WriteFault file) told reading mid first before now join a later b = absurd b
+stops_on OutputFault told reading mid first before now join a later b = absurd b
+stops_on OutOfMemory told reading mid first before now join a later b = breaks_on told reading mid join a b
+stops_on (ArenaFull n) told reading mid first before now join a later b = absurd b
+
+-- a stop with what is asked in it, said otherwise
+pub stops_with : {a c : List Request → Type 0} (stop : Stop) (told : Option Files) (reading : Reading) (before now : ℕ)
+    → ((xs : List Request) → a xs → c xs) → StopsReading a stop told reading before now
+    → StopsReading c stop told reading before now
+stops_with (Refused refusal) told reading before now said p =
+    record { names = p.names; asked = said _ p.asked; reads = p.reads }
+stops_with (ReadFault file) told reading before now said p =
+    (record { names = p.0.names; next = p.0.next; asked = said _ p.0.asked; reads = p.0.reads }, p.1)
+stops_with (WriteFault file) told reading before now said p = absurd p
+stops_with OutputFault told reading before now said p = absurd p
+stops_with OutOfMemory told reading before now said (inl p) =
+    inl (p.0, record { names = p.1.names; asked = said _ p.1.asked; reads = p.1.reads })
+stops_with OutOfMemory told reading before now said (inr p) =
+    inr (p.0, record { names = p.1.names; next = p.1.next; asked = said _ p.1.asked; reads = p.1.reads })
+stops_with (ArenaFull n) told reading before now said p = absurd p
 
 -- a read fault at the file that is asked for
-pub stops_at_file : (told : Option Files) (file name : List ℕ) (next : Text → Reading) (before now : ℕ)
-    → name ≡ file → Lacks told file ⊎ Rose before now
-    → StopsReading (ReadFault name) told (Reads file next) before now
-stops_at_file told file name next before now same cause = (
-  (next, inl (ap (λ (n : List ℕ). Reads n next) same)),
+pub stops_at_file : (asks : List Request → Type 0) (told : Option Files) (file name : List ℕ) (next : Text → Reading)
+    (before now : ℕ) → asks (ToRead file ∷ []) → name ≡ file → Lacks told file ⊎ Rose before now
+    → StopsReading asks (ReadFault name) told (Reads file next) before now
+stops_at_file asks told file name next before now asked same cause = (
+  last_here asks told file name next same asked,
   subst (λ (n : List ℕ). Lacks told n ⊎ Rose before now) (sym same) cause,
 )
 
 -- a step that follows a point follows all that led there
-pub leads_on : {A : Type 0} (told now : Option Files) (reading mid : Reading) (next : A → Reading)
-    (result : Result A Stop) (first before last : ℕ) → now ≡ told → first ≤ before → ReadsTo told reading mid
-    → LeadsTo now mid next result before last → LeadsTo told reading next result first last
-leads_on told now reading mid next (Ok x) first before last same later a b =
-    reads_on told reading mid (next x) a (subst (λ t. ReadsTo t mid (next x)) same b)
-leads_on told now reading mid next (Err stop) first before last same later a b =
-    stops_on stop told reading mid first before last a later (subst (λ t. StopsReading stop t mid before last) same b)
+pub leads_on : {A : Type 0} {a b c : List Request → Type 0} (told now : Option Files) (reading mid : Reading)
+    (next : A → Reading) (result : Result A Stop) (first before last : ℕ) → Joins a b c → now ≡ told → first ≤ before
+    → ComesTo a told reading mid → LeadsTo b now mid next result before last
+    → LeadsTo c told reading next result first last
+leads_on {b = b} told now reading mid next (Ok x) first before last join same later p q =
+    comes_on told reading mid (next x) join p (subst (λ t. ComesTo b t mid (next x)) same q)
+leads_on {b = b} told now reading mid next (Err stop) first before last join same later p q =
+    stops_on stop told reading mid first before last join p later
+    (subst (λ t. StopsReading b stop t mid before last) same q)
 
 -- the stop at a refusal to which the readings lead
-pub stops_for : (told : Option Files) (reading : Reading) (refusal : Refusal) (stop : Stop) (before now : ℕ)
-    → ReadsTo told reading (Refuses refusal) → StopsFor refusal stop → StopsReading stop told reading before now
-stops_for told reading refusal (Refused found) before now a is =
-    subst (λ r. ReadsTo told reading (Refuses r)) (sym is) a
-stops_for told reading refusal (ReadFault file) before now a is = absurd is
-stops_for told reading refusal (WriteFault file) before now a is = absurd is
-stops_for told reading refusal OutputFault before now a is = absurd is
-stops_for told reading refusal OutOfMemory before now a is = tt
-stops_for told reading refusal (ArenaFull n) before now a is = absurd is
+pub stops_for : (asks : List Request → Type 0) (told : Option Files) (reading : Reading) (refusal : Refusal)
+    (stop : Stop) (before now : ℕ) → ComesTo asks told reading (Refuses refusal) → StopsFor refusal stop
+    → StopsReading asks stop told reading before now
+stops_for asks told reading refusal (Refused found) before now a is =
+    subst (λ r. ComesTo asks told reading (Refuses r)) (sym is) a
+stops_for asks told reading refusal (ReadFault file) before now a is = absurd is
+stops_for asks told reading refusal (WriteFault file) before now a is = absurd is
+stops_for asks told reading refusal OutputFault before now a is = absurd is
+stops_for asks told reading refusal OutOfMemory before now a is = inl (Refuses refusal, a)
+stops_for asks told reading refusal (ArenaFull n) before now a is = absurd is
 
 -- what a text gives leads on, and its fault is where the readings stop
-pub text_leads : {X Y E : Type 0} (told : Option Files) (reading : Reading) (after : Result Y E → Reading)
-    (view : X → Y) (refuse : E → Refusal) (parsed : Result Y E) (result : Result X Stop) (before now : ℕ)
+pub text_leads : {X Y E : Type 0} (asks : List Request → Type 0) (told : Option Files) (reading : Reading)
+    (after : Result Y E → Reading) (view : X → Y) (refuse : E → Refusal) (parsed : Result Y E)
+    (result : Result X Stop) (before now : ℕ)
     → ((fault : E) → after (Err fault) ≡ Refuses (refuse fault))
-    → ReadsTo told reading (after parsed) → GivesText view refuse parsed result
-    → LeadsTo told reading (λ x. after (Ok (view x))) result before now
-text_leads told reading after view refuse parsed (Ok x) before now refused a is =
-    subst (λ r. ReadsTo told reading (after r)) is a
-text_leads told reading after view refuse parsed (Err (Refused refusal)) before now refused a (fault, is, named) =
-    subst (λ r. ReadsTo told reading (Refuses r)) (sym named)
-    (subst (λ r. ReadsTo told reading r) (refused fault) (subst (λ r. ReadsTo told reading (after r)) is a))
-text_leads told reading after view refuse parsed (Err (ReadFault file)) before now refused a is = absurd is
-text_leads told reading after view refuse parsed (Err (WriteFault file)) before now refused a is = absurd is
-text_leads told reading after view refuse parsed (Err OutputFault) before now refused a is = absurd is
-text_leads told reading after view refuse parsed (Err OutOfMemory) before now refused a is = tt
-text_leads told reading after view refuse parsed (Err (ArenaFull n)) before now refused a is = absurd is
+    → ComesTo asks told reading (after parsed) → GivesText view refuse parsed result
+    → LeadsTo asks told reading (λ x. after (Ok (view x))) result before now
+text_leads asks told reading after view refuse parsed (Ok x) before now refused a is =
+    subst (λ r. ComesTo asks told reading (after r)) is a
+text_leads asks told reading after view refuse parsed (Err (Refused refusal)) before now refused a (fault, is, named) =
+    subst (λ r. ComesTo asks told reading (Refuses r)) (sym named)
+    (subst (λ r. ComesTo asks told reading r) (refused fault) (subst (λ r. ComesTo asks told reading (after r)) is a))
+text_leads asks told reading after view refuse parsed (Err (ReadFault file)) before now refused a is = absurd is
+text_leads asks told reading after view refuse parsed (Err (WriteFault file)) before now refused a is = absurd is
+text_leads asks told reading after view refuse parsed (Err OutputFault) before now refused a is = absurd is
+text_leads asks told reading after view refuse parsed (Err OutOfMemory) before now refused a is = inl (after parsed, a)
+text_leads asks told reading after view refuse parsed (Err (ArenaFull n)) before now refused a is = absurd is
 
 -- ---- the text of a file, as the code has it
 
 -- the bytes that were read
-pub text_given : (told : Option Files) (file : List ℕ) (next : Text → Reading) (field : Option (List ℕ))
-    (bytes slice : List ℕ) → field ≡ Some bytes → slice ≡ bytes
-    → ReadsTo told (Reads file next) (next (text_read field)) → ReadsTo told (Reads file next) (next (Whole slice))
-text_given told file next field bytes slice is same a =
-    subst (λ (b : List ℕ). ReadsTo told (Reads file next) (next (Whole b))) (sym same)
-    (subst (λ f. ReadsTo told (Reads file next) (next (text_read f))) is a)
+pub text_given : (asks : List Request → Type 0) (told : Option Files) (file : List ℕ) (next : Text → Reading)
+    (field : Option (List ℕ)) (bytes slice : List ℕ) → field ≡ Some bytes → slice ≡ bytes
+    → ComesTo asks told (Reads file next) (next (text_read field))
+    → ComesTo asks told (Reads file next) (next (Whole slice))
+text_given asks told file next field bytes slice is same a =
+    subst (λ (b : List ℕ). ComesTo asks told (Reads file next) (next (Whole b))) (sym same)
+    (subst (λ f. ComesTo asks told (Reads file next) (next (text_read f))) is a)
 
 -- none, where the file is too long
-pub text_lacking : (told : Option Files) (file : List ℕ) (next : Text → Reading) (field : Option (List ℕ))
-    → field ≡ None → ReadsTo told (Reads file next) (next (text_read field))
-    → ReadsTo told (Reads file next) (next TooLong)
-text_lacking told file next field is a = subst (λ f. ReadsTo told (Reads file next) (next (text_read f))) is a
+pub text_lacking : (asks : List Request → Type 0) (told : Option Files) (file : List ℕ) (next : Text → Reading)
+    (field : Option (List ℕ)) → field ≡ None → ComesTo asks told (Reads file next) (next (text_read field))
+    → ComesTo asks told (Reads file next) (next TooLong)
+text_lacking asks told file next field is a =
+    subst (λ f. ComesTo asks told (Reads file next) (next (text_read f))) is a
 
 -- ---- the words for the input and for the tree
 
 -- the input is that of its word
-pub input_leads : (told : Option Files) (job : Job) (input : InputWord) (kind : Kind) (name file : List ℕ)
+pub input_leads : (asks : List Request → Type 0) (told : Option Files) (job : Job) (input : InputWord) (kind : Kind) (name file : List ℕ)
     (result : Result Groups Stop) (before now : ℕ)
     → input_file input ≡ Some (record { kind = kind; file = file }) → name ≡ file
-    → LeadsTo told (Reads name (with_input job (record { kind = kind; file = name })))
+    → LeadsTo asks told (Reads name (with_input job (record { kind = kind; file = name })))
     (λ formula. with_tree_word job formula job.tree) result before now
-    → LeadsTo told (with_input_word job (input_file input)) (λ formula. with_tree_word job formula job.tree)
+    → LeadsTo asks told (with_input_word job (input_file input)) (λ formula. with_tree_word job formula job.tree)
     result before now
-input_leads told job input kind name file result before now is same leads =
-    subst (λ i. LeadsTo told (with_input_word job i) (λ formula. with_tree_word job formula job.tree)
+input_leads asks told job input kind name file result before now is same leads =
+    subst (λ i. LeadsTo asks told (with_input_word job i) (λ formula. with_tree_word job formula job.tree)
     result before now) (sym is)
-    (subst (λ (n : List ℕ). LeadsTo told (Reads n (with_input job (record { kind = kind; file = n })))
+    (subst (λ (n : List ℕ). LeadsTo asks told (Reads n (with_input job (record { kind = kind; file = n })))
     (λ formula. with_tree_word job formula job.tree) result before now) same leads)
 
+-- the tree is a start tree that was made
+pub start_leads : (asks : List Request → Type 0) (told : Option Files) (reading : Reading) (job : Job)
+    (formula : Groups) (tree : Tree) (start : Result Numbered AllocError) (result : Result Numbered Stop)
+    (before now : ℕ) → asks [] → reading ≡ with_tree job formula tree → IfOk start (λ t. plain_tree t ≡ tree)
+    → MatchResult start (λ t. result ≡ Ok t) (λ _. result ≡ Err OutOfMemory)
+    → LeadsTo asks told reading (λ vtree. with_tree job formula (plain_tree vtree)) result before now
+start_leads asks told reading job formula tree (Ok t) result before now none is made kept =
+    subst (λ r. LeadsTo asks told reading (λ vtree. with_tree job formula (plain_tree vtree)) r before now) (sym kept)
+    (comes_same asks told reading (with_tree job formula (plain_tree t)) none
+    (is ∙ ap (with_tree job formula) (sym made)))
+start_leads asks told reading job formula tree (Err e) result before now none is made kept =
+    subst (λ r. LeadsTo asks told reading (λ vtree. with_tree job formula (plain_tree vtree)) r before now) (sym kept)
+    (breaks_here asks told reading none)
+
 -- the tree is that of a file
-pub vtree_file_leads : (told : Option Files) (job : Job) (formula : Groups) (word : TreeWord) (name file : List ℕ)
+pub vtree_file_leads : (asks : List Request → Type 0) (told : Option Files) (job : Job) (formula : Groups) (word : TreeWord) (name file : List ℕ)
     (result : Result Numbered Stop) (before now : ℕ) → word ≡ trees.File file → name ≡ file
-    → LeadsTo told (Reads name (with_vtree_text job formula name)) (λ vtree. with_tree job formula (plain_tree vtree))
+    → LeadsTo asks told (Reads name (with_vtree_text job formula name)) (λ vtree. with_tree job formula (plain_tree vtree))
     result before now
-    → LeadsTo told (with_tree_word job formula word) (λ vtree. with_tree job formula (plain_tree vtree)) result before
+    → LeadsTo asks told (with_tree_word job formula word) (λ vtree. with_tree job formula (plain_tree vtree)) result before
     now
-vtree_file_leads told job formula word name file result before now is same leads =
-    subst (λ w. LeadsTo told (with_tree_word job formula w) (λ vtree. with_tree job formula (plain_tree vtree))
+vtree_file_leads asks told job formula word name file result before now is same leads =
+    subst (λ w. LeadsTo asks told (with_tree_word job formula w) (λ vtree. with_tree job formula (plain_tree vtree))
     result before now) (sym is)
-    (subst (λ (n : List ℕ). LeadsTo told (Reads n (with_vtree_text job formula n))
+    (subst (λ (n : List ℕ). LeadsTo asks told (Reads n (with_vtree_text job formula n))
     (λ vtree. with_tree job formula (plain_tree vtree)) result before now) same leads)
 
 -- the commands are those of a script
-pub script_leads : (told : Option Files) (job : Job) (v : ℕ) (begin : List RunCommand → Reading)
+pub script_leads : (asks : List Request → Type 0) (told : Option Files) (job : Job) (v : ℕ) (begin : List RunCommand → Reading)
     (word : Option (List ℕ)) (name file : List ℕ) (result : Result Script Stop) (before now : ℕ)
     → word ≡ Some file → name ≡ file
-    → LeadsTo told (Reads name (with_script_text name v begin)) (script_reading v begin) result before now
-    → LeadsTo told (with_commands job v begin word) (script_reading v begin) result before now
-script_leads told job v begin word name file result before now is same leads =
-    subst (λ w. LeadsTo told (with_commands job v begin w) (script_reading v begin) result before now) (sym is)
-    (subst (λ (n : List ℕ). LeadsTo told (Reads n (with_script_text n v begin)) (script_reading v begin)
+    → LeadsTo asks told (Reads name (with_script_text name v begin)) (script_reading v begin) result before now
+    → LeadsTo asks told (with_commands job v begin word) (script_reading v begin) result before now
+script_leads asks told job v begin word name file result before now is same leads =
+    subst (λ w. LeadsTo asks told (with_commands job v begin w) (script_reading v begin) result before now) (sym is)
+    (subst (λ (n : List ℕ). LeadsTo asks told (Reads n (with_script_text n v begin)) (script_reading v begin)
     result before now) same leads)

@@ -6,6 +6,7 @@ use Rattle.std.specs.Prelude.{slice_get, slice_index_or}
 use Rattle.std.specs.List.{list_all}
 use Rattle.std.proofs.lemmas.List.{take_more}
 use Rattle.std.proofs.Math.Seq.{drop-cons}
+use Rattle.sd_base.specs.Asked.{Request}
 use Rattle.sd_base.specs.Files.{Files}
 use Rattle.sd_script.specs.Commands as lines
 use Rattle.sd_script.specs.Read.{IsScript, IsAllowed}
@@ -19,11 +20,13 @@ use Rattle.sd_commands.specs.declared.command.RunCommand.{RunCommand}
 use Rattle.sd_commands.specs.declared.command.RunCommand.TheVariants as commands
 use Rattle.sd_tool.specs.Actions.{plain_of, IsCommandOf, AreCommandsOf}
 use Rattle.sd_file.specs.Reads.{File}
-use Rattle.sd_tool.specs.Readings.{Reading, Reads, ReadsTo, with_action, with_lines, with_sdd, file_name, default_of}
+use Rattle.sd_tool.specs.Readings.{Reading, Reads, with_action, with_lines, with_sdd, file_name, default_of}
 use Rattle.sd_tool.specs.Readings.{for_file}
+use Rattle.sd_tool.specs.Asks.{ComesTo}
 use Rattle.sd_tool.specs.Stops.{LeadsTo}
 use Rattle.sd_tool.specs.declared.stop.Stop.{Stop}
-use Rattle.sd_tool.proofs.ReadingLemmas.{reads_same, leads_on}
+use Rattle.sd_tool.proofs.AskLemmas.{Joins, comes_same}
+use Rattle.sd_tool.proofs.ReadingLemmas.{leads_on}
 
 -- ---- one action
 
@@ -183,50 +186,52 @@ stated_few job = go job.out_vtree job.out_sdd
 -- ---- the commands with a file
 
 -- a load leads on where its file does
-pub load_leads : (told : Option Files) (v : ℕ) (script : Script) (action : Action) (n file : ℕ) (name : List ℕ)
+pub load_leads : (asks : List Request → Type 0) (told : Option Files) (v : ℕ) (script : Script) (action : Action) (n file : ℕ) (name : List ℕ)
     (result : Result File Stop) (before now : ℕ) → action ≡ actions.Load n file
     → slice_get script.files file ≡ Some name
-    → ((next : File → Reading) → LeadsTo told (Reads name (with_sdd v name next)) next result before now)
+    → ((next : File → Reading) → LeadsTo asks told (Reads name (with_sdd v name next)) next result before now)
     → (next : RunCommand → Reading)
-    → LeadsTo told (with_action v script next action) (λ read. next (commands.Load n read)) result before now
-load_leads told v script action n file name result before now is there leads next =
-    subst (λ a. LeadsTo told (with_action v script next a) (λ read. next (commands.Load n read)) result before now)
+    → LeadsTo asks told (with_action v script next action) (λ read. next (commands.Load n read)) result before now
+load_leads asks told v script action n file name result before now is there leads next =
+    subst (λ a. LeadsTo asks told (with_action v script next a) (λ read. next (commands.Load n read)) result before now)
     (sym is)
-    (subst (λ (f : List ℕ). LeadsTo told (Reads f (with_sdd v f (λ read. next (commands.Load n read))))
+    (subst (λ (f : List ℕ). LeadsTo asks told (Reads f (with_sdd v f (λ read. next (commands.Load n read))))
     (λ read. next (commands.Load n read)) result before now) (sym (file_named script file name there))
     (leads (λ read. next (commands.Load n read))))
 
 -- a command that writes a diagram
-pub write_leads : (told : Option Files) (v : ℕ) (script : Script) (action : Action) (n file : ℕ)
-    (name copy : List ℕ) → action ≡ actions.Write n file → slice_get script.files file ≡ Some name → copy ≡ name
-    → (next : RunCommand → Reading) → ReadsTo told (with_action v script next action) (next (commands.Write n copy))
-write_leads told v script action n file name copy is there same next =
-    reads_same told _ _ (ap (with_action v script next) is
+pub write_leads : (asks : List Request → Type 0) (told : Option Files) (v : ℕ) (script : Script) (action : Action) (n file : ℕ)
+    (name copy : List ℕ) → action ≡ actions.Write n file → slice_get script.files file ≡ Some name → copy ≡ name → asks []
+    → (next : RunCommand → Reading) → ComesTo asks told (with_action v script next action) (next (commands.Write n copy))
+write_leads asks told v script action n file name copy is there same none next =
+    comes_same asks told _ _ none (ap (with_action v script next) is
     ∙ ap (λ (f : List ℕ). next (commands.Write n f)) (file_named script file name there ∙ sym same))
 
 -- a command that writes the vtree
-pub vtree_leads : (told : Option Files) (v : ℕ) (script : Script) (action : Action) (file : ℕ)
-    (name copy : List ℕ) → action ≡ actions.Vtree file → slice_get script.files file ≡ Some name → copy ≡ name
-    → (next : RunCommand → Reading) → ReadsTo told (with_action v script next action) (next (commands.WriteVtree copy))
-vtree_leads told v script action file name copy is there same next =
-    reads_same told _ _ (ap (with_action v script next) is
+pub vtree_leads : (asks : List Request → Type 0) (told : Option Files) (v : ℕ) (script : Script) (action : Action) (file : ℕ)
+    (name copy : List ℕ) → action ≡ actions.Vtree file → slice_get script.files file ≡ Some name → copy ≡ name → asks []
+    → (next : RunCommand → Reading) → ComesTo asks told (with_action v script next action) (next (commands.WriteVtree copy))
+vtree_leads asks told v script action file name copy is there same none next =
+    comes_same asks told _ _ none (ap (with_action v script next) is
     ∙ ap (λ (f : List ℕ). next (commands.WriteVtree f)) (file_named script file name there ∙ sym same))
 
 -- ---- the loop, as it leads on
 
 -- the next line leads on where its command does
-pub line_leads : (told now : Option Files) (v : ℕ) (script : Script) (index : ℕ) (line : Line) (done : List RunCommand)
-    (begin : List RunCommand → Reading) (result : Result RunCommand Stop) (first before last : ℕ)
-    → IsNext script.commands index line → now ≡ told → first ≤ before
-    → ReadsTo told (with_lines v script begin [] script.commands)
+pub line_leads : {a b c : List Request → Type 0} (told now : Option Files) (v : ℕ) (script : Script) (index : ℕ)
+    (line : Line) (done : List RunCommand) (begin : List RunCommand → Reading) (result : Result RunCommand Stop)
+    (first before last : ℕ)
+    → Joins a b c → IsNext script.commands index line → now ≡ told → first ≤ before
+    → ComesTo a told (with_lines v script begin [] script.commands)
     (with_lines v script begin done (drop index script.commands))
-    → ((next : RunCommand → Reading) → LeadsTo now (with_action v script next line.action) next result before last)
-    → LeadsTo told (with_lines v script begin [] script.commands)
+    → ((next : RunCommand → Reading) → LeadsTo b now (with_action v script next line.action) next result before last)
+    → LeadsTo c told (with_lines v script begin [] script.commands)
     (λ c. with_lines v script begin (done ++ c ∷ []) (drop (index + 1) script.commands)) result first last
-line_leads told now v script index line done begin result first before last at same later a leads =
+line_leads {a = a} told now v script index line done begin result first before last join at same later p leads =
     let reading = with_lines v script begin [] script.commands in
     let rest = drop (index + 1) script.commands in
     let next : RunCommand → Reading = λ c. with_lines v script begin (done ++ c ∷ []) rest in
-    leads_on told now reading (with_lines v script begin done (line ∷ rest)) next result first before last same later
-    (subst (λ (ls : List Line). ReadsTo told reading (with_lines v script begin done ls))
-    (left_at script.commands index line at) a) (leads next)
+    leads_on told now reading (with_lines v script begin done (line ∷ rest)) next result first before last join same
+    later
+    (subst (λ (ls : List Line). ComesTo a told reading (with_lines v script begin done ls))
+    (left_at script.commands index line at) p) (leads next)

@@ -3,6 +3,7 @@ use Rattle.std.proofs.Common.{◌≡◌, ℕ, ◌+◌, ◌<◌, ◌≤◌, Optio
 use Rattle.std.proofs.Common.{get_or, refl, sym, ap, subst, ◌∙◌, append_assoc, take-append-drop, arith, add-one}
 use Rattle.std.proofs.lemmas.List.{append-nil, take_all, take_more}
 use Rattle.std.proofs.Math.Seq.{drop-cons}
+use Rattle.sd_base.specs.Asked.{Request, ToWrite}
 use Rattle.sd_base.specs.Faults.{Rose}
 use Rattle.sd_base.specs.Files.{Files}
 use Rattle.sd_model.specs.Expression.{Expression}
@@ -19,16 +20,25 @@ use Rattle.sd_tool.specs.Effects.{Contents, after_effect, after, DoesPart}
 use Rattle.sd_tool.specs.Readings.{Plan}
 use Rattle.sd_tool.specs.Ends.{Finished, Unwritable, OutOfMemory as NoMemory, ArenaFull as NoRoom}
 use Rattle.sd_tool.specs.Devices.{Faults, NotFewer, HasDeviceCause}
+use Rattle.sd_tool.specs.Asks.{writings}
 use Rattle.sd_tool.specs.Course.{IsAtCommand}
 use Rattle.sd_tool.specs.Stops.{FailsAt, RunsToEnd}
 use Rattle.sd_tool.specs.declared.stop.Stop.{Stop}
 use Rattle.sd_tool.specs.declared.stop.Stop.TheVariants.{OutOfMemory, ArenaFull}
+use Rattle.sd_tool.proofs.AskLemmas.{Joins}
 
 -- the contents after two lists of effects
 pub after_append : (first others : List Effect) (old : Contents)
     → after (first ++ others) old ≡ after others (after first old)
 after_append [] others old = refl
 after_append (effect ∷ first) others old = after_append first others (after_effect effect old)
+
+-- the writings of two lists of effects
+writings_append : (first others : List Effect) → writings (first ++ others) ≡ writings first ++ writings others
+writings_append [] others = refl
+writings_append (Write file bytes ∷ first) others =
+    ap (λ (l : List Request). ToWrite file ∷ l) (writings_append first others)
+writings_append (Print line ∷ first) others = writings_append first others
 
 -- one command more
 Steps_push : (input : Expression) (start mid new : State) (done : List RunCommand) (effects here : List Effect)
@@ -53,13 +63,14 @@ Steps_push input start mid new (command ∷ done) effects here next steps step =
 
 -- What the loop over the commands knows: those before the index are done, the code represents the state after them, and
 -- the others can be done.
-pub record SoFar (plan : Plan) (v index : ℕ) (code : RunState) (old now : Contents) : Type 0 where
+pub record SoFar (asks : List Request → Type 0) (plan : Plan) (v index : ℕ) (code : RunState) (old now : Contents) : Type 0 where
   pub effects : List Effect
   pub state : State
   pub steps : Steps plan.input plan.start (take index plan.commands) effects state
   pub represents : Represents code state
   pub fit : AllFit v (names_of state) (drop index plan.commands)
   pub is : now ≡ after effects old
+  pub asked : asks (writings effects)
 
 -- the loop is at this command
 pub record IsNext (commands : List RunCommand) (index : ℕ) (command : RunCommand) : Type 0 where
@@ -75,8 +86,8 @@ left_at commands index command next =
     ∙ ap (λ c. c ∷ drop (index + 1) commands) (sym next.is)
 
 -- so it can be done, and those after it
-pub fits_next : (plan : Plan) (v index : ℕ) (code : RunState) (old now : Contents) (command : RunCommand)
-    → IsNext plan.commands index command → (so_far : SoFar plan v index code old now)
+pub fits_next : {asks : List Request → Type 0} (plan : Plan) (v index : ℕ) (code : RunState) (old now : Contents) (command : RunCommand)
+    → IsNext plan.commands index command → (so_far : SoFar asks plan v index code old now)
     → AllFit v (names_of so_far.state) (command ∷ drop (index + 1) plan.commands)
 fits_next plan v index code old now command next so_far =
     subst (AllFit v (names_of so_far.state)) (left_at plan.commands index command next) so_far.fit
@@ -96,11 +107,12 @@ reaches_next plan state index effects command next steps = record {
 }
 
 -- the command at the index is done
-pub so_far_more : (plan : Plan) (v index : ℕ) (code code' : RunState) (old now new : Contents) (command : RunCommand)
-    (asked : Option CodeEffect) → IsNext plan.commands index command → (so_far : SoFar plan v index code old now)
+pub so_far_more : {a b c : List Request → Type 0} (plan : Plan) (v index : ℕ) (code code' : RunState) (old now new : Contents) (command : RunCommand)
+    (asked : Option CodeEffect) → Joins a b c → IsNext plan.commands index command
+    → (so_far : SoFar a plan v index code old now)
     → StepsTo plan.input so_far.state command code' asked → new ≡ after (effects_of asked) now
-    → SoFar plan v (index + 1) code' old new
-so_far_more plan v index code code' old now new command asked next so_far done effect = record {
+    → b (writings (effects_of asked)) → SoFar c plan v (index + 1) code' old new
+so_far_more {c = c} plan v index code code' old now new command asked join next so_far done effect asks = record {
   effects = so_far.effects ++ effects_of asked;
   state = done.next;
   steps = subst (λ (l : List RunCommand). Steps plan.input plan.start l (so_far.effects ++ effects_of asked) done.next)
@@ -112,6 +124,7 @@ so_far_more plan v index code code' old now new command asked next so_far done e
       (sym (names_after plan.input so_far.state done.next command (effects_of asked) done.step))
       (fits_next plan v index code old now command next so_far).1;
   is = effect ∙ ap (after (effects_of asked)) so_far.is ∙ sym (after_append so_far.effects (effects_of asked) old);
+  asked = subst c (sym (writings_append so_far.effects (effects_of asked))) (join.meets _ _ so_far.asked asks);
 }
 
 -- counts that do not fall twice do not fall
@@ -135,25 +148,26 @@ cause_since (Print line) files others first mid last fewer rose =
     rose_since first.print mid.print last.print fewer.print rose
 
 -- there was no memory for a command
-pub goes_to_out_of_memory : (plan : Plan) (v index : ℕ) (code : RunState) (t : Table) (old now : Contents)
+pub goes_to_out_of_memory : {asks : List Request → Type 0} (plan : Plan) (v index : ℕ) (code : RunState) (t : Table) (old now : Contents)
     (before after_ : Faults) (command : RunCommand) → IsNext plan.commands index command
-    → SoFar plan v index code old now → RunsToEnd plan t (Err OutOfMemory) old now before after_
+    → SoFar asks plan v index code old now → RunsToEnd asks plan t (Err OutOfMemory) old now before after_
 goes_to_out_of_memory plan v index code t old now before after_ command next so_far =
     let at = reaches_next plan so_far.state index so_far.effects command next so_far.steps in record {
       end = NoMemory;
       at = record { status = refl; text = refl; stopped = λ e. cc };
       effects = so_far.effects;
       ends = (so_far.state, command ∷ at.left, at.reaches);
+      asked = so_far.asked;
       full_at = tt;
       leaves = so_far.is;
       cause = tt;
     }
 
 -- the arena was full, and the command may need it
-pub goes_to_full : (plan : Plan) (v index : ℕ) (code : RunState) (t : Table) (old now : Contents)
+pub goes_to_full : {asks : List Request → Type 0} (plan : Plan) (v index : ℕ) (code : RunState) (t : Table) (old now : Contents)
     (before after_ : Faults) (command : RunCommand) (n : ℕ) → IsNext plan.commands index command
-    → SoFar plan v index code old now → MayFill command → IsFilled n t
-    → RunsToEnd plan t (Err (ArenaFull n)) old now before after_
+    → SoFar asks plan v index code old now → MayFill command → IsFilled n t
+    → RunsToEnd asks plan t (Err (ArenaFull n)) old now before after_
 goes_to_full plan v index code t old now before after_ command n next so_far needs filled = record {
   end = NoRoom n;
   at = record { status = refl; text = refl; stopped = λ e. cc };
@@ -164,19 +178,21 @@ goes_to_full plan v index code t old now before after_ command n next so_far nee
     reaches_next plan so_far.state index so_far.effects command next so_far.steps,
     needs,
   );
+  asked = so_far.asked;
   full_at = filled;
   leaves = so_far.is;
   cause = tt;
 }
 
 -- the effect of a command fails
-pub goes_to_fault : (plan : Plan) (v index : ℕ) (code code' : RunState) (t : Table) (old now new : Contents)
+pub goes_to_fault : {a b c : List Request → Type 0} (plan : Plan) (v index : ℕ) (code code' : RunState) (t : Table) (old now new : Contents)
     (first before after_ : Faults) (command : RunCommand) (stop : Stop) (asked : Option CodeEffect)
-    → IsNext plan.commands index command → (so_far : SoFar plan v index code old now) → NotFewer first before
-    → StepsTo plan.input so_far.state command code' asked → FailsAt stop (effects_of asked) now new before after_
-    → RunsToEnd plan t (Err stop) old new first after_
-goes_to_fault plan v index code code' t old now new first before after_ command stop asked next so_far fewer done
-    fails =
+    → Joins a b c → IsNext plan.commands index command → (so_far : SoFar a plan v index code old now)
+    → NotFewer first before → StepsTo plan.input so_far.state command code' asked
+    → FailsAt stop (effects_of asked) now new before after_ → b (writings (effects_of asked))
+    → RunsToEnd c plan t (Err stop) old new first after_
+goes_to_fault {c = c} plan v index code code' t old now new first before after_ command stop asked join next so_far
+    fewer done fails asks =
     record {
       end = Unwritable fails.effect;
       at = fails.at;
@@ -190,15 +206,19 @@ goes_to_fault plan v index code code' t old now new first before after_ command 
           subst (λ (l : List Effect). Step plan.input so_far.state command (Done done.next l)) fails.one done.step,
         ),
       );
+      asked = subst c
+          (sym (writings_append so_far.effects (effects_of asked))
+          ∙ ap (λ (l : List Effect). writings (so_far.effects ++ l)) fails.one)
+          (join.meets _ _ so_far.asked asks);
       full_at = tt;
       leaves = subst (λ (o : Contents). DoesPart fails.effect o new) so_far.is fails.part;
       cause = cause_since fails.effect now.files old.files first before after_ fewer fails.cause;
     }
 
 -- all commands are done
-pub goes_to_end : (plan : Plan) (v index : ℕ) (code : RunState) (t : Table) (old now : Contents)
-    (before after_ : Faults) → length plan.commands ≤ index → SoFar plan v index code old now
-    → RunsToEnd plan t (Ok tt) old now before after_
+pub goes_to_end : {asks : List Request → Type 0} (plan : Plan) (v index : ℕ) (code : RunState) (t : Table) (old now : Contents)
+    (before after_ : Faults) → length plan.commands ≤ index → SoFar asks plan v index code old now
+    → RunsToEnd asks plan t (Ok tt) old now before after_
 goes_to_end plan v index code t old now before after_ all so_far = record {
   end = Finished;
   at = refl;
@@ -211,6 +231,7 @@ goes_to_end plan v index code t old now before after_ all so_far = record {
       steps = so_far.steps;
     },
   );
+  asked = so_far.asked;
   full_at = tt;
   leaves = so_far.is;
   cause = tt;

@@ -3,6 +3,7 @@
 use Rattle.std.proofs.Common.{◌≡◌, ◌↔◌, ℕ, Bool, true, false, List, [], ◌∷◌, ◌++◌, Option, Some, None, Result, Ok, Err}
 use Rattle.std.proofs.Common.{inl, inr, refl, sym, ap, subst, ◌∙◌, if◌then◌else◌}
 use Rattle.std.specs.List.{AllZip}
+use Rattle.sd_base.specs.Asked.{Request}
 use Rattle.sd_base.specs.Files.{Files, told_with}
 use Rattle.sd_base.specs.Sink.{told_then}
 use Rattle.sd_model.specs.Expression.{Expression, AreOneFunction}
@@ -338,8 +339,8 @@ plan_writes words files job plan last effects old new told from valid steps is =
     after_input.steps) is
 
 -- at status 0 the formula of the input was written
-pub written_at : (words : List (List ℕ)) (status : ℕ) (kept : Option Table) (old new : Moment)
-    → IsCourse words status kept old new → HasWritten words status old new
+pub written_at : {asks : List Request → Type 0} (words : List (List ℕ)) (status : ℕ) (kept : Option Table) (old new : Moment)
+    → IsCourse asks words status kept old new → HasWritten words status old new
 written_at words status kept old new went = λ files job zero_ told named alone.
     let all = (effects_at words status kept old new went).all zero_ in
     go files job told named alone all.0 (subst (λ f. MayEnd words f all.0 Finished) told all.1) all.2

@@ -1,5 +1,6 @@
 -- What the top call promises of a run with these words that answers this status, between two moments.
 use Rattle.std.specs.Prelude.{◌≡◌, ◌⊎◌, ℕ, List, Option, Some, None}
+use Rattle.sd_base.specs.Asked.{Request}
 use Rattle.sd_base.specs.Files.{Files}
 use Rattle.sd_model.specs.Tree.{Tree}
 use Rattle.sd_manager.specs.Table.{Table}
@@ -14,16 +15,18 @@ use Rattle.sd_tool.specs.declared.refusal.Refusal.{Refusal}
 use Rattle.sd_tool.specs.Ends.{End, Finished, Refused, Unreadable, Unwritable, OutOfMemory, ArenaFull}
 use Rattle.sd_tool.specs.Ends.{status_of}
 use Rattle.sd_tool.specs.Devices.{Moment, NoneRose, HasDeviceCause, WritesEndLine}
+use Rattle.sd_tool.specs.Asks.{GoesTo}
 use Rattle.sd_tool.specs.Course.{MayEnd, Leaves}
 use Rattle.sd_tool.specs.KeptManager.{KeepsManager}
 use Rattle.sd_tool.specs.Written.{IsInput, IsStartTree}
 
--- How the run went: what it did and how it ended, where the words and the files lead; the status, the files and
--- what was printed, the cause, what is kept and the line are those of this one course.
-pub record IsCourse (words : List (List ℕ)) (status : ℕ) (kept : Option Table) (old new : Moment) : Type 0 where
+-- How the run went: what it did and how it ended, where the words and the files lead; what was asked of the shelf, the
+-- status, the files and what was printed, the cause, what is kept and the line are those of this one course.
+pub record IsCourse (asks : List Request → Type 0) (words : List (List ℕ)) (status : ℕ) (kept : Option Table)
+    (old new : Moment) : Type 0 where
   pub effects : List Effect
   pub end : End
-  pub may_end : MayEnd words old.contents.files effects end
+  pub goes : GoesTo asks words old.contents.files effects end
   pub status_is : status ≡ status_of end
   pub leaves : Leaves effects end old.contents new.contents
   pub cause : HasDeviceCause end old.contents.files old.faults new.faults

@@ -1,4 +1,5 @@
 pub mod Actions
+pub mod Asks
 pub mod Course
 pub mod Devices
 pub mod Effects

@@ -1,18 +1,20 @@
 -- What the stops and the effects of the code say, for the contracts of its private functions.
 use Rattle.std.specs.Prelude.{Bool, true, false, ◌≡◌, ◌≢◌, ◌⊎◌, ℕ, ◌≤◌, List, [], ◌∷◌, length, Option, Some, None}
 use Rattle.std.specs.Prelude.{Result, Ok, Err}
+use Rattle.sd_base.specs.Asked.{Request}
 use Rattle.sd_base.specs.Faults.{Rose}
 use Rattle.sd_base.specs.Files.{Files, Lacks}
 use Rattle.sd_manager.specs.Table.{Table}
 use Rattle.sd_commands.specs.Effects.{Effect, Write, Print}
 use Rattle.sd_commands.specs.Standing.{IsFilled}
 use Rattle.sd_tool.specs.Effects.{Contents, DoesPart}
-use Rattle.sd_tool.specs.Readings.{Plan, Reading, Refuses, Reads, ReadsTo, Text, Whole, TooLong}
+use Rattle.sd_tool.specs.Readings.{Plan, Reading, Refuses, Text, Whole, TooLong}
 use Rattle.sd_tool.specs.Ends.{End, Finished, Refused, Unreadable, Unwritable, OutOfMemory as NoMemory}
 use Rattle.sd_tool.specs.Ends.{ArenaFull as NoRoom, status_of, text_of}
 use Rattle.sd_tool.specs.KeptManager.{KeepsManager}
 use Rattle.sd_tool.specs.Devices.{HasDeviceCause, Faults}
-use Rattle.sd_tool.specs.Course.{EndsAmong, MayEnd, Leaves}
+use Rattle.sd_tool.specs.Asks.{ComesTo, AsksLast, BreaksOff, GoesTo, begun, writings}
+use Rattle.sd_tool.specs.Course.{EndsAmong, Leaves}
 use Rattle.sd_tool.specs.declared.refusal.Refusal.{Refusal}
 use Rattle.sd_tool.specs.declared.stop.Stop.{Stop}
 use Rattle.sd_tool.specs.declared.stop.Stop.TheVariants as stops
@@ -54,32 +56,34 @@ abbrev pub IsFullAt : End → Table → Type 0
 IsFullAt (NoRoom elements) t = IsFilled elements t
 IsFullAt end t = Unit {0}
 
--- the readings stop so
-abbrev pub StopsReading : Stop → Option Files → Reading → ℕ → ℕ → Type 0
-StopsReading (stops.Refused refusal) files reading before now = ReadsTo files reading (Refuses refusal)
-StopsReading (stops.ReadFault file) files reading before now =
-    ((next : _) × ReadsTo files reading (Reads file next)) × (Lacks files file ⊎ Rose before now)
-StopsReading stops.OutOfMemory files reading before now = Unit {0}
-StopsReading stop files reading before now = ⊥
+-- the readings stop so, and ask for no more
+abbrev pub StopsReading : (List Request → Type 0) → Stop → Option Files → Reading → ℕ → ℕ → Type 0
+StopsReading asks (stops.Refused refusal) files reading before now = ComesTo asks files reading (Refuses refusal)
+StopsReading asks (stops.ReadFault file) files reading before now =
+    AsksLast asks files reading file × (Lacks files file ⊎ Rose before now)
+StopsReading asks stops.OutOfMemory files reading before now = BreaksOff asks files reading
+StopsReading asks stop files reading before now = ⊥
 
--- the commands come to an end, with the result of the code and this manager
-pub record RunsToEnd (plan : Plan) (t : Table) (result : Result (Unit {0}) Stop) (old new : Contents)
-    (before now : Faults) : Type 0 where
+-- the commands come to an end, with the result of the code and this manager, and ask for their writings alone
+pub record RunsToEnd (asks : List Request → Type 0) (plan : Plan) (t : Table) (result : Result (Unit {0}) Stop)
+    (old new : Contents) (before now : Faults) : Type 0 where
   pub end : End
   pub at : IsEnd result end
   pub effects : List Effect
   pub ends : EndsAmong plan effects end
+  pub asked : asks (writings (begun effects end))
   pub full_at : IsFullAt end t
   pub leaves : Leaves effects end old new
   pub cause : HasDeviceCause end old.files before now
 
 -- the same, with what is kept
-pub record CarriesOut (plan : Plan) (kept : Option Table) (result : Result (Unit {0}) Stop) (old new : Contents)
-    (before now : Faults) : Type 0 where
+pub record CarriesOut (asks : List Request → Type 0) (plan : Plan) (kept : Option Table)
+    (result : Result (Unit {0}) Stop) (old new : Contents) (before now : Faults) : Type 0 where
   pub end : End
   pub at : IsEnd result end
   pub effects : List Effect
   pub ends : EndsAmong plan effects end
+  pub asked : asks (writings (begun effects end))
   pub keeps : KeepsManager end kept
   pub leaves : Leaves effects end old new
   pub cause : HasDeviceCause end old.files before now
@@ -93,12 +97,12 @@ pub record FailsAt (stop : Stop) (effects : List Effect) (old new : Contents) (b
   pub cause : HasDeviceCause (Unwritable effect) old.files before now
 
 -- the readings and the commands come to an end, with the result of the code and what is kept
-pub record Attempts (words : List (List ℕ)) (kept : Option Table) (result : Result (Unit {0}) Stop)
-    (old new : Contents) (before now : Faults) : Type 0 where
+pub record Attempts (asks : List Request → Type 0) (words : List (List ℕ)) (kept : Option Table)
+    (result : Result (Unit {0}) Stop) (old new : Contents) (before now : Faults) : Type 0 where
   pub end : End
   pub at : IsEnd result end
   pub effects : List Effect
-  pub may_end : MayEnd words old.files effects end
+  pub goes : GoesTo asks words old.files effects end
   pub keeps : KeepsManager end kept
   pub leaves : Leaves effects end old new
   pub cause : HasDeviceCause end old.files before now
@@ -106,10 +110,11 @@ pub record Attempts (words : List (List ℕ)) (kept : Option Table) (result : Re
 -- ---- the readings, step by step
 
 -- The readings go on from a file with its text: what was read at Ok leads to the next point, and an Err is the stop
--- there.
-abbrev pub LeadsTo : {A : Type 0} → Option Files → Reading → (A → Reading) → Result A Stop → ℕ → ℕ → Type 0
-LeadsTo files reading next (Ok read) before now = ReadsTo files reading (next read)
-LeadsTo files reading next (Err stop) before now = StopsReading stop files reading before now
+-- there. No more is asked of the shelf than they ask.
+abbrev pub LeadsTo : {A : Type 0} → (List Request → Type 0) → Option Files → Reading → (A → Reading) → Result A Stop → ℕ
+    → ℕ → Type 0
+LeadsTo asks files reading next (Ok read) before now = ComesTo asks files reading (next read)
+LeadsTo asks files reading next (Err stop) before now = StopsReading asks stop files reading before now
 
 -- what was read of a file: its bytes, or that it is too long
 abbrev pub text_read : Option (List ℕ) → Text

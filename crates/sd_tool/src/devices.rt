@@ -1,6 +1,8 @@
 // What is done outside.
-ghost use Rattle.std.specs.Prelude.{◌≡◌, OnOk, IfErr};
+ghost use Rattle.std.specs.Prelude.{◌≡◌, [], ◌∷◌, OnOk, IfErr};
+ghost use Rattle.sd_base.specs.Asked.{Adds};
 ghost use Rattle.sd_base.specs.Shelf.{NoFile};
+ghost use Rattle.sd_tool.specs.Asks.{writings};
 ghost use Rattle.sd_tool.specs.Effects.{after, after_effect, DoesPart};
 ghost use Rattle.sd_tool.specs.Ends.{Unwritable};
 ghost use Rattle.sd_tool.specs.Devices.{contents, faults, HasDeviceCause, NotFewer};
@@ -28,6 +30,7 @@ pub fn perform_any<F: Shelf, O: Sink>(
         (faults F.read_faults F.write_faults O.faults shelf.new out.new)) }
     ensures fewer { NotFewer (faults F.read_faults F.write_faults O.faults shelf.old out.old)
         (faults F.read_faults F.write_faults O.faults shelf.new out.new) }
+    ensures asked { Adds F.asked shelf.old shelf.new (writings (effects_of effect)) }
 {
     match effect {
         Some(effect) => perform(shelf, out, effect),
@@ -51,6 +54,7 @@ fn perform<F: Shelf, O: Sink>(shelf: &mut F, out: &mut O, effect: Effect) -> Res
         (faults F.read_faults F.write_faults O.faults shelf.new out.new)) }
     ensures fewer { NotFewer (faults F.read_faults F.write_faults O.faults shelf.old out.old)
         (faults F.read_faults F.write_faults O.faults shelf.new out.new) }
+    ensures asked { Adds F.asked shelf.old shelf.new (writings (effect_of effect ∷ [])) }
 {
     match effect {
         Effect::WriteFile(name, bytes) => match write_all_to(

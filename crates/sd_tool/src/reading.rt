@@ -1,5 +1,6 @@
 // The words and the input files, up to the first command.
 ghost use Rattle.std.specs.Prelude.{◌≡◌, ◌≤◌, ℕ, [], Option, Ok, Err, IfOk, MatchResult, length, map, string_bytes};
+ghost use Rattle.sd_base.specs.Asked.{Adds};
 ghost use Rattle.sd_base.specs.Files.{Files};
 ghost use Rattle.sd_base.specs.Shelf.{NoFile};
 ghost use Rattle.sd_model.specs.Tree.{leaves};
@@ -8,6 +9,7 @@ ghost use Rattle.sd_vfile.specs.Reads.{vtree_file};
 ghost use Rattle.sd_vtree.specs.Numbered.{plain_tree};
 ghost use Rattle.sd_words.specs.declared.jobs.Job.{Job as SeenJob};
 ghost use Rattle.sd_commands.specs.Fits.{AllFit};
+ghost use Rattle.sd_tool.specs.Asks.{IsNone};
 ghost use Rattle.sd_tool.specs.PlanViews.{plan_of, IsReady};
 ghost use Rattle.sd_tool.specs.Readings.{reading_of, Begins, Reads, input_file, is_plain, plan_for};
 ghost use Rattle.sd_tool.specs.Readings.{with_input, with_input_word, with_tree_word, with_tree, with_vtree_text};
@@ -36,7 +38,8 @@ pub fn prepare<F: Shelf>(alloc: Global, words: &[String], shelf: &mut F) -> Resu
     ensures files { F.files shelf.new ≡ F.files shelf.old }
     ensures read_faults { F.read_faults shelf.old ≤ F.read_faults shelf.new }
     ensures write_faults { F.write_faults shelf.new ≡ F.write_faults shelf.old }
-    ensures leads { LeadsTo (F.files shelf.old) (reading_of (map string_bytes words.now))
+    ensures leads { LeadsTo (Adds F.asked shelf.old shelf.new) (F.files shelf.old)
+        (reading_of (map string_bytes words.now))
         (λ plan. Begins (plan_of plan)) result (F.read_faults shelf.old) (F.read_faults shelf.new) }
     ensures ready { IfOk result IsReady }
 {
@@ -53,7 +56,8 @@ fn prepare_job<F: Shelf>(alloc: Global, job: &Job, shelf: &mut F) -> Result<RunP
     ensures files { F.files shelf.new ≡ F.files shelf.old }
     ensures read_faults { F.read_faults shelf.old ≤ F.read_faults shelf.new }
     ensures write_faults { F.write_faults shelf.new ≡ F.write_faults shelf.old }
-    ensures leads { LeadsTo (F.files shelf.old) (with_input_word job.now (input_file job.now.input))
+    ensures leads { LeadsTo (Adds F.asked shelf.old shelf.new) (F.files shelf.old)
+        (with_input_word job.now (input_file job.now.input))
         (λ plan. Begins (plan_of plan)) result (F.read_faults shelf.old) (F.read_faults shelf.new) }
     ensures ready { IfOk result IsReady }
 {
@@ -75,7 +79,8 @@ fn prepare_formula<F: Shelf>(
     ensures files { F.files shelf.new ≡ F.files shelf.old }
     ensures read_faults { F.read_faults shelf.old ≤ F.read_faults shelf.new }
     ensures write_faults { F.write_faults shelf.new ≡ F.write_faults shelf.old }
-    ensures leads { LeadsTo (F.files shelf.old) (with_tree_word job.now formula job.now.tree)
+    ensures leads { LeadsTo (Adds F.asked shelf.old shelf.new) (F.files shelf.old)
+        (with_tree_word job.now formula job.now.tree)
         (λ plan. Begins (plan_of plan)) result (F.read_faults shelf.old) (F.read_faults shelf.new) }
     ensures ready { IfOk result IsReady }
 {
@@ -99,7 +104,8 @@ fn prepare_tree<F: Shelf>(
     ensures files { F.files shelf.new ≡ F.files shelf.old }
     ensures read_faults { F.read_faults shelf.old ≤ F.read_faults shelf.new }
     ensures write_faults { F.write_faults shelf.new ≡ F.write_faults shelf.old }
-    ensures leads { LeadsTo (F.files shelf.old) (with_tree job.now formula (plain_tree vtree))
+    ensures leads { LeadsTo (Adds F.asked shelf.old shelf.new) (F.files shelf.old)
+        (with_tree job.now formula (plain_tree vtree))
         (λ plan. Begins (plan_of plan)) result (F.read_faults shelf.old) (F.read_faults shelf.new) }
     ensures ready { IfOk result IsReady }
 {
@@ -121,7 +127,7 @@ fn make_plan(
     requires fit { AllFit formula.variables [] commands.items }
     requires within_limit { length commands.items ≤ 100000 }
     ensures leads { (told : Option Files) (before now : ℕ)
-        → LeadsTo told (Begins (plan_for job.now formula (plain_tree vtree) commands.items))
+        → LeadsTo IsNone told (Begins (plan_for job.now formula (plain_tree vtree) commands.items))
         (λ plan. Begins (plan_of plan)) result before now }
     ensures ready { IfOk result IsReady }
 {
@@ -139,7 +145,7 @@ fn make_plan(
 // The job of the words, if runs have it yet.
 fn read_job(alloc: Global, words: &[String]) -> Result<Job, Stop>
     ensures { (told : Option Files) (before now : ℕ)
-        → LeadsTo told (reading_of (map string_bytes words.now))
+        → LeadsTo IsNone told (reading_of (map string_bytes words.now))
         (λ job. with_input_word job (input_file job.input)) result before now }
 {
     match read_words(alloc, words) {
@@ -169,7 +175,8 @@ fn read_formula<F: Shelf>(alloc: Global, job: &Job, shelf: &mut F) -> Result<For
     ensures files { F.files shelf.new ≡ F.files shelf.old }
     ensures read_faults { F.read_faults shelf.old ≤ F.read_faults shelf.new }
     ensures write_faults { F.write_faults shelf.new ≡ F.write_faults shelf.old }
-    ensures leads { LeadsTo (F.files shelf.old) (with_input_word job.now (input_file job.now.input))
+    ensures leads { LeadsTo (Adds F.asked shelf.old shelf.new) (F.files shelf.old)
+        (with_input_word job.now (input_file job.now.input))
         (λ formula. with_tree_word job.now formula job.now.tree)
         result (F.read_faults shelf.old) (F.read_faults shelf.new) }
 {
@@ -192,7 +199,7 @@ fn read_groups<F: Shelf>(
     ensures files { F.files shelf.new ≡ F.files shelf.old }
     ensures read_faults { F.read_faults shelf.old ≤ F.read_faults shelf.new }
     ensures write_faults { F.write_faults shelf.new ≡ F.write_faults shelf.old }
-    ensures leads { (job : SeenJob) → LeadsTo (F.files shelf.old)
+    ensures leads { (job : SeenJob) → LeadsTo (Adds F.asked shelf.old shelf.new) (F.files shelf.old)
         (Reads file.now (with_input job (record { kind = kind; file = file.now })))
         (λ formula. with_tree_word job formula job.tree)
         result (F.read_faults shelf.old) (F.read_faults shelf.new) }
@@ -232,7 +239,8 @@ fn read_tree<F: Shelf>(
     ensures files { F.files shelf.new ≡ F.files shelf.old }
     ensures read_faults { F.read_faults shelf.old ≤ F.read_faults shelf.new }
     ensures write_faults { F.write_faults shelf.new ≡ F.write_faults shelf.old }
-    ensures leads { LeadsTo (F.files shelf.old) (with_tree_word job.now formula.now job.now.tree)
+    ensures leads { LeadsTo (Adds F.asked shelf.old shelf.new) (F.files shelf.old)
+        (with_tree_word job.now formula.now job.now.tree)
         (λ vtree. with_tree job.now formula.now (plain_tree vtree))
         result (F.read_faults shelf.old) (F.read_faults shelf.new) }
     ensures variables { IfOk result (λ vtree. leaves (plain_tree vtree) ≡ formula.now.variables) }
@@ -271,7 +279,8 @@ fn read_vtree_file<F: Shelf>(
     ensures read_faults { F.read_faults shelf.old ≤ F.read_faults shelf.new }
     ensures write_faults { F.write_faults shelf.new ≡ F.write_faults shelf.old }
     ensures leads { (job : SeenJob) (formula : Groups) → formula.variables ≡ variables
-        → LeadsTo (F.files shelf.old) (Reads file.now (with_vtree_text job formula file.now))
+        → LeadsTo (Adds F.asked shelf.old shelf.new) (F.files shelf.old)
+        (Reads file.now (with_vtree_text job formula file.now))
         (λ vtree. with_tree job formula (plain_tree vtree))
         result (F.read_faults shelf.old) (F.read_faults shelf.new) }
     ensures variables { IfOk result (λ vtree. leaves (plain_tree vtree) ≡ variables) }

@@ -1,6 +1,7 @@
 // The commands of a job, with the files that its script loads.
 ghost use Rattle.std.specs.Prelude.{◌≡◌, ◌≤◌, ◌<◌, ◌∷◌, ◌++◌, List, [], IfOk, OnOk, None, length};
 ghost use Rattle.std.specs.List.{list_all, AllByRecursion};
+ghost use Rattle.sd_base.specs.Asked.{Adds};
 ghost use Rattle.sd_base.specs.Shelf.{NoFile};
 ghost use Rattle.sd_file.specs.Reads.{File, sdd_file};
 ghost use Rattle.sd_script.specs.Read.{IsScript, reads};
@@ -39,7 +40,9 @@ pub fn read_commands<F: Shelf>(
     ensures files { F.files shelf.new ≡ F.files shelf.old }
     ensures read_faults { F.read_faults shelf.old ≤ F.read_faults shelf.new }
     ensures write_faults { F.write_faults shelf.new ≡ F.write_faults shelf.old }
-    ensures leads { (begin : List Seen → Reading) → LeadsTo (F.files shelf.old)
+    ensures leads { (begin : List Seen → Reading)
+        → LeadsTo (Adds F.asked shelf.old shelf.new) (F.files shelf.old)
+        
         (with_commands job.now variables begin job.now.script) (λ commands. begin commands.items)
         result (F.read_faults shelf.old) (F.read_faults shelf.new) }
     ensures fit { IfOk result (λ commands. AllFit variables [] commands.items) }
@@ -71,7 +74,9 @@ fn read_script_file<F: Shelf>(
     ensures files { F.files shelf.new ≡ F.files shelf.old }
     ensures read_faults { F.read_faults shelf.old ≤ F.read_faults shelf.new }
     ensures write_faults { F.write_faults shelf.new ≡ F.write_faults shelf.old }
-    ensures leads { (begin : List Seen → Reading) → LeadsTo (F.files shelf.old)
+    ensures leads { (begin : List Seen → Reading)
+        → LeadsTo (Adds F.asked shelf.old shelf.new) (F.files shelf.old)
+        
         (Reads file.now (with_script_text file.now variables begin))
         (script_reading variables begin)
         result (F.read_faults shelf.old) (F.read_faults shelf.new) }
@@ -131,7 +136,9 @@ fn script_commands<F: Shelf>(
     ensures files { F.files shelf.new ≡ F.files shelf.old }
     ensures read_faults { F.read_faults shelf.old ≤ F.read_faults shelf.new }
     ensures write_faults { F.write_faults shelf.new ≡ F.write_faults shelf.old }
-    ensures leads { (begin : List Seen → Reading) → LeadsTo (F.files shelf.old)
+    ensures leads { (begin : List Seen → Reading)
+        → LeadsTo (Adds F.asked shelf.old shelf.new) (F.files shelf.old)
+        
         (script_reading variables begin script.now) (λ commands. begin commands.items)
         result (F.read_faults shelf.old) (F.read_faults shelf.new) }
     ensures fit { IfOk result (λ commands. AllFit variables [] commands.items) }
@@ -181,7 +188,9 @@ fn served_commands<F: Shelf>(
     ensures files { F.files shelf.new ≡ F.files shelf.old }
     ensures read_faults { F.read_faults shelf.old ≤ F.read_faults shelf.new }
     ensures write_faults { F.write_faults shelf.new ≡ F.write_faults shelf.old }
-    ensures leads { (begin : List Seen → Reading) → LeadsTo (F.files shelf.old)
+    ensures leads { (begin : List Seen → Reading)
+        → LeadsTo (Adds F.asked shelf.old shelf.new) (F.files shelf.old)
+        
         (with_lines variables script.now begin [] script.now.commands)
         (λ commands. begin commands.items)
         result (F.read_faults shelf.old) (F.read_faults shelf.new) }
@@ -226,7 +235,9 @@ fn command_of<F: Shelf>(
     ensures files { F.files shelf.new ≡ F.files shelf.old }
     ensures read_faults { F.read_faults shelf.old ≤ F.read_faults shelf.new }
     ensures write_faults { F.write_faults shelf.new ≡ F.write_faults shelf.old }
-    ensures leads { (next : Seen → Reading) → LeadsTo (F.files shelf.old)
+    ensures leads { (next : Seen → Reading)
+        → LeadsTo (Adds F.asked shelf.old shelf.new) (F.files shelf.old)
+        
         (with_action variables script.now next action.now) next
         result (F.read_faults shelf.old) (F.read_faults shelf.new) }
     ensures same { IfOk result (IsCommandOf variables action.now) }
@@ -283,7 +294,9 @@ fn file_command<F: Shelf>(
     ensures files { F.files shelf.new ≡ F.files shelf.old }
     ensures read_faults { F.read_faults shelf.old ≤ F.read_faults shelf.new }
     ensures write_faults { F.write_faults shelf.new ≡ F.write_faults shelf.old }
-    ensures leads { (next : Seen → Reading) → LeadsTo (F.files shelf.old)
+    ensures leads { (next : Seen → Reading)
+        → LeadsTo (Adds F.asked shelf.old shelf.new) (F.files shelf.old)
+        
         (with_action variables script.now next action.now) next
         result (F.read_faults shelf.old) (F.read_faults shelf.new) }
     ensures same { IfOk result (IsCommandOf variables action.now) }
@@ -314,7 +327,9 @@ fn load<F: Shelf>(alloc: Global, file: &str, variables: u32, shelf: &mut F) -> R
     ensures files { F.files shelf.new ≡ F.files shelf.old }
     ensures read_faults { F.read_faults shelf.old ≤ F.read_faults shelf.new }
     ensures write_faults { F.write_faults shelf.new ≡ F.write_faults shelf.old }
-    ensures leads { (next : File → Reading) → LeadsTo (F.files shelf.old)
+    ensures leads { (next : File → Reading)
+        → LeadsTo (Adds F.asked shelf.old shelf.new) (F.files shelf.old)
+        
         (Reads file.now (with_sdd variables file.now next)) next
         result (F.read_faults shelf.old) (F.read_faults shelf.new) }
     ensures variables { IfOk result (λ read. read.variables ≡ variables) }

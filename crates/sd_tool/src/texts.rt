@@ -1,5 +1,6 @@
 // Files as texts, and the stops at what they are refused for.
 ghost use Rattle.std.specs.Prelude.{◌≡◌, ◌≤◌, IfOk};
+ghost use Rattle.sd_base.specs.Asked.{Adds};
 ghost use Rattle.sd_base.specs.Shelf.{NoFile};
 ghost use Rattle.sd_tool.specs.Readings.{Reading, Reads, Text};
 ghost use Rattle.sd_tool.specs.Stops.{LeadsTo, StopsFor, IsShort, text_read};
@@ -17,7 +18,9 @@ pub fn read_text<F: Shelf>(alloc: Global, file: &str, shelf: &mut F) -> Result<O
     ensures files { F.files shelf.new ≡ F.files shelf.old }
     ensures read_faults { F.read_faults shelf.old ≤ F.read_faults shelf.new }
     ensures write_faults { F.write_faults shelf.new ≡ F.write_faults shelf.old }
-    ensures leads { (next : Text → Reading) → LeadsTo (F.files shelf.old) (Reads file.now next)
+    ensures leads { (next : Text → Reading)
+        → LeadsTo (Adds F.asked shelf.old shelf.new) (F.files shelf.old)
+        (Reads file.now next)
         (λ text. next (text_read text)) result (F.read_faults shelf.old) (F.read_faults shelf.new) }
     ensures fits { IfOk result IsShort }
 {

@@ -1,6 +1,8 @@
 // The whole run: its readings, its commands, and the line of its end.
 ghost use Rattle.std.specs.Prelude.{◌≡◌, ℕ, Some, None, cond, map, string_bytes};
+ghost use Rattle.sd_base.specs.Asked.{Adds};
 ghost use Rattle.sd_base.specs.Shelf.{NoFile};
+ghost use Rattle.sd_tool.specs.Asks.{HasAsked};
 ghost use Rattle.sd_tool.specs.Devices.{contents, faults, between, NotFewer};
 ghost use Rattle.sd_tool.specs.PlanViews.{plan_of, plan_with, IsReady, IsReadyWith};
 ghost use Rattle.sd_tool.specs.Headline.{IsCourse, HasEffects, HasLine, HasEnd, IsComplete};
@@ -43,7 +45,7 @@ pub fn run<R: Threads + Sync, F: Shelf, O: Sink, E: Sink>(
     ensures course { between F.files F.read_faults F.write_faults O.written O.faults E.written
         E.faults
         shelf.old out.old err.old shelf.new out.new err.new
-        (IsCourse (map string_bytes words.now) result kept.new) }
+        (IsCourse (Adds F.asked shelf.old shelf.new) (map string_bytes words.now) result kept.new) }
     ensures effects { between F.files F.read_faults F.write_faults O.written O.faults E.written
         E.faults
         shelf.old out.old err.old shelf.new out.new err.new
@@ -63,6 +65,7 @@ pub fn run<R: Threads + Sync, F: Shelf, O: Sink, E: Sink>(
         E.faults
         shelf.old out.old err.old shelf.new out.new err.new
         (HasWritten (map string_bytes words.now) result) }
+    ensures asked { HasAsked result (Adds F.asked shelf.old shelf.new) }
     ensures equal_texts { HasEqualTexts (map string_bytes words.now) (F.files shelf.old) }
 {
     conduct(alloc, words, shelf, out, err, kept)
@@ -83,7 +86,7 @@ fn conduct<F: Shelf, O: Sink, E: Sink>(
     ensures course { between F.files F.read_faults F.write_faults O.written O.faults E.written
         E.faults
         shelf.old out.old err.old shelf.new out.new err.new
-        (IsCourse (map string_bytes words.now) result kept.new) }
+        (IsCourse (Adds F.asked shelf.old shelf.new) (map string_bytes words.now) result kept.new) }
 {
     match attempt(alloc, words, shelf, out, kept) {
         Ok(()) => 0,
@@ -105,7 +108,8 @@ fn attempt<F: Shelf, O: Sink>(
     requires hand { F.hand shelf.old ≡ NoFile }
     requires none { kept.old ≡ None }
     ensures hand { F.hand shelf.new ≡ NoFile }
-    ensures ends { Attempts (map string_bytes words.now) kept.new result
+    ensures ends { Attempts (Adds F.asked shelf.old shelf.new) (map string_bytes words.now) kept.new
+        result
         (contents F.files O.written shelf.old out.old)
         (contents F.files O.written shelf.new out.new)
         (faults F.read_faults F.write_faults O.faults shelf.old out.old)
@@ -129,7 +133,7 @@ fn carry_out<F: Shelf, O: Sink>(
     requires none { kept.old ≡ None }
     requires ready { IsReady plan }
     ensures hand { F.hand shelf.new ≡ NoFile }
-    ensures goes { CarriesOut (plan_of plan) kept.new result
+    ensures goes { CarriesOut (Adds F.asked shelf.old shelf.new) (plan_of plan) kept.new result
         (contents F.files O.written shelf.old out.old)
         (contents F.files O.written shelf.new out.new)
         (faults F.read_faults F.write_faults O.faults shelf.old out.old)
@@ -174,7 +178,8 @@ fn do_all<F: Shelf, O: Sink>(
     ensures fewer { NotFewer (faults F.read_faults F.write_faults O.faults shelf.old out.old)
         (faults F.read_faults F.write_faults O.faults shelf.new out.new) }
     ensures goes { (limit : ℕ)
-        → RunsToEnd (plan_with formula.now state.old limit commands.now) state.new.manager result
+        → RunsToEnd (Adds F.asked shelf.old shelf.new)
+        (plan_with formula.now state.old limit commands.now) state.new.manager result
         (contents F.files O.written shelf.old out.old)
         (contents F.files O.written shelf.new out.new)
         (faults F.read_faults F.write_faults O.faults shelf.old out.old)

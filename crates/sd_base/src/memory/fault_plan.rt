@@ -91,6 +91,7 @@ fn count_up(count: &mut u64) -> u64
 pub(crate) fn count_fault(faults: &mut u64) -> Failed
     ensures later { faults.old ≤ faults.new }
     ensures rose { Rose faults.old faults.new }
+    ensures one { faults.new ≡ min (faults.old + 1) (2 ^ 64 - 1) }
 {
     *faults = faults.saturating_add(1);
     Failed

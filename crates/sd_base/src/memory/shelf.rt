@@ -42,6 +42,8 @@ impl MemoryShelf {
     ghost use Rattle.sd_base.specs.MemoryShown.{memory_files, memory_hand, memory_unfinished};
     ghost use Rattle.sd_base.specs.MemoryShown.{memory_piece, memory_plan, read_faults_of, write_faults_of};
     ghost use Rattle.sd_base.specs.FaultPlan.{IsNewPlan};
+    ghost use Rattle.std.specs.Prelude.{[]};
+    ghost use Rattle.sd_base.specs.Asked.{AreCalls};
     ghost use Rattle.sd_base.specs.Shelf.{NoFile};
 
     /// A shelf of these files, with none in hand. One `append` takes at most `piece` bytes.
@@ -59,6 +61,7 @@ impl MemoryShelf {
         ensures unfinished { memory_unfinished result ≡ NoFile }
         ensures planned { IsNewPlan planned.items (memory_plan result) }
         ensures faults { (read_faults_of result ≡ 0) × (write_faults_of result ≡ 0) }
+        ensures asked { AreCalls (memory_plan result) [] }
     {
         MemoryShelf {
             alloc,
@@ -100,7 +103,7 @@ fn copy_next(bytes: &[u8], offset: usize, into: &mut [u8]) -> usize
 impl Shelf for MemoryShelf {
     ghost use Rattle.std.specs.Prelude.{◌≡◌, ◌≢◌, ◌⊎◌, ◌<◌, ◌≤◌, [], length, min, take, Some};
     ghost use Rattle.std.specs.Prelude.{IfOk, OnOk, OnErr, IsErr};
-    ghost use Rattle.sd_base.specs.Faults.{Rose, HasCause};
+    ghost use Rattle.sd_base.specs.Faults.{CountsOne, Rose, HasCause};
     ghost use Rattle.sd_base.specs.Files.{Lacks, told_with};
     ghost use Rattle.sd_base.specs.FaultPlan.{calls_of, GoesByPlan, IsPlanned};
     ghost use Rattle.sd_base.specs.Shelf.{NoFile, Reading, Writing, IsReading, IsWriting, TakesNext, appended};
@@ -109,6 +112,9 @@ impl Shelf for MemoryShelf {
     ghost use Rattle.sd_base.specs.MemoryShown.{read_faults_of, write_faults_of};
     ghost use Rattle.sd_base.specs.declared.memory.fault_plan.ShelfCall.TheVariants as calls;
     ghost use Rattle.sd_base.specs.Memory.{files_of, hand_of};
+    ghost use Rattle.std.specs.Prelude.{◌∷◌};
+    ghost use Rattle.sd_base.specs.Asked.{ToRead, ToWrite, Adds, AsksNothing, AreCounts};
+    ghost use Rattle.sd_base.specs.MemoryShown.{memory_asked};
 
     ghost files = { λ shelf. Some (files_of shelf.files.items) };
 
@@ -120,6 +126,9 @@ impl Shelf for MemoryShelf {
 
     ghost unfinished = { λ shelf. hand_of shelf.unfinished };
 
+    // the calls that begin a reading or a writing are counted
+    ghost asked = { λ shelf requests. AreCounts shelf.plan.start_reads shelf.plan.start_writes requests };
+
     fn start_read(&mut self, name: &str) -> Result<(), Failed>
         requires { memory_hand self.old ≡ NoFile }
         ensures ok { OnOk result (memory_hand self.new ≡ Reading name.now 0) }
@@ -130,11 +139,14 @@ impl Shelf for MemoryShelf {
         ensures cause { OnErr result (
             Lacks (told self.old) name.now
             ⊎ Rose (read_faults_of self.old) (read_faults_of self.new)) }
+        ensures counts { Lacks (told self.old) name.now
+            ⊎ CountsOne (read_faults_of self.old) (read_faults_of self.new) result }
         ensures read_faults { read_faults_of self.old ≤ read_faults_of self.new }
         ensures write_faults { write_faults_of self.new ≡ write_faults_of self.old }
         ensures unfinished { memory_unfinished self.new ≡ memory_unfinished self.old }
         ensures plan { GoesByPlan (memory_plan self.old) calls.StartRead (memory_plan self.new)
             result }
+        ensures asked { Adds memory_asked self.old self.new (ToRead name.now ∷ []) }
     {
         let planned = self.plan.fails(ShelfCall::StartRead);
         let Some(_) = find_bytes(&self.files, name) else {
@@ -160,12 +172,14 @@ impl Shelf for MemoryShelf {
         ensures err { OnErr result (memory_hand self.new ≡ NoFile) }
         ensures files { told self.new ≡ told self.old }
         ensures cause { HasCause (read_faults_of self.old) (read_faults_of self.new) result }
+        ensures counts { CountsOne (read_faults_of self.old) (read_faults_of self.new) result }
         ensures write_faults { write_faults_of self.new ≡ write_faults_of self.old }
         ensures unfinished { memory_unfinished self.new ≡ memory_unfinished self.old }
         ensures plan { GoesByPlan (memory_plan self.old) calls.Read (memory_plan self.new) result }
         ensures planned { IsErr result
             → IsPlanned (memory_plan self.old) calls.Read
             (calls_of (memory_plan self.new) calls.Read) }
+        ensures asked { AsksNothing memory_asked self.old self.new }
     {
         if self.plan.fails(ShelfCall::Read) {
             self.hand = InHand::Nothing;
@@ -191,8 +205,10 @@ impl Shelf for MemoryShelf {
             (memory_hand self.new ≡ NoFile) × (told self.new ≡ told self.old)) }
         ensures read_faults { read_faults_of self.new ≡ read_faults_of self.old }
         ensures cause { HasCause (write_faults_of self.old) (write_faults_of self.new) result }
+        ensures counts { CountsOne (write_faults_of self.old) (write_faults_of self.new) result }
         ensures plan { GoesByPlan (memory_plan self.old) calls.StartWrite (memory_plan self.new)
             result }
+        ensures asked { Adds memory_asked self.old self.new (ToWrite name.now ∷ []) }
     {
         if self.plan.fails(ShelfCall::StartWrite) {
             return Err(count_fault(&mut self.write_faults));
@@ -219,10 +235,12 @@ impl Shelf for MemoryShelf {
             (memory_hand self.new ≡ NoFile) × (told self.new ≡ told self.old)) }
         ensures read_faults { read_faults_of self.new ≡ read_faults_of self.old }
         ensures cause { HasCause (write_faults_of self.old) (write_faults_of self.new) result }
+        ensures counts { CountsOne (write_faults_of self.old) (write_faults_of self.new) result }
         ensures piece { IfOk result (λ count. count
             ≡ min (length piece.now) (memory_piece self.old)) }
         ensures plan { GoesByPlan (memory_plan self.old) calls.Append (memory_plan self.new)
             result }
+        ensures asked { AsksNothing memory_asked self.old self.new }
     {
         if self.plan.fails(ShelfCall::Append) {
             self.hand = InHand::Nothing;
@@ -249,6 +267,10 @@ impl Shelf for MemoryShelf {
         ensures of_write { IsWriting (memory_hand self.old)
             → HasCause (write_faults_of self.old) (write_faults_of self.new) result
             × (read_faults_of self.new ≡ read_faults_of self.old) }
+        ensures counts_read { IsReading (memory_hand self.old)
+            → CountsOne (read_faults_of self.old) (read_faults_of self.new) result }
+        ensures counts_write { IsWriting (memory_hand self.old)
+            → CountsOne (write_faults_of self.old) (write_faults_of self.new) result }
         ensures finished { OnOk result (memory_unfinished self.new ≡ memory_unfinished self.old) }
         ensures unfinished { IsReading (memory_hand self.old)
             → OnErr result (memory_unfinished self.new ≡ memory_hand self.old) }
@@ -257,6 +279,7 @@ impl Shelf for MemoryShelf {
         ensures planned { IsErr result
             → IsPlanned (memory_plan self.old) calls.Finish
             (calls_of (memory_plan self.new) calls.Finish) }
+        ensures asked { AsksNothing memory_asked self.old self.new }
     {
         let held = mem::replace(&mut self.hand, InHand::Nothing);
         if !self.plan.fails(ShelfCall::Finish) {

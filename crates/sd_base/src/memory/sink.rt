@@ -46,7 +46,7 @@ impl MemorySink {
 impl Sink for MemorySink {
     ghost use Rattle.std.specs.Prelude.{◌≡◌, ◌+◌, ◌-◌, ◌^◌, ◌<◌, ◌≤◌, ◌⊎◌, Some, min, length, take};
     ghost use Rattle.std.specs.Prelude.{IfOk, OnErr, IsErr, Contains};
-    ghost use Rattle.sd_base.specs.Faults.{HasCause};
+    ghost use Rattle.sd_base.specs.Faults.{CountsOne, HasCause};
     ghost use Rattle.sd_base.specs.MemoryShown.{fails_at, calls_to, faults_of};
     ghost use Rattle.sd_base.specs.MemoryShown.{memory_room, memory_written};
     ghost use Rattle.sd_base.specs.Sink.{told_then};
@@ -63,6 +63,7 @@ impl Sink for MemorySink {
             ≡ told_then (Some (memory_written self.old)) (take count piece.now)) }
         ensures err { OnErr result (memory_written self.new ≡ memory_written self.old) }
         ensures cause { HasCause (faults_of self.old) (faults_of self.new) result }
+        ensures counts { CountsOne (faults_of self.old) (faults_of self.new) result }
         ensures counted { calls_to self.new ≡ min (calls_to self.old + 1) (2 ^ 64 - 1) }
         ensures planned { Contains (fails_at self.old) (calls_to self.new) → IsErr result }
         ensures unplanned { OnErr result (

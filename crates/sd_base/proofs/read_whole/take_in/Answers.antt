@@ -18,6 +18,7 @@ reading-init g c =
       read_faults = search rules;
       unfinished = search rules;
       write_faults = search rules;
+      asked = c.start_read.ensures.asked;
     }
 
 -- a turn reads some bytes more
@@ -34,6 +35,7 @@ reading-preserved g c =
       read_faults = omega arith;
       unfinished = search rules;
       write_faults = search rules;
+      asked = λ before had. c.in-Ok.ensures.asked _ (was.asked before had);
     }
 
 -- no byte was read, so the end is here

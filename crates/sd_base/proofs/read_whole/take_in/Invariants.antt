@@ -1,4 +1,5 @@
-use Rattle.std.proofs.Common.{◌≡◌, ◌≤◌, ◌-◌, length}
+use Rattle.std.proofs.Common.{◌≡◌, ◌≤◌, ◌-◌, [], ◌∷◌, length}
+use Rattle.sd_base.specs.Asked.{Adds, ToRead}
 use Rattle.sd_base.proofs.ReadLemmas.{ReadSoFar}
 use Rattle.sd_base.proofs.read_whole.take_in.Given as goal
 
@@ -11,6 +12,7 @@ invariant-reading g l = record {
   read_faults : g.F.Shelf.read_faults l.fn.shelf ≤ g.F.Shelf.read_faults l.shelf;
   unfinished : g.F.Shelf.unfinished l.shelf ≡ g.F.Shelf.unfinished l.fn.shelf;
   write_faults : g.F.Shelf.write_faults l.shelf ≡ g.F.Shelf.write_faults l.fn.shelf;
+  asked : Adds g.F.Shelf.asked l.fn.shelf l.shelf (ToRead l.name ∷ []);
 }
 
 -- each turn reads at least a byte

@@ -13,4 +13,5 @@ loop-rest-preserved g c =
       search rules,
       omega arith,
       search rules,
+      λ before had. c.in-Ok.ensures.asked _ (c.loop-rest.invariant.4 before had),
     )

@@ -1,4 +1,5 @@
-use Rattle.std.proofs.Common.{◌≡◌, ◌≤◌, ℕ, List, ◌++◌, length}
+use Rattle.std.proofs.Common.{◌≡◌, ◌≤◌, ℕ, List, [], ◌∷◌, ◌++◌, length}
+use Rattle.sd_base.specs.Asked.{Adds, ToWrite}
 use Rattle.sd_base.specs.Files.{told_with}
 use Rattle.sd_base.specs.Shelf.{Writing}
 use Rattle.sd_base.proofs.write_whole.write_all_to.Given as goal
@@ -11,6 +12,7 @@ invariant-loop-rest g l =
     × (g.F.Shelf.hand l.shelf ≡ Writing l.name)
     × (g.F.Shelf.write_faults l.fn.shelf ≤ g.F.Shelf.write_faults l.shelf)
     × (g.F.Shelf.read_faults l.shelf ≡ g.F.Shelf.read_faults l.fn.shelf)
+    × Adds g.F.Shelf.asked l.fn.shelf l.shelf (ToWrite l.name ∷ [])
 
 abbrev pub decreases-loop-rest : goal.decreases-loop-rest
 decreases-loop-rest g l = length l.rest

@@ -7,13 +7,13 @@ use Rattle.sd_tool.proofs.reading.read_formula.Goals as goal
 pub returns-in-Cnf-clause-leads : goal.returns-in-Cnf-clause-leads
 returns-in-Cnf-clause-leads g c =
     let job = c.args.job.now in
-    input_leads (g.F.Shelf.files c.args.shelf.now) job job.input Cnf _ _ c.read_groups.result
+    input_leads _ (g.F.Shelf.files c.args.shelf.now) job job.input Cnf _ _ c.read_groups.result
     (g.F.Shelf.read_faults c.args.shelf.now) (g.F.Shelf.read_faults c.read_groups.new.shelf)
     (ap input_file c.in-Cnf.is) c.as_str.ensures (c.read_groups.ensures.leads job)
 
 pub returns-in-Dnf-clause-leads : goal.returns-in-Dnf-clause-leads
 returns-in-Dnf-clause-leads g c =
     let job = c.args.job.now in
-    input_leads (g.F.Shelf.files c.args.shelf.now) job job.input Dnf _ _ c.read_groups-in-Dnf.result
+    input_leads _ (g.F.Shelf.files c.args.shelf.now) job job.input Dnf _ _ c.read_groups-in-Dnf.result
     (g.F.Shelf.read_faults c.args.shelf.now) (g.F.Shelf.read_faults c.read_groups-in-Dnf.new.shelf)
     (ap input_file c.in-Dnf.is) c.as_str-in-Dnf.ensures (c.read_groups-in-Dnf.ensures.leads job)

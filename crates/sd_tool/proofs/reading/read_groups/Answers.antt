@@ -11,10 +11,10 @@ returns-in-Ok-Some-clause-leads g c = λ job.
     let file = c.args.file.now in
     let input : Input = record { kind = c.args.kind; file = file } in
     let bytes = c.as_slice.result.now in
-    text_leads told (Reads file (with_input job input)) (with_formula job file) (λ f. f) (BadFormula file)
+    text_leads _ told (Reads file (with_input job input)) (with_formula job file) (λ f. f) (BadFormula file)
     (dimacs c.args.kind bytes) c.formula_in.result (g.F.Shelf.read_faults c.args.shelf.now)
     (g.F.Shelf.read_faults c.read_text.new.shelf) (λ fault. refl)
-    (text_given told file (with_input job input) _ c.in-Ok-Some.bytes bytes c.in-Ok-Some.field-0-is c.as_slice.ensures
+    (text_given _ told file (with_input job input) _ c.in-Ok-Some.bytes bytes c.in-Ok-Some.field-0-is c.as_slice.ensures
     (c.in-Ok-Some.ensures.leads (with_input job input))) c.formula_in.ensures
 
 pub returns-in-Ok-None-clause-leads : goal.returns-in-Ok-None-clause-leads
@@ -22,9 +22,9 @@ returns-in-Ok-None-clause-leads g c = λ job.
     let told = g.F.Shelf.files c.args.shelf.now in
     let file = c.args.file.now in
     let input : Input = record { kind = c.args.kind; file = file } in
-    stops_for told (Reads file (with_input job input)) (TooLong file) c.too_long.result
+    stops_for _ told (Reads file (with_input job input)) (TooLong file) c.too_long.result
     (g.F.Shelf.read_faults c.args.shelf.now) (g.F.Shelf.read_faults c.read_text.new.shelf)
-    (text_lacking told file (with_input job input) _ c.in-Ok-None.field-0-is
+    (text_lacking _ told file (with_input job input) _ c.in-Ok-None.field-0-is
     (c.in-Ok-None.ensures.leads (with_input job input))) c.too_long.ensures
 
 pub returns-in-Err-clause-leads : goal.returns-in-Err-clause-leads

@@ -11,10 +11,10 @@ returns-in-Ok-Some-clause-leads g c = λ begin.
     let file = c.args.file.now in
     let text = with_script_text file c.args.variables begin in
     let bytes = c.as_slice.result.now in
-    text_leads told (Reads file text) (with_script_reading file c.args.variables begin) (λ script. script)
+    text_leads _ told (Reads file text) (with_script_reading file c.args.variables begin) (λ script. script)
     (BadScript file) (script_of c.args.variables bytes) c.script_in.result (g.F.Shelf.read_faults c.args.shelf.now)
     (g.F.Shelf.read_faults c.read_text.new.shelf) (λ fault. refl)
-    (text_given told file text _ c.in-Ok-Some.bytes bytes c.in-Ok-Some.field-0-is c.as_slice.ensures
+    (text_given _ told file text _ c.in-Ok-Some.bytes bytes c.in-Ok-Some.field-0-is c.as_slice.ensures
     (c.in-Ok-Some.ensures.leads text)) c.script_in.ensures.gives
 
 pub returns-in-Ok-None-clause-leads : goal.returns-in-Ok-None-clause-leads
@@ -22,9 +22,9 @@ returns-in-Ok-None-clause-leads g c = λ begin.
     let told = g.F.Shelf.files c.args.shelf.now in
     let file = c.args.file.now in
     let text = with_script_text file c.args.variables begin in
-    stops_for told (Reads file text) (LongScript file) c.long_script.result
+    stops_for _ told (Reads file text) (LongScript file) c.long_script.result
     (g.F.Shelf.read_faults c.args.shelf.now) (g.F.Shelf.read_faults c.read_text.new.shelf)
-    (text_lacking told file text _ c.in-Ok-None.field-0-is (c.in-Ok-None.ensures.leads text)) c.long_script.ensures
+    (text_lacking _ told file text _ c.in-Ok-None.field-0-is (c.in-Ok-None.ensures.leads text)) c.long_script.ensures
 
 pub returns-in-Err-clause-leads : goal.returns-in-Err-clause-leads
 returns-in-Err-clause-leads g c = λ begin.

@@ -2,9 +2,12 @@ use Rattle.std.proofs.Common.{◌+◌, List, [], drop, Ok, Err, refl, sym, subst
 use Rattle.sd_script.specs.declared.command.Command.{Command as Line}
 use Rattle.sd_commands.specs.declared.command.RunCommand.{RunCommand}
 use Rattle.sd_tool.specs.Actions.{AreCommandsOf}
-use Rattle.sd_tool.specs.Readings.{ReadsTo, with_lines}
-use Rattle.sd_tool.proofs.ReadingLemmas.{reads_here}
+use Rattle.sd_base.specs.Asked.{Adds}
+use Rattle.sd_tool.specs.Asks.{ComesTo}
+use Rattle.sd_tool.specs.Readings.{with_lines}
+use Rattle.sd_tool.proofs.AskLemmas.{joined, comes_same, asks_none}
 use Rattle.sd_tool.proofs.ScriptLemmas.{IsNext, next_allowed, becomes_first, becomes_next, line_leads}
+use Rattle.std.proofs.Common.{inl}
 use Rattle.sd_tool.proofs.scripts.served_commands.Goals as goal
 
 -- no line is done yet
@@ -22,9 +25,11 @@ loop-line-init g c =
       commands_of = subst (λ (done : List RunCommand). AreCommandsOf v script.commands 0 done)
           (sym c.new-commands.ensures.items)
           (becomes_first v script.commands);
-      leads = λ begin. subst (λ (done : List RunCommand). ReadsTo told (with_lines v script begin [] script.commands)
+      leads = λ begin. subst (λ (done : List RunCommand). ComesTo
+          (Adds g.F.Shelf.asked c.args.shelf.now c.args.shelf.now) told (with_lines v script begin [] script.commands)
           (with_lines v script begin done script.commands)) (sym c.new-commands.ensures.items)
-          (reads_here told (with_lines v script begin [] script.commands));
+          (comes_same _ told _ (with_lines v script begin [] script.commands)
+          (asks_none g.F.Shelf.asked c.args.shelf.now) refl);
     }
 
 -- the files of a line are the script's
@@ -48,7 +53,8 @@ returns-in-Err-clause-leads g c = λ begin.
     line_leads (g.F.Shelf.files c.args.shelf.now) (g.F.Shelf.files c.loop-line.shelf) c.args.variables
     c.args.script.now c.loop-line.line-index line c.loop-line.commands.items begin (Err c.in-Err.stop)
     (g.F.Shelf.read_faults c.args.shelf.now) (g.F.Shelf.read_faults c.loop-line.shelf)
-    (g.F.Shelf.read_faults c.command_of.new.shelf) next was.files was.read_faults (was.leads begin)
+    (g.F.Shelf.read_faults c.command_of.new.shelf)
+    (joined g.F.Shelf.asked c.args.shelf.now c.loop-line.shelf c.command_of.new.shelf) next was.files was.read_faults (was.leads begin)
     c.in-Err.ensures.leads
 
 -- one more line became a command
@@ -74,10 +80,27 @@ loop-line-preserved g c =
           (sym c.in-Ok-put.ensures)
           (becomes_next v script index done line c.in-Ok.command c.requires.script next c.in-Ok.ensures.same
           was.commands_of);
-      leads = λ begin. subst (λ (cs : List RunCommand). ReadsTo told (with_lines v script begin [] script.commands)
+      leads = λ begin. subst (λ (cs : List RunCommand). ComesTo
+          (Adds g.F.Shelf.asked c.args.shelf.now c.command_of.new.shelf) told (with_lines v script begin [] script.commands)
           (with_lines v script begin cs (drop (index + 1) script.commands))) (sym c.in-Ok-put.ensures)
           (line_leads told (g.F.Shelf.files c.loop-line.shelf) v script index line done begin (Ok c.in-Ok.command)
           (g.F.Shelf.read_faults c.args.shelf.now) (g.F.Shelf.read_faults c.loop-line.shelf)
-          (g.F.Shelf.read_faults c.command_of.new.shelf) next was.files was.read_faults (was.leads begin)
+          (g.F.Shelf.read_faults c.command_of.new.shelf)
+    (joined g.F.Shelf.asked c.args.shelf.now c.loop-line.shelf c.command_of.new.shelf) next was.files was.read_faults (was.leads begin)
           c.in-Ok.ensures.leads);
     }
+
+-- no memory for a command
+pub returns-in-Err-put-clause-leads : goal.returns-in-Err-put-clause-leads
+returns-in-Err-put-clause-leads g c = λ begin.
+    let was = c.loop-line.invariant in
+    let line = c.line-item.result in
+    let here : IsNext c.commands-line-items.result.now c.loop-line.line-index line =
+    record { within = omega arith; is = c.line-item.is } in
+    let next = subst (λ (ls : List Line). IsNext ls c.loop-line.line-index line) was.same here in
+    inl (_, line_leads (g.F.Shelf.files c.args.shelf.now) (g.F.Shelf.files c.loop-line.shelf) c.args.variables
+    c.args.script.now c.loop-line.line-index line c.loop-line.commands.items begin (Ok c.in-Ok.command)
+    (g.F.Shelf.read_faults c.args.shelf.now) (g.F.Shelf.read_faults c.loop-line.shelf)
+    (g.F.Shelf.read_faults c.command_of.new.shelf)
+    (joined g.F.Shelf.asked c.args.shelf.now c.loop-line.shelf c.command_of.new.shelf) next was.files
+    was.read_faults (was.leads begin) c.in-Ok.ensures.leads)

@@ -2,6 +2,7 @@ use Rattle.std.proofs.Common.{map, string_bytes, ap, arith}
 use Rattle.sd_tool.specs.Devices.{faults, NotFewer}
 use Rattle.sd_tool.specs.PlanViews.{plan_of}
 use Rattle.sd_tool.proofs.EndLemmas.{reading_stops, commands_go}
+use Rattle.sd_tool.proofs.AskLemmas.{joined}
 use Rattle.sd_tool.proofs.whole_run.attempt.Goals as goal
 
 pub returns-in-Err-clause-ends : goal.returns-in-Err-clause-ends
@@ -21,6 +22,7 @@ returns-in-Ok-clause-ends g c =
       print = omega arith;
     } in
     commands_go (map string_bytes c.args.words.now) (plan_of c.in-Ok.plan) _ c.carry_out.result
-    _ _ _ first before _ c.in-Ok.ensures.leads
+    _ _ _ first before _
+    (joined g.F.Shelf.asked c.args.shelf.now c.prepare.new.shelf c.carry_out.new.shelf) c.in-Ok.ensures.leads
     (ap (λ files. record { files = files; printed = g.O.Sink.written c.args.out.now }) c.in-Ok.ensures.files)
     fewer c.carry_out.ensures.goes

@@ -6,6 +6,7 @@ use Rattle.sd_tool.specs.PlanViews.{plan_with}
 use Rattle.sd_tool.proofs.StepLemmas.{so_far_more, goes_to_out_of_memory, goes_to_full}
 use Rattle.sd_tool.proofs.StepLemmas.{goes_to_fault, goes_to_end, no_fewer}
 use Rattle.sd_tool.proofs.StepLemmas.{fits_next}
+use Rattle.sd_tool.proofs.AskLemmas.{joined, asks_none}
 use Rattle.sd_tool.proofs.whole_run.do_all.Goals as goal
 
 pub loop-command-init : goal.loop-command-init
@@ -18,6 +19,7 @@ loop-command-init g c = record {
     represents = c.requires.ready.represents limit;
     fit = c.requires.ready.fit;
     is = refl;
+    asked = asks_none g.F.Shelf.asked c.args.shelf.now;
   };
   vtree = refl;
   roots = omega (arith, c.requires.ready.roots);
@@ -65,8 +67,9 @@ returns-in-Err-clause-goes g c = λ limit.
     let so_far = was.so_far limit in
     goes_to_fault (plan_with c.args.formula.now c.args.state.now limit c.args.commands.now) _
     c.loop-command.command-index _ _ _ _ _ _ _ _ _ c.command-item.result _ c.in-Ok.effect
+    (joined g.F.Shelf.asked c.args.shelf.now c.loop-command.shelf c.perform_any.new.shelf)
     (record { within = omega arith; is = c.command-item.is }) so_far was.fewer
-    (c.in-Ok.ensures.done so_far.state so_far.represents) c.in-Err.ensures.stop
+    (c.in-Ok.ensures.done so_far.state so_far.represents) c.in-Err.ensures.stop c.in-Err.ensures.asked
 
 pub loop-command-preserved : goal.loop-command-preserved
 loop-command-preserved g c =
@@ -75,8 +78,10 @@ loop-command-preserved g c =
       so_far = λ limit.
           so_far_more (plan_with c.args.formula.now c.args.state.now limit c.args.commands.now) _
           c.loop-command.command-index _ _ _ _ _ c.command-item.result c.in-Ok.effect
+          (joined g.F.Shelf.asked c.args.shelf.now c.loop-command.shelf c.perform_any.new.shelf)
           (record { within = omega arith; is = c.command-item.is }) (was.so_far limit)
-          (c.in-Ok.ensures.done (was.so_far limit).state (was.so_far limit).represents) c.in-Ok-perform_any.ensures.ok;
+          (c.in-Ok.ensures.done (was.so_far limit).state (was.so_far limit).represents) c.in-Ok-perform_any.ensures.ok
+          c.in-Ok-perform_any.ensures.asked;
       vtree = c.in-Ok.ensures.vtree ∙ was.vtree;
       roots = omega (arith, was.roots, c.in-Ok.ensures.roots);
       fewer = no_fewer _ _ _ was.fewer c.in-Ok-perform_any.ensures.fewer;

@@ -1,6 +1,7 @@
 use Rattle.sd_tool.proofs.ByStatus.{effects_at, line_at, end_at}
 use Rattle.sd_tool.proofs.OneRun.{completes}
 use Rattle.sd_tool.proofs.WrittenLemmas.{written_at, equal_texts}
+use Rattle.sd_tool.proofs.AskedAt.{asked_at}
 use Rattle.sd_tool.proofs.whole_run.run.Goals as goal
 
 pub returns-clause-effects : goal.returns-clause-effects
@@ -20,3 +21,6 @@ returns-clause-written g c = written_at _ _ _ _ _ c.conduct.ensures.course
 
 pub returns-clause-equal_texts : goal.returns-clause-equal_texts
 returns-clause-equal_texts g c = equal_texts _ _
+
+pub returns-clause-asked : goal.returns-clause-asked
+returns-clause-asked g c = asked_at _ _ _ _ _ c.conduct.ensures.course

@@ -1,0 +1,236 @@
+-- What a run asks of the shelf, status by status.
+use Rattle.std.proofs.Common.{◌≡◌, ◌⊎◌, ℕ, true, false, List, [], ◌∷◌, ◌++◌, map, Option, Some, None, Result, Ok, Err}
+use Rattle.std.proofs.Common.{inl, inr, refl, sym, ap, subst, ◌∙◌, Bool, if◌then◌else◌}
+use Rattle.std.proofs.lemmas.List.{append-nil}
+use Rattle.std.specs.List.{list_all}
+use Rattle.sd_base.specs.Asked.{Request, ToRead, ToWrite}
+use Rattle.sd_base.specs.Files.{Files}
+use Rattle.sd_model.specs.StartTrees.{balanced_tree, right_tree, left_tree}
+use Rattle.sd_model.specs.Tree.{Tree}
+use Rattle.sd_manager.specs.Table.{Table}
+use Rattle.sd_formula.specs.declared.error.FormulaError.{FormulaError}
+use Rattle.sd_formula.specs.Dimacs.{Groups, dimacs}
+use Rattle.sd_vfile.specs.Reads.{vtree_file}
+use Rattle.sd_vfile.specs.declared.fault.VtreeFault.{VtreeFault}
+use Rattle.sd_file.specs.Reads.{File, sdd_file}
+use Rattle.sd_file.specs.declared.fault.SddFault.{SddFault}
+use Rattle.sd_script.specs.Scripts.{Script, script_of}
+use Rattle.sd_script.specs.declared.command.Action.{Action}
+use Rattle.sd_script.specs.declared.command.Action.TheVariants as actions
+use Rattle.sd_script.specs.declared.command.Command.{Command as Line}
+use Rattle.sd_script.specs.declared.fault.ScriptFault.{ScriptFault}
+use Rattle.sd_words.specs.JobOf.{job_of}
+use Rattle.sd_words.specs.declared.jobs.Job.{Job}
+use Rattle.sd_words.specs.declared.jobs.TreeWord.{TreeWord}
+use Rattle.sd_words.specs.declared.jobs.TreeWord.TheVariants as trees
+use Rattle.sd_words.specs.declared.faults.WordsFault.{WordsFault}
+use Rattle.sd_commands.specs.Effects.{Effect, Write, Print}
+use Rattle.sd_commands.specs.declared.command.RunCommand.{RunCommand}
+use Rattle.sd_commands.specs.declared.command.RunCommand.TheVariants as commands
+use Rattle.sd_tool.specs.Asks.{ReadsBy, ComesTo, AsksLast, GoesTo, HasAsked, writings, begun}
+use Rattle.sd_tool.specs.Devices.{Moment}
+use Rattle.sd_tool.specs.Ends.{End, Finished, Refused, Unreadable, Unwritable, OutOfMemory, ArenaFull, status_of}
+use Rattle.sd_tool.specs.Headline.{IsCourse}
+use Rattle.sd_tool.specs.Readings.{Input, Reading, Refuses, Begins, Reads, Text, Whole, TooLong}
+use Rattle.sd_tool.specs.Readings.{reading_of, with_job, with_input, with_input_word, with_formula, with_tree_word}
+use Rattle.sd_tool.specs.Readings.{with_tree, with_vtree_text, with_vtree_reading, with_commands, script_reading}
+use Rattle.sd_tool.specs.Readings.{with_script_text, with_script_reading, with_lines, with_action, with_sdd}
+use Rattle.sd_tool.specs.Readings.{with_sdd_reading, is_served, is_plain, input_file, file_name, plan_for, default_of}
+use Rattle.sd_tool.specs.Refusals.{refusal_status}
+use Rattle.sd_tool.specs.declared.refusal.Refusal.{Refusal}
+use Rattle.sd_tool.specs.declared.refusal.Refusal.TheVariants.{NotYet}
+use Rattle.sd_tool.proofs.ByStatus.{no_idle}
+
+-- ---- the words are refused before any reading
+
+-- whatever the texts, the words are not refused from here on
+abbrev pub AreAccepted : Reading → Type 0
+AreAccepted (Refuses refusal) = refusal_status refusal ≡ 1 → ⊥
+AreAccepted (Begins plan) = Unit {0}
+AreAccepted (Reads file next) = (text : Text) → AreAccepted (next text)
+
+-- so they are not at any point
+accepted_on : (files : Option Files) (reading : Reading) (names : List (List ℕ)) (refusal : Refusal)
+    → AreAccepted reading → ReadsBy files reading names (Refuses refusal) → refusal_status refusal ≡ 1 → ⊥
+accepted_on files reading [] refusal accepted a = subst AreAccepted (sym a) accepted
+accepted_on files (Refuses found) (x ∷ xs) refusal accepted a = absurd a
+accepted_on files (Begins plan) (x ∷ xs) refusal accepted a = absurd a
+accepted_on files (Reads file next) (x ∷ xs) refusal accepted a =
+    accepted_on files (next a.0) xs refusal (accepted a.0) a.3
+
+accepted_sdd : (v : ℕ) (file : List ℕ) (next : File → Reading) (text : Text) → ((read : File) → AreAccepted (next read))
+    → AreAccepted (with_sdd v file next text)
+accepted_sdd v file next TooLong accepted = λ e. cc
+accepted_sdd v file next (Whole bytes) accepted = go (sdd_file v bytes)
+  where
+    go : (read : Result File SddFault) → AreAccepted (with_sdd_reading file next read)
+    go (Ok read) = accepted read
+    go (Err fault) = λ e. cc
+
+accepted_action : (v : ℕ) (s : Script) (next : RunCommand → Reading) (action : Action)
+    → ((command : RunCommand) → AreAccepted (next command)) → AreAccepted (with_action v s next action)
+accepted_action v s next (actions.Input n) accepted = accepted (commands.Input n)
+accepted_action v s next (actions.Load n file) accepted = λ text.
+    accepted_sdd v (file_name s file) (λ read. next (commands.Load n read)) text
+    (λ read. accepted (commands.Load n read))
+accepted_action v s next (actions.Lit n literal) accepted = accepted (commands.Literal n literal)
+accepted_action v s next (actions.Constant n value) accepted = accepted (commands.Constant n value)
+accepted_action v s next (actions.Binary operation n a b) accepted = accepted (commands.Combine operation n a b)
+accepted_action v s next (actions.Not n a) accepted = accepted (commands.Negate n a)
+accepted_action v s next (actions.Given n a literal) accepted = λ e. cc
+accepted_action v s next (actions.Forget n a x) accepted = λ e. cc
+accepted_action v s next (actions.Drop a) accepted = accepted (commands.Drop a)
+accepted_action v s next (actions.Turn kind p) accepted = λ e. cc
+accepted_action v s next (actions.Minimise rounds) accepted = λ e. cc
+accepted_action v s next (actions.Limit k) accepted = λ e. cc
+accepted_action v s next (actions.Same a b) accepted = accepted (commands.Same a b)
+accepted_action v s next (actions.Size a) accepted = accepted (commands.Size a)
+accepted_action v s next (actions.Value a bits) accepted = accepted (commands.Value a bits)
+accepted_action v s next (actions.Write a file) accepted = accepted (commands.Write a (file_name s file))
+accepted_action v s next (actions.Vtree file) accepted = accepted (commands.WriteVtree (file_name s file))
+
+accepted_lines : (v : ℕ) (s : Script) (begin : List RunCommand → Reading) (done : List RunCommand) (lines : List Line)
+    → ((cs : List RunCommand) → AreAccepted (begin cs)) → AreAccepted (with_lines v s begin done lines)
+accepted_lines v s begin done [] accepted = accepted done
+accepted_lines v s begin done (line ∷ lines) accepted =
+    accepted_action v s (λ command. with_lines v s begin (done ++ command ∷ []) lines) line.action
+    (λ command. accepted_lines v s begin (done ++ command ∷ []) lines accepted)
+
+accepted_script : (v : ℕ) (s : Script) (begin : List RunCommand → Reading)
+    → ((cs : List RunCommand) → AreAccepted (begin cs)) → AreAccepted (script_reading v begin s)
+accepted_script v s begin accepted = go (list_all (λ (line : Line). is_served line.action) s.commands)
+  where
+    go : (served : Bool)
+        → AreAccepted (if served then with_lines v s begin [] s.commands else Refuses NotYet)
+    go true = accepted_lines v s begin [] s.commands accepted
+    go false = λ e. cc
+
+accepted_script_text : (file : List ℕ) (v : ℕ) (begin : List RunCommand → Reading) (text : Text)
+    → ((cs : List RunCommand) → AreAccepted (begin cs)) → AreAccepted (with_script_text file v begin text)
+accepted_script_text file v begin TooLong accepted = λ e. cc
+accepted_script_text file v begin (Whole bytes) accepted = go (script_of v bytes)
+  where
+    go : (read : Result Script ScriptFault) → AreAccepted (with_script_reading file v begin read)
+    go (Ok s) = accepted_script v s begin accepted
+    go (Err fault) = λ e. cc
+
+accepted_tree : (job : Job) (f : Groups) (tree : Tree) → AreAccepted (with_tree job f tree)
+accepted_tree job f tree = go job.script
+  where
+    begin : List RunCommand → Reading
+    begin cs = Begins (plan_for job f tree cs)
+
+    go : (file : Option (List ℕ))
+        → AreAccepted (with_commands job f.variables (λ cs. Begins (plan_for job f tree cs)) file)
+    go None = tt
+    go (Some file) = λ text.
+        accepted_script_text file f.variables (λ cs. Begins (plan_for job f tree cs)) text (λ cs. tt)
+
+accepted_tree_word : (job : Job) (f : Groups) (word : TreeWord) → AreAccepted (with_tree_word job f word)
+accepted_tree_word job f trees.Balanced = accepted_tree job f (balanced_tree f.variables)
+accepted_tree_word job f trees.Right = accepted_tree job f (right_tree f.variables)
+accepted_tree_word job f trees.Left = accepted_tree job f (left_tree f.variables)
+accepted_tree_word job f (trees.File file) = λ text. read text
+  where
+    go : (read : Result Tree VtreeFault) → AreAccepted (with_vtree_reading job f file read)
+    go (Ok tree) = accepted_tree job f tree
+    go (Err fault) = λ e. cc
+
+    read : (text : Text) → AreAccepted (with_vtree_text job f file text)
+    read TooLong = λ e. cc
+    read (Whole bytes) = go (vtree_file f.variables bytes)
+
+accepted_input : (job : Job) (input : Input) (text : Text) → AreAccepted (with_input job input text)
+accepted_input job input TooLong = λ e. cc
+accepted_input job input (Whole bytes) = go (dimacs input.kind bytes)
+  where
+    go : (read : Result Groups FormulaError) → AreAccepted (with_formula job input.file read)
+    go (Ok f) = accepted_tree_word job f job.tree
+    go (Err fault) = λ e. cc
+
+accepted_input_word : (job : Job) (input : Option Input) → AreAccepted (with_input_word job input)
+accepted_input_word job None = λ e. cc
+accepted_input_word job (Some input) = λ text. accepted_input job input text
+
+-- where the words are refused, no file was read before
+none_read : (files : Option Files) (words : List (List ℕ)) (names : List (List ℕ)) (refusal : Refusal)
+    → ReadsBy files (reading_of words) names (Refuses refusal) → refusal_status refusal ≡ 1 → names ≡ []
+none_read files words names refusal = go (job_of words) names
+  where
+    by : (job : Job) (b : Bool)
+        → AreAccepted (if b then with_input_word job (input_file job.input) else Refuses NotYet)
+    by job true = accepted_input_word job (input_file job.input)
+    by job false = λ e. cc
+
+    go : (job : Result Job WordsFault) (names : List (List ℕ)) → ReadsBy files (with_job job) names (Refuses refusal)
+        → refusal_status refusal ≡ 1 → names ≡ []
+    go (Err fault) [] a e = refl
+    go (Err fault) (x ∷ xs) a e = absurd a
+    go (Ok job) names a e = absurd (accepted_on files (with_job (Ok job)) names refusal (by job (is_plain job)) a e)
+
+-- ---- the order
+
+-- the names that effects write
+writings_names : (effects : List Effect) → (names : List (List ℕ)) × (writings effects ≡ map ToWrite names)
+writings_names [] = ([], refl)
+writings_names (Write file bytes ∷ effects) =
+    let rest = writings_names effects in
+    (file ∷ rest.0, ap (λ (l : List Request). ToWrite file ∷ l) rest.1)
+writings_names (Print line ∷ effects) = writings_names effects
+
+-- readings alone are in order
+only_readings : (asks : List Request → Type 0) (names : List (List ℕ)) → asks (map ToRead names)
+    → (names files : List (List ℕ)) × asks (map ToRead names ++ map ToWrite files)
+only_readings asks names asked = (names, [], subst asks (sym (append-nil (map ToRead names))) asked)
+
+-- no file is read after one is written
+order_of : (asks : List Request → Type 0) (words : List (List ℕ)) (files : Option Files) (effects : List Effect)
+    (end : End) → GoesTo asks words files effects end
+    → (names files : List (List ℕ)) × asks (map ToRead names ++ map ToWrite files)
+order_of asks words files effects end (inr p) =
+    let written = writings_names (begun effects end) in
+    (p.1.names, written.0, subst (λ l. asks (map ToRead p.1.names ++ l)) written.1 p.1.asked)
+order_of asks words files effects Finished (inl p) = absurd p.0
+order_of asks words files effects (Refused refusal) (inl p) = only_readings asks p.0.names p.0.asked
+order_of asks words files effects (Unreadable file) (inl p) =
+    only_readings asks (p.0.names ++ file ∷ []) p.0.asked
+order_of asks words files effects (Unwritable effect) (inl p) = absurd p.0
+order_of asks words files effects OutOfMemory (inl (inl p, none)) = only_readings asks p.1.names p.1.asked
+order_of asks words files effects OutOfMemory (inl (inr p, none)) =
+    only_readings asks (p.1.names ++ p.0 ∷ []) p.1.asked
+order_of asks words files effects (ArenaFull n) (inl p) = absurd p.0
+
+-- ---- status by status
+
+-- what is asked of the shelf, status by status
+pub asked_at : {asks : List Request → Type 0} (words : List (List ℕ)) (status : ℕ) (kept : Option Table)
+    (old new : Moment) → IsCourse asks words status kept old new → HasAsked status asks
+asked_at {asks = asks} words status kept old new went = record {
+  nothing = none went.end went.goes went.status_is;
+  readings = alone went.end went.goes went.status_is;
+  order = order_of asks words old.contents.files went.effects went.end went.goes;
+}
+  where
+    none : (end : End) → GoesTo asks words old.contents.files went.effects end → status ≡ status_of end → status ≡ 1
+        → asks []
+    none Finished goes is s = cc
+    none (Refused refusal) (inl p) is s =
+        subst (λ (l : List (List ℕ)). asks (map ToRead l))
+        (none_read old.contents.files words p.0.names refusal p.0.reads (sym is ∙ s)) p.0.asked
+    none (Refused refusal) (inr p) is s = absurd p.2
+    none (Unreadable file) goes is s = cc
+    none (Unwritable effect) goes is s = cc
+    none OutOfMemory goes is s = cc
+    none (ArenaFull n) goes is s = cc
+
+    alone : (end : End) → GoesTo asks words old.contents.files went.effects end → status ≡ status_of end
+        → (status ≡ 1) ⊎ (status ≡ 2) ⊎ (status ≡ 3) ⊎ (status ≡ 5) ⊎ (status ≡ 9)
+        → (names : List (List ℕ)) × asks (map ToRead names)
+    alone Finished goes is s = no_idle status 0 refl is s
+    alone (Refused refusal) (inl p) is s = (p.0.names, p.0.asked)
+    alone (Refused refusal) (inr p) is s = absurd p.2
+    alone (Unreadable file) (inl p) is s = (p.0.names ++ file ∷ [], p.0.asked)
+    alone (Unreadable file) (inr p) is s = absurd p.2
+    alone (Unwritable effect) goes is s = no_idle status 6 refl is s
+    alone OutOfMemory goes is s = no_idle status 7 refl is s
+    alone (ArenaFull n) goes is s = no_idle status 8 refl is s
