@@ -2,12 +2,12 @@
 use Rattle.std.proofs.Common.{◌≡◌, ◌≢◌, ℕ, ◌+◌, ◌-◌, ◌^◌, min, List, [], ◌∷◌, ◌++◌, sym, ap, subst, ◌∙◌, refl, arith}
 use Rattle.std.proofs.Common.{append_assoc}
 use Rattle.std.proofs.lemmas.List.{append-nil}
-use Rattle.sd_base.specs.Asked.{Request, ToRead, ToWrite, Adds, AsksNothing, AreCounts, AreCalls}
+use Rattle.sd_base.specs.Asked.{Request, ToRead, ToWrite, Adds, AsksNothing, AreCounts, AreCalls, CountsRequests}
 use Rattle.sd_base.specs.Asked.{readings_among, writings_among}
 use Rattle.sd_base.specs.FaultPlan.{calls_of, AreOthersKept}
 use Rattle.sd_base.specs.declared.memory.fault_plan.FaultPlan.{FaultPlan}
 use Rattle.sd_base.specs.declared.memory.fault_plan.ShelfCall.{ShelfCall}
-use Rattle.sd_base.specs.declared.memory.fault_plan.ShelfCall.TheVariants.{StartRead, StartWrite}
+use Rattle.sd_base.specs.declared.memory.fault_plan.ShelfCall.TheVariants.{StartRead, Read, StartWrite, Append, Finish}
 
 -- requests of two parts of a time are those of the whole
 pub adds_then : {F : Type 0} (asked : F → List Request → Type 0) (old mid new : F) (first later : List Request)
@@ -73,7 +73,7 @@ counts_writing name readings writings after is before was = record {
 }
 
 -- the plan counts a reading that is begun
-pub calls_reading : (name : List ℕ) (old new : FaultPlan)
+calls_reading : (name : List ℕ) (old new : FaultPlan)
     → calls_of new StartRead ≡ min (calls_of old StartRead + 1) (2 ^ 64 - 1) → AreOthersKept old StartRead new
     → (before : List Request) → AreCalls old before → AreCalls new (before ++ ToRead name ∷ [])
 calls_reading name old new is others before was =
@@ -81,7 +81,7 @@ calls_reading name old new is others before was =
     (counts_reading name old.start_reads old.start_writes new.start_reads is before was)
 
 -- the plan counts a writing that is begun
-pub calls_writing : (name : List ℕ) (old new : FaultPlan)
+calls_writing : (name : List ℕ) (old new : FaultPlan)
     → calls_of new StartWrite ≡ min (calls_of old StartWrite + 1) (2 ^ 64 - 1) → AreOthersKept old StartWrite new
     → (before : List Request) → AreCalls old before → AreCalls new (before ++ ToWrite name ∷ [])
 calls_writing name old new is others before was =
@@ -89,9 +89,19 @@ calls_writing name old new is others before was =
     (counts_writing name old.start_reads old.start_writes new.start_writes is before was)
 
 -- the other calls count neither
-pub calls_other : (old new : FaultPlan) (call : ShelfCall) → StartRead ≢ call → StartWrite ≢ call
+calls_other : (old new : FaultPlan) (call : ShelfCall) → StartRead ≢ call → StartWrite ≢ call
     → AreOthersKept old call new → (before : List Request) → AreCalls old before → AreCalls new before
 calls_other old new call no_reading no_writing others before was = record {
   readings = others StartRead no_reading ∙ was.readings;
   writings = others StartWrite no_writing ∙ was.writings;
 }
+
+-- what each call counts
+pub counts_requests : (old new : FaultPlan) (call : ShelfCall)
+    → calls_of new call ≡ min (calls_of old call + 1) (2 ^ 64 - 1) → AreOthersKept old call new
+    → CountsRequests old call new
+counts_requests old new StartRead is others = λ name. calls_reading name old new is others
+counts_requests old new StartWrite is others = λ name. calls_writing name old new is others
+counts_requests old new Read is others = calls_other old new Read (λ e. cc) (λ e. cc) others
+counts_requests old new Append is others = calls_other old new Append (λ e. cc) (λ e. cc) others
+counts_requests old new Finish is others = calls_other old new Finish (λ e. cc) (λ e. cc) others

@@ -1,6 +1,8 @@
 -- What is asked of a shelf: which files it is to read and to write, in order.
 use Rattle.std.specs.Prelude.{◌≡◌, ℕ, ◌+◌, ◌-◌, ◌^◌, min, List, [], ◌∷◌, ◌++◌}
 use Rattle.sd_base.specs.declared.memory.fault_plan.FaultPlan.{FaultPlan}
+use Rattle.sd_base.specs.declared.memory.fault_plan.ShelfCall.{ShelfCall}
+use Rattle.sd_base.specs.declared.memory.fault_plan.ShelfCall.TheVariants.{StartRead, StartWrite}
 
 -- a reading or a writing of a file that is begun, also where it fails
 pub data Request : Type 0 where
@@ -36,3 +38,11 @@ pub record AreCounts (n m : ℕ) (requests : List Request) : Type 0 where
 -- the plan of faults has counted these requests
 abbrev pub AreCalls : FaultPlan → List Request → Type 0
 AreCalls plan requests = AreCounts plan.start_reads plan.start_writes requests
+
+-- a call that begins a reading or a writing is counted as one more request, and no other call is
+abbrev pub CountsRequests : FaultPlan → ShelfCall → FaultPlan → Type 0
+CountsRequests old StartRead new = (name : List ℕ) (before : List Request) → AreCalls old before
+    → AreCalls new (before ++ ToRead name ∷ [])
+CountsRequests old StartWrite new = (name : List ℕ) (before : List Request) → AreCalls old before
+    → AreCalls new (before ++ ToWrite name ∷ [])
+CountsRequests old call new = (before : List Request) → AreCalls old before → AreCalls new before

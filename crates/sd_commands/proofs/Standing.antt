@@ -1,27 +1,28 @@
 -- The state that the code represents at the start, and after each command.
 use Rattle.std.proofs.Common.{◌≡◌, ℕ, ◌+◌, ◌-◌, ◌≤◌, Bool, true, false, not, cond, eqb, Contains, List, [], ◌∷◌, filter}
-use Rattle.std.proofs.Common.{Option, Some, None, refl, sym, ap, subst, ◌∙◌, arith}
-use Rattle.std.proofs.Common.{inl, inr}
+use Rattle.std.proofs.Common.{Option, Some, None, Result, Ok, Err, refl, sym, ap, subst, ◌∙◌, arith}
+use Rattle.std.proofs.Common.{◌⊎◌, inl, inr, IfSome, OnErr}
 use Rattle.std.proofs.lemmas.Bool.{cases_eq, eq-eqb, ne_eqb}
 use Rattle.std.proofs.lemmas.Bool.Decides.{nat_tests}
 use Rattle.std.proofs.lemmas.Cmp.{nat_cmp_total}
 use Rattle.std.specs.BTreeMap as maps
 use Rattle.std.specs.BTreeMap.{is_at}
 use Rattle.std.specs.Map.{lookup}
-use Rattle.std.specs.FinMap.{FinMap, get, insert, remove, len, len-insert, len-remove}
+use Rattle.std.specs.FinMap.{FinMap, get, get-empty, insert, remove, len, len-insert, len-remove}
 use Rattle.std.specs.Option.{IsSome, unwrap_or}
 use Rattle.std.specs.Ordering.{nat_cmp}
-use Rattle.sd_runs.proofs.Maps.{get_insert_same, get_insert_other, get_remove_other}
+use Rattle.sd_runs.proofs.Maps.{get_insert_same, get_insert_other, get_remove_same, get_remove_other, same_at_each}
 use Rattle.sd_model.specs.Expression.{Expression, Constant}
 use Rattle.sd_model.specs.Size.{IsDiagramOf}
 use Rattle.sd_vtree.specs.Numbered.{Numbered, plain_tree}
 use Rattle.sd_cache.specs.Entries.{Call, Entries}
 use Rattle.sd_manager.specs.Table.{Table, no_table}
-use Rattle.sd_manager.specs.Shown.{ShowsCanonical}
+use Rattle.sd_manager.specs.Shown.{ShowsCanonical, HoldsDiagram}
 use Rattle.sd_manager.specs.Making.{Extends, with_root, without_root}
 use Rattle.sd_apply.specs.Serving.{Serves}
 use Rattle.sd_commands.specs.Commands.{State, named, with_name, dropped, formula_named}
-use Rattle.sd_commands.specs.Standing.{Represents, HoldsName, HoldsValue, ShowsFormula, start}
+use Rattle.sd_commands.specs.Standing.{Represents, IsOfName, HoldsName, HoldsValue, ShowsFormula, start}
+use Rattle.sd_commands.specs.Standing.{IsAsBefore, HoldsState, removed}
 use Rattle.sd_commands.specs.declared.state.RunState.{RunState}
 use Rattle.sd_commands.proofs.Joining.{shown_on}
 
@@ -38,6 +39,7 @@ stands_first code vtree limit is empty_ no_names = record {
   tree = ap (λ t. plain_tree t.vtree) (sym is);
   holds = λ name. subst (λ r. HoldsName code.manager r None) (sym (no_root name)) tt;
   apart = λ a b root first second. let bad : ◌≡◌ {A = Option ℕ} None (Some root) = sym (no_root a) ∙ first in absurd cc;
+  only = λ root held. absurd (none_held root held);
   serves = subst (λ c. Serves c code.manager) (sym empty_)
       (record { early = λ e c. absurd (none e c); right = λ some e c same. absurd (none e c) });
   bound = ap (λ t. t.bound) is;
@@ -46,6 +48,12 @@ stands_first code vtree limit is empty_ no_names = record {
   where
     no_root : (name : ℕ) → maps.get nat_cmp code.names name ≡ None
     no_root name = ap (lookup (is_at (nat_cmp name))) no_names
+
+    none_held : (root : ℕ) → IsSome (get code.manager.roots root) → ⊥
+    none_held root held =
+        let bad : IsSome {T = ℕ} None =
+        subst (λ o. IsSome o) (ap (λ t. get t.roots root) is ∙ get-empty nat_cmp root) held in
+        absurd cc
 
 -- ---- what the names have
 
@@ -87,37 +95,39 @@ shows_held t root node f holds is =
 
 -- ---- other roots
 
--- a root that is not the new one holds what it held
-holds_with : (t : Table) (root node : ℕ) (r : Option ℕ) (v : Option Expression)
-    → ((n : ℕ) → r ≡ Some n → ¬ (n ≡ root)) → HoldsName t r v → HoldsName (with_root t root node) r v
-holds_with t root node None None other holds = tt
-holds_with t root node None (Some value) other holds = absurd holds
-holds_with t root node (Some r) None other holds = absurd holds
-holds_with t root node (Some r) (Some value) other holds = record {
+-- a name's root holds what it held, where it has the node that it had
+holds_with_roots : (t : Table) (roots : FinMap nat_cmp ℕ) (r : Option ℕ) (v : Option Expression)
+    → ((n : ℕ) → r ≡ Some n → get roots n ≡ get t.roots n) → HoldsName t r v
+    → HoldsName (record t { roots = roots }) r v
+holds_with_roots t roots None None same holds = tt
+holds_with_roots t roots None (Some value) same holds = absurd holds
+holds_with_roots t roots (Some r) None same holds = absurd holds
+holds_with_roots t roots (Some r) (Some value) same holds = record {
   diagram = holds.diagram;
-  is = record {
-    code = holds.is.code;
-    held = get_insert_other t.roots root node r (other r refl) ∙ holds.is.held;
-    is = holds.is.is;
-  };
+  is = record { code = holds.is.code; held = same r refl ∙ holds.is.held; is = holds.is.is };
   of_value = holds.of_value;
 }
 
--- a root that is not released holds what it held
-holds_without : (t : Table) (root : ℕ) (r : Option ℕ) (v : Option Expression)
-    → ((n : ℕ) → r ≡ Some n → ¬ (n ≡ root)) → HoldsName t r v → HoldsName (without_root t root) r v
-holds_without t root None None other holds = tt
-holds_without t root None (Some value) other holds = absurd holds
-holds_without t root (Some r) None other holds = absurd holds
-holds_without t root (Some r) (Some value) other holds = record {
-  diagram = holds.diagram;
-  is = record {
-    code = holds.is.code;
-    held = get_remove_other t.roots root r (other r refl) ∙ holds.is.held;
-    is = holds.is.is;
-  };
-  of_value = holds.of_value;
-}
+-- a root that is taken away is no longer held
+removed_at : (roots : FinMap nat_cmp ℕ) (o : Option ℕ) (r : ℕ) → o ≡ Some r → get (removed roots o) r ≡ None
+removed_at roots None r is = absurd cc
+removed_at roots (Some n) r is =
+    let same : n ≡ r = cc in subst (λ k. get (remove roots n) k ≡ None) same (get_remove_same roots n)
+
+-- each other one holds what it held
+removed_else : (roots : FinMap nat_cmp ℕ) (o : Option ℕ) (r : ℕ) → ¬ (o ≡ Some r)
+    → get (removed roots o) r ≡ get roots r
+removed_else roots None r differ = refl
+removed_else roots (Some n) r differ = get_remove_other roots n r (λ same. differ (ap Some (sym same)))
+
+-- there are not more roots without one
+fewer_removed : (roots : FinMap nat_cmp ℕ) (o : Option ℕ) → len (removed roots o) ≤ len roots
+fewer_removed roots None = omega arith
+fewer_removed roots (Some root) = at _ (len-remove nat_cmp_total roots root)
+  where
+    at : (b : Bool) → len (remove roots root) ≡ cond b (len roots - 1) (len roots) → len (remove roots root) ≤ len roots
+    at true e = omega (arith, e)
+    at false e = omega (arith, e)
 
 -- the cache serves, whatever the roots hold
 pub serves_roots : (cache : Entries) (t : Table) (roots : FinMap nat_cmp ℕ) → Serves cache t
@@ -148,100 +158,223 @@ not_absent t r v n root holds is absent = λ same.
     let bad : IsSome {T = ℕ} None = subst (λ o. IsSome o) (ap (get t.roots) same ∙ absent) some in
     absurd cc
 
--- ---- one name more
+-- ---- a name changed
 
-module _ (code new : RunState) (seen : State) (name node root : ℕ) (f : Expression) (was : Represents code seen)
-    (absent : get code.manager.roots root ≡ None) (is : new.manager ≡ with_root code.manager root node)
-    (names : (q : ℕ) → maps.get nat_cmp new.names q
-    ≡ cond (is_at (nat_cmp name) q) (Some root) (maps.get nat_cmp code.names q)) where
-  -- the new name has the new root
-  bound_here : (q : ℕ) → name ≡ q → maps.get nat_cmp new.names q ≡ Some root
-  bound_here q same = names q ∙ ap (λ b. cond b (Some root) (maps.get nat_cmp code.names q))
+-- The names were changed at one name: its former root is taken away, and it has this root now, if any, which was not
+-- held. Each other root stays.
+pub record ChangesName (code new : RunState) (name : ℕ) (root : Option ℕ) (roots : FinMap nat_cmp ℕ) : Type 0 where
+  pub names : (q : ℕ) → maps.get nat_cmp new.names q
+      ≡ cond (is_at (nat_cmp name) q) root (maps.get nat_cmp code.names q)
+  pub manager : new.manager ≡ record code.manager { roots = roots }
+  pub cache : new.cache ≡ code.cache
+  pub fresh : (r : ℕ) → root ≡ Some r → get code.manager.roots r ≡ None
+  pub released : (r : ℕ) → maps.get nat_cmp code.names name ≡ Some r → get roots r ≡ None
+  pub others : (r : ℕ) → ¬ (root ≡ Some r) → ¬ (maps.get nat_cmp code.names name ≡ Some r)
+      → get roots r ≡ get code.manager.roots r
+
+-- an optional number is this one, or it is not
+some_or_not : (o : Option ℕ) (r : ℕ) → (o ≡ Some r) ⊎ (¬ (o ≡ Some r))
+some_or_not None r = inr (λ e. cc)
+some_or_not (Some n) r = elim (cases_eq n r) [
+  | inl same ↦ inl (ap Some same)
+  | inr differ ↦ inr (λ e. differ (cc))
+]
+
+-- what a name has and what it stands for, or what was there
+held_by : (b : Bool) (t : Table) (root : Option ℕ) (value : Option Expression) (r : Option ℕ) (v : Option Expression)
+    → HoldsName t root value → (b ≡ false → HoldsName t r v) → HoldsName t (cond b root r) (cond b value v)
+held_by true t root value r v here else_ = here
+held_by false t root value r v here else_ = else_ refl
+
+module _ (code new : RunState) (seen : State) (name : ℕ) (root : Option ℕ) (roots : FinMap nat_cmp ℕ)
+    (was : Represents code seen) (changes : ChangesName code new name root roots) where
+  -- the name has its root now
+  root_here : (q : ℕ) → name ≡ q → maps.get nat_cmp new.names q ≡ root
+  root_here q same = changes.names q ∙ ap (λ b. cond b root (maps.get nat_cmp code.names q))
       (is_at_eqb name q ∙ eq-eqb name q same)
 
   -- each other name has the root that it had
-  bound_else : (q : ℕ) → ¬ (name ≡ q) → maps.get nat_cmp new.names q ≡ maps.get nat_cmp code.names q
-  bound_else q differ = names q ∙ ap (λ b. cond b (Some root) (maps.get nat_cmp code.names q))
+  root_else : (q : ℕ) → ¬ (name ≡ q) → maps.get nat_cmp new.names q ≡ maps.get nat_cmp code.names q
+  root_else q differ = changes.names q ∙ ap (λ b. cond b root (maps.get nat_cmp code.names q))
       (is_at_eqb name q ∙ ne_eqb name q differ)
 
-  -- no former name has the new root
-  former : (q : ℕ) → ¬ (maps.get nat_cmp code.names q ≡ Some root)
-  former q at = not_absent code.manager _ _ root root (was.holds q) at absent refl
+  -- no name had the root that the name has now
+  not_fresh : (q r : ℕ) → maps.get nat_cmp code.names q ≡ Some r → ¬ (root ≡ Some r)
+  not_fresh q r at = λ is. not_absent code.manager _ _ r r (was.holds q) at (changes.fresh r is) refl
 
-  bound_apart : (a b r : ℕ) → maps.get nat_cmp new.names a ≡ Some r → maps.get nat_cmp new.names b ≡ Some r → a ≡ b
-  bound_apart a b r first second = elim (cases_eq name a) [
+  -- the root of another name holds what it held
+  stays_held : (q r : ℕ) → ¬ (name ≡ q) → maps.get nat_cmp code.names q ≡ Some r
+      → get roots r ≡ get code.manager.roots r
+  stays_held q r differ at = changes.others r (not_fresh q r at) (λ former. differ (was.apart name q r former at))
+
+  -- two names with one root are one name
+  names_apart : (a b r : ℕ) → maps.get nat_cmp new.names a ≡ Some r → maps.get nat_cmp new.names b ≡ Some r → a ≡ b
+  names_apart a b r first second = elim (cases_eq name a) [
     | inl here ↦ elim (cases_eq name b) [
       | inl there ↦ sym here ∙ there
       | inr differ ↦
-          let same : r ≡ root = let e = bound_here a here in cc in
-          absurd (former b (sym (bound_else b differ) ∙ second ∙ ap Some same))
+          absurd (not_fresh b r (sym (root_else b differ) ∙ second) (sym (root_here a here) ∙ first))
     ]
     | inr differ ↦ elim (cases_eq name b) [
       | inl there ↦
-          let same : r ≡ root = let e = bound_here b there in cc in
-          absurd (former a (sym (bound_else a differ) ∙ first ∙ ap Some same))
-      | inr other ↦ was.apart a b r (sym (bound_else a differ) ∙ first) (sym (bound_else b other) ∙ second)
+          absurd (not_fresh a r (sym (root_else a differ) ∙ first) (sym (root_here b there) ∙ second))
+      | inr other ↦ was.apart a b r (sym (root_else a differ) ∙ first) (sym (root_else b other) ∙ second)
     ]
   ]
 
--- the root of a name, or what was there
-held_by : (b : Bool) (t : Table) (root : ℕ) (f : Expression) (r : Option ℕ) (v : Option Expression)
-    → HoldsValue t root f → HoldsName t r v → HoldsName t (cond b (Some root) r) (cond b (Some f) v)
-held_by true t root f r v value holds = value
-held_by false t root f r v value holds = holds
+  -- a root that is held is that of a name
+  root_of_name : (r : ℕ) → IsSome (get roots r) → IsOfName new r
+  root_of_name r held = elim (some_or_not root r) [
+    | inl is ↦ record { name = name; is = root_here name refl ∙ is }
+    | inr other ↦ elim (some_or_not (maps.get nat_cmp code.names name) r) [
+      | inl former ↦
+          let bad : IsSome {T = ℕ} None = subst (λ o. IsSome o) (changes.released r former) held in
+          absurd cc
+      | inr differ ↦
+          let had = was.only r (subst (λ o. IsSome o) (changes.others r other differ) held) in
+          let apart : ¬ (name ≡ had.name) = λ same. differ (ap (maps.get nat_cmp code.names) same ∙ had.is) in
+          record { name = had.name; is = root_else had.name apart ∙ had.is }
+    ]
+  ]
 
--- the code represents the state with one more name
-pub stands_bound : (code new : RunState) (seen : State) (name node root : ℕ) (f : Expression)
+  -- what each name has holds what it stands for
+  holds_changed : (value : Option Expression) (q : ℕ) → HoldsName (record code.manager { roots = roots }) root value
+      → HoldsName (record code.manager { roots = roots }) (maps.get nat_cmp new.names q)
+      (cond (eqb name q) value (named seen.names q))
+  holds_changed value q here =
+      subst (λ r. HoldsName (record code.manager { roots = roots }) r (cond (eqb name q) value (named seen.names q)))
+      (sym (changes.names q ∙ ap (λ b. cond b root (maps.get nat_cmp code.names q)) (is_at_eqb name q)))
+      (held_by (eqb name q) (record code.manager { roots = roots }) root value (maps.get nat_cmp code.names q)
+      (named seen.names q) here
+      (λ differ. holds_with_roots code.manager roots _ _ (λ n at. stays_held q n (not_same q differ) at) (was.holds q)))
+    where
+      not_same : (q : ℕ) → eqb name q ≡ false → ¬ (name ≡ q)
+      not_same q differ = λ same. let yes = eq-eqb name q same in absurd cc
+
+  -- the code represents the state that is the same at each other name
+  stands_changed : (next : State) (value : Option Expression) → next.tree ≡ seen.tree
+      → ((q : ℕ) → named next.names q ≡ cond (eqb name q) value (named seen.names q))
+      → HoldsName (record code.manager { roots = roots }) root value → Represents new next
+  stands_changed next value same_tree names here = record {
+    tree = same_tree ∙ was.tree ∙ ap (λ t. plain_tree t.vtree) (sym changes.manager);
+    holds = λ q.
+        subst (λ t. HoldsName t (maps.get nat_cmp new.names q) (named next.names q)) (sym changes.manager)
+        (subst (λ v. HoldsName (record code.manager { roots = roots }) (maps.get nat_cmp new.names q) v)
+        (sym (names q)) (holds_changed value q here));
+    apart = names_apart;
+    only = λ r held. root_of_name r (subst (λ o. IsSome o) (ap (λ t. get t.roots r) changes.manager) held);
+    serves = subst (λ t. Serves new.cache t) (sym changes.manager)
+        (subst (λ c. Serves c (record code.manager { roots = roots })) (sym changes.cache)
+        (serves_roots code.cache code.manager roots was.serves));
+    bound = ap (λ t. t.bound) changes.manager ∙ was.bound;
+    no_move = ap (λ t. t.moving) changes.manager ∙ was.no_move;
+  }
+
+-- ---- one name more
+
+-- the code represents the state with one more name, whose former root is released
+pub stands_bound : (code new : RunState) (seen : State) (name node root : ℕ) (former : Option ℕ) (f : Expression)
     → Represents code seen → ShowsFormula code.manager node f → get code.manager.roots root ≡ None
-    → new.manager ≡ with_root code.manager root node → new.cache ≡ code.cache
+    → former ≡ maps.get nat_cmp code.names name
+    → new.manager ≡ record code.manager { roots = removed (insert code.manager.roots root node) former }
+    → new.cache ≡ code.cache
     → ((q : ℕ) → maps.get nat_cmp new.names q
     ≡ cond (is_at (nat_cmp name) q) (Some root) (maps.get nat_cmp code.names q))
     → Represents new (with_name seen name f)
-stands_bound code new seen name node root f was shows absent is same_cache names = record {
-  tree = was.tree ∙ ap (λ t. plain_tree t.vtree) (sym is);
-  holds = λ q.
-      subst (λ t. HoldsName t (maps.get nat_cmp new.names q) (named ((name, f) ∷ seen.names) q)) (sym is)
-      (subst (λ r. HoldsName (with_root code.manager root node) r (named ((name, f) ∷ seen.names) q))
-      (sym (names q ∙ ap (λ b. cond b (Some root) (maps.get nat_cmp code.names q)) (is_at_eqb name q)))
-      (held_by (eqb name q) (with_root code.manager root node) root f (maps.get nat_cmp code.names q)
-      (named seen.names q) held
-      (holds_with code.manager root node _ _
-      (λ n at. not_absent code.manager _ _ n root (was.holds q) at absent) (was.holds q))));
-  apart = bound_apart code new seen name node root f was absent is names;
-  serves = subst (λ t. Serves new.cache t) (sym is)
-      (subst (λ c. Serves c (with_root code.manager root node)) (sym same_cache)
-      (serves_roots code.cache code.manager (insert code.manager.roots root node) was.serves));
-  bound = ap (λ t. t.bound) is ∙ was.bound;
-  no_move = ap (λ t. t.moving) is ∙ was.no_move;
-}
+stands_bound code new seen name node root former f was shows absent had is same_cache names =
+    stands_changed code new seen name (Some root) roots was changes (with_name seen name f) (Some f) refl named_now held
   where
-    held : HoldsValue (with_root code.manager root node) root f
+    roots : FinMap nat_cmp ℕ
+    roots = removed (insert code.manager.roots root node) former
+
+    not_former : ¬ (former ≡ Some root)
+    not_former = λ e. not_absent code.manager _ _ root root (was.holds name) (sym had ∙ e) absent refl
+
+    changes : ChangesName code new name (Some root) (removed (insert code.manager.roots root node) former)
+    changes = record {
+      names = names;
+      manager = is;
+      cache = same_cache;
+      fresh = λ r e. let same : root ≡ r = cc in subst (λ k. get code.manager.roots k ≡ None) same absent;
+      released = λ r at. removed_at (insert code.manager.roots root node) former r (had ∙ at);
+      others = λ r other differ.
+          removed_else (insert code.manager.roots root node) former r (λ e. differ (sym had ∙ e))
+          ∙ get_insert_other code.manager.roots root node r (λ same. other (ap Some (sym same)));
+    }
+
+    held : HoldsValue (record code.manager { roots = removed (insert code.manager.roots root node) former }) root f
     held = record {
       diagram = shows.diagram;
-      is = record { code = node; held = get_insert_same code.manager.roots root node; is = shows.is };
+      is = record {
+        code = node;
+        held = removed_else (insert code.manager.roots root node) former root not_former
+            ∙ get_insert_same code.manager.roots root node;
+        is = shows.is;
+      };
       of_value = shows.of_value;
     }
 
--- at most one root more
-pub one_root_more : (old new : Table) (root node : ℕ) → new ≡ with_root old root node
-    → len new.roots ≤ len old.roots + 1
-one_root_more old new root node is =
-    subst (λ t. len t.roots ≤ len old.roots + 1) (sym is) (at _ (len-insert nat_cmp_total old.roots root node))
+    named_now : (q : ℕ) → named ((name, f) ∷ seen.names) q ≡ cond (eqb name q) (Some f) (named seen.names q)
+    named_now q = refl
+
+-- a root that is held and released again leaves the manager as it was
+regained : (t : Table) (root node : ℕ) → get t.roots root ≡ None
+    → without_root (with_root t root node) root ≡ t
+regained t root node absent = ap (λ roots. record t { roots = roots }) (same_at_each _ _ at)
   where
+    at : (q : ℕ) → get (remove (insert t.roots root node) root) q ≡ get t.roots q
+    at q = elim (cases_eq q root) [
+      | inl same ↦
+          subst (λ k. get (remove (insert t.roots root node) root) k ≡ get t.roots k) (sym same)
+          (get_remove_same (insert t.roots root node) root ∙ sym absent)
+      | inr differ ↦
+          get_remove_other (insert t.roots root node) root q differ ∙ get_insert_other t.roots root node q differ
+    ]
+
+-- a root that was just made is held
+pub newly_held : (old new : Table) (root node again : ℕ) → new ≡ with_root old root node → again ≡ root
+    → IsSome (get new.roots again)
+newly_held old new root node again is same =
+    subst (λ t. IsSome (get t.roots again)) (sym is)
+    (subst (λ r. IsSome (get (insert old.roots root node) r)) (sym same)
+    (subst (λ o. IsSome o) (sym (get_insert_same old.roots root node)) refl))
+
+-- so where it is released, nothing changed
+pub given_up : (old mid new : Table) (root node again : ℕ) → get old.roots root ≡ None
+    → mid ≡ with_root old root node → again ≡ root → new ≡ without_root mid again → new ≡ old
+given_up old mid new root node again absent held same released =
+    released ∙ ap (λ t. without_root t again) held ∙ ap (without_root (with_root old root node)) same
+    ∙ regained old root node absent
+
+-- the former root is taken away after the new one was made
+pub made_and_released : (old mid new : Table) (root node : ℕ) (former : Option ℕ) → mid ≡ with_root old root node
+    → new ≡ record mid { roots = removed mid.roots former }
+    → new ≡ record old { roots = removed (insert old.roots root node) former }
+made_and_released old mid new root node former held released =
+    let without_former : Table → Table = λ t. record t { roots = removed t.roots former } in
+    released ∙ ap without_former held
+
+-- at most one root more
+pub one_root_more : (old new : Table) (root node : ℕ) (former : Option ℕ)
+    → new ≡ record old { roots = removed (insert old.roots root node) former } → len new.roots ≤ len old.roots + 1
+one_root_more old new root node former is =
+    let fewer = fewer_removed (insert old.roots root node) former in
+    subst (λ t. len t.roots ≤ len old.roots + 1) (sym is)
+    (with_one _ _ fewer (at _ (len-insert nat_cmp_total old.roots root node)))
+  where
+    with_one : (a b : ℕ) → a ≤ b → b ≤ len old.roots + 1 → a ≤ len old.roots + 1
+    with_one a b p q = omega (arith, p, q)
+
     at : (b : Bool) → len (insert old.roots root node) ≡ cond b (len old.roots) (len old.roots + 1)
         → len (insert old.roots root node) ≤ len old.roots + 1
     at true e = omega (arith, e)
     at false e = omega (arith, e)
 
 -- no root more
-pub no_root_more : (old new : Table) (root : ℕ) → new ≡ without_root old root → len new.roots ≤ len old.roots
+pub no_root_more : (old new : Table) (root : Option ℕ) → new ≡ record old { roots = removed old.roots root }
+    → len new.roots ≤ len old.roots
 no_root_more old new root is =
-    subst (λ t. len t.roots ≤ len old.roots) (sym is) (at _ (len-remove nat_cmp_total old.roots root))
-  where
-    at : (b : Bool) → len (remove old.roots root) ≡ cond b (len old.roots - 1) (len old.roots)
-        → len (remove old.roots root) ≤ len old.roots
-    at true e = omega (arith, e)
-    at false e = omega (arith, e)
+    subst (λ t. len t.roots ≤ len old.roots) (sym is) (fewer_removed old.roots root)
 
 -- ---- one name less
 
@@ -268,66 +401,42 @@ named_dropped (e ∷ es) name q = elim (cases_eq e.0 name) [
       ])
 ]
 
--- nothing is held for the name, and each other name has what it had
-freed_by : (b : Bool) (t : Table) (r : Option ℕ) (v : Option Expression) → (b ≡ false → HoldsName t r v)
-    → HoldsName t (cond b None r) (cond b None v)
-freed_by true t r v holds = tt
-freed_by false t r v holds = holds refl
-
--- the code represents the state without a name
-stands_freed : (code new : RunState) (seen : State) (name : ℕ) (roots : FinMap nat_cmp ℕ) → Represents code seen
-    → new.manager ≡ record code.manager { roots = roots } → new.cache ≡ code.cache
+-- the code represents the state without a name, whose root is released
+pub stands_released : (code new : RunState) (seen : State) (name : ℕ) (former : Option ℕ) → Represents code seen
+    → former ≡ maps.get nat_cmp code.names name
+    → new.manager ≡ record code.manager { roots = removed code.manager.roots former } → new.cache ≡ code.cache
     → ((q : ℕ) → maps.get nat_cmp new.names q ≡ cond (is_at (nat_cmp name) q) None (maps.get nat_cmp code.names q))
-    → ((q : ℕ) → ¬ (name ≡ q) → HoldsName (record code.manager { roots = roots }) (maps.get nat_cmp code.names q)
-    (named seen.names q)) → Represents new (dropped seen name)
-stands_freed code new seen name roots was is same_cache names holds = record {
-  tree = was.tree ∙ ap (λ t. plain_tree t.vtree) (sym is);
-  holds = λ q.
-      subst (λ t. HoldsName t (maps.get nat_cmp new.names q) (named (dropped seen name).names q)) (sym is)
-      (subst (λ r. HoldsName (record code.manager { roots = roots }) r (named (dropped seen name).names q))
-      (sym (names_now q))
-      (subst (λ v. HoldsName (record code.manager { roots = roots })
-      (cond (eqb name q) None (maps.get nat_cmp code.names q)) v) (sym (named_dropped seen.names name q))
-      (freed_by (eqb name q) _ _ _ (λ differ. holds q (not_same q differ)))));
-  apart = λ a b r first second. was.apart a b r (had a r first) (had b r second);
-  serves = subst (λ t. Serves new.cache t) (sym is)
-      (subst (λ c. Serves c (record code.manager { roots = roots })) (sym same_cache)
-      (serves_roots code.cache code.manager roots was.serves));
-  bound = ap (λ t. t.bound) is ∙ was.bound;
-  no_move = ap (λ t. t.moving) is ∙ was.no_move;
-}
+    → Represents new (dropped seen name)
+stands_released code new seen name former was had is same_cache names =
+    stands_changed code new seen name None (removed code.manager.roots former) was changes (dropped seen name) None refl
+    (named_dropped seen.names name) tt
   where
-    names_now : (q : ℕ) → maps.get nat_cmp new.names q ≡ cond (eqb name q) None (maps.get nat_cmp code.names q)
-    names_now q = names q ∙ ap (λ b. cond b None (maps.get nat_cmp code.names q)) (is_at_eqb name q)
+    changes : ChangesName code new name None (removed code.manager.roots former)
+    changes = record {
+      names = names;
+      manager = is;
+      cache = same_cache;
+      fresh = λ r e. absurd cc;
+      released = λ r at. removed_at code.manager.roots former r (had ∙ at);
+      others = λ r other differ. removed_else code.manager.roots former r (λ e. differ (sym had ∙ e));
+    }
 
-    not_same : (q : ℕ) → eqb name q ≡ false → ¬ (name ≡ q)
-    not_same q differ = λ same. let yes = eq-eqb name q same in absurd cc
+-- the former root of a name is held
+pub former_held : (code : RunState) (seen : State) (name : ℕ) (former : Option ℕ) → Represents code seen
+    → former ≡ maps.get nat_cmp code.names name → IfSome former (λ r. IsSome (get code.manager.roots r))
+former_held code seen name None was had = tt
+former_held code seen name (Some root) was had = name_in code seen name root was (sym had)
 
-    kept : (b : Bool) (r : Option ℕ) (n : ℕ) → cond b None r ≡ Some n → r ≡ Some n
-    kept true r n e = absurd cc
-    kept false r n e = e
-
-    had : (q n : ℕ) → maps.get nat_cmp new.names q ≡ Some n → maps.get nat_cmp code.names q ≡ Some n
-    had q n e = kept (eqb name q) _ n (sym (names_now q) ∙ e)
-
--- its root is released
-pub stands_released : (code new : RunState) (seen : State) (name root : ℕ) → Represents code seen
-    → maps.get nat_cmp code.names name ≡ Some root → new.manager ≡ without_root code.manager root
-    → new.cache ≡ code.cache
-    → ((q : ℕ) → maps.get nat_cmp new.names q ≡ cond (is_at (nat_cmp name) q) None (maps.get nat_cmp code.names q))
-    → Represents new (dropped seen name)
-stands_released code new seen name root was at is same_cache names =
-    stands_freed code new seen name (remove code.manager.roots root) was is same_cache names
-    (λ q differ. holds_without code.manager root _ _
-    (λ n is same. differ (was.apart name q root at (is ∙ ap Some same))) (was.holds q))
-
--- it had no root
-pub stands_without : (code new : RunState) (seen : State) (name : ℕ) → Represents code seen
-    → new.manager ≡ code.manager → new.cache ≡ code.cache
-    → ((q : ℕ) → maps.get nat_cmp new.names q ≡ cond (is_at (nat_cmp name) q) None (maps.get nat_cmp code.names q))
-    → Represents new (dropped seen name)
-stands_without code new seen name was is same_cache names =
-    stands_freed code new seen name code.manager.roots was is same_cache names (λ q differ. was.holds q)
+-- and it still is, once another root is held
+pub former_held_with : (code : RunState) (seen : State) (name : ℕ) (former : Option ℕ) (mid : Table) (root node : ℕ)
+    → Represents code seen → former ≡ maps.get nat_cmp code.names name → get code.manager.roots root ≡ None
+    → mid ≡ with_root code.manager root node → IfSome former (λ r. IsSome (get mid.roots r))
+former_held_with code seen name None mid root node was had absent is = tt
+former_held_with code seen name (Some r) mid root node was had absent is =
+    subst (λ t. IsSome (get t.roots r)) (sym is) (subst (λ o. IsSome o)
+    (sym (get_insert_other code.manager.roots root node r
+    (not_absent code.manager _ _ r root (was.holds name) (sym had) absent)))
+    (name_in code seen name r was (sym had)))
 
 -- ---- a later table
 
@@ -355,7 +464,97 @@ stands_on code t cache seen was kept serves = record {
   tree = was.tree ∙ ap plain_tree (sym kept.vtree);
   holds = λ q. holds_on code.manager t _ _ kept (was.holds q);
   apart = was.apart;
+  only = λ root held. of_name root
+      (was.only root (subst (λ o. IsSome o) (ap (λ roots. get roots root) kept.roots) held));
   serves = serves;
   bound = kept.bound ∙ was.bound;
   no_move = kept.moving ∙ was.no_move;
+}
+  where
+    of_name : (root : ℕ) → IsOfName code root
+        → IsOfName (record { manager = t; cache = cache; names = code.names }) root
+    of_name root had = record { name = had.name; is = had.is }
+
+-- ---- what stays after an error
+
+-- where nothing changed, all is as before
+pub as_before : (code new : RunState) → new.manager ≡ code.manager → new.cache ≡ code.cache
+    → ((q : ℕ) → maps.get nat_cmp new.names q ≡ maps.get nat_cmp code.names q) → IsAsBefore code new
+as_before code new is same_cache names = record {
+  represents = λ seen was. record {
+    tree = was.tree ∙ ap (λ t. plain_tree t.vtree) (sym is);
+    holds = λ q.
+        subst (λ t. HoldsName t (maps.get nat_cmp new.names q) (named seen.names q)) (sym is)
+        (subst (λ r. HoldsName code.manager r (named seen.names q)) (sym (names q)) (was.holds q));
+    apart = λ a b root first second. was.apart a b root (sym (names a) ∙ first) (sym (names b) ∙ second);
+    only = λ root held.
+        let had = was.only root (subst (λ o. IsSome o) (ap (λ t. get t.roots root) is) held) in
+        record { name = had.name; is = names had.name ∙ had.is };
+    serves = subst (λ t. Serves new.cache t) (sym is) (subst (λ c. Serves c code.manager) (sym same_cache) was.serves);
+    bound = ap (λ t. t.bound) is ∙ was.bound;
+    no_move = ap (λ t. t.moving) is ∙ was.no_move;
+  };
+  holds = λ root d held. subst (λ t. HoldsDiagram t root d) (sym is) held;
+  roots = ap (λ t. t.roots) is;
+}
+
+-- a command that reads the state leaves it, whatever it answers
+pub as_before_self : {X E : Type 0} (code : RunState) (result : Result X E) → OnErr result (IsAsBefore code code)
+as_before_self code (Ok x) = tt
+as_before_self code (Err e) = as_before code code refl refl (λ q. refl)
+
+-- making nodes leaves all as before
+pub as_before_on : (code : RunState) (t : Table) (cache : Entries) → Extends code.manager t → Serves cache t
+    → IsAsBefore code (record { manager = t; cache = cache; names = code.names })
+as_before_on code t cache kept serves = record {
+  represents = λ seen was. stands_on code t cache seen was kept serves;
+  holds = λ root d held. record {
+    code = held.code;
+    held = ap (λ roots. get roots root) kept.roots ∙ held.held;
+    is = shown_on code.manager t d held.code kept held.is;
+  };
+  roots = kept.roots;
+}
+
+-- all is as before after nodes were made, and an error after that
+pub as_before_then : {X E : Type 0} (result : Result X E) (code new : RunState) (t : Table) (cache : Entries)
+    → Extends code.manager t → Serves cache t
+    → OnErr result (IsAsBefore (record { manager = t; cache = cache; names = code.names }) new)
+    → OnErr result (IsAsBefore code new)
+as_before_then (Ok x) code new t cache kept serves later = tt
+as_before_then (Err e) code new t cache kept serves later =
+    let first = as_before_on code t cache kept serves in record {
+      represents = λ seen was. later.represents seen (first.represents seen was);
+      holds = λ root d held. later.holds root d (first.holds root d held);
+      roots = later.roots ∙ first.roots;
+    }
+
+-- ---- what the manager alone holds
+
+-- a bound name has a root that holds its formula
+bound_root : (t : Table) (r : Option ℕ) (v : Option Expression) (f : Expression) → HoldsName t r v → v ≡ Some f
+    → (root : ℕ) × HoldsValue t root f
+bound_root t None None f holds is = absurd cc
+bound_root t None (Some value) f holds is = absurd holds
+bound_root t (Some root) None f holds is = absurd holds
+bound_root t (Some root) (Some value) f holds is =
+    let same : value ≡ f = cc in (root, subst (λ v. HoldsValue t root v) same holds)
+
+-- a name with a root is bound, and the root holds its formula
+root_bound : (t : Table) (r : Option ℕ) (v : Option Expression) (root : ℕ) → HoldsName t r v → r ≡ Some root
+    → (f : Expression) × (v ≡ Some f) × HoldsValue t root f
+root_bound t None v root holds is = absurd cc
+root_bound t (Some n) None root holds is = absurd holds
+root_bound t (Some n) (Some value) root holds is =
+    let same : n ≡ root = cc in (value, refl, subst (λ k. HoldsValue t k value) same holds)
+
+-- the manager of a code that represents a state holds that state
+pub holds_state : (code : RunState) (seen : State) → Represents code seen → HoldsState code.manager seen
+holds_state code seen was = record {
+  tree = was.tree;
+  each = λ name f is. bound_root code.manager _ _ f (was.holds name) is;
+  only = λ root held.
+      let had = was.only root held in
+      let bound = root_bound code.manager _ _ root (was.holds had.name) had.is in
+      (had.name, bound.0, bound.1, bound.2);
 }

@@ -3,7 +3,7 @@ use Rattle.std.specs.Prelude.{◌≡◌, ℕ, List, [], ◌∷◌, map, Option, 
 use Rattle.std.specs.Option.{IsSome}
 use Rattle.std.specs.declared.alloc.AllocError.{AllocError}
 use Rattle.std.specs.BTreeMap as maps
-use Rattle.std.specs.FinMap.{len}
+use Rattle.std.specs.FinMap.{FinMap, get, len, remove}
 use Rattle.std.specs.Ordering.{nat_cmp}
 use Rattle.sd_model.specs.Tree.{Tree}
 use Rattle.sd_model.specs.Diagram.{Diagram}
@@ -49,16 +49,42 @@ HoldsName t (Some root) (Some value) = HoldsValue t root value
 HoldsName t None None = Unit {0}
 HoldsName t root value = ⊥
 
+-- the root is that of a name
+pub record IsOfName (code : RunState) (root : ℕ) : Type 0 where
+  pub name : ℕ
+  pub is : maps.get nat_cmp code.names name ≡ Some root
+
 -- The code represents this state: each bound name has a root of its own in a manager with the whole bound and outside a
--- move, and the cache serves it.
+-- move, the manager holds no other root, and the cache serves it.
 pub record Represents (code : RunState) (state : State) : Type 0 where
   pub tree : state.tree ≡ plain_tree code.manager.vtree
   pub holds : (name : ℕ) → HoldsName code.manager (maps.get nat_cmp code.names name) (named state.names name)
   pub apart : (a b root : ℕ) → maps.get nat_cmp code.names a ≡ Some root → maps.get nat_cmp code.names b ≡ Some root
       → a ≡ b
+  pub only : (root : ℕ) → IsSome (get code.manager.roots root) → IsOfName code root
   pub serves : Serves code.cache code.manager
   pub bound : code.manager.bound ≡ 2147483647
   pub no_move : code.manager.moving ≡ None
+
+-- What a command that stops leaves: the code represents each state that it did, each root holds the diagram that it
+-- held, and no root is new.
+pub record IsAsBefore (old new : RunState) : Type 0 where
+  pub represents : (seen : State) → Represents old seen → Represents new seen
+  pub holds : (root : ℕ) (d : Diagram) → HoldsDiagram old.manager root d → HoldsDiagram new.manager root d
+  pub roots : new.manager.roots ≡ old.manager.roots
+
+-- The manager holds what the names of the state stand for: its vtree is the state's tree, for each bound name a root
+-- holds its formula, and each root that is held holds that of a bound name.
+pub record HoldsState (t : Table) (state : State) : Type 0 where
+  pub tree : state.tree ≡ plain_tree t.vtree
+  pub each : (name : ℕ) (f : Expression) → named state.names name ≡ Some f → (root : ℕ) × HoldsValue t root f
+  pub only : (root : ℕ) → IsSome (get t.roots root) → (name : ℕ) × (f : Expression)
+      × (named state.names name ≡ Some f) × HoldsValue t root f
+
+-- the roots without this one, if there is one
+abbrev pub removed : FinMap nat_cmp ℕ → Option ℕ → FinMap nat_cmp ℕ
+removed roots None = roots
+removed roots (Some root) = remove roots root
 
 -- the code has a root for the name
 abbrev pub HasRoot : RunState → ℕ → Type 0

@@ -1,5 +1,5 @@
 //! The commands that bind a name or free one.
-ghost use Rattle.std.specs.Prelude.{◌≡◌, ◌<◌, ◌≤◌, ◌+◌, ◌-◌, ◌^◌, IfOk, IfErr};
+ghost use Rattle.std.specs.Prelude.{◌≡◌, ◌<◌, ◌≤◌, ◌+◌, ◌-◌, ◌^◌, IfOk, IfErr, OnErr};
 ghost use Rattle.sd_model.specs.Tree.{leaves};
 ghost use Rattle.sd_model.specs.Expression.{Expression};
 ghost use Rattle.sd_vtree.specs.Numbered.{plain_tree};
@@ -7,7 +7,8 @@ ghost use Rattle.sd_formula.specs.Formulas.{expression_of};
 ghost use Rattle.sd_runs.specs.declared.error.TakeError.TheVariants.{OutOfMemory};
 ghost use Rattle.sd_manager.specs.Literals.{IsLiteralTo};
 ghost use Rattle.sd_commands.specs.Commands.{State};
-ghost use Rattle.sd_commands.specs.Standing.{Represents, ShowsFormula, HasRoot, BindsTo, StepsTo, StopsAt, root_count};
+ghost use Rattle.sd_commands.specs.Standing.{Represents, ShowsFormula, HasRoot, BindsTo, StepsTo, StopsAt};
+ghost use Rattle.sd_commands.specs.Standing.{IsAsBefore, root_count};
 
 use crate::command::{Effect, RunCommand};
 use crate::compile::{connect, formula_node};
@@ -29,6 +30,7 @@ fn bind(state: &mut RunState, name: u32, node: NodeId) -> Result<Option<Effect>,
         ShowsFormula state.old.manager node f
         → IfOk result (λ effect. BindsTo seen name f state.new effect) }
     ensures stops { IfErr result (λ e. e ≡ OutOfMemory) }
+    ensures err { OnErr result (IsAsBefore state.old state.new) }
     ensures vtree { state.new.manager.vtree ≡ state.old.manager.vtree }
     ensures roots { root_count state.new ≤ root_count state.old + 1 }
 {
@@ -52,6 +54,7 @@ pub(crate) fn bind_input(
         IfOk result (λ effect. StepsTo (expression_of input.now) seen (RunCommand.Input name)
         state.new effect) }
     ensures stops { IfErr result (λ e. StopsAt (RunCommand.Input name) state.new.manager e) }
+    ensures err { OnErr result (IsAsBefore state.old state.new) }
     ensures vtree { state.new.manager.vtree ≡ state.old.manager.vtree }
     ensures roots { root_count state.new ≤ root_count state.old + 1 }
 {
@@ -76,6 +79,7 @@ pub(crate) fn bind_file(
         (λ effect. StepsTo input seen (RunCommand.Load name file.now) state.new effect) }
     ensures stops { IfErr result
         (λ e. StopsAt (RunCommand.Load name file.now) state.new.manager e) }
+    ensures err { OnErr result (IsAsBefore state.old state.new) }
     ensures vtree { state.new.manager.vtree ≡ state.old.manager.vtree }
     ensures roots { root_count state.new ≤ root_count state.old + 1 }
 {
@@ -98,6 +102,7 @@ pub(crate) fn bind_literal(
         IfOk result
         (λ effect. StepsTo input seen (RunCommand.Literal name literal) state.new effect) }
     ensures stops { IfErr result (λ e. e ≡ OutOfMemory) }
+    ensures err { OnErr result (IsAsBefore state.old state.new) }
     ensures vtree { state.new.manager.vtree ≡ state.old.manager.vtree }
     ensures roots { root_count state.new ≤ root_count state.old + 1 }
 {
@@ -117,6 +122,7 @@ pub(crate) fn bind_constant(
         IfOk result
         (λ effect. StepsTo input seen (RunCommand.Constant name value) state.new effect) }
     ensures stops { IfErr result (λ e. e ≡ OutOfMemory) }
+    ensures err { OnErr result (IsAsBefore state.old state.new) }
     ensures vtree { state.new.manager.vtree ≡ state.old.manager.vtree }
     ensures roots { root_count state.new ≤ root_count state.old + 1 }
 {
@@ -142,6 +148,7 @@ pub(crate) fn bind_combination(
         effect) }
     ensures stops { IfErr result
         (λ e. StopsAt (RunCommand.Combine operation name a b) state.new.manager e) }
+    ensures err { OnErr result (IsAsBefore state.old state.new) }
     ensures vtree { state.new.manager.vtree ≡ state.old.manager.vtree }
     ensures roots { root_count state.new ≤ root_count state.old + 1 }
 {
@@ -173,6 +180,7 @@ pub(crate) fn bind_negation(
     ensures done { (input : Expression) (seen : State) → Represents state.old seen →
         IfOk result (λ effect. StepsTo input seen (RunCommand.Negate name a) state.new effect) }
     ensures stops { IfErr result (λ e. StopsAt (RunCommand.Negate name a) state.new.manager e) }
+    ensures err { OnErr result (IsAsBefore state.old state.new) }
     ensures vtree { state.new.manager.vtree ≡ state.old.manager.vtree }
     ensures roots { root_count state.new ≤ root_count state.old + 1 }
 {

@@ -1,12 +1,14 @@
 //! What a run holds between two commands.
-ghost use Rattle.std.specs.Prelude.{◌≡◌, ℕ, ◌<◌, ◌≤◌, ◌+◌, ◌-◌, ◌^◌, Some, IfOk, OnOk};
+ghost use Rattle.std.specs.Prelude.{◌≡◌, ℕ, ◌<◌, ◌≤◌, ◌+◌, ◌-◌, ◌^◌, Some, None, IfSome, IfOk, OnOk, OnErr};
+ghost use Rattle.std.specs.Option.{IsSome};
+ghost use Rattle.std.specs.FinMap.{get};
 ghost use Rattle.std.specs.BTreeMap as maps;
 ghost use Rattle.std.specs.Ordering.{nat_cmp};
 ghost use Rattle.sd_model.specs.Expression.{Expression};
 ghost use Rattle.sd_vtree.specs.Numbered.{plain_tree};
 ghost use Rattle.sd_commands.specs.Commands.{State, with_name, dropped, formula_named};
 ghost use Rattle.sd_commands.specs.Standing.{Represents, HoldsValue, ShowsFormula, HasRoot};
-ghost use Rattle.sd_commands.specs.Standing.{start, root_count};
+ghost use Rattle.sd_commands.specs.Standing.{start, root_count, removed, IsAsBefore};
 
 use sd_cache::Cache;
 use sd_manager::{Manager, NodeId, Root};
@@ -65,13 +67,15 @@ impl RunState {
         self.manager.node_of(self.root(name))
     }
 
-    /// Binds a name to a node that shows the diagram of a formula. The only error: out of memory.
+    /// Binds a name to a node that shows the diagram of a formula, and releases the root that the name had. The only
+    /// error: out of memory, and then all is as before.
     pub(crate) fn bind(&mut self, name: u32, node: NodeId) -> Result<(), AllocError>
         requires represents { (seen : State) × Represents self.old seen }
         requires shown { (f : Expression) × ShowsFormula self.old.manager node f }
         requires room { root_count self.old < 2 ^ 32 - 1 }
         ensures represents { OnOk result ((seen : State) (f : Expression) → Represents self.old seen
             → ShowsFormula self.old.manager node f → Represents self.new (with_name seen name f)) }
+        ensures err { OnErr result (IsAsBefore self.old self.new) }
         ensures vtree { self.new.manager.vtree ≡ self.old.manager.vtree }
         ensures roots { root_count self.new ≤ root_count self.old + 1 }
     {
@@ -80,8 +84,15 @@ impl RunState {
             Err(e) => return Err(e),
         };
         match self.names.insert(name, root) {
-            Ok(_) => Ok(()),
-            Err(_) => Err(AllocError),
+            Ok(former) => {
+                release_any(&mut self.manager, former);
+                Ok(())
+            }
+            Err(refused) => {
+                let (_, root) = refused.value;
+                self.manager.release(root);
+                Err(AllocError)
+            }
         }
     }
 
@@ -93,8 +104,18 @@ impl RunState {
         ensures vtree { self.new.manager.vtree ≡ self.old.manager.vtree }
         ensures roots { root_count self.new ≤ root_count self.old }
     {
-        if let Some(root) = self.names.remove(&name) {
-            self.manager.release(root);
-        }
+        let freed = self.names.remove(&name);
+        release_any(&mut self.manager, freed);
+    }
+}
+
+// Releases a root, if there is one.
+fn release_any(manager: &mut Manager, root: Option<Root>)
+    requires no_move { manager.old.moving ≡ None }
+    requires held { IfSome root (λ r. IsSome (get manager.old.roots r)) }
+    ensures { manager.new ≡ record manager.old { roots = removed manager.old.roots root } }
+{
+    if let Some(root) = root {
+        manager.release(root);
     }
 }

@@ -1,11 +1,12 @@
 //! What each command does.
-ghost use Rattle.std.specs.Prelude.{◌≡◌, ◌<◌, ◌≤◌, ◌+◌, ◌-◌, ◌^◌, IfOk, IfErr};
+ghost use Rattle.std.specs.Prelude.{◌≡◌, ◌<◌, ◌≤◌, ◌+◌, ◌-◌, ◌^◌, IfOk, IfErr, OnErr};
 ghost use Rattle.sd_model.specs.Tree.{leaves};
 ghost use Rattle.sd_vtree.specs.Numbered.{plain_tree};
 ghost use Rattle.sd_formula.specs.Formulas.{expression_of};
 ghost use Rattle.sd_commands.specs.Commands.{State};
 ghost use Rattle.sd_commands.specs.Fits.{Fits};
-ghost use Rattle.sd_commands.specs.Standing.{Represents, StepsTo, StopsAt, HandsOut, names_of, root_count};
+ghost use Rattle.sd_commands.specs.Standing.{Represents, StepsTo, StopsAt, HandsOut, IsAsBefore};
+ghost use Rattle.sd_commands.specs.Standing.{names_of, root_count};
 
 use crate::bind::{
     bind_combination, bind_constant, bind_file, bind_input, bind_literal, bind_negation,
@@ -18,7 +19,7 @@ use sd_runs::TakeError;
 use std::alloc::{AllocError, Global};
 
 /// Does one command, up to its effect, which is handed out. ArenaFull where the elements of a node find no room in
-/// the arena, and OutOfMemory where memory runs out.
+/// the arena, and OutOfMemory where memory runs out; then the names, the tree and what each root holds are as before.
 pub fn step(
     alloc: Global,
     input: &Formula,
@@ -33,6 +34,7 @@ pub fn step(
         IfOk result
         (λ effect. StepsTo (expression_of input.now) seen command.now state.new effect) }
     ensures stops { IfErr result (λ e. StopsAt command.now state.new.manager e) }
+    ensures err { OnErr result (IsAsBefore state.old state.new) }
     ensures vtree { state.new.manager.vtree ≡ state.old.manager.vtree }
     ensures roots { root_count state.new ≤ root_count state.old + 1 }
 {

@@ -1,8 +1,8 @@
 -- What readings ask for, one after another.
-use Rattle.std.proofs.Common.{◌≡◌, ◌⊎◌, ℕ, ◌≤◌, List, [], ◌∷◌, ◌++◌, map, Option, Result, Ok, Err}
+use Rattle.std.proofs.Common.{◌≡◌, ℕ, List, [], ◌∷◌, ◌++◌, map, Option}
 use Rattle.std.proofs.Common.{inl, inr, refl, sym, ap, subst, ◌∙◌, append_assoc}
 use Rattle.std.proofs.lemmas.List.{append-nil, map-append}
-use Rattle.sd_base.specs.Asked.{Request, ToRead, ToWrite, Adds}
+use Rattle.sd_base.specs.Asked.{Request, ToRead, Adds}
 use Rattle.sd_base.specs.Files.{Files}
 use Rattle.sd_base.proofs.AskedLemmas.{adds_then, adds_none}
 use Rattle.sd_commands.specs.Effects.{Effect}

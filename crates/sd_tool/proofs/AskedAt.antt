@@ -27,7 +27,7 @@ use Rattle.sd_words.specs.declared.faults.WordsFault.{WordsFault}
 use Rattle.sd_commands.specs.Effects.{Effect, Write, Print}
 use Rattle.sd_commands.specs.declared.command.RunCommand.{RunCommand}
 use Rattle.sd_commands.specs.declared.command.RunCommand.TheVariants as commands
-use Rattle.sd_tool.specs.Asks.{ReadsBy, ComesTo, AsksLast, GoesTo, HasAsked, writings, begun}
+use Rattle.sd_tool.specs.Asks.{ReadsBy, GoesTo, HasAsked, writings, begun}
 use Rattle.sd_tool.specs.Devices.{Moment}
 use Rattle.sd_tool.specs.Ends.{End, Finished, Refused, Unreadable, Unwritable, OutOfMemory, ArenaFull, status_of}
 use Rattle.sd_tool.specs.Headline.{IsCourse}
@@ -35,7 +35,7 @@ use Rattle.sd_tool.specs.Readings.{Input, Reading, Refuses, Begins, Reads, Text,
 use Rattle.sd_tool.specs.Readings.{reading_of, with_job, with_input, with_input_word, with_formula, with_tree_word}
 use Rattle.sd_tool.specs.Readings.{with_tree, with_vtree_text, with_vtree_reading, with_commands, script_reading}
 use Rattle.sd_tool.specs.Readings.{with_script_text, with_script_reading, with_lines, with_action, with_sdd}
-use Rattle.sd_tool.specs.Readings.{with_sdd_reading, is_served, is_plain, input_file, file_name, plan_for, default_of}
+use Rattle.sd_tool.specs.Readings.{with_sdd_reading, is_served, is_plain, input_file, file_name, plan_for}
 use Rattle.sd_tool.specs.Refusals.{refusal_status}
 use Rattle.sd_tool.specs.declared.refusal.Refusal.{Refusal}
 use Rattle.sd_tool.specs.declared.refusal.Refusal.TheVariants.{NotYet}

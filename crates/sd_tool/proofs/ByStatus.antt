@@ -91,17 +91,21 @@ asked words told effects file (inr p) = absurd p.2
 
 -- the manager that refused was kept
 full_at : (words : List (List ℕ)) (n : ℕ) (effects : List Effect) (kept : Option Table) (old new : Moment)
-    → KeepsManager (ArenaFull n) kept → MayEnd words old.contents.files effects (ArenaFull n)
+    → KeepsManager words old.contents.files effects (ArenaFull n) kept
+    → MayEnd words old.contents.files effects (ArenaFull n)
     → WritesEndLine (ArenaFull n) old new
     → WasFull words kept old new
-full_at words n effects None old new none may_end line = absurd none
-full_at words n effects (Some t) old new filled may_end line = record {
+full_at words n effects None old new keeps may_end line = absurd keeps.2
+full_at words n effects (Some t) old new keeps may_end line = record {
   elements = n;
   effects = effects;
   in_hand = may_end;
   manager = t;
   is_kept = refl;
-  filled = filled;
+  filled = keeps.2.0;
+  plan = keeps.0;
+  led = keeps.1;
+  holds = keeps.2.1;
   line = line;
 }
 
@@ -110,10 +114,12 @@ nothing_done : (effects : List Effect) (old new : Contents) → effects ≡ [] �
 nothing_done effects old new none is = is ∙ ap (λ l. after l old) none
 
 -- the effects, status by status
-pub effects_at : {asks : List Request → Type 0} (words : List (List ℕ)) (status : ℕ) (kept : Option Table) (old new : Moment)
+pub effects_at : {asks : List Request → Type 0} (words : List (List ℕ)) (status : ℕ) (kept : Option Table)
+    (old new : Moment)
     → IsCourse asks words status kept old new
     → HasEffects words status old new
-effects_at {asks = asks} words status kept old new went = go went.end (goes_may_end asks words old.contents.files went.effects went.end went.goes) went.status_is went.leaves
+effects_at {asks = asks} words status kept old new went = go went.end
+    (goes_may_end asks words old.contents.files went.effects went.end went.goes) went.status_is went.leaves
   where
     go : (end : End) → MayEnd words old.contents.files went.effects end → status ≡ status_of end
         → Leaves went.effects end old.contents new.contents → HasEffects words status old new
@@ -163,7 +169,8 @@ effects_at {asks = asks} words status kept old new went = go went.end (goes_may_
     }
 
 -- the line is that of the end
-pub line_at : {asks : List Request → Type 0} (words : List (List ℕ)) (status : ℕ) (kept : Option Table) (old new : Moment)
+pub line_at : {asks : List Request → Type 0} (words : List (List ℕ)) (status : ℕ) (kept : Option Table)
+    (old new : Moment)
     → IsCourse asks words status kept old new
     → HasLine status old new
 line_at words status kept old new went = (went.end, went.status_is, went.line)
@@ -249,13 +256,16 @@ end_full words status kept old new is full = record {
 }
 
 -- the causes, status by status
-pub end_at : {asks : List Request → Type 0} (words : List (List ℕ)) (status : ℕ) (kept : Option Table) (old new : Moment)
+pub end_at : {asks : List Request → Type 0} (words : List (List ℕ)) (status : ℕ) (kept : Option Table)
+    (old new : Moment)
     → IsCourse asks words status kept old new → HasEnd words status kept old new
 end_at {asks = asks} words status kept old new went =
-    go went.effects went.end (goes_may_end asks words old.contents.files went.effects went.end went.goes) went.status_is went.cause went.keeps went.line
+    go went.effects went.end (goes_may_end asks words old.contents.files went.effects went.end went.goes)
+    went.status_is went.cause went.keeps went.line
   where
     go : (effects : List Effect) (end : End) → MayEnd words old.contents.files effects end → status ≡ status_of end
-        → HasDeviceCause end old.contents.files old.faults new.faults → KeepsManager end kept
+        → HasDeviceCause end old.contents.files old.faults new.faults
+        → KeepsManager words old.contents.files effects end kept
         → WritesEndLine end old new
         → HasEnd words status kept old new
     go effects Finished may_end is cause keeps line = end_finished words status kept old new is keeps

@@ -9,7 +9,7 @@ use Rattle.sd_commands.specs.Effects.{Effect}
 use Rattle.sd_commands.specs.declared.command.RunCommand.{RunCommand}
 use Rattle.sd_commands.specs.declared.state.RunState.{RunState}
 use Rattle.sd_tool.specs.Effects.{Contents}
-use Rattle.sd_tool.specs.Readings.{Plan, Begins, reading_of}
+use Rattle.sd_tool.specs.Readings.{Plan, Begins, reading_of, ReadsTo}
 use Rattle.sd_tool.specs.Asks.{ComesTo}
 use Rattle.sd_tool.specs.Course.{EndsAmong, Leaves}
 use Rattle.sd_tool.specs.PlanViews.{plan_with}
@@ -17,7 +17,7 @@ use Rattle.sd_tool.specs.Headline.{IsCourse}
 use Rattle.sd_tool.specs.Ends.{End, Finished, Refused, Unreadable, Unwritable, OutOfMemory as NoMemory}
 use Rattle.sd_tool.specs.Ends.{ArenaFull as NoRoom, line_of, status_of}
 use Rattle.sd_tool.specs.Refusals.{refusal_status}
-use Rattle.sd_tool.specs.KeptManager.{KeepsManager}
+use Rattle.sd_tool.specs.KeptManager.{KeepsOf, KeepsManager}
 use Rattle.sd_tool.specs.Devices.{Moment, Faults, NotFewer, HasDeviceCause, WritesLine, WritesEndLine}
 use Rattle.sd_tool.specs.Stops.{stop_status, stop_text, StandsFor, StopsReading, RunsToEnd, CarriesOut, Attempts}
 use Rattle.sd_tool.specs.Stops.{IsFullAt, is_full}
@@ -26,11 +26,12 @@ use Rattle.sd_tool.specs.declared.refusal.Refusal.TheVariants as refusals
 use Rattle.sd_tool.specs.declared.stop.Stop.{Stop}
 use Rattle.sd_tool.specs.declared.stop.Stop.TheVariants as stops
 use Rattle.sd_tool.specs.declared.stop.Stop.TheVariants.{ReadFault, WriteFault, OutputFault, OutOfMemory, ArenaFull}
-use Rattle.sd_tool.proofs.AskLemmas.{Joins}
+use Rattle.sd_tool.proofs.AskLemmas.{Joins, comes_reads}
 use Rattle.sd_tool.proofs.StepLemmas.{cause_since}
 
 -- the readings stop, and nothing was done
-pub reading_stops : {asks : List Request → Type 0} (words : List (List ℕ)) (stop : Stop) (kept : Option Table) (old new : Contents)
+pub reading_stops : {asks : List Request → Type 0} (words : List (List ℕ)) (stop : Stop) (kept : Option Table)
+    (old new : Contents)
     (before now : Faults) → kept ≡ None → new ≡ old
     → StopsReading asks stop old.files (reading_of words) before.read now.read
     → Attempts asks words kept (Err stop) old new before now
@@ -89,27 +90,29 @@ no_refusal (refusals.LongScript file) e = let bad : ⊥ = cc in bad
 no_refusal (refusals.BadScript file fault) e = let bad : ⊥ = cc in bad
 
 -- the manager of a full arena is kept
-kept_full : (end : End) (t : Table) → 8 ≡ status_of end → IsFullAt end t → KeepsManager end (Some t)
-kept_full Finished t is full_at = cc
-kept_full (Refused refusal) t is full_at = absurd (no_refusal refusal (sym is))
-kept_full (Unreadable file) t is full_at = cc
-kept_full (Unwritable effect) t is full_at = cc
-kept_full NoMemory t is full_at = cc
-kept_full (NoRoom n) t is full_at = full_at
+kept_full : (plan : Plan) (effects : List Effect) (end : End) (t : Table) → 8 ≡ status_of end
+    → IsFullAt plan effects end t → KeepsOf plan effects end (Some t)
+kept_full plan effects Finished t is full_at = cc
+kept_full plan effects (Refused refusal) t is full_at = absurd (no_refusal refusal (sym is))
+kept_full plan effects (Unreadable file) t is full_at = cc
+kept_full plan effects (Unwritable effect) t is full_at = cc
+kept_full plan effects NoMemory t is full_at = cc
+kept_full plan effects (NoRoom n) t is full_at = full_at
 
 -- at each other end nothing is kept
-kept_none : (end : End) → (status_of end ≡ 8 → ⊥) → KeepsManager end None
-kept_none Finished other = refl
-kept_none (Refused refusal) other = refl
-kept_none (Unreadable file) other = refl
-kept_none (Unwritable effect) other = refl
-kept_none NoMemory other = refl
-kept_none (NoRoom n) other = absurd (other refl)
+kept_none : (plan : Plan) (effects : List Effect) (end : End) → (status_of end ≡ 8 → ⊥) → KeepsOf plan effects end None
+kept_none plan effects Finished other = refl
+kept_none plan effects (Refused refusal) other = refl
+kept_none plan effects (Unreadable file) other = refl
+kept_none plan effects (Unwritable effect) other = refl
+kept_none plan effects NoMemory other = refl
+kept_none plan effects (NoRoom n) other = absurd (other refl)
 
 -- the commands came to an end, and what is kept is that of the end
-carried : {asks : List Request → Type 0} (plan : Plan) (t : Table) (kept : Option Table) (result : Result (Unit {0}) Stop)
+carried : {asks : List Request → Type 0} (plan : Plan) (t : Table) (kept : Option Table)
+    (result : Result (Unit {0}) Stop)
     (old new : Contents) (before now : Faults) → (goes : RunsToEnd asks plan t result old new before now)
-    → KeepsManager goes.end kept → CarriesOut asks plan kept result old new before now
+    → KeepsOf plan goes.effects goes.end kept → CarriesOut asks plan kept result old new before now
 carried plan t kept result old new before now goes keeps = record {
   end = goes.end;
   at = goes.at;
@@ -128,43 +131,46 @@ with_own asks formula state limit kept result old new before now commands =
     CarriesOut asks (plan_with formula state limit commands) kept result old new before now
 
 -- all commands were done
-pub carried_done : {asks : List Request → Type 0} (formula : Groups) (state : RunState) (limit : ℕ) (done commands : List RunCommand) (t : Table)
+pub carried_done : {asks : List Request → Type 0} (formula : Groups) (state : RunState) (limit : ℕ)
+    (done commands : List RunCommand) (t : Table)
     (kept : Option Table) (old new : Contents) (before now : Faults) → done ≡ commands → kept ≡ None
     → RunsToEnd asks (plan_with formula state limit done) t (Ok tt) old new before now
     → CarriesOut asks (plan_with formula state limit commands) kept (Ok tt) old new before now
 carried_done {asks = asks} formula state limit done commands t kept old new before now all none goes =
     subst (with_own asks formula state limit kept (Ok tt) old new before now) all
     (carried (plan_with formula state limit done) t kept (Ok tt) old new before now goes
-    (subst (KeepsManager goes.end) (sym none) (kept_none goes.end (λ e. other goes.at e))))
+    (subst (KeepsOf (plan_with formula state limit done) goes.effects goes.end) (sym none)
+    (kept_none (plan_with formula state limit done) goes.effects goes.end (λ e. other goes.at e))))
   where
     other : goes.end ≡ Finished → status_of goes.end ≡ 8 → ⊥
     other is e = let zero_ = ap status_of is in let bad : ⊥ = cc in bad
 
 -- what is kept after a stop that is no full arena
-kept_other : (stop : Stop) (end : End) (kept was : Option Table) → was ≡ None → kept ≡ was
-    → stop_status stop ≡ status_of end → (stop_status stop ≡ 8 → ⊥) → KeepsManager end kept
-kept_other stop end kept was none is status other =
-    subst (KeepsManager end) (sym (is ∙ none)) (kept_none end (λ e. other (status ∙ e)))
+kept_other : (plan : Plan) (effects : List Effect) (stop : Stop) (end : End) (kept was : Option Table) → was ≡ None
+    → kept ≡ was → stop_status stop ≡ status_of end → (stop_status stop ≡ 8 → ⊥) → KeepsOf plan effects end kept
+kept_other plan effects stop end kept was none is status other =
+    subst (KeepsOf plan effects end) (sym (is ∙ none)) (kept_none plan effects end (λ e. other (status ∙ e)))
 
 -- what is kept after a stop is what its end keeps
-keeps_at : (stop : Stop) (end : End) (t : Table) (kept was : Option Table) → was ≡ None
-    → kept ≡ cond (is_full stop) (Some t) was → stop_status stop ≡ status_of end → IsFullAt end t
-    → KeepsManager end kept
-keeps_at (ArenaFull n) end t kept was none is status full_at =
-    subst (KeepsManager end) (sym is) (kept_full end t status full_at)
-keeps_at (stops.Refused refusal) end t kept was none is status full_at =
-    kept_other (stops.Refused refusal) end kept was none is status (no_refusal refusal)
-keeps_at (ReadFault file) end t kept was none is status full_at =
-    kept_other (ReadFault file) end kept was none is status (λ e. cc)
-keeps_at (WriteFault file) end t kept was none is status full_at =
-    kept_other (WriteFault file) end kept was none is status (λ e. cc)
-keeps_at OutputFault end t kept was none is status full_at =
-    kept_other OutputFault end kept was none is status (λ e. cc)
-keeps_at OutOfMemory end t kept was none is status full_at =
-    kept_other OutOfMemory end kept was none is status (λ e. cc)
+keeps_at : (plan : Plan) (effects : List Effect) (stop : Stop) (end : End) (t : Table) (kept was : Option Table)
+    → was ≡ None → kept ≡ cond (is_full stop) (Some t) was → stop_status stop ≡ status_of end
+    → IsFullAt plan effects end t → KeepsOf plan effects end kept
+keeps_at plan effects (ArenaFull n) end t kept was none is status full_at =
+    subst (KeepsOf plan effects end) (sym is) (kept_full plan effects end t status full_at)
+keeps_at plan effects (stops.Refused refusal) end t kept was none is status full_at =
+    kept_other plan effects (stops.Refused refusal) end kept was none is status (no_refusal refusal)
+keeps_at plan effects (ReadFault file) end t kept was none is status full_at =
+    kept_other plan effects (ReadFault file) end kept was none is status (λ e. cc)
+keeps_at plan effects (WriteFault file) end t kept was none is status full_at =
+    kept_other plan effects (WriteFault file) end kept was none is status (λ e. cc)
+keeps_at plan effects OutputFault end t kept was none is status full_at =
+    kept_other plan effects OutputFault end kept was none is status (λ e. cc)
+keeps_at plan effects OutOfMemory end t kept was none is status full_at =
+    kept_other plan effects OutOfMemory end kept was none is status (λ e. cc)
 
 -- the commands stopped, and the manager is kept if it was full
-pub carried_stop : {asks : List Request → Type 0} (formula : Groups) (state : RunState) (limit : ℕ) (done commands : List RunCommand) (t : Table)
+pub carried_stop : {asks : List Request → Type 0} (formula : Groups) (state : RunState) (limit : ℕ)
+    (done commands : List RunCommand) (t : Table)
     (kept was : Option Table) (stop : Stop) (old new : Contents) (before now : Faults) → done ≡ commands
     → was ≡ None → kept ≡ cond (is_full stop) (Some t) was
     → RunsToEnd asks (plan_with formula state limit done) t (Err stop) old new before now
@@ -172,10 +178,23 @@ pub carried_stop : {asks : List Request → Type 0} (formula : Groups) (state : 
 carried_stop {asks = asks} formula state limit done commands t kept was stop old new before now all none is goes =
     subst (with_own asks formula state limit kept (Err stop) old new before now) all
     (carried (plan_with formula state limit done) t kept (Err stop) old new before now goes
-    (keeps_at stop goes.end t kept was none is goes.at.status goes.full_at))
+    (keeps_at (plan_with formula state limit done) goes.effects stop goes.end t kept was none is goes.at.status
+    goes.full_at))
+
+-- what is kept is that of the plan to which the readings led
+keeps_led : (words : List (List ℕ)) (files : Option Files) (plan : Plan) (effects : List Effect) (end : End)
+    (kept : Option Table) → ReadsTo files (reading_of words) (Begins plan) → KeepsOf plan effects end kept
+    → KeepsManager words files effects end kept
+keeps_led words files plan effects Finished kept led keeps = keeps
+keeps_led words files plan effects (Refused refusal) kept led keeps = keeps
+keeps_led words files plan effects (Unreadable file) kept led keeps = keeps
+keeps_led words files plan effects (Unwritable effect) kept led keeps = keeps
+keeps_led words files plan effects NoMemory kept led keeps = keeps
+keeps_led words files plan effects (NoRoom n) kept led keeps = (plan, led, keeps)
 
 -- the commands go on from where the readings led
-pub commands_go : {a b c : List Request → Type 0} (words : List (List ℕ)) (plan : Plan) (kept : Option Table) (result : Result (Unit {0}) Stop)
+pub commands_go : {a b c : List Request → Type 0} (words : List (List ℕ)) (plan : Plan) (kept : Option Table)
+    (result : Result (Unit {0}) Stop)
     (old mid new : Contents) (first before last : Faults) → Joins a b c
     → ComesTo a old.files (reading_of words) (Begins plan)
     → mid ≡ old → NotFewer first before → CarriesOut b plan kept result mid new before last
@@ -189,7 +208,8 @@ commands_go words plan kept result old mid new first before last join led same f
     record { names = led.names; asked = join.meets _ _ led.asked goes.asked; reads = led.reads },
     goes.ends,
   );
-  keeps = goes.keeps;
+  keeps = keeps_led words old.files plan goes.effects goes.end kept
+      (comes_reads old.files (reading_of words) (Begins plan) led) goes.keeps;
   leaves = subst (λ (o : Contents). Leaves goes.effects goes.end o new) same goes.leaves;
   cause = cause_from plan goes.effects goes.end mid.files old.files first before last goes.ends fewer goes.cause;
 }
@@ -210,7 +230,8 @@ says_end stop (NoRoom n) old new at says =
     subst (λ t. WritesLine (line_of t) old.errors new.errors old.err_faults new.err_faults) at.text says
 
 -- a run that stopped and said so went to that end
-pub went_to_stop : {asks : List Request → Type 0} (words : List (List ℕ)) (stop : Stop) (status : ℕ) (text : List ℕ) (kept : Option Table)
+pub went_to_stop : {asks : List Request → Type 0} (words : List (List ℕ)) (stop : Stop) (status : ℕ) (text : List ℕ)
+    (kept : Option Table)
     (old new : Moment)
     → Attempts asks words kept (Err stop) old.contents new.contents old.faults new.faults → status ≡ stop_status stop
     → text ≡ stop_text stop → WritesLine (line_of text) old.errors new.errors old.err_faults new.err_faults

@@ -3,6 +3,7 @@ pub mod AskedAt
 pub mod ByStatus
 pub mod EndLemmas
 pub mod FormulaFaults
+pub mod Joined
 pub mod NotOutOfMemory
 pub mod OneCourse
 pub mod OnePoint

@@ -133,7 +133,8 @@ no_other_end words files effects done own OutOfMemory before now a all may_end c
 no_other_end words files effects done own (ArenaFull n) before now a all may_end cause calm = inr (inr (n, refl))
 
 -- where the words and the files lead to an end of their own, the run came to it, or there was no memory
-comes_to_own : {asks : List Request → Type 0} (words : List (List ℕ)) (status : ℕ) (kept : Option Table) (old new : Moment)
+comes_to_own : {asks : List Request → Type 0} (words : List (List ℕ)) (status : ℕ) (kept : Option Table)
+    (old new : Moment)
     → IsCourse asks words status kept old new
     → (files : Files) (effects : List Effect) (own : End) → old.contents.files ≡ Some files
     → NoneRose old.faults new.faults → IsOwn own → MayEnd words (Some files) effects own
@@ -215,7 +216,7 @@ leads_to_plan words files job f tree input start =
     (leads_with_tree files job f tree job.tree input.alone start))
 
 -- where the readings lead to a plan and no device fails, all is done, or there was no memory
-done_or_none : (words : List (List ℕ)) (files : Files) (plan : Plan) (effects : List Effect) (end : End)
+pub done_or_none : (words : List (List ℕ)) (files : Files) (plan : Plan) (effects : List Effect) (end : End)
     (before now : Faults) → ReadsTo (Some files) (reading_of words) (Begins plan)
     → MayEnd words (Some files) effects end
     → HasDeviceCause end (Some files) before now → NoneRose before now
@@ -237,12 +238,13 @@ done_or_none words files plan effects OutOfMemory before now leads may_end cause
 done_or_none words files plan effects (ArenaFull n) before now leads may_end cause calm = inr (inr refl)
 
 -- a run that went somewhere is complete
-pub completes : {asks : List Request → Type 0} (words : List (List ℕ)) (status : ℕ) (kept : Option Table) (old new : Moment)
+pub completes : {asks : List Request → Type 0} (words : List (List ℕ)) (status : ℕ) (kept : Option Table)
+    (old new : Moment)
     → IsCourse asks words status kept old new → IsComplete words status old new
 completes {asks = asks} words status kept old new went = record {
   served = λ files job formula tree told calm input start.
       let may_end = subst (λ f. MayEnd words f went.effects went.end) told
-    (goes_may_end asks words old.contents.files went.effects went.end went.goes) in
+      (goes_may_end asks words old.contents.files went.effects went.end went.goes) in
       let cause = subst (λ f. HasDeviceCause went.end f old.faults new.faults) told went.cause in
       let plan = plan_for job formula tree (default_of job) in
       let leads = leads_to_plan words files job formula tree input start in

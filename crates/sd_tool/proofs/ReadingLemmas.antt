@@ -19,7 +19,7 @@ use Rattle.sd_script.specs.Scripts.{Script}
 use Rattle.sd_commands.specs.declared.command.RunCommand.{RunCommand}
 use Rattle.sd_tool.specs.Readings.{with_commands, script_reading, with_script_text}
 use Rattle.sd_tool.specs.Readings.{input_file, with_input, with_input_word, with_tree_word, with_tree, with_vtree_text}
-use Rattle.sd_tool.specs.Asks.{ComesTo, AsksLast, BreaksOff}
+use Rattle.sd_tool.specs.Asks.{ComesTo}
 use Rattle.sd_tool.specs.Stops.{StopsReading, LeadsTo, StopsFor, GivesText, text_read}
 use Rattle.sd_tool.proofs.AskLemmas.{Joins, comes_on, last_on, breaks_on, last_here, comes_same, breaks_here}
 use Rattle.sd_tool.specs.declared.refusal.Refusal.{Refusal}
@@ -157,7 +157,8 @@ text_lacking asks told file next field is a =
 -- ---- the words for the input and for the tree
 
 -- the input is that of its word
-pub input_leads : (asks : List Request → Type 0) (told : Option Files) (job : Job) (input : InputWord) (kind : Kind) (name file : List ℕ)
+pub input_leads : (asks : List Request → Type 0) (told : Option Files) (job : Job) (input : InputWord) (kind : Kind)
+    (name file : List ℕ)
     (result : Result Groups Stop) (before now : ℕ)
     → input_file input ≡ Some (record { kind = kind; file = file }) → name ≡ file
     → LeadsTo asks told (Reads name (with_input job (record { kind = kind; file = name })))
@@ -185,11 +186,14 @@ start_leads asks told reading job formula tree (Err e) result before now none is
     (breaks_here asks told reading none)
 
 -- the tree is that of a file
-pub vtree_file_leads : (asks : List Request → Type 0) (told : Option Files) (job : Job) (formula : Groups) (word : TreeWord) (name file : List ℕ)
+pub vtree_file_leads : (asks : List Request → Type 0) (told : Option Files) (job : Job) (formula : Groups)
+    (word : TreeWord) (name file : List ℕ)
     (result : Result Numbered Stop) (before now : ℕ) → word ≡ trees.File file → name ≡ file
-    → LeadsTo asks told (Reads name (with_vtree_text job formula name)) (λ vtree. with_tree job formula (plain_tree vtree))
+    → LeadsTo asks told (Reads name (with_vtree_text job formula name))
+    (λ vtree. with_tree job formula (plain_tree vtree))
     result before now
-    → LeadsTo asks told (with_tree_word job formula word) (λ vtree. with_tree job formula (plain_tree vtree)) result before
+    → LeadsTo asks told (with_tree_word job formula word) (λ vtree. with_tree job formula (plain_tree vtree)) result
+    before
     now
 vtree_file_leads asks told job formula word name file result before now is same leads =
     subst (λ w. LeadsTo asks told (with_tree_word job formula w) (λ vtree. with_tree job formula (plain_tree vtree))
@@ -198,7 +202,8 @@ vtree_file_leads asks told job formula word name file result before now is same 
     (λ vtree. with_tree job formula (plain_tree vtree)) result before now) same leads)
 
 -- the commands are those of a script
-pub script_leads : (asks : List Request → Type 0) (told : Option Files) (job : Job) (v : ℕ) (begin : List RunCommand → Reading)
+pub script_leads : (asks : List Request → Type 0) (told : Option Files) (job : Job) (v : ℕ)
+    (begin : List RunCommand → Reading)
     (word : Option (List ℕ)) (name file : List ℕ) (result : Result Script Stop) (before now : ℕ)
     → word ≡ Some file → name ≡ file
     → LeadsTo asks told (Reads name (with_script_text name v begin)) (script_reading v begin) result before now

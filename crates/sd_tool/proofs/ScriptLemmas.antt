@@ -186,7 +186,8 @@ stated_few job = go job.out_vtree job.out_sdd
 -- ---- the commands with a file
 
 -- a load leads on where its file does
-pub load_leads : (asks : List Request → Type 0) (told : Option Files) (v : ℕ) (script : Script) (action : Action) (n file : ℕ) (name : List ℕ)
+pub load_leads : (asks : List Request → Type 0) (told : Option Files) (v : ℕ) (script : Script) (action : Action)
+    (n file : ℕ) (name : List ℕ)
     (result : Result File Stop) (before now : ℕ) → action ≡ actions.Load n file
     → slice_get script.files file ≡ Some name
     → ((next : File → Reading) → LeadsTo asks told (Reads name (with_sdd v name next)) next result before now)
@@ -200,17 +201,22 @@ load_leads asks told v script action n file name result before now is there lead
     (leads (λ read. next (commands.Load n read))))
 
 -- a command that writes a diagram
-pub write_leads : (asks : List Request → Type 0) (told : Option Files) (v : ℕ) (script : Script) (action : Action) (n file : ℕ)
-    (name copy : List ℕ) → action ≡ actions.Write n file → slice_get script.files file ≡ Some name → copy ≡ name → asks []
-    → (next : RunCommand → Reading) → ComesTo asks told (with_action v script next action) (next (commands.Write n copy))
+pub write_leads : (asks : List Request → Type 0) (told : Option Files) (v : ℕ) (script : Script) (action : Action)
+    (n file : ℕ)
+    (name copy : List ℕ) → action ≡ actions.Write n file → slice_get script.files file ≡ Some name → copy ≡ name
+    → asks []
+    → (next : RunCommand → Reading)
+    → ComesTo asks told (with_action v script next action) (next (commands.Write n copy))
 write_leads asks told v script action n file name copy is there same none next =
     comes_same asks told _ _ none (ap (with_action v script next) is
     ∙ ap (λ (f : List ℕ). next (commands.Write n f)) (file_named script file name there ∙ sym same))
 
 -- a command that writes the vtree
-pub vtree_leads : (asks : List Request → Type 0) (told : Option Files) (v : ℕ) (script : Script) (action : Action) (file : ℕ)
+pub vtree_leads : (asks : List Request → Type 0) (told : Option Files) (v : ℕ) (script : Script) (action : Action)
+    (file : ℕ)
     (name copy : List ℕ) → action ≡ actions.Vtree file → slice_get script.files file ≡ Some name → copy ≡ name → asks []
-    → (next : RunCommand → Reading) → ComesTo asks told (with_action v script next action) (next (commands.WriteVtree copy))
+    → (next : RunCommand → Reading)
+    → ComesTo asks told (with_action v script next action) (next (commands.WriteVtree copy))
 vtree_leads asks told v script action file name copy is there same none next =
     comes_same asks told _ _ none (ap (with_action v script next) is
     ∙ ap (λ (f : List ℕ). next (commands.WriteVtree f)) (file_named script file name there ∙ sym same))

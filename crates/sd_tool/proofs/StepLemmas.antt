@@ -11,7 +11,7 @@ use Rattle.sd_manager.specs.Table.{Table}
 use Rattle.sd_commands.specs.Effects.{Effect, Write, Print}
 use Rattle.sd_commands.specs.Commands.{State, Done, Step, Steps, MayFill}
 use Rattle.sd_commands.specs.Fits.{AllFit}
-use Rattle.sd_commands.specs.Standing.{Represents, StepsTo, IsFilled, effects_of, names_of}
+use Rattle.sd_commands.specs.Standing.{Represents, StepsTo, IsFilled, HoldsState, effects_of, names_of}
 use Rattle.sd_commands.specs.declared.command.Effect.{Effect as CodeEffect}
 use Rattle.sd_commands.specs.declared.command.RunCommand.{RunCommand}
 use Rattle.sd_commands.specs.declared.state.RunState.{RunState}
@@ -63,7 +63,8 @@ Steps_push input start mid new (command ∷ done) effects here next steps step =
 
 -- What the loop over the commands knows: those before the index are done, the code represents the state after them, and
 -- the others can be done.
-pub record SoFar (asks : List Request → Type 0) (plan : Plan) (v index : ℕ) (code : RunState) (old now : Contents) : Type 0 where
+pub record SoFar (asks : List Request → Type 0) (plan : Plan) (v index : ℕ) (code : RunState)
+    (old now : Contents) : Type 0 where
   pub effects : List Effect
   pub state : State
   pub steps : Steps plan.input plan.start (take index plan.commands) effects state
@@ -86,7 +87,8 @@ left_at commands index command next =
     ∙ ap (λ c. c ∷ drop (index + 1) commands) (sym next.is)
 
 -- so it can be done, and those after it
-pub fits_next : {asks : List Request → Type 0} (plan : Plan) (v index : ℕ) (code : RunState) (old now : Contents) (command : RunCommand)
+pub fits_next : {asks : List Request → Type 0} (plan : Plan) (v index : ℕ) (code : RunState) (old now : Contents)
+    (command : RunCommand)
     → IsNext plan.commands index command → (so_far : SoFar asks plan v index code old now)
     → AllFit v (names_of so_far.state) (command ∷ drop (index + 1) plan.commands)
 fits_next plan v index code old now command next so_far =
@@ -107,7 +109,8 @@ reaches_next plan state index effects command next steps = record {
 }
 
 -- the command at the index is done
-pub so_far_more : {a b c : List Request → Type 0} (plan : Plan) (v index : ℕ) (code code' : RunState) (old now new : Contents) (command : RunCommand)
+pub so_far_more : {a b c : List Request → Type 0} (plan : Plan) (v index : ℕ) (code code' : RunState)
+    (old now new : Contents) (command : RunCommand)
     (asked : Option CodeEffect) → Joins a b c → IsNext plan.commands index command
     → (so_far : SoFar a plan v index code old now)
     → StepsTo plan.input so_far.state command code' asked → new ≡ after (effects_of asked) now
@@ -148,7 +151,8 @@ cause_since (Print line) files others first mid last fewer rose =
     rose_since first.print mid.print last.print fewer.print rose
 
 -- there was no memory for a command
-pub goes_to_out_of_memory : {asks : List Request → Type 0} (plan : Plan) (v index : ℕ) (code : RunState) (t : Table) (old now : Contents)
+pub goes_to_out_of_memory : {asks : List Request → Type 0} (plan : Plan) (v index : ℕ) (code : RunState) (t : Table)
+    (old now : Contents)
     (before after_ : Faults) (command : RunCommand) → IsNext plan.commands index command
     → SoFar asks plan v index code old now → RunsToEnd asks plan t (Err OutOfMemory) old now before after_
 goes_to_out_of_memory plan v index code t old now before after_ command next so_far =
@@ -164,11 +168,12 @@ goes_to_out_of_memory plan v index code t old now before after_ command next so_
     }
 
 -- the arena was full, and the command may need it
-pub goes_to_full : {asks : List Request → Type 0} (plan : Plan) (v index : ℕ) (code : RunState) (t : Table) (old now : Contents)
+pub goes_to_full : {asks : List Request → Type 0} (plan : Plan) (v index : ℕ) (code : RunState) (t : Table)
+    (old now : Contents)
     (before after_ : Faults) (command : RunCommand) (n : ℕ) → IsNext plan.commands index command
-    → SoFar asks plan v index code old now → MayFill command → IsFilled n t
+    → (so_far : SoFar asks plan v index code old now) → MayFill command → IsFilled n t → HoldsState t so_far.state
     → RunsToEnd asks plan t (Err (ArenaFull n)) old now before after_
-goes_to_full plan v index code t old now before after_ command n next so_far needs filled = record {
+goes_to_full plan v index code t old now before after_ command n next so_far needs filled holds = record {
   end = NoRoom n;
   at = record { status = refl; text = refl; stopped = λ e. cc };
   effects = so_far.effects;
@@ -179,13 +184,23 @@ goes_to_full plan v index code t old now before after_ command n next so_far nee
     needs,
   );
   asked = so_far.asked;
-  full_at = filled;
+  full_at = (
+    filled,
+    record {
+      state = so_far.state;
+      next = command;
+      at = reaches_next plan so_far.state index so_far.effects command next so_far.steps;
+      needs = needs;
+      holds = holds;
+    },
+  );
   leaves = so_far.is;
   cause = tt;
 }
 
 -- the effect of a command fails
-pub goes_to_fault : {a b c : List Request → Type 0} (plan : Plan) (v index : ℕ) (code code' : RunState) (t : Table) (old now new : Contents)
+pub goes_to_fault : {a b c : List Request → Type 0} (plan : Plan) (v index : ℕ) (code code' : RunState) (t : Table)
+    (old now new : Contents)
     (first before after_ : Faults) (command : RunCommand) (stop : Stop) (asked : Option CodeEffect)
     → Joins a b c → IsNext plan.commands index command → (so_far : SoFar a plan v index code old now)
     → NotFewer first before → StepsTo plan.input so_far.state command code' asked
@@ -216,7 +231,8 @@ goes_to_fault {c = c} plan v index code code' t old now new first before after_ 
     }
 
 -- all commands are done
-pub goes_to_end : {asks : List Request → Type 0} (plan : Plan) (v index : ℕ) (code : RunState) (t : Table) (old now : Contents)
+pub goes_to_end : {asks : List Request → Type 0} (plan : Plan) (v index : ℕ) (code : RunState) (t : Table)
+    (old now : Contents)
     (before after_ : Faults) → length plan.commands ≤ index → SoFar asks plan v index code old now
     → RunsToEnd asks plan t (Ok tt) old now before after_
 goes_to_end plan v index code t old now before after_ all so_far = record {

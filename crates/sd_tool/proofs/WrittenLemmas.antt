@@ -339,7 +339,8 @@ plan_writes words files job plan last effects old new told from valid steps is =
     after_input.steps) is
 
 -- at status 0 the formula of the input was written
-pub written_at : {asks : List Request → Type 0} (words : List (List ℕ)) (status : ℕ) (kept : Option Table) (old new : Moment)
+pub written_at : {asks : List Request → Type 0} (words : List (List ℕ)) (status : ℕ) (kept : Option Table)
+    (old new : Moment)
     → IsCourse asks words status kept old new → HasWritten words status old new
 written_at words status kept old new went = λ files job zero_ told named alone.
     let all = (effects_at words status kept old new went).all zero_ in

@@ -9,7 +9,7 @@ use Rattle.sd_words.specs.declared.jobs.Job.{Job}
 use Rattle.sd_commands.specs.Effects.{Effect}
 use Rattle.sd_commands.specs.Standing.{IsFilled}
 use Rattle.sd_tool.specs.Effects.{after, DoesPart}
-use Rattle.sd_tool.specs.Readings.{Refuses, Reads, reading_of, ReadsTo}
+use Rattle.sd_tool.specs.Readings.{Plan, Refuses, Begins, Reads, reading_of, ReadsTo}
 use Rattle.sd_tool.specs.Refusals.{IsOfText, refusal_status}
 use Rattle.sd_tool.specs.declared.refusal.Refusal.{Refusal}
 use Rattle.sd_tool.specs.Ends.{End, Finished, Refused, Unreadable, Unwritable, OutOfMemory, ArenaFull}
@@ -17,7 +17,7 @@ use Rattle.sd_tool.specs.Ends.{status_of}
 use Rattle.sd_tool.specs.Devices.{Moment, NoneRose, HasDeviceCause, WritesEndLine}
 use Rattle.sd_tool.specs.Asks.{GoesTo}
 use Rattle.sd_tool.specs.Course.{MayEnd, Leaves}
-use Rattle.sd_tool.specs.KeptManager.{KeepsManager}
+use Rattle.sd_tool.specs.KeptManager.{HoldsAt, KeepsManager}
 use Rattle.sd_tool.specs.Written.{IsInput, IsStartTree}
 
 -- How the run went: what it did and how it ended, where the words and the files lead; what was asked of the shelf, the
@@ -30,7 +30,7 @@ pub record IsCourse (asks : List Request → Type 0) (words : List (List ℕ)) (
   pub status_is : status ≡ status_of end
   pub leaves : Leaves effects end old.contents new.contents
   pub cause : HasDeviceCause end old.contents.files old.faults new.faults
-  pub keeps : KeepsManager end kept
+  pub keeps : KeepsManager words old.contents.files effects end kept
   pub line : WritesEndLine end old new
 
 -- What was done outside: at status 0 all effects of the run, at 1, 2, 3, 5 and 9 none, at 7 and 8 those of the first
@@ -75,7 +75,8 @@ pub record CouldNotWrite (words : List (List ℕ)) (old new : Moment) : Type 0 w
   pub line : WritesEndLine (Unwritable effect) old new
 
 -- The arena was full: all readings were accepted, the command in hand is one that may need the arena, and the manager
--- that refused is kept, whose bound the number passes; the line has that number.
+-- that refused is kept, whose bound the number passes; its vtree is the run's tree at that command, and its roots hold
+-- the diagrams of the names that are bound there. The line has the number.
 pub record WasFull (words : List (List ℕ)) (kept : Option Table) (old new : Moment) : Type 0 where
   pub elements : ℕ
   pub effects : List Effect
@@ -83,6 +84,9 @@ pub record WasFull (words : List (List ℕ)) (kept : Option Table) (old new : Mo
   pub manager : Table
   pub is_kept : kept ≡ Some manager
   pub filled : IsFilled elements manager
+  pub plan : Plan
+  pub led : ReadsTo old.contents.files (reading_of words) (Begins plan)
+  pub holds : HoldsAt plan effects manager
   pub line : WritesEndLine (ArenaFull elements) old new
 
 -- When each status comes, and that a manager is kept at 8 alone. That a refusal comes wherever it may is the other

@@ -1,11 +1,32 @@
 -- What a run keeps of its diagrams: the manager whose arena refused, and else nothing.
-use Rattle.std.specs.Prelude.{◌≡◌, Option, Some, None}
+use Rattle.std.specs.Prelude.{◌≡◌, ℕ, List, Option, Some, None}
+use Rattle.sd_base.specs.Files.{Files}
 use Rattle.sd_manager.specs.Table.{Table}
-use Rattle.sd_commands.specs.Standing.{IsFilled}
+use Rattle.sd_commands.specs.Effects.{Effect}
+use Rattle.sd_commands.specs.Commands.{State, MayFill}
+use Rattle.sd_commands.specs.Standing.{IsFilled, HoldsState}
+use Rattle.sd_commands.specs.declared.command.RunCommand.{RunCommand}
+use Rattle.sd_tool.specs.Readings.{Plan, Begins, reading_of, ReadsTo}
 use Rattle.sd_tool.specs.Ends.{End, ArenaFull}
+use Rattle.sd_tool.specs.Course.{IsAtCommand}
 
--- at a full arena the manager that refused is kept, and at each other end none
-abbrev pub KeepsManager : End → Option Table → Type 0
-KeepsManager (ArenaFull elements) None = ⊥
-KeepsManager (ArenaFull elements) (Some t) = IsFilled elements t
-KeepsManager end kept = kept ≡ None
+-- The manager holds the run's formulas at the command in hand, which may need the arena: its vtree is the tree of the
+-- state there, and its roots hold the diagrams of the names that are bound there.
+pub record HoldsAt (plan : Plan) (effects : List Effect) (t : Table) : Type 0 where
+  pub state : State
+  pub next : RunCommand
+  pub at : IsAtCommand plan effects state next
+  pub needs : MayFill next
+  pub holds : HoldsState t state
+
+-- at a full arena the manager that refused is kept, as it was at the command in hand, and at each other end none
+abbrev pub KeepsOf : Plan → List Effect → End → Option Table → Type 0
+KeepsOf plan effects (ArenaFull elements) None = ⊥
+KeepsOf plan effects (ArenaFull elements) (Some t) = IsFilled elements t × HoldsAt plan effects t
+KeepsOf plan effects end kept = kept ≡ None
+
+-- so it is for the plan to which the words and the files lead
+abbrev pub KeepsManager : List (List ℕ) → Option Files → List Effect → End → Option Table → Type 0
+KeepsManager words files effects (ArenaFull elements) kept =
+    (plan : Plan) × ReadsTo files (reading_of words) (Begins plan) × KeepsOf plan effects (ArenaFull elements) kept
+KeepsManager words files effects end kept = kept ≡ None

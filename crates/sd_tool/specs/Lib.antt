@@ -6,6 +6,7 @@ pub mod Effects
 pub mod Ends
 pub mod PlanViews
 pub mod Headline
+pub mod Joined
 pub mod KeptManager
 pub mod Parts
 pub mod Readings

@@ -11,7 +11,7 @@ use Rattle.sd_tool.specs.Effects.{Contents, DoesPart}
 use Rattle.sd_tool.specs.Readings.{Plan, Reading, Refuses, Text, Whole, TooLong}
 use Rattle.sd_tool.specs.Ends.{End, Finished, Refused, Unreadable, Unwritable, OutOfMemory as NoMemory}
 use Rattle.sd_tool.specs.Ends.{ArenaFull as NoRoom, status_of, text_of}
-use Rattle.sd_tool.specs.KeptManager.{KeepsManager}
+use Rattle.sd_tool.specs.KeptManager.{HoldsAt, KeepsOf, KeepsManager}
 use Rattle.sd_tool.specs.Devices.{HasDeviceCause, Faults}
 use Rattle.sd_tool.specs.Asks.{ComesTo, AsksLast, BreaksOff, GoesTo, begun, writings}
 use Rattle.sd_tool.specs.Course.{EndsAmong, Leaves}
@@ -51,10 +51,10 @@ abbrev pub is_full : Stop → Bool
 is_full (stops.ArenaFull elements) = true
 is_full stop = false
 
--- at a full arena the manager is the one that refused
-abbrev pub IsFullAt : End → Table → Type 0
-IsFullAt (NoRoom elements) t = IsFilled elements t
-IsFullAt end t = Unit {0}
+-- at a full arena the manager is the one that refused, as it was at the command in hand
+abbrev pub IsFullAt : Plan → List Effect → End → Table → Type 0
+IsFullAt plan effects (NoRoom elements) t = IsFilled elements t × HoldsAt plan effects t
+IsFullAt plan effects end t = Unit {0}
 
 -- the readings stop so, and ask for no more
 abbrev pub StopsReading : (List Request → Type 0) → Stop → Option Files → Reading → ℕ → ℕ → Type 0
@@ -72,7 +72,7 @@ pub record RunsToEnd (asks : List Request → Type 0) (plan : Plan) (t : Table) 
   pub effects : List Effect
   pub ends : EndsAmong plan effects end
   pub asked : asks (writings (begun effects end))
-  pub full_at : IsFullAt end t
+  pub full_at : IsFullAt plan effects end t
   pub leaves : Leaves effects end old new
   pub cause : HasDeviceCause end old.files before now
 
@@ -84,7 +84,7 @@ pub record CarriesOut (asks : List Request → Type 0) (plan : Plan) (kept : Opt
   pub effects : List Effect
   pub ends : EndsAmong plan effects end
   pub asked : asks (writings (begun effects end))
-  pub keeps : KeepsManager end kept
+  pub keeps : KeepsOf plan effects end kept
   pub leaves : Leaves effects end old new
   pub cause : HasDeviceCause end old.files before now
 
@@ -103,7 +103,7 @@ pub record Attempts (asks : List Request → Type 0) (words : List (List ℕ)) (
   pub at : IsEnd result end
   pub effects : List Effect
   pub goes : GoesTo asks words old.files effects end
-  pub keeps : KeepsManager end kept
+  pub keeps : KeepsManager words old.files effects end kept
   pub leaves : Leaves effects end old new
   pub cause : HasDeviceCause end old.files before now
 

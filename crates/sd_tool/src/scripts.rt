@@ -42,7 +42,6 @@ pub fn read_commands<F: Shelf>(
     ensures write_faults { F.write_faults shelf.new ≡ F.write_faults shelf.old }
     ensures leads { (begin : List Seen → Reading)
         → LeadsTo (Adds F.asked shelf.old shelf.new) (F.files shelf.old)
-        
         (with_commands job.now variables begin job.now.script) (λ commands. begin commands.items)
         result (F.read_faults shelf.old) (F.read_faults shelf.new) }
     ensures fit { IfOk result (λ commands. AllFit variables [] commands.items) }
@@ -76,7 +75,6 @@ fn read_script_file<F: Shelf>(
     ensures write_faults { F.write_faults shelf.new ≡ F.write_faults shelf.old }
     ensures leads { (begin : List Seen → Reading)
         → LeadsTo (Adds F.asked shelf.old shelf.new) (F.files shelf.old)
-        
         (Reads file.now (with_script_text file.now variables begin))
         (script_reading variables begin)
         result (F.read_faults shelf.old) (F.read_faults shelf.new) }
@@ -138,7 +136,6 @@ fn script_commands<F: Shelf>(
     ensures write_faults { F.write_faults shelf.new ≡ F.write_faults shelf.old }
     ensures leads { (begin : List Seen → Reading)
         → LeadsTo (Adds F.asked shelf.old shelf.new) (F.files shelf.old)
-        
         (script_reading variables begin script.now) (λ commands. begin commands.items)
         result (F.read_faults shelf.old) (F.read_faults shelf.new) }
     ensures fit { IfOk result (λ commands. AllFit variables [] commands.items) }
@@ -190,7 +187,6 @@ fn served_commands<F: Shelf>(
     ensures write_faults { F.write_faults shelf.new ≡ F.write_faults shelf.old }
     ensures leads { (begin : List Seen → Reading)
         → LeadsTo (Adds F.asked shelf.old shelf.new) (F.files shelf.old)
-        
         (with_lines variables script.now begin [] script.now.commands)
         (λ commands. begin commands.items)
         result (F.read_faults shelf.old) (F.read_faults shelf.new) }
@@ -237,7 +233,6 @@ fn command_of<F: Shelf>(
     ensures write_faults { F.write_faults shelf.new ≡ F.write_faults shelf.old }
     ensures leads { (next : Seen → Reading)
         → LeadsTo (Adds F.asked shelf.old shelf.new) (F.files shelf.old)
-        
         (with_action variables script.now next action.now) next
         result (F.read_faults shelf.old) (F.read_faults shelf.new) }
     ensures same { IfOk result (IsCommandOf variables action.now) }
@@ -296,7 +291,6 @@ fn file_command<F: Shelf>(
     ensures write_faults { F.write_faults shelf.new ≡ F.write_faults shelf.old }
     ensures leads { (next : Seen → Reading)
         → LeadsTo (Adds F.asked shelf.old shelf.new) (F.files shelf.old)
-        
         (with_action variables script.now next action.now) next
         result (F.read_faults shelf.old) (F.read_faults shelf.new) }
     ensures same { IfOk result (IsCommandOf variables action.now) }
@@ -329,7 +323,6 @@ fn load<F: Shelf>(alloc: Global, file: &str, variables: u32, shelf: &mut F) -> R
     ensures write_faults { F.write_faults shelf.new ≡ F.write_faults shelf.old }
     ensures leads { (next : File → Reading)
         → LeadsTo (Adds F.asked shelf.old shelf.new) (F.files shelf.old)
-        
         (Reads file.now (with_sdd variables file.now next)) next
         result (F.read_faults shelf.old) (F.read_faults shelf.new) }
     ensures variables { IfOk result (λ read. read.variables ≡ variables) }

@@ -8,6 +8,7 @@ ghost use Rattle.sd_tool.specs.PlanViews.{plan_of, plan_with, IsReady, IsReadyWi
 ghost use Rattle.sd_tool.specs.Headline.{IsCourse, HasEffects, HasLine, HasEnd, IsComplete};
 ghost use Rattle.sd_tool.specs.Stops.{RunsToEnd, CarriesOut, Attempts, is_full};
 ghost use Rattle.sd_tool.specs.Written.{HasWritten, HasEqualTexts};
+ghost use Rattle.sd_tool.specs.Joined.{HasJoined};
 
 use crate::devices::perform_any;
 use crate::parts::write_line;
@@ -27,7 +28,7 @@ use std::thread::Threads;
 /// too long or has a fault, 3 where the script is too long or has a fault, 5 where an input was not read, 6 where an
 /// output or a printed line was not written, 7 where memory ran out, 8 where the arena of the diagrams was full, and 9
 /// where the words or the script ask for what is not served yet. The words are read first, then the formula file, the
-/// vtree file, the script, and the files that it loads.
+/// vtree file, the script, and the files that it loads; no other is asked for, and none after an output.
 /// At every status but 0 the one line that says so is written to `err`. At 8 the manager that refused is put into
 /// `kept`, which is empty before.
 pub fn run<R: Threads + Sync, F: Shelf, O: Sink, E: Sink>(
@@ -65,6 +66,10 @@ pub fn run<R: Threads + Sync, F: Shelf, O: Sink, E: Sink>(
         E.faults
         shelf.old out.old err.old shelf.new out.new err.new
         (HasWritten (map string_bytes words.now) result) }
+    ensures joined { between F.files F.read_faults F.write_faults O.written O.faults E.written
+        E.faults
+        shelf.old out.old err.old shelf.new out.new err.new
+        (HasJoined (map string_bytes words.now) result) }
     ensures asked { HasAsked result (Adds F.asked shelf.old shelf.new) }
     ensures equal_texts { HasEqualTexts (map string_bytes words.now) (F.files shelf.old) }
 {

@@ -19,7 +19,7 @@ pub(crate) fn empty_heads(alloc: Global, count: usize) -> Result<Vec<u32>, Alloc
 }
 
 // Puts each linked record first in the chain of its bucket, where the other chains stand. The kept
-// hashes tell the buckets, and no list is read.
+// hashes tell the buckets: the arena is there for the contract alone, and no list is read.
 pub(crate) fn link_all(runs: &Runs, links: &[Links], records: &mut [Record], heads: &mut [u32])
     requires stored { AreRecordsStored runs.now records.old }
     requires size { length links.now ≡ length records.old }

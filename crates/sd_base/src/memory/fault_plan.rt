@@ -34,6 +34,7 @@ pub(crate) struct FaultPlan {
 }
 
 impl FaultPlan {
+    ghost use Rattle.sd_base.specs.Asked.{CountsRequests};
     ghost use Rattle.sd_base.specs.FaultPlan.{calls_of, AreOthersKept, IsNewPlan, IsPlanned};
 
     /// No call was made yet.
@@ -56,6 +57,7 @@ impl FaultPlan {
         ensures others { AreOthersKept self.old call self.new }
         ensures planned { IsTrue result ↔ IsPlanned self.old call (calls_of self.new call) }
         ensures kept { self.new.planned.items ≡ self.old.planned.items }
+        ensures requests { CountsRequests self.old call self.new }
     {
         let nth = self.count(call);
         self.planned.contains(&PlannedFault { call, nth })

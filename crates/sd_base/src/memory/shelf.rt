@@ -113,7 +113,7 @@ impl Shelf for MemoryShelf {
     ghost use Rattle.sd_base.specs.declared.memory.fault_plan.ShelfCall.TheVariants as calls;
     ghost use Rattle.sd_base.specs.Memory.{files_of, hand_of};
     ghost use Rattle.std.specs.Prelude.{◌∷◌};
-    ghost use Rattle.sd_base.specs.Asked.{ToRead, ToWrite, Adds, AsksNothing, AreCounts};
+    ghost use Rattle.sd_base.specs.Asked.{ToRead, ToWrite, Adds, AsksNothing, AreCalls};
     ghost use Rattle.sd_base.specs.MemoryShown.{memory_asked};
 
     ghost files = { λ shelf. Some (files_of shelf.files.items) };
@@ -127,7 +127,7 @@ impl Shelf for MemoryShelf {
     ghost unfinished = { λ shelf. hand_of shelf.unfinished };
 
     // the calls that begin a reading or a writing are counted
-    ghost asked = { λ shelf requests. AreCounts shelf.plan.start_reads shelf.plan.start_writes requests };
+    ghost asked = { λ shelf requests. AreCalls shelf.plan requests };
 
     fn start_read(&mut self, name: &str) -> Result<(), Failed>
         requires { memory_hand self.old ≡ NoFile }

@@ -2,7 +2,7 @@ use Rattle.std.proofs.Common.{refl}
 use Rattle.sd_model.specs.Expression.{Combined}
 use Rattle.sd_commands.specs.Commands.{formula_named}
 use Rattle.sd_commands.proofs.Values.{combined_value, value_node}
-use Rattle.sd_commands.proofs.Standing.{stands_on}
+use Rattle.sd_commands.proofs.Standing.{stands_on, as_before_on, as_before_then}
 use Rattle.sd_commands.proofs.Stepping.{bound_steps}
 use Rattle.sd_commands.proofs.bind.bind_combination.Goals as goal
 
@@ -38,3 +38,10 @@ connect-requires-clause-first c =
 pub connect-requires-clause-second : goal.connect-requires-clause-second
 connect-requires-clause-second c =
     value_node _ _ _ (c.node-second.ensures c.requires.represents.0 c.requires.represents.1)
+
+pub returns-in-Ok-clause-err : goal.returns-in-Ok-clause-err
+returns-in-Ok-clause-err c =
+    as_before_then c.bind.result c.args.state.now _ _ _ c.in-Ok.ensures.kept c.in-Ok.ensures.serves c.bind.ensures.err
+
+pub returns-in-Err-clause-err : goal.returns-in-Err-clause-err
+returns-in-Err-clause-err c = as_before_on c.args.state.now _ _ c.in-Err.ensures.kept c.in-Err.ensures.serves

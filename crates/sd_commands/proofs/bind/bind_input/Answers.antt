@@ -1,7 +1,7 @@
 use Rattle.std.proofs.Common.{refl}
 use Rattle.sd_formula.specs.Formulas.{expression_of}
 use Rattle.sd_commands.proofs.Values.{answer_value}
-use Rattle.sd_commands.proofs.Standing.{stands_on}
+use Rattle.sd_commands.proofs.Standing.{stands_on, as_before_on, as_before_then}
 use Rattle.sd_commands.proofs.Stepping.{bound_steps}
 use Rattle.sd_commands.proofs.bind.bind_input.Goals as goal
 
@@ -20,3 +20,10 @@ returns-in-Ok-clause-done c = λ seen was.
     (c.bind.ensures.done seen (expression_of c.args.input.now)
     (stands_on c.args.state.now _ _ seen was c.in-Ok.ensures.kept c.in-Ok.ensures.serves)
     (answer_value _ _ _ c.in-Ok.ensures.ok))
+
+pub returns-in-Ok-clause-err : goal.returns-in-Ok-clause-err
+returns-in-Ok-clause-err c =
+    as_before_then c.bind.result c.args.state.now _ _ _ c.in-Ok.ensures.kept c.in-Ok.ensures.serves c.bind.ensures.err
+
+pub returns-in-Err-clause-err : goal.returns-in-Err-clause-err
+returns-in-Err-clause-err c = as_before_on c.args.state.now _ _ c.in-Err.ensures.kept c.in-Err.ensures.serves

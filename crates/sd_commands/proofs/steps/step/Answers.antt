@@ -7,6 +7,7 @@ use Rattle.sd_commands.specs.Fits.{uses}
 use Rattle.sd_commands.specs.Standing.{StepsTo}
 use Rattle.sd_commands.specs.declared.command.RunCommand.TheVariants.{Literal}
 use Rattle.sd_commands.proofs.Stepping.{first_used, second_used, handed_steps}
+use Rattle.sd_commands.proofs.Standing.{as_before_self}
 use Rattle.sd_commands.proofs.steps.step.Goals as goal
 
 -- ---- the names that a command uses have roots
@@ -108,3 +109,20 @@ returns-in-WriteVtree-clause-done c = λ seen was.
     (sym c.in-WriteVtree.is)
     (handed_steps input seen _ code _ _ (c.write_vtree_text.ensures input seen was)
     c.or_out_of_memory-in-WriteVtree.ensures)
+
+-- ---- a command that reads the state leaves it
+
+pub returns-in-Same-clause-err : goal.returns-in-Same-clause-err
+returns-in-Same-clause-err c = as_before_self c.args.state.now _
+
+pub returns-in-Size-clause-err : goal.returns-in-Size-clause-err
+returns-in-Size-clause-err c = as_before_self c.args.state.now _
+
+pub returns-in-Value-clause-err : goal.returns-in-Value-clause-err
+returns-in-Value-clause-err c = as_before_self c.args.state.now _
+
+pub returns-in-Write-clause-err : goal.returns-in-Write-clause-err
+returns-in-Write-clause-err c = as_before_self c.args.state.now _
+
+pub returns-in-WriteVtree-clause-err : goal.returns-in-WriteVtree-clause-err
+returns-in-WriteVtree-clause-err c = as_before_self c.args.state.now _

@@ -30,7 +30,7 @@ or-requires-clause-second c =
     c.pair-prime.result.1 c.index-built-sub.result c.loop-element.invariant.kept c.requires.built c.requires.all
     c.pair-prime.ensures.earlier.sub c.index-built-sub.is in
     answer_node _ _ _
-        (pair_answer c.args.file.now _ _ c.pair-prime.result _ _ _ first second c.in_ok-product.ensures.ok)
+    (pair_answer c.args.file.now _ _ c.pair-prime.result _ _ _ first second c.in_ok-product.ensures.ok)
 
 -- one pair more
 pub loop-element-preserved : goal.loop-element-preserved

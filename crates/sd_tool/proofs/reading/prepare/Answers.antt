@@ -13,7 +13,8 @@ returns-in-Ok-clause-leads g c =
     let job = c.in-Ok.job in
     leads_on told told (reading_of (map string_bytes c.args.words.now)) (with_input_word job (input_file job.input))
     (λ plan. Begins (plan_of plan)) c.prepare_job.result first first
-    (g.F.Shelf.read_faults c.prepare_job.new.shelf) (joined_first _) refl (omega arith) (c.in-Ok.ensures told first first)
+    (g.F.Shelf.read_faults c.prepare_job.new.shelf) (joined_first _) refl (omega arith)
+    (c.in-Ok.ensures told first first)
     c.prepare_job.ensures.leads
 
 pub returns-in-Err-clause-leads : goal.returns-in-Err-clause-leads

@@ -21,7 +21,8 @@ returns-in-Balanced-clause-leads g c =
     let job = c.args.job.now in
     let formula = c.args.formula.now in
     start_leads _ (g.F.Shelf.files c.args.shelf.now) (with_tree_word job formula job.tree) job formula
-    (balanced_tree c.variables-variables.result) c.balanced.result c.kept.result (g.F.Shelf.read_faults c.args.shelf.now)
+    (balanced_tree c.variables-variables.result) c.balanced.result c.kept.result
+    (g.F.Shelf.read_faults c.args.shelf.now)
     (g.F.Shelf.read_faults c.args.shelf.now) (asks_none g.F.Shelf.asked c.args.shelf.now)
     (ap (with_tree_word job formula) c.in-Balanced.is
     ∙ ap (λ (v : ℕ). with_tree job formula (balanced_tree v)) (sym c.variables-variables.ensures.value))
@@ -32,7 +33,8 @@ returns-in-Right-clause-leads g c =
     let job = c.args.job.now in
     let formula = c.args.formula.now in
     start_leads _ (g.F.Shelf.files c.args.shelf.now) (with_tree_word job formula job.tree) job formula
-    (right_tree c.variables-variables.result) c.right.result c.kept-in-Right.result (g.F.Shelf.read_faults c.args.shelf.now)
+    (right_tree c.variables-variables.result) c.right.result c.kept-in-Right.result
+    (g.F.Shelf.read_faults c.args.shelf.now)
     (g.F.Shelf.read_faults c.args.shelf.now) (asks_none g.F.Shelf.asked c.args.shelf.now)
     (ap (with_tree_word job formula) c.in-Right.is
     ∙ ap (λ (v : ℕ). with_tree job formula (right_tree v)) (sym c.variables-variables.ensures.value))
@@ -43,7 +45,8 @@ returns-in-Left-clause-leads g c =
     let job = c.args.job.now in
     let formula = c.args.formula.now in
     start_leads _ (g.F.Shelf.files c.args.shelf.now) (with_tree_word job formula job.tree) job formula
-    (left_tree c.variables-variables.result) c.left.result c.kept-in-Left.result (g.F.Shelf.read_faults c.args.shelf.now)
+    (left_tree c.variables-variables.result) c.left.result c.kept-in-Left.result
+    (g.F.Shelf.read_faults c.args.shelf.now)
     (g.F.Shelf.read_faults c.args.shelf.now) (asks_none g.F.Shelf.asked c.args.shelf.now)
     (ap (with_tree_word job formula) c.in-Left.is
     ∙ ap (λ (v : ℕ). with_tree job formula (left_tree v)) (sym c.variables-variables.ensures.value))

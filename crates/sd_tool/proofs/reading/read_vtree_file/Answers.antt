@@ -18,7 +18,8 @@ returns-in-Ok-Some-clause-leads g c = λ job formula same.
     text_leads _ told (Reads file next) (with_vtree_reading job formula file) plain_tree (BadVtree file)
     (vtree_file c.args.variables bytes) c.vtree_in.result (g.F.Shelf.read_faults c.args.shelf.now)
     (g.F.Shelf.read_faults c.read_text.new.shelf) (λ fault. refl)
-    (subst (λ (v : ℕ). ComesTo asks told (Reads file next) (with_vtree_reading job formula file (vtree_file v bytes))) same
+    (subst (λ (v : ℕ). ComesTo asks told (Reads file next)
+    (with_vtree_reading job formula file (vtree_file v bytes))) same
     (text_given _ told file next _ c.in-Ok-Some.bytes bytes c.in-Ok-Some.field-0-is c.as_slice.ensures
     (c.in-Ok-Some.ensures.leads next))) c.vtree_in.ensures.gives
 

@@ -54,7 +54,8 @@ returns-in-Err-clause-leads g c = λ begin.
     c.args.script.now c.loop-line.line-index line c.loop-line.commands.items begin (Err c.in-Err.stop)
     (g.F.Shelf.read_faults c.args.shelf.now) (g.F.Shelf.read_faults c.loop-line.shelf)
     (g.F.Shelf.read_faults c.command_of.new.shelf)
-    (joined g.F.Shelf.asked c.args.shelf.now c.loop-line.shelf c.command_of.new.shelf) next was.files was.read_faults (was.leads begin)
+    (joined g.F.Shelf.asked c.args.shelf.now c.loop-line.shelf c.command_of.new.shelf) next was.files was.read_faults
+    (was.leads begin)
     c.in-Err.ensures.leads
 
 -- one more line became a command
@@ -81,12 +82,14 @@ loop-line-preserved g c =
           (becomes_next v script index done line c.in-Ok.command c.requires.script next c.in-Ok.ensures.same
           was.commands_of);
       leads = λ begin. subst (λ (cs : List RunCommand). ComesTo
-          (Adds g.F.Shelf.asked c.args.shelf.now c.command_of.new.shelf) told (with_lines v script begin [] script.commands)
+          (Adds g.F.Shelf.asked c.args.shelf.now c.command_of.new.shelf) told
+          (with_lines v script begin [] script.commands)
           (with_lines v script begin cs (drop (index + 1) script.commands))) (sym c.in-Ok-put.ensures)
           (line_leads told (g.F.Shelf.files c.loop-line.shelf) v script index line done begin (Ok c.in-Ok.command)
           (g.F.Shelf.read_faults c.args.shelf.now) (g.F.Shelf.read_faults c.loop-line.shelf)
           (g.F.Shelf.read_faults c.command_of.new.shelf)
-    (joined g.F.Shelf.asked c.args.shelf.now c.loop-line.shelf c.command_of.new.shelf) next was.files was.read_faults (was.leads begin)
+          (joined g.F.Shelf.asked c.args.shelf.now c.loop-line.shelf c.command_of.new.shelf) next was.files was.read_faults
+          (was.leads begin)
           c.in-Ok.ensures.leads);
     }
 
@@ -98,9 +101,12 @@ returns-in-Err-put-clause-leads g c = λ begin.
     let here : IsNext c.commands-line-items.result.now c.loop-line.line-index line =
     record { within = omega arith; is = c.line-item.is } in
     let next = subst (λ (ls : List Line). IsNext ls c.loop-line.line-index line) was.same here in
-    inl (_, line_leads (g.F.Shelf.files c.args.shelf.now) (g.F.Shelf.files c.loop-line.shelf) c.args.variables
-    c.args.script.now c.loop-line.line-index line c.loop-line.commands.items begin (Ok c.in-Ok.command)
-    (g.F.Shelf.read_faults c.args.shelf.now) (g.F.Shelf.read_faults c.loop-line.shelf)
-    (g.F.Shelf.read_faults c.command_of.new.shelf)
-    (joined g.F.Shelf.asked c.args.shelf.now c.loop-line.shelf c.command_of.new.shelf) next was.files
-    was.read_faults (was.leads begin) c.in-Ok.ensures.leads)
+    inl (
+      _,
+      line_leads (g.F.Shelf.files c.args.shelf.now) (g.F.Shelf.files c.loop-line.shelf) c.args.variables
+          c.args.script.now c.loop-line.line-index line c.loop-line.commands.items begin (Ok c.in-Ok.command)
+          (g.F.Shelf.read_faults c.args.shelf.now) (g.F.Shelf.read_faults c.loop-line.shelf)
+          (g.F.Shelf.read_faults c.command_of.new.shelf)
+          (joined g.F.Shelf.asked c.args.shelf.now c.loop-line.shelf c.command_of.new.shelf) next was.files
+          was.read_faults (was.leads begin) c.in-Ok.ensures.leads,
+    )

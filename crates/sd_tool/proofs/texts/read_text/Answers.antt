@@ -22,7 +22,8 @@ pub returns-in-Ok-copy_of-clause-leads : goal.returns-in-Ok-copy_of-clause-leads
 returns-in-Ok-copy_of-clause-leads g c = λ next.
     stops_at_file _ (g.F.Shelf.files c.args.shelf.now) c.args.file.now _ next
     (g.F.Shelf.read_faults c.args.shelf.now) (g.F.Shelf.read_faults c.read_all.new.shelf)
-    c.in-Err-ReadFault.ensures.asked c.in-Ok-copy_of.ensures (c.in-Err-ReadFault.ensures.fault (ap Err c.in-Err-ReadFault.field-0-is))
+    c.in-Err-ReadFault.ensures.asked c.in-Ok-copy_of.ensures
+    (c.in-Err-ReadFault.ensures.fault (ap Err c.in-Err-ReadFault.field-0-is))
 
 pub returns-in-Err-OutOfMemory-clause-leads : goal.returns-in-Err-OutOfMemory-clause-leads
 returns-in-Err-OutOfMemory-clause-leads g c = λ next.

@@ -2,6 +2,7 @@ use Rattle.std.proofs.Common.{[], refl, sym, ap, subst, ◌∙◌, arith}
 use Rattle.sd_model.specs.Tree.{leaves}
 use Rattle.sd_vtree.specs.Numbered.{plain_tree}
 use Rattle.sd_commands.specs.Standing.{StopsAt, IsFilled}
+use Rattle.sd_commands.proofs.Standing.{holds_state}
 use Rattle.sd_tool.specs.PlanViews.{plan_with}
 use Rattle.sd_tool.proofs.StepLemmas.{so_far_more, goes_to_out_of_memory, goes_to_full}
 use Rattle.sd_tool.proofs.StepLemmas.{goes_to_fault, goes_to_end, no_fewer}
@@ -54,6 +55,8 @@ returns-in-Err-ArenaFull-clause-goes g c = λ limit.
     c.loop-command.command-index _ _ _ _ _ _ c.command-item.result _
     (record { within = omega arith; is = c.command-item.is }) (was.so_far limit) stops.0
     (subst (λ n. IsFilled n c.step.new.state.manager) (sym c.in-Err-ArenaFull.elements-is) stops.1)
+    (holds_state c.step.new.state (was.so_far limit).state
+    (c.in-Err-ArenaFull.ensures.err.represents (was.so_far limit).state (was.so_far limit).represents))
 
 pub returns-in-Err-OutOfMemory-clause-goes : goal.returns-in-Err-OutOfMemory-clause-goes
 returns-in-Err-OutOfMemory-clause-goes g c = λ limit.

@@ -1,4 +1,5 @@
 use Rattle.sd_tool.proofs.ByStatus.{effects_at, line_at, end_at}
+use Rattle.sd_tool.proofs.Joined.{joined_at}
 use Rattle.sd_tool.proofs.OneRun.{completes}
 use Rattle.sd_tool.proofs.WrittenLemmas.{written_at, equal_texts}
 use Rattle.sd_tool.proofs.AskedAt.{asked_at}
@@ -24,3 +25,6 @@ returns-clause-equal_texts g c = equal_texts _ _
 
 pub returns-clause-asked : goal.returns-clause-asked
 returns-clause-asked g c = asked_at _ _ _ _ _ c.conduct.ensures.course
+
+pub returns-clause-joined : goal.returns-clause-joined
+returns-clause-joined g c = joined_at _ _ _ _ _ c.conduct.ensures.course

@@ -1,0 +1,379 @@
+-- A run with a script of four lines writes the text of two formulas, joined.
+use Rattle.std.proofs.Common.{◌≡◌, ◌⊎◌, ℕ, Bool, true, false, ◌&&◌, List, [], ◌∷◌, ◌++◌, Option, Some}
+use Rattle.std.proofs.Common.{Ok, inl, inr, refl, sym, ap, subst, ◌∙◌, if◌then◌else◌, codes, pos}
+use Rattle.std.proofs.lemmas.Bool.{eq-eqb, ne_eqb}
+use Rattle.std.specs.List.{list_all}
+use Rattle.std.specs.Option.{unwrap_or}
+use Rattle.sd_base.specs.Asked.{Request}
+use Rattle.sd_base.specs.Files.{Files, told_with, with_file}
+use Rattle.sd_model.specs.declared.trees.Operation.{Operation}
+use Rattle.sd_model.specs.declared.trees.Operation.TheVariants.{And}
+use Rattle.sd_model.specs.Expression.{Expression, Constant, Atom, Combined}
+use Rattle.sd_model.specs.Tree.{Tree}
+use Rattle.sd_manager.specs.Table.{Table}
+use Rattle.sd_formula.specs.Dimacs.{Groups}
+use Rattle.sd_formula.specs.Formulas.{expression_of}
+use Rattle.sd_script.specs.Scripts.{Script, script_of, see, number_of_word}
+use Rattle.sd_script.specs.declared.command.Action.{Action}
+use Rattle.sd_script.specs.declared.command.Action.TheVariants as actions
+use Rattle.sd_script.specs.declared.command.Command.{Command as Line}
+use Rattle.sd_words.specs.declared.jobs.Job.{Job}
+use Rattle.sd_words.specs.declared.jobs.TreeWord.{TreeWord}
+use Rattle.sd_words.specs.declared.jobs.TreeWord.TheVariants as trees
+use Rattle.sd_commands.specs.Effects.{Effect, Write}
+use Rattle.sd_commands.specs.Commands.{State, Outcome, Done, Step, Steps, Binds, IsTextOf}
+use Rattle.sd_commands.specs.Commands.{named, with_name, formula_named}
+use Rattle.sd_commands.specs.declared.command.RunCommand.{RunCommand}
+use Rattle.sd_commands.specs.declared.command.RunCommand.TheVariants as commands
+use Rattle.sd_tool.specs.Effects.{Contents, after}
+use Rattle.sd_tool.specs.Readings.{Plan, Reading, Refuses, Begins, Reads, Whole, ReadsTo, reading_of, with_job}
+use Rattle.sd_tool.specs.Readings.{with_input_word, with_input, with_formula, with_tree_word, with_tree}
+use Rattle.sd_tool.specs.Readings.{with_vtree_text, with_vtree_reading, with_commands, with_script_text}
+use Rattle.sd_tool.specs.Readings.{with_script_reading, script_reading, with_lines, with_action, is_served}
+use Rattle.sd_tool.specs.Readings.{plan_for, file_name, input_file}
+use Rattle.sd_tool.specs.declared.refusal.Refusal.TheVariants as refusals
+use Rattle.sd_tool.specs.Ends.{Finished}
+use Rattle.sd_tool.specs.Devices.{Moment, NoneRose, HasDeviceCause}
+use Rattle.sd_tool.specs.Course.{MayEnd}
+use Rattle.sd_tool.specs.Headline.{IsCourse}
+use Rattle.sd_tool.specs.Written.{IsStartTree}
+use Rattle.sd_tool.specs.Joined.{own_formula, JoinsTwo, HasScript, WritesDiagram, HasJoined}
+use Rattle.sd_tool.proofs.AskLemmas.{goes_may_end}
+use Rattle.sd_tool.proofs.ByStatus.{effects_at}
+use Rattle.sd_tool.proofs.OneCourse.{whole_plan}
+use Rattle.sd_tool.proofs.OnePoint.{one_point}
+use Rattle.sd_tool.proofs.OneRun.{done_or_none}
+use Rattle.sd_tool.proofs.ReadingLemmas.{reads_on, reads_same}
+
+-- ---- the lines as commands
+
+-- a line that needs no other name is one command, which binds its name
+record OwnLine (input : Expression) (action : Action) (name : ℕ) (f : Expression) : Type 0 where
+  command : RunCommand
+  served : is_served action ≡ true
+  acts : (v : ℕ) (script : Script) (next : RunCommand → Reading) → with_action v script next action ≡ next command
+  binds : (state : State) (outcome : Outcome) → Step input state command outcome → Binds state name f outcome
+
+-- an equal name is bound to an equal formula
+binds_same : (state : State) (outcome : Outcome) (a b : ℕ × Expression) → Some a ≡ Some b
+    → Binds state a.0 a.1 outcome → Binds state b.0 b.1 outcome
+binds_same state outcome a b is binds =
+    let same : a ≡ b = cc in subst (λ (p : ℕ × Expression). Binds state p.0 p.1 outcome) same binds
+
+own_line : (input : Expression) (action : Action) (name : ℕ) (f : Expression)
+    → own_formula input action ≡ Some (name, f) → OwnLine input action name f
+own_line input (actions.Input n) name f is = record {
+  command = commands.Input n;
+  served = refl;
+  acts = λ v script next. refl;
+  binds = λ state outcome step. binds_same state outcome (n, input) (name, f) is step;
+}
+own_line input (actions.Lit n literal) name f is = record {
+  command = commands.Literal n literal;
+  served = refl;
+  acts = λ v script next. refl;
+  binds = λ state outcome step. binds_same state outcome (n, Atom literal) (name, f) is step;
+}
+own_line input (actions.Constant n value) name f is = record {
+  command = commands.Constant n value;
+  served = refl;
+  acts = λ v script next. refl;
+  binds = λ state outcome step. binds_same state outcome (n, Constant value) (name, f) is step;
+}
+own_line input action name f is = let bad : ⊥ = cc in absurd bad
+
+-- four tests that hold
+all_four : (a b c d : Bool) → a ≡ true → b ≡ true → c ≡ true → d ≡ true → (a && (b && (c && (d && true)))) ≡ true
+all_four a b c d p q r s =
+    ap (λ x. x && (b && (c && (d && true)))) p ∙ ap (λ x. x && (c && (d && true))) q ∙ ap (λ x. x && (d && true)) r
+    ∙ ap (λ x. x && true) s
+
+-- the commands of four lines
+module _ (v : ℕ) (script : Script) (begin : List RunCommand → Reading) where
+  -- one line more
+  line_more : (done : List RunCommand) (l : Line) (ls : List Line) (c : RunCommand)
+      → ((next : RunCommand → Reading) → with_action v script next l.action ≡ next c)
+      → with_lines v script begin done (l ∷ ls) ≡ with_lines v script begin (done ++ c ∷ []) ls
+  line_more done l ls c acts = acts (λ command. with_lines v script begin (done ++ command ∷ []) ls)
+
+  four_lines : (k l m n : Line) (a b c d : RunCommand)
+      → ((next : RunCommand → Reading) → with_action v script next k.action ≡ next a)
+      → ((next : RunCommand → Reading) → with_action v script next l.action ≡ next b)
+      → ((next : RunCommand → Reading) → with_action v script next m.action ≡ next c)
+      → ((next : RunCommand → Reading) → with_action v script next n.action ≡ next d)
+      → with_lines v script begin [] (k ∷ l ∷ m ∷ n ∷ []) ≡ begin (a ∷ b ∷ c ∷ d ∷ [])
+  four_lines k l m n a b c d p q r s =
+      line_more [] k (l ∷ m ∷ n ∷ []) a p ∙ line_more (a ∷ []) l (m ∷ n ∷ []) b q
+      ∙ line_more (a ∷ b ∷ []) m (n ∷ []) c r
+      ∙ line_more (a ∷ b ∷ c ∷ []) n [] d s
+
+module _ (input : Expression) (script : Script) (joined : Expression) (file : List ℕ)
+    (two : JoinsTwo input script joined file) where
+  first_line : OwnLine input two.first.action two.f two.left
+  first_line = own_line input two.first.action two.f two.left two.binds_f
+
+  second_line : OwnLine input two.second.action two.g two.right
+  second_line = own_line input two.second.action two.g two.right two.binds_g
+
+  -- the commands of the script
+  abbrev four_commands : List RunCommand
+  four_commands =
+      (own_line input two.first.action two.f two.left two.binds_f).command
+      ∷ (own_line input two.second.action two.g two.right two.binds_g).command
+      ∷ commands.Combine two.operation two.h two.f two.g ∷ commands.Write two.h (file_name script two.number) ∷ []
+
+  -- all four lines are served, and they become these commands
+  script_leads : (v : ℕ) (begin : List RunCommand → Reading) → script_reading v begin script ≡ begin four_commands
+  script_leads v begin =
+      let one = own_line input two.first.action two.f two.left two.binds_f in
+      let other = own_line input two.second.action two.g two.right two.binds_g in
+      ap (λ ls. if list_all (λ (line : Line). is_served line.action) ls then with_lines v script begin [] ls
+      else Refuses refusals.NotYet) two.lines
+      ∙ ap (λ b. if b then with_lines v script begin [] (two.first ∷ two.second ∷ two.third ∷ two.last ∷ [])
+      else Refuses refusals.NotYet)
+      (all_four (is_served two.first.action) (is_served two.second.action) (is_served two.third.action)
+      (is_served two.last.action) one.served other.served (ap is_served two.joins) (ap is_served two.writes))
+      ∙ four_lines v script begin two.first two.second two.third two.last one.command other.command
+      (commands.Combine two.operation two.h two.f two.g) (commands.Write two.h (file_name script two.number))
+      (one.acts v script) (other.acts v script) (λ next. ap (with_action v script next) two.joins)
+      (λ next. ap (with_action v script next) two.writes)
+
+-- ---- the readings lead to the plan
+
+-- the start tree of the words is followed
+tree_follows : (files : Files) (job : Job) (f : Groups) (tree : Tree) (point : Reading) (word : TreeWord)
+    → IsStartTree files word f.variables tree → ReadsTo (Some files) (with_tree job f tree) point
+    → ReadsTo (Some files) (with_tree_word job f word) point
+tree_follows files job f tree point trees.Balanced is led =
+    subst (λ t. ReadsTo (Some files) (with_tree job f t) point) is led
+tree_follows files job f tree point trees.Right is led =
+    subst (λ t. ReadsTo (Some files) (with_tree job f t) point) is led
+tree_follows files job f tree point trees.Left is led =
+    subst (λ t. ReadsTo (Some files) (with_tree job f t) point) is led
+tree_follows files job f tree point (trees.File file) (bytes, there, short, reads) led =
+    inr (
+      Whole bytes,
+      (there, short),
+      reads_on (Some files) (with_vtree_text job f file (Whole bytes)) (with_tree job f tree) point
+          (reads_same (Some files) _ _ (ap (with_vtree_reading job f file) reads)) led,
+    )
+
+module _ (words : List (List ℕ)) (files : Files) (job : Job) (formula : Groups) (script : Script) (tree : Tree)
+    (has : HasScript words files job formula script) (start : IsStartTree files job.tree formula.variables tree) where
+  -- where the script becomes these commands, it is a plan
+  script_follows : (cs : List RunCommand)
+      → ((begin : List RunCommand → Reading) → script_reading formula.variables begin script ≡ begin cs)
+      → ReadsTo (Some files) (with_tree job formula tree) (Begins (plan_for job formula tree cs))
+  script_follows cs becomes =
+      let told = Some files in
+      let begin = λ (l : List RunCommand). Begins (plan_for job formula tree l) in
+      let asks = Reads has.script_file (with_script_text has.script_file formula.variables begin) in
+      let read : ReadsTo told asks (begin cs) =
+      inr (
+        Whole has.script_bytes,
+        (has.script_there, has.script_fits),
+        reads_same told _ _
+            (ap (with_script_reading has.script_file formula.variables begin) has.script_reads ∙ becomes begin),
+      ) in
+      reads_on told (with_tree job formula tree) asks (begin cs)
+      (reads_same told _ _ (ap (with_commands job formula.variables begin) has.asked)) read
+
+  -- the words, the input, the tree and the script lead to it
+  leads_to_script : (cs : List RunCommand)
+      → ((begin : List RunCommand → Reading) → script_reading formula.variables begin script ≡ begin cs)
+      → ReadsTo (Some files) (reading_of words) (Begins (plan_for job formula tree cs))
+  leads_to_script cs becomes =
+      let told = Some files in
+      let point = Begins (plan_for job formula tree cs) in
+      let asks = Reads has.input.file (with_input job has.input) in
+      let named : ReadsTo told (reading_of words) asks =
+      reads_same told _ _
+      (ap with_job has.named
+      ∙ ap (λ b. if b then with_input_word job (input_file job.input) else Refuses refusals.NotYet) has.plain
+      ∙ ap (with_input_word job) has.is_input) in
+      let read : ReadsTo told asks (with_tree_word job formula job.tree) =
+      inr (
+        Whole has.bytes,
+        (has.there, has.fits),
+        reads_same told _ _ (ap (with_formula job has.input.file) has.reads),
+      ) in
+      reads_on told (reading_of words) asks point named
+      (reads_on told asks (with_tree_word job formula job.tree) point read
+      (tree_follows files job formula tree point job.tree start (script_follows cs becomes)))
+
+-- ---- the commands, done
+
+-- a command that binds a name, and the others after it
+bind_done : (input : Expression) (state last : State) (name : ℕ) (f : Expression) (command : RunCommand)
+    (rest : List RunCommand) (effects : List Effect)
+    → ((outcome : Outcome) → Step input state command outcome → Binds state name f outcome)
+    → Steps input state (command ∷ rest) effects last → Steps input (with_name state name f) rest effects last
+bind_done input state last name f command rest effects binds (mid, first, others, step, steps, is) =
+    let done : Done mid first ≡ Done (with_name state name f) [] = binds (Done mid first) step in
+    let same : mid ≡ with_name state name f = cc in
+    let none : first ≡ [] = cc in
+    let all : effects ≡ others = is ∙ ap (λ (l : List Effect). l ++ others) none in
+    subst (λ l. Steps input (with_name state name f) rest l last) (sym all)
+    (subst (λ s. Steps input s rest others last) same steps)
+
+-- a last command that writes a diagram
+write_done : (input : Expression) (state last : State) (name : ℕ) (file : List ℕ) (effects : List Effect)
+    → Steps input state (commands.Write name file ∷ []) effects last
+    → (text : List ℕ) × IsTextOf state.tree (formula_named state name) text × (effects ≡ Write file text ∷ [])
+write_done input state last name file effects (mid, first, others, step, steps, is) =
+    let wrote : first ≡ Write file step.0 ∷ [] = let e = step.2 in cc in
+    (step.0, step.1, is ∙ ap (λ (l : List Effect). l ++ others) wrote ∙ ap (λ l. Write file step.0 ∷ l) steps.0)
+
+-- the name that was bound last
+named_first : (entries : List (ℕ × Expression)) (name : ℕ) (f : Expression)
+    → unwrap_or (named ((name, f) ∷ entries) name) (Constant false) ≡ f
+named_first entries name f = rw (eq-eqb name name refl) refl
+
+-- a name that was bound before another one
+named_before : (entries : List (ℕ × Expression)) (name other : ℕ) (f : Expression) → ¬ (other ≡ name)
+    → unwrap_or (named ((other, f) ∷ entries) name) (Constant false)
+    ≡ unwrap_or (named entries name) (Constant false)
+named_before entries name other f differ = rw (ne_eqb other name differ) refl
+
+-- the two names and the joined one stand for their formulas
+joined_formula : (state : State) (f g h : ℕ) (left right : Expression) (operation : Operation) → ¬ (g ≡ f)
+    → let both = with_name (with_name state f left) g right in
+    formula_named (with_name both h (Combined operation (formula_named both f) (formula_named both g))) h
+    ≡ Combined operation left right
+joined_formula state f g h left right operation differ =
+    let both = with_name (with_name state f left) g right in
+    named_first both.names h (Combined operation (formula_named both f) (formula_named both g))
+    ∙ ap (λ x. Combined operation x (formula_named both g))
+    (named_before ((f, left) ∷ state.names) f g right differ ∙ named_first state.names f left)
+    ∙ ap (λ y. Combined operation left y) (named_first ((f, left) ∷ state.names) g right)
+
+-- four commands that are all done write the joined formula
+four_done : (input : Expression) (script : Script) (joined : Expression) (file : List ℕ)
+    (two : JoinsTwo input script joined file) (state last : State) (effects : List Effect)
+    → Steps input state (four_commands input script joined file two) effects last
+    → (text : List ℕ) × IsTextOf state.tree joined text × (effects ≡ Write file text ∷ [])
+four_done input script joined file two state last effects steps =
+    let one = own_line input two.first.action two.f two.left two.binds_f in
+    let other = own_line input two.second.action two.g two.right two.binds_g in
+    let combine = commands.Combine two.operation two.h two.f two.g in
+    let write = commands.Write two.h (file_name script two.number) in
+    let a = with_name state two.f two.left in
+    let b = with_name a two.g two.right in
+    let value = Combined two.operation (formula_named b two.f) (formula_named b two.g) in
+    let c = with_name b two.h value in
+    let after_first = bind_done input state last two.f two.left one.command (other.command ∷ combine ∷ write ∷ [])
+    effects (one.binds state) steps in
+    let after_second = bind_done input a last two.g two.right other.command (combine ∷ write ∷ []) effects
+    (other.binds a) after_first in
+    let after_third = bind_done input b last two.h value combine (write ∷ []) effects (λ outcome step. step)
+    after_second in
+    let done = write_done input c last two.h (file_name script two.number) effects after_third in (
+      done.0,
+      subst (λ f. IsTextOf state.tree f done.0)
+          (joined_formula state two.f two.g two.h two.left two.right two.operation two.two ∙ sym two.is) done.1,
+      done.2 ∙ ap (λ name. Write name done.0 ∷ []) (sym two.file_is),
+    )
+
+-- ---- the run
+
+-- readings that lead to two plans lead to one
+one_plan : (words : List (List ℕ)) (files : Files) (a b : Plan) → ReadsTo (Some files) (reading_of words) (Begins a)
+    → ReadsTo (Some files) (reading_of words) (Begins b) → b ≡ a
+one_plan words files a b p q =
+    elim (one_point files (reading_of words) (Begins a) (Begins b) tt p q) [
+      | inl is ↦ cc
+      | inr asks ↦ let e = asks.is in let bad : ⊥ = cc in absurd bad
+    ]
+
+-- what this effect leaves
+leaves_text : (files : Files) (tree : Tree) (f : Expression) (file text : List ℕ) (effects : List Effect)
+    (old new : Contents) → old.files ≡ Some files → effects ≡ Write file text ∷ [] → IsTextOf tree f text
+    → new ≡ after effects old → WritesDiagram files tree f file old new
+leaves_text files tree f file text effects old new told are is_text is =
+    let now : new ≡ after (Write file text ∷ []) old = is ∙ ap (λ l. after l old) are in record {
+      diagram = is_text.diagram;
+      of_formula = is_text.of_value;
+      files_are = ap (λ (o : Contents). o.files) now ∙ ap (λ t. told_with t file text) told
+          ∙ ap (λ b. Some (with_file files file b)) is_text.is;
+      printed_is = ap (λ (o : Contents). o.printed) now;
+    }
+
+-- a run with a script of four lines
+pub joined_at : {asks : List Request → Type 0} (words : List (List ℕ)) (status : ℕ) (kept : Option Table)
+    (old new : Moment) → IsCourse asks words status kept old new → HasJoined words status old new
+joined_at {asks = asks} words status kept old new went = λ files job formula tree script joined file told has start two.
+    let input = expression_of formula in
+    let cs = four_commands input script joined file two in
+    let plan = plan_for job formula tree cs in
+    let led = leads_to_script words files job formula script tree has start cs
+    (script_leads input script joined file two formula.variables) in (
+      ends files plan told led,
+      λ zero_.
+          let all = (effects_at words status kept old new went).all zero_ in
+          writes files job formula tree script joined file two told led all.0
+          (subst (λ f. MayEnd words f all.0 Finished) told all.1) all.2,
+    )
+  where
+    ends : (files : Files) (plan : Plan) → old.contents.files ≡ Some files
+        → ReadsTo (Some files) (reading_of words) (Begins plan) → NoneRose old.faults new.faults
+        → (status ≡ 0) ⊎ (status ≡ 7) ⊎ (status ≡ 8)
+    ends files plan told led calm =
+        let may_end = subst (λ f. MayEnd words f went.effects went.end) told
+        (goes_may_end asks words old.contents.files went.effects went.end went.goes) in
+        let cause = subst (λ f. HasDeviceCause went.end f old.faults new.faults) told went.cause in
+        elim (done_or_none words files plan went.effects went.end old.faults new.faults led may_end cause calm) [
+          | inl done ↦ inl (went.status_is ∙ done)
+          | inr (inl memory) ↦ inr (inl (went.status_is ∙ memory))
+          | inr (inr full) ↦ inr (inr (went.status_is ∙ full))
+        ]
+
+    writes : (files : Files) (job : Job) (formula : Groups) (tree : Tree) (script : Script) (joined : Expression)
+        (file : List ℕ) (two : JoinsTwo (expression_of formula) script joined file) → old.contents.files ≡ Some files
+        → ReadsTo (Some files) (reading_of words)
+        (Begins (plan_for job formula tree (four_commands (expression_of formula) script joined file two)))
+        → (effects : List Effect) → MayEnd words (Some files) effects Finished
+        → new.contents ≡ after effects old.contents
+        → WritesDiagram files tree joined file old.contents new.contents
+    writes files job formula tree script joined file two told led effects (inl p) is = absurd p.0
+    writes files job formula tree script joined file two told led effects (inr p) is =
+        let cs = four_commands (expression_of formula) script joined file two in
+        let plan = plan_for job formula tree cs in
+        let same = one_plan words files plan p.0 led p.1 in
+        let steps = subst (λ (q : Plan). Steps q.input q.start q.commands effects p.2.0) same
+        (whole_plan p.0 p.2.0 effects p.2.1) in
+        let done = four_done (expression_of formula) script joined file two plan.start p.2.0 effects steps in
+        leaves_text files tree joined file done.0 effects old.contents new.contents told done.2 done.1 is
+
+-- ---- a script of this form
+
+-- the input and a literal, joined by and
+worked : (v : ℕ) × (script : Script)
+    × (script_of v (codes "input f\nlit g 1\nand h f g\nwrite h out\n") ≡ Ok script)
+    × ((input : Expression) → JoinsTwo input script (Combined And input (Atom (pos 1))) (codes "out"))
+unfolding script_of see number_of_word
+worked = (
+  2,
+  _,
+  refl,
+  λ input. record {
+    first = _;
+    second = _;
+    third = _;
+    last = _;
+    lines = refl;
+    f = 0;
+    g = 1;
+    h = 2;
+    left = input;
+    right = Atom (pos 1);
+    binds_f = refl;
+    binds_g = refl;
+    two = λ e. cc;
+    operation = And;
+    joins = refl;
+    is = refl;
+    number = 0;
+    writes = refl;
+    file_is = refl;
+  },
+)
