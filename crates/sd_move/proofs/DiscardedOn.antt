@@ -56,7 +56,7 @@ discarded_on m0 m x h v t g way n former e marks free =
       literals = g.literals;
       moving = g.moving;
       began = λ i a b. g.began i a (λ c. b (inr c));
-      kept = λ i a b. subst IsSome (sym (other_key m n i (λ z. b (inl z)))) (g.kept i a (λ c. b (inr c)));
+      kept = λ i a b. subst IsSome (sym (other_key m n i (λ z. b (inl (sym z))))) (g.kept i a (λ c. b (inr c)));
       value = λ i u l f. g.value i u l (still_there m t n former e i (u, l) f).1;
       whole = λ i u l f. g.whole i u l (still_there m t n former e i (u, l) f).1;
       placed = g.placed;
@@ -74,7 +74,7 @@ discarded_on m0 m x h v t g way n former e marks free =
     new_below : (i u : ℕ) (l : List (ℕ × ℕ)) → (i ≢ n) × (key_at m i ≡ Some (u, l)) →
         IsNew m0 (with_discarded h n) i → IsBelowNode m x u
     new_below i u l w (inl z) = g.new_below i u l w.1 (inl z)
-    new_below i u l w (inr (inl z)) = absurd (w.0 z)
+    new_below i u l w (inr (inl z)) = absurd (w.0 (sym z))
     new_below i u l w (inr (inr c)) = g.new_below i u l w.1 (inr c)
 
     number : (i : ℕ) → IsSome (key_after m n i) → IsSome (key_at m i)

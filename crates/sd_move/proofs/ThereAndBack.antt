@@ -32,7 +32,7 @@ without_kept loose (m ∷ ms) s l h =
     ]
   where
     neither : (s ≡ m → ⊥) → ¬ IsMember s ms → ¬ IsMember s (m ∷ ms)
-    neither z n (inl e) = z e
+    neither z n (inl e) = z (sym e)
     neither z n (inr e) = n e
 
 -- the start of an own run is one of the journal's
@@ -42,7 +42,7 @@ own_start (e ∷ es) s (inl h) = go e.run h.1
   where
     go : (o : Option (ℕ × ℕ)) → o ≡ Some (s, h.0) → IsMember s (with_start o (starts_of es))
     go None k = absurd (none-some (s, h.0) k)
-    go (Some run) k = inl (sym (ap (λ (x : ℕ × ℕ). x.0) (same_Some run (s, h.0) k)))
+    go (Some run) k = inl (ap (λ (x : ℕ × ℕ). x.0) (same_Some run (s, h.0) k))
 own_start (e ∷ es) s (inr h) = go (own_start es s h) e.run
   where
     go : IsMember s (starts_of es) → (o : Option (ℕ × ℕ)) → IsMember s (with_start o (starts_of es))

@@ -26,7 +26,7 @@ fn both(
     requires first { IsLiteralTo (leaves (plain_tree m.old.vtree)) first }
     requires second { IsLiteralTo (leaves (plain_tree m.old.vtree)) second }
     requires serves { Serves c.old m.old }
-    ensures known { IfOk result (λ r. IsNodeOf m.new r) }
+    ensures shown { IfOk result (λ r. IsNodeOf m.new r) }
     ensures kept { Extends m.old m.new }
     ensures serves { Serves c.new m.new }
 {
@@ -39,7 +39,7 @@ fn both(
 fn two_terms(alloc: Global, m: &mut Manager, c: &mut Cache) -> Result<NodeId, TakeError>
     requires four { leaves (plain_tree m.old.vtree) ≡ 4 }
     requires serves { Serves c.old m.old }
-    ensures known { IfOk result (λ r. IsNodeOf m.new r) }
+    ensures shown { IfOk result (λ r. IsNodeOf m.new r) }
     ensures kept { Extends m.old m.new }
 {
     let first = both(alloc, m, c, 1, 2)?;
