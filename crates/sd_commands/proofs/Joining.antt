@@ -1,6 +1,6 @@
 -- Nodes joined one after another show the joined values.
-use Rattle.std.proofs.Common.{◌≡◌, ℕ, zero, suc, ◌+◌, ◌-◌, ◌<◌, ◌≤◌, Bool, true, false, ◌&&◌, ◌||◌}
-use Rattle.std.proofs.Common.{List, [], ◌∷◌, ◌++◌, length, drop, take, slice_get}
+use Rattle.std.proofs.Common.{◌≡◌, ℕ, zero, suc, ◌+◌, ◌≤◌, Bool, true, false, ◌&&◌, ◌||◌}
+use Rattle.std.proofs.Common.{List, [], ◌∷◌, ◌++◌, length, take, slice_get}
 use Rattle.std.proofs.Common.{Some, ℤ, pos, negsuc, refl, sym, ap, subst, ◌∙◌, arith, add-one}
 use Rattle.std.specs.List.{list_all, list_any}
 use Rattle.std.specs.FinMap.{get}
@@ -13,7 +13,6 @@ use Rattle.sd_formula.specs.declared.formula.Kind.{Kind}
 use Rattle.sd_formula.specs.declared.formula.Kind.TheVariants.{Cnf, Dnf}
 use Rattle.sd_formula.specs.Dimacs.{Groups}
 use Rattle.sd_formula.specs.Formulas.{IsLiteral, expression_of}
-use Rattle.sd_formula.proofs.GroupLaws.{drop_at}
 use Rattle.sd_laws.proofs.Codes.{shows_kept}
 use Rattle.sd_manager.specs.Table.{Table}
 use Rattle.sd_manager.specs.Shown.{ShowsCanonical, IsNodeOf, constant_diagram}
@@ -24,11 +23,11 @@ use Rattle.sd_apply.specs.Answers.{HasAnswer, Combines}
 use Rattle.sd_commands.specs.Joined.{joined, neutral, outer, inner}
 
 -- all and any are joined
-all_joined : {X : Type 0} (p : X → Bool) (xs : List X) → list_all p xs ≡ joined And p xs
+pub all_joined : {X : Type 0} (p : X → Bool) (xs : List X) → list_all p xs ≡ joined And p xs
 all_joined p [] = refl
 all_joined p (x ∷ xs) = ap (λ b. p x && b) (all_joined p xs)
 
-any_joined : {X : Type 0} (p : X → Bool) (xs : List X) → list_any p xs ≡ joined Or p xs
+pub any_joined : {X : Type 0} (p : X → Bool) (xs : List X) → list_any p xs ≡ joined Or p xs
 any_joined p [] = refl
 any_joined p (x ∷ xs) = ap (λ b. p x || b) (any_joined p xs)
 
@@ -56,7 +55,7 @@ formula_joined f assignment = go f.kind f.groups
         ∙ sym (any_joined (λ g. list_all (literal_holds assignment) g) groups)
 
 -- connectives are associative, and have a neutral value
-grouped : (o : Operation) (a b c : Bool) → combine o a (combine o b c) ≡ combine o (combine o a b) c
+pub grouped : (o : Operation) (a b c : Bool) → combine o a (combine o b c) ≡ combine o (combine o a b) c
 grouped And true b c = refl
 grouped And false b c = refl
 grouped Or true b c = refl
@@ -66,7 +65,7 @@ grouped Xor true true false = refl
 grouped Xor true false c = refl
 grouped Xor false b c = refl
 
-alone : (o : Operation) (b : Bool) → combine o b (neutral o) ≡ combine o (neutral o) b
+pub alone : (o : Operation) (b : Bool) → combine o b (neutral o) ≡ combine o (neutral o) b
 alone And true = refl
 alone And false = refl
 alone Or true = refl
@@ -176,34 +175,6 @@ extends_self t = record {
 pub literal_of_tree : (v : ℕ) (z : ℤ) → IsLiteral v z → IsLiteralTo v z
 literal_of_tree v (pos x) is = (is.low, is.high)
 literal_of_tree v (negsuc i) is = let high = is.high in omega (arith, high)
-
--- ---- a group
-
--- the list from one place before
-from_before : {X : Type 0} (xs : List X) (i j : ℕ) (x : X) → i < length xs → j ≡ length xs - 1 - i
-    → slice_get xs j ≡ Some x → drop (length xs - (i + 1)) xs ≡ x ∷ drop (length xs - i) xs
-from_before xs i j x below is at =
-    let here : length xs - (i + 1) ≡ j = omega (arith, below, is) in
-    let after_ : j + 1 ≡ length xs - i = omega (arith, below, is) in
-    ap (λ n. drop n xs) here ∙ drop_at xs j x at ∙ ap (λ n. x ∷ drop n xs) after_
-
--- one literal more in front
-pub literal_more : (old new : Table) (o : Operation) (xs : List ℤ) (i j : ℕ) (x : ℤ) (a b c : ℕ) → i < length xs
-    → j ≡ length xs - 1 - i → slice_get xs j ≡ Some x
-    → (d : Diagram) × ShowsCanonical old a d
-    × ((assignment : List Bool) → meaning d assignment ≡ literal_holds assignment x)
-    → HasAnswer old (λ assignment. joined o (literal_holds assignment) (drop (length xs - i) xs)) b
-    → Combines old new o a b c
-    → HasAnswer new (λ assignment. joined o (literal_holds assignment) (drop (length xs - (i + 1)) xs)) c
-literal_more old new o xs i j x a b c below is at first rest combines =
-    answer_same new
-    (λ assignment. combine o (literal_holds assignment x)
-    (joined o (literal_holds assignment) (drop (length xs - i) xs)))
-    (λ assignment. joined o (literal_holds assignment) (drop (length xs - (i + 1)) xs)) c
-    (λ assignment. ap (joined o (literal_holds assignment)) (sym (from_before xs i j x below is at)))
-    (combined old new o (λ assignment. literal_holds assignment x)
-    (λ assignment. joined o (literal_holds assignment) (drop (length xs - i) xs)) a b c
-    (record { diagram = first.0; is = first.1; value = first.2 }) rest combines)
 
 -- ---- the groups
 

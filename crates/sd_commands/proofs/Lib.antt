@@ -3,3 +3,4 @@ pub mod Outcomes
 pub mod Standing
 pub mod Stepping
 pub mod Values
+pub mod Grouping

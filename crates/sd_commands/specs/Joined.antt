@@ -1,8 +1,10 @@
 -- Truth values joined by a connective, and the connectives of a formula in groups.
-use Rattle.std.specs.Prelude.{Bool, true, false, List, [], ◌∷◌}
+use Rattle.std.specs.Prelude.{ℕ, ℤ, Bool, true, false, List, [], ◌∷◌}
+use Rattle.std.specs.List.{AllByRecursion}
 use Rattle.sd_model.specs.declared.trees.Operation.{Operation}
 use Rattle.sd_model.specs.declared.trees.Operation.TheVariants.{And, Or, Xor}
 use Rattle.sd_model.specs.Expression.{combine}
+use Rattle.sd_formula.specs.Formulas.{IsLiteral}
 use Rattle.sd_formula.specs.declared.formula.Kind.{Kind}
 use Rattle.sd_formula.specs.declared.formula.Kind.TheVariants.{Cnf, Dnf}
 
@@ -25,3 +27,11 @@ outer Dnf = Or
 abbrev pub inner : Kind → Operation
 inner Cnf = Or
 inner Dnf = And
+
+-- the literal of a pair with the position of its leaf
+abbrev pub literal_of_place : ℕ × ℤ → ℤ
+literal_of_place e = e.1
+
+-- the literals of such pairs are of variables from 1 to v
+abbrev pub ArePlaced : ℕ → List (ℕ × ℤ) → Type 0
+ArePlaced v placed = AllByRecursion (λ (e : ℕ × ℤ). IsLiteral v (literal_of_place e)) placed

@@ -1,17 +1,17 @@
 // A formula compiled into a node: its groups are joined one after another.
 ghost use Rattle.std.specs.Prelude.{◌≡◌, IfOk, IfErr};
 ghost use Rattle.sd_model.specs.Tree.{leaves};
-ghost use Rattle.sd_model.specs.Assignment.{literal_holds};
 ghost use Rattle.sd_model.specs.Expression.{expression_value};
 ghost use Rattle.sd_vtree.specs.Numbered.{plain_tree};
-ghost use Rattle.sd_formula.specs.Formulas.{AreLiterals, expression_of};
+ghost use Rattle.sd_formula.specs.Formulas.{expression_of};
 ghost use Rattle.sd_manager.specs.Valid.{IsTable};
 ghost use Rattle.sd_manager.specs.Shown.{IsNodeOf};
 ghost use Rattle.sd_manager.specs.Making.{Extends, KeepsRule};
 ghost use Rattle.sd_apply.specs.Answers.{HasAnswer, Combines};
 ghost use Rattle.sd_apply.specs.Serving.{Serves};
-ghost use Rattle.sd_commands.specs.Joined.{joined, neutral, outer, inner};
+ghost use Rattle.sd_commands.specs.Joined.{neutral, outer, inner};
 
+use crate::groups::group_node;
 use sd_apply::{and, or, xor};
 use sd_cache::Cache;
 use sd_formula::{Formula, Kind};
@@ -42,34 +42,6 @@ pub(crate) fn formula_node(
     for index in 0..formula.groups() {
         let group = group_node(alloc, m, c, within, formula.group(index))?;
         node = connect(alloc, m, c, between, node, group)?;
-    }
-    Ok(node)
-}
-
-// The literals of a group, joined from the last to the first.
-fn group_node(
-    alloc: Global,
-    m: &mut Manager,
-    c: &mut Cache,
-    operation: Operation,
-    literals: &[i32],
-) -> Result<NodeId, TakeError>
-    requires literals { AreLiterals (leaves (plain_tree m.old.vtree)) literals.now }
-    requires serves { Serves c.old m.old }
-    ensures ok { IfOk result (λ node.
-        HasAnswer m.new (λ assignment. joined operation (literal_holds assignment) literals.now)
-        node) }
-    ensures kept { Extends m.old m.new }
-    ensures serves { Serves c.new m.new }
-    ensures rule { IfErr result (λ e. KeepsRule m.new e) }
-    ensures table { IsTable m.new }
-{
-    let mut node = m.constant(neutral_value(operation));
-    let count = literals.len();
-    for index in 0..count {
-        let literal = literals[count - 1 - index];
-        let first = m.literal(literal);
-        node = connect(alloc, m, c, operation, first, node)?;
     }
     Ok(node)
 }
@@ -118,7 +90,7 @@ fn within_group(kind: Kind) -> Operation
 }
 
 // The value of no operands.
-fn neutral_value(operation: Operation) -> bool
+pub(crate) fn neutral_value(operation: Operation) -> bool
     ensures { result ≡ neutral operation }
 {
     matches!(operation, Operation::And)

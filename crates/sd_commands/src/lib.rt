@@ -6,6 +6,7 @@ mod bind;
 mod command;
 mod compile;
 mod effects;
+mod groups;
 mod state;
 mod steps;
 #[cfg(test)]

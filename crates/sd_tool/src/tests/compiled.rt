@@ -122,5 +122,10 @@ fn clauses_of_all_variables_are_compiled(rt: HostRuntime) -> Result<(), Fail> {
     let files = vec![in alloc; file(alloc, "in", text.as_bytes())?]?;
     let end = ran(&rt, alloc, "--cnf in --start right", files)?;
     assert!(rt; end.ended(0, "size 4090\n", ""));
+    for words in ["--cnf in --start balanced", "--cnf in --start left"] {
+        let files = vec![in alloc; file(alloc, "in", text.as_bytes())?]?;
+        let end = ran(&rt, alloc, words, files)?;
+        assert!(rt; end.status == 0, "{words}");
+    }
     Ok(())
 }
