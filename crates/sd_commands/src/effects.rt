@@ -12,7 +12,7 @@ use itoa::Buffer;
 use sd_base::{Bits, Bytes, Name};
 use sd_file::write_sdd;
 use sd_manager::value_of;
-use sd_size::size_of_root;
+use sd_sweep::size_of_root;
 use sd_vfile::write_vtree;
 use std::alloc::{AllocError, Global};
 

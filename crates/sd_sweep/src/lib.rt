@@ -1,8 +1,12 @@
-//! Sweeping: taking away the nodes that no held root and no loose run needs.
+//! Sweeping, and the size of what roots show.
 #![tactic(auto)]
 
+mod listed;
+mod size;
 mod sweeping;
 
+pub use listed::Listed;
+pub use size::{nodes_below, size_of_root};
 pub use sweeping::sweep;
 
 #[cfg(test)]

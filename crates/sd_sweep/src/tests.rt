@@ -65,3 +65,16 @@ fn what_is_held_stays(rt: HostRuntime) -> Result<(), Fail> {
     assert_eq!(rt; m.epoch().checked_sub(epoch), Some(4));
     Ok(())
 }
+
+/// On the balanced vtree the two terms meet in four decompositions of two elements each.
+#[test]
+fn two_terms_have_size_eight(rt: HostRuntime) -> Result<(), Fail> {
+    let alloc = rt.alloc();
+    let vtree = Vtree::balanced(alloc, 4)?;
+    let mut m = Manager::new(alloc, vtree, 1000)?;
+    let mut c = Cache::new(alloc)?;
+    let node = two_terms(alloc, &mut m, &mut c)?;
+    let root = m.hold(node)?;
+    assert_eq!(rt; size_of_root(alloc, &m, &root)?, 8);
+    Ok(())
+}

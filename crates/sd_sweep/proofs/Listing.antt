@@ -20,12 +20,12 @@ use Rattle.sd_manager.specs.declared.view.View.TheVariants.{Constant as Constant
 use Rattle.sd_manager.specs.declared.view.View.TheVariants.{Decomposition as DecompositionView}
 use Rattle.sd_manager.proofs.Reading.{linked_key, pairs_node, element_fits}
 use Rattle.sd_manager.proofs.Evaluating.{HasChildren}
-use Rattle.sd_size.specs.Listed.{is_listed, AreListed, Adds}
-use Rattle.sd_size.proofs.Below.{among_left, among_right, among_split, within_both, only, itself, below_closed}
-use Rattle.sd_size.proofs.Below.{element_within, under_element, not_under_itself}
+use Rattle.sd_sweep.specs.Listed.{is_listed, AreListed, Adds}
+use Rattle.sd_sweep.proofs.Below.{among_left, among_right, among_split, within_both, only, itself, below_closed}
+use Rattle.sd_sweep.proofs.Below.{element_within, under_element, not_under_itself}
 
 -- a code that is found is in the list
-listed_among : (c : ℕ) (codes : List ℕ) → is_listed c codes ≡ true → IsAmong c codes
+pub listed_among : (c : ℕ) (codes : List ℕ) → is_listed c codes ≡ true → IsAmong c codes
 listed_among c [] h = cc
 listed_among c (b ∷ codes) h = elim (cases_eq b c) [
   | inl e ↦ inl (sym e)
@@ -33,7 +33,7 @@ listed_among c (b ∷ codes) h = elim (cases_eq b c) [
 ]
 
 -- and one of the list is found
-among_listed : (c : ℕ) (codes : List ℕ) → IsAmong c codes → is_listed c codes ≡ true
+pub among_listed : (c : ℕ) (codes : List ℕ) → IsAmong c codes → is_listed c codes ≡ true
 among_listed c [] m = absurd m
 among_listed c (b ∷ codes) (inl e) = ap (λ v. v || is_listed c codes) (eq-eqb b c (sym e))
 among_listed c (b ∷ codes) (inr m) = or_right (b == c) (is_listed c codes) (among_listed c codes m)
@@ -168,7 +168,7 @@ node_added t table c old mid lacks d is xs other within covers h = λ ds l.
     }
 
 -- of a constant or a literal nothing else is listed
-leaf_added : (t : Table) → IsTable t → (c : ℕ) (old : List ℕ) → is_listed c old ≡ false → (d : Diagram) →
+pub leaf_added : (t : Table) → IsTable t → (c : ℕ) (old : List ℕ) → is_listed c old ≡ false → (d : Diagram) →
     ShowsCanonical t c d → walk d ≡ d ∷ [] → Adds t old (old ++ c ∷ []) (walk d)
 leaf_added t table c old lacks d is leaf =
     node_added t table c old old lacks d is [] (λ x m e. absurd m) (λ x m. absurd m) (λ x m. subst (IsAmong x) leaf m)

@@ -1,8 +1,8 @@
 use Rattle.std.proofs.Common.{ℕ, ap, arith}
 use Rattle.std.specs.Ordering.{nat_cmp}
 use Rattle.std.specs.FinMap.{len, len-empty}
-use Rattle.sd_size.proofs.Tried.{held_diagram}
-use Rattle.sd_size.proofs.tests.two_terms_have_size_eight.Goals as goal
+use Rattle.sd_sweep.proofs.Tried.{held_diagram}
+use Rattle.sd_sweep.proofs.tests.two_terms_have_size_eight.Goals as goal
 
 pub hold-requires-clause-room : goal.hold-requires-clause-room
 hold-requires-clause-room g c =

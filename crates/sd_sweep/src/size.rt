@@ -8,7 +8,7 @@ ghost use Rattle.sd_laws.specs.Depth.{depth};
 ghost use Rattle.sd_manager.specs.Shown.{ShowsCanonical, IsNodeOf, HoldsDiagram};
 ghost use Rattle.sd_manager.specs.Valid.{IsTable};
 ghost use Rattle.sd_manager.specs.Views.{pairs_at};
-ghost use Rattle.sd_size.specs.Listed.{Adds, AreBelow};
+ghost use Rattle.sd_sweep.specs.Listed.{Adds, AreBelow};
 
 use crate::listed::Listed;
 use sd_manager::{Manager, NodeId, Root, View};

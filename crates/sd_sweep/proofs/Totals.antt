@@ -22,8 +22,8 @@ use Rattle.sd_manager.specs.Shown.{Shows, ShowsCanonical, IsNodeOf}
 use Rattle.sd_manager.specs.Valid.{IsTable}
 use Rattle.sd_manager.proofs.Reading.{linked_key}
 use Rattle.sd_vtree.specs.Numbered.{plain_tree}
-use Rattle.sd_size.specs.Listed.{AreListed, Adds, AreBelow}
-use Rattle.sd_size.proofs.Orders.{completed_permutation}
+use Rattle.sd_sweep.specs.Listed.{AreListed, Adds, AreBelow}
+use Rattle.sd_sweep.proofs.Orders.{completed_permutation}
 
 -- the diagrams that codes show, in the order of the codes
 record HasDiagrams (t : Table) (codes : List ℕ) (ds : List Diagram) : Type 0 where

@@ -15,7 +15,7 @@ pub struct Listed {
 
 impl Model for Listed {
     ghost use Rattle.std.specs.Prelude.{◌≡◌, ℕ, false, List, slice_index_or};
-    ghost use Rattle.sd_size.specs.Listed.{is_listed};
+    ghost use Rattle.sd_sweep.specs.Listed.{is_listed};
 
     ghost Value = { List ℕ };
 
@@ -27,7 +27,7 @@ impl Model for Listed {
 
 impl Listed {
     ghost use Rattle.std.specs.Prelude.{◌≡◌, [], ◌∷◌, ◌++◌, OnOk};
-    ghost use Rattle.sd_size.specs.Listed.{is_listed};
+    ghost use Rattle.sd_sweep.specs.Listed.{is_listed};
 
     /// An empty list.
     pub fn new(alloc: Global) -> Listed
