@@ -395,6 +395,12 @@ module _ (v : Numbered) (a : Nodes) (m : FinMap nat_cmp ℕ) (e : ℕ) (g : Opti
               (not_new q k (linked_key (table_of v a m e g) q k old));
           detached_marks = λ q k old. get_insert_other a.marks n 0 q
               (not_new q k (detached_key (table_of v a m e g) h.stored.table q k old));
+          fresh = λ q none some.
+              by_cases (λ same. ap (get (insert a.marks n 0)) same ∙ get_insert_same a.marks n 0)
+              (λ ne.
+              let bad = subst IsSome (get_insert_other a.linked n (u, l) q ne ∙ none) some in
+              absurd (cc (bad)))
+              (cases_eq q n);
           detached = refl;
           loose = refl;
           roots = refl;

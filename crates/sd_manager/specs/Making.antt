@@ -15,13 +15,14 @@ use Rattle.sd_manager.specs.Table.{Table, key_at, free_count}
 use Rattle.sd_manager.specs.Shown.{ShowsCanonical, IsPartitionAt}
 
 -- Every node, linked or detached, stays as it was with its mark, and so do the vtree, the roots and all else but what
--- new nodes take.
+-- new nodes take. A new node has the mark 0.
 pub record Extends (old new : Table) : Type 0 where
   pub vtree : new.vtree ≡ old.vtree
   pub nodes : Keeps (get old.linked) (get new.linked)
   pub marks : (n : ℕ) (k : ℕ × List (ℕ × ℕ)) → get old.linked n ≡ Some k → get new.marks n ≡ get old.marks n
   pub detached_marks : (n : ℕ) (k : ℕ × List (ℕ × ℕ)) → get old.detached n ≡ Some k →
       get new.marks n ≡ get old.marks n
+  pub fresh : (n : ℕ) → get old.linked n ≡ None → IsSome (get new.linked n) → get new.marks n ≡ Some 0
   pub detached : new.detached ≡ old.detached
   pub loose : new.loose ≡ old.loose
   pub roots : new.roots ≡ old.roots

@@ -14,9 +14,10 @@ ghost use Rattle.sd_manager.specs.Literals.{IsLiteralTo, code_of_literal};
 ghost use Rattle.sd_manager.specs.Shown.{Shows, ShowsCanonical, IsNodeOf, HoldsDiagram, IsPartitionAt, HasNode};
 ghost use Rattle.sd_manager.specs.Shown.{ShowsElement, constant_diagram};
 ghost use Rattle.sd_manager.specs.Views.{view_of, pairs_at, IsViewOf};
-ghost use Rattle.sd_manager.specs.Valid.{IsTable};
+ghost use Rattle.sd_manager.specs.Valid.{IsTable, total_length};
 ghost use Rattle.sd_manager.specs.Making.{Extends, IsMade, IsFull, IsRefusal, KeepsRule, IsNeeded, HasNewNode};
 ghost use Rattle.sd_manager.specs.Making.{with_root, without_root};
+ghost use Rattle.sd_manager.specs.Marking.{with_mark, IsNextHeld};
 ghost use Rattle.sd_manager.specs.Moving.{next_epoch};
 ghost use Rattle.sd_manager.specs.Retiring.{IsIdle, IsRetired};
 
@@ -311,6 +312,43 @@ impl Manager {
         };
         add_uses(&mut self.nodes, list);
         Ok(NodeId(number + 2050))
+    }
+
+    /// The mark of a node, by its number. The node has the code of the number and 2,050.
+    pub fn mark(&self, number: u32) -> u32
+        requires { IsSome (get self.now.linked number) }
+        ensures mark { get self.now.marks number ≡ Some result }
+        ensures table { IsTable self.now }
+    {
+        self.nodes.mark(number)
+    }
+
+    /// Gives a node a mark, by its number. Nothing else changes.
+    pub fn set_mark(&mut self, number: u32, value: u32)
+        requires { IsSome (get self.old.linked number) }
+        ensures mark { self.new ≡ with_mark self.old number value }
+        ensures table { IsTable self.new }
+    {
+        self.nodes.set_mark(number, value);
+    }
+
+    /// The first held root from a number on: the number after it, and the node that it holds. From 0 on, and then from
+    /// each number that it gave, it goes over all held roots, in the order of their numbers.
+    pub fn next_held(&self, from: u32) -> Option<(u32, NodeId)>
+        ensures some { IfSome result (λ next. IsNextHeld self.now.roots from next.0 next.1) }
+        ensures none { IfNone result ((root : ℕ) → from ≤ root → get self.now.roots root ≡ None) }
+        ensures table { IsTable self.now }
+    {
+        let (next, code) = self.roots.next(from)?;
+        Some((next, NodeId(code)))
+    }
+
+    /// How many elements the nodes and the loose runs have together, in constant time.
+    pub fn used(&self) -> u32
+        ensures used { result ≡ total_length self.now }
+        ensures table { IsTable self.now }
+    {
+        self.nodes.used()
     }
 
     /// The number of a linked node that nothing uses, where there is one. Its code is the number and 2,050. A call goes

@@ -74,13 +74,15 @@ fn no_room(rt: HostRuntime) -> Result<(), Fail> {
     Ok(())
 }
 
-/// A root holds the node that it was made for.
+/// A root holds the node that it was made for, and is the only one.
 #[test]
 fn a_root(rt: HostRuntime) -> Result<(), Fail> {
     let (mut m, _) = over_two(rt.alloc(), 3)?;
     let yes = m.constant(true);
     let held = m.hold(yes)?;
     assert_eq!(rt; m.node_of(&held), yes);
+    assert_eq!(rt; m.next_held(0), Some((1, yes)));
+    assert_eq!(rt; m.next_held(1), None);
     Ok(())
 }
 
@@ -105,6 +107,27 @@ fn a_retired_node(rt: HostRuntime) -> Result<(), Fail> {
     assert_eq!(rt; retire_one(&mut m, root), None);
     let again = one_or_two(&mut m, root)?;
     assert_eq!(rt; again, clause);
+    Ok(())
+}
+
+// Gives a node that nothing uses a mark, where there is one, and answers its mark.
+fn mark_one(m: &mut Manager, root: VNode, value: u32) -> Option<u32>
+    requires { IsOverTwo m.old root }
+    ensures over { IsOverTwo m.new root }
+{
+    let number = m.idle()?;
+    m.set_mark(number, value);
+    Some(m.mark(number))
+}
+
+/// A mark is read as it was set, and the elements of a made node are counted.
+#[test]
+fn a_marked_node(rt: HostRuntime) -> Result<(), Fail> {
+    let (mut m, root) = over_two(rt.alloc(), 3)?;
+    assert_eq!(rt; m.used(), 0);
+    let _ = one_or_two(&mut m, root)?;
+    assert_eq!(rt; m.used(), 2);
+    assert_eq!(rt; mark_one(&mut m, root, 7), Some(7));
     Ok(())
 }
 

@@ -55,7 +55,7 @@ impl Nodes {
     ghost use Rattle.std.specs.Prelude.{OnOk, OnErr, IfOk, IfErr, IfSome, IfNone, Some, None, ℕ, List};
     ghost use Rattle.std.specs.Option.{option_map, IsSome};
     ghost use Rattle.std.specs.FinMap.{get, contains_key, empty};
-    ghost use Rattle.sd_unique.specs.Nodes.{IsNodes, key_at, uses_at};
+    ghost use Rattle.sd_unique.specs.Nodes.{IsNodes, key_at, uses_at, total_length};
     ghost use Rattle.sd_unique.specs.Inserting.{no_nodes, inserted, with_uses, IsNewNumber, IsFull, IsRefusal};
     ghost use Rattle.sd_unique.specs.Relinking.{with_mark, with_loose, without_loose, exchanged, removed, unlinked};
     ghost use Rattle.sd_unique.specs.Relinking.{relinked, with_key, IsAbsent, IsLinkedAt, IsIdle, IsLoose};
@@ -294,6 +294,14 @@ impl Nodes {
         ensures nodes { IsNodes self.now }
     {
         self.records.len() as u32
+    }
+
+    /// How many elements the nodes and the loose runs have together.
+    pub fn used(&self) -> u32
+        ensures used { result ≡ total_length self.now }
+        ensures nodes { IsNodes self.now }
+    {
+        self.runs.used()
     }
 
     /// Whether a node of this number, which is below `records`, is linked.
