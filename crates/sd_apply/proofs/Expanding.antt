@@ -332,13 +332,13 @@ pub partition_listed : (t : Table) (u w : ℕ) (l : List (ℕ × ℕ)) → IsPar
 partition_listed t u w l h = record { shown = h.shown; is = h.is.lists }
 
 -- the products of two expansions
-record HasProducts (t : Table) (o : Operation) (u w : ℕ) (q : List (ℕ × ℕ)) (x y : Diagram) : Type
+pub record HasProducts (t : Table) (o : Operation) (u w : ℕ) (q : List (ℕ × ℕ)) (x y : Diagram) : Type
     0 where
-  shown : List (Diagram × Diagram)
-  is : IsPartitionUnder t u w q shown
-  value : (g : List Bool) → answers g shown ≡ combine o (meaning x g) (meaning y g) ∷ []
+  pub shown : List (Diagram × Diagram)
+  pub is : IsPartitionUnder t u w q shown
+  pub value : (g : List Bool) → answers g shown ≡ combine o (meaning x g) (meaning y g) ∷ []
 
-has_products : (m0 m1 m2 m3 : Table) (o : Operation) (p u w a b : ℕ) (l k q : List (ℕ × ℕ)) →
+pub has_products : (m0 m1 m2 m3 : Table) (o : Operation) (p u w a b : ℕ) (l k q : List (ℕ × ℕ)) →
     Extends m0 m1 → Extends m1 m2 →
     (x y : Diagram) → IsNodeUnder m0 p a x → IsNodeUnder m0 p b y → Expands m0 m1 p u w a l →
     Expands m1 m2 p u w b k →

@@ -22,41 +22,6 @@ use Rattle.sd_apply.specs.Elements.{IsPartitionBelow}
 
 -- tables that grow
 
-pub extends_self : (t : Table) → Extends t t
-extends_self t =
-    record {
-      vtree = refl;
-      nodes = λ n k e. e;
-      marks = λ n k e. refl;
-      detached_marks = λ n k e. refl;
-      detached = refl;
-      loose = refl;
-      roots = refl;
-      epoch = refl;
-      bound = refl;
-      moving = refl;
-      records = omega arith;
-      extent = omega arith;
-    }
-
-pub extends_on : (a b c : Table) → Extends a b → Extends b c → Extends a c
-extends_on a b c h k =
-    record {
-      vtree = k.vtree ∙ h.vtree;
-      nodes = λ n key e. k.nodes n key (h.nodes n key e);
-      marks = λ n key e. k.marks n key (h.nodes n key e) ∙ h.marks n key e;
-      detached_marks = λ n key e.
-          k.detached_marks n key (ap (λ m. get m n) h.detached ∙ e) ∙ h.detached_marks n key e;
-      detached = k.detached ∙ h.detached;
-      loose = k.loose ∙ h.loose;
-      roots = k.roots ∙ h.roots;
-      epoch = k.epoch ∙ h.epoch;
-      bound = k.bound ∙ h.bound;
-      moving = k.moving ∙ h.moving;
-      records = omega (arith, h.records, k.records);
-      extent = omega (arith, h.extent, k.extent);
-    }
-
 pub shows_on : (old new : Table) → Extends old new → (c : ℕ) (d : Diagram) → Shows old c d →
     Shows new c d
 shows_on old new x c d h = rw x.vtree (shows_kept old.vtree (get old.linked) (get new.linked)

@@ -1,11 +1,11 @@
 -- The pairs turned round and sorted.
-use Rattle.std.proofs.Common.{◌≡◌, ℕ, ◌+◌, ◌≤◌, false, List, ◌++◌, length, take}
+use Rattle.std.proofs.Common.{◌≡◌, ℕ, ◌+◌, ◌≤◌, ◌<◌, false, List, ◌++◌, length, take}
 use Rattle.std.proofs.Common.{drop, map, get_or, refl, sym, ◌∙◌, ap, subst, arith}
 use Rattle.std.specs.Ordering.{nat_cmp, ordering_then, is_lt}
 use Rattle.std.specs.List.Sorted.{IsPermutation, IsSorted}
 use Rattle.std.specs.declared.cmp.Ordering.{Ordering}
 use Rattle.std.specs.declared.cmp.Ordering.TheVariants.{Less, Equal, Greater}
-use Rattle.std.proofs.lemmas.List.Sorted.{IsPermutation-map}
+use Rattle.std.proofs.lemmas.List.Sorted.{IsPermutation-map, IsPermutation-refl}
 use Rattle.std.proofs.Math.ListN.{get_or-map, length-map}
 use Rattle.std.proofs.Math.Seq.{take-append_seam}
 use Rattle.std.proofs.lemmas.Map.Keys.{ge_from_not_lt}
@@ -47,6 +47,27 @@ sorted_ascend s up = record {
       (omega arith)) in
       omega (arith, one, two, most);
 }
+
+-- so do those of a list that was walked
+pub walked_ascend : (s : List (ℕ × ℕ)) → ((k : ℕ) → k + 1 < length s →
+    (get_or s k (0, 0)).0 ≤ (get_or s (k + 1) (0, 0)).0) → Ascend (map sub_then_prime s)
+walked_ascend s up = record {
+  next = λ k lt.
+      let d : ℕ × ℕ = (0, 0) in
+      let one : (get_or (map sub_then_prime s) k (0, 0)).1 ≡ (get_or s k d).0 = ap (λ (e : ℕ × ℕ). e.1)
+      (get_or-map sub_then_prime s k d) in
+      let two : (get_or (map sub_then_prime s) (k + 1) (0, 0)).1 ≡ (get_or s (k + 1) d).0 =
+      ap (λ (e : ℕ × ℕ). e.1) (get_or-map sub_then_prime s (k + 1) d) in
+      let long = length-map s sub_then_prime in
+      let most = up k (omega (arith, lt, long)) in
+      omega (arith, one, two, most);
+}
+
+-- the pairs in their order
+pub same_order : (pairs l : List (ℕ × ℕ)) → map sub_then_prime l ≡ pairs →
+    IsPermutation pairs (map sub_then_prime l)
+same_order pairs l e = subst (λ x. IsPermutation x (map sub_then_prime l)) e
+    (IsPermutation-refl (map sub_then_prime l))
 
 -- a turned pair of the list
 pub sub_then_prime_at : (s : List (ℕ × ℕ)) (i : ℕ) → sub_then_prime (get_or s i (0, 0))

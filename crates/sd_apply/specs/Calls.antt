@@ -8,6 +8,7 @@ use Rattle.sd_manager.specs.Table.{Table}
 use Rattle.sd_manager.specs.Shown.{ShowsCanonical}
 use Rattle.sd_apply.specs.Answers.{HasAnswer}
 use Rattle.sd_apply.specs.Places.{IsNodeUnder}
+use Rattle.sd_apply.specs.Classes.{IsDisjointUnder}
 use Rattle.sd_apply.specs.Elements.{IsPair, ListsElements, IsPartitionUnder, HasList, row, products}
 
 -- what a connective answers at two nodes below v
@@ -38,7 +39,7 @@ pub record Multiplies (old new : Table) (o : Operation) (u w : ℕ) (l m r : Lis
 pub record MultipliesElement (old new : Table) (o : Operation) (u w : ℕ) (e : ℕ × ℕ) (m l r : List (ℕ × ℕ))
     : Type 0 where
   pub each : (d : Diagram × Diagram) (fs gs : List (Diagram × Diagram)) → IsPair old u w e d →
-      IsPartitionUnder old u w m fs → ListsElements old u w l gs →
+      IsDisjointUnder old u w m fs → ListsElements old u w l gs →
       HasList new u w r (λ g. answers g gs ++ row o (meaning d.0 g) (meaning d.1 g) (answers g fs))
 
 -- the elements of a partition with equal subs joined

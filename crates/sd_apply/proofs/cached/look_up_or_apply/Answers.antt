@@ -1,6 +1,6 @@
 use Rattle.std.proofs.Common.{◌∙◌, sym}
 use Rattle.sd_cache.specs.Entries.{call}
-use Rattle.sd_apply.proofs.Listed.{extends_self}
+use Rattle.sd_manager.proofs.Extending.{extends_self}
 use Rattle.sd_apply.proofs.Served.{serves_on, serves_look, serves_keep, looked_applies, applies_right}
 use Rattle.sd_apply.proofs.Opposite.{opposite_applies}
 use Rattle.sd_apply.proofs.Expanding.{applies_over, below_at}

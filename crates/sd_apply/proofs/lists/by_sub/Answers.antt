@@ -2,7 +2,7 @@ use Rattle.std.proofs.Common.{◌≡◌, ◌∙◌, ap, subst, length, map, take
 use Rattle.std.specs.List.Sorted.{IsPermutation}
 use Rattle.std.proofs.Math.Seq.{take-length}
 use Rattle.sd_apply.specs.Elements.{sub_then_prime}
-use Rattle.sd_apply.proofs.Sorting.{refilled, sorted_order, sorted_ascend}
+use Rattle.sd_apply.proofs.Sorting.{refilled, sorted_order, sorted_ascend, same_order}
 use Rattle.sd_apply.proofs.lists.by_sub.Goals as goal
 
 pub returns-clause-order : goal.returns-clause-order
@@ -24,3 +24,11 @@ returns-clause-ascending c =
     let same : length s ≡ length l = c.sort_unstable.ensures.len
     ∙ ap length c.as_mut_slice.ensures.value in
     rw (refilled s l same) (sorted_ascend s c.sort_unstable.ensures.sorted)
+
+pub returns-then-sorted-clause-order : goal.returns-then-sorted-clause-order
+returns-then-sorted-clause-order c =
+    let l = c.loop-i.list.items in
+    let n : c.loop-i.i ≡ length c.args.pairs.now = omega arith in
+    let all : map sub_then_prime l ≡ c.args.pairs.now =
+    c.loop-i.invariant ∙ ap (λ n. take n c.args.pairs.now) n ∙ take-length c.args.pairs.now in
+    same_order c.args.pairs.now l all

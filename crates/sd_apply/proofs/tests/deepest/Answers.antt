@@ -1,4 +1,4 @@
-use Rattle.sd_apply.proofs.Listed.{extends_on}
+use Rattle.sd_manager.proofs.Extending.{extends_on}
 use Rattle.sd_apply.proofs.Opposite.{node_of_on}
 use Rattle.sd_apply.proofs.tests.deepest.Goals as goal
 

@@ -1,5 +1,5 @@
 use Rattle.sd_model.specs.declared.trees.Operation.TheVariants.{Or}
-use Rattle.sd_apply.proofs.Listed.{extends_on}
+use Rattle.sd_manager.proofs.Extending.{extends_on}
 use Rattle.sd_apply.proofs.Opposite.{combined_node_of}
 use Rattle.sd_apply.proofs.tests.with_all.Goals as goal
 

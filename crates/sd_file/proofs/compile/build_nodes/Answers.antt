@@ -1,6 +1,6 @@
 use Rattle.std.proofs.Common.{◌+◌, ◌∙◌, length, ap}
 use Rattle.std.proofs.lemmas.List.{length_push}
-use Rattle.sd_apply.proofs.Listed.{extends_on}
+use Rattle.sd_manager.proofs.Extending.{extends_on}
 use Rattle.sd_file.proofs.Building.{built_more}
 use Rattle.sd_file.proofs.compile.build_nodes.Goals as goal
 

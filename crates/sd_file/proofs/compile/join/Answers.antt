@@ -1,4 +1,5 @@
-use Rattle.sd_apply.proofs.Listed.{extends_on, answer_on}
+use Rattle.sd_apply.proofs.Listed.{answer_on}
+use Rattle.sd_manager.proofs.Extending.{extends_on}
 use Rattle.sd_file.proofs.Building.{answer_node, built_at, pair_answer, pair_more}
 use Rattle.sd_file.proofs.compile.join.Goals as goal
 

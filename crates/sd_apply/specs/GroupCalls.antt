@@ -1,0 +1,109 @@
+-- What the calls answer that join a node with the literals of a group.
+use Rattle.std.specs.Prelude.{◌≡◌, ℕ, suc, ◌≤◌, ℤ, Bool, true, false, cond, List, drop, Some, slice_get}
+use Rattle.std.specs.List.{All}
+use Rattle.sd_model.specs.declared.trees.Operation.{Operation}
+use Rattle.sd_model.specs.declared.trees.Operation.TheVariants.{And, Or, Xor}
+use Rattle.sd_model.specs.Tree.{leaves}
+use Rattle.sd_model.specs.Assignment.{literal_holds, value_in}
+use Rattle.sd_model.specs.Diagram.{Diagram, meaning}
+use Rattle.sd_model.specs.Expression.{combine}
+use Rattle.sd_vtree.specs.Numbered.{Numbered, plain_tree, variable_at}
+use Rattle.sd_laws.specs.Parts.{HasPosition}
+use Rattle.sd_manager.specs.Literals.{IsLiteralTo, code_of_literal}
+use Rattle.sd_manager.specs.Table.{Table}
+use Rattle.sd_manager.specs.Shown.{ShowsCanonical}
+use Rattle.sd_apply.specs.declared.node_answers.NodeEntry.{NodeEntry}
+use Rattle.sd_apply.specs.declared.node_answers.NodeAnswers.{NodeAnswers}
+use Rattle.sd_apply.specs.Answers.{HasAnswer}
+use Rattle.sd_apply.specs.Places.{IsNodeUnder, HasChildren}
+use Rattle.sd_apply.specs.Group.{group_value}
+
+-- the constant that decides a connective, whatever the other operand
+abbrev pub deciding : Operation → Bool
+deciding And = false
+deciding Or = true
+deciding Xor = false
+
+-- the connective between the literals of a group
+abbrev pub between : Operation → Operation
+between And = Or
+between Or = And
+between Xor = Xor
+
+-- the leaf of a literal stands at its position, below the vtree node
+pub record IsLiteralBelow (t : Table) (at : ℕ) (e : ℕ × ℤ) : Type 0 where
+  pub literal : IsLiteralTo (leaves (plain_tree t.vtree)) e.1
+  pub diagram : Diagram
+  pub is : IsNodeUnder t at (code_of_literal e.1) diagram
+  pub stands : HasPosition diagram e.0
+  pub value : (a : List Bool) → meaning diagram a ≡ literal_holds a e.1
+
+-- the literals from an index on are below the vtree node, in the order of their leaves
+pub record AreLiteralsBelow (t : Table) (at from : ℕ) (literals : List (ℕ × ℤ)) : Type 0 where
+  pub each : (i : ℕ) (e : ℕ × ℤ) → from ≤ i → slice_get literals i ≡ Some e → IsLiteralBelow t at e
+  pub ascending : (i j : ℕ) (d e : ℕ × ℤ) → i ≤ j → slice_get literals i ≡ Some d →
+      slice_get literals j ≡ Some e → d.0 ≤ e.0
+
+-- the value of a connective at a diagram and the literals from an index on
+abbrev pub joined_value : Operation → Diagram → ℕ → List (ℕ × ℤ) → List Bool → Bool
+joined_value o x from literals a = combine o (meaning x a) (group_value o (drop from literals) a)
+
+-- the answer of a connective at a node below v and the literals from an index on
+pub record JoinsFrom (old new : Table) (o : Operation) (v a from : ℕ) (literals : List (ℕ × ℤ)) (c : ℕ) : Type 0
+  where
+    pub each : (x : Diagram) → IsNodeUnder old v a x → HasAnswer new (joined_value o x from literals) c
+
+-- the code shows a diagram below the vtree node that has the value of the literals from an index on
+pub record IsGroupNode (t : Table) (o : Operation) (v from : ℕ) (literals : List (ℕ × ℤ)) (c : ℕ) : Type 0 where
+  pub diagram : Diagram
+  pub is : IsNodeUnder t v c diagram
+  pub value : (a : List Bool) → meaning diagram a ≡ group_value o (drop from literals) a
+
+-- the vtree node has these children, and the left one is the leaf of the variable
+pub record IsFork (t : Numbered) (at left right variable : ℕ) : Type 0 where
+  pub children : HasChildren t at left right
+  pub leaf : variable_at t left ≡ Some variable
+
+-- the first node has the value f where the variable is true, the second where it is false; both are below w
+pub record HasHalves (t : Table) (w variable a b : ℕ) (f : List Bool → Bool) : Type 0 where
+  pub first : Diagram
+  pub second : Diagram
+  pub first_is : IsNodeUnder t w a first
+  pub second_is : IsNodeUnder t w b second
+  pub value : (g : List Bool) → cond (value_in g variable) (meaning first g) (meaning second g) ≡ f g
+
+-- the halves of a node below v
+pub record Halves (t : Table) (v w variable c : ℕ) (halves : ℕ × ℕ) : Type 0 where
+  pub each : (x : Diagram) → IsNodeUnder t v c x → HasHalves t w variable halves.0 halves.1 (meaning x)
+
+-- halves joined with the literals from an index on
+pub record JoinsHalves (old new : Table) (o : Operation) (w variable a b from : ℕ) (literals : List (ℕ × ℤ))
+    (r : ℕ × ℕ) : Type 0 where
+  pub each : (f : List Bool → Bool) → HasHalves old w variable a b f →
+      HasHalves new w variable r.0 r.1 (λ g. combine o (f g) (group_value o (drop from literals) g))
+
+-- the node of two halves
+pub record MakesHalves (old new : Table) (w variable a b c : ℕ) : Type 0 where
+  pub each : (f : List Bool → Bool) → HasHalves old w variable a b f → HasAnswer new f c
+
+-- ---- what a join found so far
+
+-- the code is the answer at the node, for the literals from an index on
+pub record IsFound (t : Table) (o : Operation) (literals : List (ℕ × ℤ)) (from node answer : ℕ) : Type 0 where
+  pub diagram : Diagram
+  pub is : ShowsCanonical t node diagram
+  pub answer_is : HasAnswer t (joined_value o diagram from literals) answer
+
+-- the same, where the index is told by the next one
+abbrev pub IsFoundBefore : Table → Operation → List (ℕ × ℤ) → ℕ → ℕ → ℕ → Type 0
+IsFoundBefore t o literals node next answer = (from : ℕ) → next ≡ suc from → IsFound t o literals from node answer
+
+abbrev pub IsRightEntry : Table → Operation → List (ℕ × ℤ) → NodeEntry → Type 0
+IsRightEntry t o literals e = IsFoundBefore t o literals e.node e.next e.answer
+
+abbrev pub AreRightEntries : Table → Operation → List (ℕ × ℤ) → List NodeEntry → Type 0
+AreRightEntries t o literals es = All (IsRightEntry t o literals) es
+
+-- each entry that is kept is right for the manager's table
+pub record Remembers (n : NodeAnswers) (t : Table) (o : Operation) (literals : List (ℕ × ℤ)) : Type 0 where
+  pub right : AreRightEntries t o literals n.entries.items

@@ -1,0 +1,596 @@
+// A node joined with a group of literals, in one pass along the node: the group has no node of its own where the left
+// child of each vtree node on the way is a leaf.
+ghost use Rattle.std.specs.Prelude.{◌≡◌, ◌≢◌, ◌≤◌, ◌<◌, ◌+◌, ◌*◌, ℕ, ℤ, length, Some, slice_get, unsigned_abs};
+ghost use Rattle.std.specs.Prelude.{IfOk, IfErr, IfSome, IsTrue};
+ghost use Rattle.sd_model.specs.declared.trees.Operation.TheVariants.{Xor};
+ghost use Rattle.sd_model.specs.Diagram.{Diagram};
+ghost use Rattle.sd_vtree.specs.Numbered.{number_of, numbers, IsUnder as StandsUnder};
+ghost use Rattle.sd_manager.specs.Literals.{code_of_literal};
+ghost use Rattle.sd_manager.specs.Shown.{IsNodeOf, ShowsCanonical};
+ghost use Rattle.sd_manager.specs.Valid.{IsTable};
+ghost use Rattle.sd_manager.specs.Making.{Extends, KeepsRule};
+ghost use Rattle.sd_apply.specs.Growing.{GrowsBelow};
+ghost use Rattle.sd_apply.specs.Recent.{Knows};
+ghost use Rattle.sd_apply.specs.Serving.{Serves};
+ghost use Rattle.sd_apply.specs.Places.{width, IsBelow, IsThere, HasChildren, HasPlace};
+ghost use Rattle.sd_apply.specs.Group.{AreOrdered, JoinsGroup, GrowsBelowGroup};
+ghost use Rattle.sd_apply.specs.GroupCalls.{deciding, between, AreLiteralsBelow, JoinsFrom, IsGroupNode};
+ghost use Rattle.sd_apply.specs.GroupCalls.{IsFork, Halves, JoinsHalves, MakesHalves, Remembers};
+
+use crate::calls::apply;
+use crate::node_answers::NodeAnswers;
+use crate::places::place_of;
+use crate::recent::Recent;
+use sd_cache::Cache;
+use sd_manager::{Manager, NodeId, View};
+use sd_model::Operation;
+use sd_runs::TakeError;
+use sd_vtree::VNode;
+use std::alloc::Global;
+
+/// A node joined with a group of literals, in one pass along the node: for And a clause, the disjunction of the
+/// literals, is conjoined, and for Or a term, their conjunction, is disjoined. The literals stand behind the positions
+/// of their leaves, in the order of these. It refuses as `and`, and the cache is not asked.
+pub fn join_group(
+    alloc: Global,
+    m: &mut Manager,
+    c: &mut Cache,
+    operation: Operation,
+    node: NodeId,
+    literals: &[(u32, i32)],
+) -> Result<NodeId, TakeError>
+    requires operation { operation ≢ Xor }
+    requires node { IsNodeOf m.old node }
+    requires literals { AreOrdered m.old.vtree literals.now }
+    requires serves { Serves c.old m.old }
+    ensures ok { IfOk result (λ r. JoinsGroup m.old m.new operation node literals.now r) }
+    ensures kept { Extends m.old m.new }
+    ensures grown { GrowsBelowGroup m.old m.new node literals.now }
+    ensures serves { Serves c.new m.new }
+    ensures rule { IfErr result (λ e. KeepsRule m.new e) }
+    ensures table { IsTable m.new }
+{
+    let root = m.vtree().root();
+    if literals.len() == 0 {
+        return Ok(m.constant(deciding_value(operation)));
+    }
+    let over = lowest_over(m, node, literals);
+    let mut recent = Recent::new(alloc);
+    let mut found = NodeAnswers::new(alloc);
+    join_from(
+        alloc,
+        m,
+        &mut recent,
+        &mut found,
+        operation,
+        over,
+        node,
+        literals,
+        0,
+    )
+}
+
+// The lowest vtree node below which a node and all literals stand.
+fn lowest_over(m: &Manager, node: NodeId, literals: &[(u32, i32)]) -> VNode
+    requires node { IsNodeOf m.now node }
+    requires literals { AreOrdered m.now.vtree literals.now }
+    requires some { 1 ≤ length literals.now }
+    ensures there { IsThere m.now.vtree result }
+    ensures node { IsBelow m.now result node }
+    ensures literals { AreLiteralsBelow m.now result 0 literals.now }
+    ensures lowest { (n : ℕ) → IsThere m.now.vtree n → IsBelow m.now n node →
+        ((i : ℕ) (e : ℕ × ℤ) → slice_get literals.now i ≡ Some e →
+        IsBelow m.now n (code_of_literal e.1)) → StandsUnder m.now.vtree result n }
+{
+    let first = leaf_of(m, literals, 0);
+    let last = leaf_of(m, literals, literals.len() - 1);
+    let ends = m.vtree().lca(first, last);
+    if node.0 < 2 {
+        return ends;
+    }
+    let own = place_of(m, node);
+    m.vtree().lca(ends, own)
+}
+
+// The leaf of the literal at an index.
+fn leaf_of(m: &Manager, literals: &[(u32, i32)], index: usize) -> VNode
+    requires literals { AreOrdered m.now.vtree literals.now }
+    requires within { index < length literals.now }
+    ensures node { result < length (numbers m.now.vtree) }
+    ensures place { (e : ℕ × ℤ) → slice_get literals.now index ≡ Some e → (d : Diagram) →
+        ShowsCanonical m.now (code_of_literal e.1) d → HasPlace m.now.vtree result d }
+{
+    let (_, literal) = literal_at(literals, index);
+    m.vtree().leaf(literal.unsigned_abs())
+}
+
+// The same at a node below a vtree node, with the literals from an index on.
+#[cycle(join)]
+fn join_from(
+    alloc: Global,
+    m: &mut Manager,
+    recent: &mut Recent,
+    found: &mut NodeAnswers,
+    operation: Operation,
+    at: VNode,
+    node: NodeId,
+    literals: &[(u32, i32)],
+    from: usize,
+) -> Result<NodeId, TakeError>
+    requires operation { operation ≢ Xor }
+    requires at { IsThere m.old.vtree at }
+    requires node { IsBelow m.old at node }
+    requires literals { AreLiteralsBelow m.old at from literals.now }
+    requires knows { Knows recent.old m.old }
+    requires remembers { Remembers found.old m.old operation literals.now }
+    ensures ok { IfOk result (λ r. JoinsFrom m.old m.new operation at node from literals.now r) }
+    ensures kept { Extends m.old m.new }
+    ensures grown { GrowsBelow m.old m.new at }
+    ensures knows { Knows recent.new m.new }
+    ensures remembers { Remembers found.new m.new operation literals.now }
+    ensures rule { IfErr result (λ e. KeepsRule m.new e) }
+    ensures table { IsTable m.new }
+{
+    let decided = m.constant(deciding_value(operation));
+    if from >= literals.len() {
+        return Ok(decided);
+    }
+    if node.0 == decided.0 {
+        return Ok(decided);
+    }
+    if let Some(right) = right_below(m, at, node, literals, from) {
+        return join_from(
+            alloc, m, recent, found, operation, right, node, literals, from,
+        );
+    }
+    let next = from + 1;
+    if let Some(code) = found.look(node.0, next) {
+        return Ok(NodeId(code));
+    }
+    let code = join_at(alloc, m, recent, found, operation, at, node, literals, from)?;
+    found.keep(alloc, node.0, next, code.0);
+    Ok(code)
+}
+
+// The same from the two halves of the node where the left child of the vtree node is a leaf, and else by the group's
+// own node.
+#[cycle(join)]
+fn join_at(
+    alloc: Global,
+    m: &mut Manager,
+    recent: &mut Recent,
+    found: &mut NodeAnswers,
+    operation: Operation,
+    at: VNode,
+    node: NodeId,
+    literals: &[(u32, i32)],
+    from: usize,
+) -> Result<NodeId, TakeError>
+    requires operation { operation ≢ Xor }
+    requires at { IsThere m.old.vtree at }
+    requires node { IsBelow m.old at node }
+    requires literals { AreLiteralsBelow m.old at from literals.now }
+    requires some { from < length literals.now }
+    requires knows { Knows recent.old m.old }
+    requires remembers { Remembers found.old m.old operation literals.now }
+    requires table { IsTable m.old }
+    ensures ok { IfOk result (λ r. JoinsFrom m.old m.new operation at node from literals.now r) }
+    ensures kept { Extends m.old m.new }
+    ensures grown { GrowsBelow m.old m.new at }
+    ensures knows { Knows recent.new m.new }
+    ensures remembers { Remembers found.new m.new operation literals.now }
+    ensures rule { IfErr result (λ e. KeepsRule m.new e) }
+    ensures table { IsTable m.new }
+{
+    let Some(fork) = fork_at(m, at) else {
+        return join_by_node(alloc, m, recent, operation, at, node, literals, from);
+    };
+    let next = next_right(literals, from, fork.2);
+    if !are_right(m, at, fork.0, fork.1, literals, from, next) {
+        return join_by_node(alloc, m, recent, operation, at, node, literals, from);
+    }
+    let Some(halves) = halves_of(m, at, fork.0, fork.1, fork.2, node) else {
+        return join_by_node(alloc, m, recent, operation, at, node, literals, from);
+    };
+    let joined = join_halves(
+        alloc, m, recent, found, operation, fork.1, fork.2, halves.0, halves.1, literals, from,
+    )?;
+    if is_same(joined.0, halves.0) && is_same(joined.1, halves.1) {
+        return Ok(node);
+    }
+    make_halves(m, at, fork.0, fork.1, fork.2, joined.0, joined.1)
+}
+
+// The halves of a node, joined with the literals from an index on. Of a literal of the variable one half is decided:
+// it stays as it is.
+#[cycle(join)]
+fn join_halves(
+    alloc: Global,
+    m: &mut Manager,
+    recent: &mut Recent,
+    found: &mut NodeAnswers,
+    operation: Operation,
+    right: VNode,
+    variable: u32,
+    first: NodeId,
+    second: NodeId,
+    literals: &[(u32, i32)],
+    from: usize,
+) -> Result<(NodeId, NodeId), TakeError>
+    requires operation { operation ≢ Xor }
+    requires right { IsThere m.old.vtree right }
+    requires variable { 1 ≤ variable }
+    requires first { IsBelow m.old right first }
+    requires second { IsBelow m.old right second }
+    requires some { from < length literals.now }
+    requires rest { AreLiteralsBelow m.old right (from + 1) literals.now }
+    requires past { (e : ℕ × ℤ) → slice_get literals.now from ≡ Some e → unsigned_abs e.1 ≢ variable →
+        AreLiteralsBelow m.old right from literals.now }
+    requires knows { Knows recent.old m.old }
+    requires remembers { Remembers found.old m.old operation literals.now }
+    requires table { IsTable m.old }
+    ensures ok { IfOk result
+        (λ r. JoinsHalves m.old m.new operation right variable first second from literals.now r) }
+    ensures kept { Extends m.old m.new }
+    ensures grown { GrowsBelow m.old m.new right }
+    ensures knows { Knows recent.new m.new }
+    ensures remembers { Remembers found.new m.new operation literals.now }
+    ensures rule { IfErr result (λ e. KeepsRule m.new e) }
+    ensures table { IsTable m.new }
+{
+    let (_, literal) = literal_at(literals, from);
+    if literal.unsigned_abs() != variable {
+        let one = join_from(
+            alloc, m, recent, found, operation, right, first, literals, from,
+        )?;
+        let other = join_from(
+            alloc, m, recent, found, operation, right, second, literals, from,
+        )?;
+        return Ok((one, other));
+    }
+    if (literal > 0) == deciding_value(operation) {
+        let one = join_from(
+            alloc,
+            m,
+            recent,
+            found,
+            operation,
+            right,
+            first,
+            literals,
+            from + 1,
+        )?;
+        Ok((one, second))
+    } else {
+        let other = join_from(
+            alloc,
+            m,
+            recent,
+            found,
+            operation,
+            right,
+            second,
+            literals,
+            from + 1,
+        )?;
+        Ok((first, other))
+    }
+}
+
+// The same by the node of the literals.
+fn join_by_node(
+    alloc: Global,
+    m: &mut Manager,
+    recent: &mut Recent,
+    operation: Operation,
+    at: VNode,
+    node: NodeId,
+    literals: &[(u32, i32)],
+    from: usize,
+) -> Result<NodeId, TakeError>
+    requires operation { operation ≢ Xor }
+    requires at { IsThere m.old.vtree at }
+    requires node { IsBelow m.old at node }
+    requires literals { AreLiteralsBelow m.old at from literals.now }
+    requires within { from ≤ length literals.now }
+    requires knows { Knows recent.old m.old }
+    requires table { IsTable m.old }
+    ensures ok { IfOk result (λ r. JoinsFrom m.old m.new operation at node from literals.now r) }
+    ensures kept { Extends m.old m.new }
+    ensures grown { GrowsBelow m.old m.new at }
+    ensures knows { Knows recent.new m.new }
+    ensures rule { IfErr result (λ e. KeepsRule m.new e) }
+    ensures table { IsTable m.new }
+{
+    let group = literals_node(alloc, m, recent, operation, at, literals, from)?;
+    apply(alloc, m, recent, operation, at, node, group)
+}
+
+// The node of the literals from an index on, joined from the last to the first.
+fn literals_node(
+    alloc: Global,
+    m: &mut Manager,
+    recent: &mut Recent,
+    operation: Operation,
+    at: VNode,
+    literals: &[(u32, i32)],
+    from: usize,
+) -> Result<NodeId, TakeError>
+    requires operation { operation ≢ Xor }
+    requires at { IsThere m.old.vtree at }
+    requires literals { AreLiteralsBelow m.old at from literals.now }
+    requires within { from ≤ length literals.now }
+    requires knows { Knows recent.old m.old }
+    requires table { IsTable m.old }
+    ensures ok { IfOk result (λ r. IsGroupNode m.new operation at from literals.now r) }
+    ensures kept { Extends m.old m.new }
+    ensures grown { GrowsBelow m.old m.new at }
+    ensures knows { Knows recent.new m.new }
+    ensures rule { IfErr result (λ e. KeepsRule m.new e) }
+    ensures table { IsTable m.new }
+{
+    let mut node = m.constant(deciding_value(operation));
+    let mut index = literals.len();
+    while from < index {
+        index -= 1;
+        let literal = m.literal(literal_at(literals, index).1);
+        node = apply(
+            alloc,
+            m,
+            recent,
+            between_literals(operation),
+            at,
+            literal,
+            node,
+        )?;
+    }
+    Ok(node)
+}
+
+// The literal at an index.
+fn literal_at(literals: &[(u32, i32)], index: usize) -> (u32, i32)
+    requires { index < length literals.now }
+    ensures { slice_get literals.now index ≡ Some result }
+{
+    literals[index]
+}
+
+// The constant that decides a connective.
+fn deciding_value(operation: Operation) -> bool
+    ensures { result ≡ deciding operation }
+{
+    matches!(operation, Operation::Or)
+}
+
+// The connective between the literals of a group.
+fn between_literals(operation: Operation) -> Operation
+    ensures { result ≡ between operation }
+{
+    match operation {
+        Operation::And => Operation::Or,
+        Operation::Or => Operation::And,
+        Operation::Xor => Operation::Xor,
+    }
+}
+
+// The children of a vtree node and the variable of the left one, where that is a leaf.
+fn fork_at(m: &Manager, at: VNode) -> Option<(VNode, VNode, u32)>
+    requires { IsThere m.now.vtree at }
+    ensures { IfSome result (λ f. IsFork m.now.vtree at f.0 f.1 f.2) }
+{
+    let vtree = m.vtree();
+    let Some((left, right)) = vtree.children(at) else {
+        return None;
+    };
+    let Some(variable) = vtree.variable(left) else {
+        return None;
+    };
+    Some((left, right, variable))
+}
+
+// The index of the first literal from an index on that is not of the variable, where it is this or the next one.
+fn next_right(literals: &[(u32, i32)], from: usize, variable: u32) -> usize
+    requires { from < length literals.now }
+    ensures least { from ≤ result }
+    ensures most { result ≤ from + 1 }
+    ensures begins { (e : ℕ × ℤ) → slice_get literals.now from ≡ Some e → unsigned_abs e.1 ≢ variable →
+        result ≡ from }
+{
+    let (_, literal) = literal_at(literals, from);
+    if literal.unsigned_abs() == variable {
+        from + 1
+    } else {
+        from
+    }
+}
+
+// Whether the literals from the next index on stand below the right child.
+fn are_right(
+    m: &Manager,
+    at: VNode,
+    left: VNode,
+    right: VNode,
+    literals: &[(u32, i32)],
+    from: usize,
+    next: usize,
+) -> bool
+    requires children { HasChildren m.now.vtree at left right }
+    requires literals { AreLiteralsBelow m.now at from literals.now }
+    requires order { from ≤ next }
+    requires table { IsTable m.now }
+    ensures { IsTrue result → AreLiteralsBelow m.now right next literals.now }
+{
+    if next >= literals.len() {
+        return true;
+    }
+    let (position, _) = literal_at(literals, next);
+    m.vtree().position(at) < position
+}
+
+// Whether a node stands below the right child.
+fn is_right(m: &Manager, at: VNode, left: VNode, right: VNode, node: NodeId) -> bool
+    requires children { HasChildren m.now.vtree at left right }
+    requires node { IsBelow m.now at node }
+    requires table { IsTable m.now }
+    ensures { IsTrue result → IsBelow m.now right node }
+{
+    if node.0 < 2 {
+        return true;
+    }
+    let own = place_of(m, node);
+    let vtree = m.vtree();
+    vtree.position(at) < vtree.position(own)
+}
+
+// The right child, where the node and the literals from an index on stand below it.
+fn right_below(
+    m: &Manager,
+    at: VNode,
+    node: NodeId,
+    literals: &[(u32, i32)],
+    from: usize,
+) -> Option<VNode>
+    requires at { IsThere m.now.vtree at }
+    requires node { IsBelow m.now at node }
+    requires literals { AreLiteralsBelow m.now at from literals.now }
+    requires table { IsTable m.now }
+    ensures there { IfSome result (λ w. IsThere m.now.vtree w) }
+    ensures under { IfSome result (λ w. StandsUnder m.now.vtree w at) }
+    ensures narrow { IfSome result (λ w. width m.now.vtree w < width m.now.vtree at) }
+    ensures node { IfSome result (λ w. IsBelow m.now w node) }
+    ensures literals { IfSome result (λ w. AreLiteralsBelow m.now w from literals.now) }
+{
+    let Some(children) = m.vtree().children(at) else {
+        return None;
+    };
+    if are_right(m, at, children.0, children.1, literals, from, from)
+        && is_right(m, at, children.0, children.1, node)
+    {
+        Some(children.1)
+    } else {
+        None
+    }
+}
+
+// What a node is where the variable of the left child is true, and where it is false.
+fn halves_of(
+    m: &Manager,
+    at: VNode,
+    left: VNode,
+    right: VNode,
+    variable: u32,
+    node: NodeId,
+) -> Option<(NodeId, NodeId)>
+    requires fork { IsFork m.now.vtree at left right variable }
+    requires node { IsBelow m.now at node }
+    requires table { IsTable m.now }
+    ensures { IfSome result (λ r. Halves m.now at right variable node r) }
+{
+    if is_right(m, at, left, right, node) {
+        return Some((node, node));
+    }
+    if node.0 < 2 {
+        return None;
+    }
+    if node.0 < 2050 {
+        return literal_halves(m, at, right, variable, node);
+    }
+    own_halves(m, at, left, right, variable, node)
+}
+
+// The halves of a literal of the variable.
+fn literal_halves(
+    m: &Manager,
+    at: VNode,
+    right: VNode,
+    variable: u32,
+    node: NodeId,
+) -> Option<(NodeId, NodeId)>
+    requires least { 2 ≤ node }
+    requires code { node < 2050 }
+    requires table { IsTable m.now }
+    ensures { IfSome result (λ r. Halves m.now at right variable node r) }
+{
+    if node.0 / 2 != variable {
+        return None;
+    }
+    if node.0 % 2 == 0 {
+        Some((NodeId(1), NodeId(0)))
+    } else {
+        Some((NodeId(0), NodeId(1)))
+    }
+}
+
+// Whether two nodes are one.
+fn is_same(a: NodeId, b: NodeId) -> bool
+    ensures { IsTrue result → (a ≡ b) }
+{
+    a.0 == b.0
+}
+
+// Whether a node is the literal of a variable, with the sign 0 for the variable and 1 for its negation.
+fn is_literal_of(node: NodeId, variable: u32, sign: u32) -> bool
+    ensures { IsTrue result → (node ≡ 2 * variable + sign) }
+{
+    node.0 / 2 == variable && node.0 % 2 == sign
+}
+
+// The halves of a decomposition whose primes are the two literals of the variable.
+fn own_halves(
+    m: &Manager,
+    at: VNode,
+    left: VNode,
+    right: VNode,
+    variable: u32,
+    node: NodeId,
+) -> Option<(NodeId, NodeId)>
+    requires fork { IsFork m.now.vtree at left right variable }
+    requires node { IsBelow m.now at node }
+    requires code { 2050 ≤ node }
+    requires table { IsTable m.now }
+    ensures { IfSome result (λ r. Halves m.now at right variable node r) }
+{
+    if place_of(m, node).0 != at.0 {
+        return None;
+    }
+    let View::Decomposition { count, .. } = m.view(node) else {
+        unreachable!()
+    };
+    if count != 2 {
+        return None;
+    }
+    let (prime, sub) = m.element(node, 0);
+    let (other, other_sub) = m.element(node, 1);
+    if is_literal_of(prime, variable, 0) && is_literal_of(other, variable, 1) {
+        Some((sub, other_sub))
+    } else {
+        None
+    }
+}
+
+// The node of two halves below the right child.
+fn make_halves(
+    m: &mut Manager,
+    at: VNode,
+    left: VNode,
+    right: VNode,
+    variable: u32,
+    first: NodeId,
+    second: NodeId,
+) -> Result<NodeId, TakeError>
+    requires fork { IsFork m.old.vtree at left right variable }
+    requires first { IsBelow m.old right first }
+    requires second { IsBelow m.old right second }
+    requires table { IsTable m.old }
+    ensures ok { IfOk result (λ r. MakesHalves m.old m.new right variable first second r) }
+    ensures kept { Extends m.old m.new }
+    ensures grown { GrowsBelow m.old m.new at }
+    ensures rule { IfErr result (λ e. KeepsRule m.new e) }
+    ensures table { IsTable m.new }
+{
+    if first.0 == second.0 {
+        return Ok(first);
+    }
+    let (one, other) = (NodeId(2 * variable), NodeId(2 * variable + 1));
+    m.make(at, &[(one, first), (other, second)])
+}
