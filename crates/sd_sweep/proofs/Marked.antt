@@ -5,7 +5,8 @@ use Rattle.std.specs.FinMap.{get, insert}
 use Rattle.sd_runs.proofs.Maps.{same_at_each, get_insert_same, get_insert_other}
 use Rattle.sd_laws.proofs.Lists.{IsAmong, IsWithin}
 use Rattle.sd_manager.specs.Table.{Table}
-use Rattle.sd_sweep.specs.Marked.{with_mark, IsMarkedWith}
+use Rattle.sd_manager.specs.Marking.{with_mark}
+use Rattle.sd_sweep.specs.Marked.{IsMarkedWith}
 use Rattle.sd_sweep.proofs.Below.{among_left, among_right, among_split, only}
 
 -- a number is in a list or it is not

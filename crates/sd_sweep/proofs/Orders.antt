@@ -1,7 +1,7 @@
 -- Lists of the same different diagrams are one in another order, and the first occurrences are such a list.
 use Rattle.std.proofs.Common.{◌≡◌, ◌≢◌, inl, inr, Bool, true, false, not, cond, List, [], ◌∷◌, ◌++◌}
-use Rattle.std.proofs.Common.{refl, sym, ap, subst, ◌∙◌, append-nil}
-use Rattle.std.specs.List.{AllByRecursion, filter}
+use Rattle.std.proofs.Common.{refl, sym, ap, subst, ◌∙◌}
+use Rattle.std.specs.List.{AllByRecursion, filter, flat_map}
 use Rattle.std.specs.List.Sorted.{IsPermutation}
 use Rattle.std.proofs.lemmas.List.Sorted.{IsPermutation-refl, IsPermutation-sym, IsPermutation-trans}
 use Rattle.std.proofs.lemmas.List.Sorted.{IsPermutation-cons, IsPermutation-middle}
@@ -123,11 +123,10 @@ occurs_different (d ∷ ds) = (
         let same : is_same d x ≡ true = subst (λ z. is_same d z ≡ true) e (same_itself d) in
         absurd (cc (k, ap not same))
 
--- a list of different diagrams with those under a diagram is its list of these in another order
-pub completed_permutation : (d : Diagram) (xs : List Diagram) → AreDifferent xs → IsWithin xs (walk d) →
-    IsWithin (walk d) xs → IsPermutation (completed (d ∷ [])) xs
+-- a list of different diagrams with those under some diagrams is their list of these in another order
+pub completed_permutation : (ds xs : List Diagram) → AreDifferent xs → IsWithin xs (flat_map walk ds) →
+    IsWithin (flat_map walk ds) xs → IsPermutation (completed ds) xs
 unfolding completed
-completed_permutation d xs h there back =
-    subst (λ l. IsPermutation (first_occurrences l) xs) (sym (append-nil (walk d)))
-    (same_permutation (first_occurrences (walk d)) xs (occurs_different (walk d)) h
-    (λ x m. back x (occurs_within (walk d) x m)) (λ x m. within_occurs (walk d) x (there x m)))
+completed_permutation ds xs h there back =
+    same_permutation (first_occurrences (flat_map walk ds)) xs (occurs_different (flat_map walk ds)) h
+    (λ x m. back x (occurs_within (flat_map walk ds) x m)) (λ x m. within_occurs (flat_map walk ds) x (there x m))

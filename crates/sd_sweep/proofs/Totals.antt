@@ -1,9 +1,10 @@
 -- Listed nodes show the distinct diagrams, and the sum of their element counts is the size.
 use Rattle.std.proofs.Common.{◌≡◌, ◌≢◌, ◌⊎◌, inl, inr, Option, Some, None, ℕ, zero, suc, ◌+◌, ◌*◌, ◌≤◌, ◌<◌, ◌^◌}
 use Rattle.std.proofs.Common.{List, [], ◌∷◌}
-use Rattle.std.proofs.Common.{length, take, get_or, refl, sym, ap, subst, ◌∙◌, arith}
+use Rattle.std.proofs.Common.{length, take, get_or, refl, sym, ap, subst, ◌∙◌, arith, append-nil}
 use Rattle.std.specs.FinMap.{get}
-use Rattle.std.specs.List.{AllByRecursion, AllZip, sum_by, range_with_len}
+use Rattle.std.specs.List.{AllByRecursion, AllZip, sum_by, flat_map, range_with_len}
+use Rattle.std.specs.List.Sorted.{IsPermutation}
 use Rattle.std.proofs.lemmas.List.Sums.{sum_by-append}
 use Rattle.std.proofs.lemmas.List.Sorted.{sum_by-IsPermutation}
 use Rattle.std.proofs.lemmas.List.FromFn.{length-range_with_len, get_or-range_with_len}
@@ -61,26 +62,32 @@ diagrams_differ t table (c ∷ codes) (d ∷ ds) h k = (
         one_code t.vtree (get t.linked) table.keys x c b.0 (subst (Shows t c) e h.0.shows) b.2.shows in
         all_at (λ y. c ≢ y) codes b.0 k.0 b.1 code
 
--- the codes of all that stands under a diagram show its distinct diagrams
+-- the codes of all that stands under some diagrams show their distinct diagrams
+pub are_completed : (t : Table) → IsTable t → (codes : List ℕ) (ds : List Diagram) →
+    AreListed t codes (flat_map walk ds) →
+    (es : List Diagram) × AllZip (ShowsCanonical t) codes es × IsPermutation (completed ds) es
+are_completed t table codes ds l =
+    let k = has_diagrams t codes (flat_map walk ds) l.shown in (
+      k.diagrams,
+      k.shown,
+      completed_permutation ds k.diagrams (diagrams_differ t table codes k.diagrams k.shown l.distinct) k.within
+          (covered k.diagrams k.shown),
+    )
+  where
+    covered : (es : List Diagram) → AllZip (ShowsCanonical t) codes es → IsWithin (flat_map walk ds) es
+    covered es h x m =
+        let b = l.each x m in
+        let y = second_at (ShowsCanonical t) codes es h b.0 b.1 in
+        let same : y.0 ≡ x =
+        one_diagram t.vtree (get t.linked) table.numbered y.0 b.0 x y.2.shows b.2.shows in
+        subst (λ z. IsAmong z es) same y.1
+
+-- so those under one diagram show its distinct diagrams
 pub are_below : (t : Table) → IsTable t → (codes : List ℕ) (d : Diagram) → AreListed t codes (walk d) →
     AreBelow t codes d
 are_below t table codes d l =
-    let k = has_diagrams t codes (walk d) l.shown in
-    record {
-      diagrams = k.diagrams;
-      shown = k.shown;
-      order =
-          completed_permutation d k.diagrams (diagrams_differ t table codes k.diagrams k.shown l.distinct) k.within
-          (covered k.diagrams k.shown);
-    }
-  where
-    covered : (ds : List Diagram) → AllZip (ShowsCanonical t) codes ds → IsWithin (walk d) ds
-    covered ds h x m =
-        let b = l.each x m in
-        let y = second_at (ShowsCanonical t) codes ds h b.0 b.1 in
-        let same : y.0 ≡ x =
-        one_diagram t.vtree (get t.linked) table.numbered y.0 b.0 x y.2.shows b.2.shows in
-        subst (λ z. IsAmong z ds) same y.1
+    let k = are_completed t table codes (d ∷ []) (subst (AreListed t codes) (sym (append-nil (walk d))) l) in
+    record { diagrams = k.0; shown = k.1; order = k.2 }
 
 -- an empty list shows nothing
 pub listed_empty : (t : Table) → AreListed t [] []
@@ -103,6 +110,12 @@ pub size_below : (t : Table) (codes : List ℕ) (d : Diagram) (n : ℕ) → (k :
     n ≡ sum_by element_count k.diagrams → n ≡ size_of (d ∷ [])
 unfolding size_of
 size_below t codes d n k e = e ∙ sum_by-IsPermutation element_count (completed (d ∷ [])) k.diagrams k.order
+
+-- and so is that of several
+pub size_completed : (ds es : List Diagram) (n : ℕ) → IsPermutation (completed ds) es → n ≡ sum_by element_count es →
+    n ≡ size_of ds
+unfolding size_of
+size_completed ds es n order e = e ∙ sum_by-IsPermutation element_count (completed ds) es order
 
 -- the sum so far is that of the first nodes, and each node has fewer than 2^32 elements
 pub record HasSummed (t : Table) (codes : List ℕ) (i sum : ℕ) : Type 0 where

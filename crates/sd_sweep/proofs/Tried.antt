@@ -1,9 +1,15 @@
 -- What tests join are nodes of the manager.
-use Rattle.std.proofs.Common.{◌≡◌, ℕ, sym, subst}
+use Rattle.std.proofs.Common.{◌≡◌, ℕ, ◌+◌, ◌-◌, ◌^◌, ◌<◌, ◌≤◌, Bool, true, false, cond, refl, sym, ap, ◌∙◌, subst, arith}
+use Rattle.std.proofs.lemmas.Cmp.{nat_cmp_total}
+use Rattle.std.specs.Option.{IsSome}
+use Rattle.std.specs.FinMap.{get, len, len-insert, contains_key}
 use Rattle.sd_runs.proofs.Maps.{get_insert_same}
 use Rattle.sd_model.specs.declared.trees.Operation.{Operation}
 use Rattle.sd_model.specs.Diagram.{Diagram}
-use Rattle.sd_manager.specs.Table.{Table}
+use Rattle.sd_vtree.specs.Numbered.{Numbered}
+use Rattle.sd_manager.specs.Table.{Table, no_table}
+use Rattle.sd_manager.specs.Marking.{AreUnmarked}
+use Rattle.sd_manager.proofs.Marking.{unmarked_new, unmarked_extended}
 use Rattle.sd_manager.specs.Shown.{IsNodeOf, HoldsDiagram}
 use Rattle.sd_manager.specs.Making.{Extends, with_root}
 use Rattle.sd_apply.specs.Answers.{Combines}
@@ -31,3 +37,23 @@ held_diagram t u root c same k =
         is = record { shows = k.is.shows; canonical = k.is.canonical };
       },
     )
+
+-- nothing is marked in the new manager's table with more nodes and with a root
+pub tried_unmarked : (a t u : Table) (v : Numbered) (bound root c : ℕ) → a ≡ no_table v bound → Extends a t →
+    u ≡ with_root t root c → AreUnmarked u
+tried_unmarked a t u v bound root c new kept held =
+    subst AreUnmarked (sym held) (unmarked_extended a t kept (subst AreUnmarked (sym new) (unmarked_new v bound)))
+
+-- the root is held
+pub tried_held : (t u : Table) (root c : ℕ) → u ≡ with_root t root c → IsSome (get u.roots root)
+tried_held t u root c held =
+    subst IsSome (sym (ap (λ (w : Table). get w.roots root) held ∙ get_insert_same t.roots root c)) refl
+
+-- one root more is few
+pub tried_room : (t u : Table) (root c : ℕ) → u ≡ with_root t root c → len t.roots ≡ 0 → len u.roots < 2 ^ 32 - 1
+tried_room t u root c held none =
+    omega (arith, ap (λ (w : Table). len w.roots) held, len-insert nat_cmp_total t.roots root c, one (contains_key t.roots root))
+  where
+    one : (b : Bool) → cond b (len t.roots) (len t.roots + 1) ≤ 1
+    one true = omega (arith, none)
+    one false = omega (arith, none)

@@ -11,7 +11,7 @@ use Rattle.std.specs.Ordering.{nat_cmp}
 use Rattle.sd_model.specs.Tree.{leaves}
 use Rattle.sd_vtree.specs.Numbered.{plain_tree}
 use Rattle.sd_laws.proofs.Nodes.{code_of_node}
-use Rattle.std.specs.List.{AllZip, sum_by}
+use Rattle.std.specs.List.{AllZip, sum_by, flat_map}
 use Rattle.sd_model.specs.Diagram.{Diagram, Bottom, Top, Literal, Decomposition, Elements}
 use Rattle.sd_model.specs.Size.{walk, walk_elements, element_count, size_of}
 use Rattle.sd_laws.proofs.Codes.{one_code, literal_range}
@@ -23,11 +23,12 @@ use Rattle.sd_manager.specs.Views.{pairs_at}
 use Rattle.sd_manager.proofs.Reading.{linked_key, pairs_node, pairs_count}
 use Rattle.sd_manager.proofs.Evaluating.{HasChildren}
 use Rattle.sd_sweep.specs.Listed.{is_listed, AreListed}
-use Rattle.sd_sweep.specs.Marked.{with_mark, IsMarkedWith, elements_of, EndsWith, Walks}
+use Rattle.sd_manager.specs.Marking.{with_mark, AreUnmarked}
+use Rattle.sd_sweep.specs.Marked.{LackMark, IsMarkedWith, elements_of, EndsWith, Walks}
 use Rattle.sd_sweep.proofs.Below.{among_left, not_under_itself}
 use Rattle.sd_sweep.proofs.Listing.{listed_among, among_listed, adds_known, leaf_added, node_added}
 use Rattle.sd_sweep.proofs.Listing.{HasListed, listed_none, listed_more, all_listed}
-use Rattle.sd_sweep.proofs.Totals.{listed_empty, are_below, size_below}
+use Rattle.sd_sweep.proofs.Totals.{listed_empty, are_completed, size_completed}
 use Rattle.sd_sweep.proofs.Fits.{amount_of, amounts_within}
 use Rattle.sd_sweep.proofs.Marked.{among_or, marked_none, marked_more, marked_leaf, marks_back}
 
@@ -161,14 +162,14 @@ elements_counted t table (c ∷ codes) (d ∷ ds) h =
     ∙ ap (λ n. element_count d + n) (elements_counted t table codes ds h.1) ∙ sym (sum_by-cons element_count d ds)
 
 -- A walk that begins with no marks adds up to the size.
-pub size_walked : (t new : Table) → IsTable t → (value s : ℕ) (d : Diagram) → Walks t t new value s (walk d) →
-    s ≡ size_of (d ∷ [])
-size_walked t new table value s d h =
+pub size_walked : (t new : Table) → IsTable t → (value s : ℕ) (ds : List Diagram) →
+    Walks t t new value s (flat_map walk ds) → s ≡ size_of ds
+size_walked t new table value s ds h =
     let k = h [] (marked_none t value) in
-    let b = are_below t table k.marked d (k.adds [] (listed_empty t)) in
-    let counted = elements_counted t table k.marked b.diagrams b.shown in
+    let b = are_completed t table k.marked ds (k.adds [] (listed_empty t)) in
+    let counted = elements_counted t table k.marked b.0 b.1 in
     let none : elements_of t [] ≡ 0 = refl in
-    size_below t k.marked d s b (omega (arith, k.sum, none, counted))
+    size_completed ds b.0 s b.2 (omega (arith, k.sum, none, counted))
 
 -- what shows the same diagrams is the same codes, so what the first walk marks the second one takes off
 pub same_codes : (t : Table) → IsTable t → (ns ms : List ℕ) (ds : List Diagram) → AreListed t ns ds →
@@ -194,7 +195,7 @@ listed_unmarked t marks codes ds l = record {
 }
 
 -- a decomposition that shows something is linked
-shown_linked : (t : Table) → IsTable t → (n : ℕ) (d : Diagram) → Shows t (2050 + n) d → IsSome (get t.linked n)
+pub shown_linked : (t : Table) → IsTable t → (n : ℕ) (d : Diagram) → Shows t (2050 + n) d → IsSome (get t.linked n)
 shown_linked t table n d h = go (code_of_node t.vtree (get t.linked) table.numbered (2050 + n) d h)
   where
     go : (2050 + n < 2 * leaves (plain_tree t.vtree) + 2)
@@ -204,19 +205,32 @@ shown_linked t table n d h = go (code_of_node t.vtree (get t.linked) table.numbe
         let same : k.0 ≡ n = omega (arith, k.1) in subst (λ x. IsSome (get t.linked x)) same k.2
 
 -- A walk that marks and one that takes the marks off leave a table without marks as it was.
-pub walks_back : (t now new : Table) → IsTable t → (s r : ℕ) (d : Diagram) → Walks t t now 1 s (walk d) →
-    Walks now now new 0 r (walk d) → ((n : ℕ) → IsSome (get t.linked n) → get t.marks n ≡ Some 0) → new ≡ t
-walks_back t now new table s r d h k unmarked =
+pub walks_back : (t now new : Table) → IsTable t → (s r : ℕ) (ds : List Diagram) → Walks t t now 1 s ds →
+    Walks now now new 0 r ds → AreUnmarked t → new ≡ t
+walks_back t now new table s r ds h k unmarked =
     let a = h [] (marked_none t 1) in
     let b = k [] (marked_none now 0) in
     let first = a.adds [] (listed_empty t) in
-    let second : AreListed t b.marked (walk d) =
-    listed_unmarked t now.marks b.marked (walk d)
-    (subst (λ u. AreListed u b.marked (walk d)) a.are.rest (b.adds [] (listed_empty now))) in
+    let second : AreListed t b.marked ds =
+    listed_unmarked t now.marks b.marked ds
+    (subst (λ u. AreListed u b.marked ds) a.are.rest (b.adds [] (listed_empty now))) in
     marks_back t now new a.marked b.marked a.are b.are
-    (same_codes t table a.marked b.marked (walk d) first second)
-    (same_codes t table b.marked a.marked (walk d) second first)
+    (same_codes t table a.marked b.marked ds first second)
+    (same_codes t table b.marked a.marked ds second first)
     (λ n m. let w = first.shown (2050 + n) m in unmarked n (shown_linked t table n w.0 w.2.shows))
+
+-- what the first walk marked has its mark, so the second one finds nothing that has its own already
+pub marked_lacks : (t now : Table) → IsTable t → (s : ℕ) (ds : List Diagram) → Walks t t now 1 s ds →
+    LackMark now 0 ds
+marked_lacks t now table s ds h n d m is zero =
+    let a = h [] (marked_none t 1) in
+    let first = a.adds [] (listed_empty t) in
+    let k = first.each d m in
+    let back : ShowsCanonical t (2050 + n) d = subst (λ u. ShowsCanonical u (2050 + n) d) a.are.rest is in
+    let same : k.0 ≡ 2050 + n = one_code t.vtree (get t.linked) table.keys d k.0 (2050 + n) k.2.shows back.shows in
+    let one = a.are.listed n (subst (λ c. IsAmong c a.marked) same k.1) in
+    let both : Some 1 ≡ Some 0 = sym one ∙ zero in
+    absurd (cc (both))
 
 -- what a code's pairs add to the lengths of all lists
 pairs_amount : (t : Table) → IsTable t → (c : ℕ) (d : Diagram) → Shows t c d →

@@ -1,16 +1,25 @@
 -- Nodes that a walk marked, as a list of their codes.
-use Rattle.std.specs.Prelude.{◌≡◌, ℕ, ◌+◌, List, Some, length}
-use Rattle.std.specs.List.{sum_by}
-use Rattle.std.specs.FinMap.{get, insert}
+use Rattle.std.specs.Prelude.{◌≡◌, ◌≢◌, ℕ, ◌+◌, List, Some, length}
+use Rattle.std.specs.List.{sum_by, flat_map}
+use Rattle.std.specs.FinMap.{get}
 use Rattle.sd_laws.proofs.Lists.{IsAmong}
-use Rattle.sd_model.specs.Diagram.{Diagram}
+use Rattle.sd_model.specs.Diagram.{Diagram, Elements, Decomposition}
+use Rattle.sd_model.specs.Size.{walk, walk_elements}
 use Rattle.sd_manager.specs.Table.{Table}
+use Rattle.sd_manager.specs.Shown.{ShowsCanonical}
+use Rattle.sd_manager.specs.Valid.{IsTable}
 use Rattle.sd_manager.specs.Views.{pairs_at}
-use Rattle.sd_sweep.specs.Listed.{Adds}
+use Rattle.sd_sweep.specs.Listed.{AreListed, Adds}
+use Rattle.sd_sweep.specs.Reached.{AreHeldDiagrams}
 
--- the table with this mark of a node
-abbrev pub with_mark : Table → ℕ → ℕ → Table
-with_mark t n value = record t { marks = insert t.marks n value }
+-- the tables differ in marks alone
+abbrev pub DifferInMarks : Table → Table → Type 0
+DifferInMarks old new = new ≡ record old { marks = new.marks }
+
+-- no node that shows one of these diagrams has the mark
+abbrev pub LackMark : Table → ℕ → List Diagram → Type 0
+LackMark t value ds =
+    (n : ℕ) (d : Diagram) → IsAmong d ds → ShowsCanonical t (2050 + n) d → get t.marks n ≢ Some value
 
 -- The listed decompositions have this mark now. Every other number has the mark that it had, and nothing else changed.
 pub record IsMarkedWith (old new : Table) (value : ℕ) (codes : List ℕ) : Type 0 where
@@ -33,3 +42,34 @@ pub record EndsWith (first new : Table) (value total : ℕ) (codes : List ℕ) (
 abbrev pub Walks : Table → Table → Table → ℕ → ℕ → List Diagram → Type 0
 Walks first old new value total ds =
     (codes : List ℕ) → IsMarkedWith first old value codes → EndsWith first new value total codes ds
+
+-- What a walk under a node did: it marked what shows the diagrams under that of the node and lacked the mark, seen from
+-- each table at which it may have begun. The new marks are on nodes of that many elements.
+abbrev pub MarksUnder : Table → Table → ℕ → ℕ → ℕ → Type 0
+MarksUnder old new value total c =
+    (first : Table) (d : Diagram) → IsTable first → DifferInMarks first old → ShowsCanonical first c d →
+    LackMark first value (walk d) → Walks first old new value total (walk d)
+
+-- what a walk under the elements of a node did
+abbrev pub MarksElements : Table → Table → ℕ → ℕ → ℕ → Type 0
+MarksElements old new value total c =
+    (first : Table) (p : ℕ) (es : Elements) → IsTable first → DifferInMarks first old →
+    ShowsCanonical first c (Decomposition p es) → LackMark first value (walk_elements es) →
+    Walks first old new value total (walk_elements es)
+
+-- what a walk under all held roots did
+abbrev pub MarksHeld : Table → Table → ℕ → ℕ → Type 0
+MarksHeld old new value total =
+    (first : Table) (ds : List Diagram) → IsTable first → DifferInMarks first old → AreHeldDiagrams first ds →
+    LackMark first value (flat_map walk ds) → Walks first old new value total (flat_map walk ds)
+
+-- A walk goes on that gives this mark: it began at a table in which nothing that shows these diagrams had it, and so
+-- far it gave it to the listed codes.
+pub record IsWalking (now : Table) (value : ℕ) (ds : List Diagram) : Type 0 where
+  pub first : Table
+  pub valid : IsTable first
+  pub lacks : LackMark first value ds
+  pub codes : List ℕ
+  pub diagrams : List Diagram
+  pub are : IsMarkedWith first now value codes
+  pub listed : AreListed first codes diagrams

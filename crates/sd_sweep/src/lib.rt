@@ -2,11 +2,13 @@
 #![tactic(auto)]
 
 mod listed;
-mod size;
+mod lists;
+mod sizes;
 mod sweeping;
 
 pub use listed::Listed;
-pub use size::{nodes_below, size_of_root};
+pub use lists::{nodes_below, size_of_root};
+pub use sizes::{size, size_of};
 pub use sweeping::sweep;
 
 #[cfg(test)]

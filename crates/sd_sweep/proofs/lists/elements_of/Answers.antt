@@ -1,5 +1,5 @@
 use Rattle.sd_manager.proofs.Reading.{shown_has_node}
-use Rattle.sd_sweep.proofs.size.elements_of.Goals as goal
+use Rattle.sd_sweep.proofs.lists.elements_of.Goals as goal
 
 pub view-requires : goal.view-requires
 view-requires c =

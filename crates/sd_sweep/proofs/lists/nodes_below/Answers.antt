@@ -3,7 +3,7 @@ use Rattle.sd_model.specs.Tree.{leaves}
 use Rattle.sd_vtree.specs.Numbered.{plain_tree}
 use Rattle.sd_laws.proofs.Depths.{depth_canonical}
 use Rattle.sd_sweep.proofs.Totals.{all_below, all_distinct}
-use Rattle.sd_sweep.proofs.size.nodes_below.Goals as goal
+use Rattle.sd_sweep.proofs.lists.nodes_below.Goals as goal
 
 pub list_below-requires-clause-shown : goal.list_below-requires-clause-shown
 list_below-requires-clause-shown c = (

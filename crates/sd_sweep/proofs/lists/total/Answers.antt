@@ -1,6 +1,6 @@
 use Rattle.std.proofs.Common.{◌<◌, ◌^◌, arith, rules}
 use Rattle.sd_sweep.proofs.Totals.{summed_more, all_summed, sum_fits}
-use Rattle.sd_sweep.proofs.size.total.Goals as goal
+use Rattle.sd_sweep.proofs.lists.total.Goals as goal
 
 pub overflow_add-sum : goal.overflow_add-sum
 overflow_add-sum c =

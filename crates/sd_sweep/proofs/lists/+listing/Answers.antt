@@ -6,7 +6,7 @@ use Rattle.sd_manager.proofs.Reading.{shown_has_node}
 use Rattle.sd_manager.proofs.Evaluating.{children, count_is}
 use Rattle.sd_sweep.proofs.Listing.{adds_known, constant_added, literal_added, decomposition_added}
 use Rattle.sd_sweep.proofs.Listing.{listed_more, all_listed}
-use Rattle.sd_sweep.proofs.size.+listing.Goals as goal
+use Rattle.sd_sweep.proofs.lists.+listing.Goals as goal
 
 pub list_below-returns-then-contains : goal.list_below-returns-then-contains
 list_below-returns-then-contains t c = λ d h.

@@ -1,6 +1,6 @@
 use Rattle.std.proofs.Common.{◌+◌, ◌*◌}
 use Rattle.sd_sweep.proofs.Listing.{HasListed}
-use Rattle.sd_sweep.proofs.size.+listing.Given as goal
+use Rattle.sd_sweep.proofs.lists.+listing.Given as goal
 
 -- each call from one of the two to the other is less
 abbrev pub decreases-list_below : goal.decreases-list_below

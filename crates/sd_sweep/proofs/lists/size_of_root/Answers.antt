@@ -3,7 +3,7 @@ use Rattle.std.specs.List.{AllByRecursion, AllZip}
 use Rattle.sd_manager.specs.Shown.{ShowsCanonical, IsNodeOf}
 use Rattle.sd_manager.proofs.Same.{held_code}
 use Rattle.sd_sweep.proofs.Totals.{all_known, size_below}
-use Rattle.sd_sweep.proofs.size.size_of_root.Goals as goal
+use Rattle.sd_sweep.proofs.lists.size_of_root.Goals as goal
 
 pub total-requires-clause-shown : goal.total-requires-clause-shown
 total-requires-clause-shown c =

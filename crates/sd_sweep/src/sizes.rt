@@ -1,0 +1,116 @@
+// Sizes without memory: a walk marks each node that it sees first, and a second one takes the marks off.
+ghost use Rattle.std.specs.Prelude.{◌≡◌, ◌≤◌, ◌<◌, ◌^◌, ℕ, [], ◌∷◌, List, length, None};
+ghost use Rattle.std.specs.List.{flat_map};
+ghost use Rattle.std.specs.Option.{IsSome};
+ghost use Rattle.std.specs.FinMap.{get};
+ghost use Rattle.sd_model.specs.Diagram.{Diagram, Elements, Decomposition};
+ghost use Rattle.sd_model.specs.Size.{walk, walk_elements, size_of};
+ghost use Rattle.sd_laws.specs.Depth.{depth};
+ghost use Rattle.sd_manager.specs.Shown.{ShowsCanonical, HoldsDiagram};
+ghost use Rattle.sd_manager.specs.Valid.{IsTable};
+ghost use Rattle.sd_manager.specs.Views.{pairs_at};
+ghost use Rattle.sd_manager.specs.Marking.{AreUnmarked};
+ghost use Rattle.sd_sweep.specs.Marked.{DifferInMarks, MarksUnder, MarksElements, MarksHeld, IsWalking};
+ghost use Rattle.sd_sweep.specs.Reached.{AreHeldDiagrams};
+
+use sd_manager::{Manager, NodeId, Root, View};
+
+/// The size of the diagram that a root shows: the elements of its distinct decompositions together. It takes no memory,
+/// and visits each node below the root twice.
+pub fn size_of(m: &mut Manager, root: &Root) -> u32
+    requires no_move { m.old.moving ≡ None }
+    requires unmarked { AreUnmarked m.old }
+    requires held { IsSome (get m.old.roots root.now) }
+    ensures size { (d : Diagram) → HoldsDiagram m.old root.now d → result ≡ size_of (d ∷ []) }
+    ensures same { m.new ≡ m.old }
+    ensures table { IsTable m.new }
+{
+    let node = m.node_of(root);
+    let levels = m.vtree().variables();
+    let size = mark_below(m, node, levels, 1);
+    mark_below(m, node, levels, 0);
+    size
+}
+
+/// The total size: that of the diagrams which the held roots show, where each distinct decomposition counts once. It
+/// takes no memory, and visits each node below the held roots twice.
+pub fn size(m: &mut Manager) -> u32
+    requires no_move { m.old.moving ≡ None }
+    requires unmarked { AreUnmarked m.old }
+    ensures size { (ds : List Diagram) → AreHeldDiagrams m.old ds → result ≡ size_of ds }
+    ensures same { m.new ≡ m.old }
+    ensures table { IsTable m.new }
+{
+    // Its contract tells that the table is valid.
+    let _ = m.vtree();
+    let size = mark_held(m, 1);
+    mark_held(m, 0);
+    size
+}
+
+// Gives the nodes below all held roots this mark, where they lack it, and answers how many elements they have together.
+fn mark_held(m: &mut Manager, value: u32) -> u32
+    requires table { IsTable m.old }
+    requires shown { (ds : List Diagram) × AreHeldDiagrams m.old ds
+        × IsWalking m.old value (flat_map walk ds) }
+    ensures marks { MarksHeld m.old m.new value result }
+    ensures rest { DifferInMarks m.old m.new }
+    ensures table { IsTable m.new }
+{
+    let levels = m.vtree().variables();
+    let mut total = 0;
+    let mut from = 0;
+    while let Some(found) = m.next_held(from) {
+        total += mark_below(m, found.1, levels, value);
+        from = found.0;
+    }
+    total
+}
+
+// Gives the nodes of decompositions below a node this mark, where they lack it, and answers how many elements they have
+// together.
+#[cycle(marking)]
+fn mark_below(m: &mut Manager, node: NodeId, levels: u32, value: u32) -> u32
+    requires table { IsTable m.old }
+    requires shown { (d : Diagram) × ShowsCanonical m.old node d × (depth d ≤ levels)
+        × IsWalking m.old value (walk d) }
+    ensures marks { MarksUnder m.old m.new value result node }
+    ensures rest { DifferInMarks m.old m.new }
+    ensures small { result < 2 ^ 31 }
+    ensures table { IsTable m.new }
+{
+    let count = match m.view(node) {
+        View::Constant(_) => return 0,
+        View::Literal(_) => return 0,
+        View::Decomposition { count, .. } => count,
+    };
+    let number = node.0 - 2050;
+    if m.mark(number) == value {
+        return 0;
+    }
+    let below = mark_children(m, node, count, levels, value);
+    m.set_mark(number, value);
+    below + count
+}
+
+// The same for what stands under the elements of a decomposition.
+#[cycle(marking)]
+fn mark_children(m: &mut Manager, node: NodeId, count: u32, levels: u32, value: u32) -> u32
+    requires table { IsTable m.old }
+    requires count { length (pairs_at m.old node) ≡ count }
+    requires shown { (p : ℕ) × (es : Elements) × ShowsCanonical m.old node (Decomposition p es)
+        × (depth (Decomposition p es) ≤ levels) × IsWalking m.old value (walk_elements es) }
+    ensures marks { MarksElements m.old m.new value result node }
+    ensures rest { DifferInMarks m.old m.new }
+    ensures small { result < 2 ^ 31 }
+    ensures table { IsTable m.new }
+{
+    let mut total = 0;
+    for index in 0..count {
+        let (prime, sub) = m.element(node, index);
+        let first = mark_below(m, prime, levels - 1, value);
+        let second = mark_below(m, sub, levels - 1, value);
+        total += first + second;
+    }
+    total
+}
