@@ -1,0 +1,189 @@
+-- Elements where a variable has a value: one more, all of them, and the node that they make.
+use Rattle.std.proofs.Common.{◌≡◌, ℕ, ◌+◌, ◌≤◌, ◌<◌, Bool, false, cond, List, [], ◌∷◌, ◌++◌}
+use Rattle.std.proofs.Common.{length, take, get_or, Option, refl, sym, ◌∙◌, ap, subst}
+use Rattle.std.proofs.Common.{append-nil}
+use Rattle.sd_model.specs.Assignment.{with_value}
+use Rattle.sd_model.specs.Diagram.{Diagram, meaning}
+use Rattle.sd_cache.specs.Entries.{Entries}
+use Rattle.sd_laws.specs.Pairs.{answers}
+use Rattle.sd_manager.specs.Table.{Table}
+use Rattle.sd_manager.specs.Shown.{ShowsCanonical, IsPartitionAt}
+use Rattle.sd_manager.specs.Views.{pairs_at}
+use Rattle.sd_manager.specs.Valid.{IsTable}
+use Rattle.sd_apply.specs.Answers.{Compresses}
+use Rattle.sd_apply.specs.Places.{IsCanonicalUnder, HasPlace, HasChildren}
+use Rattle.sd_apply.specs.Elements.{IsPair, ListsElements, HasList}
+use Rattle.sd_apply.specs.Serving.{Serves}
+use Rattle.sd_apply.proofs.Growing.{either_none, either_both}
+use Rattle.sd_apply.proofs.Listed.{pair_on, lists_on, lists_push, lists_none}
+use Rattle.sd_manager.proofs.Extending.{extends_self, extends_on}
+use Rattle.sd_apply.proofs.Listed.{lists_at, take_answers, take_all, one_answer, answers_push, node_on}
+use Rattle.sd_apply.proofs.Rows.{pair_prime, pair_sub, not_bottom, false_value}
+use Rattle.sd_apply.proofs.Merging.{partition_at}
+use Rattle.sd_apply.proofs.Expanding.{own_list}
+use Rattle.sd_apply.proofs.Standing.{shown}
+use Rattle.sd_cond.specs.Calls.{conditioned, AnswersOf, AreAnswers, FixesPairs}
+use Rattle.sd_cond.proofs.Answering.{conditioned_under}
+use Rattle.sd_cond.proofs.Steps.{IsStep, InPairs}
+
+-- no element yet
+pub pairs_none : (t : Table) (kept : List (Option ℕ)) (c : Entries) (x : ℕ) (s : Bool) (u w : ℕ)
+    (l : List (ℕ × ℕ)) → IsTable t → AreAnswers t (conditioned x s) kept → Serves c t →
+    InPairs t t kept c x s u w l [] 0
+pairs_none t kept c x s u w l i k serves = record {
+  step = record {
+    extends = extends_self t;
+    knows = k;
+    serves = serves;
+    table = i;
+    grown = either_none t u w;
+  };
+  pairs = λ ds hd. record { shown = []; lists = lists_none t u w; value = λ a. refl };
+}
+
+-- one whose prime is false
+pub pairs_skip : (m0 m m1 : Table) (k k1 : List (Option ℕ)) (c c1 : Entries) (x : ℕ) (s : Bool) (u w : ℕ)
+    (l r : List (ℕ × ℕ)) (i : ℕ) (e : ℕ × ℕ) (prime : ℕ) → InPairs m0 m k c x s u w l r i →
+    IsStep m m1 (conditioned x s) k1 c1 u w → i < length l → ◌≡◌ {A = ℕ × ℕ} e (get_or l i (0, 0)) →
+    AnswersOf m m1 (conditioned x s) e.0 prime → prime ≡ 0 → InPairs m0 m1 k1 c1 x s u w l r (i + 1)
+pairs_skip m0 m m1 k k1 c c1 x s u w l r i e prime h n lt at p none = record {
+  step = record {
+    extends = extends_on m0 m m1 h.step.extends n.extends;
+    knows = n.knows;
+    serves = n.serves;
+    table = n.table;
+    grown = either_both m0 m m1 u w n.extends h.step.grown n.grown;
+  };
+  pairs = λ ds hd.
+      let q = h.pairs ds hd in
+      let d = lists_at m0 u w l ds hd i lt e at in
+      let d0 = pair_on m0 m h.step.extends u w e d.0 d.1.pair in
+      let z = p.each d.0.0 (shown m u e.0 d.0.0 (pair_prime m u w e d.0 d0)) in
+      record {
+        shown = q.shown;
+        lists = lists_on m m1 n.extends u w r q.shown q.lists;
+        value = λ a.
+            let b = with_value a x s in
+            let false_prime : meaning d.0.0 b ≡ false =
+            sym (z.value a) ∙ false_value m1 n.table prime z.diagram z.is.shows none a in
+            let cut : answers b (take (i + 1) ds) ≡ answers b (take i ds) =
+            take_answers b m0 u w e ds i d.0 d.1
+            ∙ ap (λ v. answers b (take i ds) ++ cond v (meaning d.0.1 b ∷ []) []) false_prime
+            ∙ append-nil (answers b (take i ds)) in
+            q.value a ∙ sym cut;
+      };
+}
+
+-- one with a prime that is not false
+pub pairs_push : (m0 m m1 m2 : Table) (k k1 k2 : List (Option ℕ)) (c c1 c2 : Entries) (x : ℕ) (s : Bool)
+    (u w : ℕ) (l r r2 : List (ℕ × ℕ)) (i : ℕ) (e : ℕ × ℕ) (prime sub : ℕ) → 1 ≤ x →
+    InPairs m0 m k c x s u w l r i → IsStep m m1 (conditioned x s) k1 c1 u w →
+    IsStep m1 m2 (conditioned x s) k2 c2 u w → i < length l → ◌≡◌ {A = ℕ × ℕ} e (get_or l i (0, 0)) →
+    AnswersOf m m1 (conditioned x s) e.0 prime → (prime ≡ 0 → ⊥) →
+    AnswersOf m1 m2 (conditioned x s) e.1 sub → r2 ≡ r ++ (prime, sub) ∷ [] →
+    InPairs m0 m2 k2 c2 x s u w l r2 (i + 1)
+pairs_push m0 m m1 m2 k k1 k2 c c1 c2 x s u w l r r2 i e prime sub low h n n2 lt at p some y pushed =
+    let x1 = extends_on m0 m m1 h.step.extends n.extends in
+    record {
+      step = record {
+        extends = extends_on m0 m1 m2 x1 n2.extends;
+        knows = n2.knows;
+        serves = n2.serves;
+        table = n2.table;
+        grown = either_both m0 m1 m2 u w n2.extends
+            (either_both m0 m m1 u w n.extends h.step.grown n.grown) n2.grown;
+      };
+      pairs = λ ds hd.
+          let q = h.pairs ds hd in
+          let d = lists_at m0 u w l ds hd i lt e at in
+          let d0 = pair_on m0 m h.step.extends u w e d.0 d.1.pair in
+          let d1 = pair_on m m1 n.extends u w e d.0 d0 in
+          let d2 = pair_on m1 m2 n2.extends u w e d.0 d1 in
+          let z = p.each d.0.0 (shown m u e.0 d.0.0 (pair_prime m u w e d.0 d0)) in
+          let v = y.each d.0.1 (shown m1 w e.1 d.0.1 (pair_sub m1 u w e d.0 d1)) in
+          let prime1 : IsCanonicalUnder m1.vtree u z.diagram =
+          conditioned_under m1.vtree u x s d.0.0 z.diagram low d1.prime z.is.canonical z.value in
+          let prime2 = node_on m1 m2 n2.extends u prime z.diagram (record {
+            shows = z.is.shows;
+            under = prime1;
+          }) in
+          let new : Diagram × Diagram = (z.diagram, v.diagram) in
+          let pair : IsPair m2 u w (prime, sub) new = record {
+            prime_shows = prime2.shows;
+            sub_shows = v.is.shows;
+            prime = prime2.under;
+            sub = conditioned_under m2.vtree w x s d.0.1 v.diagram low d2.sub v.is.canonical v.value;
+            possible = not_bottom m1 prime z.diagram z.is.shows some;
+          } in
+          let lists = lists_push m2 u w r q.shown (prime, sub) new
+          (lists_on m m2 (extends_on m m1 m2 n.extends n2.extends) u w r q.shown q.lists) pair in
+          let L : List (ℕ × ℕ) → Type 0 = λ j. ListsElements m2 u w j (q.shown ++ new ∷ []) in
+          record {
+            shown = q.shown ++ new ∷ [];
+            lists = subst L (sym pushed) lists;
+            value = λ a.
+                let b = with_value a x s in
+                let head : one_answer a new ≡ one_answer b d.0 =
+                ap (λ j. cond j (meaning v.diagram a ∷ []) []) (z.value a)
+                ∙ ap (λ j. cond (meaning d.0.0 b) (j ∷ []) []) (v.value a) in
+                answers_push a q.shown new ∙ ap (λ j. j ++ one_answer a new) (q.value a)
+                ∙ ap (λ j. answers b (take i ds) ++ j) head
+                ∙ sym (take_answers b m0 u w e ds i d.0 d.1);
+          };
+    }
+
+-- all of them
+pub pairs_done : (m0 m : Table) (k : List (Option ℕ)) (c : Entries) (x : ℕ) (s : Bool) (u w : ℕ)
+    (l r : List (ℕ × ℕ)) (i : ℕ) → InPairs m0 m k c x s u w l r i → length l ≤ i → i ≤ length l →
+    FixesPairs m0 m x s u w l r
+pairs_done m0 m k c x s u w l r i h lo hi = record {
+  each = λ ds hd.
+      let q = h.pairs ds hd in
+      record {
+        shown = q.shown;
+        lists = q.lists;
+        value = λ a. q.value a
+            ∙ ap (λ j. answers (with_value a x s) j) (take_all m0 u w l ds i hd lo hi);
+      };
+}
+
+-- the elements of a decomposition where the variable has the value
+pub fixed_list : (m0 m1 : Table) → IsTable m0 → (x : ℕ) (s : Bool) (p u w a : ℕ) (r : List (ℕ × ℕ)) →
+    HasChildren m0.vtree p u w →
+    ((d : Diagram) → ShowsCanonical m0 a d → HasPlace m0.vtree p d) → 2050 ≤ a →
+    FixesPairs m0 m1 x s u w (pairs_at m0 a) r → (d : Diagram) → ShowsCanonical m0 a d →
+    HasList m1 u w r (λ g. meaning d (with_value g x s) ∷ [])
+fixed_list m0 m1 i x s p u w a r e place code h d sd =
+    let own = own_list m0 i p u w a e d sd (place d sd) code in
+    let gs = h.each own.shown own.lists in
+    record {
+      shown = gs.shown;
+      lists = gs.lists;
+      value = λ g. gs.value g ∙ own.value (with_value g x s);
+    }
+
+-- a list with one answer is a partition
+pub listed_partition : (t : Table) → IsTable t → (p u w : ℕ) → HasChildren t.vtree p u w →
+    (l : List (ℕ × ℕ)) (f : List Bool → Bool) (h : HasList t u w l (λ g. f g ∷ [])) →
+    IsPartitionAt t p l h.shown
+listed_partition t i p u w e l f h =
+    partition_at t i p u w e l h.shown h.lists (λ g. ap length (h.value g))
+
+head_same : (x y : Bool) → x ∷ [] ≡ y ∷ [] → x ≡ y
+head_same x y e = cc
+
+-- the node that such lists make is the answer
+pub compressed_answers : (m0 m1 m2 : Table) → IsTable m1 → (f : Diagram → List Bool → Bool)
+    (p u w a c : ℕ) (r : List (ℕ × ℕ)) → HasChildren m1.vtree p u w →
+    ((d : Diagram) → ShowsCanonical m0 a d → HasList m1 u w r (λ g. f d g ∷ [])) →
+    Compresses m1 m2 p r c → AnswersOf m0 m2 f a c
+compressed_answers m0 m1 m2 i f p u w a c r e list h = record {
+  each = λ d sd.
+      let k = list d sd in
+      let z = h.each k.shown (listed_partition m1 i p u w e r (f d) k) in
+      record {
+        diagram = z.diagram;
+        is = z.is;
+        value = λ g. head_same (meaning z.diagram g) (f d g) (sym (z.value g) ∙ k.value g);
+      };
+}

@@ -1,0 +1,10 @@
+pub mod Changing
+pub mod Sides
+pub mod Steps
+pub mod Terminals
+pub mod Answering
+pub mod Elements
+pub mod Serving
+pub mod Whole
+pub mod Forgotten
+pub mod Tried

@@ -1,0 +1,55 @@
+-- What the calls inside an operation answer.
+use Rattle.std.specs.Prelude.{◌≡◌, ℕ, Bool, true, false, ◌||◌, cond, List, [], ◌∷◌, Option, Some, None}
+use Rattle.std.specs.Prelude.{slice_index_or}
+use Rattle.sd_model.specs.Assignment.{with_value}
+use Rattle.sd_model.specs.Diagram.{Diagram, meaning}
+use Rattle.sd_vtree.specs.Numbered.{Numbered, IsUnder}
+use Rattle.sd_laws.specs.Pairs.{answers}
+use Rattle.sd_manager.specs.Table.{Table}
+use Rattle.sd_manager.specs.Shown.{ShowsCanonical}
+use Rattle.sd_apply.specs.Answers.{HasAnswer}
+use Rattle.sd_apply.specs.Elements.{ListsElements, HasList}
+
+-- the value of a diagram where the variable x has the value s
+abbrev pub conditioned : ℕ → Bool → Diagram → List Bool → Bool
+conditioned x s d a = meaning d (with_value a x s)
+
+-- the value of a diagram for one of both values of the variable x
+abbrev pub forgotten : ℕ → Diagram → List Bool → Bool
+forgotten x d a = meaning d (with_value a x true) || meaning d (with_value a x false)
+
+-- what an operation of value f answers at a node
+pub record AnswersOf (old new : Table) (f : Diagram → List Bool → Bool) (a c : ℕ) : Type 0 where
+  pub each : (d : Diagram) → ShowsCanonical old a d → HasAnswer new (f d) c
+
+-- the first code shows a diagram at which the second one is the answer
+pub record IsAnswer (t : Table) (f : Diagram → List Bool → Bool) (a c : ℕ) : Type 0 where
+  pub diagram : Diagram
+  pub is : ShowsCanonical t a diagram
+  pub answer : HasAnswer t (f diagram) c
+
+-- what is kept for a code is the answer at it
+pub record AreAnswers (t : Table) (f : Diagram → List Bool → Bool) (kept : List (Option ℕ)) : Type 0
+  where
+    pub each : (a c : ℕ) → slice_index_or kept a None ≡ Some c → IsAnswer t f a c
+
+-- the leaf stands below the vtree node just where the flag is true
+pub record Tells (t : Numbered) (leaf at : ℕ) (here : Bool) : Type 0 where
+  pub over : here ≡ true → IsUnder t leaf at
+  pub apart : here ≡ false → ¬ IsUnder t leaf at
+
+-- the pairs answer as the list does where the variable x has the value s
+pub record FixesPairs (old new : Table) (x : ℕ) (s : Bool) (u w : ℕ) (l r : List (ℕ × ℕ)) : Type 0
+  where
+    pub each : (ds : List (Diagram × Diagram)) → ListsElements old u w l ds →
+        HasList new u w r (λ a. answers (with_value a x s) ds)
+
+-- the values of f at the subs whose primes are true
+abbrev pub answers_by : (Diagram → List Bool → Bool) → List Bool → List (Diagram × Diagram) → List Bool
+answers_by f a [] = []
+answers_by f a (d ∷ ds) = cond (meaning d.0 a) (f d.1 a ∷ answers_by f a ds) (answers_by f a ds)
+
+-- the pairs answer as the list does with the variable x forgotten in its subs
+pub record ForgetsSubs (old new : Table) (x u w : ℕ) (l r : List (ℕ × ℕ)) : Type 0 where
+  pub each : (ds : List (Diagram × Diagram)) → ListsElements old u w l ds →
+      HasList new u w r (λ a. answers_by (forgotten x) a ds)

@@ -1,0 +1,122 @@
+// One call: the cache is asked once, and keeps the answer. What is found on the way stands in a table
+// of the call's own.
+ghost use Rattle.std.specs.Prelude.{◌≤◌, ◌/◌, ◌%◌, ◌==◌, IfOk, IfErr};
+ghost use Rattle.sd_model.specs.Tree.{leaves};
+ghost use Rattle.sd_vtree.specs.Numbered.{plain_tree};
+ghost use Rattle.sd_manager.specs.Shown.{IsNodeOf};
+ghost use Rattle.sd_manager.specs.Valid.{IsTable};
+ghost use Rattle.sd_manager.specs.Making.{Extends, KeepsRule};
+ghost use Rattle.sd_apply.specs.Growing.{GrowsBelowBoth};
+ghost use Rattle.sd_apply.specs.Serving.{Serves};
+ghost use Rattle.sd_cond.specs.Calls.{conditioned, forgotten, AnswersOf};
+
+use crate::conditioning::{at_terminal, given_here};
+use crate::forgetting::{forget_here, forget_terminal};
+use crate::places::{is_over, place_with_children};
+use sd_cache::Cache;
+use sd_manager::{Manager, NodeId};
+use sd_runs::TakeError;
+use std::alloc::Global;
+
+/// The number of conditioning among the operations.
+const GIVEN: u8 = 4;
+
+/// The number of forgetting.
+const FORGET: u8 = 5;
+
+/// Conditioning on the literal with a code: 2x for the variable x, and 2x + 1 for its negation.
+pub(crate) fn given_cached(
+    alloc: Global,
+    m: &mut Manager,
+    c: &mut Cache,
+    a: NodeId,
+    literal: u32,
+) -> Result<NodeId, TakeError>
+    requires node { IsNodeOf m.old a }
+    requires low { 2 ≤ literal }
+    requires within { literal / 2 ≤ leaves (plain_tree m.old.vtree) }
+    requires serves { Serves c.old m.old }
+    ensures ok { IfOk result (λ r.
+        AnswersOf m.old m.new (conditioned (literal / 2) (literal % 2 == 0)) a r) }
+    ensures kept { Extends m.old m.new }
+    ensures grown { GrowsBelowBoth m.old m.new a a }
+    ensures serves { Serves c.new m.new }
+    ensures rule { IfErr result (λ e. KeepsRule m.new e) }
+    ensures table { IsTable m.new }
+{
+    let epoch = m.epoch();
+    let variable = literal / 2;
+    let positive = literal % 2 == 0;
+    if let Some(code) = at_terminal(a.0, variable, positive) {
+        return Ok(NodeId(code));
+    }
+    if let Some(code) = c.look(epoch, GIVEN, a.0, literal) {
+        return Ok(NodeId(code));
+    }
+    let root = m.vtree().root();
+    let leaf = m.vtree().leaf(variable);
+    let (place, left, right) = place_with_children(m, root, a);
+    if !is_over(m, root, place, leaf) {
+        return Ok(a);
+    }
+    let mut kept = Vec::new(alloc);
+    let code = given_here(
+        alloc, m, c, &mut kept, variable, positive, leaf, place, left, right, a,
+    )?;
+    c.keep(epoch, GIVEN, a.0, literal, code.0);
+    Ok(code)
+}
+
+/// Forgetting a variable.
+pub(crate) fn forget_cached(
+    alloc: Global,
+    m: &mut Manager,
+    c: &mut Cache,
+    a: NodeId,
+    variable: u32,
+) -> Result<NodeId, TakeError>
+    requires node { IsNodeOf m.old a }
+    requires positive { 1 ≤ variable }
+    requires within { variable ≤ leaves (plain_tree m.old.vtree) }
+    requires serves { Serves c.old m.old }
+    ensures ok { IfOk result (λ r. AnswersOf m.old m.new (forgotten variable) a r) }
+    ensures kept { Extends m.old m.new }
+    ensures grown { GrowsBelowBoth m.old m.new a a }
+    ensures serves { Serves c.new m.new }
+    ensures rule { IfErr result (λ e. KeepsRule m.new e) }
+    ensures table { IsTable m.new }
+{
+    let epoch = m.epoch();
+    if let Some(code) = forget_terminal(a.0, variable) {
+        return Ok(NodeId(code));
+    }
+    let literal = 2 * variable;
+    if let Some(code) = c.look(epoch, FORGET, a.0, literal) {
+        return Ok(NodeId(code));
+    }
+    let root = m.vtree().root();
+    let leaf = m.vtree().leaf(variable);
+    let (place, left, right) = place_with_children(m, root, a);
+    if !is_over(m, root, place, leaf) {
+        return Ok(a);
+    }
+    let mut kept = Vec::new(alloc);
+    let mut with_true = Vec::new(alloc);
+    let mut with_false = Vec::new(alloc);
+    let code = forget_here(
+        alloc,
+        m,
+        c,
+        &mut kept,
+        &mut with_true,
+        &mut with_false,
+        variable,
+        leaf,
+        place,
+        left,
+        right,
+        a,
+    )?;
+    c.keep(epoch, FORGET, a.0, literal, code.0);
+    Ok(code)
+}

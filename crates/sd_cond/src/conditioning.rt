@@ -1,0 +1,232 @@
+// Conditioning below the vtree node of a node.
+ghost use Rattle.std.specs.Prelude.{◌≡◌, ◌≤◌, ℕ, not, Some, IfOk, IfErr, IfSome, IfNone};
+ghost use Rattle.sd_model.specs.Diagram.{Diagram};
+ghost use Rattle.sd_vtree.specs.Numbered.{variable_at, IsUnder};
+ghost use Rattle.sd_manager.specs.Table.{Table};
+ghost use Rattle.sd_manager.specs.Shown.{ShowsCanonical, IsNodeOf};
+ghost use Rattle.sd_manager.specs.Valid.{IsTable};
+ghost use Rattle.sd_manager.specs.Making.{Extends, KeepsRule};
+ghost use Rattle.sd_apply.specs.Growing.{GrowsBelow, GrowsBelowEither};
+ghost use Rattle.sd_apply.specs.Places.{IsBelow, IsThere, HasPlace, HasChildren};
+ghost use Rattle.sd_apply.specs.Elements.{AreListedElements};
+ghost use Rattle.sd_apply.specs.Serving.{Serves};
+ghost use Rattle.sd_cond.specs.Calls.{conditioned, AnswersOf, AreAnswers, Tells, FixesPairs};
+
+use crate::kept::{answer_in, keep_answer};
+use crate::lists::{Pairs, elements_of};
+use crate::places::{is_left, is_over, place_with_children};
+use sd_apply::compress;
+use sd_cache::Cache;
+use sd_manager::{Manager, NodeId};
+use sd_runs::TakeError;
+use sd_vtree::VNode;
+use smallvec::SmallVec;
+use std::alloc::Global;
+
+/// The answer of conditioning at a constant or a literal.
+pub(crate) fn at_terminal(a: u32, variable: u32, positive: bool) -> Option<u32>
+    requires { 1 ≤ variable }
+    ensures some { IfSome result (λ c. (t : Table) → IsTable t →
+        AnswersOf t t (conditioned variable positive) a c) }
+    ensures none { IfNone result (2050 ≤ a) }
+{
+    if a >= 2050 {
+        return None;
+    }
+    if a < 2 || a / 2 != variable {
+        return Some(a);
+    }
+    if (a % 2 == 0) == positive {
+        return Some(1);
+    }
+    Some(0)
+}
+
+/// Conditioning at a node below a vtree node below which the variable's leaf stands.
+#[cycle(given)]
+pub(crate) fn given_at(
+    alloc: Global,
+    m: &mut Manager,
+    c: &mut Cache,
+    kept: &mut Vec<Option<u32>>,
+    variable: u32,
+    positive: bool,
+    leaf: VNode,
+    at: VNode,
+    a: NodeId,
+) -> Result<NodeId, TakeError>
+    requires variable { 1 ≤ variable }
+    requires leaf { variable_at m.old.vtree leaf ≡ Some variable }
+    requires over { IsUnder m.old.vtree leaf at }
+    requires a { IsBelow m.old at a }
+    requires knows { AreAnswers m.old (conditioned variable positive) kept.old.items }
+    requires serves { Serves c.old m.old }
+    ensures ok { IfOk result (λ r. AnswersOf m.old m.new (conditioned variable positive) a r) }
+    ensures kept { Extends m.old m.new }
+    ensures grown { GrowsBelow m.old m.new at }
+    ensures knows { AreAnswers m.new (conditioned variable positive) kept.new.items }
+    ensures serves { Serves c.new m.new }
+    ensures rule { IfErr result (λ e. KeepsRule m.new e) }
+    ensures table { IsTable m.new }
+{
+    // its contract tells that the table is valid
+    let _ = m.vtree();
+    if let Some(code) = at_terminal(a.0, variable, positive) {
+        return Ok(NodeId(code));
+    }
+    if let Some(code) = answer_in(kept, a) {
+        return Ok(NodeId(code));
+    }
+    let (place, left, right) = place_with_children(m, at, a);
+    if !is_over(m, at, place, leaf) {
+        return Ok(a);
+    }
+    let code = given_here(
+        alloc, m, c, kept, variable, positive, leaf, place, left, right, a,
+    )?;
+    let Ok(()) = keep_answer(kept, a, code) else {
+        return Err(TakeError::OutOfMemory);
+    };
+    Ok(code)
+}
+
+/// Conditioning at a decomposition, below whose vtree node the variable's leaf stands.
+#[cycle(given)]
+pub(crate) fn given_here(
+    alloc: Global,
+    m: &mut Manager,
+    c: &mut Cache,
+    kept: &mut Vec<Option<u32>>,
+    variable: u32,
+    positive: bool,
+    leaf: VNode,
+    place: VNode,
+    left: VNode,
+    right: VNode,
+    a: NodeId,
+) -> Result<NodeId, TakeError>
+    requires variable { 1 ≤ variable }
+    requires leaf { variable_at m.old.vtree leaf ≡ Some variable }
+    requires children { HasChildren m.old.vtree place left right }
+    requires over { IsUnder m.old.vtree leaf place }
+    requires node { IsNodeOf m.old a }
+    requires code { 2050 ≤ a }
+    requires place { (d : Diagram) → ShowsCanonical m.old a d → HasPlace m.old.vtree place d }
+    requires knows { AreAnswers m.old (conditioned variable positive) kept.old.items }
+    requires serves { Serves c.old m.old }
+    requires table { IsTable m.old }
+    ensures ok { IfOk result (λ r. AnswersOf m.old m.new (conditioned variable positive) a r) }
+    ensures kept { Extends m.old m.new }
+    ensures grown { GrowsBelow m.old m.new place }
+    ensures knows { AreAnswers m.new (conditioned variable positive) kept.new.items }
+    ensures serves { Serves c.new m.new }
+    ensures rule { IfErr result (λ e. KeepsRule m.new e) }
+    ensures table { IsTable m.new }
+{
+    let in_left = is_left(m, variable, leaf, place, left, right);
+    let list = elements_of(alloc, m, a)?;
+    let pairs = given_pairs(
+        alloc,
+        m,
+        c,
+        kept,
+        variable,
+        positive,
+        leaf,
+        left,
+        right,
+        in_left,
+        list.as_slice(),
+    )?;
+    compress(alloc, m, c, place, pairs.as_slice())
+}
+
+// The elements where the variable has the value, without those whose prime is false then.
+#[cycle(given)]
+fn given_pairs(
+    alloc: Global,
+    m: &mut Manager,
+    c: &mut Cache,
+    kept: &mut Vec<Option<u32>>,
+    variable: u32,
+    positive: bool,
+    leaf: VNode,
+    left: VNode,
+    right: VNode,
+    in_left: bool,
+    list: &[(NodeId, NodeId)],
+) -> Result<Pairs, TakeError>
+    requires variable { 1 ≤ variable }
+    requires leaf { variable_at m.old.vtree leaf ≡ Some variable }
+    requires left { IsThere m.old.vtree left }
+    requires right { IsThere m.old.vtree right }
+    requires tells_left { Tells m.old.vtree leaf left in_left }
+    requires tells_right { Tells m.old.vtree leaf right (not in_left) }
+    requires list { AreListedElements m.old left right list.now }
+    requires knows { AreAnswers m.old (conditioned variable positive) kept.old.items }
+    requires serves { Serves c.old m.old }
+    requires table { IsTable m.old }
+    ensures ok { IfOk result (λ r. FixesPairs m.old m.new variable positive left right list.now
+        r.items) }
+    ensures kept { Extends m.old m.new }
+    ensures grown { GrowsBelowEither m.old m.new left right }
+    ensures knows { AreAnswers m.new (conditioned variable positive) kept.new.items }
+    ensures serves { Serves c.new m.new }
+    ensures rule { IfErr result (λ e. KeepsRule m.new e) }
+    ensures table { IsTable m.new }
+{
+    let mut pairs = SmallVec::new(alloc);
+    for i in 0..list.len() {
+        let (prime, sub) = list[i];
+        let fixed = given_below(
+            alloc, m, c, kept, variable, positive, leaf, left, in_left, prime,
+        )?;
+        if fixed.0 != 0 {
+            let value = given_below(
+                alloc, m, c, kept, variable, positive, leaf, right, !in_left, sub,
+            )?;
+            let Ok(()) = pairs.push((fixed, value)) else {
+                return Err(TakeError::OutOfMemory);
+            };
+        }
+    }
+    Ok(pairs)
+}
+
+// Conditioning at a node below a vtree node, of which the flag says whether the leaf stands below it.
+#[cycle(given)]
+fn given_below(
+    alloc: Global,
+    m: &mut Manager,
+    c: &mut Cache,
+    kept: &mut Vec<Option<u32>>,
+    variable: u32,
+    positive: bool,
+    leaf: VNode,
+    at: VNode,
+    here: bool,
+    a: NodeId,
+) -> Result<NodeId, TakeError>
+    requires variable { 1 ≤ variable }
+    requires leaf { variable_at m.old.vtree leaf ≡ Some variable }
+    requires there { IsThere m.old.vtree at }
+    requires tells { Tells m.old.vtree leaf at here }
+    requires a { IsBelow m.old at a }
+    requires knows { AreAnswers m.old (conditioned variable positive) kept.old.items }
+    requires serves { Serves c.old m.old }
+    ensures ok { IfOk result (λ r. AnswersOf m.old m.new (conditioned variable positive) a r) }
+    ensures kept { Extends m.old m.new }
+    ensures grown { GrowsBelow m.old m.new at }
+    ensures knows { AreAnswers m.new (conditioned variable positive) kept.new.items }
+    ensures serves { Serves c.new m.new }
+    ensures rule { IfErr result (λ e. KeepsRule m.new e) }
+    ensures table { IsTable m.new }
+{
+    // its contract tells that the table is valid
+    let _ = m.vtree();
+    if here {
+        given_at(alloc, m, c, kept, variable, positive, leaf, at, a)
+    } else {
+        Ok(a)
+    }
+}

@@ -1,0 +1,160 @@
+ghost use Rattle.std.specs.Prelude.{◌≡◌, ◌≤◌, None, IfOk};
+ghost use Rattle.std.specs.FinMap.{empty};
+ghost use Rattle.sd_model.specs.Tree.{leaves};
+ghost use Rattle.sd_vtree.specs.Numbered.{plain_tree};
+ghost use Rattle.sd_manager.specs.Literals.{IsLiteralTo};
+ghost use Rattle.sd_manager.specs.Shown.{IsNodeOf};
+ghost use Rattle.sd_manager.specs.Valid.{IsTable};
+ghost use Rattle.sd_manager.specs.Making.{Extends};
+ghost use Rattle.sd_apply.specs.Serving.{Serves};
+
+use super::*;
+use sd_apply::{and, or, xor};
+use sd_cache::Cache;
+use sd_manager::{Manager, NodeId};
+use sd_runs::TakeError;
+use sd_vtree::Vtree;
+use std::alloc::Global;
+use std::test::Fail;
+
+// The odd parity of the variables 1 to `count`.
+fn parity(alloc: Global, m: &mut Manager, c: &mut Cache, count: u32) -> Result<NodeId, TakeError>
+    requires variables { count ≤ leaves (plain_tree m.old.vtree) }
+    requires few { count ≤ 1024 }
+    requires serves { Serves c.old m.old }
+    requires table { IsTable m.old }
+    ensures shown { IfOk result (λ node. IsNodeOf m.new node) }
+    ensures kept { Extends m.old m.new }
+    ensures serves { Serves c.new m.new }
+    ensures table { IsTable m.new }
+{
+    let mut node = m.constant(false);
+    for variable in 1..count + 1 {
+        let literal = m.literal(variable as i32);
+        node = xor(alloc, m, c, literal, node)?;
+    }
+    Ok(node)
+}
+
+// The node of `(1 and 2) or (3 and 4)`.
+fn two_terms(alloc: Global, m: &mut Manager, c: &mut Cache) -> Result<NodeId, TakeError>
+    requires four { leaves (plain_tree m.old.vtree) ≡ 4 }
+    requires serves { Serves c.old m.old }
+    ensures shown { IfOk result (λ node. IsNodeOf m.new node) }
+    ensures kept { Extends m.old m.new }
+    ensures serves { Serves c.new m.new }
+    ensures table { IsTable m.new }
+{
+    let first = both(alloc, m, c, 1, 2)?;
+    let second = both(alloc, m, c, 3, 4)?;
+    or(alloc, m, c, first, second)
+}
+
+// The conjunction of two literals.
+fn both(
+    alloc: Global,
+    m: &mut Manager,
+    c: &mut Cache,
+    first: i32,
+    second: i32,
+) -> Result<NodeId, TakeError>
+    requires first { IsLiteralTo (leaves (plain_tree m.old.vtree)) first }
+    requires second { IsLiteralTo (leaves (plain_tree m.old.vtree)) second }
+    requires serves { Serves c.old m.old }
+    ensures shown { IfOk result (λ node. IsNodeOf m.new node) }
+    ensures kept { Extends m.old m.new }
+    ensures serves { Serves c.new m.new }
+    ensures table { IsTable m.new }
+{
+    let first = m.literal(first);
+    let second = m.literal(second);
+    and(alloc, m, c, first, second)
+}
+
+// The values of a node under all assignments of four variables: bit k is that under the assignment
+// that gives variable i the bit i - 1 of k.
+fn values(m: &mut Manager, node: NodeId) -> Result<u32, TakeError>
+    requires four { leaves (plain_tree m.old.vtree) ≡ 4 }
+    requires no_move { m.old.moving ≡ None }
+    requires no_roots { m.old.roots ≡ empty }
+    requires shown { IsNodeOf m.old node }
+{
+    let Ok(root) = m.hold(node) else {
+        return Err(TakeError::OutOfMemory);
+    };
+    let mut word = 0;
+    for k in 0..16u32 {
+        let assignment = [k & 1 != 0, k & 2 != 0, k & 4 != 0, k & 8 != 0];
+        if m.value(&root, &assignment) {
+            word |= 1 << k;
+        }
+    }
+    Ok(word)
+}
+
+// A start tree over four variables.
+fn tree(alloc: Global, shape: u32) -> Result<Vtree, TakeError>
+    ensures { IfOk result (λ t. leaves (plain_tree t) ≡ 4) }
+{
+    let made = match shape {
+        0 => Vtree::right(alloc, 4),
+        1 => Vtree::left(alloc, 4),
+        _ => Vtree::balanced(alloc, 4),
+    };
+    match made {
+        Ok(vtree) if vtree.variables() == 4 => Ok(vtree),
+        _ => Err(TakeError::OutOfMemory),
+    }
+}
+
+// The values of the parity of four variables, or of the two terms, under a literal.
+fn given_values(alloc: Global, shape: u32, terms: bool, literal: i32) -> Result<u32, TakeError>
+    requires { IsLiteralTo 4 literal }
+{
+    let vtree = tree(alloc, shape)?;
+    let Ok(mut m) = Manager::new(alloc, vtree, 10_000) else {
+        return Err(TakeError::OutOfMemory);
+    };
+    let Ok(mut c) = Cache::new(alloc) else {
+        return Err(TakeError::OutOfMemory);
+    };
+    let node = formula(alloc, &mut m, &mut c, terms)?;
+    let fixed = given(alloc, &mut m, &mut c, node, literal)?;
+    values(&mut m, fixed)
+}
+
+// The two terms, or the parity.
+fn formula(alloc: Global, m: &mut Manager, c: &mut Cache, terms: bool) -> Result<NodeId, TakeError>
+    requires four { leaves (plain_tree m.old.vtree) ≡ 4 }
+    requires serves { Serves c.old m.old }
+    requires table { IsTable m.old }
+    ensures shown { IfOk result (λ node. IsNodeOf m.new node) }
+    ensures kept { Extends m.old m.new }
+    ensures serves { Serves c.new m.new }
+    ensures table { IsTable m.new }
+{
+    if terms {
+        two_terms(alloc, m, c)
+    } else {
+        parity(alloc, m, c, 4)
+    }
+}
+
+/// Under a literal, a parity is that of the other variables or its negation, and of two terms the one
+/// without the variable is left, or the other literal beside it.
+#[test]
+fn under_a_literal(rt: HostRuntime) -> Result<(), Fail> {
+    let alloc = rt.alloc();
+    for shape in 0..3u32 {
+        assert_eq!(rt; given_values(alloc, shape, false, 1)?, 0x3CC3);
+        assert_eq!(rt; given_values(alloc, shape, false, -1)?, 0xC33C);
+        assert_eq!(rt; given_values(alloc, shape, false, 2)?, 0x5AA5);
+        assert_eq!(rt; given_values(alloc, shape, false, -3)?, 0x9966);
+        assert_eq!(rt; given_values(alloc, shape, false, 4)?, 0x6969);
+        assert_eq!(rt; given_values(alloc, shape, true, 1)?, 0xFCCC);
+        assert_eq!(rt; given_values(alloc, shape, true, -2)?, 0xF000);
+        assert_eq!(rt; given_values(alloc, shape, true, 3)?, 0xFF88);
+        assert_eq!(rt; given_values(alloc, shape, true, -4)?, 0x8888);
+    }
+    Ok(())
+}
