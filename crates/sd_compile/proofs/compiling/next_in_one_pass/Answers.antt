@@ -1,0 +1,32 @@
+use Rattle.std.proofs.Common.{◌+◌, sym, subst}
+use Rattle.std.proofs.lemmas.Result.{IfOk-weaker}
+use Rattle.sd_model.specs.Expression.{expression_value}
+use Rattle.sd_apply.specs.Answers.{HasAnswer}
+use Rattle.sd_manager.proofs.Extending.{extends_self}
+use Rattle.sd_compile.specs.Joined.{JoinsLiterals}
+use Rattle.sd_compile.specs.Compiling.{Progress, prefix_of, HoldsPrefix}
+use Rattle.sd_compile.proofs.Joining.{answer_node, prefix_node, prefix_passed}
+use Rattle.sd_compile.proofs.compiling.next_in_one_pass.Goals as goal
+
+pub join_literals-requires-clause-node : goal.join_literals-requires-clause-node
+join_literals-requires-clause-node c =
+    let holds = subst (HoldsPrefix c.args.m.now c.args.f.now) (sym c.work.view_is) c.requires.holds in
+    answer_node _ _ _
+    (prefix_node (prefix_of c.args.f.now c.work.inside.groups) c.args.m.now c.args.m.now c.work.inside.root
+    c.node_of-prefix.result (extends_self _) holds.1 c.node_of-prefix.ensures.held)
+
+pub returns-clause-ok : goal.returns-clause-ok
+returns-clause-ok c =
+    let holds = subst (HoldsPrefix c.args.m.now c.args.f.now) (sym c.work.view_is) c.requires.holds in
+    let old = c.args.m.now in
+    let new = c.join_literals.new.m in
+    IfOk-weaker c.join_literals.result
+    (λ r. JoinsLiterals old new c.kind.result c.node_of-prefix.result c.group-literals.result.now r)
+    (λ r. HasAnswer new (expression_value (prefix_of c.args.f.now (c.args.work.now.groups + 1))) r)
+    (λ r joins.
+    subst (λ (w : Progress). HasAnswer new (expression_value (prefix_of c.args.f.now (w.groups + 1))) r)
+    c.work.view_is
+    (prefix_passed c.args.f.now old new c.work.inside.groups c.group-literals.result.now c.work.inside.root
+    c.node_of-prefix.result r c.group-literals.ensures.value holds.1 c.node_of-prefix.ensures.held
+    (subst (λ k. JoinsLiterals old new k c.node_of-prefix.result c.group-literals.result.now r) c.kind.ensures
+    joins))) c.join_literals.ensures.ok

@@ -1,0 +1,47 @@
+-- Truth values joined by a connective, and the connectives of a formula in groups.
+use Rattle.std.specs.Prelude.{ℕ, ℤ, Bool, true, false, List, [], ◌∷◌}
+use Rattle.std.specs.List.{AllByRecursion}
+use Rattle.sd_model.specs.declared.trees.Operation.{Operation}
+use Rattle.sd_model.specs.declared.trees.Operation.TheVariants.{And, Or, Xor}
+use Rattle.sd_model.specs.Assignment.{literal_holds}
+use Rattle.sd_model.specs.Diagram.{Diagram, meaning}
+use Rattle.sd_model.specs.Expression.{combine}
+use Rattle.sd_formula.specs.Formulas.{IsLiteral}
+use Rattle.sd_formula.specs.declared.formula.Kind.{Kind}
+use Rattle.sd_formula.specs.declared.formula.Kind.TheVariants.{Cnf, Dnf}
+use Rattle.sd_manager.specs.Table.{Table}
+use Rattle.sd_manager.specs.Shown.{ShowsCanonical}
+use Rattle.sd_apply.specs.Answers.{HasAnswer}
+
+-- the value of none
+abbrev pub neutral : Operation → Bool
+neutral And = true
+neutral Or = false
+neutral Xor = false
+
+-- the values of a list, joined
+abbrev pub joined : {X : Type 0} → Operation → (X → Bool) → List X → Bool
+joined o p [] = neutral o
+joined o p (x ∷ xs) = combine o (p x) (joined o p xs)
+
+-- what joins the groups, and what joins the literals of a group
+abbrev pub outer : Kind → Operation
+outer Cnf = And
+outer Dnf = Or
+
+abbrev pub inner : Kind → Operation
+inner Cnf = Or
+inner Dnf = And
+
+-- the literal of a pair with the position of its leaf
+abbrev pub literal_of_place : ℕ × ℤ → ℤ
+literal_of_place e = e.1
+
+-- the literals of such pairs are of variables from 1 to v
+abbrev pub ArePlaced : ℕ → List (ℕ × ℤ) → Type 0
+ArePlaced v placed = AllByRecursion (λ (e : ℕ × ℤ). IsLiteral v (literal_of_place e)) placed
+
+-- a node of the old table, joined with the literals of a group
+pub record JoinsLiterals (old new : Table) (kind : Kind) (a : ℕ) (literals : List ℤ) (c : ℕ) : Type 0 where
+  pub each : (x : Diagram) → ShowsCanonical old a x → HasAnswer new (λ assignment. combine (outer kind)
+      (meaning x assignment) (joined (inner kind) (literal_holds assignment) literals)) c

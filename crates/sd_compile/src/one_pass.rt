@@ -1,0 +1,71 @@
+// A node joined with a group in one pass along it, where the left children of the vtree are leaves: the group has no
+// node of its own.
+ghost use Rattle.std.specs.Prelude.{◌≡◌, ◌<◌, length, IfOk, IfErr, IfSome};
+ghost use Rattle.sd_model.specs.Tree.{leaves};
+ghost use Rattle.sd_vtree.specs.Numbered.{plain_tree, numbers};
+ghost use Rattle.sd_formula.specs.Formulas.{AreLiterals};
+ghost use Rattle.sd_manager.specs.Valid.{IsTable};
+ghost use Rattle.sd_manager.specs.Shown.{IsNodeOf};
+ghost use Rattle.sd_manager.specs.Making.{Extends, KeepsRule};
+ghost use Rattle.sd_apply.specs.Serving.{Serves};
+ghost use Rattle.sd_compile.specs.Joined.{JoinsLiterals};
+
+use crate::connectives::between_groups;
+use sd_apply::{by_leaf, join_group};
+use sd_cache::Cache;
+use sd_formula::Kind;
+use sd_manager::{Manager, NodeId};
+use sd_runs::TakeError;
+use sd_vtree::{VNode, Vtree};
+use std::alloc::Global;
+
+/// A node, joined with the literals of a group. It refuses as `sd_apply::and`.
+pub(crate) fn join_literals(
+    alloc: Global,
+    m: &mut Manager,
+    c: &mut Cache,
+    kind: Kind,
+    node: NodeId,
+    literals: &[i32],
+) -> Result<NodeId, TakeError>
+    requires node { IsNodeOf m.old node }
+    requires literals { AreLiterals (leaves (plain_tree m.old.vtree)) literals.now }
+    requires serves { Serves c.old m.old }
+    ensures ok { IfOk result (λ r. JoinsLiterals m.old m.new kind node literals.now r) }
+    ensures kept { Extends m.old m.new }
+    ensures serves { Serves c.new m.new }
+    ensures rule { IfErr result (λ e. KeepsRule m.new e) }
+    ensures table { IsTable m.new }
+{
+    // its contract tells that the table is valid
+    let _ = m.vtree();
+    let placed = by_leaf(alloc, m, literals)?;
+    join_group(alloc, m, c, between_groups(kind), node, &placed)
+}
+
+/// Whether each left child of the vtree is a leaf.
+pub(crate) fn is_right_linear(vtree: &Vtree) -> bool {
+    let mut at = vtree.root();
+    for _ in 0..vtree.variables() {
+        let Some(right) = right_of_leaf(vtree, at) else {
+            return vtree.children(at).is_none();
+        };
+        at = right;
+    }
+    false
+}
+
+// The right child of a node, where the left one is a leaf.
+fn right_of_leaf(vtree: &Vtree, at: VNode) -> Option<VNode>
+    requires { at < length (numbers vtree.now) }
+    ensures { IfSome result (λ r. r < length (numbers vtree.now)) }
+{
+    let Some((left, right)) = vtree.children(at) else {
+        return None;
+    };
+    if vtree.variable(left).is_some() {
+        Some(right)
+    } else {
+        None
+    }
+}

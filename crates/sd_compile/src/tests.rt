@@ -1,0 +1,153 @@
+ghost use Rattle.std.specs.Prelude.{◌≡◌, ◌-◌, ◌^◌, ◌<◌, ◌≤◌, length, None, IfOk};
+ghost use Rattle.std.specs.Option.{IsSome};
+ghost use Rattle.std.specs.FinMap.{get, len};
+ghost use Rattle.sd_model.specs.Tree.{leaves};
+ghost use Rattle.sd_vtree.specs.Numbered.{plain_tree};
+ghost use Rattle.sd_manager.specs.Marking.{AreUnmarked};
+ghost use Rattle.sd_apply.specs.Serving.{Serves};
+ghost use Rattle.sd_compile.specs.Compiling.{KeepsOthers};
+
+use super::*;
+use sd_cache::Cache;
+use sd_formula::{Formula, Kind, generate, read_dimacs};
+use sd_manager::{Manager, Root};
+use sd_vtree::Vtree;
+use std::alloc::Global;
+use std::test::Fail;
+
+// A formula over four variables, as terms.
+fn terms(alloc: Global, text: &[u8]) -> Result<Formula, CompileError>
+    requires { length text.now ≤ 2 ^ 26 }
+    ensures { IfOk result (λ f. f.variables ≡ 4) }
+{
+    let Ok(f) = read_dimacs(alloc, text, Kind::Dnf) else {
+        return Err(CompileError::OutOfMemory);
+    };
+    if f.variables() != 4 {
+        return Err(CompileError::OutOfMemory);
+    }
+    Ok(f)
+}
+
+// Why a formula over four variables is not compiled on the balanced vtree, if it is not.
+fn refusal_of(alloc: Global, text: &[u8], limit: u32) -> Result<Option<CompileError>, CompileError>
+    requires { length text.now ≤ 2 ^ 26 }
+{
+    let f = terms(alloc, text)?;
+    let Ok(vtree) = Vtree::balanced(alloc, 4) else {
+        return Err(CompileError::OutOfMemory);
+    };
+    let Ok(mut m) = Manager::new(alloc, vtree, 1000) else {
+        return Err(CompileError::OutOfMemory);
+    };
+    let Ok(mut c) = Cache::new(alloc) else {
+        return Err(CompileError::OutOfMemory);
+    };
+    match compile(alloc, &mut m, &mut c, &f, limit) {
+        Ok(_) => Ok(None),
+        Err(error) => Ok(Some(error)),
+    }
+}
+
+/// On the balanced vtree `(1 and 2) or (3 and 4)` has size 8.
+#[test]
+fn the_second_group_passes_the_limit(rt: HostRuntime) -> Result<(), Fail> {
+    let text = b"p dnf 4 2\n1 2 0\n3 4 0\n".as_slice();
+    let over = CompileError::OverLimit {
+        group: 2,
+        size: 8,
+        limit: 7,
+    };
+    assert_eq!(rt; refusal_of(rt.alloc(), text, 7)?, Some(over));
+    assert_eq!(rt; refusal_of(rt.alloc(), text, 8)?, None);
+    Ok(())
+}
+
+// Three groups joined one after another, as a caller of `add_group` does.
+fn join_three(
+    alloc: Global,
+    m: &mut Manager,
+    c: &mut Cache,
+    f: &Formula,
+    limit: u32,
+) -> Result<Root, CompileError>
+    requires variables { leaves (plain_tree m.old.vtree) ≡ f.now.variables }
+    requires no_move { m.old.moving ≡ None }
+    requires room { len m.old.roots < 2 ^ 32 - 1 }
+    requires unmarked { AreUnmarked m.old }
+    requires serves { Serves c.old m.old }
+    ensures absent { IfOk result (λ root. get m.old.roots root ≡ None) }
+    ensures held { IfOk result (λ root. IsSome (get m.new.roots root)) }
+    ensures kept { IfOk result (λ root. KeepsOthers m.old m.new root) }
+{
+    if f.groups() != 3 {
+        return Err(CompileError::OutOfMemory);
+    }
+    let Ok(mut work) = begin(m, f) else {
+        return Err(CompileError::OutOfMemory);
+    };
+    add_group(alloc, m, c, f, &mut work, limit)?;
+    add_group(alloc, m, c, f, &mut work, limit)?;
+    add_group(alloc, m, c, f, &mut work, limit)?;
+    Ok(finish(work))
+}
+
+/// `compile` sweeps less often than `add_group`, and has the same root. Beside that of size 4 the second group's 8 are
+/// 10, since they share 2.
+#[test]
+fn compiles_as_group_after_group(rt: HostRuntime) -> Result<(), Fail> {
+    let alloc = rt.alloc();
+    let f = terms(alloc, b"p dnf 4 3\n1 2 0\n3 4 0\n1 -2 0\n")?;
+    let mut m = Manager::new(alloc, Vtree::balanced(alloc, 4)?, 1000)?;
+    let mut c = Cache::new(alloc)?;
+    let whole = compile(alloc, &mut m, &mut c, &f, 8)?;
+    let joined = join_three(alloc, &mut m, &mut c, &f, 10)?;
+    assert!(rt; m.same(&whole, &joined));
+    Ok(())
+}
+
+// The generated formula over 42 variables, which has 40 clauses.
+fn clauses(alloc: Global) -> Result<Formula, CompileError>
+    ensures { IfOk result (λ f. f.variables ≡ 42) }
+{
+    let Ok(f) = generate(alloc, 42, 7) else {
+        return Err(CompileError::OutOfMemory);
+    };
+    if f.variables() != 42 {
+        return Err(CompileError::OutOfMemory);
+    }
+    Ok(f)
+}
+
+// Why the clauses are not compiled on the right vtree, if they are not.
+fn refusal_of_clauses(alloc: Global, limit: u32) -> Result<Option<CompileError>, CompileError> {
+    let f = clauses(alloc)?;
+    let Ok(vtree) = Vtree::right(alloc, 42) else {
+        return Err(CompileError::OutOfMemory);
+    };
+    let Ok(mut m) = Manager::new(alloc, vtree, 100_000) else {
+        return Err(CompileError::OutOfMemory);
+    };
+    let Ok(mut c) = Cache::new(alloc) else {
+        return Err(CompileError::OutOfMemory);
+    };
+    match compile(alloc, &mut m, &mut c, &f, limit) {
+        Ok(_) => Ok(None),
+        Err(error) => Ok(Some(error)),
+    }
+}
+
+/// On a right vtree the size is twice the number of the nodes of the reduced ordered decision diagram that are no
+/// literals: 236 for all 40 clauses, and less for the prefixes.
+#[test]
+fn clauses_on_the_right_vtree(rt: HostRuntime) -> Result<(), Fail> {
+    let alloc = rt.alloc();
+    let over = CompileError::OverLimit {
+        group: 40,
+        size: 236,
+        limit: 235,
+    };
+    assert_eq!(rt; refusal_of_clauses(alloc, 235)?, Some(over));
+    assert_eq!(rt; refusal_of_clauses(alloc, 236)?, None);
+    Ok(())
+}
