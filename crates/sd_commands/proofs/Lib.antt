@@ -1,6 +1,4 @@
-pub mod Joining
 pub mod Outcomes
 pub mod Standing
 pub mod Stepping
 pub mod Values
-pub mod Grouping

@@ -31,12 +31,15 @@ one_answer tree f g false false p q = refl
 
 pub one_outcome : (input : Expression) (state : State) (command : RunCommand) (a b : Outcome) → IsVtree state.tree
     → Step input state command a → Step input state command b → a ≡ b
+one_outcome input state (commands.Generated v g) a b valid p q = p ∙ sym q
 one_outcome input state (commands.Input n) a b valid p q = p ∙ sym q
 one_outcome input state (commands.Load n file) a b valid p q = p ∙ sym q
 one_outcome input state (commands.Literal n literal) a b valid p q = p ∙ sym q
 one_outcome input state (commands.Constant n value) a b valid p q = p ∙ sym q
 one_outcome input state (commands.Combine operation n x y) a b valid p q = p ∙ sym q
 one_outcome input state (commands.Negate n x) a b valid p q = p ∙ sym q
+one_outcome input state (commands.Given n x literal) a b valid p q = p ∙ sym q
+one_outcome input state (commands.Forget n x variable) a b valid p q = p ∙ sym q
 one_outcome input state (commands.Drop x) a b valid p q = p ∙ sym q
 one_outcome input state (commands.Same x y) a b valid p q =
     p.2 ∙ ap (λ r. Done state (Print (same_line r) ∷ []))
@@ -57,12 +60,15 @@ one_outcome input state (commands.WriteVtree file) a b valid p q = p ∙ sym q
 
 pub always_done : (input : Expression) (state : State) (command : RunCommand) (outcome : Outcome)
     → Step input state command outcome → (next : State) × (effects : List Effect) × (outcome ≡ Done next effects)
+always_done input state (commands.Generated v g) outcome p = (_, _, p)
 always_done input state (commands.Input n) outcome p = (_, _, p)
 always_done input state (commands.Load n file) outcome p = (_, _, p)
 always_done input state (commands.Literal n literal) outcome p = (_, _, p)
 always_done input state (commands.Constant n value) outcome p = (_, _, p)
 always_done input state (commands.Combine operation n x y) outcome p = (_, _, p)
 always_done input state (commands.Negate n x) outcome p = (_, _, p)
+always_done input state (commands.Given n x literal) outcome p = (_, _, p)
+always_done input state (commands.Forget n x variable) outcome p = (_, _, p)
 always_done input state (commands.Drop x) outcome p = (_, _, p)
 always_done input state (commands.Same x y) outcome p = (_, _, p.2)
 always_done input state (commands.Size x) outcome p = (_, _, p.2)
@@ -109,12 +115,15 @@ module _ (state next : State) (effects : List Effect) where
 
 pub same_tree : (input : Expression) (state next : State) (command : RunCommand) (effects : List Effect)
     → Step input state command (Done next effects) → next.tree ≡ state.tree
+same_tree input state next (commands.Generated v g) effects p = kept_tree state next effects _ p
 same_tree input state next (commands.Input n) effects p = bound_tree state next effects n _ p
 same_tree input state next (commands.Load n file) effects p = bound_tree state next effects n _ p
 same_tree input state next (commands.Literal n literal) effects p = bound_tree state next effects n _ p
 same_tree input state next (commands.Constant n value) effects p = bound_tree state next effects n _ p
 same_tree input state next (commands.Combine operation n x y) effects p = bound_tree state next effects n _ p
 same_tree input state next (commands.Negate n x) effects p = bound_tree state next effects n _ p
+same_tree input state next (commands.Given n x literal) effects p = bound_tree state next effects n _ p
+same_tree input state next (commands.Forget n x variable) effects p = bound_tree state next effects n _ p
 same_tree input state next (commands.Drop x) effects p = ap (λ s. s.tree) (same_next _ _ _ _ p)
 same_tree input state next (commands.Same x y) effects p = kept_tree state next effects _ p.2
 same_tree input state next (commands.Size x) effects p = kept_tree state next effects _ p.2
@@ -124,12 +133,15 @@ same_tree input state next (commands.WriteVtree file) effects p = kept_tree stat
 
 pub names_after : (input : Expression) (state next : State) (command : RunCommand) (effects : List Effect)
     → Step input state command (Done next effects) → names_of next ≡ bound_after (names_of state) command
+names_after input state next (commands.Generated v g) effects p = kept_names state next effects _ p
 names_after input state next (commands.Input n) effects p = bound_names state next effects n _ p
 names_after input state next (commands.Load n file) effects p = bound_names state next effects n _ p
 names_after input state next (commands.Literal n literal) effects p = bound_names state next effects n _ p
 names_after input state next (commands.Constant n value) effects p = bound_names state next effects n _ p
 names_after input state next (commands.Combine operation n x y) effects p = bound_names state next effects n _ p
 names_after input state next (commands.Negate n x) effects p = bound_names state next effects n _ p
+names_after input state next (commands.Given n x literal) effects p = bound_names state next effects n _ p
+names_after input state next (commands.Forget n x variable) effects p = bound_names state next effects n _ p
 names_after input state next (commands.Drop x) effects p =
     ap names_of (same_next _ _ _ _ p) ∙ names_left state.names x
 names_after input state next (commands.Same x y) effects p = kept_names state next effects _ p.2

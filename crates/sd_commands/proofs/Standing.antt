@@ -24,7 +24,10 @@ use Rattle.sd_commands.specs.Commands.{State, named, with_name, dropped, formula
 use Rattle.sd_commands.specs.Standing.{Represents, IsOfName, HoldsName, HoldsValue, ShowsFormula, start}
 use Rattle.sd_commands.specs.Standing.{IsAsBefore, HoldsState, removed}
 use Rattle.sd_commands.specs.declared.state.RunState.{RunState}
-use Rattle.sd_commands.proofs.Joining.{shown_on}
+use Rattle.sd_manager.specs.Marking.{AreUnmarked}
+use Rattle.sd_manager.proofs.Marking.{unmarked_new, unmarked_extended}
+use Rattle.sd_compile.specs.Compiling.{KeepsAll}
+use Rattle.sd_compile.proofs.Kept.{all_extended}
 
 -- ---- the start
 
@@ -44,6 +47,7 @@ stands_first code vtree limit is empty_ no_names = record {
       (record { early = λ e c. absurd (none e c); right = λ some e c same. absurd (none e c) });
   bound = ap (λ t. t.bound) is;
   no_move = ap (λ t. t.moving) is;
+  unmarked = subst AreUnmarked (sym is) (unmarked_new vtree 2147483647);
 }
   where
     no_root : (name : ℕ) → maps.get nat_cmp code.names name ≡ None
@@ -268,6 +272,7 @@ module _ (code new : RunState) (seen : State) (name : ℕ) (root : Option ℕ) (
         (serves_roots code.cache code.manager roots was.serves));
     bound = ap (λ t. t.bound) changes.manager ∙ was.bound;
     no_move = ap (λ t. t.moving) changes.manager ∙ was.no_move;
+    unmarked = subst AreUnmarked (sym changes.manager) was.unmarked;
   }
 
 -- ---- one name more
@@ -441,39 +446,44 @@ former_held_with code seen name (Some r) mid root node was had absent is =
 -- ---- a later table
 
 -- a root holds the same in a later table
-holds_on : (old new : Table) (r : Option ℕ) (v : Option Expression) → Extends old new → HoldsName old r v
+holds_kept : (old new : Table) (r : Option ℕ) (v : Option Expression) → KeepsAll old new → HoldsName old r v
     → HoldsName new r v
-holds_on old new None None kept holds = tt
-holds_on old new None (Some value) kept holds = absurd holds
-holds_on old new (Some r) None kept holds = absurd holds
-holds_on old new (Some r) (Some value) kept holds = record {
+holds_kept old new None None kept holds = tt
+holds_kept old new None (Some value) kept holds = absurd holds
+holds_kept old new (Some r) None kept holds = absurd holds
+holds_kept old new (Some r) (Some value) kept holds = record {
   diagram = holds.diagram;
-  is = record {
-    code = holds.is.code;
-    held = ap (λ roots. get roots r) kept.roots ∙ holds.is.held;
-    is = shown_on old new holds.diagram holds.is.code kept holds.is.is;
-  };
-  of_value = subst (λ v. IsDiagramOf (plain_tree v) value holds.diagram) (sym kept.vtree) holds.of_value;
+  is = kept.holds r holds.diagram holds.is;
+  of_value = subst (λ v. IsDiagramOf (plain_tree v) value holds.diagram) (sym kept.reached.vtree) holds.of_value;
 }
 
--- the code represents the state after more nodes were made
-pub stands_on : (code : RunState) (t : Table) (cache : Entries) (seen : State) → Represents code seen
-    → Extends code.manager t → Serves cache t
+-- the code represents the state in a later table
+pub stands_kept : (code : RunState) (t : Table) (cache : Entries) (seen : State) → Represents code seen
+    → KeepsAll code.manager t → Serves cache t → AreUnmarked t
     → Represents (record { manager = t; cache = cache; names = code.names }) seen
-stands_on code t cache seen was kept serves = record {
-  tree = was.tree ∙ ap plain_tree (sym kept.vtree);
-  holds = λ q. holds_on code.manager t _ _ kept (was.holds q);
+stands_kept code t cache seen was kept serves unmarked = record {
+  tree = was.tree ∙ ap plain_tree (sym kept.reached.vtree);
+  holds = λ q. holds_kept code.manager t _ _ kept (was.holds q);
   apart = was.apart;
   only = λ root held. of_name root
-      (was.only root (subst (λ o. IsSome o) (ap (λ roots. get roots root) kept.roots) held));
+      (was.only root (subst (λ o. IsSome o) (ap (λ roots. get roots root) kept.reached.roots) held));
   serves = serves;
   bound = kept.bound ∙ was.bound;
   no_move = kept.moving ∙ was.no_move;
+  unmarked = unmarked;
 }
   where
     of_name : (root : ℕ) → IsOfName code root
         → IsOfName (record { manager = t; cache = cache; names = code.names }) root
     of_name root had = record { name = had.name; is = had.is }
+
+-- and after more nodes were made
+pub stands_on : (code : RunState) (t : Table) (cache : Entries) (seen : State) → Represents code seen
+    → Extends code.manager t → Serves cache t
+    → Represents (record { manager = t; cache = cache; names = code.names }) seen
+stands_on code t cache seen was kept serves =
+    stands_kept code t cache seen was (all_extended code.manager t kept) serves
+    (unmarked_extended code.manager t kept was.unmarked)
 
 -- ---- what stays after an error
 
@@ -493,6 +503,7 @@ as_before code new is same_cache names = record {
     serves = subst (λ t. Serves new.cache t) (sym is) (subst (λ c. Serves c code.manager) (sym same_cache) was.serves);
     bound = ap (λ t. t.bound) is ∙ was.bound;
     no_move = ap (λ t. t.moving) is ∙ was.no_move;
+    unmarked = subst AreUnmarked (sym is) was.unmarked;
   };
   holds = λ root d held. subst (λ t. HoldsDiagram t root d) (sym is) held;
   roots = ap (λ t. t.roots) is;
@@ -503,31 +514,42 @@ pub as_before_self : {X E : Type 0} (code : RunState) (result : Result X E) → 
 as_before_self code (Ok x) = tt
 as_before_self code (Err e) = as_before code code refl refl (λ q. refl)
 
--- making nodes leaves all as before
+-- a later table leaves all as before
+pub as_before_kept : (code : RunState) (t : Table) (cache : Entries) → KeepsAll code.manager t → Serves cache t
+    → AreUnmarked t → IsAsBefore code (record { manager = t; cache = cache; names = code.names })
+as_before_kept code t cache kept serves unmarked = record {
+  represents = λ seen was. stands_kept code t cache seen was kept serves unmarked;
+  holds = λ root d held. kept.holds root d held;
+  roots = kept.reached.roots;
+}
+
+-- so does making nodes
 pub as_before_on : (code : RunState) (t : Table) (cache : Entries) → Extends code.manager t → Serves cache t
     → IsAsBefore code (record { manager = t; cache = cache; names = code.names })
 as_before_on code t cache kept serves = record {
   represents = λ seen was. stands_on code t cache seen was kept serves;
-  holds = λ root d held. record {
-    code = held.code;
-    held = ap (λ roots. get roots root) kept.roots ∙ held.held;
-    is = shown_on code.manager t d held.code kept held.is;
-  };
+  holds = λ root d held. (all_extended code.manager t kept).holds root d held;
   roots = kept.roots;
 }
 
--- all is as before after nodes were made, and an error after that
+-- all is as before after that, and an error after it
+pub before_then : {X E : Type 0} (result : Result X E) (code mid new : RunState) → IsAsBefore code mid
+    → OnErr result (IsAsBefore mid new) → OnErr result (IsAsBefore code new)
+before_then (Ok x) code mid new first later = tt
+before_then (Err e) code mid new first later = record {
+  represents = λ seen was. later.represents seen (first.represents seen was);
+  holds = λ root d held. later.holds root d (first.holds root d held);
+  roots = later.roots ∙ first.roots;
+}
+
+-- and after nodes were made
 pub as_before_then : {X E : Type 0} (result : Result X E) (code new : RunState) (t : Table) (cache : Entries)
     → Extends code.manager t → Serves cache t
     → OnErr result (IsAsBefore (record { manager = t; cache = cache; names = code.names }) new)
     → OnErr result (IsAsBefore code new)
-as_before_then (Ok x) code new t cache kept serves later = tt
-as_before_then (Err e) code new t cache kept serves later =
-    let first = as_before_on code t cache kept serves in record {
-      represents = λ seen was. later.represents seen (first.represents seen was);
-      holds = λ root d held. later.holds root d (first.holds root d held);
-      roots = later.roots ∙ first.roots;
-    }
+as_before_then result code new t cache kept serves later =
+    before_then result code (record { manager = t; cache = cache; names = code.names }) new
+    (as_before_on code t cache kept serves) later
 
 -- ---- what the manager alone holds
 

@@ -1,18 +1,21 @@
 -- What a node shows after an operation, and what a root answers.
-use Rattle.std.proofs.Common.{◌≡◌, ◌↔◌, ℕ, Bool, true, false, not, IsTrue, List, [], ◌∷◌, length}
-use Rattle.std.proofs.Common.{ℤ, refl, sym, ap, subst, ◌∙◌}
+use Rattle.std.proofs.Common.{◌≡◌, ◌↔◌, ℕ, zero, suc, ◌≤◌, ◌<◌, Bool, true, false, not, ◌||◌, IsTrue}
+use Rattle.std.proofs.Common.{List, [], ◌∷◌, length, ℤ, pos, negsuc, refl, sym, ap, subst, ◌∙◌, arith}
 use Rattle.sd_model.specs.declared.trees.Operation.{Operation}
 use Rattle.sd_model.specs.Tree.{Tree, leaves}
-use Rattle.sd_model.specs.Assignment.{literal_holds}
+use Rattle.sd_model.specs.Assignment.{literal_holds, with_entry, with_value, with_literal}
 use Rattle.sd_model.specs.Diagram.{Diagram, meaning}
-use Rattle.sd_model.specs.Expression.{Expression, Constant, Atom, Combined, Negated, combine, expression_value}
+use Rattle.sd_model.specs.Expression.{Expression, Constant, Atom, Combined, Negated, Conditioned, Forgotten}
+use Rattle.sd_model.specs.Expression.{combine, expression_value}
 use Rattle.sd_model.specs.Size.{IsDiagramOf, HasSize, size_of}
 use Rattle.sd_model.specs.Text.{sdd_text}
 use Rattle.sd_vtree.specs.Numbered.{plain_tree}
+use Rattle.sd_manager.specs.Literals.{IsLiteralTo}
 use Rattle.sd_manager.specs.Table.{Table}
 use Rattle.sd_manager.specs.Shown.{ShowsCanonical, IsNodeOf, HoldsDiagram, constant_diagram}
 use Rattle.sd_manager.specs.Making.{Extends}
 use Rattle.sd_apply.specs.Answers.{HasAnswer, Combines, Negates}
+use Rattle.sd_cond.specs.Answers.{Conditions, Forgets}
 use Rattle.sd_commands.specs.Commands.{Compares, IsTextOf}
 use Rattle.sd_commands.specs.Standing.{HoldsValue, ShowsFormula}
 
@@ -78,6 +81,59 @@ negated_value old new f a c kept p negates =
         canonical = r.is.canonical;
         same_value = λ assignment fits.
             r.value assignment ∙ ap not (p.of_value.same_value assignment (length_before old new assignment kept fits));
+      };
+    }
+
+-- an entry that is there is set, and the list keeps its length
+entry_length : (a : List Bool) (i : ℕ) (v : Bool) → i < length a → length (with_entry a i v) ≡ length a
+entry_length [] i v below = absurd (omega arith)
+entry_length (b ∷ a) zero v below = refl
+entry_length (b ∷ a) (suc i) v below = ap suc (entry_length a i v (omega arith))
+
+value_length : (a : List Bool) (x n : ℕ) (v : Bool) → 1 ≤ x → x ≤ n → length a ≡ n → length (with_value a x v) ≡ n
+value_length a zero n v low high fits = absurd (omega arith)
+value_length a (suc i) n v low high fits = entry_length a i v (let e = sym fits in omega arith) ∙ fits
+
+literal_length : (a : List Bool) (z : ℤ) (n : ℕ) → IsLiteralTo n z → length a ≡ n → length (with_literal a z) ≡ n
+literal_length a (pos x) n is fits = value_length a x n true is.0 is.1 fits
+literal_length a (negsuc i) n is fits = value_length a (suc i) n false (omega arith) (let e = is in omega arith) fits
+
+-- the node of a formula where a literal holds
+pub conditioned_value : (old new : Table) (f : Expression) (z : ℤ) (a c : ℕ) → Extends old new
+    → IsLiteralTo (leaves (plain_tree old.vtree)) z → ShowsFormula old a f → Conditions old new a z c
+    → ShowsFormula new c (Conditioned f z)
+conditioned_value old new f z a c kept literal p conditions =
+    let r = conditions.each p.diagram p.is in record {
+      diagram = r.diagram;
+      is = r.is;
+      of_value = record {
+        canonical = r.is.canonical;
+        same_value = λ assignment fits.
+            r.value assignment
+            ∙ p.of_value.same_value (with_literal assignment z)
+            (literal_length assignment z _ literal (length_before old new assignment kept fits));
+      };
+    }
+
+-- the node of a formula with a variable forgotten
+pub forgotten_value : (old new : Table) (f : Expression) (x a c : ℕ) → Extends old new → 1 ≤ x
+    → x ≤ leaves (plain_tree old.vtree) → ShowsFormula old a f → Forgets old new a x c
+    → ShowsFormula new c (Forgotten f x)
+forgotten_value old new f x a c kept low high p forgets =
+    let r = forgets.each p.diagram p.is in record {
+      diagram = r.diagram;
+      is = r.is;
+      of_value = record {
+        canonical = r.is.canonical;
+        same_value = λ assignment fits.
+            let before = length_before old new assignment kept fits in
+            r.value assignment
+            ∙ ap (λ b. b || meaning p.diagram (with_value assignment x false))
+            (p.of_value.same_value (with_value assignment x true)
+            (value_length assignment x _ true low high before))
+            ∙ ap (λ b. expression_value f (with_value assignment x true) || b)
+            (p.of_value.same_value (with_value assignment x false)
+            (value_length assignment x _ false low high before));
       };
     }
 

@@ -1,7 +1,8 @@
 -- The commands of a run, and what each comes to. A later command is a case more of `RunCommand` and of `Step`.
 use Rattle.std.specs.Prelude.{◌≡◌, ℕ, Bool, true, false, not, ◌==◌, List, [], ◌∷◌, ◌++◌, filter, codes}
 use Rattle.std.specs.Prelude.{Option, Some, None, unwrap_or, if◌then◌else◌}
-use Rattle.sd_model.specs.Expression.{Expression, Constant, Atom, Combined, Negated, expression_value, AreOneFunction}
+use Rattle.sd_model.specs.Expression.{Expression, Constant, Atom, Combined, Negated, Conditioned, Forgotten}
+use Rattle.sd_model.specs.Expression.{expression_value, AreOneFunction}
 use Rattle.sd_model.specs.Tree.{Tree, leaves}
 use Rattle.sd_model.specs.Diagram.{Diagram}
 use Rattle.sd_model.specs.Size.{IsDiagramOf, HasSize}
@@ -61,6 +62,10 @@ abbrev pub Compares : Tree → Expression → Expression → Bool → Type 0
 Compares tree f g true = AreOneFunction (leaves tree) f g
 Compares tree f g false = ¬ (AreOneFunction (leaves tree) f g)
 
+-- the line of a generated formula: how many variables and groups it has
+abbrev pub generated_line : ℕ → ℕ → List ℕ
+generated_line variables groups = codes "generated " ++ number_text variables ++ 32 ∷ number_text groups ++ 10 ∷ []
+
 -- the line with the size of a diagram
 abbrev pub size_line : ℕ → List ℕ
 size_line n = codes "size " ++ number_text n ++ 10 ∷ []
@@ -77,6 +82,8 @@ value_line false = codes "value 0" ++ 10 ∷ []
 
 -- what a command comes to in a state, where this formula is the input
 abbrev pub Step : Expression → State → RunCommand → Outcome → Type 0
+Step input state (commands.Generated variables groups) outcome =
+    Does state (Print (generated_line variables groups)) outcome
 Step input state (commands.Input n) outcome = Binds state n input outcome
 Step input state (commands.Load n file) outcome = Binds state n (expression_of_file file) outcome
 Step input state (commands.Literal n literal) outcome = Binds state n (Atom literal) outcome
@@ -84,6 +91,9 @@ Step input state (commands.Constant n value) outcome = Binds state n (Constant v
 Step input state (commands.Combine operation n a b) outcome =
     Binds state n (Combined operation (formula_named state a) (formula_named state b)) outcome
 Step input state (commands.Negate n a) outcome = Binds state n (Negated (formula_named state a)) outcome
+Step input state (commands.Given n a literal) outcome =
+    Binds state n (Conditioned (formula_named state a) literal) outcome
+Step input state (commands.Forget n a x) outcome = Binds state n (Forgotten (formula_named state a) x) outcome
 Step input state (commands.Drop a) outcome = outcome ≡ Done (dropped state a) []
 Step input state (commands.Same a b) outcome =
     (answer : Bool) × Compares state.tree (formula_named state a) (formula_named state b) answer
@@ -102,6 +112,8 @@ MayFill (commands.Input n) = Unit {0}
 MayFill (commands.Load n file) = Unit {0}
 MayFill (commands.Combine operation n a b) = Unit {0}
 MayFill (commands.Negate n a) = Unit {0}
+MayFill (commands.Given n a literal) = Unit {0}
+MayFill (commands.Forget n a x) = Unit {0}
 MayFill command = ⊥
 
 -- these commands are all done, one after another, with these effects

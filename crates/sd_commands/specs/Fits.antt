@@ -13,6 +13,8 @@ has numbers n = list_any (λ m. m == n) numbers
 abbrev pub uses : RunCommand → List ℕ
 uses (commands.Combine operation n a b) = a ∷ b ∷ []
 uses (commands.Negate n a) = a ∷ []
+uses (commands.Given n a literal) = a ∷ []
+uses (commands.Forget n a x) = a ∷ []
 uses (commands.Drop a) = a ∷ []
 uses (commands.Same a b) = a ∷ b ∷ []
 uses (commands.Size a) = a ∷ []
@@ -28,6 +30,8 @@ binds (commands.Literal n literal) = n ∷ []
 binds (commands.Constant n value) = n ∷ []
 binds (commands.Combine operation n a b) = n ∷ []
 binds (commands.Negate n a) = n ∷ []
+binds (commands.Given n a literal) = n ∷ []
+binds (commands.Forget n a x) = n ∷ []
 binds command = []
 
 -- the name that is free then
@@ -39,10 +43,13 @@ frees command = []
 abbrev pub bound_after : List ℕ → RunCommand → List ℕ
 bound_after names c = binds c ++ filter (λ n. not (has (frees c) n)) names
 
--- a literal is of a variable of 1 to v, a file is over v variables, and a value has v bits
+-- a literal is of a variable of 1 to v, so is a variable that is forgotten, a file is over v variables, and a value
+-- has v bits
 abbrev pub in_range : ℕ → RunCommand → Bool
 in_range v (commands.Load n file) = file.variables == v
 in_range v (commands.Literal n literal) = nat_le 1 (unsigned_abs literal) && nat_le (unsigned_abs literal) v
+in_range v (commands.Given n a literal) = nat_le 1 (unsigned_abs literal) && nat_le (unsigned_abs literal) v
+in_range v (commands.Forget n a x) = nat_le 1 x && nat_le x v
 in_range v (commands.Value a bits) = length bits == v
 in_range v command = true
 

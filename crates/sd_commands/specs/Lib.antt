@@ -1,5 +1,4 @@
 pub mod Commands
 pub mod Effects
 pub mod Fits
-pub mod Joined
 pub mod Standing

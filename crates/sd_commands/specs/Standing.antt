@@ -1,5 +1,5 @@
 -- How the code represents a state of a run, and what a command leaves.
-use Rattle.std.specs.Prelude.{◌≡◌, ℕ, List, [], ◌∷◌, map, Option, Some, None, Result, Ok, Err}
+use Rattle.std.specs.Prelude.{◌≡◌, ℕ, ◌<◌, List, [], ◌∷◌, map, Option, Some, None, Result, Ok, Err}
 use Rattle.std.specs.Option.{IsSome}
 use Rattle.std.specs.declared.alloc.AllocError.{AllocError}
 use Rattle.std.specs.BTreeMap as maps
@@ -15,7 +15,10 @@ use Rattle.sd_runs.specs.declared.error.TakeError.TheVariants.{ArenaFull, OutOfM
 use Rattle.sd_manager.specs.Table.{Table}
 use Rattle.sd_manager.specs.Shown.{ShowsCanonical, HoldsDiagram}
 use Rattle.sd_manager.specs.Making.{IsPastBound}
+use Rattle.sd_manager.specs.Marking.{AreUnmarked}
 use Rattle.sd_apply.specs.Serving.{Serves}
+use Rattle.sd_compile.specs.declared.error.CompileError.{CompileError}
+use Rattle.sd_compile.specs.declared.error.CompileError.TheVariants as compiling
 use Rattle.sd_commands.specs.Effects.{Effect, Write, Print}
 use Rattle.sd_commands.specs.Commands.{State, Done, Step, MayFill, named, with_name}
 use Rattle.sd_commands.specs.declared.command.RunCommand.{RunCommand}
@@ -55,7 +58,7 @@ pub record IsOfName (code : RunState) (root : ℕ) : Type 0 where
   pub is : maps.get nat_cmp code.names name ≡ Some root
 
 -- The code represents this state: each bound name has a root of its own in a manager with the whole bound and outside a
--- move, the manager holds no other root, and the cache serves it.
+-- move, the manager holds no other root, no node is marked, and the cache serves it.
 pub record Represents (code : RunState) (state : State) : Type 0 where
   pub tree : state.tree ≡ plain_tree code.manager.vtree
   pub holds : (name : ℕ) → HoldsName code.manager (maps.get nat_cmp code.names name) (named state.names name)
@@ -65,6 +68,7 @@ pub record Represents (code : RunState) (state : State) : Type 0 where
   pub serves : Serves code.cache code.manager
   pub bound : code.manager.bound ≡ 2147483647
   pub no_move : code.manager.moving ≡ None
+  pub unmarked : AreUnmarked code.manager
 
 -- What a command that stops leaves: the code represents each state that it did, each root holds the diagram that it
 -- held, and no root is new.
@@ -132,3 +136,9 @@ HandsOut (Err e) result = result ≡ Err OutOfMemory
 abbrev pub StopsAt : RunCommand → Table → TakeError → Type 0
 StopsAt command t OutOfMemory = Unit {0}
 StopsAt command t (ArenaFull elements) = MayFill command × IsFilled elements t
+
+-- a size that passes the limit passes the greatest one
+abbrev pub IsNoLimit : CompileError → Type 0
+IsNoLimit (compiling.OverLimit group size most) = 4294967295 < size
+IsNoLimit (compiling.ArenaFull elements) = Unit {0}
+IsNoLimit compiling.OutOfMemory = Unit {0}

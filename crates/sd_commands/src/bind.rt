@@ -11,9 +11,11 @@ ghost use Rattle.sd_commands.specs.Standing.{Represents, ShowsFormula, HasRoot, 
 ghost use Rattle.sd_commands.specs.Standing.{IsAsBefore, root_count};
 
 use crate::command::{Effect, RunCommand};
-use crate::compile::{connect, formula_node};
+use crate::input::input_node;
 use crate::state::RunState;
 use sd_apply::negate;
+use sd_compile::connect;
+use sd_cond::{forget, given};
 use sd_file::{SddFile, build};
 use sd_formula::Formula;
 use sd_manager::NodeId;
@@ -58,7 +60,7 @@ pub(crate) fn bind_input(
     ensures vtree { state.new.manager.vtree ≡ state.old.manager.vtree }
     ensures roots { root_count state.new ≤ root_count state.old + 1 }
 {
-    match formula_node(alloc, &mut state.manager, &mut state.cache, input) {
+    match input_node(alloc, &mut state.manager, &mut state.cache, input) {
         Ok(node) => bind(state, name, node),
         Err(e) => Err(e),
     }
@@ -187,6 +189,63 @@ pub(crate) fn bind_negation(
     let positive = state.node(a);
     match negate(alloc, &mut state.manager, &mut state.cache, positive) {
         Ok(opposite) => bind(state, name, opposite),
+        Err(e) => Err(e),
+    }
+}
+
+/// Binds a name to a formula where a literal holds.
+pub(crate) fn bind_condition(
+    alloc: Global,
+    state: &mut RunState,
+    name: u32,
+    a: u32,
+    literal: i32,
+) -> Result<Option<Effect>, TakeError>
+    requires represents { (seen : State) × Represents state.old seen }
+    requires bound { HasRoot state.old a }
+    requires literal { IsLiteralTo (leaves (plain_tree state.old.manager.vtree)) literal }
+    requires room { root_count state.old < 2 ^ 32 - 1 }
+    ensures done { (input : Expression) (seen : State) → Represents state.old seen →
+        IfOk result
+        (λ effect. StepsTo input seen (RunCommand.Given name a literal) state.new effect) }
+    ensures stops { IfErr result
+        (λ e. StopsAt (RunCommand.Given name a literal) state.new.manager e) }
+    ensures err { OnErr result (IsAsBefore state.old state.new) }
+    ensures vtree { state.new.manager.vtree ≡ state.old.manager.vtree }
+    ensures roots { root_count state.new ≤ root_count state.old + 1 }
+{
+    let node = state.node(a);
+    match given(alloc, &mut state.manager, &mut state.cache, node, literal) {
+        Ok(conditioned) => bind(state, name, conditioned),
+        Err(e) => Err(e),
+    }
+}
+
+/// Binds a name to a formula with a variable forgotten.
+pub(crate) fn bind_forgotten(
+    alloc: Global,
+    state: &mut RunState,
+    name: u32,
+    a: u32,
+    variable: u32,
+) -> Result<Option<Effect>, TakeError>
+    requires represents { (seen : State) × Represents state.old seen }
+    requires bound { HasRoot state.old a }
+    requires at_least_one { 1 ≤ variable }
+    requires within_limit { variable ≤ leaves (plain_tree state.old.manager.vtree) }
+    requires room { root_count state.old < 2 ^ 32 - 1 }
+    ensures done { (input : Expression) (seen : State) → Represents state.old seen →
+        IfOk result
+        (λ effect. StepsTo input seen (RunCommand.Forget name a variable) state.new effect) }
+    ensures stops { IfErr result
+        (λ e. StopsAt (RunCommand.Forget name a variable) state.new.manager e) }
+    ensures err { OnErr result (IsAsBefore state.old state.new) }
+    ensures vtree { state.new.manager.vtree ≡ state.old.manager.vtree }
+    ensures roots { root_count state.new ≤ root_count state.old + 1 }
+{
+    let node = state.node(a);
+    match forget(alloc, &mut state.manager, &mut state.cache, node, variable) {
+        Ok(forgotten) => bind(state, name, forgotten),
         Err(e) => Err(e),
     }
 }

@@ -7,6 +7,8 @@ use sd_model::Operation;
 /// A command of a run. Names are numbers; each name that a command uses has to be bound by an earlier one.
 #[derive(Drop)]
 pub enum RunCommand {
+    /// Prints the numbers of variables and of groups of a generated formula.
+    Generated(u32, u32),
     /// Binds a name to the input's formula.
     Input(u32),
     /// Binds a name to the value of an SDD file.
@@ -19,6 +21,10 @@ pub enum RunCommand {
     Combine(Operation, u32, u32, u32),
     /// Binds the first name to the negation of another's formula.
     Negate(u32, u32),
+    /// Binds the first name to the formula of the second, where a literal holds.
+    Given(u32, u32, i32),
+    /// Binds the first name to the formula of the second for one value of a variable or the other.
+    Forget(u32, u32, u32),
     /// Frees a name.
     Drop(u32),
     /// Prints whether the formulas of two names are one function.

@@ -3,8 +3,9 @@ ghost use Rattle.std.specs.Prelude.{◌≡◌, Some, length, IfOk};
 ghost use Rattle.sd_model.specs.Tree.{leaves};
 ghost use Rattle.sd_model.specs.Expression.{Expression};
 ghost use Rattle.sd_vtree.specs.Numbered.{plain_tree};
-ghost use Rattle.sd_commands.specs.Commands.{State, size_line, same_line, value_line};
+ghost use Rattle.sd_commands.specs.Commands.{State, generated_line, size_line, same_line, value_line};
 ghost use Rattle.sd_commands.specs.Standing.{Represents, HasRoot, StepsTo};
+ghost use Rattle.sd_commands.specs.declared.state.RunState.{RunState as SeenState};
 
 use crate::command::{Effect, RunCommand};
 use crate::state::RunState;
@@ -15,6 +16,20 @@ use sd_manager::value_of;
 use sd_sweep::size_of_root;
 use sd_vfile::write_vtree;
 use std::alloc::{AllocError, Global};
+
+/// The line of a generated formula.
+pub(crate) fn print_generated(
+    alloc: Global,
+    variables: u32,
+    groups: u32,
+) -> Result<Effect, AllocError>
+    ensures { (input : Expression) (seen : State) (state : SeenState) → Represents state seen →
+        IfOk result (λ effect. StepsTo input seen (RunCommand.Generated variables groups) state
+        (Some effect)) }
+{
+    let line = generated_text(alloc, variables, groups)?;
+    Ok(Effect::PrintLine(line))
+}
 
 /// The line that says whether two names have one function.
 pub(crate) fn print_same(
@@ -96,6 +111,17 @@ pub(crate) fn write_vtree_text(
     let copy = Name::copy_of(alloc, file.as_str())?;
     let text = write_vtree(alloc, state.manager.vtree())?;
     Ok(Effect::WriteFile(copy, text))
+}
+
+fn generated_text(alloc: Global, variables: u32, groups: u32) -> Result<Bytes, AllocError>
+    ensures { IfOk result (λ text. text ≡ generated_line variables groups) }
+{
+    let mut text = b"generated ".to_vec(alloc)?;
+    text.extend_from_slice(Buffer::new().format(variables).as_bytes())?;
+    text.push(b' ')?;
+    text.extend_from_slice(Buffer::new().format(groups).as_bytes())?;
+    text.push(b'\n')?;
+    Ok(Bytes::new(text))
 }
 
 fn same_text(alloc: Global, same: bool) -> Result<Bytes, AllocError>

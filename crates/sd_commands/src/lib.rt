@@ -4,9 +4,8 @@
 
 mod bind;
 mod command;
-mod compile;
 mod effects;
-mod groups;
+mod input;
 mod state;
 mod steps;
 #[cfg(test)]

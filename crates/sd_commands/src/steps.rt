@@ -9,10 +9,13 @@ ghost use Rattle.sd_commands.specs.Standing.{Represents, StepsTo, StopsAt, Hands
 ghost use Rattle.sd_commands.specs.Standing.{names_of, root_count};
 
 use crate::bind::{
-    bind_combination, bind_constant, bind_file, bind_input, bind_literal, bind_negation,
+    bind_combination, bind_condition, bind_constant, bind_file, bind_forgotten, bind_input,
+    bind_literal, bind_negation,
 };
 use crate::command::{Effect, RunCommand};
-use crate::effects::{print_same, print_size, print_value, write_diagram, write_vtree_text};
+use crate::effects::{
+    print_generated, print_same, print_size, print_value, write_diagram, write_vtree_text,
+};
 use crate::state::RunState;
 use sd_formula::Formula;
 use sd_runs::TakeError;
@@ -39,6 +42,9 @@ pub fn step(
     ensures roots { root_count state.new ≤ root_count state.old + 1 }
 {
     match command {
+        RunCommand::Generated(variables, groups) => or_out_of_memory(print_generated(
+            alloc, *variables, *groups,
+        )),
         RunCommand::Input(name) => bind_input(alloc, input, state, *name),
         RunCommand::Load(name, file) => bind_file(alloc, state, *name, file),
         RunCommand::Literal(name, literal) => bind_literal(state, *name, *literal),
@@ -47,6 +53,8 @@ pub fn step(
             alloc, state, *operation, *name, *a, *b,
         ),
         RunCommand::Negate(name, a) => bind_negation(alloc, state, *name, *a),
+        RunCommand::Given(name, a, literal) => bind_condition(alloc, state, *name, *a, *literal),
+        RunCommand::Forget(name, a, variable) => bind_forgotten(alloc, state, *name, *a, *variable),
         RunCommand::Drop(name) => {
             state.free(*name);
             Ok(None)

@@ -88,11 +88,12 @@ fn values_and_the_vtree(rt: HostRuntime) -> Result<(), Fail> {
     Ok(())
 }
 
-/// The size and the text of `1 and 2`.
+/// The numbers of a generated formula, and the size and the text of `1 and 2`.
 #[test]
 fn size_and_text(rt: HostRuntime) -> Result<(), Fail> {
     let input = one_or_two(rt.alloc())?;
     let commands = [
+        RunCommand::Generated(300, 298),
         RunCommand::Literal(1, 1),
         RunCommand::Literal(2, 2),
         RunCommand::Combine(Operation::And, 3, 1, 2),
@@ -100,7 +101,8 @@ fn size_and_text(rt: HostRuntime) -> Result<(), Fail> {
         RunCommand::Write(3, Name::copy_of(rt.alloc(), "d")?),
     ];
     let text = said(rt.alloc(), &input, &commands)?;
-    let want = b"size 2\nsdd 5\nL 0 0 -1\nF 1\nL 2 0 1\nL 3 2 2\nD 4 1 2 0 1 2 3\n";
+    let want =
+        b"generated 300 298\nsize 2\nsdd 5\nL 0 0 -1\nF 1\nL 2 0 1\nL 3 2 2\nD 4 1 2 0 1 2 3\n";
     assert_eq!(rt; text.as_slice(), want.as_slice());
     Ok(())
 }

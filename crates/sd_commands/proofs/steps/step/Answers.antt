@@ -5,7 +5,7 @@ use Rattle.sd_formula.specs.Formulas.{expression_of}
 use Rattle.sd_commands.specs.Commands.{dropped}
 use Rattle.sd_commands.specs.Fits.{uses}
 use Rattle.sd_commands.specs.Standing.{StepsTo}
-use Rattle.sd_commands.specs.declared.command.RunCommand.TheVariants.{Literal}
+use Rattle.sd_commands.specs.declared.command.RunCommand.TheVariants.{Literal, Given}
 use Rattle.sd_commands.proofs.Stepping.{first_used, second_used, handed_steps}
 use Rattle.sd_commands.proofs.Standing.{as_before_self}
 use Rattle.sd_commands.proofs.steps.step.Goals as goal
@@ -26,6 +26,16 @@ pub bind_negation-requires-clause-bound : goal.bind_negation-requires-clause-bou
 bind_negation-requires-clause-bound c =
     first_used c.args.state.now c.requires.represents.0 _ _ _ _ c.requires.represents.1 c.requires.represents.2
     (ap uses c.in-Negate.is)
+
+pub bind_condition-requires-clause-bound : goal.bind_condition-requires-clause-bound
+bind_condition-requires-clause-bound c =
+    first_used c.args.state.now c.requires.represents.0 _ _ _ _ c.requires.represents.1 c.requires.represents.2
+    (ap uses c.in-Given.is)
+
+pub bind_forgotten-requires-clause-bound : goal.bind_forgotten-requires-clause-bound
+bind_forgotten-requires-clause-bound c =
+    first_used c.args.state.now c.requires.represents.0 _ _ _ _ c.requires.represents.1 c.requires.represents.2
+    (ap uses c.in-Forget.is)
 
 pub print_same-requires-clause-first : goal.print_same-requires-clause-first
 print_same-requires-clause-first c =
@@ -54,6 +64,14 @@ write_diagram-requires-clause-bound c =
 
 -- ---- what each command comes to
 
+pub returns-in-Generated-clause-done : goal.returns-in-Generated-clause-done
+returns-in-Generated-clause-done c = λ seen was.
+    let input = expression_of c.args.input.now in
+    let code = c.args.state.now in
+    subst (λ command. IfOk c.or_out_of_memory.result (λ effect. StepsTo input seen command code effect))
+    (sym c.in-Generated.is)
+    (handed_steps input seen _ code _ _ (c.print_generated.ensures input seen code was) c.or_out_of_memory.ensures)
+
 pub returns-in-Literal-clause-done : goal.returns-in-Literal-clause-done
 returns-in-Literal-clause-done c = λ seen was.
     let input = expression_of c.args.input.now in
@@ -64,6 +82,17 @@ returns-in-Literal-clause-done c = λ seen was.
     (λ effect. StepsTo input seen (Literal c.in-Literal.name z) c.bind_literal.new.state effect))
     (to_z-of_z w32 c.in-Literal.literal range) (c.bind_literal.ensures.done input seen was))
 
+pub returns-in-Given-clause-done : goal.returns-in-Given-clause-done
+returns-in-Given-clause-done c = λ seen was.
+    let input = expression_of c.args.input.now in
+    let result = c.bind_condition.result in
+    let state = c.bind_condition.new.state in
+    let range : SFits w32 c.in-Given.literal = search rules in
+    subst (λ command. IfOk result (λ effect. StepsTo input seen command state effect)) (sym c.in-Given.is)
+    (subst (λ (z : ℤ). IfOk result
+    (λ effect. StepsTo input seen (Given c.in-Given.name c.in-Given.a z) state effect))
+    (to_z-of_z w32 c.in-Given.literal range) (c.bind_condition.ensures.done input seen was))
+
 pub returns-in-Drop-clause-done : goal.returns-in-Drop-clause-done
 returns-in-Drop-clause-done c = λ seen was.
     subst (λ command. StepsTo (expression_of c.args.input.now) seen command c.free.new.self None) (sym c.in-Drop.is)
@@ -73,9 +102,9 @@ pub returns-in-Same-clause-done : goal.returns-in-Same-clause-done
 returns-in-Same-clause-done c = λ seen was.
     let input = expression_of c.args.input.now in
     let code = c.args.state.now in
-    subst (λ command. IfOk c.or_out_of_memory.result (λ effect. StepsTo input seen command code effect))
+    subst (λ command. IfOk c.or_out_of_memory-in-Same.result (λ effect. StepsTo input seen command code effect))
     (sym c.in-Same.is)
-    (handed_steps input seen _ code _ _ (c.print_same.ensures input seen was) c.or_out_of_memory.ensures)
+    (handed_steps input seen _ code _ _ (c.print_same.ensures input seen was) c.or_out_of_memory-in-Same.ensures)
 
 pub returns-in-Size-clause-done : goal.returns-in-Size-clause-done
 returns-in-Size-clause-done c = λ seen was.
@@ -111,6 +140,9 @@ returns-in-WriteVtree-clause-done c = λ seen was.
     c.or_out_of_memory-in-WriteVtree.ensures)
 
 -- ---- a command that reads the state leaves it
+
+pub returns-in-Generated-clause-err : goal.returns-in-Generated-clause-err
+returns-in-Generated-clause-err c = as_before_self c.args.state.now _
 
 pub returns-in-Same-clause-err : goal.returns-in-Same-clause-err
 returns-in-Same-clause-err c = as_before_self c.args.state.now _
