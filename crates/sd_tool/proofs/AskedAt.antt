@@ -10,6 +10,8 @@ use Rattle.sd_model.specs.Tree.{Tree}
 use Rattle.sd_manager.specs.Table.{Table}
 use Rattle.sd_formula.specs.declared.error.FormulaError.{FormulaError}
 use Rattle.sd_formula.specs.Dimacs.{Groups, dimacs}
+use Rattle.sd_formula.specs.Generated.{generated_formula}
+use Rattle.sd_formula.specs.declared.formula.Kind.TheVariants as kinds
 use Rattle.sd_vfile.specs.Reads.{vtree_file}
 use Rattle.sd_vfile.specs.declared.fault.VtreeFault.{VtreeFault}
 use Rattle.sd_file.specs.Reads.{File, sdd_file}
@@ -21,6 +23,8 @@ use Rattle.sd_script.specs.declared.command.Command.{Command as Line}
 use Rattle.sd_script.specs.declared.fault.ScriptFault.{ScriptFault}
 use Rattle.sd_words.specs.JobOf.{job_of}
 use Rattle.sd_words.specs.declared.jobs.Job.{Job}
+use Rattle.sd_words.specs.declared.jobs.InputWord.{InputWord}
+use Rattle.sd_words.specs.declared.jobs.InputWord.TheVariants as inputs
 use Rattle.sd_words.specs.declared.jobs.TreeWord.{TreeWord}
 use Rattle.sd_words.specs.declared.jobs.TreeWord.TheVariants as trees
 use Rattle.sd_words.specs.declared.faults.WordsFault.{WordsFault}
@@ -35,7 +39,7 @@ use Rattle.sd_tool.specs.Readings.{Input, Reading, Refuses, Begins, Reads, Text,
 use Rattle.sd_tool.specs.Readings.{reading_of, with_job, with_input, with_input_word, with_formula, with_tree_word}
 use Rattle.sd_tool.specs.Readings.{with_tree, with_vtree_text, with_vtree_reading, with_commands, script_reading}
 use Rattle.sd_tool.specs.Readings.{with_script_text, with_script_reading, with_lines, with_action, with_sdd}
-use Rattle.sd_tool.specs.Readings.{with_sdd_reading, is_served, is_plain, input_file, file_name, plan_for}
+use Rattle.sd_tool.specs.Readings.{with_sdd_reading, is_served, is_plain, file_name, plan_for}
 use Rattle.sd_tool.specs.Refusals.{refusal_status}
 use Rattle.sd_tool.specs.declared.refusal.Refusal.{Refusal}
 use Rattle.sd_tool.specs.declared.refusal.Refusal.TheVariants.{NotYet}
@@ -77,8 +81,8 @@ accepted_action v s next (actions.Lit n literal) accepted = accepted (commands.L
 accepted_action v s next (actions.Constant n value) accepted = accepted (commands.Constant n value)
 accepted_action v s next (actions.Binary operation n a b) accepted = accepted (commands.Combine operation n a b)
 accepted_action v s next (actions.Not n a) accepted = accepted (commands.Negate n a)
-accepted_action v s next (actions.Given n a literal) accepted = λ e. cc
-accepted_action v s next (actions.Forget n a x) accepted = λ e. cc
+accepted_action v s next (actions.Given n a literal) accepted = accepted (commands.Given n a literal)
+accepted_action v s next (actions.Forget n a x) accepted = accepted (commands.Forget n a x)
 accepted_action v s next (actions.Drop a) accepted = accepted (commands.Drop a)
 accepted_action v s next (actions.Turn kind p) accepted = λ e. cc
 accepted_action v s next (actions.Minimise rounds) accepted = λ e. cc
@@ -148,9 +152,10 @@ accepted_input job input (Whole bytes) = go (dimacs input.kind bytes)
     go (Ok f) = accepted_tree_word job f job.tree
     go (Err fault) = λ e. cc
 
-accepted_input_word : (job : Job) (input : Option Input) → AreAccepted (with_input_word job input)
-accepted_input_word job None = λ e. cc
-accepted_input_word job (Some input) = λ text. accepted_input job input text
+accepted_input_word : (job : Job) (word : InputWord) → AreAccepted (with_input_word job word)
+accepted_input_word job (inputs.Cnf file) = λ text. accepted_input job (record { kind = kinds.Cnf; file = file }) text
+accepted_input_word job (inputs.Dnf file) = λ text. accepted_input job (record { kind = kinds.Dnf; file = file }) text
+accepted_input_word job (inputs.Generate count seed) = accepted_tree_word job (generated_formula count seed) job.tree
 
 -- where the words are refused, no file was read before
 none_read : (files : Option Files) (words : List (List ℕ)) (names : List (List ℕ)) (refusal : Refusal)
@@ -158,8 +163,8 @@ none_read : (files : Option Files) (words : List (List ℕ)) (names : List (List
 none_read files words names refusal = go (job_of words) names
   where
     by : (job : Job) (b : Bool)
-        → AreAccepted (if b then with_input_word job (input_file job.input) else Refuses NotYet)
-    by job true = accepted_input_word job (input_file job.input)
+        → AreAccepted (if b then with_input_word job job.input else Refuses NotYet)
+    by job true = accepted_input_word job job.input
     by job false = λ e. cc
 
     go : (job : Result Job WordsFault) (names : List (List ℕ)) → ReadsBy files (with_job job) names (Refuses refusal)

@@ -18,6 +18,8 @@ use Rattle.sd_script.specs.declared.command.Action.{Action}
 use Rattle.sd_script.specs.declared.command.Action.TheVariants as actions
 use Rattle.sd_script.specs.declared.command.Command.{Command as Line}
 use Rattle.sd_words.specs.declared.jobs.Job.{Job}
+use Rattle.sd_words.specs.declared.jobs.InputWord.{InputWord}
+use Rattle.sd_words.specs.declared.jobs.InputWord.TheVariants as inputs
 use Rattle.sd_words.specs.declared.jobs.TreeWord.{TreeWord}
 use Rattle.sd_words.specs.declared.jobs.TreeWord.TheVariants as trees
 use Rattle.sd_commands.specs.Effects.{Effect, Write}
@@ -30,7 +32,7 @@ use Rattle.sd_tool.specs.Readings.{Plan, Reading, Refuses, Begins, Reads, Whole,
 use Rattle.sd_tool.specs.Readings.{with_input_word, with_input, with_formula, with_tree_word, with_tree}
 use Rattle.sd_tool.specs.Readings.{with_vtree_text, with_vtree_reading, with_commands, with_script_text}
 use Rattle.sd_tool.specs.Readings.{with_script_reading, script_reading, with_lines, with_action, is_served}
-use Rattle.sd_tool.specs.Readings.{plan_for, file_name, input_file}
+use Rattle.sd_tool.specs.Readings.{Input, announcement, plan_for, file_name, input_file}
 use Rattle.sd_tool.specs.declared.refusal.Refusal.TheVariants as refusals
 use Rattle.sd_tool.specs.Ends.{Finished}
 use Rattle.sd_tool.specs.Devices.{Moment, NoneRose, HasDeviceCause}
@@ -43,7 +45,7 @@ use Rattle.sd_tool.proofs.ByStatus.{effects_at}
 use Rattle.sd_tool.proofs.OneCourse.{whole_plan}
 use Rattle.sd_tool.proofs.OnePoint.{one_point}
 use Rattle.sd_tool.proofs.OneRun.{done_or_none}
-use Rattle.sd_tool.proofs.ReadingLemmas.{reads_on, reads_same}
+use Rattle.sd_tool.proofs.ReadingLemmas.{reads_on, reads_same, file_asked}
 
 -- ---- the lines as commands
 
@@ -87,6 +89,13 @@ all_four : (a b c d : Bool) → a ≡ true → b ≡ true → c ≡ true → d �
 all_four a b c d p q r s =
     ap (λ x. x && (b && (c && (d && true)))) p ∙ ap (λ x. x && (c && (d && true))) q ∙ ap (λ x. x && (d && true)) r
     ∙ ap (λ x. x && true) s
+
+-- the formula of a file is not announced
+not_announced : (word : InputWord) (input : Input) (formula : Groups) → input_file word ≡ Some input
+    → announcement word formula ≡ []
+not_announced (inputs.Cnf file) input formula is = refl
+not_announced (inputs.Dnf file) input formula is = refl
+not_announced (inputs.Generate count seed) input formula is = let bad : ⊥ = cc in absurd bad
 
 -- the commands of four lines
 module _ (v : ℕ) (script : Script) (begin : List RunCommand → Reading) where
@@ -189,8 +198,8 @@ module _ (words : List (List ℕ)) (files : Files) (job : Job) (formula : Groups
       let named : ReadsTo told (reading_of words) asks =
       reads_same told _ _
       (ap with_job has.named
-      ∙ ap (λ b. if b then with_input_word job (input_file job.input) else Refuses refusals.NotYet) has.plain
-      ∙ ap (with_input_word job) has.is_input) in
+      ∙ ap (λ b. if b then with_input_word job job.input else Refuses refusals.NotYet) has.plain
+      ∙ file_asked job job.input has.input has.is_input) in
       let read : ReadsTo told asks (with_tree_word job formula job.tree) =
       inr (
         Whole has.bytes,
@@ -310,7 +319,8 @@ joined_at {asks = asks} words status kept old new went = λ files job formula tr
       ends files plan told led,
       λ zero_.
           let all = (effects_at words status kept old new went).all zero_ in
-          writes files job formula tree script joined file two told led all.0
+          writes files job formula tree script joined file two told
+          (not_announced job.input has.input formula has.is_input) led all.0
           (subst (λ f. MayEnd words f all.0 Finished) told all.1) all.2,
     )
   where
@@ -329,18 +339,19 @@ joined_at {asks = asks} words status kept old new went = λ files job formula tr
 
     writes : (files : Files) (job : Job) (formula : Groups) (tree : Tree) (script : Script) (joined : Expression)
         (file : List ℕ) (two : JoinsTwo (expression_of formula) script joined file) → old.contents.files ≡ Some files
-        → ReadsTo (Some files) (reading_of words)
+        → announcement job.input formula ≡ [] → ReadsTo (Some files) (reading_of words)
         (Begins (plan_for job formula tree (four_commands (expression_of formula) script joined file two)))
         → (effects : List Effect) → MayEnd words (Some files) effects Finished
         → new.contents ≡ after effects old.contents
         → WritesDiagram files tree joined file old.contents new.contents
-    writes files job formula tree script joined file two told led effects (inl p) is = absurd p.0
-    writes files job formula tree script joined file two told led effects (inr p) is =
+    writes files job formula tree script joined file two told none led effects (inl p) is = absurd p.0
+    writes files job formula tree script joined file two told none led effects (inr p) is =
         let cs = four_commands (expression_of formula) script joined file two in
         let plan = plan_for job formula tree cs in
         let same = one_plan words files plan p.0 led p.1 in
-        let steps = subst (λ (q : Plan). Steps q.input q.start q.commands effects p.2.0) same
+        let all = subst (λ (q : Plan). Steps q.input q.start q.commands effects p.2.0) same
         (whole_plan p.0 p.2.0 effects p.2.1) in
+        let steps = subst (λ (l : List RunCommand). Steps plan.input plan.start (l ++ cs) effects p.2.0) none all in
         let done = four_done (expression_of formula) script joined file two plan.start p.2.0 effects steps in
         leaves_text files tree joined file done.0 effects old.contents new.contents told done.2 done.1 is
 

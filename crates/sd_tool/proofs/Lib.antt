@@ -18,4 +18,5 @@ pub mod StartTrees
 pub mod Starts
 pub mod StepLemmas
 pub mod WordsFaults
+pub mod WordsInRange
 pub mod WrittenLemmas

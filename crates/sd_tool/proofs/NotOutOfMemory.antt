@@ -1,6 +1,6 @@
 -- Where the readings of a run are over, a refusal is never OutOfMemory, and a plan begins with a vtree.
 use Rattle.std.proofs.Common.{◌≡◌, ℕ, ◌≤◌, Bool, true, false, List, [], ◌∷◌, ◌++◌, Option, Some, None, Result, Ok, Err}
-use Rattle.std.proofs.Common.{inl, inr, refl, sym, ap, subst, if◌then◌else◌}
+use Rattle.std.proofs.Common.{inl, inr, refl, sym, ap, subst, if◌then◌else◌, arith}
 use Rattle.std.specs.List.{list_all}
 use Rattle.sd_base.specs.Files.{Files}
 use Rattle.sd_model.specs.Tree.{Tree, IsVtree}
@@ -8,6 +8,8 @@ use Rattle.sd_model.specs.StartTrees.{balanced_tree, right_tree, left_tree}
 use Rattle.sd_formula.specs.declared.error.FormulaError.{FormulaError}
 use Rattle.sd_formula.specs.declared.error.FormulaError.TheVariants as formula
 use Rattle.sd_formula.specs.Dimacs.{Groups, dimacs}
+use Rattle.sd_formula.specs.Generated.{IsGenerable, generated_formula}
+use Rattle.sd_formula.specs.declared.formula.Kind.TheVariants as kinds
 use Rattle.sd_formula.proofs.RangeLaws.{accepted_fits}
 use Rattle.sd_vfile.specs.Reads.{vtree_file}
 use Rattle.sd_vfile.specs.declared.fault.VtreeFault.{VtreeFault}
@@ -25,6 +27,8 @@ use Rattle.sd_script.specs.declared.fault.ScriptFault.{ScriptFault}
 use Rattle.sd_script.specs.declared.fault.ScriptFault.TheVariants as script
 use Rattle.sd_words.specs.JobOf.{job_of}
 use Rattle.sd_words.specs.declared.jobs.Job.{Job}
+use Rattle.sd_words.specs.declared.jobs.InputWord.{InputWord}
+use Rattle.sd_words.specs.declared.jobs.InputWord.TheVariants as inputs
 use Rattle.sd_words.specs.declared.jobs.TreeWord.{TreeWord}
 use Rattle.sd_words.specs.declared.jobs.TreeWord.TheVariants as trees
 use Rattle.sd_words.specs.declared.faults.WordsFault.{WordsFault}
@@ -35,7 +39,7 @@ use Rattle.sd_tool.specs.Readings.{Plan, Input, Reading, Refuses, Begins, Reads,
 use Rattle.sd_tool.specs.Readings.{reading_of, with_job, with_input, with_input_word, with_formula, with_tree_word}
 use Rattle.sd_tool.specs.Readings.{with_tree, with_vtree_text, with_vtree_reading, with_commands, script_reading}
 use Rattle.sd_tool.specs.Readings.{with_script_text, with_script_reading, with_lines, with_action, with_sdd}
-use Rattle.sd_tool.specs.Readings.{with_sdd_reading, is_served, is_plain, input_file, file_name, plan_for, default_of}
+use Rattle.sd_tool.specs.Readings.{with_sdd_reading, is_served, is_plain, file_name, plan_for, default_of}
 use Rattle.sd_tool.specs.Refusals.{IsOfText}
 use Rattle.sd_tool.specs.declared.refusal.Refusal.{Refusal}
 use Rattle.sd_tool.specs.declared.refusal.Refusal.TheVariants.{NotYet, BadWords, BadFormula, BadVtree, BadSdd}
@@ -45,6 +49,7 @@ use Rattle.sd_tool.proofs.ScriptFaults.{not_out_of_memory_script}
 use Rattle.sd_tool.proofs.SddFaults.{not_out_of_memory_sdd}
 use Rattle.sd_tool.proofs.StartTrees.{balanced_fits, right_fits, left_fits}
 use Rattle.sd_tool.proofs.WordsFaults.{not_out_of_memory_words}
+use Rattle.sd_tool.proofs.WordsInRange.{IsInRange, in_range}
 
 -- ---- a fault that is not OutOfMemory
 
@@ -115,8 +120,8 @@ sound_action v s next (actions.Lit n literal) sound = sound (commands.Literal n 
 sound_action v s next (actions.Constant n value) sound = sound (commands.Constant n value)
 sound_action v s next (actions.Binary operation n a b) sound = sound (commands.Combine operation n a b)
 sound_action v s next (actions.Not n a) sound = sound (commands.Negate n a)
-sound_action v s next (actions.Given n a literal) sound = tt
-sound_action v s next (actions.Forget n a x) sound = tt
+sound_action v s next (actions.Given n a literal) sound = sound (commands.Given n a literal)
+sound_action v s next (actions.Forget n a x) sound = sound (commands.Forget n a x)
 sound_action v s next (actions.Drop a) sound = sound (commands.Drop a)
 sound_action v s next (actions.Turn kind p) sound = tt
 sound_action v s next (actions.Minimise rounds) sound = tt
@@ -192,20 +197,26 @@ sound_input job input (Whole bytes) = go (dimacs input.kind bytes) refl (not_out
 
 -- ---- the words
 
-sound_input_word : (job : Job) (input : Option Input) → AreSound (with_input_word job input)
-sound_input_word job None = tt
-sound_input_word job (Some input) = λ text. sound_input job input text
+sound_input_word : (job : Job) (word : InputWord) → IsInRange word → AreSound (with_input_word job word)
+sound_input_word job (inputs.Cnf file) fits = λ text. sound_input job (record { kind = kinds.Cnf; file = file }) text
+sound_input_word job (inputs.Dnf file) fits = λ text. sound_input job (record { kind = kinds.Dnf; file = file }) text
+sound_input_word job (inputs.Generate count seed) fits =
+    sound_tree_word job (generated_formula count seed) job.tree (some_of count seed fits)
+  where
+    some_of : (n s : ℕ) → IsGenerable n s → 1 ≤ n
+    some_of n s fits = let three = fits.at_least_three in omega arith
 
 sound_words : (ws : List (List ℕ)) → AreSound (reading_of ws)
-sound_words ws = go (job_of ws) (not_out_of_memory_words ws)
+sound_words ws = go (job_of ws) refl (not_out_of_memory_words ws)
   where
-    by : (job : Job) (b : Bool) → AreSound (if b then with_input_word job (input_file job.input) else Refuses NotYet)
-    by job true = sound_input_word job (input_file job.input)
-    by job false = tt
+    by : (job : Job) (b : Bool) → IsInRange job.input
+        → AreSound (if b then with_input_word job job.input else Refuses NotYet)
+    by job true fits = sound_input_word job job.input fits
+    by job false fits = tt
 
-    go : (job : Result Job WordsFault) → Never words.OutOfMemory job → AreSound (with_job job)
-    go (Ok job) never = by job (is_plain job)
-    go (Err fault) never = other_words_fault fault (λ same. never (ap Err same))
+    go : (job : Result Job WordsFault) → job_of ws ≡ job → Never words.OutOfMemory job → AreSound (with_job job)
+    go (Ok job) is never = by job (is_plain job) (in_range ws job is)
+    go (Err fault) is never = other_words_fault fault (λ same. never (ap Err same))
 
 -- what a run is refused for is not that memory ran out
 pub refused_of_text : (told : Option Files) (ws : List (List ℕ)) (refusal : Refusal)

@@ -9,13 +9,15 @@ use Rattle.sd_model.specs.Tree.{Tree}
 use Rattle.sd_manager.specs.Table.{Table}
 use Rattle.sd_formula.specs.Dimacs.{Groups}
 use Rattle.sd_words.specs.declared.jobs.Job.{Job}
+use Rattle.sd_words.specs.declared.jobs.InputWord.{InputWord}
+use Rattle.sd_words.specs.declared.jobs.InputWord.TheVariants as inputs
 use Rattle.sd_words.specs.declared.jobs.TreeWord.{TreeWord}
 use Rattle.sd_words.specs.declared.jobs.TreeWord.TheVariants as trees
 use Rattle.sd_commands.specs.Effects.{Effect, Write, Print}
 use Rattle.sd_tool.specs.Effects.{after}
 use Rattle.sd_tool.specs.Readings.{Plan, Reading, Refuses, Begins, Reads, Text, Whole, reading_of, ReadsTo}
-use Rattle.sd_tool.specs.Readings.{with_job, with_input_word, with_input, with_formula, with_tree_word, with_tree}
-use Rattle.sd_tool.specs.Readings.{with_vtree_text, with_vtree_reading, with_commands, plan_for, default_of, input_file}
+use Rattle.sd_tool.specs.Readings.{with_job, with_input_word, with_formula, with_tree_word, with_tree}
+use Rattle.sd_tool.specs.Readings.{with_vtree_text, with_vtree_reading, with_commands, plan_for, default_of}
 use Rattle.sd_tool.specs.declared.refusal.Refusal.{Refusal}
 use Rattle.sd_tool.specs.declared.refusal.Refusal.TheVariants as refusals
 use Rattle.sd_tool.specs.Ends.{End, Finished, Refused, Unreadable, Unwritable, OutOfMemory, ArenaFull}
@@ -23,7 +25,7 @@ use Rattle.sd_tool.specs.Ends.{status_of}
 use Rattle.sd_tool.specs.Devices.{Moment, Faults, NoneRose, HasDeviceCause}
 use Rattle.sd_tool.specs.Course.{EndsAmong, MayEnd, Leaves}
 use Rattle.sd_tool.specs.Headline.{IsCourse, IsOwn, IsComplete}
-use Rattle.sd_tool.specs.Written.{IsInput, IsStartTree}
+use Rattle.sd_tool.specs.Written.{IsFormulaOf, IsInput, IsStartTree}
 use Rattle.sd_tool.proofs.AskLemmas.{goes_may_end}
 use Rattle.sd_tool.proofs.OneCourse.{one_end_among}
 use Rattle.sd_tool.proofs.NotOutOfMemory.{valid_start}
@@ -191,12 +193,21 @@ leads_with_tree files job f tree (trees.File file) alone (bytes, there, short, r
 
 -- the words lead to their input
 job_follows : (words : List (List ℕ)) (files : Files) (job : Job) (f : Groups) (input : IsInput words files job f)
-    → ReadsTo (Some files) (reading_of words) (Reads input.input.file (with_input job input.input))
+    → ReadsTo (Some files) (reading_of words) (with_input_word job job.input)
 job_follows words files job f input =
     reads_same (Some files) _ _
     (ap with_job input.named
-    ∙ ap (λ b. if b then with_input_word job (input_file job.input) else Refuses refusals.NotYet) input.plain
-    ∙ ap (with_input_word job) input.is_input)
+    ∙ ap (λ b. if b then with_input_word job job.input else Refuses refusals.NotYet) input.plain)
+
+-- and to its formula
+formula_follows : (files : Files) (job : Job) (f : Groups) (word : InputWord) → IsFormulaOf files word f
+    → ReadsTo (Some files) (with_input_word job word) (with_tree_word job f job.tree)
+formula_follows files job f (inputs.Cnf file) is =
+    inr (Whole is.bytes, (is.there, is.fits), reads_same (Some files) _ _ (ap (with_formula job file) is.reads))
+formula_follows files job f (inputs.Dnf file) is =
+    inr (Whole is.bytes, (is.there, is.fits), reads_same (Some files) _ _ (ap (with_formula job file) is.reads))
+formula_follows files job f (inputs.Generate count seed) is =
+    reads_same (Some files) _ _ (ap (λ g. with_tree_word job g job.tree) (sym is))
 
 -- an input with a start tree leads to its plan
 leads_to_plan : (words : List (List ℕ)) (files : Files) (job : Job) (f : Groups) (tree : Tree)
@@ -204,15 +215,9 @@ leads_to_plan : (words : List (List ℕ)) (files : Files) (job : Job) (f : Group
     → ReadsTo (Some files) (reading_of words) (Begins (plan_for job f tree (default_of job)))
 leads_to_plan words files job f tree input start =
     let told = Some files in
-    let asks = Reads input.input.file (with_input job input.input) in
-    let read : ReadsTo told asks (with_tree_word job f job.tree) =
-    inr (
-      Whole input.bytes,
-      (input.there, input.fits),
-      reads_same told _ _ (ap (with_formula job input.input.file) input.reads),
-    ) in
+    let asks = with_input_word job job.input in
     reads_on told (reading_of words) asks _ (job_follows words files job f input)
-    (reads_on told asks (with_tree_word job f job.tree) _ read
+    (reads_on told asks (with_tree_word job f job.tree) _ (formula_follows files job f job.input input.input)
     (leads_with_tree files job f tree job.tree input.alone start))
 
 -- where the readings lead to a plan and no device fails, all is done, or there was no memory

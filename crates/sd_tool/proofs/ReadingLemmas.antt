@@ -8,17 +8,21 @@ use Rattle.sd_base.specs.Faults.{Rose}
 use Rattle.sd_base.specs.Files.{Files, HasBytes, HasLonger, Lacks}
 use Rattle.sd_model.specs.Tree.{Tree}
 use Rattle.sd_formula.specs.Dimacs.{Groups}
+use Rattle.sd_formula.specs.Generated.{generated_formula}
 use Rattle.sd_formula.specs.declared.formula.Kind.{Kind}
+use Rattle.sd_formula.specs.declared.formula.Kind.TheVariants as kinds
 use Rattle.sd_vtree.specs.Numbered.{Numbered, plain_tree}
 use Rattle.sd_words.specs.declared.jobs.Job.{Job}
 use Rattle.sd_words.specs.declared.jobs.InputWord.{InputWord}
+use Rattle.sd_words.specs.declared.jobs.InputWord.TheVariants as inputs
 use Rattle.sd_words.specs.declared.jobs.TreeWord.{TreeWord}
 use Rattle.sd_words.specs.declared.jobs.TreeWord.TheVariants as trees
 use Rattle.sd_tool.specs.Readings.{Reading, Refuses, Begins, Reads, Text, Whole, TooLong, IsText, ReadsTo}
 use Rattle.sd_script.specs.Scripts.{Script}
 use Rattle.sd_commands.specs.declared.command.RunCommand.{RunCommand}
 use Rattle.sd_tool.specs.Readings.{with_commands, script_reading, with_script_text}
-use Rattle.sd_tool.specs.Readings.{input_file, with_input, with_input_word, with_tree_word, with_tree, with_vtree_text}
+use Rattle.sd_tool.specs.Readings.{Input, input_file, with_input, with_input_word, with_tree_word, with_tree}
+use Rattle.sd_tool.specs.Readings.{with_vtree_text}
 use Rattle.sd_tool.specs.Asks.{ComesTo}
 use Rattle.sd_tool.specs.Stops.{StopsReading, LeadsTo, StopsFor, GivesText, text_read}
 use Rattle.sd_tool.proofs.AskLemmas.{Joins, comes_on, last_on, breaks_on, last_here, comes_same, breaks_here}
@@ -156,6 +160,17 @@ text_lacking asks told file next field is a =
 
 -- ---- the words for the input and for the tree
 
+-- a formula file of the words is read first
+pub file_asked : (job : Job) (word : InputWord) (input : Input) → input_file word ≡ Some input
+    → with_input_word job word ≡ Reads input.file (with_input job input)
+file_asked job (inputs.Cnf file) input is =
+    let same : record { kind = kinds.Cnf; file = file } ≡ input = cc in
+    ap (λ (i : Input). Reads i.file (with_input job i)) same
+file_asked job (inputs.Dnf file) input is =
+    let same : record { kind = kinds.Dnf; file = file } ≡ input = cc in
+    ap (λ (i : Input). Reads i.file (with_input job i)) same
+file_asked job (inputs.Generate count seed) input is = let bad : ⊥ = cc in absurd bad
+
 -- the input is that of its word
 pub input_leads : (asks : List Request → Type 0) (told : Option Files) (job : Job) (input : InputWord) (kind : Kind)
     (name file : List ℕ)
@@ -163,13 +178,24 @@ pub input_leads : (asks : List Request → Type 0) (told : Option Files) (job : 
     → input_file input ≡ Some (record { kind = kind; file = file }) → name ≡ file
     → LeadsTo asks told (Reads name (with_input job (record { kind = kind; file = name })))
     (λ formula. with_tree_word job formula job.tree) result before now
-    → LeadsTo asks told (with_input_word job (input_file input)) (λ formula. with_tree_word job formula job.tree)
+    → LeadsTo asks told (with_input_word job input) (λ formula. with_tree_word job formula job.tree)
     result before now
 input_leads asks told job input kind name file result before now is same leads =
-    subst (λ i. LeadsTo asks told (with_input_word job i) (λ formula. with_tree_word job formula job.tree)
-    result before now) (sym is)
+    subst (λ r. LeadsTo asks told r (λ formula. with_tree_word job formula job.tree)
+    result before now) (sym (file_asked job input (record { kind = kind; file = file }) is))
     (subst (λ (n : List ℕ). LeadsTo asks told (Reads n (with_input job (record { kind = kind; file = n })))
     (λ formula. with_tree_word job formula job.tree) result before now) same leads)
+
+-- the input is a generated formula
+pub generated_leads : (asks : List Request → Type 0) (told : Option Files) (job : Job) (word : InputWord)
+    (count seed : ℕ) (result : Result Groups Stop) (before now : ℕ) → word ≡ inputs.Generate count seed → asks []
+    → MatchResult result (λ formula. formula ≡ generated_formula count seed) (λ stop. stop ≡ OutOfMemory)
+    → LeadsTo asks told (with_input_word job word) (λ formula. with_tree_word job formula job.tree) result before now
+generated_leads asks told job word count seed (Ok formula) before now is none gives =
+    comes_same asks told _ _ none (ap (with_input_word job) is ∙ ap (λ f. with_tree_word job f job.tree) (sym gives))
+generated_leads asks told job word count seed (Err stop) before now is none gives =
+    subst (λ s. StopsReading asks s told (with_input_word job word) before now) (sym gives)
+    (breaks_here asks told _ none)
 
 -- the tree is a start tree that was made
 pub start_leads : (asks : List Request → Type 0) (told : Option Files) (reading : Reading) (job : Job)

@@ -53,6 +53,10 @@ plain v script next (actions.Binary operation n a b) =
     record { same = record { uses = refl; binds = refl; frees = refl; in_range = λ h. h }; leads = refl }
 plain v script next (actions.Not n a) =
     record { same = record { uses = refl; binds = refl; frees = refl; in_range = λ h. h }; leads = refl }
+plain v script next (actions.Given n a literal) =
+    record { same = record { uses = refl; binds = refl; frees = refl; in_range = λ h. h }; leads = refl }
+plain v script next (actions.Forget n a x) =
+    record { same = record { uses = refl; binds = refl; frees = refl; in_range = λ h. h }; leads = refl }
 plain v script next (actions.Drop a) =
     record { same = record { uses = refl; binds = refl; frees = refl; in_range = λ h. h }; leads = refl }
 plain v script next (actions.Same a b) =

@@ -1,6 +1,7 @@
 -- At status 0 a run without a script writes the texts of the input's diagram and of its vtree.
 -- Equal texts of diagrams are one function.
-use Rattle.std.proofs.Common.{◌≡◌, ◌↔◌, ℕ, Bool, true, false, List, [], ◌∷◌, ◌++◌, Option, Some, None, Result, Ok, Err}
+use Rattle.std.proofs.Common.{◌≡◌, ◌↔◌, ℕ, Bool, true, false, List, [], ◌∷◌, ◌++◌, length, Option, Some, None}
+use Rattle.std.proofs.Common.{Result, Ok, Err}
 use Rattle.std.proofs.Common.{inl, inr, refl, sym, ap, subst, ◌∙◌, if◌then◌else◌}
 use Rattle.std.specs.List.{AllZip}
 use Rattle.sd_base.specs.Asked.{Request}
@@ -16,15 +17,20 @@ use Rattle.sd_model.proofs.Determined.{diagram_determined, texts_equal}
 use Rattle.sd_formula.specs.declared.error.FormulaError.{FormulaError}
 use Rattle.sd_formula.specs.Dimacs.{Groups, dimacs}
 use Rattle.sd_formula.specs.Formulas.{expression_of}
+use Rattle.sd_formula.specs.Generated.{generated_formula}
+use Rattle.sd_formula.specs.declared.formula.Kind.TheVariants as kinds
 use Rattle.sd_vfile.specs.Reads.{vtree_file}
 use Rattle.sd_vfile.specs.declared.fault.VtreeFault.{VtreeFault}
 use Rattle.sd_manager.specs.Table.{Table}
 use Rattle.sd_words.specs.JobOf.{job_of}
 use Rattle.sd_words.specs.declared.jobs.Job.{Job}
+use Rattle.sd_words.specs.declared.jobs.InputWord.{InputWord}
+use Rattle.sd_words.specs.declared.jobs.InputWord.TheVariants as inputs
 use Rattle.sd_words.specs.declared.jobs.TreeWord.{TreeWord}
 use Rattle.sd_words.specs.declared.jobs.TreeWord.TheVariants as trees
 use Rattle.sd_commands.specs.Effects.{Effect, Write, Print}
 use Rattle.sd_commands.specs.Commands.{State, Done, Steps, IsTextOf, with_name, formula_named, size_line}
+use Rattle.sd_commands.specs.Commands.{generated_line}
 use Rattle.sd_commands.specs.Standing.{start}
 use Rattle.sd_commands.specs.declared.command.RunCommand.{RunCommand}
 use Rattle.sd_commands.specs.declared.command.RunCommand.TheVariants as commands
@@ -32,13 +38,14 @@ use Rattle.sd_tool.specs.Effects.{Contents, after}
 use Rattle.sd_tool.specs.Readings.{Plan, Input, Begins, Refuses, Text, Whole, TooLong, ReadsTo, IsText}
 use Rattle.sd_tool.specs.Readings.{reading_of, with_job, with_input_word, with_input, with_formula, with_tree_word}
 use Rattle.sd_tool.specs.Readings.{with_tree, with_vtree_reading, with_commands, plan_for, for_file, default_of}
-use Rattle.sd_tool.specs.Readings.{input_file, is_plain}
+use Rattle.sd_tool.specs.Readings.{is_plain, announcement}
 use Rattle.sd_tool.specs.declared.refusal.Refusal.TheVariants as refusals
 use Rattle.sd_tool.specs.Ends.{Finished}
 use Rattle.sd_tool.specs.Devices.{Moment}
 use Rattle.sd_tool.specs.Course.{MayEnd}
 use Rattle.sd_tool.specs.Headline.{IsCourse}
-use Rattle.sd_tool.specs.Written.{IsInput, IsStartTree, IsWritten, HasWritten, HasEqualTexts, with_output}
+use Rattle.sd_tool.specs.Written.{HasFormula, IsFormulaOf, IsInput, IsStartTree, IsWritten, HasWritten, HasEqualTexts}
+use Rattle.sd_tool.specs.Written.{with_output, with_announcement}
 use Rattle.sd_tool.proofs.ByStatus.{effects_at}
 use Rattle.sd_tool.proofs.OneCourse.{one_tree, whole_plan}
 use Rattle.sd_tool.proofs.NotOutOfMemory.{valid_start}
@@ -103,41 +110,42 @@ from_formula files job file (Err fault) plan alone p = let bad : ⊥ = cc in abs
 from_formula files job file (Ok formula) plan alone p =
     (formula, refl, from_word files job formula plan job.tree refl alone p)
 
--- the text of the input
-from_text : (words : List (List ℕ)) (files : Files) (job : Job) (input : Input) (plan : Plan) (text : Text)
-    → job_of words ≡ Ok job → is_plain job ≡ true → job.script ≡ None → input_file job.input ≡ Some input
+-- a formula of a word, and a plan that begins with it
+record FromWord (files : Files) (job : Job) (word : InputWord) (plan : Plan) : Type 0 where
+  formula : Groups
+  of_word : IsFormulaOf files word formula
+  from : FromTree files job formula plan
+
+-- the text of a formula file
+from_text : (files : Files) (job : Job) (input : Input) (plan : Plan) (text : Text) → job.script ≡ None
     → IsText (Some files) input.file text → ReadsTo (Some files) (with_input job input text) (Begins plan)
-    → FromInput words files job plan
-from_text words files job input plan TooLong named plain alone is has p = let bad : ⊥ = cc in absurd bad
-from_text words files job input plan (Whole bytes) named plain alone is has p =
-    let found = from_formula files job input.file (dimacs input.kind bytes) plan alone p in record {
-      formula = found.0;
-      tree = found.2.tree;
-      input = record {
-        named = named;
-        plain = plain;
-        alone = alone;
-        input = input;
-        is_input = is;
-        bytes = bytes;
-        there = has.0;
-        fits = has.1;
-        reads = found.1;
-      };
-      start = found.2.start;
-      is = found.2.is;
-    }
+    → (formula : Groups) × HasFormula files input.kind input.file formula × FromTree files job formula plan
+from_text files job input plan TooLong alone has p = let bad : ⊥ = cc in absurd bad
+from_text files job input plan (Whole bytes) alone has p =
+    let found = from_formula files job input.file (dimacs input.kind bytes) plan alone p in (
+      found.0,
+      record { bytes = bytes; there = has.0; fits = has.1; reads = found.1 },
+      found.2,
+    )
 
--- the input of the words
-from_job : (words : List (List ℕ)) (files : Files) (job : Job) (plan : Plan) (word : Option Input)
-    → job_of words ≡ Ok job → is_plain job ≡ true → job.script ≡ None → input_file job.input ≡ word
-    → ReadsTo (Some files) (with_input_word job word) (Begins plan) → FromInput words files job plan
-from_job words files job plan None named plain alone is p = let bad : ⊥ = cc in absurd bad
-from_job words files job plan (Some input) named plain alone is (inl p) = let bad : ⊥ = cc in absurd bad
-from_job words files job plan (Some input) named plain alone is (inr p) =
-    from_text words files job input plan p.0 named plain alone is p.1 p.2
+-- the formula of a word
+from_job : (files : Files) (job : Job) (plan : Plan) (word : InputWord) → job.script ≡ None
+    → ReadsTo (Some files) (with_input_word job word) (Begins plan) → FromWord files job word plan
+from_job files job plan (inputs.Cnf file) alone (inl p) = let bad : ⊥ = cc in absurd bad
+from_job files job plan (inputs.Dnf file) alone (inl p) = let bad : ⊥ = cc in absurd bad
+from_job files job plan (inputs.Cnf file) alone (inr p) =
+    let found = from_text files job (record { kind = kinds.Cnf; file = file }) plan p.0 alone p.1 p.2 in
+    record { formula = found.0; of_word = found.1; from = found.2 }
+from_job files job plan (inputs.Dnf file) alone (inr p) =
+    let found = from_text files job (record { kind = kinds.Dnf; file = file }) plan p.0 alone p.1 p.2 in
+    record { formula = found.0; of_word = found.1; from = found.2 }
+from_job files job plan (inputs.Generate count seed) alone p = record {
+  formula = generated_formula count seed;
+  of_word = refl;
+  from = from_word files job (generated_formula count seed) plan job.tree refl alone p;
+}
 
--- the plan of the readings comes from the input files
+-- the plan of the readings comes from the input
 from_input : (words : List (List ℕ)) (files : Files) (job : Job) (plan : Plan) → job_of words ≡ Ok job
     → job.script ≡ None → ReadsTo (Some files) (reading_of words) (Begins plan) → FromInput words files job plan
 from_input words files job plan named alone p =
@@ -145,10 +153,17 @@ from_input words files job plan named alone p =
   where
     go : (plain : Bool) → is_plain job ≡ plain
         → ReadsTo (Some files)
-        (if plain then with_input_word job (input_file job.input) else Refuses refusals.NotYet) (Begins plan)
+        (if plain then with_input_word job job.input else Refuses refusals.NotYet) (Begins plan)
         → FromInput words files job plan
     go false is p = let bad : ⊥ = cc in absurd bad
-    go true is p = from_job words files job plan (input_file job.input) named is alone refl p
+    go true is p =
+        let found = from_job files job plan job.input alone p in record {
+          formula = found.formula;
+          tree = found.from.tree;
+          input = record { named = named; plain = is; alone = alone; input = found.of_word };
+          start = found.from.start;
+          is = found.from.is;
+        }
 
 -- ---- all commands done
 
@@ -304,6 +319,42 @@ printed_after None (Some file) vtree diagram line old = refl
 printed_after (Some file) None vtree diagram line old = refl
 printed_after (Some file) (Some other) vtree diagram line old = refl
 
+-- ---- the line of a generated formula
+
+-- the effect before all others
+abbrev announces : InputWord → Groups → List Effect
+announces (inputs.Generate count seed) formula =
+    Print (generated_line formula.variables (length formula.groups)) ∷ []
+announces word formula = []
+
+-- the commands behind it, done
+record Announced (input : Expression) (state last : State) (word : InputWord) (formula : Groups)
+    (rest : List RunCommand) (effects : List Effect)
+    : Type 0 where
+  others : List Effect
+  steps : Steps input state rest others last
+  are : effects ≡ announces word formula ++ others
+
+announced_done : (input : Expression) (state last : State) (word : InputWord) (formula : Groups)
+    (rest : List RunCommand) (effects : List Effect)
+    → Steps input state (announcement word formula ++ rest) effects last
+    → Announced input state last word formula rest effects
+announced_done input state last (inputs.Cnf file) formula rest effects p =
+    record { others = effects; steps = p; are = refl }
+announced_done input state last (inputs.Dnf file) formula rest effects p =
+    record { others = effects; steps = p; are = refl }
+announced_done input state last (inputs.Generate count seed) formula rest effects p =
+    let done = first_done input state p.0 last rest _ p.1 p.2 effects p.3 p.4 p.5 in
+    record { others = done.others; steps = done.steps; are = done.are }
+
+-- what the others leave, they leave behind the line
+after_announced : (word : InputWord) (formula : Groups) (effects : List Effect) (old : Contents)
+    → after (announces word formula ++ effects) old
+    ≡ after effects (record old { printed = with_announcement word formula old.printed })
+after_announced (inputs.Cnf file) formula effects old = refl
+after_announced (inputs.Dnf file) formula effects old = refl
+after_announced (inputs.Generate count seed) formula effects old = refl
+
 -- the state of a plan once its formula is bound
 abbrev compiled : Job → Groups → Tree → State
 compiled job formula tree = with_name (start tree job.limit) 0 (expression_of formula)
@@ -311,15 +362,17 @@ compiled job formula tree = with_name (start tree job.limit) 0 (expression_of fo
 -- these effects write the formula's texts
 writes : (files : Files) (job : Job) (formula : Groups) (tree : Tree) (effects : List Effect) (old new : Contents)
     → old.files ≡ Some files → AllDone (compiled job formula tree) job.out_vtree job.out_sdd effects
-    → new ≡ after effects old → IsWritten files job formula tree old new
+    → new ≡ after effects (record old { printed = with_announcement job.input formula old.printed })
+    → IsWritten files job formula tree old new
 writes files job formula tree effects old new told done is =
-    let now = is ∙ ap (λ l. after l old) done.are in record {
+    let begun : Contents = record old { printed = with_announcement job.input formula old.printed } in
+    let now = is ∙ ap (λ l. after l begun) done.are in record {
       diagram = done.diagram;
       of_formula = done.of_value;
       files_are = ap (λ (o : Contents). o.files) now
-          ∙ files_after job.out_vtree job.out_sdd (vtree_text tree) (sdd_text done.diagram) _ old files told;
+          ∙ files_after job.out_vtree job.out_sdd (vtree_text tree) (sdd_text done.diagram) _ begun files told;
       printed_is = ap (λ (o : Contents). o.printed) now
-          ∙ printed_after job.out_vtree job.out_sdd (vtree_text tree) (sdd_text done.diagram) _ old;
+          ∙ printed_after job.out_vtree job.out_sdd (vtree_text tree) (sdd_text done.diagram) _ begun;
     }
 
 -- what a plan of an input does
@@ -331,12 +384,14 @@ plan_writes words files job plan last effects old new told from valid steps is =
     let own = plan_for job from.formula from.tree (default_of job) in
     let own_steps = subst (λ (p : Plan). Steps p.input p.start p.commands effects last) from.is steps in
     let own_valid = subst (λ (p : Plan). IsVtree p.start.tree) from.is valid in
+    let told_of = announced_done own.input own.start last job.input from.formula (default_of job) effects own_steps in
     let after_input = input_done own.input own.start last
     (for_file commands.WriteVtree job.out_vtree ++ for_file (commands.Write 0) job.out_sdd ++ commands.Size 0 ∷ [])
-    effects own_steps in
-    writes files job from.formula from.tree effects old new told
-    (all_done own.input (compiled job from.formula from.tree) last job.out_vtree job.out_sdd effects own_valid
-    after_input.steps) is
+    told_of.others told_of.steps in
+    writes files job from.formula from.tree told_of.others old new told
+    (all_done own.input (compiled job from.formula from.tree) last job.out_vtree job.out_sdd told_of.others own_valid
+    after_input.steps)
+    (is ∙ ap (λ l. after l old) told_of.are ∙ after_announced job.input from.formula told_of.others old)
 
 -- at status 0 the formula of the input was written
 pub written_at : {asks : List Request → Type 0} (words : List (List ℕ)) (status : ℕ) (kept : Option Table)

@@ -23,12 +23,12 @@ abbrev pub plan_of : RunPlan → Plan
 plan_of plan = plan_with plan.formula plan.state plan.limit plan.commands.items
 
 -- These commands can be carried out: the code represents a state without names, over the formula's variables, each
--- command can be done after those before it, and there are at most 100,000 of them.
+-- command can be done after those before it, and there are at most 100,001 of them.
 pub record IsReadyWith (formula : Groups) (state : RunState) (commands : List RunCommand) : Type 0 where
   pub represents : (limit : ℕ) → Represents state (start (plain_tree state.manager.vtree) limit)
   pub variables : leaves (plain_tree state.manager.vtree) ≡ formula.variables
   pub fit : AllFit formula.variables [] commands
-  pub within_limit : length commands ≤ 100000
+  pub within_limit : length commands ≤ 100001
   pub roots : root_count state ≡ 0
 
 abbrev pub IsReady : RunPlan → Type 0

@@ -12,6 +12,7 @@ use Rattle.sd_formula.specs.declared.formula.Kind.{Kind}
 use Rattle.sd_formula.specs.declared.formula.Kind.TheVariants as kinds
 use Rattle.sd_formula.specs.Dimacs.{Groups, dimacs}
 use Rattle.sd_formula.specs.Formulas.{expression_of}
+use Rattle.sd_formula.specs.Generated.{generated_formula}
 use Rattle.sd_vfile.specs.Reads.{vtree_file}
 use Rattle.sd_vfile.specs.declared.fault.VtreeFault.{VtreeFault}
 use Rattle.sd_file.specs.Reads.{File, sdd_file}
@@ -83,8 +84,6 @@ default_of job =
 
 -- a command of a script that runs have yet
 abbrev pub is_served : Action → Bool
-is_served (actions.Given n a literal) = false
-is_served (actions.Forget n a x) = false
 is_served (actions.Turn kind p) = false
 is_served (actions.Minimise rounds) = false
 is_served (actions.Limit k) = false
@@ -113,6 +112,8 @@ with_action v script next (actions.Lit n literal) = next (commands.Literal n lit
 with_action v script next (actions.Constant n value) = next (commands.Constant n value)
 with_action v script next (actions.Binary operation n a b) = next (commands.Combine operation n a b)
 with_action v script next (actions.Not n a) = next (commands.Negate n a)
+with_action v script next (actions.Given n a literal) = next (commands.Given n a literal)
+with_action v script next (actions.Forget n a x) = next (commands.Forget n a x)
 with_action v script next (actions.Drop a) = next (commands.Drop a)
 with_action v script next (actions.Same a b) = next (commands.Same a b)
 with_action v script next (actions.Size a) = next (commands.Size a)
@@ -151,12 +152,17 @@ with_commands job v begin (Some file) = Reads file (with_script_text file v begi
 
 -- ---- the formula and its tree
 
+-- a generated formula is told of first, by its numbers of variables and groups
+abbrev pub announcement : InputWord → Groups → List RunCommand
+announcement (inputs.Generate count seed) formula = commands.Generated formula.variables (length formula.groups) ∷ []
+announcement word formula = []
+
 -- what commands begin with: the formula, no name, the tree, and the job's limit
 abbrev pub plan_for : Job → Groups → Tree → List RunCommand → Plan
 plan_for job formula tree commands = record {
   input = expression_of formula;
   start = start tree job.limit;
-  commands = commands;
+  commands = announcement job.input formula ++ commands;
 }
 
 abbrev pub with_tree : Job → Groups → Tree → Reading
@@ -190,14 +196,15 @@ abbrev pub with_input : Job → Input → Text → Reading
 with_input job input TooLong = Refuses (LongFile input.file)
 with_input job input (Whole bytes) = with_formula job input.file (dimacs input.kind bytes)
 
--- a job that runs have yet reads its input
-abbrev pub with_input_word : Job → Option Input → Reading
-with_input_word job None = Refuses NotYet
-with_input_word job (Some input) = Reads input.file (with_input job input)
+-- a formula file is read; a generated formula is there
+abbrev pub with_input_word : Job → InputWord → Reading
+with_input_word job (inputs.Cnf file) = Reads file (with_input job (record { kind = kinds.Cnf; file = file }))
+with_input_word job (inputs.Dnf file) = Reads file (with_input job (record { kind = kinds.Dnf; file = file }))
+with_input_word job (inputs.Generate count seed) = with_tree_word job (generated_formula count seed) job.tree
 
 abbrev pub with_job : Result Job WordsFault → Reading
 with_job (Err fault) = Refuses (BadWords fault)
-with_job (Ok job) = if is_plain job then with_input_word job (input_file job.input) else Refuses NotYet
+with_job (Ok job) = if is_plain job then with_input_word job job.input else Refuses NotYet
 
 -- the readings of a run, in order
 abbrev pub reading_of : List (List ℕ) → Reading

@@ -10,30 +10,43 @@ use Rattle.sd_model.specs.Tree.{Tree, leaves}
 use Rattle.sd_model.specs.Text.{sdd_text, vtree_text}
 use Rattle.sd_formula.specs.Dimacs.{Groups, dimacs}
 use Rattle.sd_formula.specs.Formulas.{expression_of}
+use Rattle.sd_formula.specs.Generated.{generated_formula}
+use Rattle.sd_formula.specs.declared.formula.Kind.{Kind}
+use Rattle.sd_formula.specs.declared.formula.Kind.TheVariants as kinds
 use Rattle.sd_vfile.specs.Reads.{vtree_file}
 use Rattle.sd_words.specs.JobOf.{job_of}
 use Rattle.sd_words.specs.declared.jobs.Job.{Job}
+use Rattle.sd_words.specs.declared.jobs.InputWord.{InputWord}
+use Rattle.sd_words.specs.declared.jobs.InputWord.TheVariants as inputs
 use Rattle.sd_words.specs.declared.jobs.TreeWord.{TreeWord}
 use Rattle.sd_words.specs.declared.jobs.TreeWord.TheVariants as trees
 use Rattle.sd_commands.specs.Effects.{Effect}
-use Rattle.sd_commands.specs.Commands.{State, IsTextOf, formula_named, size_line}
+use Rattle.sd_commands.specs.Commands.{State, IsTextOf, formula_named, generated_line, size_line}
 use Rattle.sd_commands.specs.declared.command.RunCommand.TheVariants as commands
-use Rattle.sd_tool.specs.Readings.{Input, Plan, Begins, input_file, is_plain, reading_of, ReadsTo}
+use Rattle.sd_tool.specs.Readings.{Plan, Begins, is_plain, reading_of, ReadsTo}
 use Rattle.sd_tool.specs.Course.{IsAtCommand}
 use Rattle.sd_tool.specs.Effects.{Contents}
 use Rattle.sd_tool.specs.Devices.{Moment}
 
--- the words name an input file, without a script, that is not too long, and its bytes are the text of this formula
+-- the file is there and not too long, and its bytes are the text of this formula
+pub record HasFormula (files : Files) (kind : Kind) (file : List ℕ) (formula : Groups) : Type 0 where
+  pub bytes : List ℕ
+  pub there : bytes_at files file ≡ Some bytes
+  pub fits : length bytes ≤ 67108864
+  pub reads : dimacs kind bytes ≡ Ok formula
+
+-- the formula of the words: that of a file, or the generated one
+abbrev pub IsFormulaOf : Files → InputWord → Groups → Type 0
+IsFormulaOf files (inputs.Cnf file) formula = HasFormula files kinds.Cnf file formula
+IsFormulaOf files (inputs.Dnf file) formula = HasFormula files kinds.Dnf file formula
+IsFormulaOf files (inputs.Generate count seed) formula = formula ≡ generated_formula count seed
+
+-- the words, without a script, ask for this formula
 pub record IsInput (words : List (List ℕ)) (files : Files) (job : Job) (formula : Groups) : Type 0 where
   pub named : job_of words ≡ Ok job
   pub plain : is_plain job ≡ true
   pub alone : job.script ≡ None
-  pub input : Input
-  pub is_input : input_file job.input ≡ Some input
-  pub bytes : List ℕ
-  pub there : bytes_at files input.file ≡ Some bytes
-  pub fits : length bytes ≤ 67108864
-  pub reads : dimacs input.kind bytes ≡ Ok formula
+  pub input : IsFormulaOf files job.input formula
 
 -- the start tree of the words, for a formula of so many variables: that of a shape, or that of a vtree file
 abbrev pub IsStartTree : Files → TreeWord → ℕ → Tree → Type 0
@@ -48,14 +61,21 @@ abbrev pub with_output : Option (List ℕ) → List ℕ → Files → Files
 with_output None bytes files = files
 with_output (Some name) bytes files = with_file files name bytes
 
+-- what is printed with the line of a generated formula behind it
+abbrev pub with_announcement : InputWord → Groups → Option (List ℕ) → Option (List ℕ)
+with_announcement (inputs.Generate count seed) formula printed =
+    told_then printed (generated_line formula.variables (length formula.groups))
+with_announcement word formula printed = printed
+
 -- The vtree output is the text of the tree, the diagram output is the text of the formula's canonical diagram for the
--- tree, no other file changed, and the size of that diagram was printed.
+-- tree, no other file changed, and the size of that diagram was printed, after the line of a generated formula.
 pub record IsWritten (files : Files) (job : Job) (formula : Groups) (tree : Tree) (old new : Contents) : Type 0 where
   pub diagram : Diagram
   pub of_formula : IsDiagramOf tree (expression_of formula) diagram
   pub files_are : new.files
       ≡ Some (with_output job.out_sdd (sdd_text diagram) (with_output job.out_vtree (vtree_text tree) files))
-  pub printed_is : new.printed ≡ told_then old.printed (size_line (size_of (diagram ∷ [])))
+  pub printed_is : new.printed
+      ≡ told_then (with_announcement job.input formula old.printed) (size_line (size_of (diagram ∷ [])))
 
 -- At status 0, over told files, a run without a script wrote the formula of its input.
 abbrev pub HasWritten : List (List ℕ) → ℕ → Moment → Moment → Type 0

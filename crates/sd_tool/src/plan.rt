@@ -2,12 +2,12 @@
 ghost use Rattle.std.specs.Prelude.{◌≡◌, ◌++◌, OnOk, IfOk};
 ghost use Rattle.std.specs.Prelude.{Option};
 ghost use Rattle.sd_commands.specs.declared.command.RunCommand.TheVariants.{Write, WriteVtree};
-ghost use Rattle.sd_tool.specs.Readings.{for_file, default_of};
+ghost use Rattle.sd_tool.specs.Readings.{for_file, default_of, announcement};
 
 use sd_base::Name;
 use sd_commands::{RunCommand, RunState};
 use sd_formula::Formula;
-use sd_words::Job;
+use sd_words::{InputWord, Job};
 use std::alloc::{AllocError, Global};
 
 /// The formula of a run, the state that the commands begin with, the limit of the total size, and the commands.
@@ -28,6 +28,21 @@ pub fn default_commands(alloc: Global, job: &Job) -> Result<Vec<RunCommand>, All
     push_vtree(alloc, &mut commands, &job.out_vtree)?;
     push_diagram(alloc, &mut commands, &job.out_sdd)?;
     commands.push(RunCommand::Size(0))?;
+    Ok(commands)
+}
+
+/// These commands, after the line of a generated formula.
+pub fn announced(
+    job: &Job,
+    formula: &Formula,
+    mut commands: Vec<RunCommand>,
+) -> Result<Vec<RunCommand>, AllocError>
+    ensures { IfOk result (λ all. all.items ≡ announcement job.now.input formula.now ++ commands.items) }
+{
+    if let InputWord::Generate { .. } = &job.input {
+        let groups = formula.groups() as u32;
+        commands.insert(0, RunCommand::Generated(formula.variables(), groups))?;
+    }
     Ok(commands)
 }
 

@@ -5,26 +5,27 @@ ghost use Rattle.sd_base.specs.Files.{Files};
 ghost use Rattle.sd_base.specs.Shelf.{NoFile};
 ghost use Rattle.sd_model.specs.Tree.{leaves};
 ghost use Rattle.sd_formula.specs.Dimacs.{Groups, dimacs};
+ghost use Rattle.sd_formula.specs.Generated.{generated_formula};
 ghost use Rattle.sd_vfile.specs.Reads.{vtree_file};
 ghost use Rattle.sd_vtree.specs.Numbered.{plain_tree};
 ghost use Rattle.sd_words.specs.declared.jobs.Job.{Job as SeenJob};
 ghost use Rattle.sd_commands.specs.Fits.{AllFit};
 ghost use Rattle.sd_tool.specs.Asks.{IsNone};
 ghost use Rattle.sd_tool.specs.PlanViews.{plan_of, IsReady};
-ghost use Rattle.sd_tool.specs.Readings.{reading_of, Begins, Reads, input_file, is_plain, plan_for};
+ghost use Rattle.sd_tool.specs.Readings.{reading_of, Begins, Reads, is_plain, plan_for};
 ghost use Rattle.sd_tool.specs.Readings.{with_input, with_input_word, with_tree_word, with_tree, with_vtree_text};
 ghost use Rattle.sd_tool.specs.Stops.{LeadsTo, GivesText};
 ghost use Rattle.sd_tool.specs.declared.refusal.Refusal.TheVariants as refusals;
 ghost use Rattle.sd_tool.specs.declared.stop.Stop.TheVariants as stops;
 
-use crate::plan::RunPlan;
+use crate::plan::{RunPlan, announced};
 use crate::refusal::Refusal;
 use crate::scripts::read_commands;
 use crate::stop::Stop;
 use crate::texts::{read_text, too_long};
 use sd_base::{Name, Shelf};
 use sd_commands::{RunCommand, RunState};
-use sd_formula::{Formula, FormulaError, Kind, read_dimacs};
+use sd_formula::{Formula, FormulaError, Kind, generate, read_dimacs};
 use sd_vfile::{VtreeFault, read_vtree};
 use sd_vtree::Vtree;
 use sd_words::{InputWord, Job, TreeWord, WordsFault, read_words};
@@ -57,7 +58,7 @@ fn prepare_job<F: Shelf>(alloc: Global, job: &Job, shelf: &mut F) -> Result<RunP
     ensures read_faults { F.read_faults shelf.old ≤ F.read_faults shelf.new }
     ensures write_faults { F.write_faults shelf.new ≡ F.write_faults shelf.old }
     ensures leads { LeadsTo (Adds F.asked shelf.old shelf.new) (F.files shelf.old)
-        (with_input_word job.now (input_file job.now.input))
+        (with_input_word job.now job.now.input)
         (λ plan. Begins (plan_of plan)) result (F.read_faults shelf.old) (F.read_faults shelf.new) }
     ensures ready { IfOk result IsReady }
 {
@@ -131,13 +132,16 @@ fn make_plan(
         (λ plan. Begins (plan_of plan)) result before now }
     ensures ready { IfOk result IsReady }
 {
-    match RunState::new(alloc, vtree) {
-        Ok(state) => Ok(RunPlan {
-            formula,
-            state,
-            limit: job.limit,
-            commands,
-        }),
+    match announced(job, &formula, commands) {
+        Ok(commands) => match RunState::new(alloc, vtree) {
+            Ok(state) => Ok(RunPlan {
+                formula,
+                state,
+                limit: job.limit,
+                commands,
+            }),
+            Err(_) => Err(Stop::OutOfMemory),
+        },
         Err(_) => Err(Stop::OutOfMemory),
     }
 }
@@ -146,7 +150,7 @@ fn make_plan(
 fn read_job(alloc: Global, words: &[String]) -> Result<Job, Stop>
     ensures { (told : Option Files) (before now : ℕ)
         → LeadsTo IsNone told (reading_of (map string_bytes words.now))
-        (λ job. with_input_word job (input_file job.input)) result before now }
+        (λ job. with_input_word job job.input) result before now }
 {
     match read_words(alloc, words) {
         Ok(job) => {
@@ -176,14 +180,25 @@ fn read_formula<F: Shelf>(alloc: Global, job: &Job, shelf: &mut F) -> Result<For
     ensures read_faults { F.read_faults shelf.old ≤ F.read_faults shelf.new }
     ensures write_faults { F.write_faults shelf.new ≡ F.write_faults shelf.old }
     ensures leads { LeadsTo (Adds F.asked shelf.old shelf.new) (F.files shelf.old)
-        (with_input_word job.now (input_file job.now.input))
+        (with_input_word job.now job.now.input)
         (λ formula. with_tree_word job.now formula job.now.tree)
         result (F.read_faults shelf.old) (F.read_faults shelf.new) }
 {
     match &job.input {
         InputWord::Cnf(file) => read_groups(alloc, Kind::Cnf, file.as_str(), shelf),
         InputWord::Dnf(file) => read_groups(alloc, Kind::Dnf, file.as_str(), shelf),
-        InputWord::Generate { .. } => Err(Stop::Refused(Refusal::NotYet)),
+        InputWord::Generate { count, seed } => make_formula(alloc, *count, *seed),
+    }
+}
+
+// The generated formula of two numbers, whose ranges were tested with the words.
+fn make_formula(alloc: Global, count: u64, seed: u64) -> Result<Formula, Stop>
+    ensures { MatchResult result (λ formula. formula ≡ generated_formula count seed)
+        (λ stop. stop ≡ stops.OutOfMemory) }
+{
+    match generate(alloc, count, seed) {
+        Ok(formula) => Ok(formula),
+        Err(_) => Err(Stop::OutOfMemory),
     }
 }
 

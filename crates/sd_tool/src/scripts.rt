@@ -161,11 +161,7 @@ fn is_served(action: &Action) -> bool
 {
     !matches!(
         action,
-        Action::Given(..)
-            | Action::Forget(..)
-            | Action::Turn(..)
-            | Action::Minimise(_)
-            | Action::Limit(_)
+        Action::Turn(..) | Action::Minimise(_) | Action::Limit(_)
     )
 }
 
@@ -256,6 +252,8 @@ fn plain_command(alloc: Global, action: &Action) -> Result<Option<RunCommand>, A
             Ok(Some(RunCommand::Combine(*operation, *name, *a, *b)))
         }
         Action::Not(name, a) => Ok(Some(RunCommand::Negate(*name, *a))),
+        Action::Given(name, a, literal) => Ok(Some(RunCommand::Given(*name, *a, *literal))),
+        Action::Forget(name, a, variable) => Ok(Some(RunCommand::Forget(*name, *a, *variable))),
         Action::Drop(name) => Ok(Some(RunCommand::Drop(*name))),
         Action::Same(a, b) => Ok(Some(RunCommand::Same(*a, *b))),
         Action::Size(name) => Ok(Some(RunCommand::Size(*name))),

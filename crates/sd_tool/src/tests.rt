@@ -8,6 +8,8 @@ use std::thread::Threads;
 mod compiled;
 mod devices;
 mod formulas;
+mod generated;
+mod hostile;
 mod scripts;
 mod vtrees;
 mod words;

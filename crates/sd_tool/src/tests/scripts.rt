@@ -131,3 +131,17 @@ fn values_on_the_left_tree(rt: HostRuntime) -> Result<(), Fail> {
     assert!(rt; end.ended(0, &"value 0\nvalue 1\n".repeat(alloc, 10)?, ""));
     Ok(())
 }
+
+/// `1 and 2, or 3 and 4` where variable 1 is false, and for either value of it.
+#[test]
+fn formulas_are_conditioned(rt: HostRuntime) -> Result<(), Fail> {
+    let alloc = rt.alloc();
+    let script = "input f\ngiven g f -1\nforget h f 1\nsize g\nsize h\nvalue f 1100\n\
+value f 1010\nwrite g out\n";
+    let files = two_files(alloc, "p dnf 4 2\n1 2 0\n3 4 0\n", "s", script)?;
+    let end = ran(&rt, alloc, "--dnf in --script s", files)?;
+    assert!(rt; end.ended(0, "size 2\nsize 4\nvalue 1\nvalue 0\n", ""));
+    let text = "sdd 5\nL 0 4 -3\nF 1\nL 2 4 3\nL 3 6 4\nD 4 5 2 0 1 2 3\n";
+    assert!(rt; end.holds("out", text));
+    Ok(())
+}

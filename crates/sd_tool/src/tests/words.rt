@@ -10,6 +10,9 @@ fn words_are_refused(rt: HostRuntime) -> Result<(), Fail> {
         ("--cnf a --dnf b", "two inputs"),
         ("--cnf in --vtree in --start right", "two vtrees"),
         ("--cnf a --limit 0", "number out of range: --limit"),
+        ("--generate 2:0", "number out of range: --generate"),
+        ("--generate 1025:0", "number out of range: --generate"),
+        ("--generate 4:4294967296", "number out of range: --generate"),
         (
             "--cnf a --script s --minimise 2",
             "not with --script: --minimise",
@@ -33,7 +36,6 @@ fn words_are_refused(rt: HostRuntime) -> Result<(), Fail> {
 fn other_jobs_are_not_served_yet(rt: HostRuntime) -> Result<(), Fail> {
     let alloc = rt.alloc();
     let table = [
-        "--generate 4:0 --out-sdd out",
         "--cnf gone --limit 8 --out-sdd out",
         "--cnf gone --slack 100 --out-sdd out",
         "--cnf gone --minimise 3 --out-sdd out",

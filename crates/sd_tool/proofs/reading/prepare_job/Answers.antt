@@ -1,5 +1,5 @@
 use Rattle.sd_tool.specs.PlanViews.{plan_of}
-use Rattle.sd_tool.specs.Readings.{Begins, with_input_word, with_tree_word, input_file}
+use Rattle.sd_tool.specs.Readings.{Begins, with_input_word, with_tree_word}
 use Rattle.sd_tool.proofs.ReadingLemmas.{leads_on}
 use Rattle.sd_tool.proofs.AskLemmas.{joined}
 use Rattle.sd_tool.proofs.reading.prepare_job.Goals as goal
@@ -8,7 +8,7 @@ pub returns-in-Ok-clause-leads : goal.returns-in-Ok-clause-leads
 returns-in-Ok-clause-leads g c =
     let job = c.args.job.now in
     leads_on (g.F.Shelf.files c.args.shelf.now) (g.F.Shelf.files c.read_formula.new.shelf)
-    (with_input_word job (input_file job.input)) (with_tree_word job c.in-Ok.formula job.tree)
+    (with_input_word job job.input) (with_tree_word job c.in-Ok.formula job.tree)
     (λ plan. Begins (plan_of plan)) c.prepare_formula.result (g.F.Shelf.read_faults c.args.shelf.now)
     (g.F.Shelf.read_faults c.read_formula.new.shelf) (g.F.Shelf.read_faults c.prepare_formula.new.shelf)
     (joined g.F.Shelf.asked c.args.shelf.now c.read_formula.new.shelf c.prepare_formula.new.shelf)

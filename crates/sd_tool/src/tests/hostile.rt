@@ -1,0 +1,246 @@
+// Runs over texts that are cut off, and over devices of which each call fails in turn.
+use super::{A_CLAUSE, A_CLAUSE_AS_SDD, Outcome, file, ran, ran_with, two_files};
+use sd_base::{NamedBytes, PlannedFault, ShelfCall};
+use std::alloc::{AllocError, Global};
+use std::test::Fail;
+use std::thread::Threads;
+
+const TWO_TERMS: &str = "p dnf 4 2\n1 2 0\n3 4 0\n";
+
+const BALANCED: &str = "vtree 7\nL 0 1\nL 2 2\nI 1 0 2\nL 4 3\nL 6 4\nI 5 4 6\nI 3 1 5\n";
+
+const TWO_TERMS_AS_SDD: &str = "sdd 13\nL 0 0 -1\nF 1\nL 2 0 1\nL 3 2 2\nD 4 1 2 0 1 2 3\nT 5\n\
+    L 6 2 -2\nD 7 1 2 0 5 2 6\nL 8 4 -3\nL 9 4 3\nL 10 6 4\nD 11 5 2 8 1 9 10\nD 12 3 2 4 5 7 11\n";
+
+// Runs the words over a file that is cut off after so many bytes, beside other files, and says whether the file was
+// refused with this fault, and nothing written; or, where there is none, whether the run ended well.
+fn is_refused(
+    rt: &(impl Threads + Sync),
+    alloc: Global,
+    words: &str,
+    name: &str,
+    cut: (&str, usize, &str),
+) -> Result<bool, AllocError> {
+    let (text, count, fault) = cut;
+    let front = text.as_bytes().get(..count).unwrap_or(b"");
+    let mut files = two_files(alloc, "p dnf 4 0\n", "s", "load g part\nwrite g out\n")?;
+    files.insert(0, file(alloc, name, front)?)?;
+    let end = ran(rt, alloc, words, files)?;
+    if fault.is_empty() {
+        return Ok(end.status == 0 && end.err.bytes().is_empty());
+    }
+    let line = format!(in alloc; "sddc: {name}: {fault}\n")?;
+    Ok(end.ended(2, "", &line) && end.lacks("out"))
+}
+
+// The fault after so many bytes, by a table of up to how many bytes each one comes.
+fn fault_at<'a>(table: &[(usize, &'a str)], count: usize) -> &'a str {
+    for (to, fault) in table {
+        if count <= *to {
+            return *fault;
+        }
+    }
+    ""
+}
+
+// Whether each front of a text but the whole is refused as the table says.
+fn are_refused(
+    rt: &(impl Threads + Sync),
+    alloc: Global,
+    words: &str,
+    file: (&str, &str),
+    table: &[(usize, &str)],
+) -> Result<bool, AllocError> {
+    let (name, text) = file;
+    for count in 0..text.len() {
+        let cut = (text, count, fault_at(table, count));
+        if !is_refused(rt, alloc, words, name, cut)? {
+            return Ok(false);
+        }
+    }
+    Ok(true)
+}
+
+#[test]
+fn formulas_that_are_cut_off(rt: HostRuntime) -> Result<(), Fail> {
+    let table = [
+        (0, "no header"),
+        (8, "line 1: bad header"),
+        (10, "2 stated, 0 found"),
+        (14, "last group is not ended"),
+        (16, "2 stated, 1 found"),
+        (20, "last group is not ended"),
+        (21, ""),
+    ];
+    let words = "--dnf in --out-sdd out";
+    assert!(rt; are_refused(&rt, rt.alloc(), words, ("in", TWO_TERMS), &table)?);
+    Ok(())
+}
+
+#[test]
+fn vtrees_that_are_cut_off(rt: HostRuntime) -> Result<(), Fail> {
+    let table = [
+        (6, "no header"),
+        (8, "7 stated, 0 found"),
+        (12, "line 2: bad line"),
+        (14, "7 stated, 1 found"),
+        (18, "line 3: bad line"),
+        (20, "7 stated, 2 found"),
+        (26, "line 4: bad line"),
+        (28, "7 stated, 3 found"),
+        (32, "line 5: bad line"),
+        (34, "7 stated, 4 found"),
+        (38, "line 6: bad line"),
+        (40, "7 stated, 5 found"),
+        (46, "line 7: bad line"),
+        (48, "7 stated, 6 found"),
+        (54, "line 8: bad line"),
+        (55, ""),
+    ];
+    let words = "--dnf in --vtree tree --out-sdd out";
+    assert!(rt; are_refused(&rt, rt.alloc(), words, ("tree", BALANCED), &table)?);
+    Ok(())
+}
+
+/// After 140 bytes the last line names a node that is there, in place of the one whose number was cut off.
+#[test]
+fn diagrams_that_are_cut_off(rt: HostRuntime) -> Result<(), Fail> {
+    let table = [
+        (4, "no header"),
+        (5, "1 stated, 0 found"),
+        (7, "13 stated, 0 found"),
+        (14, "line 2: bad line"),
+        (16, "13 stated, 1 found"),
+        (18, "line 3: bad line"),
+        (20, "13 stated, 2 found"),
+        (26, "line 4: bad line"),
+        (28, "13 stated, 3 found"),
+        (34, "line 5: bad line"),
+        (36, "13 stated, 4 found"),
+        (50, "line 6: bad line"),
+        (52, "13 stated, 5 found"),
+        (54, "line 7: bad line"),
+        (56, "13 stated, 6 found"),
+        (63, "line 8: bad line"),
+        (65, "13 stated, 7 found"),
+        (79, "line 9: bad line"),
+        (81, "13 stated, 8 found"),
+        (88, "line 10: bad line"),
+        (90, "13 stated, 9 found"),
+        (96, "line 11: bad line"),
+        (98, "13 stated, 10 found"),
+        (105, "line 12: bad line"),
+        (107, "13 stated, 11 found"),
+        (122, "line 13: bad line"),
+        (125, "13 stated, 12 found"),
+        (140, "line 14: bad line"),
+        (142, ""),
+    ];
+    let words = "--dnf in --script s";
+    assert!(rt; are_refused(&rt, rt.alloc(), words, ("part", TWO_TERMS_AS_SDD), &table)?);
+    Ok(())
+}
+
+// The files of a run that writes one diagram twice and prints its size.
+fn four_files(alloc: Global) -> Result<Vec<NamedBytes>, AllocError> {
+    let script = "input f\nwrite f A\nwrite f B\nsize f\n";
+    let mut files = two_files(alloc, A_CLAUSE, "s", script)?;
+    files.push(file(alloc, "tree", b"vtree 3\nL 0 1\nL 2 2\nI 1 0 2\n")?)?;
+    Ok(files)
+}
+
+// How many bytes a file of a run holds that ended at a fault: those of the diagram's text, from its begin.
+fn held(end: &Outcome, name: &str) -> Option<usize> {
+    let bytes = end.files.bytes_of(name)?;
+    if A_CLAUSE_AS_SDD.as_bytes().starts_with(bytes) {
+        Some(bytes.len())
+    } else {
+        None
+    }
+}
+
+/// The nth call of each kind fails, up to the first n at which there is no such call: the line names the file in hand,
+/// the files before it are whole, and it holds a front of its text.
+#[test]
+fn each_call_of_a_device_fails(rt: HostRuntime) -> Result<(), Fail> {
+    let alloc = rt.alloc();
+    // The file in hand, and how many bytes `A` and `B` hold.
+    let table: [(ShelfCall, &[(&str, Option<usize>, Option<usize>)]); 5] = [
+        (
+            ShelfCall::StartRead,
+            &[("in", None, None), ("tree", None, None), ("s", None, None)],
+        ),
+        (
+            ShelfCall::Read,
+            &[
+                ("in", None, None),
+                ("in", None, None),
+                ("tree", None, None),
+                ("tree", None, None),
+                ("s", None, None),
+                ("s", None, None),
+            ],
+        ),
+        (
+            ShelfCall::StartWrite,
+            &[("A", None, None), ("B", Some(51), None)],
+        ),
+        (
+            ShelfCall::Append,
+            &[
+                ("A", Some(0), None),
+                ("A", Some(32), None),
+                ("B", Some(51), Some(0)),
+                ("B", Some(51), Some(32)),
+            ],
+        ),
+        (
+            ShelfCall::Finish,
+            &[
+                ("in", None, None),
+                ("tree", None, None),
+                ("s", None, None),
+                ("A", Some(51), None),
+                ("B", Some(51), Some(51)),
+            ],
+        ),
+    ];
+    for (call, faults) in table {
+        for (index, (name, first, second)) in faults.iter().enumerate() {
+            let nth = index as u64 + 1;
+            let (status, kind) = if name.len() == 1 && *name != "s" {
+                (6, "write")
+            } else {
+                (5, "read")
+            };
+            let line = format!(in alloc; "sddc: {name}: {kind} fault\n")?;
+            let end = ran_with(
+                &rt,
+                alloc,
+                "--cnf in --vtree tree --script s",
+                four_files(alloc)?,
+                vec![in alloc; PlannedFault { call, nth }]?,
+                Vec::new(alloc),
+            )?;
+            assert!(rt; end.ended(status, "", &line), "{call:?} {nth}");
+            assert!(rt;
+                held(&end, "A") == *first && held(&end, "B") == *second,
+                "{call:?} {nth}"
+            );
+        }
+        let nth = faults.len() as u64 + 1;
+        let planned = vec![in alloc; PlannedFault { call, nth }]?;
+        let words = "--cnf in --vtree tree --script s";
+        let end = ran_with(
+            &rt,
+            alloc,
+            words,
+            four_files(alloc)?,
+            planned,
+            Vec::new(alloc),
+        )?;
+        assert!(rt; end.ended(0, "size 2\n", ""), "{call:?}");
+        assert!(rt; held(&end, "B") == Some(51), "{call:?}");
+    }
+    Ok(())
+}
