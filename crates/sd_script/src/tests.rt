@@ -133,3 +133,59 @@ fn the_last_line(rt: HostRuntime) -> Result<(), Fail> {
     }
     Ok(())
 }
+
+// The line that is bad after so many bytes, by a table of up to how many bytes each one is.
+fn bad_line_at(table: &[(usize, u32)], count: usize) -> Option<u32> {
+    for (to, line) in table {
+        if count <= *to {
+            return if *line == 0 { None } else { Some(*line) };
+        }
+    }
+    None
+}
+
+/// Each front of a script but the whole: up to so many bytes this line is bad, or none where it is 0.
+#[test]
+fn scripts_that_are_cut_off(rt: HostRuntime) -> Result<(), Fail> {
+    let text = b"lit a 1\nlit b 2\nlit c 3\nand g b c\nor h a g\nsize h\nwrite h before\nrotr 3\n\
+        size g\nsize h\nwrite h after\nrotl 1\nwrite h again\n";
+    let table = [
+        (0, 0),
+        (6, 1),
+        (8, 0),
+        (14, 2),
+        (16, 0),
+        (22, 3),
+        (24, 0),
+        (32, 4),
+        (34, 0),
+        (41, 5),
+        (43, 0),
+        (48, 6),
+        (50, 0),
+        (58, 7),
+        (65, 0),
+        (70, 8),
+        (72, 0),
+        (77, 9),
+        (79, 0),
+        (84, 10),
+        (86, 0),
+        (94, 11),
+        (100, 0),
+        (105, 12),
+        (107, 0),
+        (115, 13),
+        (120, 0),
+    ];
+    for count in 0..text.len() {
+        let front = text.get(..count).unwrap_or(b"");
+        let found = match read_script(rt.alloc(), front, 4) {
+            Err(ScriptFault::BadLine { line }) => Some(line),
+            Err(_) => Some(0),
+            Ok(_) => None,
+        };
+        assert_eq!(rt; found, bad_line_at(&table, count), "{count} bytes");
+    }
+    Ok(())
+}

@@ -1,9 +1,9 @@
 //! Times the calls on numbered nodes of two elements, a call each: find_or_insert of new keys, find
-//! and removal in a random order; a million calls over tables of 20,000 nodes, one table after
-//! another, and where it is given a word a million over one table of 1,000,000. The first table
-//! brings in the pages that the later ones use again.
+//! and removal in a random order; a million calls over tables of 20,000 nodes, and where it is given
+//! a word a million over 1,000,000 nodes. Each is timed in new tables, and in one that was filled and
+//! emptied before: the difference is what the pages of a new table cost.
 //! Standard error has the nanoseconds of a call, standard output the sums of the numbers that the
-//! calls answered over one table, which depend on no time.
+//! calls answered in one round, which depend on no time.
 #![tactic(auto)]
 
 ghost use Rattle.std.specs.Prelude.{◌<◌};
@@ -23,25 +23,32 @@ struct Times {
     removed: u128,
 }
 
+impl Times {
+    fn none() -> Times {
+        Times {
+            made: 0,
+            found: 0,
+            removed: 0,
+        }
+    }
+}
+
 fn main(rt: HostRuntime) -> io::Result<()> {
-    measure(&rt, 20_000, 50)?;
+    measure_new(&rt, 20_000, 50)?;
+    measure_again(&rt, 20_000, 50)?;
     if env::args(&rt)?.nth(1).is_none() {
         return Ok(());
     }
-    measure(&rt, 1_000_000, 1)
+    measure_new(&rt, 1_000_000, 1)?;
+    measure_again(&rt, 1_000_000, 1)
 }
 
-// Times the calls over so many tables of so many nodes.
-fn measure(rt: &HostRuntime, count: u32, tables: u32) -> io::Result<()>
+// Times the calls over so many new tables of so many nodes.
+fn measure_new(rt: &HostRuntime, count: u32, tables: u32) -> io::Result<()>
     requires nodes { 0 < count }
     requires tables { 0 < tables }
 {
-    let calls = u128::from(count) * u128::from(tables);
-    let mut times = Times {
-        made: 0,
-        found: 0,
-        removed: 0,
-    };
+    let mut times = Times::none();
     let mut sums = (0, 0, 0);
     for _ in 0..tables {
         let Ok(mut nodes) = Nodes::new(rt.alloc(), 2_000_000_000) else {
@@ -49,13 +56,42 @@ fn measure(rt: &HostRuntime, count: u32, tables: u32) -> io::Result<()>
         };
         sums = time_table(rt, &mut nodes, count, &mut times)?;
     }
-    let (insert, find) = (times.made / calls, times.found / calls);
-    let remove = times.removed / calls;
-    eprintln!(rt; "{count} nodes, ns a call: insert {insert}, find {find}, remove {remove}")?;
+    let calls = u128::from(count) * u128::from(tables);
+    eprint!(rt; "{count} nodes in new tables, ")?;
+    report(rt, &times, calls)?;
     println!(rt; "{count} nodes: {} {} {}", sums.0, sums.1, sums.2)
 }
 
-// Adds the times of the calls over one table, and answers the sums of their numbers.
+// Times the calls over one table of so many nodes, which is filled and emptied once before, and then so many times.
+fn measure_again(rt: &HostRuntime, count: u32, rounds: u32) -> io::Result<()>
+    requires nodes { 0 < count }
+    requires rounds { 0 < rounds }
+{
+    let Ok(mut nodes) = Nodes::new(rt.alloc(), 2_000_000_000) else {
+        return println!(rt; "no memory");
+    };
+    let mut times = Times::none();
+    let mut sums = time_table(rt, &mut nodes, count, &mut times)?;
+    times = Times::none();
+    for _ in 0..rounds {
+        sums = time_table(rt, &mut nodes, count, &mut times)?;
+    }
+    let calls = u128::from(count) * u128::from(rounds);
+    eprint!(rt; "{count} nodes in one table, again, ")?;
+    report(rt, &times, calls)?;
+    println!(rt; "{count} nodes again: {} {} {}", sums.0, sums.1, sums.2)
+}
+
+// Prints the nanoseconds of a call.
+fn report(rt: &HostRuntime, times: &Times, calls: u128) -> io::Result<()>
+    requires { 0 < calls }
+{
+    let (insert, find) = (times.made / calls, times.found / calls);
+    let remove = times.removed / calls;
+    eprintln!(rt; "ns a call: insert {insert}, find {find}, remove {remove}")
+}
+
+// Adds the times of the calls that fill and empty a table, and answers the sums of their numbers.
 fn time_table(
     rt: &HostRuntime,
     nodes: &mut Nodes,
