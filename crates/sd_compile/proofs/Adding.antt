@@ -1,6 +1,6 @@
 -- One group more: the prefix is held, or the total size passes the limit.
-use Rattle.std.proofs.Common.{◌≡◌, Bool, true, false, cond, ◌-◌, ◌⊎◌, inl, inr, ◌+◌, ◌<◌, ◌≤◌, ℕ}
-use Rattle.std.proofs.Common.{length, Some, None, refl, sym, ap, subst, ◌∙◌, arith}
+use Rattle.std.proofs.Common.{◌≡◌, Bool, true, false, cond, ◌-◌, inl, inr, ◌+◌, ◌<◌, ◌≤◌, ℕ}
+use Rattle.std.proofs.Common.{length, None, refl, sym, ap, subst, ◌∙◌, arith}
 use Rattle.std.specs.FinMap.{FinMap, get, remove, len, len-remove, contains_key}
 use Rattle.std.specs.Ordering.{nat_cmp}
 use Rattle.std.proofs.lemmas.Cmp.{nat_cmp_total}
@@ -19,8 +19,8 @@ use Rattle.sd_apply.specs.Answers.{HasAnswer}
 use Rattle.sd_apply.specs.Serving.{Serves}
 use Rattle.sd_sweep.specs.Reached.{KeepsReached}
 use Rattle.sd_compile.specs.Total.{HasTotalWith, IsWithinLimit, IsTotal, IsTotalWithin}
-use Rattle.sd_compile.specs.Compiling.{Progress, prefix_of, HoldsFormula, IsBegun, KeepsOthers, KeepsAll}
-use Rattle.sd_compile.specs.Compiling.{PassesLimit, AreWithinLimit, IsRefused, AreRefused}
+use Rattle.sd_compile.specs.Compiling.{CompiledPrefix, prefix_of, HoldsFormula, IsBegun, KeepsOtherRoots, KeepsAll}
+use Rattle.sd_compile.specs.Compiling.{PassesLimit, AreWithinLimit, IsGroupRefused, IsFormulaRefused}
 use Rattle.sd_compile.specs.declared.error.CompileError.{CompileError}
 use Rattle.sd_compile.specs.declared.error.CompileError.TheVariants.{OverLimit, ArenaFull, OutOfMemory}
 use Rattle.sd_compile.specs.Joined.{outer, neutral}
@@ -110,7 +110,7 @@ module _ (a b : Table) (numbered : IsNumbered a.vtree) (nodes : HoldNodes a) (k 
 
   -- or one was refused
   pub more_refused : (new : Table) (e : CompileError) → first ≤ groups → groups < length f.groups →
-      IsRefused b new f limit groups e → AreRefused a new f limit first e
+      IsGroupRefused b new f limit groups e → IsFormulaRefused a new f limit first e
   more_refused new (OverLimit group size most) far left h = (
     omega (arith, far, h.0),
     omega (arith, left, h.0),
@@ -127,8 +127,8 @@ module _ (a b : Table) (numbered : IsNumbered a.vtree) (nodes : HoldNodes a) (k 
 -- ---- the whole formula
 
 -- what stays apart from a new root is all that there was
-pub new_others : (old mid new : Table) (f : Groups) (work : Progress) → IsBegun old mid f work →
-    KeepsOthers mid new work.root → KeepsOthers old new work.root
+pub new_others : (old mid new : Table) (f : Groups) (work : CompiledPrefix) → IsBegun old mid f work →
+    KeepsOtherRoots mid new work.root → KeepsOtherRoots old new work.root
 new_others old mid new f work b k =
     let c : ℕ = cond (neutral (outer f.kind)) 1 0 in
     others_kept old new work.root
@@ -137,8 +137,8 @@ new_others old mid new f work b k =
     (k.bound ∙ ap (λ (t : Table). t.bound) b.is) (k.moving ∙ ap (λ (t : Table). t.moving) b.is)
 
 -- and where it is released, all stays
-pub new_all : (old mid last new : Table) (f : Groups) (work : Progress) → IsBegun old mid f work →
-    KeepsOthers mid last work.root → new ≡ without_root last work.root → KeepsAll old new
+pub new_all : (old mid last new : Table) (f : Groups) (work : CompiledPrefix) → IsBegun old mid f work →
+    KeepsOtherRoots mid last work.root → new ≡ without_root last work.root → KeepsAll old new
 new_all old mid last new f work b k is =
     let c : ℕ = cond (neutral (outer f.kind)) 1 0 in
     let same = ap (λ t. without_root t work.root) b.is ∙ without_new old work.root c b.absent in
@@ -152,24 +152,24 @@ new_all old mid last new f work b k is =
     }
 
 -- the others are all that there was
-pub new_table : (old mid : Table) (f : Groups) (work : Progress) → IsBegun old mid f work →
+pub new_table : (old mid : Table) (f : Groups) (work : CompiledPrefix) → IsBegun old mid f work →
     without_root mid work.root ≡ old
 new_table old mid f work b =
     ap (λ t. without_root t work.root) b.is
     ∙ without_new old work.root (cond (neutral (outer f.kind)) 1 0) b.absent
 
 -- a refusal outlasts the release of the root
-pub new_refused : (old mid last new : Table) (f : Groups) (work : Progress) (limit : ℕ) (e : CompileError) →
+pub new_refused : (old mid last new : Table) (f : Groups) (work : CompiledPrefix) (limit : ℕ) (e : CompileError) →
     IsBegun old mid f work → new ≡ without_root last work.root →
-    AreRefused (without_root mid work.root) last f limit work.groups e → AreRefused old new f limit 0 e
+    IsFormulaRefused (without_root mid work.root) last f limit work.groups e → IsFormulaRefused old new f limit 0 e
 new_refused old mid last new f work limit e b is h =
-    subst (λ t. AreRefused old t f limit 0 e) (sym is)
-    (subst (λ t. AreRefused t (without_root last work.root) f limit 0 e) (new_table old mid f work b)
-    (subst (λ n. AreRefused (without_root mid work.root) (without_root last work.root) f limit n e) b.none
+    subst (λ t. IsFormulaRefused old t f limit 0 e) (sym is)
+    (subst (λ t. IsFormulaRefused t (without_root last work.root) f limit 0 e) (new_table old mid f work b)
+    (subst (λ n. IsFormulaRefused (without_root mid work.root) (without_root last work.root) f limit n e) b.none
     (released e h)))
   where
-    released : (e : CompileError) → AreRefused (without_root mid work.root) last f limit work.groups e →
-        AreRefused (without_root mid work.root) (without_root last work.root) f limit work.groups e
+    released : (e : CompileError) → IsFormulaRefused (without_root mid work.root) last f limit work.groups e →
+        IsFormulaRefused (without_root mid work.root) (without_root last work.root) f limit work.groups e
     released (OverLimit group size most) h = h
     released (ArenaFull elements) h = record { past = h.past; least = h.least; most = h.most }
     released OutOfMemory h = tt
@@ -180,7 +180,7 @@ pub new_serves : (c : Entries) (last new : Table) (root : ℕ) → new ≡ witho
 new_serves c last new root is h = subst (Serves c) (sym is) (serves_roots c last (remove last.roots root) h)
 
 -- the prefixes are within the limit beside all that there was
-pub new_within : (old mid : Table) (f : Groups) (work : Progress) (limit last : ℕ) → IsBegun old mid f work →
+pub new_within : (old mid : Table) (f : Groups) (work : CompiledPrefix) (limit last : ℕ) → IsBegun old mid f work →
     AreWithinLimit (without_root mid work.root) f limit work.groups last → AreWithinLimit old f limit 0 last
 new_within old mid f work limit last b h =
     subst (λ t. AreWithinLimit t f limit 0 last) (new_table old mid f work b)
@@ -198,7 +198,7 @@ fewer_removed m k = at (contains_key m k) (len-remove nat_cmp_total m k)
     at false e = (omega (arith, e), omega (arith, e))
 
 -- so there is at most one more where all others stay
-pub one_more : (old new : Table) (root : ℕ) → KeepsOthers old new root → len new.roots ≤ len old.roots + 1
+pub one_more : (old new : Table) (root : ℕ) → KeepsOtherRoots old new root → len new.roots ≤ len old.roots + 1
 one_more old new root k =
     let same : len (remove new.roots root) ≡ len (remove old.roots root) = ap len k.reached.roots in
     omega (arith, same, (fewer_removed new.roots root).1, (fewer_removed old.roots root).0)

@@ -1,22 +1,22 @@
 -- What roots hold as a list of diagrams, and the size of such a list.
-use Rattle.std.proofs.Common.{◌≡◌, ◌≢◌, ◌⊎◌, inl, inr, ℕ, ◌+◌, ◌-◌, ◌*◌, ◌≤◌, ◌<◌, Bool, true, false, cond, eqb, ltb}
-use Rattle.std.proofs.Common.{List, [], ◌∷◌, ◌++◌, length, map, Option, Some, None, refl, sym, ap, subst, ◌∙◌, arith}
+use Rattle.std.proofs.Common.{◌≡◌, ◌≢◌, ◌⊎◌, inl, inr, ℕ, ◌+◌, ◌-◌, ◌≤◌, ◌<◌, Bool, true, false, cond, eqb, ltb}
+use Rattle.std.proofs.Common.{List, [], ◌∷◌, ◌++◌, length, map, Some, refl, sym, ap, subst, ◌∙◌, arith}
 use Rattle.std.specs.Prelude.{unwrap_or}
-use Rattle.std.specs.Option.{IsSome, option_map}
+use Rattle.std.specs.Option.{option_map}
 use Rattle.std.specs.Ordering.{nat_cmp}
-use Rattle.std.specs.FinMap.{FinMap, get, get-entries, remove, values, entries, find}
+use Rattle.std.specs.FinMap.{FinMap, get, get-entries, values, entries, find}
 use Rattle.std.specs.Ordering.{eq_by_cmp}
-use Rattle.std.specs.List.{AllByRecursion, AllZip, flat_map, sum_by}
-use Rattle.std.proofs.lemmas.Bool.{cases_eq, ltb-false, eq-eqb}
+use Rattle.std.specs.List.{AllZip, flat_map, sum_by}
+use Rattle.std.proofs.lemmas.Bool.{cases_eq}
 use Rattle.std.proofs.lemmas.Bool.Decides.{nat_tests}
 use Rattle.std.proofs.lemmas.Option.{same_Some}
 use Rattle.std.proofs.lemmas.List.Sums.{sum_by-cons}
 use Rattle.std.proofs.lemmas.List.Sorted.{sum_by-IsPermutation, length_permutation}
-use Rattle.sd_model.specs.Tree.{AreDistinct, leaves}
+use Rattle.sd_model.specs.Tree.{AreDistinct}
 use Rattle.sd_model.specs.Diagram.{Diagram, Bottom, Top, Literal, Decomposition, Elements, End, Pair}
 use Rattle.sd_model.specs.Canonical.{AreDifferent}
 use Rattle.sd_model.specs.Size.{walk, walk_elements, first_occurrences, completed, element_count, size_of}
-use Rattle.sd_vtree.specs.Numbered.{IsNumbered, plain_tree}
+use Rattle.sd_vtree.specs.Numbered.{IsNumbered}
 use Rattle.sd_laws.specs.Shown.{ShowElements}
 use Rattle.sd_laws.proofs.Codes.{one_diagram, literal_range}
 use Rattle.sd_laws.proofs.Lists.{IsAmong, IsWithin, all_at, all_from, first_at, second_at}

@@ -1,6 +1,6 @@
 -- What stays when nodes are made, a root holds another node, and a sweep follows.
-use Rattle.std.proofs.Common.{◌≡◌, ◌≢◌, ◌⊎◌, inl, inr, ℕ, ◌+◌, ◌*◌, ◌/◌, ◌≤◌, ◌<◌}
-use Rattle.std.proofs.Common.{Some, None, Contains, refl, sym, ap, subst, ◌∙◌}
+use Rattle.std.proofs.Common.{◌≡◌, ◌≢◌, ◌⊎◌, inl, inr, ℕ, ◌+◌, ◌*◌, ◌/◌, ◌≤◌}
+use Rattle.std.proofs.Common.{Some, None, refl, sym, ap, subst, ◌∙◌}
 use Rattle.std.proofs.Common.{arith, List, Bool, Option}
 use Rattle.std.proofs.lemmas.Bool.{cases_eq}
 use Rattle.std.specs.Option.{IsSome}
@@ -13,14 +13,14 @@ use Rattle.sd_model.specs.Tree.{leaves}
 use Rattle.sd_vtree.specs.Numbered.{Numbered, plain_tree}
 use Rattle.sd_laws.specs.Shown.{Shows as ShowsBy}
 use Rattle.sd_laws.proofs.Within.{shows_within}
-use Rattle.sd_cache.specs.Entries.{Call, Entries}
+use Rattle.sd_cache.specs.Entries.{Entries}
 use Rattle.sd_manager.specs.Table.{Table}
 use Rattle.sd_manager.specs.Shown.{ShowsCanonical, IsNodeOf, HoldsDiagram}
 use Rattle.sd_manager.specs.Making.{Extends, IsPastBound, with_root, without_root}
 use Rattle.sd_manager.specs.Moving.{IsLater}
 use Rattle.sd_manager.proofs.Totals.{left_was}
 use Rattle.sd_apply.specs.Answers.{HasAnswer}
-use Rattle.sd_apply.specs.Serving.{Serves, IsRight, last_epoch}
+use Rattle.sd_apply.specs.Serving.{Serves, last_epoch}
 use Rattle.sd_sweep.specs.Reached.{reached_first, reached_below, IsReached, IsSwept, HasUnreached, KeepsReached}
 use Rattle.sd_sweep.proofs.Keeping.{keeps_both, keeps_swept, keeps_extended}
 use Rattle.sd_manager.specs.Marking.{AreUnmarked}
@@ -28,7 +28,8 @@ use Rattle.sd_formula.specs.Dimacs.{Groups}
 use Rattle.sd_model.specs.Expression.{expression_value}
 use Rattle.sd_compile.specs.declared.error.CompileError.{CompileError}
 use Rattle.sd_compile.specs.declared.error.CompileError.TheVariants.{OverLimit, ArenaFull, OutOfMemory}
-use Rattle.sd_compile.specs.Compiling.{Progress, prefix_of, HoldsFormula, HoldsPrefix, KeepsOthers, KeepsAll, IsRefused}
+use Rattle.sd_compile.specs.Compiling.{CompiledPrefix, prefix_of, HoldsPrefix}
+use Rattle.sd_compile.specs.Compiling.{KeepsOtherRoots, KeepsAll, IsGroupRefused}
 use Rattle.sd_compile.specs.Compiling.{MaySweep}
 
 -- ---- what roots hold
@@ -189,7 +190,7 @@ holds_left t root other d ne h =
 
 -- what stays apart from one root
 pub others_kept : (old new : Table) (root : ℕ) → KeepsReached (without_root old root) (without_root new root) →
-    new.bound ≡ old.bound → new.moving ≡ old.moving → KeepsOthers old new root
+    new.bound ≡ old.bound → new.moving ≡ old.moving → KeepsOtherRoots old new root
 others_kept old new root k bound moving =
     record {
       reached = k;
@@ -201,18 +202,19 @@ others_kept old new root k bound moving =
     }
 
 -- where all stays, so does all but one root
-pub all_others : (old new : Table) (root : ℕ) → KeepsAll old new → KeepsOthers old new root
+pub all_others : (old new : Table) (root : ℕ) → KeepsAll old new → KeepsOtherRoots old new root
 all_others old new root k = others_kept old new root (keeps_without old new root k.reached) k.bound k.moving
 
 -- one after the other
-pub others_both : (a b c : Table) (root : ℕ) → KeepsOthers a b root → KeepsOthers b c root → KeepsOthers a c root
+pub others_both : (a b c : Table) (root : ℕ) → KeepsOtherRoots a b root → KeepsOtherRoots b c root →
+    KeepsOtherRoots a c root
 others_both a b c root h k =
     others_kept a c root
     (keeps_both (without_root a root) (without_root b root) (without_root c root) h.reached k.reached)
     (k.bound ∙ h.bound) (k.moving ∙ h.moving)
 
 -- nothing changed
-pub others_self : (t : Table) (root : ℕ) → KeepsOthers t t root
+pub others_self : (t : Table) (root : ℕ) → KeepsOtherRoots t t root
 others_self t root =
     others_kept t t root (record { vtree = refl; nodes = λ n key r e. e; roots = refl; loose = refl }) refl refl
 
@@ -241,7 +243,7 @@ all_extended old new x =
 
 -- nodes were made, and one of them is held
 pub held_others : (old mid new : Table) (root node : ℕ) → Extends old mid → new ≡ with_root mid root node →
-    KeepsOthers old new root
+    KeepsOtherRoots old new root
 held_others old mid new root node x is =
     others_kept old new root
     (subst (KeepsReached (without_root old root))
@@ -278,8 +280,8 @@ all_may old mid new k s =
       moving = may_moving mid new s ∙ k.moving;
     }
 
-pub others_may : (old mid new : Table) (root : ℕ) → KeepsOthers old mid root → MaySweep mid new →
-    KeepsOthers old new root
+pub others_may : (old mid new : Table) (root : ℕ) → KeepsOtherRoots old mid root → MaySweep mid new →
+    KeepsOtherRoots old new root
 others_may old mid new root k s =
     others_kept old new root
     (keeps_both (without_root old root) (without_root mid root) (without_root new root) k.reached
@@ -287,7 +289,7 @@ others_may old mid new root k s =
     (may_moving mid new s ∙ k.moving)
 
 -- the prefix is held
-pub prefix_may : (old new : Table) (f : Groups) (work : Progress) → HoldsPrefix old f work → MaySweep old new →
+pub prefix_may : (old new : Table) (f : Groups) (work : CompiledPrefix) → HoldsPrefix old f work → MaySweep old new →
     HoldsPrefix new f work
 prefix_may old new f work h s = (
   h.0,
@@ -316,13 +318,13 @@ past_swept old new elements s h =
 
 -- so a refusal is one still
 pub refused_swept : (others old new : Table) (f : Groups) (limit groups : ℕ) (e : CompileError) →
-    IsRefused others old f limit groups e → IsSwept old new → IsRefused others new f limit groups e
+    IsGroupRefused others old f limit groups e → IsSwept old new → IsGroupRefused others new f limit groups e
 refused_swept others old new f limit groups (OverLimit group size most) h s = h
 refused_swept others old new f limit groups (ArenaFull elements) h s = past_swept old new elements s h
 refused_swept others old new f limit groups OutOfMemory h s = tt
 
 -- a new root is released, and all else stays
-pub released_all : (old mid new : Table) (root again : ℕ) → get old.roots root ≡ None → KeepsOthers old mid root →
+pub released_all : (old mid new : Table) (root again : ℕ) → get old.roots root ≡ None → KeepsOtherRoots old mid root →
     again ≡ root → new ≡ without_root mid again → KeepsAll old new
 released_all old mid new root again absent k same is =
     let here : new ≡ without_root mid root = is ∙ ap (without_root mid) same in

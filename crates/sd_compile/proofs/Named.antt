@@ -1,20 +1,17 @@
 -- Where each root holds a formula of a list, the total size with one formula more is that of all of them.
-use Rattle.std.proofs.Common.{◌≡◌, ◌⊎◌, inl, inr, ℕ, List, [], ◌∷◌, Some, refl, sym, ap, subst, ◌∙◌}
-use Rattle.std.specs.FinMap.{get}
+use Rattle.std.proofs.Common.{◌≡◌, inl, inr, ℕ, List, [], ◌∷◌, refl, subst, ◌∙◌}
 use Rattle.std.specs.List.{AllZip}
-use Rattle.sd_model.specs.Tree.{Tree}
 use Rattle.sd_model.specs.Diagram.{Diagram}
 use Rattle.sd_model.specs.Expression.{Expression}
-use Rattle.sd_model.specs.Size.{size_of, IsDiagramOf, HasSize}
+use Rattle.sd_model.specs.Size.{IsDiagramOf, HasSize}
 use Rattle.sd_model.proofs.Determined.{diagram_determined}
 use Rattle.sd_vtree.specs.Numbered.{plain_tree, IsNumbered}
 use Rattle.sd_laws.proofs.Lists.{IsAmong, IsWithin, second_at, first_at}
 use Rattle.sd_manager.specs.Table.{Table}
-use Rattle.sd_manager.specs.Shown.{ShowsCanonical}
 use Rattle.sd_sweep.specs.Reached.{AreHeldDiagrams}
 use Rattle.sd_compile.specs.Total.{HasTotalWith, IsHeldDiagram, IsHeldFormula, IsOfSome, AreHeldFormulas}
 use Rattle.sd_compile.proofs.Holding.{held_among, among_held, same_size}
-use Rattle.sd_compile.proofs.Totals.{HoldNodes, beside_within}
+use Rattle.sd_compile.proofs.Totals.{beside_within}
 
 -- the diagrams of formulas that are held
 formula_list : (t : Table) (fs : List Expression) → ((g : Expression) → IsAmong g fs → IsHeldFormula t g) →

@@ -1,5 +1,5 @@
 -- The total size with a prefix held, as a function of what roots hold.
-use Rattle.std.proofs.Common.{◌≡◌, ◌≢◌, ◌⊎◌, inl, inr, ℕ, ◌≤◌, List, ◌∷◌, Some, None, refl, sym, ap, subst, ◌∙◌}
+use Rattle.std.proofs.Common.{◌≡◌, ◌≢◌, inl, inr, ℕ, ◌≤◌, List, ◌∷◌, Some, None, sym, ap, subst, ◌∙◌}
 use Rattle.std.proofs.lemmas.Bool.{cases_eq}
 use Rattle.std.proofs.lemmas.Option.{same_Some, none-some}
 use Rattle.std.specs.FinMap.{get}
@@ -8,7 +8,7 @@ use Rattle.sd_model.specs.Diagram.{Diagram}
 use Rattle.sd_model.specs.Canonical.{IsCanonical}
 use Rattle.sd_model.specs.Tree.{leaves}
 use Rattle.sd_model.specs.Expression.{Expression, expression_value}
-use Rattle.sd_model.specs.Size.{size_of, IsDiagramOf}
+use Rattle.sd_model.specs.Size.{size_of}
 use Rattle.sd_model.proofs.Determined.{diagram_determined}
 use Rattle.sd_vtree.specs.Numbered.{Numbered, plain_tree, IsNumbered}
 use Rattle.sd_laws.proofs.Codes.{one_diagram}

@@ -23,7 +23,7 @@ error_of (taking.ArenaFull elements) = ArenaFull elements
 error_of taking.OutOfMemory = OutOfMemory
 
 -- how far a formula is compiled: the root of a prefix, and the number of its groups
-pub record Progress : Type 0 where
+pub record CompiledPrefix : Type 0 where
   pub root : ℕ
   pub groups : ℕ
 
@@ -38,11 +38,11 @@ pub record HoldsFormula (t : Table) (f : Expression) (root : ℕ) : Type 0 where
   pub shown : HasAnswer t (expression_value f) code
 
 -- the root of a prefix holds it
-abbrev pub HoldsPrefix : Table → Groups → Progress → Type 0
+abbrev pub HoldsPrefix : Table → Groups → CompiledPrefix → Type 0
 HoldsPrefix t f work = (work.groups ≤ length f.groups) × HoldsFormula t (prefix_of f work.groups) work.root
 
 -- a new root holds the value of no groups, and nothing else changed
-pub record IsBegun (old new : Table) (f : Groups) (work : Progress) : Type 0 where
+pub record IsBegun (old new : Table) (f : Groups) (work : CompiledPrefix) : Type 0 where
   pub absent : get old.roots work.root ≡ None
   pub none : work.groups ≡ 0
   pub holds : HoldsPrefix new f work
@@ -50,7 +50,7 @@ pub record IsBegun (old new : Table) (f : Groups) (work : Progress) : Type 0 whe
 
 -- What stays when a formula is compiled into a root: each other root with its node, all nodes that are reached from
 -- these roots or from a loose run, the vtree, the loose runs and the bound.
-pub record KeepsOthers (old new : Table) (root : ℕ) : Type 0 where
+pub record KeepsOtherRoots (old new : Table) (root : ℕ) : Type 0 where
   pub reached : KeepsReached (without_root old root) (without_root new root)
   pub holds : (other : ℕ) (d : Diagram) → other ≢ root → HoldsDiagram old other d → HoldsDiagram new other d
   pub bound : new.bound ≡ old.bound
@@ -75,11 +75,11 @@ pub record PassesLimit (others : Table) (f : Groups) (limit group size most : �
 
 -- Why the next group was not added to a prefix: with it the total size passes the limit, the arena was full, or there
 -- was no memory.
-abbrev pub IsRefused : Table → Table → Groups → ℕ → ℕ → CompileError → Type 0
-IsRefused others new f limit groups (OverLimit group size most) =
+abbrev pub IsGroupRefused : Table → Table → Groups → ℕ → ℕ → CompileError → Type 0
+IsGroupRefused others new f limit groups (OverLimit group size most) =
     (group ≡ groups + 1) × PassesLimit others f limit group size most
-IsRefused others new f limit groups (ArenaFull elements) = IsPastBound new elements
-IsRefused others new f limit groups OutOfMemory = Unit {0}
+IsGroupRefused others new f limit groups (ArenaFull elements) = IsPastBound new elements
+IsGroupRefused others new f limit groups OutOfMemory = Unit {0}
 
 -- each prefix of more than `first` and at most `last` groups is within the limit
 abbrev pub AreWithinLimit : Table → Groups → ℕ → ℕ → ℕ → Type 0
@@ -88,9 +88,9 @@ AreWithinLimit others f limit first last =
 
 -- Why the groups behind the first ones were not all added: one of them was refused. It is the first that passes the
 -- limit.
-abbrev pub AreRefused : Table → Table → Groups → ℕ → ℕ → CompileError → Type 0
-AreRefused others new f limit first (OverLimit group size most) =
+abbrev pub IsFormulaRefused : Table → Table → Groups → ℕ → ℕ → CompileError → Type 0
+IsFormulaRefused others new f limit first (OverLimit group size most) =
     (first < group) × (group ≤ length f.groups) × PassesLimit others f limit group size most
     × ((n : ℕ) → first < n → n < group → IsWithinLimit others (prefix_of f n) limit)
-AreRefused others new f limit first (ArenaFull elements) = IsPastBound new elements
-AreRefused others new f limit first OutOfMemory = Unit {0}
+IsFormulaRefused others new f limit first (ArenaFull elements) = IsPastBound new elements
+IsFormulaRefused others new f limit first OutOfMemory = Unit {0}

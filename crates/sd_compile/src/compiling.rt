@@ -15,8 +15,8 @@ ghost use Rattle.sd_apply.specs.Serving.{Serves};
 ghost use Rattle.sd_sweep.specs.Reached.{IsReached};
 ghost use Rattle.sd_compile.specs.Total.{IsWithinLimit};
 ghost use Rattle.sd_manager.specs.Marking.{AreUnmarked};
-ghost use Rattle.sd_compile.specs.Compiling.{prefix_of, HoldsFormula, HoldsPrefix, IsBegun, KeepsOthers, KeepsAll};
-ghost use Rattle.sd_compile.specs.Compiling.{IsRefused, AreRefused, AreWithinLimit};
+ghost use Rattle.sd_compile.specs.Compiling.{prefix_of, HoldsFormula, HoldsPrefix, IsBegun, KeepsOtherRoots, KeepsAll};
+ghost use Rattle.sd_compile.specs.Compiling.{IsGroupRefused, IsFormulaRefused, AreWithinLimit};
 
 use crate::connectives::{between_groups, connect, neutral_value, within_group};
 use crate::error::{CompileError, compile_error};
@@ -38,9 +38,9 @@ pub struct Compiling {
 }
 
 impl Model for Compiling {
-    ghost use Rattle.sd_compile.specs.Compiling.{Progress};
+    ghost use Rattle.sd_compile.specs.Compiling.{CompiledPrefix};
 
-    ghost Value = { Progress };
+    ghost Value = { CompiledPrefix };
 
     ghost view = { λ a. record { root = a.root; groups = a.groups } };
 }
@@ -79,11 +79,11 @@ pub fn add_group(
     ensures within { OnOk result (IsWithinLimit (without_root m.old work.old.root)
         (prefix_of f.now (work.old.groups + 1)) limit) }
     ensures err { IfErr result (λ e.
-        IsRefused (without_root m.old work.old.root) m.new f.now limit work.old.groups e) }
+        IsGroupRefused (without_root m.old work.old.root) m.new f.now limit work.old.groups e) }
     ensures unchanged { OnErr result (work.new ≡ work.old) }
     ensures all_kept { OnErr result (KeepsAll m.old m.new) }
     ensures root { work.new.root ≡ work.old.root }
-    ensures kept { KeepsOthers m.old m.new work.old.root }
+    ensures kept { KeepsOtherRoots m.old m.new work.old.root }
     ensures swept { (n : ℕ) → IsSome (get m.new.linked n) → IsReached m.new n }
     ensures serves { Serves c.new m.new }
     ensures unmarked { AreUnmarked m.new }
@@ -114,11 +114,11 @@ fn join_next(
     ensures within { OnOk result (IsWithinLimit (without_root m.old work.old.root)
         (prefix_of f.now (work.old.groups + 1)) limit) }
     ensures err { IfErr result (λ e.
-        IsRefused (without_root m.old work.old.root) m.new f.now limit work.old.groups e) }
+        IsGroupRefused (without_root m.old work.old.root) m.new f.now limit work.old.groups e) }
     ensures unchanged { OnErr result (work.new ≡ work.old) }
     ensures all_kept { OnErr result (KeepsAll m.old m.new) }
     ensures root { work.new.root ≡ work.old.root }
-    ensures kept { KeepsOthers m.old m.new work.old.root }
+    ensures kept { KeepsOtherRoots m.old m.new work.old.root }
     ensures serves { Serves c.new m.new }
     ensures unmarked { AreUnmarked m.new }
     ensures table { IsTable m.new }
@@ -251,10 +251,10 @@ fn add_groups(
     ensures within { OnOk result (AreWithinLimit (without_root m.old work.old.root) f.now limit
         work.old.groups (length f.now.groups)) }
     ensures err { IfErr result (λ e.
-        AreRefused (without_root m.old work.old.root) m.new f.now limit work.old.groups e) }
+        IsFormulaRefused (without_root m.old work.old.root) m.new f.now limit work.old.groups e) }
     ensures held { IsSome (get m.new.roots work.new.root) }
     ensures root { work.new.root ≡ work.old.root }
-    ensures kept { KeepsOthers m.old m.new work.old.root }
+    ensures kept { KeepsOtherRoots m.old m.new work.old.root }
     ensures serves { Serves c.new m.new }
     ensures unmarked { AreUnmarked m.new }
     ensures table { IsTable m.new }
@@ -297,8 +297,8 @@ pub fn compile(
     ensures count { len m.new.roots ≤ len m.old.roots + 1 }
     ensures ok { IfOk result (λ root. HoldsFormula m.new (expression_of f.now) root) }
     ensures within { OnOk result (AreWithinLimit m.old f.now limit 0 (length f.now.groups)) }
-    ensures kept { IfOk result (λ root. KeepsOthers m.old m.new root) }
-    ensures err { IfErr result (λ e. AreRefused m.old m.new f.now limit 0 e) }
+    ensures kept { IfOk result (λ root. KeepsOtherRoots m.old m.new root) }
+    ensures err { IfErr result (λ e. IsFormulaRefused m.old m.new f.now limit 0 e) }
     ensures all_kept { OnErr result (KeepsAll m.old m.new) }
     ensures serves { Serves c.new m.new }
     ensures unmarked { AreUnmarked m.new }

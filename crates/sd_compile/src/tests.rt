@@ -5,7 +5,7 @@ ghost use Rattle.sd_model.specs.Tree.{leaves};
 ghost use Rattle.sd_vtree.specs.Numbered.{plain_tree};
 ghost use Rattle.sd_manager.specs.Marking.{AreUnmarked};
 ghost use Rattle.sd_apply.specs.Serving.{Serves};
-ghost use Rattle.sd_compile.specs.Compiling.{KeepsOthers};
+ghost use Rattle.sd_compile.specs.Compiling.{KeepsOtherRoots};
 
 use super::*;
 use sd_cache::Cache;
@@ -78,7 +78,7 @@ fn join_three(
     requires serves { Serves c.old m.old }
     ensures absent { IfOk result (λ root. get m.old.roots root ≡ None) }
     ensures held { IfOk result (λ root. IsSome (get m.new.roots root)) }
-    ensures kept { IfOk result (λ root. KeepsOthers m.old m.new root) }
+    ensures kept { IfOk result (λ root. KeepsOtherRoots m.old m.new root) }
 {
     if f.groups() != 3 {
         return Err(CompileError::OutOfMemory);

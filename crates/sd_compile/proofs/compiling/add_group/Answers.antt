@@ -1,7 +1,7 @@
-use Rattle.std.proofs.Common.{inr, ◌+◌, ◌∙◌}
+use Rattle.std.proofs.Common.{inr}
 use Rattle.std.proofs.lemmas.Result.{IfErr-weaker, on_ok_weaker, on_err_weaker}
 use Rattle.sd_manager.specs.Making.{without_root}
-use Rattle.sd_compile.specs.Compiling.{IsRefused}
+use Rattle.sd_compile.specs.Compiling.{IsGroupRefused}
 use Rattle.sd_compile.proofs.Kept.{all_may, others_may, prefix_may, refused_swept}
 use Rattle.sd_compile.proofs.compiling.add_group.Goals as goal
 
@@ -16,8 +16,8 @@ returns-clause-err c =
     let others = without_root c.args.m.now c.args.work.now.root in
     let groups = c.args.work.now.groups in
     IfErr-weaker c.join_next-answer.result
-    (λ e. IsRefused others c.join_next-answer.new.m c.args.f.now c.args.limit groups e)
-    (λ e. IsRefused others c.sweep_kept.new.m c.args.f.now c.args.limit groups e)
+    (λ e. IsGroupRefused others c.join_next-answer.new.m c.args.f.now c.args.limit groups e)
+    (λ e. IsGroupRefused others c.sweep_kept.new.m c.args.f.now c.args.limit groups e)
     (λ e h. refused_swept others c.join_next-answer.new.m c.sweep_kept.new.m c.args.f.now c.args.limit groups e h
     c.sweep_kept.ensures.swept) c.join_next-answer.ensures.err
 

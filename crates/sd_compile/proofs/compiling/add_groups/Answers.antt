@@ -1,7 +1,7 @@
 use Rattle.std.proofs.Common.{inr, ◌+◌, ◌∙◌, subst, arith}
 use Rattle.sd_manager.specs.Making.{without_root}
 use Rattle.sd_compile.specs.Total.{IsWithinLimit}
-use Rattle.sd_compile.specs.Compiling.{prefix_of, IsRefused, KeepsOthers}
+use Rattle.sd_compile.specs.Compiling.{prefix_of, IsGroupRefused, KeepsOtherRoots}
 use Rattle.sd_compile.proofs.Kept.{others_both, others_may, prefix_may, refused_swept}
 use Rattle.sd_compile.proofs.Totals.{hold_nodes, hold_without}
 use Rattle.sd_compile.proofs.Adding.{more_within, more_refused}
@@ -19,7 +19,7 @@ returns-in-Err-clause-err c =
     (refused_swept others c.join_next.new.m c.sweep_kept.new.m c.args.f.now c.args.limit c.left.work.groups
     c.in-Err.error
     (subst
-    (λ r. IsRefused (without_root c.left.m r) c.join_next.new.m c.args.f.now c.args.limit c.left.work.groups
+    (λ r. IsGroupRefused (without_root c.left.m r) c.join_next.new.m c.args.f.now c.args.limit c.left.work.groups
     c.in-Err.error)
     c.left.invariant.root c.in-Err.ensures.err)
     c.sweep_kept.ensures.swept)
@@ -29,7 +29,7 @@ returns-in-Err-clause-kept c =
     let root = c.args.work.now.root in
     others_both c.args.m.now c.left.m c.sweep_kept.new.m root c.left.invariant.kept
     (others_may c.left.m c.join_next.new.m c.sweep_kept.new.m root
-    (subst (KeepsOthers c.left.m c.join_next.new.m) c.left.invariant.root c.in-Err.ensures.kept)
+    (subst (KeepsOtherRoots c.left.m c.join_next.new.m) c.left.invariant.root c.in-Err.ensures.kept)
     (inr c.sweep_kept.ensures.swept))
 
 pub left-preserved : goal.left-preserved
@@ -53,7 +53,7 @@ left-preserved c =
       kept =
           others_both c.args.m.now c.left.m c.sweep_past.new.m root c.left.invariant.kept
           (others_may c.left.m c.join_next.new.m c.sweep_past.new.m root
-          (subst (KeepsOthers c.left.m c.join_next.new.m) c.left.invariant.root c.in_default.ensures.kept)
+          (subst (KeepsOtherRoots c.left.m c.join_next.new.m) c.left.invariant.root c.in_default.ensures.kept)
           c.sweep_past.ensures.swept);
       serves = c.sweep_past.ensures.serves;
       unmarked = c.sweep_past.ensures.unmarked;

@@ -3,7 +3,7 @@ use Rattle.sd_manager.specs.Valid.{IsTable}
 use Rattle.sd_manager.specs.Making.{without_root}
 use Rattle.sd_apply.specs.Serving.{Serves}
 use Rattle.sd_manager.specs.Marking.{AreUnmarked}
-use Rattle.sd_compile.specs.Compiling.{HoldsPrefix, KeepsOthers, AreWithinLimit}
+use Rattle.sd_compile.specs.Compiling.{HoldsPrefix, KeepsOtherRoots, AreWithinLimit}
 use Rattle.sd_compile.proofs.compiling.add_groups.Given as goal
 
 abbrev pub invariant-left : goal.invariant-left
@@ -13,7 +13,7 @@ invariant-left l = record {
   root : l.work.root ≡ l.fn.work.root;
   far : l.fn.work.groups ≤ l.work.groups;
   within : AreWithinLimit (without_root l.fn.m l.fn.work.root) l.f l.limit l.fn.work.groups l.work.groups;
-  kept : KeepsOthers l.fn.m l.m l.fn.work.root;
+  kept : KeepsOtherRoots l.fn.m l.m l.fn.work.root;
   serves : Serves l.c l.m;
   unmarked : AreUnmarked l.m;
   table : IsTable l.m;

@@ -1,7 +1,7 @@
 use Rattle.std.proofs.Common.{◌≡◌, ◌∙◌, cond, sym, ap, subst, length}
 use Rattle.sd_manager.specs.Making.{without_root}
 use Rattle.sd_compile.specs.Joined.{neutral, outer}
-use Rattle.sd_compile.specs.Compiling.{KeepsOthers}
+use Rattle.sd_compile.specs.Compiling.{KeepsOtherRoots}
 use Rattle.sd_compile.proofs.Kept.{serves_rebound}
 use Rattle.sd_compile.proofs.Adding.{new_others, new_all, new_refused, new_serves, new_within, one_more, no_more}
 use Rattle.sd_compile.proofs.compiling.compile.Goals as goal
@@ -18,7 +18,7 @@ returns-in-Ok-add_groups-clause-within c =
 
 pub returns-in-Ok-add_groups-clause-kept : goal.returns-in-Ok-add_groups-clause-kept
 returns-in-Ok-add_groups-clause-kept c =
-    subst (KeepsOthers c.args.m.now c.add_groups.new.m)
+    subst (KeepsOtherRoots c.args.m.now c.add_groups.new.m)
     (sym (c.finish.ensures ∙ c.in-Ok-add_groups.ensures.root))
     (new_others c.args.m.now c.begin.new.m c.add_groups.new.m c.args.f.now c.in-Ok.work c.in-Ok.ensures.ok
     c.in-Ok-add_groups.ensures.kept)

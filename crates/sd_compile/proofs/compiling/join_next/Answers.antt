@@ -1,6 +1,6 @@
-use Rattle.std.proofs.Common.{◌≡◌, ◌+◌, ◌∙◌, ap, sym, subst, arith}
+use Rattle.std.proofs.Common.{◌+◌, ap, sym, subst, arith}
 use Rattle.sd_apply.specs.Serving.{Serves}
-use Rattle.sd_compile.specs.Compiling.{Progress, prefix_of, HoldsFormula, KeepsOthers, KeepsAll}
+use Rattle.sd_compile.specs.Compiling.{CompiledPrefix, prefix_of, HoldsFormula, KeepsOtherRoots, KeepsAll}
 use Rattle.sd_manager.proofs.Marking.{unmarked_extended}
 use Rattle.sd_compile.proofs.Kept.{extended_all, all_others, held_others, serves_rebound}
 use Rattle.sd_compile.proofs.Adding.{group_over, group_within, group_held}
@@ -24,7 +24,7 @@ returns-in-Some-clause-err c = (
   group_over c.args.m.now c.next_node.new.m c.args.work.now.root c.work.inside.root c.in-Ok.node c.args.f.now
       c.args.limit c.args.work.now.groups c.next_group-group.result c.in-Some.size c.vtree.ensures.table
       c.requires.no_move c.next_node.ensures.kept c.in-Ok.ensures.ok
-      (ap (λ (w : Progress). w.root) (sym c.work.view_is)) c.next_group-group.ensures c.in-Some.ensures.some.0
+      (ap (λ (w : CompiledPrefix). w.root) (sym c.work.view_is)) c.next_group-group.ensures c.in-Some.ensures.some.0
       c.in-Some.ensures.some.1,
 )
 
@@ -35,7 +35,7 @@ returns-in-Some-clause-all_kept c =
 
 pub returns-in-Some-clause-kept : goal.returns-in-Some-clause-kept
 returns-in-Some-clause-kept c =
-    subst (λ t. KeepsOthers c.args.m.now t c.args.work.now.root) (sym c.in-Some.ensures.some.2)
+    subst (λ t. KeepsOtherRoots c.args.m.now t c.args.work.now.root) (sym c.in-Some.ensures.some.2)
     (all_others c.args.m.now c.next_node.new.m c.args.work.now.root
     (extended_all c.args.m.now c.next_node.new.m c.next_node.ensures.kept))
 
@@ -58,11 +58,11 @@ pub returns-clause-within : goal.returns-clause-within
 returns-clause-within c =
     group_within c.args.m.now c.next_node.new.m c.args.work.now.root c.work.inside.root c.in-Ok.node c.args.f.now
     c.args.limit c.args.work.now.groups c.vtree.ensures.table c.requires.no_move c.next_node.ensures.kept
-    c.in-Ok.ensures.ok (ap (λ (w : Progress). w.root) (sym c.work.view_is)) c.in_default.ensures.none.0
+    c.in-Ok.ensures.ok (ap (λ (w : CompiledPrefix). w.root) (sym c.work.view_is)) c.in_default.ensures.none.0
 
 pub returns-clause-kept : goal.returns-clause-kept
 returns-clause-kept c =
-    subst (KeepsOthers c.args.m.now c.try_hold.new.m) (ap (λ (w : Progress). w.root) c.work.view_is)
+    subst (KeepsOtherRoots c.args.m.now c.try_hold.new.m) (ap (λ (w : CompiledPrefix). w.root) c.work.view_is)
     (held_others c.args.m.now c.next_node.new.m c.try_hold.new.m c.work.inside.root c.in-Ok.node
     c.next_node.ensures.kept c.in_default.ensures.none.1)
 

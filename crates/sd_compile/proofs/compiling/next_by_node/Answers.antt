@@ -3,7 +3,7 @@ use Rattle.std.proofs.lemmas.Result.{IfOk-weaker}
 use Rattle.sd_model.specs.Expression.{expression_value}
 use Rattle.sd_apply.specs.Answers.{HasAnswer, Combines}
 use Rattle.sd_compile.specs.Joined.{outer, inner}
-use Rattle.sd_compile.specs.Compiling.{Progress, prefix_of, HoldsPrefix}
+use Rattle.sd_compile.specs.Compiling.{CompiledPrefix, prefix_of, HoldsPrefix}
 use Rattle.sd_compile.proofs.Joining.{answer_node, prefix_node, prefix_more}
 use Rattle.sd_compile.proofs.compiling.next_by_node.Goals as goal
 
@@ -22,7 +22,8 @@ returns-clause-ok c =
     c.in_ok-group.group r)
     (λ r. HasAnswer c.connect.new.m (expression_value (prefix_of c.args.f.now (c.args.work.now.groups + 1))) r)
     (λ r both.
-    subst (λ (w : Progress). HasAnswer c.connect.new.m (expression_value (prefix_of c.args.f.now (w.groups + 1))) r)
+    subst
+    (λ (w : CompiledPrefix). HasAnswer c.connect.new.m (expression_value (prefix_of c.args.f.now (w.groups + 1))) r)
     c.work.view_is
     (prefix_more c.args.f.now c.args.m.now c.group_node.new.m c.connect.new.m c.between_groups.result
     c.within_group.result c.work.inside.groups c.group.result.now c.work.inside.root c.node_of-prefix.result

@@ -4,7 +4,7 @@ use Rattle.sd_model.specs.Expression.{expression_value}
 use Rattle.sd_apply.specs.Answers.{HasAnswer}
 use Rattle.sd_manager.proofs.Extending.{extends_self}
 use Rattle.sd_compile.specs.Joined.{JoinsLiterals}
-use Rattle.sd_compile.specs.Compiling.{Progress, prefix_of, HoldsPrefix}
+use Rattle.sd_compile.specs.Compiling.{CompiledPrefix, prefix_of, HoldsPrefix}
 use Rattle.sd_compile.proofs.Joining.{answer_node, prefix_node, prefix_passed}
 use Rattle.sd_compile.proofs.compiling.next_in_one_pass.Goals as goal
 
@@ -24,7 +24,7 @@ returns-clause-ok c =
     (λ r. JoinsLiterals old new c.kind.result c.node_of-prefix.result c.group-literals.result.now r)
     (λ r. HasAnswer new (expression_value (prefix_of c.args.f.now (c.args.work.now.groups + 1))) r)
     (λ r joins.
-    subst (λ (w : Progress). HasAnswer new (expression_value (prefix_of c.args.f.now (w.groups + 1))) r)
+    subst (λ (w : CompiledPrefix). HasAnswer new (expression_value (prefix_of c.args.f.now (w.groups + 1))) r)
     c.work.view_is
     (prefix_passed c.args.f.now old new c.work.inside.groups c.group-literals.result.now c.work.inside.root
     c.node_of-prefix.result r c.group-literals.ensures.value holds.1 c.node_of-prefix.ensures.held

@@ -4,11 +4,11 @@ use Rattle.std.specs.Ordering.{nat_cmp}
 use Rattle.std.specs.FinMap.{get, remove, len, len-empty}
 use Rattle.sd_runs.proofs.Maps.{get_remove_other}
 use Rattle.sd_manager.specs.Table.{Table}
-use Rattle.sd_compile.specs.Compiling.{KeepsOthers}
+use Rattle.sd_compile.specs.Compiling.{KeepsOtherRoots}
 use Rattle.sd_compile.proofs.tests.compiles_as_group_after_group.Goals as goal
 
 -- another root is held still
-held_other : (old new : Table) (root other : ℕ) → get old.roots root ≡ None → KeepsOthers old new root →
+held_other : (old new : Table) (root other : ℕ) → get old.roots root ≡ None → KeepsOtherRoots old new root →
     IsSome (get old.roots other) → IsSome (get new.roots other)
 held_other old new root other absent k held =
     let ne : other ≢ root =
