@@ -13,7 +13,6 @@ use itoa::Buffer;
 use sd_base::{Bits, Bytes, Name};
 use sd_file::write_sdd;
 use sd_manager::value_of;
-use sd_sweep::size_of_root;
 use sd_vfile::write_vtree;
 use std::alloc::{AllocError, Global};
 
@@ -50,13 +49,18 @@ pub(crate) fn print_same(
 }
 
 /// The line with the size of a name's diagram.
-pub(crate) fn print_size(alloc: Global, state: &RunState, name: u32) -> Result<Effect, AllocError>
-    requires represents { (seen : State) × Represents state.now seen }
-    requires bound { HasRoot state.now name }
-    ensures { (input : Expression) (seen : State) → Represents state.now seen →
-        IfOk result (λ effect. StepsTo input seen (RunCommand.Size name) state.now (Some effect)) }
+pub(crate) fn print_size(
+    alloc: Global,
+    state: &mut RunState,
+    name: u32,
+) -> Result<Effect, AllocError>
+    requires represents { (seen : State) × Represents state.old seen }
+    requires bound { HasRoot state.old name }
+    ensures done { (input : Expression) (seen : State) → Represents state.old seen →
+        IfOk result (λ effect. StepsTo input seen (RunCommand.Size name) state.new (Some effect)) }
+    ensures same { state.new ≡ state.old }
 {
-    let size = size_of_root(alloc, &state.manager, state.root(name))?;
+    let size = state.size(name);
     let line = size_text(alloc, size)?;
     Ok(Effect::PrintLine(line))
 }
@@ -135,7 +139,7 @@ fn same_text(alloc: Global, same: bool) -> Result<Bytes, AllocError>
     Ok(Bytes::new(text))
 }
 
-fn size_text(alloc: Global, size: u64) -> Result<Bytes, AllocError>
+fn size_text(alloc: Global, size: u32) -> Result<Bytes, AllocError>
     ensures { IfOk result (λ text. text ≡ size_line size) }
 {
     let mut text = b"size ".to_vec(alloc)?;

@@ -1,10 +1,11 @@
 //! What a run holds between two commands.
-ghost use Rattle.std.specs.Prelude.{◌≡◌, ℕ, ◌<◌, ◌≤◌, ◌+◌, ◌-◌, ◌^◌, Some, None, IfSome, IfOk, OnOk, OnErr};
+ghost use Rattle.std.specs.Prelude.{◌≡◌, ℕ, [], ◌∷◌, ◌<◌, ◌≤◌, ◌+◌, ◌-◌, ◌^◌, Some, None, IfSome, IfOk, OnOk, OnErr};
 ghost use Rattle.std.specs.Option.{IsSome};
 ghost use Rattle.std.specs.FinMap.{get};
 ghost use Rattle.std.specs.BTreeMap as maps;
 ghost use Rattle.std.specs.Ordering.{nat_cmp};
 ghost use Rattle.sd_model.specs.Expression.{Expression};
+ghost use Rattle.sd_model.specs.Size.{HasSize};
 ghost use Rattle.sd_vtree.specs.Numbered.{plain_tree};
 ghost use Rattle.sd_commands.specs.Commands.{State, with_name, dropped, formula_named};
 ghost use Rattle.sd_commands.specs.Standing.{Represents, HoldsValue, ShowsFormula, HasRoot};
@@ -12,6 +13,7 @@ ghost use Rattle.sd_commands.specs.Standing.{start, root_count, removed, IsAsBef
 
 use sd_cache::Cache;
 use sd_manager::{Manager, NodeId, Root};
+use sd_sweep::size_of;
 use sd_vtree::Vtree;
 use std::alloc::{AllocError, Global};
 use std::collections::BTreeMap;
@@ -65,6 +67,20 @@ impl RunState {
             ShowsFormula self.now.manager result (formula_named seen name) }
     {
         self.manager.node_of(self.root(name))
+    }
+
+    /// The size of the diagram of a bound name.
+    pub(crate) fn size(&mut self, name: u32) -> u32
+        requires represents { (seen : State) × Represents self.old seen }
+        requires bound { HasRoot self.old name }
+        ensures size { (seen : State) → Represents self.old seen →
+            HasSize (formula_named seen name ∷ []) seen.tree result }
+        ensures same { self.new ≡ self.old }
+    {
+        let Some(root) = self.names.get(&name) else {
+            unreachable!()
+        };
+        size_of(&mut self.manager, root)
     }
 
     /// Binds a name to a node that shows the diagram of a formula, and releases the root that the name had. The only

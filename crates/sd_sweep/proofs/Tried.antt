@@ -5,12 +5,11 @@ use Rattle.std.specs.Option.{IsSome}
 use Rattle.std.specs.FinMap.{get, len, len-insert, contains_key}
 use Rattle.sd_runs.proofs.Maps.{get_insert_same}
 use Rattle.sd_model.specs.declared.trees.Operation.{Operation}
-use Rattle.sd_model.specs.Diagram.{Diagram}
 use Rattle.sd_vtree.specs.Numbered.{Numbered}
 use Rattle.sd_manager.specs.Table.{Table, no_table}
 use Rattle.sd_manager.specs.Marking.{AreUnmarked}
 use Rattle.sd_manager.proofs.Marking.{unmarked_new, unmarked_extended}
-use Rattle.sd_manager.specs.Shown.{IsNodeOf, HoldsDiagram}
+use Rattle.sd_manager.specs.Shown.{IsNodeOf}
 use Rattle.sd_manager.specs.Making.{Extends, with_root}
 use Rattle.sd_apply.specs.Answers.{Combines}
 use Rattle.sd_apply.proofs.Listed.{shown_on}
@@ -24,19 +23,6 @@ pub combined_node : (old new : Table) (o : Operation) (a b r : ℕ) → IsNodeOf
     Combines old new o a b r → IsNodeOf new r
 combined_node old new o a b r x y h =
     let k = h.each x.diagram y.diagram x.is y.is in record { diagram = k.diagram; is = k.is }
-
--- a root holds the diagram of the node that it was made for
-pub held_diagram : (t u : Table) (root c : ℕ) → u ≡ with_root t root c → IsNodeOf t c →
-    (d : Diagram) × HoldsDiagram u root d
-held_diagram t u root c same k =
-    subst (λ v. (d : Diagram) × HoldsDiagram v root d) (sym same) (
-      k.diagram,
-      record {
-        code = c;
-        held = get_insert_same t.roots root c;
-        is = record { shows = k.is.shows; canonical = k.is.canonical };
-      },
-    )
 
 -- nothing is marked in the new manager's table with more nodes and with a root
 pub tried_unmarked : (a t u : Table) (v : Numbered) (bound root c : ℕ) → a ≡ no_table v bound → Extends a t →

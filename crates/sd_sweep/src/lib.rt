@@ -7,7 +7,7 @@ mod sizes;
 mod sweeping;
 
 pub use listed::Listed;
-pub use lists::{nodes_below, size_of_root};
+pub use lists::nodes_below;
 pub use sizes::{size, size_of};
 pub use sweeping::sweep;
 

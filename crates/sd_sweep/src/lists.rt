@@ -1,29 +1,17 @@
-// The nodes below a node, each once, and the size of the diagram that a root shows.
-ghost use Rattle.std.specs.Prelude.{◌≡◌, ◌≤◌, ℕ, [], ◌∷◌, List, length, IfOk, OnOk};
-ghost use Rattle.std.specs.List.{AllByRecursion, AllZip, sum_by};
+// The nodes below a node, each once.
+ghost use Rattle.std.specs.Prelude.{◌≡◌, ◌≤◌, ℕ, length, IfOk, OnOk};
 ghost use Rattle.sd_model.specs.Tree.{AreDistinct};
 ghost use Rattle.sd_model.specs.Diagram.{Diagram, Elements, Decomposition};
-ghost use Rattle.sd_model.specs.Size.{walk, walk_elements, element_count, size_of};
+ghost use Rattle.sd_model.specs.Size.{walk, walk_elements};
 ghost use Rattle.sd_laws.specs.Depth.{depth};
-ghost use Rattle.sd_manager.specs.Shown.{ShowsCanonical, IsNodeOf, HoldsDiagram};
+ghost use Rattle.sd_manager.specs.Shown.{ShowsCanonical};
 ghost use Rattle.sd_manager.specs.Valid.{IsTable};
 ghost use Rattle.sd_manager.specs.Views.{pairs_at};
 ghost use Rattle.sd_sweep.specs.Listed.{Adds, AreBelow};
 
 use crate::listed::Listed;
-use sd_manager::{Manager, NodeId, Root, View};
+use sd_manager::{Manager, NodeId, View};
 use std::alloc::{AllocError, Global};
-
-/// The size of the diagram that a root shows: the elements of its distinct decompositions together. The only error is
-/// running out of memory.
-pub fn size_of_root(alloc: Global, m: &Manager, root: &Root) -> Result<u64, AllocError>
-    requires held { (d : Diagram) × HoldsDiagram m.now root.now d }
-    ensures size { IfOk result (λ n. (d : Diagram) → HoldsDiagram m.now root.now d
-        → n ≡ size_of (d ∷ [])) }
-{
-    let nodes = nodes_below(alloc, m, m.node_of(root))?;
-    Ok(total(m, &nodes))
-}
 
 /// The nodes of the distinct diagrams under the one that a node shows, each once. The only error: out of memory.
 pub fn nodes_below(alloc: Global, m: &Manager, node: NodeId) -> Result<Vec<NodeId>, AllocError>
@@ -82,32 +70,4 @@ fn list_children(
         list_below(m, sub, levels - 1, nodes)?;
     }
     Ok(())
-}
-
-// The numbers of elements of nodes, together.
-fn total(m: &Manager, nodes: &[NodeId]) -> u64
-    requires table { IsTable m.now }
-    requires distinct { AreDistinct nodes.now }
-    requires shown { AllByRecursion (IsNodeOf m.now) nodes.now }
-    ensures { (ds : List Diagram) → AllZip (ShowsCanonical m.now) nodes.now ds
-        → result ≡ sum_by element_count ds }
-{
-    let mut sum: u64 = 0;
-    for node in nodes {
-        sum += elements_of(m, *node) as u64;
-    }
-    sum
-}
-
-// The number of elements of a decomposition, and 0 for what is none.
-fn elements_of(m: &Manager, node: NodeId) -> u32
-    requires table { IsTable m.now }
-    requires shown { IsNodeOf m.now node }
-    ensures { (d : Diagram) → ShowsCanonical m.now node d → result ≡ element_count d }
-{
-    match m.view(node) {
-        View::Constant(_) => 0,
-        View::Literal(_) => 0,
-        View::Decomposition { count, .. } => count,
-    }
 }

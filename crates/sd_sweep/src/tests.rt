@@ -75,19 +75,6 @@ fn two_terms_have_size_eight(rt: HostRuntime) -> Result<(), Fail> {
     let mut c = Cache::new(alloc)?;
     let node = two_terms(alloc, &mut m, &mut c)?;
     let root = m.hold(node)?;
-    assert_eq!(rt; size_of_root(alloc, &m, &root)?, 8);
-    Ok(())
-}
-
-/// The same without memory.
-#[test]
-fn size_without_memory(rt: HostRuntime) -> Result<(), Fail> {
-    let alloc = rt.alloc();
-    let vtree = Vtree::balanced(alloc, 4)?;
-    let mut m = Manager::new(alloc, vtree, 1000)?;
-    let mut c = Cache::new(alloc)?;
-    let node = two_terms(alloc, &mut m, &mut c)?;
-    let root = m.hold(node)?;
     assert_eq!(rt; size_of(&mut m, &root), 8);
     Ok(())
 }

@@ -1,10 +1,10 @@
-use Rattle.std.proofs.Common.{ℤ, None, IfOk, refl, sym, ap, subst, rules, w32}
+use Rattle.std.proofs.Common.{ℤ, None, IfOk, OnErr, refl, sym, ap, subst, rules, w32}
 use Rattle.std.proofs.lemmas.Int.{to_z-of_z}
 use mir.Val.{SFits}
 use Rattle.sd_formula.specs.Formulas.{expression_of}
 use Rattle.sd_commands.specs.Commands.{dropped}
 use Rattle.sd_commands.specs.Fits.{uses}
-use Rattle.sd_commands.specs.Standing.{StepsTo}
+use Rattle.sd_commands.specs.Standing.{StepsTo, IsAsBefore}
 use Rattle.sd_commands.specs.declared.command.RunCommand.TheVariants.{Literal, Given}
 use Rattle.sd_commands.proofs.Stepping.{first_used, second_used, handed_steps}
 use Rattle.sd_commands.proofs.Standing.{as_before_self}
@@ -109,10 +109,10 @@ returns-in-Same-clause-done c = λ seen was.
 pub returns-in-Size-clause-done : goal.returns-in-Size-clause-done
 returns-in-Size-clause-done c = λ seen was.
     let input = expression_of c.args.input.now in
-    let code = c.args.state.now in
+    let code = c.print_size.new.state in
     subst (λ command. IfOk c.or_out_of_memory-in-Size.result (λ effect. StepsTo input seen command code effect))
     (sym c.in-Size.is)
-    (handed_steps input seen _ code _ _ (c.print_size.ensures input seen was) c.or_out_of_memory-in-Size.ensures)
+    (handed_steps input seen _ code _ _ (c.print_size.ensures.done input seen was) c.or_out_of_memory-in-Size.ensures)
 
 pub returns-in-Value-clause-done : goal.returns-in-Value-clause-done
 returns-in-Value-clause-done c = λ seen was.
@@ -148,7 +148,9 @@ pub returns-in-Same-clause-err : goal.returns-in-Same-clause-err
 returns-in-Same-clause-err c = as_before_self c.args.state.now _
 
 pub returns-in-Size-clause-err : goal.returns-in-Size-clause-err
-returns-in-Size-clause-err c = as_before_self c.args.state.now _
+returns-in-Size-clause-err c =
+    subst (λ code. OnErr c.or_out_of_memory-in-Size.result (IsAsBefore c.args.state.now code))
+    (sym c.print_size.ensures.same) (as_before_self c.args.state.now _)
 
 pub returns-in-Value-clause-err : goal.returns-in-Value-clause-err
 returns-in-Value-clause-err c = as_before_self c.args.state.now _
