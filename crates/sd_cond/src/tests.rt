@@ -123,6 +123,23 @@ fn given_values(alloc: Global, shape: u32, terms: bool, literal: i32) -> Result<
     values(&mut m, fixed)
 }
 
+// The same with a variable forgotten.
+fn forgotten_values(alloc: Global, shape: u32, terms: bool, variable: u32) -> Result<u32, TakeError>
+    requires positive { 1 ≤ variable }
+    requires within { variable ≤ 4 }
+{
+    let vtree = tree(alloc, shape)?;
+    let Ok(mut m) = Manager::new(alloc, vtree, 10_000) else {
+        return Err(TakeError::OutOfMemory);
+    };
+    let Ok(mut c) = Cache::new(alloc) else {
+        return Err(TakeError::OutOfMemory);
+    };
+    let node = formula(alloc, &mut m, &mut c, terms)?;
+    let projected = forget(alloc, &mut m, &mut c, node, variable)?;
+    values(&mut m, projected)
+}
+
 // The two terms, or the parity.
 fn formula(alloc: Global, m: &mut Manager, c: &mut Cache, terms: bool) -> Result<NodeId, TakeError>
     requires four { leaves (plain_tree m.old.vtree) ≡ 4 }
@@ -156,5 +173,67 @@ fn under_a_literal(rt: HostRuntime) -> Result<(), Fail> {
         assert_eq!(rt; given_values(alloc, shape, true, 3)?, 0xFF88);
         assert_eq!(rt; given_values(alloc, shape, true, -4)?, 0x8888);
     }
+    Ok(())
+}
+
+/// With a variable forgotten, a parity is true, and of two terms the other literal beside it is left.
+#[test]
+fn a_forgotten_variable(rt: HostRuntime) -> Result<(), Fail> {
+    let alloc = rt.alloc();
+    for shape in 0..3u32 {
+        assert_eq!(rt; forgotten_values(alloc, shape, false, 2)?, 0xFFFF);
+        assert_eq!(rt; forgotten_values(alloc, shape, false, 4)?, 0xFFFF);
+        assert_eq!(rt; forgotten_values(alloc, shape, true, 1)?, 0xFCCC);
+        assert_eq!(rt; forgotten_values(alloc, shape, true, 2)?, 0xFAAA);
+        assert_eq!(rt; forgotten_values(alloc, shape, true, 3)?, 0xFF88);
+        assert_eq!(rt; forgotten_values(alloc, shape, true, 4)?, 0xF8F8);
+    }
+    Ok(())
+}
+
+// Takes away a node that nothing uses, where there is one. Its answers in the cache are of an earlier
+// epoch then.
+fn retire_one(m: &mut Manager, c: &Cache)
+    requires serves { Serves c.now m.old }
+    ensures vtree { m.new.vtree ≡ m.old.vtree }
+    ensures serves { Serves c.now m.new }
+    ensures table { IsTable m.new }
+{
+    // its range shows that there is a next epoch, or that this is the last
+    let _ = m.epoch();
+    let Some(number) = m.idle() else {
+        return;
+    };
+    m.retire(number);
+}
+
+// Over the vtree (1 2): `1 and 2` under 1, and after that node was taken away `1 or 2` under 1; and
+// `1 and 2` once more under the negation of 2.
+fn asked_again(alloc: Global) -> Result<(NodeId, NodeId, NodeId), TakeError> {
+    let Ok(vtree) = Vtree::balanced(alloc, 2) else {
+        return Err(TakeError::OutOfMemory);
+    };
+    let Ok(mut m) = Manager::new(alloc, vtree, 100) else {
+        return Err(TakeError::OutOfMemory);
+    };
+    let Ok(mut c) = Cache::new(alloc) else {
+        return Err(TakeError::OutOfMemory);
+    };
+    let conjunction = both(alloc, &mut m, &mut c, 1, 2)?;
+    let first = given(alloc, &mut m, &mut c, conjunction, 1)?;
+    retire_one(&mut m, &c);
+    let (one, two) = (m.literal(1), m.literal(2));
+    let disjunction = or(alloc, &mut m, &mut c, one, two)?;
+    let second = given(alloc, &mut m, &mut c, disjunction, 1)?;
+    let again = both(alloc, &mut m, &mut c, 1, 2)?;
+    let third = given(alloc, &mut m, &mut c, again, -2)?;
+    Ok((first, second, third))
+}
+
+/// An answer that was kept at a node is not that of another node which got its number later.
+#[test]
+fn answers_of_an_earlier_epoch(rt: HostRuntime) -> Result<(), Fail> {
+    let answers = asked_again(rt.alloc())?;
+    assert_eq!(rt; answers, (NodeId(4), NodeId(1), NodeId(0)));
     Ok(())
 }
