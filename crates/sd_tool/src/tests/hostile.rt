@@ -159,88 +159,115 @@ fn held(end: &Outcome, name: &str) -> Option<usize> {
     }
 }
 
-/// The nth call of each kind fails, up to the first n at which there is no such call: the line names the file in hand,
-/// the files before it are whole, and it holds a front of its text.
-#[test]
-fn each_call_of_a_device_fails(rt: HostRuntime) -> Result<(), Fail> {
-    let alloc = rt.alloc();
-    // The file in hand, and how many bytes `A` and `B` hold.
-    let table: [(ShelfCall, &[(&str, Option<usize>, Option<usize>)]); 5] = [
-        (
-            ShelfCall::StartRead,
-            &[("in", None, None), ("tree", None, None), ("s", None, None)],
-        ),
-        (
-            ShelfCall::Read,
-            &[
-                ("in", None, None),
-                ("in", None, None),
-                ("tree", None, None),
-                ("tree", None, None),
-                ("s", None, None),
-                ("s", None, None),
-            ],
-        ),
-        (
-            ShelfCall::StartWrite,
-            &[("A", None, None), ("B", Some(51), None)],
-        ),
-        (
-            ShelfCall::Append,
-            &[
-                ("A", Some(0), None),
-                ("A", Some(32), None),
-                ("B", Some(51), Some(0)),
-                ("B", Some(51), Some(32)),
-            ],
-        ),
-        (
-            ShelfCall::Finish,
-            &[
-                ("in", None, None),
-                ("tree", None, None),
-                ("s", None, None),
-                ("A", Some(51), None),
-                ("B", Some(51), Some(51)),
-            ],
-        ),
-    ];
-    for (call, faults) in table {
-        for (index, (name, first, second)) in faults.iter().enumerate() {
-            let nth = index as u64 + 1;
-            let (status, kind) = if name.len() == 1 && *name != "s" {
-                (6, "write")
-            } else {
-                (5, "read")
-            };
-            let line = format!(in alloc; "sddc: {name}: {kind} fault\n")?;
-            let end = ran_with(
-                &rt,
-                alloc,
-                "--cnf in --vtree tree --script s",
-                four_files(alloc)?,
-                vec![in alloc; PlannedFault { call, nth }]?,
-                Vec::new(alloc),
-            )?;
-            assert!(rt; end.ended(status, "", &line), "{call:?} {nth}");
-            assert!(rt;
-                held(&end, "A") == *first && held(&end, "B") == *second,
-                "{call:?} {nth}"
-            );
+// A file in hand, and how many bytes `A` and `B` hold where a call for that file fails.
+type Fault<'a> = (&'a str, Option<usize>, Option<usize>);
+
+// Runs the words with the nth call of a kind failing.
+fn ran_failing(
+    rt: &(impl Threads + Sync),
+    alloc: Global,
+    call: ShelfCall,
+    nth: u64,
+) -> Result<Outcome, AllocError> {
+    let planned = vec![in alloc; PlannedFault { call, nth }]?;
+    let words = "--cnf in --vtree tree --script s";
+    ran_with(
+        rt,
+        alloc,
+        words,
+        four_files(alloc)?,
+        planned,
+        Vec::new(alloc),
+    )
+}
+
+// Whether the nth call of a kind, for each n, ends the run as the list says: the line names the file in hand, the files
+// before it are whole, and it holds a front of its text. Behind the list there is no such call.
+fn each_fails(
+    rt: &(impl Threads + Sync),
+    alloc: Global,
+    call: ShelfCall,
+    status: u8,
+    kind: &str,
+    faults: &[Fault<'_>],
+) -> Result<bool, AllocError> {
+    for (index, (name, first, second)) in faults.iter().enumerate() {
+        let end = ran_failing(rt, alloc, call, index as u64 + 1)?;
+        let line = format!(in alloc; "sddc: {name}: {kind} fault\n")?;
+        if !end.ended(status, "", &line)
+            || held(&end, "A") != *first
+            || held(&end, "B") != *second
+        {
+            return Ok(false);
         }
-        let nth = faults.len() as u64 + 1;
-        let planned = vec![in alloc; PlannedFault { call, nth }]?;
-        let words = "--cnf in --vtree tree --script s";
-        let end = ran_with(
-            &rt,
-            alloc,
-            words,
-            four_files(alloc)?,
-            planned,
-            Vec::new(alloc),
-        )?;
-        assert!(rt; end.ended(0, "size 2\n", ""), "{call:?}");
-        assert!(rt; held(&end, "B") == Some(51), "{call:?}");
     }
+    Ok(true)
+}
+
+// Whether a run ends well where only the nth call of a kind would fail.
+fn ends_well(
+    rt: &(impl Threads + Sync),
+    alloc: Global,
+    call: ShelfCall,
+    nth: u64,
+) -> Result<bool, AllocError> {
+    let end = ran_failing(rt, alloc, call, nth)?;
+    Ok(end.ended(0, "size 2\n", "") && held(&end, "B") == Some(51))
+}
+
+#[test]
+fn each_call_that_reads_fails(rt: HostRuntime) -> Result<(), Fail> {
+    let alloc = rt.alloc();
+    let starts = [("in", None, None), ("tree", None, None), ("s", None, None)];
+    assert!(rt; each_fails(&rt, alloc, ShelfCall::StartRead, 5, "read", &starts)?);
+    assert!(rt; ends_well(&rt, alloc, ShelfCall::StartRead, 4)?);
+    assert!(rt; each_fails(&rt, alloc, ShelfCall::Finish, 5, "read", &starts)?);
+    let reads = [
+        ("in", None, None),
+        ("in", None, None),
+        ("tree", None, None),
+        ("tree", None, None),
+        ("s", None, None),
+        ("s", None, None),
+    ];
+    assert!(rt; each_fails(&rt, alloc, ShelfCall::Read, 5, "read", &reads)?);
+    assert!(rt; ends_well(&rt, alloc, ShelfCall::Read, 7)?);
+    Ok(())
+}
+
+#[test]
+fn each_call_that_writes_fails(rt: HostRuntime) -> Result<(), Fail> {
+    let alloc = rt.alloc();
+    let starts = [("A", None, None), ("B", Some(51), None)];
+    assert!(rt; each_fails(&rt, alloc, ShelfCall::StartWrite, 6, "write", &starts)?);
+    assert!(rt; ends_well(&rt, alloc, ShelfCall::StartWrite, 3)?);
+    let appends = [
+        ("A", Some(0), None),
+        ("A", Some(32), None),
+        ("B", Some(51), Some(0)),
+        ("B", Some(51), Some(32)),
+    ];
+    assert!(rt; each_fails(&rt, alloc, ShelfCall::Append, 6, "write", &appends)?);
+    assert!(rt; ends_well(&rt, alloc, ShelfCall::Append, 5)?);
+    Ok(())
+}
+
+/// A file whose last call fails holds its whole text.
+#[test]
+fn the_end_of_each_writing_fails(rt: HostRuntime) -> Result<(), Fail> {
+    let alloc = rt.alloc();
+    let table = [
+        (4, "sddc: A: write fault\n", None),
+        (5, "sddc: B: write fault\n", Some(51)),
+    ];
+    for (nth, line, second) in table {
+        let end = ran_failing(&rt, alloc, ShelfCall::Finish, nth)?;
+        assert!(rt; end.ended(6, "", line), "{nth}");
+        assert!(rt;
+            held(&end, "A") == Some(51) && held(&end, "B") == second,
+            "{nth}"
+        );
+    }
+    assert!(rt; ends_well(&rt, alloc, ShelfCall::Finish, 6)?);
     Ok(())
 }
