@@ -1,7 +1,8 @@
 //! Times the calls on numbered nodes of two elements, a call each: find_or_insert of new keys, find
 //! and removal in a random order; a million calls over tables of 20,000 nodes, and where it is given
 //! a word a million over 1,000,000 nodes. Each is timed in new tables, and in one that was filled and
-//! emptied before: the difference is what the pages of a new table cost.
+//! emptied before: the difference is what growth and the pages of a new table cost, and at 1,000,000
+//! nodes that numbers are given again in a random order.
 //! Standard error has the nanoseconds of a call, standard output the sums of the numbers that the
 //! calls answered in one round, which depend on no time.
 #![tactic(auto)]
