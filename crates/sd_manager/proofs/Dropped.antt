@@ -6,8 +6,9 @@ use Rattle.std.proofs.lemmas.List.Sums.{sum_by_more, sum_by_more_le}
 use Rattle.std.specs.Option.{IsSome, option_map}
 use Rattle.std.specs.FinMap.{get}
 use Rattle.sd_unique.specs.Nodes.{Nodes, IsNodes, key_at}
+use Rattle.sd_unique.specs.Relinking.{IsLoose}
 use Rattle.sd_manager.specs.Table.{uses_in, uses_of_pair}
-use Rattle.sd_manager.specs.Counting.{IsCounted, AreCounted, DropsUses, list_at}
+use Rattle.sd_manager.specs.Counting.{IsCounted, AreCounted, DropsUses, list_at, run_at}
 use Rattle.sd_manager.proofs.Counted.{counted_at, map_same}
 
 -- nothing is taken away by no codes
@@ -63,6 +64,10 @@ pub record HasDropped (old new : Nodes) (list : List (ℕ × ℕ)) : Type 0 wher
   pub uses : DropsUses old new (λ c. uses_in c list)
   pub valid : IsNodes new
 
+-- the list of a loose run is what stands there
+pub run_is : (a : Nodes) (start : ℕ) (list : List (ℕ × ℕ)) → get a.loose start ≡ Some list → list ≡ run_at a start
+run_is a start list e = sym (ap (λ o. unwrap_or o []) e)
+
 -- the list of a node is what stands there
 pub list_is : (a : Nodes) (n : ℕ) (list : List (ℕ × ℕ)) → option_map (λ k. k.1) (key_at a n) ≡ Some list →
     list ≡ list_at a n
@@ -77,6 +82,14 @@ module _ (a b : Nodes) (list : List (ℕ × ℕ)) (i : ℕ) (h : HasDropped a b 
   list_still n =
       ap (λ o. unwrap_or (option_map (λ (k : ℕ × List (ℕ × ℕ)). k.1) o) [])
       (key_still a b (λ c. uses_in c (take i list)) n h.uses)
+
+  -- so is a loose run
+  pub loose_still : (start n : ℕ) → (l : List (ℕ × ℕ)) × IsLoose a start n l → (l : List (ℕ × ℕ)) × IsLoose b start n l
+  loose_still start n loose =
+      (loose.0, record { is = ap (λ x. get x.loose start) h.uses.rest ∙ loose.1.is; counted = loose.1.counted })
+
+  pub run_still : (start : ℕ) → run_at b start ≡ run_at a start
+  run_still start = ap (λ x. unwrap_or (get x.loose start) []) h.uses.rest
 
   module _ (d : ℕ × ℕ) (inside : i < length list) where
     -- both codes of the next pair are counted

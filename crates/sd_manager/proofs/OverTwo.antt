@@ -1,6 +1,7 @@
 -- Partitions of the root of the vtree of the variables 1 and 2. By codes, 2 and 3 are the literals of 1, and 4 is 2.
 use Rattle.std.proofs.Common.{◌≡◌, ℕ, Bool, true, false, cond, not, List, [], ◌∷◌, length, Some, slice_get}
-use Rattle.std.proofs.Common.{refl, sym, ap, subst, ◌∙◌}
+use Rattle.std.proofs.Common.{◌≢◌, refl, sym, ap, subst, ◌∙◌, ne_eqb}
+use Rattle.sd_runs.proofs.Places.{eqb_same}
 use Rattle.sd_model.specs.Assignment.{value_in}
 use Rattle.sd_model.specs.Tree.{Leaf, Node}
 use Rattle.sd_model.specs.Diagram.{Diagram, Bottom, Top, Literal}
@@ -9,7 +10,7 @@ use Rattle.sd_vtree.specs.Numbered.{Numbered, NumberedLeaf, NumberedNode, number
 use Rattle.sd_laws.specs.Parts.{IsPart, here, leaf_position, IsInner}
 use Rattle.sd_manager.specs.Table.{Table}
 use Rattle.sd_manager.specs.Shown.{IsPartitionAt}
-use Rattle.sd_manager.specs.OverTwo.{IsOverTwo}
+use Rattle.sd_manager.specs.OverTwo.{IsOverTwo, clause_over}
 
 -- the partition of `1 or 2`
 abbrev pub clause : List (Diagram × Diagram)
@@ -20,33 +21,37 @@ abbrev pub literal : List (Diagram × Diagram)
 literal = (Literal 0 1 false, Bottom) ∷ (Literal 0 1 true, Top) ∷ []
 
 -- the root is the inner node over both leaves
-root_inner : (v : Numbered) (root : ℕ) → plain_tree v ≡ Node (Leaf 1) (Leaf 2) → root ≡ number_of v →
-    IsInner v root (Leaf 1) (Leaf 2) 0
-root_inner v root tree is = record {
-  part = subst (λ t. IsPart (Node (Leaf 1) (Leaf 2)) 0 t 0) (sym tree) here;
+root_inner : (v : Numbered) (root a b : ℕ) → plain_tree v ≡ Node (Leaf a) (Leaf b) → root ≡ number_of v →
+    IsInner v root (Leaf a) (Leaf b) 0
+root_inner v root a b tree is = record {
+  part = subst (λ t. IsPart (Node (Leaf a) (Leaf b)) 0 t 0) (sym tree) here;
   number = second v tree ∙ ap Some (sym is);
 }
   where
-    second : (v : Numbered) → plain_tree v ≡ Node (Leaf 1) (Leaf 2) → slice_get (numbers v) 1 ≡ Some (number_of v)
+    second : (v : Numbered) → plain_tree v ≡ Node (Leaf a) (Leaf b) → slice_get (numbers v) 1 ≡ Some (number_of v)
     second (NumberedLeaf n x) e = cc
-    second (NumberedNode n (NumberedLeaf a x) r) e = refl
-    second (NumberedNode n (NumberedNode a x y) r) e = cc
+    second (NumberedNode n (NumberedLeaf c x) r) e = refl
+    second (NumberedNode n (NumberedNode c x y) r) e = cc
 
 -- one of the two literals of 1 is true
 one_of_two : (b : Bool) (x y : Bool) → length (cond (not b) (x ∷ cond b (y ∷ []) []) (cond b (y ∷ []) [])) ≡ 1
 one_of_two true x y = refl
 one_of_two false x y = refl
 
-pub clause_partition : (t : Table) (root : ℕ) → IsOverTwo t root →
-    IsPartitionAt t root ((3, 4) ∷ (2, 1) ∷ []) clause
-clause_partition t root h =
-    let one = ap (λ s. leaf_position s 0 1) h.vtree in
-    let two = ap (λ s. leaf_position s 0 2) h.vtree in
+-- the partition of `a or b` over (a b)
+pub over_partition : (t : Table) (root a b : ℕ) → a ≢ b → plain_tree t.vtree ≡ Node (Leaf a) (Leaf b) →
+    root ≡ number_of t.vtree →
+    IsPartitionAt t root (clause_over a b) ((Literal 0 a false, Literal 2 b true) ∷ (Literal 0 a true, Top) ∷ [])
+over_partition t root a b differ tree is =
+    let one : leaf_position (plain_tree t.vtree) 0 a ≡ Some 0 =
+    ap (λ s. leaf_position s 0 a) tree ∙ rw (eqb_same a) refl in
+    let two : leaf_position (plain_tree t.vtree) 0 b ≡ Some 2 =
+    ap (λ s. leaf_position s 0 b) tree ∙ rw (ne_eqb a b differ, eqb_same b) refl in
     record {
-      left = Leaf 1;
-      right = Leaf 2;
+      left = Leaf a;
+      right = Leaf b;
       base = 0;
-      inner = root_inner t.vtree root h.vtree h.root_is;
+      inner = root_inner t.vtree root a b tree is;
       shown = (((refl, one), (refl, two)), (((refl, one), refl), tt));
       partition = record {
         elements = record {
@@ -54,9 +59,13 @@ clause_partition t root h =
           subs = (canonical_literal true, (canonical_top, tt));
           possible = (λ e. cc, (λ e. cc, tt));
         };
-        one_true = λ a. one_of_two (value_in a 1) (value_in a 2) true;
+        one_true = λ assignment. one_of_two (value_in assignment a) (value_in assignment b) true;
       };
     }
+
+pub clause_partition : (t : Table) (root : ℕ) → IsOverTwo t root →
+    IsPartitionAt t root ((3, 4) ∷ (2, 1) ∷ []) clause
+clause_partition t root h = over_partition t root 1 2 (λ e. cc) h.vtree h.root_is
 
 pub literal_partition : (t : Table) (root : ℕ) → IsOverTwo t root →
     IsPartitionAt t root ((3, 0) ∷ (2, 1) ∷ []) literal
@@ -66,7 +75,7 @@ literal_partition t root h =
       left = Leaf 1;
       right = Leaf 2;
       base = 0;
-      inner = root_inner t.vtree root h.vtree h.root_is;
+      inner = root_inner t.vtree root 1 2 h.vtree h.root_is;
       shown = (((refl, one), refl), (((refl, one), refl), tt));
       partition = record {
         elements = record {

@@ -17,6 +17,10 @@ IsCounted a code = 2050 ≤ code → IsSome (key_at a (code - 2050))
 abbrev pub list_at : Nodes → ℕ → List (ℕ × ℕ)
 list_at a n = unwrap_or (option_map (λ k. k.1) (key_at a n)) []
 
+-- the list of a loose run
+abbrev pub run_at : Nodes → ℕ → List (ℕ × ℕ)
+run_at a start = unwrap_or (get a.loose start) []
+
 -- the codes in the list are so
 abbrev pub AreCounted : Nodes → List (ℕ × ℕ) → Type 0
 AreCounted a list = AllByRecursion (λ (e : ℕ × ℕ). IsCounted a e.0 × IsCounted a e.1) list

@@ -5,8 +5,10 @@
 #![tactic(auto)]
 
 mod manager;
+mod moving;
 mod node_id;
 mod pairs;
+mod rewriting;
 mod roots;
 mod uses;
 mod values;

@@ -9,7 +9,7 @@ ghost use Rattle.sd_model.specs.Assignment.{literal_holds};
 ghost use Rattle.sd_model.specs.Diagram.{Diagram, Elements, Decomposition, meaning};
 ghost use Rattle.sd_vtree.specs.Numbered.{IsNumbered, plain_tree};
 ghost use Rattle.sd_laws.specs.Depth.{depth};
-ghost use Rattle.sd_manager.specs.Table.{no_table};
+ghost use Rattle.sd_manager.specs.Table.{no_table, uses_of};
 ghost use Rattle.sd_manager.specs.Literals.{IsLiteralTo, code_of_literal};
 ghost use Rattle.sd_manager.specs.Shown.{Shows, ShowsCanonical, IsNodeOf, HoldsDiagram, IsPartitionAt, HasNode};
 ghost use Rattle.sd_manager.specs.Shown.{ShowsElement, constant_diagram};
@@ -37,14 +37,14 @@ use std::marker::Model;
 /// A node that is handed to a call has to be one of this manager, and a root one that this manager gave.
 #[derive(Drop)]
 pub struct Manager {
-    vtree: Vtree,
-    nodes: Nodes,
+    pub(crate) vtree: Vtree,
+    pub(crate) nodes: Nodes,
     roots: Roots,
-    epoch: u64,
+    pub(crate) epoch: u64,
     // The vtree node at which a move is going on.
-    moving: Option<VNode>,
-    // Room for the list of a node that is made.
-    sorted: Vec<(u32, u32)>,
+    pub(crate) moving: Option<VNode>,
+    // Room for the list of a node that is made or rewritten.
+    pub(crate) sorted: Vec<(u32, u32)>,
 }
 
 impl Model for Manager {
@@ -314,6 +314,16 @@ impl Manager {
         Ok(NodeId(number + 2050))
     }
 
+    /// How often lists, loose runs and roots name a decomposition, in constant time.
+    pub fn uses(&self, node: NodeId) -> u64
+        requires node { HasNode self.now node }
+        requires code { 2050 ≤ node }
+        ensures uses { result ≡ uses_of self.now node }
+        ensures table { IsTable self.now }
+    {
+        self.nodes.uses(node.0 - 2050)
+    }
+
     /// The mark of a node, by its number. The node has the code of the number and 2,050.
     pub fn mark(&self, number: u32) -> u32
         requires { IsSome (get self.now.linked number) }
@@ -377,7 +387,7 @@ impl Manager {
 }
 
 // The epoch after this one; the last one stays.
-fn epoch_after(epoch: u64) -> u64
+pub(crate) fn epoch_after(epoch: u64) -> u64
     ensures { result ≡ next_epoch epoch }
 {
     if epoch < u64::MAX { epoch + 1 } else { epoch }

@@ -1,6 +1,6 @@
 //! Lists of pairs of codes: sorted, and trimmed.
 
-ghost use Rattle.std.specs.Prelude.{◌≡◌, ◌<◌, ℕ, length, OnOk};
+ghost use Rattle.std.specs.Prelude.{◌≡◌, ◌<◌, ℕ, length, OnOk, IsTrue};
 ghost use Rattle.std.specs.List.Sorted.{IsPermutation, IsSorted};
 ghost use Rattle.std.specs.Ordering.{nat_cmp, ordering_then};
 ghost use Rattle.sd_laws.specs.Trimming.{trim_of, trim_two};
@@ -18,6 +18,9 @@ pub(crate) fn sort_into(
         (IsSorted (λ (x y : ℕ × ℕ). ordering_then (nat_cmp x.0 y.0) (nat_cmp x.1 y.1))
         list.new.items) }
 {
+    if replace_two(list, elements) {
+        return Ok(());
+    }
     list.clear();
     list.reserve(elements.len())?;
     for element in elements {
@@ -25,6 +28,23 @@ pub(crate) fn sort_into(
     }
     sort(list);
     Ok(())
+}
+
+// Writes two pairs that ascend over a list of two, and answers whether these are such. Most lists are, and need no sort.
+fn replace_two(list: &mut Vec<(u32, u32)>, elements: &[(NodeId, NodeId)]) -> bool
+    ensures same { IsTrue result → (list.new.items ≡ elements.now) }
+    ensures sorted { IsTrue result →
+        IsSorted (λ (x y : ℕ × ℕ). ordering_then (nat_cmp x.0 y.0) (nat_cmp x.1 y.1)) list.new.items }
+{
+    let [first, second] = elements else {
+        return false;
+    };
+    if list.len() != 2 || first.0.0 >= second.0.0 {
+        return false;
+    }
+    list[0] = (first.0.0, first.1.0);
+    list[1] = (second.0.0, second.1.0);
+    true
 }
 
 // Puts the pairs into ascending order.

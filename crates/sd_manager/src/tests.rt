@@ -1,10 +1,11 @@
-ghost use Rattle.std.specs.Prelude.{◌≡◌, ◌^◌, ◌<◌, IfOk, OnErr, None};
+ghost use Rattle.std.specs.Prelude.{◌≡◌, ◌⊎◌, ◌^◌, ◌<◌, ℕ, List, [], ◌∷◌, IfOk, OnOk, OnErr, None};
 ghost use Rattle.std.specs.FinMap.{empty};
 ghost use Rattle.sd_manager.specs.Shown.{IsNodeOf};
-ghost use Rattle.sd_manager.specs.Making.{Extends};
-ghost use Rattle.sd_manager.specs.OverTwo.{IsOverTwo};
+ghost use Rattle.sd_manager.specs.Making.{Extends, HasNewNode};
+ghost use Rattle.sd_manager.specs.OverTwo.{IsOverTwo, IsAlone, IsWaiting, HasRun, clause_over};
 
 use super::*;
+use sd_model::Move;
 use sd_runs::TakeError;
 use sd_vtree::{VNode, Vtree};
 use std::alloc::{AllocError, Global};
@@ -15,6 +16,7 @@ fn over_two(alloc: Global, bound: u32) -> Result<(Manager, VNode), AllocError>
     requires { bound < 2 ^ 31 }
     ensures over { IfOk result (λ r. IsOverTwo r.0 r.1) }
     ensures no_roots { IfOk result (λ r. r.0.roots ≡ empty) }
+    ensures no_nodes { IfOk result (λ r. r.0.linked ≡ empty) }
 {
     let vtree = Vtree::balanced(alloc, 2)?;
     let root = vtree.root();
@@ -28,6 +30,8 @@ fn one_or_two(m: &mut Manager, root: VNode) -> Result<NodeId, TakeError>
     ensures shown { IfOk result (λ c. IsNodeOf m.new c) }
     ensures kept { Extends m.old m.new }
     ensures over { IsOverTwo m.new root }
+    ensures grown { IfOk result (λ c. (m.new ≡ m.old)
+        ⊎ HasNewNode m.old m.new root (clause_over 1 2) c) }
 {
     let (other, two) = (m.literal(-1), m.literal(2));
     let (one, yes) = (m.literal(1), m.constant(true));
@@ -140,5 +144,79 @@ fn a_held_node(rt: HostRuntime) -> Result<(), Fail> {
     assert_eq!(rt; m.idle(), None);
     m.release(held);
     assert_eq!(rt; m.idle(), Some(0));
+    Ok(())
+}
+
+// Begins a move at the root, detaches the only node, and swaps the children of the root.
+fn turn_over(m: &mut Manager, root: VNode, number: u32)
+    requires alone { (a b : ℕ) × (elements : List (ℕ × ℕ))
+        × IsAlone m.old root number a b elements }
+    ensures waiting { (a b : ℕ) (elements : List (ℕ × ℕ))
+        (h : IsAlone m.old root number a b elements) → IsWaiting m.new root number b a h.list }
+    ensures loose { m.new.loose ≡ m.old.loose }
+{
+    let place = m.vtree().root();
+    m.begin_move(place);
+    m.detach(number);
+    m.turn(Move::Swap);
+}
+
+// Swaps the vtree (1 2), gives the node of `1 or 2` its elements over (2 1), and answers the run of the former ones.
+fn swap_there(m: &mut Manager, root: VNode, number: u32) -> Result<(u32, u32), TakeError>
+    requires { IsAlone m.old root number 1 2 (clause_over 1 2) }
+    ensures alone { OnOk result (IsAlone m.new root number 2 1 (clause_over 2 1)) }
+    ensures run { IfOk result (λ run. HasRun m.new run.0 run.1 (clause_over 1 2)) }
+{
+    let (other, one) = (m.literal(-2), m.literal(1));
+    let (two, yes) = (m.literal(2), m.constant(true));
+    turn_over(m, root, number);
+    match m.rewrite(number, &[(other, one), (two, yes)]) {
+        Ok(run) => {
+            m.end_move();
+            Ok(run)
+        }
+        Err(error) => Err(error),
+    }
+}
+
+// Swaps the vtree (2 1), and puts the run of the elements over (1 2) back.
+fn swap_back(m: &mut Manager, root: VNode, number: u32, run: (u32, u32))
+    requires alone { IsAlone m.old root number 2 1 (clause_over 2 1) }
+    requires run { HasRun m.old run.0 run.1 (clause_over 1 2) }
+    ensures alone { IsAlone m.new root number 1 2 (clause_over 1 2) }
+{
+    turn_over(m, root, number);
+    m.put_back(number, root, run);
+    m.end_move();
+}
+
+// The two elements of the only node.
+fn elements_of(m: &Manager, root: VNode, number: u32) -> ((NodeId, NodeId), (NodeId, NodeId))
+    requires { (a b : ℕ) × (e f : ℕ × ℕ) × IsAlone m.now root number a b (e ∷ f ∷ []) }
+{
+    let node = NodeId(number + 2050);
+    (m.element(node, 0), m.element(node, 1))
+}
+
+/// A held node is rewritten where the vtree is swapped, and its former list is put back where it is swapped again. A
+/// former list that is not put back is given back.
+#[test]
+fn a_swap_and_back(rt: HostRuntime) -> Result<(), Fail> {
+    let (mut m, root) = over_two(rt.alloc(), 4)?;
+    let clause = one_or_two(&mut m, root)?;
+    let _held = m.hold(clause)?;
+    let number = m.first_at(root).expect(&rt, "the node is at the root");
+    let (yes, not_one, one) = (NodeId(1), NodeId(3), NodeId(2));
+    let (two, not_two) = (NodeId(4), NodeId(5));
+    assert_eq!(rt; elements_of(&m, root, number), ((one, yes), (not_one, two)));
+    let run = swap_there(&mut m, root, number)?;
+    assert_eq!(rt; elements_of(&m, root, number), ((two, yes), (not_two, one)));
+    assert_eq!(rt; m.used(), 4);
+    swap_back(&mut m, root, number, run);
+    assert_eq!(rt; elements_of(&m, root, number), ((one, yes), (not_one, two)));
+    assert_eq!(rt; m.used(), 2);
+    let again = swap_there(&mut m, root, number)?;
+    m.give_run(again);
+    assert_eq!(rt; m.used(), 2);
     Ok(())
 }

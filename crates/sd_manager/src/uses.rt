@@ -1,11 +1,13 @@
 //! The uses of nodes, counted by codes.
 
-ghost use Rattle.std.specs.Prelude.{◌≡◌, ◌+◌, ◌-◌, ◌<◌, ◌≤◌, ◌^◌, ℕ, Some};
+ghost use Rattle.std.specs.Prelude.{◌≡◌, ◌+◌, ◌-◌, ◌<◌, ◌≤◌, ◌^◌, ℕ, List, Some};
 ghost use Rattle.std.specs.Option.{IsSome};
 ghost use Rattle.std.specs.FinMap.{get};
 ghost use Rattle.sd_unique.specs.Nodes.{IsNodes, key_at, uses_at};
+ghost use Rattle.sd_unique.specs.Relinking.{IsLoose};
 ghost use Rattle.sd_manager.specs.Table.{uses_in, uses_of_pair};
-ghost use Rattle.sd_manager.specs.Counting.{counts_one, AddsUses, AreCounted, DropsUse, DropsUses, IsCounted, list_at};
+ghost use Rattle.sd_manager.specs.Counting.{counts_one, AddsUses, AreCounted, DropsUse, DropsUses, IsCounted};
+ghost use Rattle.sd_manager.specs.Counting.{list_at, run_at};
 
 use sd_unique::Nodes;
 
@@ -89,6 +91,22 @@ pub(crate) fn drop_uses(nodes: &mut Nodes, number: u32)
     let count = nodes.list(number).len();
     for index in 0..count {
         let pair = nodes.list(number)[index];
+        drop_pair(nodes, pair);
+    }
+}
+
+// Counts one use less of each code in the list of a loose run, as often as it stands there.
+pub(crate) fn drop_run_uses(nodes: &mut Nodes, run: (u32, u32))
+    requires valid { IsNodes nodes.old }
+    requires run { (list : List (ℕ × ℕ)) × IsLoose nodes.old run.0 run.1 list }
+    requires counted { AreCounted nodes.old (run_at nodes.old run.0) }
+    requires used { (n k : ℕ) → get nodes.old.uses n ≡ Some k →
+        uses_in (2050 + n) (run_at nodes.old run.0) ≤ k }
+    ensures uses { DropsUses nodes.old nodes.new (λ c. uses_in c (run_at nodes.old run.0)) }
+    ensures valid { IsNodes nodes.new }
+{
+    for index in 0..run.1 {
+        let pair = nodes.loose_list(run)[index as usize];
         drop_pair(nodes, pair);
     }
 }

@@ -1,5 +1,5 @@
 -- Numbers filed in chains: the chain from each head, and which numbers stand in it.
-use Rattle.std.specs.Prelude.{◌≡◌, ◌≢◌, ◌⊎◌, ◌<◌, ℕ, List, [], ◌∷◌, ◌==◌, if◌then◌else◌, Option, Some, None}
+use Rattle.std.specs.Prelude.{◌≡◌, ◌≢◌, ◌<◌, ℕ, List, [], ◌∷◌, ◌==◌, if◌then◌else◌, Option, Some, None}
 use Rattle.sd_runs.specs.Arena.{IsMember, HasNoCopies}
 
 -- From `at` on the chain has just these numbers, and `none` ends it.

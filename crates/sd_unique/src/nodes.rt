@@ -370,6 +370,14 @@ impl Nodes {
         Ok((start, list.len() as u32))
     }
 
+    /// The list of a loose run.
+    pub fn loose_list(&self, run: (u32, u32)) -> &[(u32, u32)]
+        requires { (list : List (ℕ × ℕ)) × IsLoose self.now run.0 run.1 list }
+        ensures { get self.now.loose run.0 ≡ Some result.now }
+    {
+        self.runs.get(run.0, run.1)
+    }
+
     /// Frees a loose run.
     pub fn give_run(&mut self, run: (u32, u32))
         requires { (list : List (ℕ × ℕ)) × IsLoose self.old run.0 run.1 list }

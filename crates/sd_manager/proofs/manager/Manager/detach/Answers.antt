@@ -1,0 +1,18 @@
+use Rattle.std.proofs.Common.{sym, subst}
+use Rattle.std.specs.Option.{IsSome}
+use Rattle.std.specs.FinMap.{get}
+use Rattle.sd_manager.specs.Moving.{IsTop}
+use Rattle.sd_manager.proofs.DetachedFrom.{detached_stored}
+use Rattle.sd_manager.proofs.manager.Manager.detach.Goals as goal
+
+pub invariant_of-self : goal.invariant_of-self
+invariant_of-self c =
+    let s = c.self.inside in
+    let same = sym c.self.view_is in
+    detached_stored s.vtree s.nodes s.roots s.epoch s.moving c.self.invariant c.args.number
+    (subst (λ t. IsSome (get t.linked c.args.number)) same c.requires.linked) c.unlink.new.self
+    c.unlink.ensures.unlinked c.unlink.ensures.nodes (subst (λ t. IsSome t.moving) same c.requires.moving)
+    (subst (λ t. IsTop t c.args.number) same c.requires.top)
+
+pub returns-clause-table : goal.returns-clause-table
+returns-clause-table c = (invariant_of-self c).table
