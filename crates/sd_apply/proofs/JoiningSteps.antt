@@ -31,7 +31,6 @@ use Rattle.sd_apply.specs.GroupCalls.{AreLiteralsBelow, IsGroupNode, deciding}
 use Rattle.sd_apply.specs.GroupCalls.{between, IsFound, IsFoundBefore, Remembers}
 use Rattle.sd_apply.proofs.Trees.{bottom_under, top_under, answer_under}
 use Rattle.sd_apply.proofs.Listed.{node_on, answer_on, shown_on, children_on}
-use Rattle.sd_manager.proofs.Extending.{extends_on}
 use Rattle.sd_apply.proofs.Standing.{shown}
 use Rattle.sd_apply.proofs.Growing.{grows_over, grows_right}
 use Rattle.sd_apply.proofs.JoiningPlaces.{joined_under, literals_on}

@@ -11,7 +11,7 @@ use Rattle.sd_laws.specs.Pairs.{answers}
 use Rattle.sd_manager.specs.Table.{Table}
 use Rattle.sd_manager.specs.Making.{Extends}
 use Rattle.sd_manager.specs.Valid.{IsTable}
-use Rattle.sd_apply.specs.Elements.{IsPair, ListsElements, IsPartitionBelow}
+use Rattle.sd_apply.specs.Elements.{IsPair, ListsElements}
 use Rattle.sd_apply.specs.Elements.{AreListedElements, HaveSamePrimes, products, beside}
 use Rattle.sd_apply.specs.Calls.{Multiplies}
 use Rattle.sd_apply.specs.Classes.{AreDisjointBelow}
@@ -215,13 +215,13 @@ has_halves t u w (e ∷ l) a b (d ∷ ds) h (inr k) =
     }
 
 -- what the calls ask for
-pub first_listed : (t : Table) (u w : ℕ) (l a b : List (ℕ × ℕ)) → IsPartitionBelow t u w l →
+pub first_listed : (t : Table) (u w : ℕ) (l a b : List (ℕ × ℕ)) → AreDisjointBelow t u w l →
     IsParted l a b → AreListedElements t u w a
 first_listed t u w l a b h k =
     let q = has_halves t u w l a b h.shown h.is.lists.pairs k in
     record { shown = q.one; is = record { pairs = q.one_lists } }
 
-pub rest_disjoint : (t : Table) (u w : ℕ) (l a b : List (ℕ × ℕ)) → IsPartitionBelow t u w l →
+pub rest_disjoint : (t : Table) (u w : ℕ) (l a b : List (ℕ × ℕ)) → AreDisjointBelow t u w l →
     IsParted l a b → AreDisjointBelow t u w b
 rest_disjoint t u w l a b h k =
     let q = has_halves t u w l a b h.shown h.is.lists.pairs k in
@@ -229,12 +229,12 @@ rest_disjoint t u w l a b h k =
       shown = q.other;
       is = record {
         lists = record { pairs = q.other_lists };
-        most_one = λ g. omega (arith, q.count g, h.is.one_true g);
+        most_one = λ g. omega (arith, q.count g, h.is.most_one g);
       };
     }
 
--- one answer of each list, which is in the same part of both
-both_parts : (o : Operation) (A S R B T Q : List Bool) → length A ≡ 1 → length B ≡ 1 →
+-- at most one answer of the first list and one of the second, which are in the same part of both
+both_parts : (o : Operation) (A S R B T Q : List Bool) → length A ≤ 1 → length B ≡ 1 →
     length A ≡ length S + length R → length B ≡ length T + length Q → length S ≡ length T →
     (R ≡ [] → A ≡ S) → (S ≡ [] → A ≡ R) → (Q ≡ [] → B ≡ T) → (T ≡ [] → B ≡ Q) →
     beside o S T ++ products o R Q ≡ products o A B
@@ -246,13 +246,13 @@ both_parts o A (s ∷ S) R B T Q one other count counts even first second third 
     let last = no_length Q (omega (arith, other, counts, even)) in
     ap (λ x. beside o (s ∷ S) T ++ products o x Q) none
     ∙ append-nil (beside o (s ∷ S) T)
-    ∙ beside_one o (s ∷ S) T even (omega (arith, even, one, count))
+    ∙ beside_one o (s ∷ S) T even (omega (arith, even, other, counts))
     ∙ ap (λ x. products o x T) (sym (first none))
     ∙ ap (λ x. products o A x) (sym (third last))
 
 -- the elements with equal primes side by side, and the products of what is left
 pub matched_products : (m0 m1 m2 : Table) → IsTable m0 → Extends m0 m1 → (o : Operation) (u w : ℕ)
-    (l k a b x y p r : List (ℕ × ℕ)) → IsPartitionBelow m0 u w l → AreMatched l k a b x y →
+    (l k a b x y p r : List (ℕ × ℕ)) → AreDisjointBelow m0 u w l → AreMatched l k a b x y →
     MultipliesBeside m0 m1 o u w a b p → MultipliesRows m1 m2 o u w x y p r →
     Multiplies m0 m2 o u w l k r
 matched_products m0 m1 m2 i on o u w l k a b x y p r part matched pairs rows = record {
@@ -273,8 +273,8 @@ matched_products m0 m1 m2 i on o u w l k a b x y p r part matched pairs rows = r
         shown = back.shown;
         lists = back.lists;
         value = λ g.
-            let one : length (answers g ds) ≡ 1 = ap (λ v. length (answers g v)) (sym same)
-            ∙ part.is.one_true g in
+            let one : length (answers g ds) ≤ 1 = subst (λ v. length (answers g v) ≤ 1) same
+            (part.is.most_one g) in
             back.value g
             ∙ ap (λ v. v ++ products o (answers g q.other) (answers g z.other)) (front.value g)
             ∙ both_parts o (answers g ds) (answers g q.one) (answers g q.other) (answers g fs)

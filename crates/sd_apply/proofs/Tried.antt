@@ -1,18 +1,23 @@
--- What the tests stand on: a new cache serves, literals are known, and two elements with one sub.
+-- What the tests stand on: a new cache serves, literals are known, two elements with one sub, and lists at the root.
 use Rattle.std.proofs.Common.{◌≡◌, ℕ, Bool, true, false, cond, not, List, [], ◌∷◌, length, Some}
 use Rattle.std.proofs.Common.{slice_get, refl, sym, ap, subst, ◌∙◌, arith}
 use Rattle.sd_model.specs.Assignment.{value_in}
 use Rattle.sd_model.specs.Tree.{Leaf, Node}
-use Rattle.sd_model.specs.Diagram.{Diagram, Literal}
+use Rattle.sd_model.specs.Diagram.{Diagram, Literal, meaning}
 use Rattle.sd_model.specs.Canonical.{canonical_literal}
 use Rattle.sd_vtree.specs.Numbered.{Numbered, NumberedLeaf, NumberedNode, number_of, numbers}
 use Rattle.sd_vtree.specs.Numbered.{plain_tree}
 use Rattle.sd_laws.specs.Parts.{IsPart, here, leaf_position, IsInner}
 use Rattle.sd_cache.specs.Entries.{Entries}
 use Rattle.sd_manager.specs.Table.{Table}
-use Rattle.sd_manager.specs.Shown.{IsPartitionAt}
+use Rattle.sd_manager.specs.Shown.{IsNodeOf, IsPartitionAt}
+use Rattle.sd_manager.specs.Making.{Extends}
 use Rattle.sd_manager.specs.OverTwo.{IsOverTwo}
 use Rattle.sd_apply.specs.Serving.{Serves}
+use Rattle.sd_apply.specs.Partitions.{IsPartitionOf, ExpandsAt}
+use Rattle.sd_apply.proofs.Listed.{node_on}
+use Rattle.sd_apply.proofs.Whole.{root_under}
+use Rattle.sd_apply.proofs.AtNode.{partition_of_on}
 
 -- a new cache serves each manager
 pub empty_serves : (c : Entries) (t : Table) → c ≡ [] → Serves c t
@@ -75,3 +80,25 @@ twice_asked t root w x y z h a b c d =
     subst (λ v. Asked v x y z) (sym a) (subst (λ v. Asked 3 v y z) (sym b)
     (subst (λ v. Asked 3 4 v z) (sym c) (subst (λ v. Asked 3 4 2 v) (sym d)
     (twice, twice_partition t root h))))
+
+-- ---- two nodes by their lists at the root
+
+-- the first list, after the second expansion
+pub listed_first : (m n o : Table) → Extends n o → (r a : ℕ) (l k : List (ℕ × ℕ)) → r ≡ number_of m.vtree →
+    (d : IsNodeOf m a) → ExpandsAt m n r a l → k ≡ l → IsPartitionOf o r k (meaning d.diagram)
+listed_first m n o x r a l k root d h same =
+    let P : List (ℕ × ℕ) → Type 0 = λ v. IsPartitionOf o r v (meaning d.diagram) in
+    subst P (sym same) (partition_of_on n o x r l (meaning d.diagram)
+    (h.each d.diagram (root_under m r a d.diagram root d.is)))
+
+-- the second one
+pub listed_second : (m n o : Table) → Extends m n → (r b : ℕ) (l k : List (ℕ × ℕ)) → r ≡ number_of m.vtree →
+    (d : IsNodeOf m b) → ExpandsAt n o r b l → k ≡ l → IsPartitionOf o r k (meaning d.diagram)
+listed_second m n o x r b l k root d h same =
+    let P : List (ℕ × ℕ) → Type 0 = λ v. IsPartitionOf o r v (meaning d.diagram) in
+    subst P (sym same) (h.each d.diagram (node_on m n x r b d.diagram (root_under m r b d.diagram root d.is)))
+
+-- a list that is read as a slice
+pub listed_slice : (t : Table) (r : ℕ) (l k : List (ℕ × ℕ)) (f : List Bool → Bool) → IsPartitionOf t r l f → k ≡ l →
+    IsPartitionOf t r k f
+listed_slice t r l k f h same = subst (λ v. IsPartitionOf t r v f) (sym same) h

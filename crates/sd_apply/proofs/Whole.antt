@@ -4,6 +4,7 @@ use Rattle.std.proofs.Common.{[], ◌∷◌, length}
 use Rattle.std.proofs.Common.{Some, None, refl, sym, ◌∙◌, ap, subst, arith}
 use Rattle.std.proofs.Common.{length-append}
 use Rattle.std.specs.List.{AllZip}
+use Rattle.std.specs.FinMap.{get}
 use Rattle.sd_model.specs.declared.trees.Operation.{Operation}
 use Rattle.sd_model.specs.Tree.{Tree, Node, leaves, variables, position}
 use Rattle.sd_model.specs.Diagram.{Diagram, Bottom, meaning}
@@ -13,9 +14,10 @@ use Rattle.sd_vtree.specs.Numbered.{Numbered, NumberedLeaf, number_of, plain_tre
 use Rattle.sd_vtree.specs.Numbered.{children_at, IsNumbered}
 use Rattle.sd_vtree.proofs.Subtrees.{subtree_root, subtree_some, once_numbered}
 use Rattle.sd_vtree.proofs.Times.{one_place}
-use Rattle.sd_laws.specs.Pairs.{answers, join}
+use Rattle.sd_laws.specs.Pairs.{answers, join, AreElements}
 use Rattle.sd_laws.specs.Parts.{IsPart, here, in_left, in_right, IsInner}
 use Rattle.sd_laws.specs.Depends.{DependsOn}
+use Rattle.sd_laws.specs.Shown.{ShowPairs}
 use Rattle.sd_laws.proofs.Joining.{join_value}
 use Rattle.sd_laws.proofs.Numbers.{part_of_subtree, part_number}
 use Rattle.sd_laws.proofs.Places.{narrowed, narrowed_by, part_trans, part_range}
@@ -27,7 +29,7 @@ use Rattle.sd_manager.specs.Valid.{IsTable}
 use Rattle.sd_apply.specs.Answers.{Combines, Negates, Compresses}
 use Rattle.sd_apply.specs.Places.{plain, tree_at, IsNodeUnder, IsBelow, IsThere}
 use Rattle.sd_apply.specs.Places.{HasChildren}
-use Rattle.sd_apply.specs.Elements.{IsPair, IsPartitionUnder}
+use Rattle.sd_apply.specs.Elements.{IsPair, ListsElements, IsPartitionUnder}
 use Rattle.sd_apply.specs.Calls.{Applies, NegatesAt, Joins}
 use Rattle.sd_apply.proofs.Trees.{ChildrenOf, children_of, apart, nested, below_canonical, left_tree}
 use Rattle.sd_apply.proofs.Trees.{right_tree, times_at}
@@ -124,7 +126,7 @@ around l r b = (
 )
 
 -- the children's trees of a node are determined by its number
-same_node : (t : Numbered) → IsNumbered t → (p u w : ℕ) (f : ChildrenOf t p u w) (left right : Tree)
+pub same_node : (t : Numbered) → IsNumbered t → (p u w : ℕ) (f : ChildrenOf t p u w) (left right : Tree)
     (base : ℕ) →
     IsInner t p left right base → Node left right ≡ Node (plain_tree f.left) (plain_tree f.right)
 same_node t v p u w f left right base h =
@@ -138,27 +140,30 @@ same_node t v p u w f left right base h =
     let back = nested f.inner.part h.part (omega (arith, a.0, same)) (omega (arith, a.1, same)) in
     part_whole there (omega (arith, part_range there, part_range back))
 
--- a partition that a caller hands in
+-- elements that a caller hands in
+pub elements_from : (t : Table) → IsTable t → (p u w : ℕ) → HasChildren t.vtree p u w → (left right : Tree)
+    (base : ℕ) → IsInner t.vtree p left right base → (l : List (ℕ × ℕ)) (ds : List (Diagram × Diagram)) →
+    ShowPairs t.vtree (get t.linked) l ds → AreElements left right base ds → ListsElements t u w l ds
+elements_from t i p u w e left right base inner l ds shown are =
+    let f = children_of t.vtree i.numbered p u w e in
+    let same = same_node t.vtree i.numbered p u w f left right base inner in
+    let lt : tree_at t.vtree u ≡ left = left_tree t.vtree p u w f ∙ cc in
+    let rt : tree_at t.vtree w ≡ right = right_tree t.vtree p u w f ∙ cc in
+    record {
+      pairs = listed t u w _ _ _
+          (λ d a. below_canonical t.vtree u left base d.0 lt (part_trans (in_left here) inner.part) a)
+          (λ d a. below_canonical t.vtree w right _ d.1 rt (part_trans (in_right here) inner.part) a)
+          (λ d a. a) l ds shown are.primes are.subs are.possible;
+    }
+
+-- and a partition
 pub partition_from : (t : Table) → IsTable t → (p u w : ℕ) → HasChildren t.vtree p u w →
     (l : List (ℕ × ℕ))
     (ds : List (Diagram × Diagram)) → IsPartitionAt t p l ds → IsPartitionUnder t u w l ds
-partition_from t i p u w e l ds h =
-    let f = children_of t.vtree i.numbered p u w e in
-    let same = same_node t.vtree i.numbered p u w f h.left h.right h.base h.inner in
-    let left : tree_at t.vtree u ≡ h.left = left_tree t.vtree p u w f ∙ cc in
-    let right : tree_at t.vtree w ≡ h.right = right_tree t.vtree p u w f ∙ cc in
-    record {
-      lists = record {
-        pairs = listed t u w _ _ _
-            (λ d a. below_canonical t.vtree u h.left h.base d.0 left (part_trans (in_left here)
-            h.inner.part) a)
-            (λ d a. below_canonical t.vtree w h.right _ d.1 right (part_trans (in_right here)
-            h.inner.part) a)
-            (λ d a. a) l ds h.shown h.partition.elements.primes h.partition.elements.subs
-            h.partition.elements.possible;
-      };
-      one_true = h.partition.one_true;
-    }
+partition_from t i p u w e l ds h = record {
+  lists = elements_from t i p u w e h.left h.right h.base h.inner l ds h.shown h.partition.elements;
+  one_true = h.partition.one_true;
+}
 
 -- the vtree node of a partition has children
 pub inner_children : (t : Table) → IsTable t → (p : ℕ) (l : List (ℕ × ℕ))

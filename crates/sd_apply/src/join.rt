@@ -104,8 +104,10 @@ fn leaf_of(m: &Manager, literals: &[(u32, i32)], index: usize) -> VNode
     m.vtree().leaf(literal.unsigned_abs())
 }
 
-// The same at a node below a vtree node, with the literals from an index on.
+// The same at a node below a vtree node, with the literals from an index on. Most calls are decided at once, so that
+// much is told where the call stands.
 #[cycle(join)]
+#[inline(always)]
 fn join_from(
     alloc: Global,
     m: &mut Manager,
@@ -138,23 +140,70 @@ fn join_from(
     if node.0 == decided.0 {
         return Ok(decided);
     }
+    join_below(alloc, m, recent, found, operation, at, node, literals, from)
+}
+
+// The same where some literals are left.
+#[cycle(join)]
+fn join_below(
+    alloc: Global,
+    m: &mut Manager,
+    recent: &mut Recent,
+    found: &mut NodeAnswers,
+    operation: Operation,
+    at: VNode,
+    node: NodeId,
+    literals: &[(u32, i32)],
+    from: usize,
+) -> Result<NodeId, TakeError>
+    requires operation { operation ≢ Xor }
+    requires at { IsThere m.old.vtree at }
+    requires node { IsBelow m.old at node }
+    requires literals { AreLiteralsBelow m.old at from literals.now }
+    requires some { from < length literals.now }
+    requires knows { Knows recent.old m.old }
+    requires remembers { Remembers found.old m.old operation literals.now }
+    requires table { IsTable m.old }
+    ensures ok { IfOk result (λ r. JoinsFrom m.old m.new operation at node from literals.now r) }
+    ensures kept { Extends m.old m.new }
+    ensures grown { GrowsBelow m.old m.new at }
+    ensures knows { Knows recent.new m.new }
+    ensures remembers { Remembers found.new m.new operation literals.now }
+    ensures rule { IfErr result (λ e. KeepsRule m.new e) }
+    ensures table { IsTable m.new }
+{
     if let Some(right) = right_below(m, at, node, literals, from) {
-        return join_from(
+        return join_below(
             alloc, m, recent, found, operation, right, node, literals, from,
         );
     }
     let next = from + 1;
-    if let Some(code) = found.look(node.0, next) {
-        return Ok(NodeId(code));
+    let shared = is_shared(m, at, node);
+    if shared {
+        if let Some(code) = found.look(node.0, next) {
+            return Ok(NodeId(code));
+        }
     }
     let code = join_at(alloc, m, recent, found, operation, at, node, literals, from)?;
+    if !shared {
+        return Ok(code);
+    }
     found.keep(alloc, node.0, next, code.0);
     Ok(code)
+}
+
+// Whether a pass along a node may come to this one again: not where one list alone names it.
+fn is_shared(m: &Manager, at: VNode, node: NodeId) -> bool
+    requires node { IsBelow m.now at node }
+    requires table { IsTable m.now }
+{
+    node.0 < 2050 || m.uses(node) > 1
 }
 
 // The same from the two halves of the node where the left child of the vtree node is a leaf, and else by the group's
 // own node.
 #[cycle(join)]
+#[inline(always)]
 fn join_at(
     alloc: Global,
     m: &mut Manager,
@@ -204,6 +253,7 @@ fn join_at(
 // The halves of a node, joined with the literals from an index on. Of a literal of the variable one half is decided:
 // it stays as it is.
 #[cycle(join)]
+#[inline(always)]
 fn join_halves(
     alloc: Global,
     m: &mut Manager,
@@ -486,16 +536,18 @@ fn halves_of(
     requires table { IsTable m.now }
     ensures { IfSome result (λ r. Halves m.now at right variable node r) }
 {
+    if node.0 >= 2050 {
+        if let Some(halves) = own_halves(m, at, left, right, variable, node) {
+            return Some(halves);
+        }
+    }
     if is_right(m, at, left, right, node) {
         return Some((node, node));
     }
-    if node.0 < 2 {
+    if node.0 < 2 || node.0 >= 2050 {
         return None;
     }
-    if node.0 < 2050 {
-        return literal_halves(m, at, right, variable, node);
-    }
-    own_halves(m, at, left, right, variable, node)
+    literal_halves(m, at, right, variable, node)
 }
 
 // The halves of a literal of the variable.
@@ -569,6 +621,7 @@ fn own_halves(
 }
 
 // The node of two halves below the right child.
+#[inline(always)]
 fn make_halves(
     m: &mut Manager,
     at: VNode,

@@ -30,6 +30,30 @@ fn over_two(alloc: Global, bound: u32) -> Result<(Manager, Cache, VNode), AllocE
     Ok((m, c, root))
 }
 
+/// A connective at two nodes.
+pub(crate) fn connect(
+    alloc: Global,
+    m: &mut Manager,
+    c: &mut Cache,
+    operation: Operation,
+    a: NodeId,
+    b: NodeId,
+) -> Result<NodeId, TakeError>
+    requires first { IsNodeOf m.old a }
+    requires second { IsNodeOf m.old b }
+    requires serves { Serves c.old m.old }
+    ensures ok { IfOk result (λ r. IsNodeOf m.new r) }
+    ensures kept { Extends m.old m.new }
+    ensures serves { Serves c.new m.new }
+    ensures table { IsTable m.new }
+{
+    match operation {
+        Operation::And => and(alloc, m, c, a, b),
+        Operation::Or => or(alloc, m, c, a, b),
+        Operation::Xor => xor(alloc, m, c, a, b),
+    }
+}
+
 // A connective at the literals 1 and 2 of a new manager.
 fn at_literals(alloc: Global, bound: u32, operation: Operation) -> Result<NodeId, TakeError>
     requires { bound < 2 ^ 31 }
@@ -39,11 +63,7 @@ fn at_literals(alloc: Global, bound: u32, operation: Operation) -> Result<NodeId
     };
     let one = m.literal(1);
     let two = m.literal(2);
-    match operation {
-        Operation::And => and(alloc, &mut m, &mut c, one, two),
-        Operation::Or => or(alloc, &mut m, &mut c, one, two),
-        Operation::Xor => xor(alloc, &mut m, &mut c, one, two),
-    }
+    connect(alloc, &mut m, &mut c, operation, one, two)
 }
 
 /// Each connective makes the first node of a new manager, and refuses where it finds no room.

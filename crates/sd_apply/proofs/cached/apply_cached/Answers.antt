@@ -1,9 +1,9 @@
-use Rattle.std.proofs.Common.{◌≡◌, ◌∙◌, sym, ◌≤◌, Some, None, arith}
+use Rattle.std.proofs.Common.{◌≡◌, ◌∙◌, sym, Some, None}
 use Rattle.std.proofs.lemmas.Result.{IfOk-weaker}
 use Rattle.sd_apply.specs.Calls.{Applies, NegatesAt}
 use Rattle.sd_apply.proofs.TerminalLaws.{terminal_applies, terminal_at, applies_commutes}
-use Rattle.sd_apply.proofs.TerminalLaws.{unknown, unknown_commutes, xor_negation, xor_negation_second}
-use Rattle.sd_apply.proofs.Growing.{both_exchanged, both_first, both_second}
+use Rattle.sd_apply.proofs.TerminalLaws.{unknown, xor_negation, xor_negation_second}
+use Rattle.sd_apply.proofs.Growing.{both_first, both_second}
 use Rattle.sd_apply.proofs.cached.apply_cached.Goals as goal
 
 pub returns-in-Some-clause-ok : goal.returns-in-Some-clause-ok

@@ -48,7 +48,7 @@ join_at-join_halves-requires t c =
     let halves = c.in-Some-halves_of.ensures in
     let h = c.in-Some-halves_of.halves in
     let below : AreLiteralsBelow m f.1 c.next_right-next.result l = c.are_right.ensures c.if-not-are_right.false in
-    let small : 3 * width m.vtree f.1 + 3 < t =
+    let small : 4 * width m.vtree f.1 + 4 < t =
     omega (arith, right_narrower m.vtree i.numbered c.args.at f.0 f.1 fork.children, c.decreases) in (
       small,
       (
@@ -167,37 +167,37 @@ join_from-returns-then-node-decided-clause-ok t c =
     c.deciding_value.ensures c.constant-decided.ensures.code
     (sym c.node.view_is ∙ c.if-node-decided.true ∙ c.decided.view_is)
 
-pub join_from-returns-in-Some-clause-ok : goal.join_from-returns-in-Some-clause-ok
-join_from-returns-in-Some-clause-ok t c =
+pub join_below-returns-in-Some-clause-ok : goal.join_below-returns-in-Some-clause-ok
+join_below-returns-in-Some-clause-ok t c =
     let m = c.args.m.now in
-    let n = c.join_from.new.m in
-    IfOk-weaker c.join_from.result
+    let n = c.join_below.new.m in
+    IfOk-weaker c.join_below.result
     (λ r. JoinsFrom m n c.args.operation c.in-Some.right c.args.node c.args.from c.args.literals.now r)
     (λ r. JoinsFrom m n c.args.operation c.args.at c.args.node c.args.from c.args.literals.now r)
-    (λ r h. joins_over m n c.constant-decided.ensures.table c.args.operation c.args.at c.in-Some.right c.args.node
+    (λ r h. joins_over m n c.requires.table c.args.operation c.args.at c.in-Some.right c.args.node
     c.args.from r c.args.literals.now c.in-Some.ensures.node h)
-    c.join_from.ensures.ok
+    c.join_below.ensures.ok
 
-pub join_from-returns-in-Some-clause-grown : goal.join_from-returns-in-Some-clause-grown
-join_from-returns-in-Some-clause-grown t c =
+pub join_below-returns-in-Some-clause-grown : goal.join_below-returns-in-Some-clause-grown
+join_below-returns-in-Some-clause-grown t c =
     let m = c.args.m.now in
-    let n = c.join_from.new.m in
-    grows_wider m n c.join_from.ensures.table.numbered c.in-Some.right c.args.at
-    (subst (λ t. StandsUnder t c.in-Some.right c.args.at) (sym c.join_from.ensures.kept.vtree) c.in-Some.ensures.under)
-    c.join_from.ensures.grown
+    let n = c.join_below.new.m in
+    grows_wider m n c.join_below.ensures.table.numbered c.in-Some.right c.args.at
+    (subst (λ t. StandsUnder t c.in-Some.right c.args.at) (sym c.join_below.ensures.kept.vtree) c.in-Some.ensures.under)
+    c.join_below.ensures.grown
 
-pub join_from-returns-in-Some-look-clause-ok : goal.join_from-returns-in-Some-look-clause-ok
-join_from-returns-in-Some-look-clause-ok t c =
+pub join_below-returns-in-Some-look-clause-ok : goal.join_below-returns-in-Some-look-clause-ok
+join_below-returns-in-Some-look-clause-ok t c =
     let m = c.args.m.now in
     let o = c.args.operation in
     let l = c.args.literals.now in
-    joins_found m c.constant-decided.ensures.table o c.args.at c.args.node c.args.from (c.args.from + 1)
+    joins_found m c.requires.table o c.args.at c.args.node c.args.from (c.args.from + 1)
     c.in-Some-look.code l refl
-    (subst (λ n. IsFoundBefore m o l n (c.args.from + 1) c.in-Some-look.code) c.node-2.view_is
+    (subst (λ n. IsFoundBefore m o l n (c.args.from + 1) c.in-Some-look.code) c.node.view_is
     (c.in-Some-look.ensures.right m o l c.requires.remembers))
 
-pub join_from-returns-clause-remembers : goal.join_from-returns-clause-remembers
-join_from-returns-clause-remembers t c =
+pub join_below-returns-clause-remembers : goal.join_below-returns-clause-remembers
+join_below-returns-clause-remembers t c =
     let m = c.args.m.now in
     let n = c.join_at.new.m in
     let o = c.args.operation in
@@ -205,7 +205,7 @@ join_from-returns-clause-remembers t c =
     let found = found_joined m n c.join_at.ensures.kept o c.args.at c.args.node c.args.from (c.args.from + 1)
     c.in_ok-code.code l refl c.requires.node c.in_ok-code.ensures.ok in
     c.keep.ensures.right n o l c.join_at.ensures.remembers
-    (subst (λ k. IsFoundBefore n o l k (c.args.from + 1) c.code.inside.0) (sym c.node-3.view_is)
+    (subst (λ k. IsFoundBefore n o l k (c.args.from + 1) c.code.inside.0) (sym c.node-2.view_is)
     (subst (λ k. IsFoundBefore n o l c.args.node (c.args.from + 1) k) (sym c.code.view_is) found))
 
 -- ---- the halves
@@ -220,7 +220,7 @@ join_halves-join_from-requires-then-unsigned_abs-variable t c =
     let fits : SFits w32 e.1 = search rules in
     let below = c.requires.past e c.literal_at-literal.ensures (λ q. c.if-unsigned_abs-variable.true
     (c.unsigned_abs.ensures.value ∙ ap unsigned_abs (to_z-of_z w32 e.1 fits) ∙ q)) in
-    let small : 3 * width n.vtree c.args.right + 2 < t =
+    let small : 4 * width n.vtree c.args.right + 3 < t =
     omega (arith, width_on m n x c.args.right, c.decreases) in (
       small,
       (
