@@ -13,7 +13,7 @@ use Rattle.sd_laws.proofs.Lists.{IsAmong, IsWithin, all_at, all_from, first_at, 
 use Rattle.sd_manager.specs.Table.{Table}
 use Rattle.sd_manager.specs.Shown.{Shows, ShowsCanonical}
 use Rattle.sd_manager.specs.Valid.{IsTable}
-use Rattle.sd_sweep.specs.Listed.{AreListed, Adds, AreBelow}
+use Rattle.sd_sweep.specs.Listed.{AreListed}
 use Rattle.sd_sweep.proofs.Orders.{completed_permutation}
 
 -- the diagrams that codes show, in the order of the codes
@@ -72,13 +72,6 @@ are_completed t table codes ds l =
         one_diagram t.vtree (get t.linked) table.numbered y.0 b.0 x y.2.shows b.2.shows in
         subst (λ z. IsAmong z es) same y.1
 
--- so those under one diagram show its distinct diagrams
-pub are_below : (t : Table) → IsTable t → (codes : List ℕ) (d : Diagram) → AreListed t codes (walk d) →
-    AreBelow t codes d
-are_below t table codes d l =
-    let k = are_completed t table codes (d ∷ []) (subst (AreListed t codes) (sym (append-nil (walk d))) l) in
-    record { diagrams = k.0; shown = k.1; order = k.2 }
-
 -- an empty list shows nothing
 pub listed_empty : (t : Table) → AreListed t [] []
 listed_empty t = record {
@@ -93,21 +86,3 @@ pub size_completed : (ds es : List Diagram) (n : ℕ) → IsPermutation (complet
     n ≡ size_of ds
 unfolding size_of
 size_completed ds es n order e = e ∙ sum_by-IsPermutation element_count (completed ds) es order
-
--- what was added to an empty list
-listed_all : (t : Table) (old new codes : List ℕ) (d : Diagram) → old ≡ [] → Adds t old new (walk d) → codes ≡ new →
-    AreListed t codes (walk d)
-listed_all t old new codes d none adds same =
-    subst (λ l. AreListed t l (walk d)) (sym same)
-    (adds [] (subst (λ l. AreListed t l []) (sym none) (listed_empty t)))
-
--- shows the distinct diagrams
-pub all_below : (t : Table) → IsTable t → (old new codes : List ℕ) (d : Diagram) → old ≡ [] →
-    Adds t old new (walk d) → codes ≡ new → AreBelow t codes d
-all_below t table old new codes d none adds same =
-    are_below t table codes d (listed_all t old new codes d none adds same)
-
--- by different codes
-pub all_distinct : (t : Table) (old new codes : List ℕ) (d : Diagram) → old ≡ [] → Adds t old new (walk d) →
-    codes ≡ new → AreDistinct codes
-all_distinct t old new codes d none adds same = (listed_all t old new codes d none adds same).distinct

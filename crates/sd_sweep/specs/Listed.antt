@@ -1,10 +1,9 @@
 -- Lists of nodes, each once, and the diagrams that they show.
 use Rattle.std.specs.Prelude.{ℕ, Bool, List, [], ◌∷◌, ◌++◌, ◌==◌}
-use Rattle.std.specs.List.{AllZip, list_any}
-use Rattle.std.specs.List.Sorted.{IsPermutation}
+use Rattle.std.specs.List.{list_any}
 use Rattle.sd_model.specs.Tree.{AreDistinct}
 use Rattle.sd_model.specs.Diagram.{Diagram}
-use Rattle.sd_model.specs.Size.{walk, completed}
+use Rattle.sd_model.specs.Size.{walk}
 use Rattle.sd_laws.proofs.Lists.{IsAmong, IsWithin}
 use Rattle.sd_manager.specs.Table.{Table}
 use Rattle.sd_manager.specs.Shown.{ShowsCanonical}
@@ -23,9 +22,3 @@ pub record AreListed (t : Table) (codes : List ℕ) (ds : List Diagram) : Type 0
 -- the codes that the new list has beside the old one show these diagrams
 abbrev pub Adds : Table → List ℕ → List ℕ → List Diagram → Type 0
 Adds t old new xs = (ds : List Diagram) → AreListed t old ds → AreListed t new (ds ++ xs)
-
--- the codes show the distinct diagrams under a diagram, each once, in some order
-pub record AreBelow (t : Table) (codes : List ℕ) (d : Diagram) : Type 0 where
-  pub diagrams : List Diagram
-  pub shown : AllZip (ShowsCanonical t) codes diagrams
-  pub order : IsPermutation (completed (d ∷ [])) diagrams
