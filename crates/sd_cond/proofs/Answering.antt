@@ -1,6 +1,5 @@
 -- Answers of conditioning and forgetting at a node: its own, one that is kept, one that was found.
-use Rattle.std.proofs.Common.{◌≡◌, ◌⊎◌, ℕ, ◌≤◌, Bool, List, Option, Some, None, inl, inr}
-use Rattle.std.proofs.Common.{sym, ◌∙◌, subst, slice_index_or, []}
+use Rattle.std.proofs.Common.{◌≡◌, ℕ, ◌≤◌, Bool, List, get_or, Some, sym, ◌∙◌, subst}
 use Rattle.std.specs.FinMap.{get}
 use Rattle.sd_model.specs.Assignment.{with_value}
 use Rattle.sd_model.specs.Diagram.{Diagram, meaning}
@@ -18,7 +17,9 @@ use Rattle.sd_apply.proofs.Growing.{grows_wider}
 use Rattle.sd_apply.proofs.Trees.{under_number}
 use Rattle.sd_apply.proofs.Standing.{stands_here, shown}
 use Rattle.sd_apply.proofs.Listed.{shown_on, answer_on}
-use Rattle.sd_cond.specs.Calls.{conditioned, AnswersOf, IsAnswer, AreAnswers, Tells}
+use Rattle.sd_cond.specs.Calls.{conditioned, AnswersOf, IsAnswer, Tells}
+use Rattle.sd_cond.specs.declared.kept.KeptAnswers.{KeptAnswers}
+use Rattle.sd_cond.specs.Kept.{AreAnswers}
 use Rattle.sd_cond.proofs.Changing.{set_outside, set_both}
 use Rattle.sd_cond.proofs.Sides.{not_below}
 
@@ -32,25 +33,11 @@ answer_grown old new x f a c h = record {
 }
 
 pub answers_on : (old new : Table) → Extends old new → (f : Diagram → List Bool → Bool)
-    (kept : List (Option ℕ)) → AreAnswers old f kept → AreAnswers new f kept
+    (kept : KeptAnswers) → AreAnswers old f kept → AreAnswers new f kept
 answers_on old new x f kept h = record {
-  each = λ a c e. answer_grown old new x f a c (h.each a c e);
-}
-
--- nothing is kept at first
-pub answers_none : (t : Table) (f : Diagram → List Bool → Bool) → AreAnswers t f []
-answers_none t f = record { each = λ a c e. cc }
-
--- one answer more
-pub answers_more : (t : Table) (f : Diagram → List Bool → Bool) (kept more : List (Option ℕ)) (a c : ℕ) →
-    AreAnswers t f kept → IsAnswer t f a c →
-    ((k b : ℕ) → slice_index_or more k None ≡ Some b
-    → ((k ≡ a) × (b ≡ c)) ⊎ (slice_index_or kept k None ≡ Some b)) → AreAnswers t f more
-answers_more t f kept more a c h one split = record {
-  each = λ k b e. elim (split k b e) [
-    | inl s ↦ subst (λ n. IsAnswer t f n b) (sym s.0) (subst (λ n. IsAnswer t f a n) (sym s.1) one)
-    | inr s ↦ h.each k b s
-  ];
+  right = λ k d lt some.
+      let e = get_or kept.entries.items k d in
+      answer_grown old new x f e.code e.answer (h.right k d lt some);
 }
 
 -- a kept answer

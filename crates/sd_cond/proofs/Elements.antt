@@ -9,6 +9,7 @@ use Rattle.sd_laws.specs.Pairs.{answers}
 use Rattle.sd_manager.specs.Table.{Table}
 use Rattle.sd_manager.specs.Shown.{ShowsCanonical, IsPartitionAt}
 use Rattle.sd_manager.specs.Views.{pairs_at}
+use Rattle.sd_manager.specs.Making.{Extends}
 use Rattle.sd_manager.specs.Valid.{IsTable}
 use Rattle.sd_apply.specs.Answers.{Compresses}
 use Rattle.sd_apply.specs.Places.{IsCanonicalUnder, HasPlace, HasChildren}
@@ -17,17 +18,20 @@ use Rattle.sd_apply.specs.Serving.{Serves}
 use Rattle.sd_apply.proofs.Growing.{either_none, either_both}
 use Rattle.sd_apply.proofs.Listed.{pair_on, lists_on, lists_push, lists_none}
 use Rattle.sd_manager.proofs.Extending.{extends_self, extends_on}
-use Rattle.sd_apply.proofs.Listed.{lists_at, take_answers, take_all, one_answer, answers_push, node_on}
+use Rattle.sd_apply.proofs.Listed.{lists_at, take_answers, take_all, one_answer, answers_push, node_on, shown_on}
+use Rattle.sd_apply.proofs.Same.{same_shown}
 use Rattle.sd_apply.proofs.Rows.{pair_prime, pair_sub, not_bottom, false_value}
 use Rattle.sd_apply.proofs.Merging.{partition_at}
 use Rattle.sd_apply.proofs.Expanding.{own_list}
 use Rattle.sd_apply.proofs.Standing.{shown}
-use Rattle.sd_cond.specs.Calls.{conditioned, AnswersOf, AreAnswers, FixesPairs}
+use Rattle.sd_cond.specs.Calls.{conditioned, AnswersOf, FixesPairs}
+use Rattle.sd_cond.specs.declared.kept.KeptAnswers.{KeptAnswers}
+use Rattle.sd_cond.specs.Kept.{AreAnswers}
 use Rattle.sd_cond.proofs.Answering.{conditioned_under}
 use Rattle.sd_cond.proofs.Steps.{IsStep, InPairs}
 
 -- no element yet
-pub pairs_none : (t : Table) (kept : List (Option ℕ)) (c : Entries) (x : ℕ) (s : Bool) (u w : ℕ)
+pub pairs_none : (t : Table) (kept : KeptAnswers) (c : Entries) (x : ℕ) (s : Bool) (u w : ℕ)
     (l : List (ℕ × ℕ)) → IsTable t → AreAnswers t (conditioned x s) kept → Serves c t →
     InPairs t t kept c x s u w l [] 0
 pairs_none t kept c x s u w l i k serves = record {
@@ -42,7 +46,7 @@ pairs_none t kept c x s u w l i k serves = record {
 }
 
 -- one whose prime is false
-pub pairs_skip : (m0 m m1 : Table) (k k1 : List (Option ℕ)) (c c1 : Entries) (x : ℕ) (s : Bool) (u w : ℕ)
+pub pairs_skip : (m0 m m1 : Table) (k k1 : KeptAnswers) (c c1 : Entries) (x : ℕ) (s : Bool) (u w : ℕ)
     (l r : List (ℕ × ℕ)) (i : ℕ) (e : ℕ × ℕ) (prime : ℕ) → InPairs m0 m k c x s u w l r i →
     IsStep m m1 (conditioned x s) k1 c1 u w → i < length l → ◌≡◌ {A = ℕ × ℕ} e (get_or l i (0, 0)) →
     AnswersOf m m1 (conditioned x s) e.0 prime → prime ≡ 0 → InPairs m0 m1 k1 c1 x s u w l r (i + 1)
@@ -75,7 +79,7 @@ pairs_skip m0 m m1 k k1 c c1 x s u w l r i e prime h n lt at p none = record {
 }
 
 -- one with a prime that is not false
-pub pairs_push : (m0 m m1 m2 : Table) (k k1 k2 : List (Option ℕ)) (c c1 c2 : Entries) (x : ℕ) (s : Bool)
+pub pairs_push : (m0 m m1 m2 : Table) (k k1 k2 : KeptAnswers) (c c1 c2 : Entries) (x : ℕ) (s : Bool)
     (u w : ℕ) (l r r2 : List (ℕ × ℕ)) (i : ℕ) (e : ℕ × ℕ) (prime sub : ℕ) → 1 ≤ x →
     InPairs m0 m k c x s u w l r i → IsStep m m1 (conditioned x s) k1 c1 u w →
     IsStep m1 m2 (conditioned x s) k2 c2 u w → i < length l → ◌≡◌ {A = ℕ × ℕ} e (get_or l i (0, 0)) →
@@ -133,7 +137,7 @@ pairs_push m0 m m1 m2 k k1 k2 c c1 c2 x s u w l r r2 i e prime sub low h n n2 lt
     }
 
 -- all of them
-pub pairs_done : (m0 m : Table) (k : List (Option ℕ)) (c : Entries) (x : ℕ) (s : Bool) (u w : ℕ)
+pub pairs_done : (m0 m : Table) (k : KeptAnswers) (c : Entries) (x : ℕ) (s : Bool) (u w : ℕ)
     (l r : List (ℕ × ℕ)) (i : ℕ) → InPairs m0 m k c x s u w l r i → length l ≤ i → i ≤ length l →
     FixesPairs m0 m x s u w l r
 pairs_done m0 m k c x s u w l r i h lo hi = record {
@@ -185,5 +189,25 @@ compressed_answers m0 m1 m2 i f p u w a c r e list h = record {
         diagram = z.diagram;
         is = z.is;
         value = λ g. head_same (meaning z.diagram g) (f d g) (sym (z.value g) ∙ k.value g);
+      };
+}
+
+-- where they are the elements that the node has, the node is the answer
+pub same_answers : (m0 m1 : Table) → IsTable m0 → IsTable m1 → Extends m0 m1 →
+    (f : Diagram → List Bool → Bool) (p u w a : ℕ) (r : List (ℕ × ℕ)) → HasChildren m0.vtree p u w →
+    ((d : Diagram) → ShowsCanonical m0 a d → HasPlace m0.vtree p d) → 2050 ≤ a →
+    ((d : Diagram) → ShowsCanonical m0 a d → HasList m1 u w r (λ g. f d g ∷ [])) →
+    r ≡ pairs_at m0 a → AnswersOf m0 m1 f a a
+same_answers m0 m1 i j x f p u w a r e place code list same = record {
+  each = λ d sd.
+      let own = own_list m0 i p u w a e d sd (place d sd) code in
+      let k = list d sd in
+      let one = same_shown m1 j u w (pairs_at m0 a) r own.shown k.shown
+      (lists_on m0 m1 x u w (pairs_at m0 a) own.shown own.lists) k.lists same in
+      record {
+        diagram = d;
+        is = shown_on m0 m1 x a d sd;
+        value = λ g. head_same (meaning d g) (f d g)
+            (sym (own.value g) ∙ ap (answers g) one ∙ k.value g);
       };
 }

@@ -28,7 +28,9 @@ use Rattle.sd_apply.proofs.Listed.{lists_at, take_all, shown_on, IsAt, one_answe
 use Rattle.sd_apply.proofs.Rows.{pair_sub}
 use Rattle.sd_apply.proofs.Expanding.{own_list}
 use Rattle.sd_apply.proofs.Standing.{shown}
-use Rattle.sd_cond.specs.Calls.{conditioned, forgotten, answers_by, AnswersOf, AreAnswers, ForgetsSubs}
+use Rattle.sd_cond.specs.Calls.{conditioned, forgotten, answers_by, AnswersOf, ForgetsSubs}
+use Rattle.sd_cond.specs.declared.kept.KeptAnswers.{KeptAnswers}
+use Rattle.sd_cond.specs.Kept.{AreAnswers}
 use Rattle.sd_cond.proofs.Changing.{set_both}
 use Rattle.sd_cond.proofs.Terminals.{terminal_value, terminal_fixed}
 use Rattle.sd_cond.proofs.Answering.{outside_value, conditioned_under}
@@ -138,7 +140,7 @@ take_by f a t u w e ds i d h =
     ap (λ k. answers_by f a (take k ds)) next ∙ ap (answers_by f a) h.more ∙ by_push f a (take i ds) d
 
 -- no element yet
-pub subs_none : (t : Table) (kept yes_kept no_kept : List (Option ℕ)) (c : Entries) (x u w : ℕ)
+pub subs_none : (t : Table) (kept yes_kept no_kept : KeptAnswers) (c : Entries) (x u w : ℕ)
     (l : List (ℕ × ℕ)) → IsTable t → AreAnswers t (forgotten x) kept →
     AreAnswers t (conditioned x true) yes_kept → AreAnswers t (conditioned x false) no_kept → Serves c t →
     InSubs t t kept yes_kept no_kept c x u w l [] 0
@@ -156,7 +158,7 @@ subs_none t kept yes_kept no_kept c x u w l i k ky kn serves = record {
 }
 
 -- one more
-pub subs_next : (m0 m m1 : Table) (k ky kn k1 ky1 kn1 : List (Option ℕ)) (c c1 : Entries) (x u w : ℕ)
+pub subs_next : (m0 m m1 : Table) (k ky kn k1 ky1 kn1 : KeptAnswers) (c c1 : Entries) (x u w : ℕ)
     (l r r1 : List (ℕ × ℕ)) (i : ℕ) (e : ℕ × ℕ) (sub : ℕ) → 1 ≤ x →
     InSubs m0 m k ky kn c x u w l r i → IsStep m m1 (forgotten x) k1 c1 u w →
     AreAnswers m1 (conditioned x true) ky1 → AreAnswers m1 (conditioned x false) kn1 →
@@ -202,7 +204,7 @@ subs_next m0 m m1 k ky kn k1 ky1 kn1 c c1 x u w l r r1 i e sub low h n yes_known
 }
 
 -- all of them
-pub subs_done : (m0 m : Table) (k ky kn : List (Option ℕ)) (c : Entries) (x u w : ℕ)
+pub subs_done : (m0 m : Table) (k ky kn : KeptAnswers) (c : Entries) (x u w : ℕ)
     (l r : List (ℕ × ℕ)) (i : ℕ) → InSubs m0 m k ky kn c x u w l r i → length l ≤ i → i ≤ length l →
     ForgetsSubs m0 m x u w l r
 subs_done m0 m k ky kn c x u w l r i h lo hi = record {

@@ -10,10 +10,12 @@ use Rattle.sd_manager.specs.Valid.{IsTable}
 use Rattle.sd_apply.specs.Growing.{GrowsBelowEither}
 use Rattle.sd_apply.specs.Elements.{ListsElements, HasList}
 use Rattle.sd_apply.specs.Serving.{Serves}
-use Rattle.sd_cond.specs.Calls.{conditioned, forgotten, answers_by, AreAnswers}
+use Rattle.sd_cond.specs.Calls.{conditioned, forgotten, answers_by}
+use Rattle.sd_cond.specs.declared.kept.KeptAnswers.{KeptAnswers}
+use Rattle.sd_cond.specs.Kept.{AreAnswers}
 
 -- what each call leaves, where new nodes stand below u or w
-pub record IsStep (old new : Table) (f : Diagram → List Bool → Bool) (kept : List (Option ℕ)) (c : Entries)
+pub record IsStep (old new : Table) (f : Diagram → List Bool → Bool) (kept : KeptAnswers) (c : Entries)
     (u w : ℕ) : Type 0 where
   pub extends : Extends old new
   pub knows : AreAnswers new f kept
@@ -22,14 +24,14 @@ pub record IsStep (old new : Table) (f : Diagram → List Bool → Bool) (kept :
   pub grown : GrowsBelowEither old new u w
 
 -- the first i elements where the variable x has the value s, without those whose prime is false
-pub record InPairs (old new : Table) (kept : List (Option ℕ)) (c : Entries) (x : ℕ) (s : Bool) (u w : ℕ)
+pub record InPairs (old new : Table) (kept : KeptAnswers) (c : Entries) (x : ℕ) (s : Bool) (u w : ℕ)
     (l r : List (ℕ × ℕ)) (i : ℕ) : Type 0 where
   pub step : IsStep old new (conditioned x s) kept c u w
   pub pairs : (ds : List (Diagram × Diagram)) → ListsElements old u w l ds →
       HasList new u w r (λ a. answers (with_value a x s) (take i ds))
 
 -- the first i elements with the variable x forgotten in their subs
-pub record InSubs (old new : Table) (kept with_true with_false : List (Option ℕ)) (c : Entries) (x u w : ℕ)
+pub record InSubs (old new : Table) (kept with_true with_false : KeptAnswers) (c : Entries) (x u w : ℕ)
     (l r : List (ℕ × ℕ)) (i : ℕ) : Type 0 where
   pub step : IsStep old new (forgotten x) kept c u w
   pub knows_true : AreAnswers new (conditioned x true) with_true

@@ -1,6 +1,5 @@
 -- What the calls inside an operation answer.
-use Rattle.std.specs.Prelude.{◌≡◌, ℕ, Bool, true, false, ◌||◌, cond, List, [], ◌∷◌, Option, Some, None}
-use Rattle.std.specs.Prelude.{slice_index_or}
+use Rattle.std.specs.Prelude.{◌≡◌, ℕ, Bool, true, false, ◌||◌, cond, List, [], ◌∷◌}
 use Rattle.sd_model.specs.Assignment.{with_value}
 use Rattle.sd_model.specs.Diagram.{Diagram, meaning}
 use Rattle.sd_vtree.specs.Numbered.{Numbered, IsUnder}
@@ -27,11 +26,6 @@ pub record IsAnswer (t : Table) (f : Diagram → List Bool → Bool) (a c : ℕ)
   pub diagram : Diagram
   pub is : ShowsCanonical t a diagram
   pub answer : HasAnswer t (f diagram) c
-
--- what is kept for a code is the answer at it
-pub record AreAnswers (t : Table) (f : Diagram → List Bool → Bool) (kept : List (Option ℕ)) : Type 0
-  where
-    pub each : (a c : ℕ) → slice_index_or kept a None ≡ Some c → IsAnswer t f a c
 
 -- the leaf stands below the vtree node just where the flag is true
 pub record Tells (t : Numbered) (leaf at : ℕ) (here : Bool) : Type 0 where

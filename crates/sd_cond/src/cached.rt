@@ -12,6 +12,7 @@ ghost use Rattle.sd_cond.specs.Calls.{conditioned, forgotten, AnswersOf};
 
 use crate::conditioning::{at_terminal, given_here};
 use crate::forgetting::{forget_here, forget_terminal};
+use crate::kept::KeptAnswers;
 use crate::places::{is_over, place_with_children};
 use sd_cache::Cache;
 use sd_manager::{Manager, NodeId};
@@ -59,7 +60,7 @@ pub(crate) fn given_cached(
     if !is_over(m, root, place, leaf) {
         return Ok(a);
     }
-    let mut kept = Vec::new(alloc);
+    let mut kept = KeptAnswers::new(alloc);
     let code = given_here(
         alloc, m, c, &mut kept, variable, positive, leaf, place, left, right, a,
     )?;
@@ -100,9 +101,9 @@ pub(crate) fn forget_cached(
     if !is_over(m, root, place, leaf) {
         return Ok(a);
     }
-    let mut kept = Vec::new(alloc);
-    let mut with_true = Vec::new(alloc);
-    let mut with_false = Vec::new(alloc);
+    let mut kept = KeptAnswers::new(alloc);
+    let mut with_true = KeptAnswers::new(alloc);
+    let mut with_false = KeptAnswers::new(alloc);
     let code = forget_here(
         alloc,
         m,

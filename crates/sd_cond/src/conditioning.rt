@@ -10,12 +10,13 @@ ghost use Rattle.sd_apply.specs.Growing.{GrowsBelow, GrowsBelowEither};
 ghost use Rattle.sd_apply.specs.Places.{IsBelow, IsThere, HasPlace, HasChildren};
 ghost use Rattle.sd_apply.specs.Elements.{AreListedElements};
 ghost use Rattle.sd_apply.specs.Serving.{Serves};
-ghost use Rattle.sd_cond.specs.Calls.{conditioned, AnswersOf, AreAnswers, Tells, FixesPairs};
+ghost use Rattle.sd_cond.specs.Calls.{conditioned, AnswersOf, Tells, FixesPairs};
+ghost use Rattle.sd_cond.specs.Kept.{AreAnswers};
 
-use crate::kept::{answer_in, keep_answer};
+use crate::kept::KeptAnswers;
 use crate::lists::{Pairs, elements_of};
 use crate::places::{is_left, is_over, place_with_children};
-use sd_apply::compress;
+use sd_apply::{are_same, compress};
 use sd_cache::Cache;
 use sd_manager::{Manager, NodeId};
 use sd_runs::TakeError;
@@ -48,7 +49,7 @@ pub(crate) fn given_at(
     alloc: Global,
     m: &mut Manager,
     c: &mut Cache,
-    kept: &mut Vec<Option<u32>>,
+    kept: &mut KeptAnswers,
     variable: u32,
     positive: bool,
     leaf: VNode,
@@ -59,12 +60,12 @@ pub(crate) fn given_at(
     requires leaf { variable_at m.old.vtree leaf ≡ Some variable }
     requires over { IsUnder m.old.vtree leaf at }
     requires a { IsBelow m.old at a }
-    requires knows { AreAnswers m.old (conditioned variable positive) kept.old.items }
+    requires knows { AreAnswers m.old (conditioned variable positive) kept.old }
     requires serves { Serves c.old m.old }
     ensures ok { IfOk result (λ r. AnswersOf m.old m.new (conditioned variable positive) a r) }
     ensures kept { Extends m.old m.new }
     ensures grown { GrowsBelow m.old m.new at }
-    ensures knows { AreAnswers m.new (conditioned variable positive) kept.new.items }
+    ensures knows { AreAnswers m.new (conditioned variable positive) kept.new }
     ensures serves { Serves c.new m.new }
     ensures rule { IfErr result (λ e. KeepsRule m.new e) }
     ensures table { IsTable m.new }
@@ -74,7 +75,7 @@ pub(crate) fn given_at(
     if let Some(code) = at_terminal(a.0, variable, positive) {
         return Ok(NodeId(code));
     }
-    if let Some(code) = answer_in(kept, a) {
+    if let Some(code) = kept.look(a) {
         return Ok(NodeId(code));
     }
     let (place, left, right) = place_with_children(m, at, a);
@@ -84,7 +85,7 @@ pub(crate) fn given_at(
     let code = given_here(
         alloc, m, c, kept, variable, positive, leaf, place, left, right, a,
     )?;
-    let Ok(()) = keep_answer(kept, a, code) else {
+    let Ok(()) = kept.keep(alloc, a, code) else {
         return Err(TakeError::OutOfMemory);
     };
     Ok(code)
@@ -96,7 +97,7 @@ pub(crate) fn given_here(
     alloc: Global,
     m: &mut Manager,
     c: &mut Cache,
-    kept: &mut Vec<Option<u32>>,
+    kept: &mut KeptAnswers,
     variable: u32,
     positive: bool,
     leaf: VNode,
@@ -112,33 +113,28 @@ pub(crate) fn given_here(
     requires node { IsNodeOf m.old a }
     requires code { 2050 ≤ a }
     requires place { (d : Diagram) → ShowsCanonical m.old a d → HasPlace m.old.vtree place d }
-    requires knows { AreAnswers m.old (conditioned variable positive) kept.old.items }
+    requires knows { AreAnswers m.old (conditioned variable positive) kept.old }
     requires serves { Serves c.old m.old }
     requires table { IsTable m.old }
     ensures ok { IfOk result (λ r. AnswersOf m.old m.new (conditioned variable positive) a r) }
     ensures kept { Extends m.old m.new }
     ensures grown { GrowsBelow m.old m.new place }
-    ensures knows { AreAnswers m.new (conditioned variable positive) kept.new.items }
+    ensures knows { AreAnswers m.new (conditioned variable positive) kept.new }
     ensures serves { Serves c.new m.new }
     ensures rule { IfErr result (λ e. KeepsRule m.new e) }
     ensures table { IsTable m.new }
 {
     let in_left = is_left(m, variable, leaf, place, left, right);
     let list = elements_of(alloc, m, a)?;
+    let elements = list.as_slice();
     let pairs = given_pairs(
-        alloc,
-        m,
-        c,
-        kept,
-        variable,
-        positive,
-        leaf,
-        left,
-        right,
-        in_left,
-        list.as_slice(),
+        alloc, m, c, kept, variable, positive, leaf, left, right, in_left, elements,
     )?;
-    compress(alloc, m, c, place, pairs.as_slice())
+    let fixed = pairs.as_slice();
+    if are_same(fixed, elements) {
+        return Ok(a);
+    }
+    compress(alloc, m, c, place, fixed)
 }
 
 // The elements where the variable has the value, without those whose prime is false then.
@@ -147,7 +143,7 @@ fn given_pairs(
     alloc: Global,
     m: &mut Manager,
     c: &mut Cache,
-    kept: &mut Vec<Option<u32>>,
+    kept: &mut KeptAnswers,
     variable: u32,
     positive: bool,
     leaf: VNode,
@@ -163,14 +159,14 @@ fn given_pairs(
     requires tells_left { Tells m.old.vtree leaf left in_left }
     requires tells_right { Tells m.old.vtree leaf right (not in_left) }
     requires list { AreListedElements m.old left right list.now }
-    requires knows { AreAnswers m.old (conditioned variable positive) kept.old.items }
+    requires knows { AreAnswers m.old (conditioned variable positive) kept.old }
     requires serves { Serves c.old m.old }
     requires table { IsTable m.old }
     ensures ok { IfOk result (λ r. FixesPairs m.old m.new variable positive left right list.now
         r.items) }
     ensures kept { Extends m.old m.new }
     ensures grown { GrowsBelowEither m.old m.new left right }
-    ensures knows { AreAnswers m.new (conditioned variable positive) kept.new.items }
+    ensures knows { AreAnswers m.new (conditioned variable positive) kept.new }
     ensures serves { Serves c.new m.new }
     ensures rule { IfErr result (λ e. KeepsRule m.new e) }
     ensures table { IsTable m.new }
@@ -199,7 +195,7 @@ fn given_below(
     alloc: Global,
     m: &mut Manager,
     c: &mut Cache,
-    kept: &mut Vec<Option<u32>>,
+    kept: &mut KeptAnswers,
     variable: u32,
     positive: bool,
     leaf: VNode,
@@ -212,12 +208,12 @@ fn given_below(
     requires there { IsThere m.old.vtree at }
     requires tells { Tells m.old.vtree leaf at here }
     requires a { IsBelow m.old at a }
-    requires knows { AreAnswers m.old (conditioned variable positive) kept.old.items }
+    requires knows { AreAnswers m.old (conditioned variable positive) kept.old }
     requires serves { Serves c.old m.old }
     ensures ok { IfOk result (λ r. AnswersOf m.old m.new (conditioned variable positive) a r) }
     ensures kept { Extends m.old m.new }
     ensures grown { GrowsBelow m.old m.new at }
-    ensures knows { AreAnswers m.new (conditioned variable positive) kept.new.items }
+    ensures knows { AreAnswers m.new (conditioned variable positive) kept.new }
     ensures serves { Serves c.new m.new }
     ensures rule { IfErr result (λ e. KeepsRule m.new e) }
     ensures table { IsTable m.new }

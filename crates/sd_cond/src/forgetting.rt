@@ -10,13 +10,14 @@ ghost use Rattle.sd_apply.specs.Growing.{GrowsBelow, GrowsBelowEither};
 ghost use Rattle.sd_apply.specs.Places.{IsBelow, HasPlace, HasChildren};
 ghost use Rattle.sd_apply.specs.Elements.{AreListedElements};
 ghost use Rattle.sd_apply.specs.Serving.{Serves};
-ghost use Rattle.sd_cond.specs.Calls.{conditioned, forgotten, AnswersOf, AreAnswers, ForgetsSubs};
+ghost use Rattle.sd_cond.specs.Calls.{conditioned, forgotten, AnswersOf, ForgetsSubs};
+ghost use Rattle.sd_cond.specs.Kept.{AreAnswers};
 
 use crate::conditioning::given_here;
-use crate::kept::{answer_in, keep_answer};
+use crate::kept::KeptAnswers;
 use crate::lists::{Pairs, elements_of};
 use crate::places::{is_left, is_over, place_with_children};
-use sd_apply::{compress, or};
+use sd_apply::{are_same, compress, or};
 use sd_cache::Cache;
 use sd_manager::{Manager, NodeId};
 use sd_runs::TakeError;
@@ -46,9 +47,9 @@ fn forget_at(
     alloc: Global,
     m: &mut Manager,
     c: &mut Cache,
-    kept: &mut Vec<Option<u32>>,
-    with_true: &mut Vec<Option<u32>>,
-    with_false: &mut Vec<Option<u32>>,
+    kept: &mut KeptAnswers,
+    with_true: &mut KeptAnswers,
+    with_false: &mut KeptAnswers,
     variable: u32,
     leaf: VNode,
     at: VNode,
@@ -58,16 +59,16 @@ fn forget_at(
     requires leaf { variable_at m.old.vtree leaf ≡ Some variable }
     requires over { IsUnder m.old.vtree leaf at }
     requires a { IsBelow m.old at a }
-    requires knows { AreAnswers m.old (forgotten variable) kept.old.items }
-    requires knows_true { AreAnswers m.old (conditioned variable true) with_true.old.items }
-    requires knows_false { AreAnswers m.old (conditioned variable false) with_false.old.items }
+    requires knows { AreAnswers m.old (forgotten variable) kept.old }
+    requires knows_true { AreAnswers m.old (conditioned variable true) with_true.old }
+    requires knows_false { AreAnswers m.old (conditioned variable false) with_false.old }
     requires serves { Serves c.old m.old }
     ensures ok { IfOk result (λ r. AnswersOf m.old m.new (forgotten variable) a r) }
     ensures kept { Extends m.old m.new }
     ensures grown { GrowsBelow m.old m.new at }
-    ensures knows { AreAnswers m.new (forgotten variable) kept.new.items }
-    ensures knows_true { AreAnswers m.new (conditioned variable true) with_true.new.items }
-    ensures knows_false { AreAnswers m.new (conditioned variable false) with_false.new.items }
+    ensures knows { AreAnswers m.new (forgotten variable) kept.new }
+    ensures knows_true { AreAnswers m.new (conditioned variable true) with_true.new }
+    ensures knows_false { AreAnswers m.new (conditioned variable false) with_false.new }
     ensures serves { Serves c.new m.new }
     ensures rule { IfErr result (λ e. KeepsRule m.new e) }
     ensures table { IsTable m.new }
@@ -77,7 +78,7 @@ fn forget_at(
     if let Some(code) = forget_terminal(a.0, variable) {
         return Ok(NodeId(code));
     }
-    if let Some(code) = answer_in(kept, a) {
+    if let Some(code) = kept.look(a) {
         return Ok(NodeId(code));
     }
     let (place, left, right) = place_with_children(m, at, a);
@@ -87,7 +88,7 @@ fn forget_at(
     let code = forget_here(
         alloc, m, c, kept, with_true, with_false, variable, leaf, place, left, right, a,
     )?;
-    let Ok(()) = keep_answer(kept, a, code) else {
+    let Ok(()) = kept.keep(alloc, a, code) else {
         return Err(TakeError::OutOfMemory);
     };
     Ok(code)
@@ -99,9 +100,9 @@ pub(crate) fn forget_here(
     alloc: Global,
     m: &mut Manager,
     c: &mut Cache,
-    kept: &mut Vec<Option<u32>>,
-    with_true: &mut Vec<Option<u32>>,
-    with_false: &mut Vec<Option<u32>>,
+    kept: &mut KeptAnswers,
+    with_true: &mut KeptAnswers,
+    with_false: &mut KeptAnswers,
     variable: u32,
     leaf: VNode,
     place: VNode,
@@ -116,17 +117,17 @@ pub(crate) fn forget_here(
     requires node { IsNodeOf m.old a }
     requires code { 2050 ≤ a }
     requires place { (d : Diagram) → ShowsCanonical m.old a d → HasPlace m.old.vtree place d }
-    requires knows { AreAnswers m.old (forgotten variable) kept.old.items }
-    requires knows_true { AreAnswers m.old (conditioned variable true) with_true.old.items }
-    requires knows_false { AreAnswers m.old (conditioned variable false) with_false.old.items }
+    requires knows { AreAnswers m.old (forgotten variable) kept.old }
+    requires knows_true { AreAnswers m.old (conditioned variable true) with_true.old }
+    requires knows_false { AreAnswers m.old (conditioned variable false) with_false.old }
     requires serves { Serves c.old m.old }
     requires table { IsTable m.old }
     ensures ok { IfOk result (λ r. AnswersOf m.old m.new (forgotten variable) a r) }
     ensures kept { Extends m.old m.new }
     ensures grown { GrowsBelow m.old m.new place }
-    ensures knows { AreAnswers m.new (forgotten variable) kept.new.items }
-    ensures knows_true { AreAnswers m.new (conditioned variable true) with_true.new.items }
-    ensures knows_false { AreAnswers m.new (conditioned variable false) with_false.new.items }
+    ensures knows { AreAnswers m.new (forgotten variable) kept.new }
+    ensures knows_true { AreAnswers m.new (conditioned variable true) with_true.new }
+    ensures knows_false { AreAnswers m.new (conditioned variable false) with_false.new }
     ensures serves { Serves c.new m.new }
     ensures rule { IfErr result (λ e. KeepsRule m.new e) }
     ensures table { IsTable m.new }
@@ -137,20 +138,15 @@ pub(crate) fn forget_here(
         );
     }
     let list = elements_of(alloc, m, a)?;
+    let elements = list.as_slice();
     let pairs = forget_subs(
-        alloc,
-        m,
-        c,
-        kept,
-        with_true,
-        with_false,
-        variable,
-        leaf,
-        left,
-        right,
-        list.as_slice(),
+        alloc, m, c, kept, with_true, with_false, variable, leaf, left, right, elements,
     )?;
-    compress(alloc, m, c, place, pairs.as_slice())
+    let projected = pairs.as_slice();
+    if are_same(projected, elements) {
+        return Ok(a);
+    }
+    compress(alloc, m, c, place, projected)
 }
 
 // The elements with the variable forgotten in their subs, where it is none of the primes'.
@@ -159,9 +155,9 @@ fn forget_subs(
     alloc: Global,
     m: &mut Manager,
     c: &mut Cache,
-    kept: &mut Vec<Option<u32>>,
-    with_true: &mut Vec<Option<u32>>,
-    with_false: &mut Vec<Option<u32>>,
+    kept: &mut KeptAnswers,
+    with_true: &mut KeptAnswers,
+    with_false: &mut KeptAnswers,
     variable: u32,
     leaf: VNode,
     left: VNode,
@@ -172,17 +168,17 @@ fn forget_subs(
     requires leaf { variable_at m.old.vtree leaf ≡ Some variable }
     requires over { IsUnder m.old.vtree leaf right }
     requires list { AreListedElements m.old left right list.now }
-    requires knows { AreAnswers m.old (forgotten variable) kept.old.items }
-    requires knows_true { AreAnswers m.old (conditioned variable true) with_true.old.items }
-    requires knows_false { AreAnswers m.old (conditioned variable false) with_false.old.items }
+    requires knows { AreAnswers m.old (forgotten variable) kept.old }
+    requires knows_true { AreAnswers m.old (conditioned variable true) with_true.old }
+    requires knows_false { AreAnswers m.old (conditioned variable false) with_false.old }
     requires serves { Serves c.old m.old }
     requires table { IsTable m.old }
     ensures ok { IfOk result (λ r. ForgetsSubs m.old m.new variable left right list.now r.items) }
     ensures kept { Extends m.old m.new }
     ensures grown { GrowsBelowEither m.old m.new left right }
-    ensures knows { AreAnswers m.new (forgotten variable) kept.new.items }
-    ensures knows_true { AreAnswers m.new (conditioned variable true) with_true.new.items }
-    ensures knows_false { AreAnswers m.new (conditioned variable false) with_false.new.items }
+    ensures knows { AreAnswers m.new (forgotten variable) kept.new }
+    ensures knows_true { AreAnswers m.new (conditioned variable true) with_true.new }
+    ensures knows_false { AreAnswers m.new (conditioned variable false) with_false.new }
     ensures serves { Serves c.new m.new }
     ensures rule { IfErr result (λ e. KeepsRule m.new e) }
     ensures table { IsTable m.new }
@@ -205,8 +201,8 @@ fn forget_by_both(
     alloc: Global,
     m: &mut Manager,
     c: &mut Cache,
-    with_true: &mut Vec<Option<u32>>,
-    with_false: &mut Vec<Option<u32>>,
+    with_true: &mut KeptAnswers,
+    with_false: &mut KeptAnswers,
     variable: u32,
     leaf: VNode,
     place: VNode,
@@ -221,15 +217,15 @@ fn forget_by_both(
     requires node { IsNodeOf m.old a }
     requires code { 2050 ≤ a }
     requires place { (d : Diagram) → ShowsCanonical m.old a d → HasPlace m.old.vtree place d }
-    requires knows_true { AreAnswers m.old (conditioned variable true) with_true.old.items }
-    requires knows_false { AreAnswers m.old (conditioned variable false) with_false.old.items }
+    requires knows_true { AreAnswers m.old (conditioned variable true) with_true.old }
+    requires knows_false { AreAnswers m.old (conditioned variable false) with_false.old }
     requires serves { Serves c.old m.old }
     requires table { IsTable m.old }
     ensures ok { IfOk result (λ r. AnswersOf m.old m.new (forgotten variable) a r) }
     ensures kept { Extends m.old m.new }
     ensures grown { GrowsBelow m.old m.new place }
-    ensures knows_true { AreAnswers m.new (conditioned variable true) with_true.new.items }
-    ensures knows_false { AreAnswers m.new (conditioned variable false) with_false.new.items }
+    ensures knows_true { AreAnswers m.new (conditioned variable true) with_true.new }
+    ensures knows_false { AreAnswers m.new (conditioned variable false) with_false.new }
     ensures serves { Serves c.new m.new }
     ensures rule { IfErr result (λ e. KeepsRule m.new e) }
     ensures table { IsTable m.new }

@@ -1,4 +1,4 @@
-ghost use Rattle.std.specs.Prelude.{◌≡◌, ◌≤◌, None, IfOk};
+ghost use Rattle.std.specs.Prelude.{◌≡◌, ◌≤◌, ◌<◌, None, IfOk};
 ghost use Rattle.std.specs.FinMap.{empty};
 ghost use Rattle.sd_model.specs.Tree.{leaves};
 ghost use Rattle.sd_vtree.specs.Numbered.{plain_tree};
@@ -9,7 +9,7 @@ ghost use Rattle.sd_manager.specs.Making.{Extends};
 ghost use Rattle.sd_apply.specs.Serving.{Serves};
 
 use super::*;
-use sd_apply::{and, or, xor};
+use sd_apply::{and, negate, or, xor};
 use sd_cache::Cache;
 use sd_manager::{Manager, NodeId};
 use sd_runs::TakeError;
@@ -188,6 +188,160 @@ fn a_forgotten_variable(rt: HostRuntime) -> Result<(), Fail> {
         assert_eq!(rt; forgotten_values(alloc, shape, true, 3)?, 0xFF88);
         assert_eq!(rt; forgotten_values(alloc, shape, true, 4)?, 0xF8F8);
     }
+    Ok(())
+}
+
+// A node where a variable is true, the negation of it where the variable is false, and the node with
+// the variable forgotten.
+fn both_ways(
+    alloc: Global,
+    m: &mut Manager,
+    c: &mut Cache,
+    node: NodeId,
+    variable: u32,
+) -> Result<(NodeId, NodeId, NodeId), TakeError>
+    requires node { IsNodeOf m.old node }
+    requires positive { 1 ≤ variable }
+    requires within { variable ≤ leaves (plain_tree m.old.vtree) }
+    requires few { variable ≤ 1024 }
+    requires serves { Serves c.old m.old }
+{
+    let literal = variable as i32;
+    let first = given(alloc, m, c, node, literal)?;
+    let second = given(alloc, m, c, node, -literal)?;
+    let negated = negate(alloc, m, c, second)?;
+    let projected = forget(alloc, m, c, node, variable)?;
+    Ok((first, negated, projected))
+}
+
+// The same of the parity of 60 variables.
+fn parity_both_ways(
+    alloc: Global,
+    vtree: Vtree,
+    variable: u32,
+) -> Result<(NodeId, NodeId, NodeId), TakeError>
+    requires positive { 1 ≤ variable }
+    requires within { variable ≤ 60 }
+{
+    if vtree.variables() != 60 {
+        return Err(TakeError::OutOfMemory);
+    }
+    let Ok(mut m) = Manager::new(alloc, vtree, 100_000_000) else {
+        return Err(TakeError::OutOfMemory);
+    };
+    let Ok(mut c) = Cache::new(alloc) else {
+        return Err(TakeError::OutOfMemory);
+    };
+    let node = parity(alloc, &mut m, &mut c, 60)?;
+    both_ways(alloc, &mut m, &mut c, node, variable)
+}
+
+/// A parity of 60 variables, which has 2^59 paths, is conditioned and projected at once.
+#[test]
+fn each_node_is_visited_once(rt: HostRuntime) -> Result<(), Fail> {
+    let alloc = rt.alloc();
+    let yes = NodeId(1);
+    let (first, negated, projected) = parity_both_ways(alloc, Vtree::right(alloc, 60)?, 60)?;
+    assert_eq!(rt; (first, projected), (negated, yes));
+    let (first, negated, projected) = parity_both_ways(alloc, Vtree::left(alloc, 60)?, 1)?;
+    assert_eq!(rt; (first, projected), (negated, yes));
+    let (first, negated, projected) = parity_both_ways(alloc, Vtree::balanced(alloc, 60)?, 30)?;
+    assert_eq!(rt; (first, projected), (negated, yes));
+    Ok(())
+}
+
+// The variable at so many levels from the deepest of 1,024, which is the last or the first.
+fn variable_above(deepest: u32, levels: u32) -> i32
+    requires positive { 1 ≤ levels }
+    requires below { levels < 1024 }
+    ensures { IsLiteralTo 1024 result }
+{
+    let variable = if deepest == 1024 {
+        1024 - levels
+    } else {
+        levels + 1
+    };
+    variable as i32
+}
+
+// The disjunction of a node with all variables but the deepest of 1,024, from there up.
+fn or_others(
+    alloc: Global,
+    m: &mut Manager,
+    c: &mut Cache,
+    deepest: u32,
+    start: NodeId,
+) -> Result<NodeId, TakeError>
+    requires variables { leaves (plain_tree m.old.vtree) ≡ 1024 }
+    requires start { IsNodeOf m.old start }
+    requires serves { Serves c.old m.old }
+    requires table { IsTable m.old }
+    ensures shown { IfOk result (λ node. IsNodeOf m.new node) }
+    ensures kept { Extends m.old m.new }
+    ensures serves { Serves c.new m.new }
+    ensures table { IsTable m.new }
+{
+    let mut node = start;
+    for levels in 1..1024u32 {
+        let literal = m.literal(variable_above(deepest, levels));
+        node = or(alloc, m, c, literal, node)?;
+    }
+    Ok(node)
+}
+
+// The disjunction of 1,024 variables where the deepest is false, that of the others, and the first with
+// the deepest forgotten.
+fn at_deepest(
+    alloc: Global,
+    m: &mut Manager,
+    c: &mut Cache,
+    deepest: u32,
+) -> Result<(NodeId, NodeId, NodeId), TakeError>
+    requires variables { leaves (plain_tree m.old.vtree) ≡ 1024 }
+    requires positive { 1 ≤ deepest }
+    requires within { deepest ≤ 1024 }
+    requires serves { Serves c.old m.old }
+    requires table { IsTable m.old }
+{
+    let literal = deepest as i32;
+    let none = m.constant(false);
+    let others = or_others(alloc, m, c, deepest, none)?;
+    let last = m.literal(literal);
+    let clause = or_others(alloc, m, c, deepest, last)?;
+    let fixed = given(alloc, m, c, clause, -literal)?;
+    let projected = forget(alloc, m, c, clause, deepest)?;
+    Ok((fixed, others, projected))
+}
+
+// The same over a vtree.
+fn at_deepest_of(
+    alloc: Global,
+    vtree: Vtree,
+    deepest: u32,
+) -> Result<(NodeId, NodeId, NodeId), TakeError>
+    requires positive { 1 ≤ deepest }
+    requires within { deepest ≤ 1024 }
+{
+    if vtree.variables() != 1024 {
+        return Err(TakeError::OutOfMemory);
+    }
+    let Ok(mut m) = Manager::new(alloc, vtree, 1_000_000) else {
+        return Err(TakeError::OutOfMemory);
+    };
+    let Ok(mut c) = Cache::new(alloc) else {
+        return Err(TakeError::OutOfMemory);
+    };
+    at_deepest(alloc, &mut m, &mut c, deepest)
+}
+
+/// What goes down to the deepest of 1,024 levels ends on an ordinary stack.
+#[test]
+fn deepest_level(rt: HostRuntime) -> Result<(), Fail> {
+    let alloc = rt.alloc();
+    let (fixed, others, projected) = at_deepest_of(alloc, Vtree::right(alloc, 1024)?, 1024)?;
+    assert_eq!(rt; (fixed, projected), (others, NodeId(1)));
+    let (fixed, others, projected) = at_deepest_of(alloc, Vtree::left(alloc, 1024)?, 1)?;
+    assert_eq!(rt; (fixed, projected), (others, NodeId(1)));
     Ok(())
 }
 

@@ -1,9 +1,10 @@
-use Rattle.std.proofs.Common.{◌≡◌, ◌∙◌, ◌*◌, refl, sym, ap, subst, Some, true}
+use Rattle.std.proofs.Common.{◌≡◌, ◌∙◌, ◌*◌, refl, sym, ap, subst, Some, true, false}
 use Rattle.sd_vtree.specs.Numbered.{number_of, variable_at}
 use Rattle.sd_cache.specs.Entries.{call}
 use Rattle.sd_apply.proofs.Growing.{both_lowest}
 use Rattle.sd_apply.proofs.Served.{serves_look, serves_keep}
 use Rattle.sd_apply.proofs.Whole.{root_there, root_below}
+use Rattle.sd_cond.specs.Calls.{conditioned, forgotten}
 use Rattle.sd_cond.proofs.Answering.{place_each}
 use Rattle.sd_cond.proofs.Forgotten.{forget_outside}
 use Rattle.sd_cond.proofs.Serving.{looked_forget, forget_right, literal_at, literal_on}
@@ -37,6 +38,18 @@ forget_here-requires-clause-serves c =
     serves_look c.args.c.now c.look.new.self c.args.m.now
     (call c.epoch-epoch.result 5 c.a.inside.0 (2 * c.args.variable)) c.look.ensures.entries
     c.requires.serves
+
+-- nothing is kept yet
+pub forget_here-requires-clause-knows : goal.forget_here-requires-clause-knows
+forget_here-requires-clause-knows c = c.new-kept.ensures c.args.m.now (forgotten c.args.variable)
+
+pub forget_here-requires-clause-knows_true : goal.forget_here-requires-clause-knows_true
+forget_here-requires-clause-knows_true c =
+    c.new-with_true.ensures c.args.m.now (conditioned c.args.variable true)
+
+pub forget_here-requires-clause-knows_false : goal.forget_here-requires-clause-knows_false
+forget_here-requires-clause-knows_false c =
+    c.new-with_false.ensures c.args.m.now (conditioned c.args.variable false)
 
 -- the root is there, and the node is below it
 pub place_with_children-place-requires-clause-at : goal.place_with_children-place-requires-clause-at

@@ -4,6 +4,7 @@ use Rattle.sd_cache.specs.Entries.{call}
 use Rattle.sd_apply.proofs.Growing.{both_lowest}
 use Rattle.sd_apply.proofs.Served.{serves_look, serves_keep}
 use Rattle.sd_apply.proofs.Whole.{root_there, root_below}
+use Rattle.sd_cond.specs.Calls.{conditioned}
 use Rattle.sd_cond.proofs.Answering.{outside_own, place_each}
 use Rattle.sd_cond.proofs.Serving.{looked_given, given_right, literal_of, literal_on}
 use Rattle.sd_cond.proofs.cached.given_cached.Goals as goal
@@ -33,6 +34,11 @@ pub given_here-requires-clause-serves : goal.given_here-requires-clause-serves
 given_here-requires-clause-serves c =
     serves_look c.args.c.now c.look.new.self c.args.m.now
     (call c.epoch-epoch.result 4 c.a.inside.0 c.args.literal) c.look.ensures.entries c.requires.serves
+
+-- nothing is kept yet
+pub given_here-requires-clause-knows : goal.given_here-requires-clause-knows
+given_here-requires-clause-knows c =
+    c.new-kept.ensures c.args.m.now (conditioned (c.args.literal / 2) (c.args.literal % 2 == 0))
 
 -- the root is there, and the node is below it
 pub place_with_children-place-requires-clause-at : goal.place_with_children-place-requires-clause-at

@@ -1,5 +1,5 @@
 use Rattle.std.proofs.Common.{◌∙◌, sym, ap, subst, ℕ, ◌+◌, ◌*◌, ◌<◌, not, List, [], ◌∷◌}
-use Rattle.std.proofs.Common.{get_or, None, slice_index_or, arith}
+use Rattle.std.proofs.Common.{get_or, arith}
 use Rattle.std.proofs.lemmas.Result.{IfOk-weaker}
 use Rattle.sd_model.specs.Diagram.{Diagram}
 use Rattle.sd_manager.specs.Shown.{IsPartitionAt, ShowsCanonical}
@@ -14,22 +14,20 @@ use Rattle.sd_apply.proofs.Rows.{prime_below, sub_below, paired_at}
 use Rattle.sd_apply.proofs.Expanding.{own_listed}
 use Rattle.sd_cond.specs.Calls.{conditioned, AnswersOf, FixesPairs}
 use Rattle.sd_cond.proofs.Steps.{IsStep}
-use Rattle.sd_cond.proofs.Answering.{answer_kept, answer_found, answers_more, answers_on, below_node}
+use Rattle.sd_cond.proofs.Answering.{answer_kept, answer_found, answers_on, below_node}
 use Rattle.sd_cond.proofs.Answering.{below_each, place_each, outside_own, tells_on, leaf_on, wider_on}
 use Rattle.sd_cond.proofs.Elements.{pairs_skip, pairs_push, pairs_done, fixed_list}
-use Rattle.sd_cond.proofs.Elements.{listed_partition, compressed_answers}
+use Rattle.sd_cond.proofs.Elements.{listed_partition, compressed_answers, same_answers}
 use Rattle.sd_cond.proofs.conditioning.+given.Goals as goal
 use Rattle.sd_cond.proofs.conditioning.+given.Goals.{given_pairs-then-fixed-ne0+in_ok-value+in-Ok}
 use Rattle.sd_cond.proofs.conditioning.+given.Goals.{given_pairs-else-fixed-ne0}
 
 -- an answer that is kept
-pub given_at-returns-in-Some-answer_in-clause-ok : goal.given_at-returns-in-Some-answer_in-clause-ok
-given_at-returns-in-Some-answer_in-clause-ok t c =
+pub given_at-returns-in-Some-look-clause-ok : goal.given_at-returns-in-Some-look-clause-ok
+given_at-returns-in-Some-look-clause-ok t c =
     let f = conditioned c.args.variable c.args.positive in
-    answer_kept c.args.m.now c.vtree.ensures.table f c.args.a c.in-Some-answer_in.code
-    (c.requires.knows.each c.args.a c.in-Some-answer_in.code
-    (ap (λ l. slice_index_or l c.args.a None) (sym c.deref.ensures.value)
-    ∙ sym c.in-Some-answer_in.ensures))
+    answer_kept c.args.m.now c.vtree.ensures.table f c.args.a c.in-Some-look.code
+    (c.in-Some-look.ensures c.args.m.now f c.requires.knows)
 
 -- a node below whose vtree node the leaf does not stand
 pub given_at-returns-then-not-is_over-clause-ok : goal.given_at-returns-then-not-is_over-clause-ok
@@ -47,8 +45,8 @@ given_at-returns-in_err-code-clause-grown t c =
     wider_on c.args.m.now c.given_here.new.m c.given_here.ensures.kept c.vtree.ensures.table
     p.result.0 c.args.at p.ensures.under c.given_here.ensures.grown
 
-pub given_at-returns-in_default-keep_answer-clause-grown : goal.given_at-returns-in_default-keep_answer-clause-grown
-given_at-returns-in_default-keep_answer-clause-grown t c =
+pub given_at-returns-in_default-keep-clause-grown : goal.given_at-returns-in_default-keep-clause-grown
+given_at-returns-in_default-keep-clause-grown t c =
     let p = c.place_with_children-place in
     wider_on c.args.m.now c.given_here.new.m c.given_here.ensures.kept c.vtree.ensures.table
     p.result.0 c.args.at p.ensures.under c.given_here.ensures.grown
@@ -60,26 +58,24 @@ given_at-returns-clause-grown t c =
     p.result.0 c.args.at p.ensures.under c.given_here.ensures.grown
 
 -- what is kept then
-pub given_at-returns-in_default-keep_answer-clause-knows :
-    goal.given_at-returns-in_default-keep_answer-clause-knows
-given_at-returns-in_default-keep_answer-clause-knows t c =
+pub given_at-returns-in_default-keep-clause-knows :
+    goal.given_at-returns-in_default-keep-clause-knows
+given_at-returns-in_default-keep-clause-knows t c =
     let m = c.args.m.now in
     let n = c.given_here.new.m in
     let f = conditioned c.args.variable c.args.positive in
-    answers_more n f c.given_here.new.kept.items c.keep_answer.new.kept.items c.args.a c.in_ok-code.code
-    c.given_here.ensures.knows
+    c.keep.ensures n f c.given_here.ensures.knows
     (answer_found m n c.given_here.ensures.kept f c.args.a c.in_ok-code.code
-    (below_node m c.args.at c.args.a c.requires.a) c.in_ok-code.ensures.ok) c.keep_answer.ensures
+    (below_node m c.args.at c.args.a c.requires.a) c.in_ok-code.ensures.ok)
 
 pub given_at-returns-clause-knows : goal.given_at-returns-clause-knows
 given_at-returns-clause-knows t c =
     let m = c.args.m.now in
     let n = c.given_here.new.m in
     let f = conditioned c.args.variable c.args.positive in
-    answers_more n f c.given_here.new.kept.items c.keep_answer.new.kept.items c.args.a c.in_ok-code.code
-    c.given_here.ensures.knows
+    c.keep.ensures n f c.given_here.ensures.knows
     (answer_found m n c.given_here.ensures.kept f c.args.a c.in_ok-code.code
-    (below_node m c.args.at c.args.a c.requires.a) c.in_ok-code.ensures.ok) c.keep_answer.ensures
+    (below_node m c.args.at c.args.a c.requires.a) c.in_ok-code.ensures.ok)
 
 pub given_below-returns-else-here-clause-ok : goal.given_below-returns-else-here-clause-ok
 given_below-returns-else-here-clause-ok t c =
@@ -113,7 +109,7 @@ given_here-given_pairs-requires t c =
                 (
                   c.is_left-in_left.ensures.right,
                   (
-                    subst (AreListedElements m u w) (sym (c.as_slice.ensures ∙ c.in_ok-list.ensures.ok))
+                    subst (AreListedElements m u w) (sym (c.as_slice-elements.ensures ∙ c.in_ok-list.ensures.ok))
                         list,
                     (c.requires.knows, (c.requires.serves, c.requires.table)),
                   ),
@@ -143,18 +139,45 @@ given_here-compress-requires-clause-partition t c =
     let x = c.requires.node in
     let F : List (ℕ × ℕ) → Type 0 = λ l. FixesPairs m n c.args.variable c.args.positive u w l
     c.in_ok-pairs.pairs.items in
-    let fixes = subst F (c.as_slice.ensures ∙ c.in_ok-list.ensures.ok) c.in_ok-pairs.ensures.ok in
+    let fixes = subst F (c.as_slice-elements.ensures ∙ c.in_ok-list.ensures.ok) c.in_ok-pairs.ensures.ok in
     let h = fixed_list m n c.requires.table c.args.variable c.args.positive p u w c.args.a
     c.in_ok-pairs.pairs.items c.requires.children c.requires.place c.requires.code fixes x.diagram
     x.is in
     let P : List (ℕ × ℕ) → Type 0 = λ l. IsPartitionAt n p l h.shown in (
       h.shown,
-      subst P (sym c.as_slice-2.ensures)
+      subst P (sym c.as_slice-fixed.ensures)
           (listed_partition n c.given_pairs.ensures.table p u w
           (children_on m n c.given_pairs.ensures.kept p u w c.requires.children)
           c.in_ok-pairs.pairs.items
           (conditioned c.args.variable c.args.positive x.diagram) h),
     )
+
+pub given_here-returns-then-are_same-clause-ok : goal.given_here-returns-then-are_same-clause-ok
+given_here-returns-then-are_same-clause-ok t c =
+    let m = c.args.m.now in
+    let n = c.given_pairs.new.m in
+    let f = conditioned c.args.variable c.args.positive in
+    let p = c.args.place in
+    let u = c.args.left in
+    let w = c.args.right in
+    let pairs = c.in_ok-pairs.pairs.items in
+    let F : List (ℕ × ℕ) → Type 0 = λ l. FixesPairs m n c.args.variable c.args.positive u w l pairs in
+    let own = c.as_slice-elements.ensures ∙ c.in_ok-list.ensures.ok in
+    let fixes = subst F own c.in_ok-pairs.ensures.ok in
+    let list : (d : Diagram) → ShowsCanonical m c.args.a d → HasList n u w pairs (λ g. f d g ∷ []) = λ d sd.
+    fixed_list m n c.requires.table c.args.variable c.args.positive p u w c.args.a pairs
+    c.requires.children c.requires.place c.requires.code fixes d sd in
+    same_answers m n c.requires.table c.given_pairs.ensures.table c.given_pairs.ensures.kept f p u w
+    c.args.a pairs c.requires.children c.requires.place c.requires.code list
+    (sym c.as_slice-fixed.ensures ∙ c.are_same.ensures c.if-are_same.true ∙ own)
+
+pub given_here-returns-then-are_same-clause-grown : goal.given_here-returns-then-are_same-clause-grown
+given_here-returns-then-are_same-clause-grown t c =
+    let m = c.args.m.now in
+    let n = c.given_pairs.new.m in
+    grows_over m n c.given_pairs.ensures.table.numbered c.args.place c.args.left c.args.right
+    (children_on m n c.given_pairs.ensures.kept c.args.place c.args.left c.args.right
+    c.requires.children) c.given_pairs.ensures.grown
 
 pub given_here-returns-clause-ok : goal.given_here-returns-clause-ok
 given_here-returns-clause-ok t c =
@@ -167,15 +190,15 @@ given_here-returns-clause-ok t c =
     let w = c.args.right in
     let pairs = c.in_ok-pairs.pairs.items in
     let F : List (ℕ × ℕ) → Type 0 = λ l. FixesPairs m n c.args.variable c.args.positive u w l pairs in
-    let fixes = subst F (c.as_slice.ensures ∙ c.in_ok-list.ensures.ok) c.in_ok-pairs.ensures.ok in
+    let fixes = subst F (c.as_slice-elements.ensures ∙ c.in_ok-list.ensures.ok) c.in_ok-pairs.ensures.ok in
     let list : (d : Diagram) → ShowsCanonical m c.args.a d → HasList n u w pairs (λ g. f d g ∷ []) = λ d sd.
     fixed_list m n c.requires.table c.args.variable c.args.positive p u w c.args.a pairs
     c.requires.children c.requires.place c.requires.code fixes d sd in
-    IfOk-weaker c.compress.result (λ r. Compresses n o p c.as_slice-2.result.now r)
+    IfOk-weaker c.compress.result (λ r. Compresses n o p c.as_slice-fixed.result.now r)
     (λ r. AnswersOf m o f c.args.a r)
     (λ r h. compressed_answers m n o c.given_pairs.ensures.table f p u w c.args.a r pairs
     (children_on m n c.given_pairs.ensures.kept p u w c.requires.children) list
-    (subst (λ l. Compresses n o p l r) c.as_slice-2.ensures h))
+    (subst (λ l. Compresses n o p l r) c.as_slice-fixed.ensures h))
     c.compress.ensures.ok
 
 pub given_here-returns-clause-grown : goal.given_here-returns-clause-grown
@@ -191,7 +214,7 @@ given_here-returns-clause-grown t c =
 pub given_here-returns-clause-knows : goal.given_here-returns-clause-knows
 given_here-returns-clause-knows t c =
     answers_on c.given_pairs.new.m c.compress.new.m c.compress.ensures.kept
-    (conditioned c.args.variable c.args.positive) c.given_pairs.new.kept.items
+    (conditioned c.args.variable c.args.positive) c.given_pairs.new.kept
     c.given_pairs.ensures.knows
 
 -- the loop over the elements
@@ -283,7 +306,7 @@ given_pairs-loop-i-preserved t c =
     ) in
     let at = pair_at l i c.index-list-i.result c.index-list-i-in-loop-i.result c.loop-i-test.true in
     let a = c.given_below in
-    let first : IsStep c.loop-i.m a.new.m f a.new.kept.items a.new.c u w =
+    let first : IsStep c.loop-i.m a.new.m f a.new.kept a.new.c u w =
     record {
       extends = a.ensures.kept;
       knows = a.ensures.knows;
@@ -294,7 +317,7 @@ given_pairs-loop-i-preserved t c =
     elim c.if-fixed-ne0.branch [
       | given_pairs-then-fixed-ne0+in_ok-value+in-Ok k ↦
           let b = k.given_below-then-fixed-ne0 in
-          let second : IsStep a.new.m b.new.m f b.new.kept.items b.new.c u w =
+          let second : IsStep a.new.m b.new.m f b.new.kept b.new.c u w =
           record {
             extends = b.ensures.kept;
             knows = b.ensures.knows;
@@ -303,22 +326,22 @@ given_pairs-loop-i-preserved t c =
             grown = grows_right a.new.m b.new.m u w b.ensures.grown;
           } in
           rw (k.m-is, k.c-is, k.kept-is, k.pairs-is)
-          (pairs_push m0 c.loop-i.m a.new.m b.new.m c.loop-i.kept.items a.new.kept.items
-          b.new.kept.items c.loop-i.c a.new.c b.new.c x s u w l c.loop-i.pairs.items
+          (pairs_push m0 c.loop-i.m a.new.m b.new.m c.loop-i.kept a.new.kept
+          b.new.kept c.loop-i.c a.new.c b.new.c x s u w l c.loop-i.pairs.items
           k.push.new.self.items i e c.in_ok-fixed.fixed k.in_ok-value.value c.requires.variable
           c.loop-i.invariant first second c.loop-i-test.true at c.in_ok-fixed.ensures.ok
           (λ z. k.if-fixed-ne0.true (c.fixed.view_is ∙ z)) k.in_ok-value.ensures.ok
           k.in-Ok.ensures.ok)
       | given_pairs-else-fixed-ne0 k ↦
           rw (k.m-is, k.c-is, k.kept-is, k.pairs-is)
-          (pairs_skip m0 c.loop-i.m a.new.m c.loop-i.kept.items a.new.kept.items c.loop-i.c a.new.c
+          (pairs_skip m0 c.loop-i.m a.new.m c.loop-i.kept a.new.kept c.loop-i.c a.new.c
           x s u w l c.loop-i.pairs.items i e c.in_ok-fixed.fixed c.loop-i.invariant first
           c.loop-i-test.true at c.in_ok-fixed.ensures.ok (sym c.fixed.view_is ∙ k.if-fixed-ne0.false))
     ]
 
 pub given_pairs-returns-clause-ok : goal.given_pairs-returns-clause-ok
 given_pairs-returns-clause-ok t c =
-    pairs_done c.args.m.now c.loop-i.m c.loop-i.kept.items c.loop-i.c c.args.variable c.args.positive
+    pairs_done c.args.m.now c.loop-i.m c.loop-i.kept c.loop-i.c c.args.variable c.args.positive
     c.args.left c.args.right c.args.list.now c.loop-i.pairs.items c.loop-i.i c.loop-i.invariant
     c.loop-i-test.false c.loop-i.auto.i-end
 

@@ -19,4 +19,4 @@ decreases-given_pairs l = 4 * (width l.m.now.vtree l.left + width l.m.now.vtree 
 
 abbrev pub invariant-given_pairs-loop-i : goal.invariant-given_pairs-loop-i
 invariant-given_pairs-loop-i l =
-    InPairs l.fn.m l.m l.kept.items l.c l.variable l.positive l.left l.right l.list l.pairs.items l.i
+    InPairs l.fn.m l.m l.kept l.c l.variable l.positive l.left l.right l.list l.pairs.items l.i

@@ -1,5 +1,5 @@
 use Rattle.std.proofs.Common.{◌∙◌, sym, ap, subst, ℕ, ◌+◌, ◌*◌, ◌<◌, true, false, List, [], ◌∷◌}
-use Rattle.std.proofs.Common.{get_or, None, slice_index_or, arith, not}
+use Rattle.std.proofs.Common.{get_or, arith, not}
 use Rattle.std.proofs.lemmas.Result.{IfOk-weaker}
 use Rattle.sd_model.specs.Diagram.{Diagram}
 use Rattle.sd_vtree.specs.Numbered.{IsUnder}
@@ -14,20 +14,18 @@ use Rattle.sd_apply.proofs.Growing.{grows_both, grows_right, grows_over}
 use Rattle.sd_apply.proofs.Rows.{sub_below, paired_at}
 use Rattle.sd_apply.proofs.Expanding.{own_listed}
 use Rattle.sd_cond.specs.Calls.{conditioned, forgotten, AnswersOf, ForgetsSubs}
-use Rattle.sd_cond.proofs.Answering.{answer_kept, answer_found, answers_more, answers_on, below_node}
+use Rattle.sd_cond.proofs.Answering.{answer_kept, answer_found, answers_on, below_node}
 use Rattle.sd_cond.proofs.Answering.{place_each, leaf_on, wider_on}
-use Rattle.sd_cond.proofs.Elements.{listed_partition, compressed_answers}
+use Rattle.sd_cond.proofs.Elements.{listed_partition, compressed_answers, same_answers}
 use Rattle.sd_cond.proofs.Forgotten.{forget_outside, subs_next, subs_done, forgotten_list}
 use Rattle.sd_cond.proofs.forgetting.+forget.Goals as goal
 
 -- an answer that is kept
-pub forget_at-returns-in-Some-answer_in-clause-ok : goal.forget_at-returns-in-Some-answer_in-clause-ok
-forget_at-returns-in-Some-answer_in-clause-ok t c =
+pub forget_at-returns-in-Some-look-clause-ok : goal.forget_at-returns-in-Some-look-clause-ok
+forget_at-returns-in-Some-look-clause-ok t c =
     answer_kept c.args.m.now c.vtree.ensures.table (forgotten c.args.variable) c.args.a
-    c.in-Some-answer_in.code
-    (c.requires.knows.each c.args.a c.in-Some-answer_in.code
-    (ap (λ l. slice_index_or l c.args.a None) (sym c.deref.ensures.value)
-    ∙ sym c.in-Some-answer_in.ensures))
+    c.in-Some-look.code
+    (c.in-Some-look.ensures c.args.m.now (forgotten c.args.variable) c.requires.knows)
 
 -- a node below whose vtree node the leaf does not stand
 pub forget_at-returns-then-not-is_over-clause-ok : goal.forget_at-returns-then-not-is_over-clause-ok
@@ -45,8 +43,8 @@ forget_at-returns-in_err-code-clause-grown t c =
     wider_on c.args.m.now c.forget_here.new.m c.forget_here.ensures.kept c.vtree.ensures.table
     p.result.0 c.args.at p.ensures.under c.forget_here.ensures.grown
 
-pub forget_at-returns-in_default-keep_answer-clause-grown : goal.forget_at-returns-in_default-keep_answer-clause-grown
-forget_at-returns-in_default-keep_answer-clause-grown t c =
+pub forget_at-returns-in_default-keep-clause-grown : goal.forget_at-returns-in_default-keep-clause-grown
+forget_at-returns-in_default-keep-clause-grown t c =
     let p = c.place_with_children-place in
     wider_on c.args.m.now c.forget_here.new.m c.forget_here.ensures.kept c.vtree.ensures.table
     p.result.0 c.args.at p.ensures.under c.forget_here.ensures.grown
@@ -58,32 +56,30 @@ forget_at-returns-clause-grown t c =
     p.result.0 c.args.at p.ensures.under c.forget_here.ensures.grown
 
 -- what is kept then
-pub forget_at-returns-in_default-keep_answer-clause-knows :
-    goal.forget_at-returns-in_default-keep_answer-clause-knows
-forget_at-returns-in_default-keep_answer-clause-knows t c =
+pub forget_at-returns-in_default-keep-clause-knows :
+    goal.forget_at-returns-in_default-keep-clause-knows
+forget_at-returns-in_default-keep-clause-knows t c =
     let m = c.args.m.now in
     let n = c.forget_here.new.m in
     let f = forgotten c.args.variable in
-    answers_more n f c.forget_here.new.kept.items c.keep_answer.new.kept.items c.args.a c.in_ok-code.code
-    c.forget_here.ensures.knows
+    c.keep.ensures n f c.forget_here.ensures.knows
     (answer_found m n c.forget_here.ensures.kept f c.args.a c.in_ok-code.code
-    (below_node m c.args.at c.args.a c.requires.a) c.in_ok-code.ensures.ok) c.keep_answer.ensures
+    (below_node m c.args.at c.args.a c.requires.a) c.in_ok-code.ensures.ok)
 
 pub forget_at-returns-clause-knows : goal.forget_at-returns-clause-knows
 forget_at-returns-clause-knows t c =
     let m = c.args.m.now in
     let n = c.forget_here.new.m in
     let f = forgotten c.args.variable in
-    answers_more n f c.forget_here.new.kept.items c.keep_answer.new.kept.items c.args.a c.in_ok-code.code
-    c.forget_here.ensures.knows
+    c.keep.ensures n f c.forget_here.ensures.knows
     (answer_found m n c.forget_here.ensures.kept f c.args.a c.in_ok-code.code
-    (below_node m c.args.at c.args.a c.requires.a) c.in_ok-code.ensures.ok) c.keep_answer.ensures
+    (below_node m c.args.at c.args.a c.requires.a) c.in_ok-code.ensures.ok)
 
 -- the disjunction
 pub forget_here-returns-then-is_left-clause-knows : goal.forget_here-returns-then-is_left-clause-knows
 forget_here-returns-then-is_left-clause-knows t c =
     answers_on c.args.m.now c.forget_by_both.new.m c.forget_by_both.ensures.kept
-    (forgotten c.args.variable) c.args.kept.now.items c.requires.knows
+    (forgotten c.args.variable) c.args.kept.now c.requires.knows
 
 -- the elements of a decomposition
 pub forget_here-forget_subs-requires : goal.forget_here-forget_subs-requires
@@ -105,7 +101,7 @@ forget_here-forget_subs-requires t c =
           (
             over,
             (
-              subst (AreListedElements m u w) (sym (c.as_slice.ensures ∙ c.in_ok-list.ensures.ok)) list,
+              subst (AreListedElements m u w) (sym (c.as_slice-elements.ensures ∙ c.in_ok-list.ensures.ok)) list,
               (
                 c.requires.knows,
                 (
@@ -138,18 +134,49 @@ forget_here-compress-requires-clause-partition t c =
     let x = c.requires.node in
     let pairs = c.in_ok-pairs.pairs.items in
     let F : List (ℕ × ℕ) → Type 0 = λ l. ForgetsSubs m n c.args.variable u w l pairs in
-    let forgets = subst F (c.as_slice.ensures ∙ c.in_ok-list.ensures.ok) c.in_ok-pairs.ensures.ok in
+    let forgets = subst F (c.as_slice-elements.ensures ∙ c.in_ok-list.ensures.ok) c.in_ok-pairs.ensures.ok in
     let h = forgotten_list m n i c.args.leaf c.args.variable p u w c.args.a pairs
     (left_there m.vtree i.numbered p u w c.requires.children) c.requires.leaf
     (c.is_left.ensures.left.apart c.if-is_left.false) c.requires.children c.requires.place
     c.requires.code forgets x.diagram x.is in
     let P : List (ℕ × ℕ) → Type 0 = λ l. IsPartitionAt n p l h.shown in (
       h.shown,
-      subst P (sym c.as_slice-2.ensures)
+      subst P (sym c.as_slice-projected.ensures)
           (listed_partition n c.forget_subs.ensures.table p u w
           (children_on m n c.forget_subs.ensures.kept p u w c.requires.children) pairs
           (forgotten c.args.variable x.diagram) h),
     )
+
+pub forget_here-returns-then-are_same-clause-ok : goal.forget_here-returns-then-are_same-clause-ok
+forget_here-returns-then-are_same-clause-ok t c =
+    let m = c.args.m.now in
+    let n = c.forget_subs.new.m in
+    let i = c.requires.table in
+    let f = forgotten c.args.variable in
+    let p = c.args.place in
+    let u = c.args.left in
+    let w = c.args.right in
+    let pairs = c.in_ok-pairs.pairs.items in
+    let F : List (ℕ × ℕ) → Type 0 = λ l. ForgetsSubs m n c.args.variable u w l pairs in
+    let own = c.as_slice-elements.ensures ∙ c.in_ok-list.ensures.ok in
+    let forgets = subst F own c.in_ok-pairs.ensures.ok in
+    let list : (d : Diagram) → ShowsCanonical m c.args.a d → HasList n u w pairs (λ g. f d g ∷ []) = λ d sd.
+    forgotten_list m n i c.args.leaf c.args.variable p u w c.args.a pairs
+    (left_there m.vtree i.numbered p u w c.requires.children) c.requires.leaf
+    (c.is_left.ensures.left.apart c.if-is_left.false) c.requires.children c.requires.place
+    c.requires.code forgets d sd in
+    same_answers m n i c.forget_subs.ensures.table c.forget_subs.ensures.kept f p u w c.args.a pairs
+    c.requires.children c.requires.place c.requires.code list
+    (sym c.as_slice-projected.ensures ∙ c.are_same.ensures c.if-are_same.true ∙ own)
+
+pub forget_here-returns-then-are_same-clause-grown :
+    goal.forget_here-returns-then-are_same-clause-grown
+forget_here-returns-then-are_same-clause-grown t c =
+    let m = c.args.m.now in
+    let n = c.forget_subs.new.m in
+    grows_over m n c.forget_subs.ensures.table.numbered c.args.place c.args.left c.args.right
+    (children_on m n c.forget_subs.ensures.kept c.args.place c.args.left c.args.right
+    c.requires.children) c.forget_subs.ensures.grown
 
 pub forget_here-returns-clause-ok : goal.forget_here-returns-clause-ok
 forget_here-returns-clause-ok t c =
@@ -163,17 +190,17 @@ forget_here-returns-clause-ok t c =
     let w = c.args.right in
     let pairs = c.in_ok-pairs.pairs.items in
     let F : List (ℕ × ℕ) → Type 0 = λ l. ForgetsSubs m n c.args.variable u w l pairs in
-    let forgets = subst F (c.as_slice.ensures ∙ c.in_ok-list.ensures.ok) c.in_ok-pairs.ensures.ok in
+    let forgets = subst F (c.as_slice-elements.ensures ∙ c.in_ok-list.ensures.ok) c.in_ok-pairs.ensures.ok in
     let list : (d : Diagram) → ShowsCanonical m c.args.a d → HasList n u w pairs (λ g. f d g ∷ []) = λ d sd.
     forgotten_list m n i c.args.leaf c.args.variable p u w c.args.a pairs
     (left_there m.vtree i.numbered p u w c.requires.children) c.requires.leaf
     (c.is_left.ensures.left.apart c.if-is_left.false) c.requires.children c.requires.place
     c.requires.code forgets d sd in
-    IfOk-weaker c.compress.result (λ r. Compresses n o p c.as_slice-2.result.now r)
+    IfOk-weaker c.compress.result (λ r. Compresses n o p c.as_slice-projected.result.now r)
     (λ r. AnswersOf m o f c.args.a r)
     (λ r h. compressed_answers m n o c.forget_subs.ensures.table f p u w c.args.a r pairs
     (children_on m n c.forget_subs.ensures.kept p u w c.requires.children) list
-    (subst (λ l. Compresses n o p l r) c.as_slice-2.ensures h))
+    (subst (λ l. Compresses n o p l r) c.as_slice-projected.ensures h))
     c.compress.ensures.ok
 
 pub forget_here-returns-clause-grown : goal.forget_here-returns-clause-grown
@@ -189,17 +216,17 @@ forget_here-returns-clause-grown t c =
 pub forget_here-returns-clause-knows : goal.forget_here-returns-clause-knows
 forget_here-returns-clause-knows t c =
     answers_on c.forget_subs.new.m c.compress.new.m c.compress.ensures.kept
-    (forgotten c.args.variable) c.forget_subs.new.kept.items c.forget_subs.ensures.knows
+    (forgotten c.args.variable) c.forget_subs.new.kept c.forget_subs.ensures.knows
 
 pub forget_here-returns-clause-knows_true : goal.forget_here-returns-clause-knows_true
 forget_here-returns-clause-knows_true t c =
     answers_on c.forget_subs.new.m c.compress.new.m c.compress.ensures.kept
-    (conditioned c.args.variable true) c.forget_subs.new.with_true.items c.forget_subs.ensures.knows_true
+    (conditioned c.args.variable true) c.forget_subs.new.with_true c.forget_subs.ensures.knows_true
 
 pub forget_here-returns-clause-knows_false : goal.forget_here-returns-clause-knows_false
 forget_here-returns-clause-knows_false t c =
     answers_on c.forget_subs.new.m c.compress.new.m c.compress.ensures.kept
-    (conditioned c.args.variable false) c.forget_subs.new.with_false.items
+    (conditioned c.args.variable false) c.forget_subs.new.with_false
     c.forget_subs.ensures.knows_false
 
 -- the loop over the elements
@@ -256,8 +283,8 @@ forget_subs-loop-i-preserved t c =
     let at = pair_at l i c.index-list-i.result c.index-list-i-in-loop-i.result c.loop-i-test.true in
     let a = c.forget_at in
     let k = c.loop-i in
-    subs_next m0 k.m a.new.m k.kept.items k.with_true.items k.with_false.items a.new.kept.items
-    a.new.with_true.items a.new.with_false.items k.c a.new.c c.args.variable u w l k.pairs.items
+    subs_next m0 k.m a.new.m k.kept k.with_true k.with_false a.new.kept
+    a.new.with_true a.new.with_false k.c a.new.c c.args.variable u w l k.pairs.items
     c.push.new.self.items i e c.in_ok-value.value c.requires.variable k.invariant
     (record {
       extends = a.ensures.kept;
@@ -271,8 +298,8 @@ forget_subs-loop-i-preserved t c =
 
 pub forget_subs-returns-clause-ok : goal.forget_subs-returns-clause-ok
 forget_subs-returns-clause-ok t c =
-    subs_done c.args.m.now c.loop-i.m c.loop-i.kept.items c.loop-i.with_true.items
-    c.loop-i.with_false.items c.loop-i.c c.args.variable c.args.left c.args.right c.args.list.now
+    subs_done c.args.m.now c.loop-i.m c.loop-i.kept c.loop-i.with_true
+    c.loop-i.with_false c.loop-i.c c.args.variable c.args.left c.args.right c.args.list.now
     c.loop-i.pairs.items c.loop-i.i c.loop-i.invariant c.loop-i-test.false c.loop-i.auto.i-end
 
 -- what is kept of the nodes

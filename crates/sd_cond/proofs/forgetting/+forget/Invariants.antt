@@ -16,5 +16,5 @@ decreases-forget_subs l = 3 * (width l.m.now.vtree l.left + width l.m.now.vtree 
 
 abbrev pub invariant-forget_subs-loop-i : goal.invariant-forget_subs-loop-i
 invariant-forget_subs-loop-i l =
-    InSubs l.fn.m l.m l.kept.items l.with_true.items l.with_false.items l.c l.variable l.fn.left l.right
+    InSubs l.fn.m l.m l.kept l.with_true l.with_false l.c l.variable l.fn.left l.right
     l.list l.pairs.items l.i

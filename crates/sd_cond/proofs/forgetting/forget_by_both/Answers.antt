@@ -15,7 +15,7 @@ use Rattle.sd_cond.proofs.forgetting.forget_by_both.Goals as goal
 pub returns-in_err-first-clause-knows_false : goal.returns-in_err-first-clause-knows_false
 returns-in_err-first-clause-knows_false c =
     answers_on c.args.m.now c.given_here.new.m c.given_here.ensures.kept
-    (conditioned c.args.variable false) c.args.with_false.now.items c.requires.knows_false
+    (conditioned c.args.variable false) c.args.with_false.now c.requires.knows_false
 
 pub given_here-requires-2-clause-node : goal.given_here-requires-2-clause-node
 given_here-requires-2-clause-node c =
@@ -29,12 +29,12 @@ given_here-requires-2-clause-place c =
 pub given_here-requires-2-clause-knows : goal.given_here-requires-2-clause-knows
 given_here-requires-2-clause-knows c =
     answers_on c.args.m.now c.given_here.new.m c.given_here.ensures.kept
-    (conditioned c.args.variable false) c.args.with_false.now.items c.requires.knows_false
+    (conditioned c.args.variable false) c.args.with_false.now c.requires.knows_false
 
 pub returns-in_err-second-clause-knows_true : goal.returns-in_err-second-clause-knows_true
 returns-in_err-second-clause-knows_true c =
     answers_on c.given_here.new.m c.given_here-2.new.m c.given_here-2.ensures.kept
-    (conditioned c.args.variable true) c.given_here.new.kept.items c.given_here.ensures.knows
+    (conditioned c.args.variable true) c.given_here.new.kept c.given_here.ensures.knows
 
 -- both answers are nodes
 pub or-requires-clause-first : goal.or-requires-clause-first
@@ -95,12 +95,12 @@ returns-clause-knows_true c =
     let n = c.given_here.new.m in
     let o = c.given_here-2.new.m in
     answers_on n c.or.new.m (extends_on n o c.or.new.m c.given_here-2.ensures.kept c.or.ensures.kept)
-    (conditioned c.args.variable true) c.given_here.new.kept.items c.given_here.ensures.knows
+    (conditioned c.args.variable true) c.given_here.new.kept c.given_here.ensures.knows
 
 pub returns-clause-knows_false : goal.returns-clause-knows_false
 returns-clause-knows_false c =
     answers_on c.given_here-2.new.m c.or.new.m c.or.ensures.kept (conditioned c.args.variable false)
-    c.given_here-2.new.kept.items c.given_here-2.ensures.knows
+    c.given_here-2.new.kept c.given_here-2.ensures.knows
 
 -- what is kept of the nodes
 pub returns-clause-kept : goal.returns-clause-kept
