@@ -1,4 +1,11 @@
 //! The answers of operations that are kept, the most recently used first.
+//!
+//! A key is an operation at two codes in one epoch of a manager. The epoch rises when a node is taken away or the vtree
+//! is moved, so that an answer about a number that names another node now is never found; nothing has to be cleared. An
+//! answer that was dropped is found anew, which costs time and changes no result: so `keep` can't fail.
+//!
+//! An operation asks once at its beginning and keeps once at its end. An entry in the order of use is too dear for each
+//! step of it; those have a table of their own, which the crate of operations owns.
 #![tactic(auto)]
 
 mod cache;

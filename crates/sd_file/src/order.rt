@@ -1,4 +1,10 @@
 //! The elements of the decompositions below a node, in the structural order.
+//!
+//! A list in the table ascends by codes, which depend on what was made before. A text must not, so it goes by the order
+//! of the diagrams themselves: constants, then literals, then decompositions by position, count and elements. To compare
+//! two diagrams by descent would cost their size, at each comparison. So each node gets a rank, vtree node by vtree node
+//! from the leaves up: where a place is reached, all that stands below it has ranks, and elements are compared by two
+//! numbers.
 
 ghost use Rattle.std.specs.Prelude.{◌≡◌, ◌≤◌, ◌<◌, ◌+◌, ◌==◌, ℕ, Some};
 ghost use Rattle.std.specs.Prelude.{None, List, [], length, map, IfOk, OnOk, if◌then◌else◌};
