@@ -1,10 +1,10 @@
 -- A move begins with all nodes shown, and where nothing is detached any more it ends so.
-use Rattle.std.proofs.Common.{◌≡◌, inl, inr, ℕ, ◌+◌, false, List, [], Option, Some, None}
+use Rattle.std.proofs.Common.{◌≡◌, inl, inr, ℕ, ◌+◌, List, Option, Some, None}
 use Rattle.std.proofs.Common.{refl, sym, ◌∙◌, ap, subst}
 use Rattle.std.specs.List.{AllByRecursion}
 use Rattle.std.specs.Option.{IsSome}
 use Rattle.std.specs.Ordering.{nat_cmp}
-use Rattle.std.specs.FinMap.{empty, get, get-empty}
+use Rattle.std.specs.FinMap.{get, get-empty}
 use Rattle.std.proofs.lemmas.Option.{some_pair_parts}
 use Rattle.sd_vtree.specs.Numbered.{or_else}
 use Rattle.sd_laws.specs.Values.{Valuation, StandsIn, AreOrderly, ShowsValue}
@@ -18,14 +18,10 @@ use Rattle.sd_manager.specs.Valid.{IsTable}
 use Rattle.sd_manager.specs.Moving.{moving_at}
 use Rattle.sd_manager.proofs.Valid.{nothing}
 use Rattle.sd_sweep.proofs.AtRest.{all_shown}
-use Rattle.sd_move.specs.Moving.{Progress, IsNew, MoveInProgress}
+use Rattle.sd_move.specs.Moving.{Progress, no_progress, IsNew, MoveInProgress}
 use Rattle.sd_move.proofs.Linking.{linked_key}
 
 -- the begin
-
--- nothing was done yet
-abbrev pub no_progress : Progress
-no_progress = record { discarded = []; rewritten = empty; has_rewritten = false; goes_back = false }
 
 -- outside a move each node is linked
 all_linked : (m : Table) → IsTable m → m.moving ≡ None → (n : ℕ) (k : ℕ × List (ℕ × ℕ)) → key_at m n ≡ Some k →

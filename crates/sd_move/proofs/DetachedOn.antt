@@ -24,7 +24,7 @@ use Rattle.sd_move.proofs.Linking.{linked_key}
 -- keys
 
 -- the keys of all nodes stay
-detached_keys : (m : Table) (n : ℕ) (k : ℕ × List (ℕ × ℕ)) → get m.linked n ≡ Some k → (i : ℕ) →
+pub detached_keys : (m : Table) (n : ℕ) (k : ℕ × List (ℕ × ℕ)) → get m.linked n ≡ Some k → (i : ℕ) →
     key_at (detached_from m n k) i ≡ key_at m i
 detached_keys m n k e i = elim (cases_eq i n) [
   | inl z ↦
@@ -40,7 +40,7 @@ detached_keys m n k e i = elim (cases_eq i n) [
 ]
 
 -- a node that is still linked is another one, and was linked
-still_linked : (m : Table) (n i : ℕ) (k : ℕ × List (ℕ × ℕ)) → get (remove m.linked n) i ≡ Some k →
+pub still_linked : (m : Table) (n i : ℕ) (k : ℕ × List (ℕ × ℕ)) → get (remove m.linked n) i ≡ Some k →
     (i ≢ n) × (get m.linked i ≡ Some k)
 still_linked m n i k e = elim (cases_eq i n) [
   | inl z ↦ absurd (none-some k (sym (get_remove_same m.linked n) ∙ ap (get (remove m.linked n)) (sym z) ∙ e))

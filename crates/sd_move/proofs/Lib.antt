@@ -10,3 +10,15 @@ pub mod GrownOn
 pub mod BeginAndEnd
 mod Worked
 pub mod DiscardedOn
+pub mod Settled
+pub mod DetachedAll
+pub mod LinkedAll
+pub mod KnownAtEnd
+pub mod LinkedAgain
+pub mod BegunAt
+pub mod TurnedMove
+pub mod LowerLinked
+pub mod LowerNode
+pub mod BegunBoth
+pub mod RotatedAt
+pub mod GrownBelow

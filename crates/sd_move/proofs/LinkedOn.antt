@@ -49,7 +49,7 @@ other_key m n i key d =
     ∙ ap (or_else (get m.linked i)) (get_remove_other m.detached n i d)
 
 -- each linked node stays linked
-still_there : (m : Table) → IsTable m → (n : ℕ) (former key : ℕ × List (ℕ × ℕ)) → get m.detached n ≡ Some former →
+pub still_there : (m : Table) → IsTable m → (n : ℕ) (former key : ℕ × List (ℕ × ℕ)) → get m.detached n ≡ Some former →
     Keeps (get m.linked) (get (insert m.linked n key))
 still_there m i n former key d a k e = elim (cases_eq a n) [
   | inl z ↦
@@ -60,7 +60,7 @@ still_there m i n former key d a k e = elim (cases_eq a n) [
 ]
 
 -- what is shown stays shown
-lifted : (t : Numbered) (old new : Lookup) (v : Valuation) (c : ℕ) → Keeps old new → ShowsValue t old v c →
+pub lifted : (t : Numbered) (old new : Lookup) (v : Valuation) (c : ℕ) → Keeps old new → ShowsValue t old v c →
     ShowsValue t new v c
 lifted t old new v c keeps s =
     record {

@@ -16,7 +16,7 @@ use Rattle.sd_laws.specs.Values.{StandsIn}
 use Rattle.sd_manager.specs.Table.{Table}
 use Rattle.sd_manager.specs.Shown.{ShowsCanonical}
 use Rattle.sd_laws.specs.Turned.{lower_of}
-use Rattle.sd_manager.specs.Moving.{IsAscending, IsLater}
+use Rattle.sd_manager.specs.Moving.{IsAscending, IsLater, IsGivenBack}
 use Rattle.sd_sweep.specs.Reached.{IsReachedFrom, IsReached, IsHeldBy}
 
 -- A node that a move changed: its number, the place where it stood and, where it got another list, its old run, a start
@@ -90,11 +90,15 @@ pub record IsOneFunction (t : Table) (tree : Numbered) (at : Lookup) (n : ℕ) :
   pub shown_there : ShowsCanonicalBy tree at (2050 + n) there
   pub same : (a : List Bool) → meaning now a ≡ meaning there a
 
--- the run of the entry, where it has one, is a loose run of the table
-abbrev pub HasLooseRun : Table → Named → Type 0
-HasLooseRun t e =
-    (start count : ℕ) → e.run ≡ Some (start, count) →
+-- the run, where there is one, is a loose run of the table
+abbrev pub IsLooseRun : Table → Option (ℕ × ℕ) → Type 0
+IsLooseRun t run =
+    (start count : ℕ) → run ≡ Some (start, count) →
     (former : List (ℕ × ℕ)) × (get t.loose start ≡ Some former) × (length former ≡ count)
+
+-- the run of the entry is
+abbrev pub HasLooseRun : Table → Named → Type 0
+HasLooseRun t e = IsLooseRun t e.run
 
 -- The entry is of a linked node of the two places, which is under a held root or a loose run; its run is a loose one.
 pub record CanPutBack (t : Table) (upper : ℕ) (lower : Option ℕ) (e : Named) : Type 0 where
@@ -142,6 +146,16 @@ without_runs loose (start ∷ starts) = without_runs (remove loose start) starts
 pub record CanSettle (j : Journal) (t : Table) : Type 0 where
   pub runs : AllByRecursion (HasLooseRun t) j.named
   pub once : AreDistinct (starts_of j.named)
+
+-- the run, where there is one, was given back; nothing else changed
+abbrev pub MayGiveBack : Table → Table → Option (ℕ × ℕ) → Type 0
+MayGiveBack old new None = new ≡ old
+MayGiveBack old new (Some run) = IsGivenBack old new run.0 run.1
+
+-- The journal was settled: its runs are loose no more, and nothing else changed but the free runs.
+abbrev pub IsSettledBy : Table → Table → Journal → Type 0
+IsSettledBy old new j =
+    new ≡ record old { loose = without_runs old.loose (starts_of j.named); free = new.free }
 
 -- The journal was undone: the vtree is that of the inverse move; each node under a held root or another loose run has
 -- the place and the list of the state to which the journal goes back; its own runs are spent; the epoch is a later one.

@@ -1,12 +1,13 @@
 -- A move on its way: what it has done so far, and what holds between its steps.
-use Rattle.std.specs.Prelude.{◌≡◌, ◌≢◌, ◌⊎◌, ℕ, ◌+◌, Bool, true, false, List, Some, None}
+use Rattle.std.specs.Prelude.{◌≡◌, ◌≢◌, ◌⊎◌, ℕ, ◌+◌, Bool, true, false, List, [], Some, None}
 use Rattle.std.specs.List.{AllByRecursion}
 use Rattle.std.specs.Option.{IsSome}
 use Rattle.std.specs.Ordering.{nat_cmp}
-use Rattle.std.specs.FinMap.{FinMap, get}
+use Rattle.std.specs.FinMap.{FinMap, empty, get}
 use Rattle.sd_vtree.specs.Numbered.{IsUnder}
 use Rattle.sd_runs.specs.Arena.{IsMember}
 use Rattle.sd_laws.specs.Values.{Valuation, IsSame, pairs_value, IsWhole, IsPlaced, GivesLiterals, ShowsValue, AreApart}
+use Rattle.sd_laws.proofs.Evaluated.{value_of}
 use Rattle.sd_manager.specs.Table.{Table, key_at}
 use Rattle.sd_manager.specs.Valid.{IsSettled}
 
@@ -17,6 +18,10 @@ pub record Progress : Type 0 where
   pub rewritten : FinMap nat_cmp (List (ℕ × ℕ))
   pub has_rewritten : Bool
   pub goes_back : Bool
+
+-- nothing was done yet
+abbrev pub no_progress : Progress
+no_progress = record { discarded = []; rewritten = empty; has_rewritten = false; goes_back = false }
 
 -- the number is that of a node of the table, linked or detached
 abbrev pub HasNumber : Table → ℕ → Type 0
@@ -69,3 +74,8 @@ pub record MoveInProgress (m0 m : Table) (x : ℕ) (h : Progress) (v : Valuation
   pub apart : AreApart (key_at m) v
   -- the roots are as they were
   pub roots : m.roots ≡ m0.roots
+
+-- A move at x is on its way under the valuation of the table at which it began, and has rewritten and discarded
+-- nothing.
+abbrev pub HasBegun : Table → Table → ℕ → Type 0
+HasBegun m0 m x = MoveInProgress m0 m x no_progress (value_of (get m0.linked))

@@ -1,0 +1,9 @@
+use Rattle.sd_sweep.proofs.Used.{entry_count}
+use Rattle.sd_move.proofs.DetachedAll.{IsDetaching}
+use Rattle.sd_move.proofs.detaching.detach_all.Given as goal
+
+abbrev pub invariant-loop-number : goal.invariant-loop-number
+invariant-loop-number l = IsDetaching l.fn.m l.m l.fn.place l.numbers.items
+
+abbrev pub decreases-loop-number : goal.decreases-loop-number
+decreases-loop-number l = entry_count l.m.linked
