@@ -26,7 +26,7 @@ use Rattle.sd_compile.specs.declared.error.CompileError.TheVariants.{OverLimit, 
 use Rattle.sd_compile.specs.Joined.{outer, neutral}
 use Rattle.sd_compile.proofs.Joining.{prefix_none}
 use Rattle.sd_compile.proofs.Kept.{kept_holds, others_kept, without_rebound, without_new, serves_roots}
-use Rattle.sd_compile.proofs.Totals.{HoldNodes, total_over, total_within, total_back, within_back}
+use Rattle.sd_compile.proofs.Totals.{HoldNodes, of_answer, total_over, total_within, total_back, within_back}
 
 -- a new root holds the value of no groups
 pub begun : (old new : Table) (f : Groups) (o : Operation) (b : Bool) (root c : ℕ) → o ≡ outer f.kind →
@@ -64,7 +64,8 @@ group_over old mid root again node f limit groups group size i still x h same ne
     record {
       total =
           subst (λ n. HasTotalWith (without_root old root) (prefix_of f n) size) (sym next)
-          (total_over old mid root node (prefix_of f (groups + 1)) i still x h size
+          (total_over old mid root node (prefix_of f (groups + 1)) i still x h.diagram h.is
+          (of_answer old mid (prefix_of f (groups + 1)) node x h) size
           (subst (λ r. IsTotal (with_root mid r node) size) (sym same) total));
       passes = less;
       most_is = refl;
@@ -76,7 +77,8 @@ pub group_within : (old mid : Table) (root again node : ℕ) (f : Groups) (limit
     root ≡ again → IsTotalWithin (with_root mid again node) limit →
     IsWithinLimit (without_root old root) (prefix_of f (groups + 1)) limit
 group_within old mid root again node f limit groups i still x h same total =
-    total_within old mid root node (prefix_of f (groups + 1)) i still x h limit
+    total_within old mid root node (prefix_of f (groups + 1)) i still x h.diagram h.is
+    (of_answer old mid (prefix_of f (groups + 1)) node x h) limit
     (subst (λ r. IsTotalWithin (with_root mid r node) limit) (sym same) total)
 
 -- and then the root holds it

@@ -8,7 +8,7 @@ use Rattle.sd_model.specs.Diagram.{Diagram}
 use Rattle.sd_model.specs.Canonical.{IsCanonical}
 use Rattle.sd_model.specs.Tree.{leaves}
 use Rattle.sd_model.specs.Expression.{Expression, expression_value}
-use Rattle.sd_model.specs.Size.{size_of}
+use Rattle.sd_model.specs.Size.{size_of, IsDiagramOf}
 use Rattle.sd_model.proofs.Determined.{diagram_determined}
 use Rattle.sd_vtree.specs.Numbered.{Numbered, plain_tree, IsNumbered}
 use Rattle.sd_laws.proofs.Codes.{one_diagram}
@@ -18,12 +18,13 @@ use Rattle.sd_manager.specs.Shown.{ShowsCanonical, IsNodeOf}
 use Rattle.sd_manager.specs.Valid.{IsTable}
 use Rattle.sd_manager.specs.Making.{Extends, with_root, without_root}
 use Rattle.sd_manager.proofs.Totals.{left_was}
+use Rattle.sd_manager.proofs.Extending.{extends_self}
 use Rattle.sd_apply.specs.Answers.{HasAnswer}
 use Rattle.sd_apply.proofs.Listed.{shown_on}
 use Rattle.sd_sweep.specs.Reached.{AreHeldDiagrams, KeepsReached}
 use Rattle.sd_compile.specs.Total.{HasTotalWith, IsWithinLimit, IsTotal, IsTotalWithin, IsHeldDiagram}
 use Rattle.sd_compile.proofs.Holding.{held_among, among_held, held_list, same_size}
-use Rattle.sd_compile.proofs.Kept.{kept_shown}
+use Rattle.sd_compile.proofs.Kept.{kept_shown, without_absent}
 
 -- each root holds a node
 abbrev pub HoldNodes : Table → Type 0
@@ -43,10 +44,20 @@ pub beside_within : (d : Diagram) (xs ys : List Diagram) → IsWithin xs ys → 
 beside_within d xs ys h x (inl e) = inl e
 beside_within d xs ys h x (inr m) = inr (h x m)
 
--- ---- the root of a prefix gets another node
+-- the diagram of an answer is that of the formula
+pub of_answer : (old mid : Table) (f : Expression) (node : ℕ) → Extends old mid →
+    (h : HasAnswer mid (expression_value f) node) → IsDiagramOf (plain_tree old.vtree) f h.diagram
+of_answer old mid f node x h =
+    record {
+      canonical = subst (λ (v : Numbered). IsCanonical (plain_tree v) 0 h.diagram) x.vtree h.is.canonical;
+      same_value = λ a n. h.value a;
+    }
+
+-- ---- a root gets another node
 
 module _ (old mid : Table) (root node : ℕ) (f : Expression) (i : IsTable old) (still : old.moving ≡ None)
-    (x : Extends old mid) (h : HasAnswer mid (expression_value f) node) where
+    (x : Extends old mid) (shown : Diagram) (is : ShowsCanonical mid node shown)
+    (of : IsDiagramOf (plain_tree old.vtree) f shown) where
   -- the table in which it holds the node
   abbrev held_table : Table
   held_table = with_root mid root node
@@ -75,7 +86,7 @@ module _ (old mid : Table) (root node : ℕ) (f : Expression) (i : IsTable old) 
         let e : node ≡ c =
         same_Some node c (sym (get_insert_same mid.roots root node) ∙ ap (get held_table.roots) (sym same) ∙ held) in
         subst (IsNodeOf held_table) e
-        (record { diagram = h.diagram; is = record { shows = h.is.shows; canonical = h.is.canonical } })
+        (record { diagram = shown; is = record { shows = is.shows; canonical = is.canonical } })
     | inr ne ↦
         let k = i.held still other c (sym (same_other other ne) ∙ held) in
         let m = shown_on old mid x c k.diagram k.is in
@@ -84,27 +95,27 @@ module _ (old mid : Table) (root node : ℕ) (f : Expression) (i : IsTable old) 
 
   module _ (ds es : List Diagram) (are : AreHeldDiagrams held_table ds) (were : AreHeldDiagrams others es) where
     -- the prefix and what others hold are held
-    there : IsWithin (h.diagram ∷ es) ds
+    there : IsWithin (shown ∷ es) ds
     there d (inl e) =
         subst (λ z. IsAmong z ds) (sym e)
-        (held_among held_table numbered ds are root node h.diagram (get_insert_same mid.roots root node) h.is)
+        (held_among held_table numbered ds are root node shown (get_insert_same mid.roots root node) is)
     there d (inr m) =
         let w = among_held others es were d m in
         let held = same_other w.root (is_other w.root w.code w.held) ∙ left_was old.roots root w.root w.code w.held in
         held_among held_table numbered ds are w.root w.code d held (shown_on old mid x w.code d w.is)
 
     -- and nothing else
-    back : IsWithin ds (h.diagram ∷ es)
+    back : IsWithin ds (shown ∷ es)
     back d m = go (among_held held_table ds are d m)
       where
-        go : IsHeldDiagram held_table d → IsAmong d (h.diagram ∷ es)
+        go : IsHeldDiagram held_table d → IsAmong d (shown ∷ es)
         go w = elim (cases_eq w.root root) [
           | inl same ↦
               let e : node ≡ w.code =
               same_Some node w.code
               (sym (get_insert_same mid.roots root node) ∙ ap (get held_table.roots) (sym same) ∙ w.held) in
-              inl (one_diagram mid.vtree (get mid.linked) numbered d w.code h.diagram w.is.shows
-              (subst (λ c. ShowsCanonical mid c h.diagram) e h.is).shows)
+              inl (one_diagram mid.vtree (get mid.linked) numbered d w.code shown w.is.shows
+              (subst (λ c. ShowsCanonical mid c shown) e is).shows)
           | inr ne ↦
               let was = sym (same_other w.root ne) ∙ w.held in
               let k = i.held still w.root w.code was in
@@ -121,13 +132,9 @@ module _ (old mid : Table) (root node : ℕ) (f : Expression) (i : IsTable old) 
         record {
           held = es;
           are_held = were;
-          diagram = h.diagram;
-          of_formula =
-              record {
-                canonical = subst (λ (v : Numbered). IsCanonical (plain_tree v) 0 h.diagram) x.vtree h.is.canonical;
-                same_value = λ a n. h.value a;
-              };
-          size = same_size (h.diagram ∷ es) ds there back;
+          diagram = shown;
+          of_formula = of;
+          size = same_size (shown ∷ es) ds there back;
         }
 
   -- The size of what all roots hold is that of the prefix and what the others held.
@@ -146,6 +153,22 @@ module _ (old mid : Table) (root node : ℕ) (f : Expression) (i : IsTable old) 
   total_within limit total =
       let k = held_list held_table held_nodes in
       record { size = size_of k.0; total = total_with k.0 k.1; within = total k.0 k.1 }
+
+-- ---- a new root
+
+module _ (t : Table) (root node : ℕ) (f : Expression) (d : Diagram) (i : IsTable t) (still : t.moving ≡ None)
+    (is : ShowsCanonical t node d) (of : IsDiagramOf (plain_tree t.vtree) f d) (absent : get t.roots root ≡ None) where
+  -- with it the total size passes a limit
+  pub hold_over : (n : ℕ) → IsTotal (with_root t root node) n → HasTotalWith t f n
+  hold_over n total =
+      subst (λ s. HasTotalWith s f n) (without_absent t root absent)
+      (total_over t t root node f i still (extends_self t) d is of n total)
+
+  -- or it is within
+  pub hold_within : (limit : ℕ) → IsTotalWithin (with_root t root node) limit → IsWithinLimit t f limit
+  hold_within limit total =
+      subst (λ s. IsWithinLimit s f limit) (without_absent t root absent)
+      (total_within t t root node f i still (extends_self t) d is of limit total)
 
 -- ---- what stays with what roots hold
 

@@ -16,6 +16,8 @@ use Rattle.sd_compile.specs.Joined.{neutral, outer}
 use Rattle.sd_compile.specs.Total.{HasTotalWith, IsWithinLimit}
 use Rattle.sd_compile.specs.declared.error.CompileError.{CompileError}
 use Rattle.sd_compile.specs.declared.error.CompileError.TheVariants.{OverLimit, ArenaFull, OutOfMemory}
+use Rattle.sd_compile.specs.declared.error.HoldError.{HoldError}
+use Rattle.sd_compile.specs.declared.error.HoldError.TheVariants as holding
 
 -- an answer of an operation, as one of compiling
 abbrev pub error_of : TakeError → CompileError
@@ -66,6 +68,12 @@ pub record KeepsAll (old new : Table) : Type 0 where
 -- a sweep, or nothing
 abbrev pub MaySweep : Table → Table → Type 0
 MaySweep old new = (new ≡ old) ⊎ IsSwept old new
+
+-- Why a node that shows the formula's diagram is not held: with it the total size passes the limit, or there was no
+-- memory.
+abbrev pub IsHoldRefused : Table → Expression → ℕ → HoldError → Type 0
+IsHoldRefused t f limit (holding.OverLimit size) = HasTotalWith t f size × (limit < size)
+IsHoldRefused t f limit holding.OutOfMemory = Unit {0}
 
 -- With the prefix of so many groups held, beside what other roots hold, the total size passes the limit.
 pub record PassesLimit (others : Table) (f : Groups) (limit group size most : ℕ) : Type 0 where

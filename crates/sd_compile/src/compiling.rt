@@ -1,5 +1,13 @@
 // A formula compiled into a root: its groups are joined one after another, and after each the total size is within the
 // limit.
+//
+// The new prefix is tried by giving the root the new node; if the total size passes the limit then, the root gets the
+// former node back, for which no memory is needed. What decides is the size of the diagrams that roots hold, and never
+// what else is in the table, so that the answer follows from the formula and the vtree alone. While all lists in use
+// together are within the limit, no size has to be counted (`limited.rt`).
+//
+// `add_group` sweeps behind each answer. `compile`, which adds all groups, sweeps only where the elements in use pass
+// twice what the last sweep left: a sweep that takes a node away raises the epoch, and the kept answers are lost.
 ghost use Rattle.std.specs.Prelude.{◌≡◌, ◌↔◌, ℕ, ◌+◌, ◌-◌, ◌^◌, ◌<◌, ◌≤◌, None, IfOk, IfErr, OnOk, OnErr, IsTrue};
 ghost use Rattle.std.specs.Prelude.{length};
 ghost use Rattle.std.specs.Option.{IsSome};
@@ -21,7 +29,7 @@ ghost use Rattle.sd_compile.specs.Compiling.{IsGroupRefused, IsFormulaRefused, A
 use crate::connectives::{between_groups, connect, neutral_value, within_group};
 use crate::error::{CompileError, compile_error};
 use crate::groups::group_node;
-use crate::limited::{LEAST_GARBAGE, sweep_kept, sweep_past, try_hold};
+use crate::limited::{room_over, sweep_kept, sweep_past, try_hold};
 use crate::one_pass::{is_right_linear, join_literals};
 use sd_cache::Cache;
 use sd_formula::Formula;
@@ -89,7 +97,8 @@ pub fn add_group(
     ensures unmarked { AreUnmarked m.new }
     ensures table { IsTable m.new }
 {
-    let answer = join_next(alloc, m, c, f, work, limit);
+    let in_one_pass = is_right_linear(m.vtree());
+    let answer = join_next(alloc, m, c, f, work, in_one_pass, limit);
     sweep_kept(m, c);
     answer
 }
@@ -101,6 +110,7 @@ fn join_next(
     c: &mut Cache,
     f: &Formula,
     work: &mut Compiling,
+    in_one_pass: bool,
     limit: u32,
 ) -> Result<(), CompileError>
     requires variables { leaves (plain_tree m.old.vtree) ≡ f.now.variables }
@@ -125,7 +135,7 @@ fn join_next(
 {
     // its contract tells that the table is valid
     let _ = m.vtree();
-    let node = match next_node(alloc, m, c, f, work) {
+    let node = match next_node(alloc, m, c, f, work, in_one_pass) {
         Ok(node) => node,
         Err(error) => return Err(compile_error(error)),
     };
@@ -146,13 +156,15 @@ fn next_group(f: &Formula, work: &Compiling) -> u32
     work.groups + 1
 }
 
-// The node of the prefix with one group more.
+// The node of the prefix with one group more. One pass is for vtrees each of whose left children is a leaf: elsewhere
+// the answer is the same, and dear.
 fn next_node(
     alloc: Global,
     m: &mut Manager,
     c: &mut Cache,
     f: &Formula,
     work: &Compiling,
+    in_one_pass: bool,
 ) -> Result<NodeId, TakeError>
     requires variables { leaves (plain_tree m.old.vtree) ≡ f.now.variables }
     requires serves { Serves c.old m.old }
@@ -165,7 +177,7 @@ fn next_node(
     ensures rule { IfErr result (λ e. KeepsRule m.new e) }
     ensures table { IsTable m.new }
 {
-    if is_right_linear(m.vtree()) {
+    if in_one_pass {
         next_in_one_pass(alloc, m, c, f, work)
     } else {
         next_by_node(alloc, m, c, f, work)
@@ -259,15 +271,14 @@ fn add_groups(
     ensures unmarked { AreUnmarked m.new }
     ensures table { IsTable m.new }
 {
-    // its contract tells that the table is valid
-    let _ = m.vtree();
-    let mut most = LEAST_GARBAGE;
+    let in_one_pass = is_right_linear(m.vtree());
+    let mut most = room_over(m.used(), in_one_pass);
     'left: while is_left(f, work) {
-        if let Err(error) = join_next(alloc, m, c, f, work, limit) {
+        if let Err(error) = join_next(alloc, m, c, f, work, in_one_pass, limit) {
             sweep_kept(m, c);
             return Err(error);
         }
-        sweep_past(m, c, &mut most, limit);
+        sweep_past(m, c, &mut most, in_one_pass, limit);
     }
     Ok(())
 }

@@ -20,6 +20,17 @@ pub enum CompileError {
     OutOfMemory,
 }
 
+/// Why a node is not held.
+#[derive(Clone, Copy, Debug, PartialEq, Eq, Error)]
+pub enum HoldError {
+    /// With it the total size passes the limit.
+    #[error("OverLimit")]
+    OverLimit { size: u32 },
+    /// Out of memory.
+    #[error("OutOfMemory")]
+    OutOfMemory,
+}
+
 // What an operation answers, as an answer of `add_group`.
 pub(crate) fn compile_error(error: TakeError) -> CompileError
     ensures { result ≡ error_of error }

@@ -11,7 +11,8 @@ mod one_pass;
 
 pub use compiling::{Compiling, add_group, begin, compile, finish};
 pub use connectives::connect;
-pub use error::CompileError;
+pub use error::{CompileError, HoldError};
+pub use limited::{LEAST_GARBAGE, hold_within, sweep_past, total_over};
 
 #[cfg(test)]
 mod tests;

@@ -1,25 +1,41 @@
-// A prefix that is held as long as the total size is within the limit, and the sweeps behind prefixes.
-ghost use Rattle.std.specs.Prelude.{◌≡◌, ℕ, ◌<◌, ◌≤◌, List, None, IfSome, IfNone};
+// A node that is held as long as the total size is within a limit, and the sweeps behind what was made.
+ghost use Rattle.std.specs.Prelude.{◌≡◌, ℕ, ◌<◌, ◌≤◌, ◌-◌, ◌^◌, List, None, IfSome, IfNone, IfOk, IfErr, OnOk, OnErr};
 ghost use Rattle.std.specs.Option.{IsSome};
-ghost use Rattle.std.specs.FinMap.{get};
+ghost use Rattle.std.specs.FinMap.{get, len};
+ghost use Rattle.sd_model.specs.Expression.{Expression};
 ghost use Rattle.sd_model.specs.Diagram.{Diagram};
-ghost use Rattle.sd_model.specs.Size.{size_of};
+ghost use Rattle.sd_model.specs.Size.{size_of, IsDiagramOf};
+ghost use Rattle.sd_vtree.specs.Numbered.{plain_tree};
 ghost use Rattle.sd_manager.specs.Valid.{IsTable, total_length};
-ghost use Rattle.sd_manager.specs.Shown.{IsNodeOf};
+ghost use Rattle.sd_manager.specs.Shown.{ShowsCanonical, IsNodeOf};
 ghost use Rattle.sd_manager.specs.Making.{with_root};
 ghost use Rattle.sd_apply.specs.Serving.{Serves};
 ghost use Rattle.sd_sweep.specs.Reached.{IsReached, IsSwept, AreHeldDiagrams};
 ghost use Rattle.sd_manager.specs.Marking.{AreUnmarked};
-ghost use Rattle.sd_compile.specs.Total.{IsTotal, IsTotalWithin};
-ghost use Rattle.sd_compile.specs.Compiling.{MaySweep};
+ghost use Rattle.sd_compile.specs.Total.{IsTotal, IsTotalWithin, IsWithinLimit};
+ghost use Rattle.sd_compile.specs.Compiling.{MaySweep, KeepsAll, IsHoldRefused};
 
+use crate::error::HoldError;
 use sd_cache::Cache;
 use sd_manager::{Manager, NodeId, Root};
 use sd_sweep::{size, sweep};
 
-// The least number of elements in use that a sweep between groups is for. A sweep that takes a node away raises the
-// epoch, and the cache's answers are lost, so a small diagram is better left alone.
-pub(crate) const LEAST_GARBAGE: u32 = 65_536;
+/// The least number of elements in use that a sweep between groups or commands is for, where they ask the cache.
+pub const LEAST_GARBAGE: u32 = 65_536;
+
+// How many elements may be in use before the next sweep, where so many are now. A sweep that takes a node away raises
+// the epoch, and the cache's answers are lost: twice as many, so that what is swept pays for the sweep, and a small
+// diagram is left alone. Where groups are joined in one pass none asks the cache, and no more: a sweep costs what died,
+// and what just died is near and makes room for what comes next.
+pub(crate) fn room_over(used: u32, in_one_pass: bool) -> u32
+    ensures { used ≤ result }
+{
+    if in_one_pass {
+        used
+    } else {
+        used.saturating_mul(2).max(LEAST_GARBAGE)
+    }
+}
 
 // Takes away what no root and no loose run needs. The cache still serves.
 pub(crate) fn sweep_kept(m: &mut Manager, c: &Cache)
@@ -37,13 +53,14 @@ pub(crate) fn sweep_kept(m: &mut Manager, c: &Cache)
     sweep(m);
 }
 
-// Sweeps where more elements are in use than `most` or than the limit. Then `most` becomes twice what is left, so that
-// what is swept pays for the sweep: garbage is never more than what is in use and that constant.
-pub(crate) fn sweep_past(m: &mut Manager, c: &Cache, most: &mut u32, limit: u32)
+/// Sweeps where more elements are in use than `most` or than the limit. Then `most` becomes what may be in use before
+/// the next sweep: where no group asks the cache what is left, and else twice that, and at least `LEAST_GARBAGE`.
+pub fn sweep_past(m: &mut Manager, c: &Cache, most: &mut u32, in_one_pass: bool, limit: u32)
     requires no_move { m.old.moving ≡ None }
     requires unmarked { AreUnmarked m.old }
     requires serves { Serves c.now m.old }
     ensures swept { MaySweep m.old m.new }
+    ensures kept { KeepsAll m.old m.new }
     ensures used { total_length m.new ≤ most.new }
     ensures serves { Serves c.now m.new }
     ensures unmarked { AreUnmarked m.new }
@@ -54,7 +71,38 @@ pub(crate) fn sweep_past(m: &mut Manager, c: &Cache, most: &mut u32, limit: u32)
         return;
     }
     sweep_kept(m, c);
-    *most = m.used().saturating_mul(2).max(LEAST_GARBAGE);
+    *most = room_over(m.used(), in_one_pass);
+}
+
+/// A new root that holds a node, if the total size is then within the limit. Else nothing is changed.
+pub fn hold_within(m: &mut Manager, node: NodeId, limit: u32) -> Result<Root, HoldError>
+    requires no_move { m.old.moving ≡ None }
+    requires unmarked { AreUnmarked m.old }
+    requires shown { IsNodeOf m.old node }
+    requires room { len m.old.roots < 2 ^ 32 - 1 }
+    ensures absent { IfOk result (λ root. get m.old.roots root ≡ None) }
+    ensures ok { IfOk result (λ root. m.new ≡ with_root m.old root node) }
+    ensures within { (f : Expression) (d : Diagram) → ShowsCanonical m.old node d →
+        IsDiagramOf (plain_tree m.old.vtree) f d → OnOk result (IsWithinLimit m.old f limit) }
+    ensures err { (f : Expression) (d : Diagram) → ShowsCanonical m.old node d →
+        IsDiagramOf (plain_tree m.old.vtree) f d
+        → IfErr result (λ e. IsHoldRefused m.old f limit e) }
+    ensures unchanged { OnErr result (m.new ≡ m.old) }
+    ensures table { IsTable m.new }
+{
+    // its contract tells that the table is valid
+    let _ = m.vtree();
+    let root = match m.hold(node) {
+        Ok(root) => root,
+        Err(_) => return Err(HoldError::OutOfMemory),
+    };
+    match total_over(m, limit) {
+        None => Ok(root),
+        Some(size) => {
+            m.release(root);
+            Err(HoldError::OverLimit { size })
+        }
+    }
 }
 
 // Makes a root hold a node, if the total size is then within the limit. Else it holds what it held, and the answer is
@@ -74,15 +122,16 @@ pub(crate) fn try_hold(m: &mut Manager, root: &mut Root, node: NodeId, limit: u3
     ensures table { IsTable m.new }
 {
     let former = m.rebind(root, node);
-    let Some(size) = size_over(m, limit) else {
+    let Some(size) = total_over(m, limit) else {
         return None;
     };
     let _ = m.rebind(root, former);
     Some(size)
 }
 
-// The total size, where it passes the limit. While all lists together are within it, nothing is counted.
-fn size_over(m: &mut Manager, limit: u32) -> Option<u32>
+/// The total size of what all roots hold, where it passes the limit. While all lists together are within it, nothing is
+/// counted.
+pub fn total_over(m: &mut Manager, limit: u32) -> Option<u32>
     requires no_move { m.old.moving ≡ None }
     requires unmarked { AreUnmarked m.old }
     ensures some { IfSome result (λ n. (limit < n) × IsTotal m.old n) }

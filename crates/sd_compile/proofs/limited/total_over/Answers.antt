@@ -1,6 +1,6 @@
 use Rattle.std.proofs.Common.{arith}
 use Rattle.sd_compile.proofs.Holding.{size_within}
-use Rattle.sd_compile.proofs.limited.size_over.Goals as goal
+use Rattle.sd_compile.proofs.limited.total_over.Goals as goal
 
 -- the size is at most the lengths of all lists
 pub returns-then-used-limit-clause-none : goal.returns-then-used-limit-clause-none
