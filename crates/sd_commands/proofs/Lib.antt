@@ -1,3 +1,5 @@
+pub mod Limits
+pub mod Names
 pub mod Outcomes
 pub mod Standing
 pub mod Stepping

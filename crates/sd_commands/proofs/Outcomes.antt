@@ -1,17 +1,24 @@
--- A command has one outcome, which is that it is done; the tree stays, and the bound names are those that are expected.
+-- A command has one outcome; where it is done the tree stays, and the bound names are those that are expected.
 use Rattle.std.proofs.Common.{◌≡◌, ℕ, Bool, true, false, not, eqb, List, [], ◌∷◌, filter, map}
 use Rattle.std.proofs.Common.{suc, ◌+◌, ◌<◌, length, get_or, drop, add-one, refl, sym, ap, subst, ◌∙◌, inl, inr}
+use Rattle.std.proofs.Common.{Some, None, arith}
 use Rattle.std.proofs.Math.Seq.{drop-cons}
-use Rattle.std.proofs.lemmas.Bool.{cases_eq, eq-eqb, ne_eqb}
+use Rattle.std.proofs.lemmas.Bool.{cases_eq, cases_order, eq-eqb, ne_eqb}
 use Rattle.sd_model.specs.Tree.{Tree, IsVtree}
 use Rattle.sd_model.specs.Text.{sdd_text}
-use Rattle.sd_model.specs.Expression.{Expression}
+use Rattle.sd_model.specs.Expression.{Expression, Constant, Atom, Combined, Negated, Conditioned, Forgotten}
+use Rattle.sd_model.specs.Size.{HasSize}
 use Rattle.sd_model.proofs.Determined.{diagram_determined, size_determined}
+use Rattle.sd_formula.specs.Dimacs.{Groups}
+use Rattle.sd_formula.specs.Formulas.{expression_of}
+use Rattle.sd_file.specs.Reads.{expression_of_file}
 use Rattle.sd_commands.specs.Effects.{Effect, Write, Print}
-use Rattle.sd_commands.specs.Commands.{State, Outcome, Done, Step, Compares, IsTextOf, with_name, formula_named}
-use Rattle.sd_commands.specs.Commands.{size_line, same_line}
+use Rattle.sd_commands.specs.Commands.{State, Outcome, Done, OverLimit, Step, Settles, Binds, BindsInput, Compares}
+use Rattle.sd_commands.specs.Commands.{AreWithin, PassLimit, PassesAtGroup, IsTextOf, formulas_of, with_groups}
+use Rattle.sd_commands.specs.Commands.{with_name, formula_named, size_line, same_line}
 use Rattle.sd_commands.specs.Fits.{Fits, AllFit, has, bound_after}
 use Rattle.sd_commands.specs.Standing.{names_of}
+use Rattle.sd_commands.specs.declared.command.NumberedCommand.{NumberedCommand}
 use Rattle.sd_commands.specs.declared.command.RunCommand.{RunCommand}
 use Rattle.sd_commands.specs.declared.command.RunCommand.TheVariants as commands
 
@@ -29,18 +36,80 @@ one_answer tree f g true false p q = absurd (q p)
 one_answer tree f g false true p q = absurd (p q)
 one_answer tree f g false false p q = refl
 
-pub one_outcome : (input : Expression) (state : State) (command : RunCommand) (a b : Outcome) → IsVtree state.tree
+-- a size within a limit does not pass it
+not_both : (fs : List Expression) (tree : Tree) (limit size : ℕ) → IsVtree tree → AreWithin fs tree limit
+    → PassLimit fs tree limit size → ⊥
+not_both fs tree limit size valid in_ out =
+    let same = size_determined tree fs in_.size size valid in_.total out.total in
+    omega (arith, in_.within, out.passes, same)
+
+-- a command that leads to a state has one outcome
+one_settled : (next : State) (a b : Outcome) → IsVtree next.tree → Settles next a → Settles next b → a ≡ b
+one_settled next a b valid (inl p) (inl q) = p.1 ∙ sym q.1
+one_settled next a b valid (inl p) (inr q) =
+    absurd (not_both (formulas_of next) next.tree next.limit q.0 valid p.0 q.1)
+one_settled next a b valid (inr p) (inl q) =
+    absurd (not_both (formulas_of next) next.tree next.limit p.0 valid q.0 p.1)
+one_settled next a b valid (inr p) (inr q) =
+    p.2 ∙ ap (λ n. OverLimit None n next.limit)
+    (size_determined next.tree (formulas_of next) p.0 q.0 valid p.1.total q.1.total)
+    ∙ sym q.2
+
+-- no group after the first that passes the limit is the first
+no_later : (input : Groups) (state : State) (g h m n : ℕ) → IsVtree state.tree → PassesAtGroup input state g m
+    → PassesAtGroup input state h n → g < h → ⊥
+no_later input state g h m n valid p q less =
+    not_both (with_groups input state g) state.tree state.limit m valid (q.before g p.least less) p.passes
+
+-- so there is one
+pub one_group : (input : Groups) (state : State) (g h m n : ℕ) → IsVtree state.tree → PassesAtGroup input state g m
+    → PassesAtGroup input state h n → (g ≡ h) × (m ≡ n)
+one_group input state g h m n valid p q = elim (cases_order g h) [
+  | inl same ↦ (
+    same,
+    size_determined state.tree (with_groups input state h) m n valid
+        (subst (λ k. HasSize (with_groups input state k) state.tree m) same p.passes.total) q.passes.total,
+  )
+  | inr (inl less) ↦ absurd (no_later input state g h m n valid p q less)
+  | inr (inr more) ↦ absurd (no_later input state h g n m valid q p more)
+]
+
+-- the input is bound, or refused at one group
+one_input : (input : Groups) (state : State) (name : ℕ) (a b : Outcome) → IsVtree state.tree
+    → BindsInput input state name a → BindsInput input state name b → a ≡ b
+one_input input state name a b valid (inl p) (inl q) = p.1 ∙ sym q.1
+one_input input state name a b valid (inl p) (inr q) =
+    absurd (not_both (with_groups input state q.0) state.tree state.limit q.1 valid
+    (p.0 q.0 q.2.least (omega (arith, q.2.most))) q.2.passes)
+one_input input state name a b valid (inr p) (inl q) =
+    absurd (not_both (with_groups input state p.0) state.tree state.limit p.1 valid
+    (q.0 p.0 p.2.least (omega (arith, p.2.most))) p.2.passes)
+one_input input state name a b valid (inr p) (inr q) =
+    let same = one_group input state p.0 q.0 p.1 q.1 valid p.2 q.2 in
+    p.3 ∙ ap (λ g. OverLimit (Some g) p.1 state.limit) same.0 ∙ ap (λ n. OverLimit (Some q.0) n state.limit) same.1
+    ∙ sym q.3
+
+pub one_outcome : (input : Groups) (state : State) (command : RunCommand) (a b : Outcome) → IsVtree state.tree
     → Step input state command a → Step input state command b → a ≡ b
 one_outcome input state (commands.Generated v g) a b valid p q = p ∙ sym q
-one_outcome input state (commands.Input n) a b valid p q = p ∙ sym q
-one_outcome input state (commands.Load n file) a b valid p q = p ∙ sym q
-one_outcome input state (commands.Literal n literal) a b valid p q = p ∙ sym q
-one_outcome input state (commands.Constant n value) a b valid p q = p ∙ sym q
-one_outcome input state (commands.Combine operation n x y) a b valid p q = p ∙ sym q
-one_outcome input state (commands.Negate n x) a b valid p q = p ∙ sym q
-one_outcome input state (commands.Given n x literal) a b valid p q = p ∙ sym q
-one_outcome input state (commands.Forget n x variable) a b valid p q = p ∙ sym q
+one_outcome input state (commands.Input n) a b valid p q = one_input input state n a b valid p q
+one_outcome input state (commands.Load n file) a b valid p q =
+    one_settled (with_name state n (expression_of_file file)) a b valid p q
+one_outcome input state (commands.Literal n literal) a b valid p q =
+    one_settled (with_name state n (Atom literal)) a b valid p q
+one_outcome input state (commands.Constant n value) a b valid p q =
+    one_settled (with_name state n (Constant value)) a b valid p q
+one_outcome input state (commands.Combine operation n x y) a b valid p q =
+    one_settled (with_name state n (Combined operation (formula_named state x) (formula_named state y))) a b valid p q
+one_outcome input state (commands.Negate n x) a b valid p q =
+    one_settled (with_name state n (Negated (formula_named state x))) a b valid p q
+one_outcome input state (commands.Given n x literal) a b valid p q =
+    one_settled (with_name state n (Conditioned (formula_named state x) literal)) a b valid p q
+one_outcome input state (commands.Forget n x variable) a b valid p q =
+    one_settled (with_name state n (Forgotten (formula_named state x) variable)) a b valid p q
 one_outcome input state (commands.Drop x) a b valid p q = p ∙ sym q
+one_outcome input state (commands.Limit limit) a b valid p q =
+    one_settled (record state { limit = limit }) a b valid p q
 one_outcome input state (commands.Same x y) a b valid p q =
     p.2 ∙ ap (λ r. Done state (Print (same_line r) ∷ []))
     (one_answer state.tree (formula_named state x) (formula_named state y) p.0 q.0 p.1 q.1)
@@ -55,26 +124,6 @@ one_outcome input state (commands.Write x file) a b valid p q =
     (one_text state.tree (formula_named state x) p.0 q.0 valid p.1 q.1)
     ∙ sym q.2
 one_outcome input state (commands.WriteVtree file) a b valid p q = p ∙ sym q
-
--- ---- it is done
-
-pub always_done : (input : Expression) (state : State) (command : RunCommand) (outcome : Outcome)
-    → Step input state command outcome → (next : State) × (effects : List Effect) × (outcome ≡ Done next effects)
-always_done input state (commands.Generated v g) outcome p = (_, _, p)
-always_done input state (commands.Input n) outcome p = (_, _, p)
-always_done input state (commands.Load n file) outcome p = (_, _, p)
-always_done input state (commands.Literal n literal) outcome p = (_, _, p)
-always_done input state (commands.Constant n value) outcome p = (_, _, p)
-always_done input state (commands.Combine operation n x y) outcome p = (_, _, p)
-always_done input state (commands.Negate n x) outcome p = (_, _, p)
-always_done input state (commands.Given n x literal) outcome p = (_, _, p)
-always_done input state (commands.Forget n x variable) outcome p = (_, _, p)
-always_done input state (commands.Drop x) outcome p = (_, _, p)
-always_done input state (commands.Same x y) outcome p = (_, _, p.2)
-always_done input state (commands.Size x) outcome p = (_, _, p.2)
-always_done input state (commands.Value x bits) outcome p = (_, _, p)
-always_done input state (commands.Write x file) outcome p = (_, _, p.2)
-always_done input state (commands.WriteVtree file) outcome p = (_, _, p)
 
 -- ---- the tree and the names
 
@@ -97,26 +146,43 @@ names_left (e ∷ es) a = elim (cases_eq e.0 a) [
       rw (ne_eqb e.0 a differ, ne_eqb a e.0 (λ same. differ (sym same))) (ap (λ l. e.0 ∷ l) (names_left es a))
 ]
 
+-- a command that is done leads to its state, without an effect
+pub settled_done : (state next : State) (effects : List Effect) → Settles state (Done next effects)
+    → (next ≡ state) × (effects ≡ [])
+settled_done state next effects (inl p) = let e = p.1 in let same : next ≡ state = cc in (same, cc)
+settled_done state next effects (inr p) = let e = p.2 in let bad : ⊥ = cc in absurd bad
+
+-- and so does the input
+pub input_done : (input : Groups) (state next : State) (name : ℕ) (effects : List Effect)
+    → BindsInput input state name (Done next effects)
+    → (next ≡ with_name state name (expression_of input)) × (effects ≡ [])
+input_done input state next name effects (inl p) =
+    let e = p.1 in let same : next ≡ with_name state name (expression_of input) = cc in (same, cc)
+input_done input state next name effects (inr p) = let e = p.3 in let bad : ⊥ = cc in absurd bad
+
 -- what a state is after a name was bound, or after nothing
 module _ (state next : State) (effects : List Effect) where
-  bound_tree : (n : ℕ) (f : Expression) → Done next effects ≡ Done (with_name state n f) [] → next.tree ≡ state.tree
-  bound_tree n f e = ap (λ s. s.tree) (same_next _ _ _ _ e)
+  bound_tree : (n : ℕ) (f : Expression) → Binds state n f (Done next effects) → next.tree ≡ state.tree
+  bound_tree n f binds = ap (λ s. s.tree) (settled_done (with_name state n f) next effects binds).0
 
   kept_tree : (effect : Effect) → Done next effects ≡ Done state (effect ∷ []) → next.tree ≡ state.tree
   kept_tree effect e = ap (λ s. s.tree) (same_next _ _ _ _ e)
 
-  bound_names : (n : ℕ) (f : Expression) → Done next effects ≡ Done (with_name state n f) []
+  bound_names : (n : ℕ) (f : Expression) → Binds state n f (Done next effects)
       → names_of next ≡ n ∷ filter (λ m. not (has [] m)) (names_of state)
-  bound_names n f e = ap names_of (same_next _ _ _ _ e) ∙ ap (λ l. n ∷ l) (sym (all_stay (names_of state)))
+  bound_names n f binds =
+      ap names_of (settled_done (with_name state n f) next effects binds).0
+      ∙ ap (λ l. n ∷ l) (sym (all_stay (names_of state)))
 
   kept_names : (effect : Effect) → Done next effects ≡ Done state (effect ∷ [])
       → names_of next ≡ filter (λ m. not (has [] m)) (names_of state)
   kept_names effect e = ap names_of (same_next _ _ _ _ e) ∙ sym (all_stay (names_of state))
 
-pub same_tree : (input : Expression) (state next : State) (command : RunCommand) (effects : List Effect)
+pub same_tree : (input : Groups) (state next : State) (command : RunCommand) (effects : List Effect)
     → Step input state command (Done next effects) → next.tree ≡ state.tree
 same_tree input state next (commands.Generated v g) effects p = kept_tree state next effects _ p
-same_tree input state next (commands.Input n) effects p = bound_tree state next effects n _ p
+same_tree input state next (commands.Input n) effects p =
+    ap (λ s. s.tree) (input_done input state next n effects p).0
 same_tree input state next (commands.Load n file) effects p = bound_tree state next effects n _ p
 same_tree input state next (commands.Literal n literal) effects p = bound_tree state next effects n _ p
 same_tree input state next (commands.Constant n value) effects p = bound_tree state next effects n _ p
@@ -125,16 +191,19 @@ same_tree input state next (commands.Negate n x) effects p = bound_tree state ne
 same_tree input state next (commands.Given n x literal) effects p = bound_tree state next effects n _ p
 same_tree input state next (commands.Forget n x variable) effects p = bound_tree state next effects n _ p
 same_tree input state next (commands.Drop x) effects p = ap (λ s. s.tree) (same_next _ _ _ _ p)
+same_tree input state next (commands.Limit limit) effects p =
+    ap (λ s. s.tree) (settled_done (record state { limit = limit }) next effects p).0
 same_tree input state next (commands.Same x y) effects p = kept_tree state next effects _ p.2
 same_tree input state next (commands.Size x) effects p = kept_tree state next effects _ p.2
 same_tree input state next (commands.Value x bits) effects p = kept_tree state next effects _ p
 same_tree input state next (commands.Write x file) effects p = kept_tree state next effects _ p.2
 same_tree input state next (commands.WriteVtree file) effects p = kept_tree state next effects _ p
 
-pub names_after : (input : Expression) (state next : State) (command : RunCommand) (effects : List Effect)
+pub names_after : (input : Groups) (state next : State) (command : RunCommand) (effects : List Effect)
     → Step input state command (Done next effects) → names_of next ≡ bound_after (names_of state) command
 names_after input state next (commands.Generated v g) effects p = kept_names state next effects _ p
-names_after input state next (commands.Input n) effects p = bound_names state next effects n _ p
+names_after input state next (commands.Input n) effects p =
+    ap names_of (input_done input state next n effects p).0 ∙ ap (λ l. n ∷ l) (sym (all_stay (names_of state)))
 names_after input state next (commands.Load n file) effects p = bound_names state next effects n _ p
 names_after input state next (commands.Literal n literal) effects p = bound_names state next effects n _ p
 names_after input state next (commands.Constant n value) effects p = bound_names state next effects n _ p
@@ -144,6 +213,8 @@ names_after input state next (commands.Given n x literal) effects p = bound_name
 names_after input state next (commands.Forget n x variable) effects p = bound_names state next effects n _ p
 names_after input state next (commands.Drop x) effects p =
     ap names_of (same_next _ _ _ _ p) ∙ names_left state.names x
+names_after input state next (commands.Limit limit) effects p =
+    ap names_of (settled_done (record state { limit = limit }) next effects p).0 ∙ sym (all_stay (names_of state))
 names_after input state next (commands.Same x y) effects p = kept_names state next effects _ p.2
 names_after input state next (commands.Size x) effects p = kept_names state next effects _ p.2
 names_after input state next (commands.Value x bits) effects p = kept_names state next effects _ p
@@ -153,9 +224,9 @@ names_after input state next (commands.WriteVtree file) effects p = kept_names s
 -- ---- commands one after another
 
 -- a command of a list that can be done, and so can those after it
-pub fit_at : (v : ℕ) (names : List ℕ) (commands : List RunCommand) (i : ℕ) (c : RunCommand) → i < length commands
-    → c ≡ get_or commands i c → AllFit v names (drop i commands)
-    → Fits v names c × AllFit v (bound_after names c) (drop (i + 1) commands)
+pub fit_at : (v : ℕ) (names : List ℕ) (commands : List NumberedCommand) (i : ℕ) (c : NumberedCommand)
+    → i < length commands → c ≡ get_or commands i c → AllFit v names (drop i commands)
+    → Fits v names c.command × AllFit v (bound_after names c.command) (drop (i + 1) commands)
 fit_at v names commands i c below at fit = subst (AllFit v names) here fit
   where
     here : drop i commands ≡ c ∷ drop (i + 1) commands

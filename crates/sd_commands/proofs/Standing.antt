@@ -14,6 +14,7 @@ use Rattle.std.specs.Ordering.{nat_cmp}
 use Rattle.sd_runs.proofs.Maps.{get_insert_same, get_insert_other, get_remove_same, get_remove_other, same_at_each}
 use Rattle.sd_model.specs.Expression.{Expression, Constant}
 use Rattle.sd_model.specs.Size.{IsDiagramOf}
+use Rattle.sd_model.specs.Tree.{AreDistinct}
 use Rattle.sd_vtree.specs.Numbered.{Numbered, plain_tree}
 use Rattle.sd_cache.specs.Entries.{Call, Entries}
 use Rattle.sd_manager.specs.Table.{Table, no_table}
@@ -21,13 +22,14 @@ use Rattle.sd_manager.specs.Shown.{ShowsCanonical, HoldsDiagram}
 use Rattle.sd_manager.specs.Making.{Extends, with_root, without_root}
 use Rattle.sd_apply.specs.Serving.{Serves}
 use Rattle.sd_commands.specs.Commands.{State, named, with_name, dropped, formula_named}
-use Rattle.sd_commands.specs.Standing.{Represents, IsOfName, HoldsName, HoldsValue, ShowsFormula, start}
-use Rattle.sd_commands.specs.Standing.{IsAsBefore, HoldsState, removed}
+use Rattle.sd_commands.specs.Standing.{Represents, IsOfName, HoldsName, HoldsValue, ShowsFormula, start, names_of}
+use Rattle.sd_commands.specs.Standing.{IsAsBefore, HoldsState, IsFree, without, removed}
+use Rattle.sd_commands.proofs.Names.{distinct_bound, distinct_dropped}
 use Rattle.sd_commands.specs.declared.state.RunState.{RunState}
 use Rattle.sd_manager.specs.Marking.{AreUnmarked}
 use Rattle.sd_manager.proofs.Marking.{unmarked_new, unmarked_extended}
-use Rattle.sd_compile.specs.Compiling.{KeepsAll}
-use Rattle.sd_compile.proofs.Kept.{all_extended}
+use Rattle.sd_compile.specs.Compiling.{KeepsAll, KeepsOtherRoots, HoldsFormula}
+use Rattle.sd_compile.proofs.Kept.{all_extended, released_all}
 
 -- ---- the start
 
@@ -37,9 +39,12 @@ none e c = omega (arith, c.1)
 
 -- a new manager and no names hold the start
 pub stands_first : (code : RunState) (vtree : Numbered) (limit : ℕ) → code.manager ≡ no_table vtree 2147483647
-    → code.cache ≡ [] → code.names.entries ≡ [] → Represents code (start (plain_tree vtree) limit)
-stands_first code vtree limit is empty_ no_names = record {
+    → code.cache ≡ [] → code.names.entries ≡ [] → code.limit ≡ limit
+    → Represents code (start (plain_tree vtree) limit)
+stands_first code vtree limit is empty_ no_names same_limit = record {
   tree = ap (λ t. plain_tree t.vtree) (sym is);
+  limit = sym same_limit;
+  once = tt;
   holds = λ name. subst (λ r. HoldsName code.manager r None) (sym (no_root name)) tt;
   apart = λ a b root first second. let bad : ◌≡◌ {A = Option ℕ} None (Some root) = sym (no_root a) ∙ first in absurd cc;
   only = λ root held. absurd (none_held root held);
@@ -85,6 +90,16 @@ name_held code seen name root was is = held_value code.manager _ _ root (was.hol
 pub name_in : (code : RunState) (seen : State) (name root : ℕ) → Represents code seen
     → maps.get nat_cmp code.names name ≡ Some root → IsSome (get code.manager.roots root)
 name_in code seen name root was is = held_node code.manager _ _ root (was.holds name) is
+
+-- a name with no root stands for nothing
+not_named : (code : RunState) (seen : State) (name : ℕ) → Represents code seen → IsFree code name
+    → named seen.names name ≡ None
+not_named code seen name was free = neither _ _ (was.holds name) free
+  where
+    neither : (r : Option ℕ) (v : Option Expression) → HoldsName code.manager r v → r ≡ None → v ≡ None
+    neither None None holds is = refl
+    neither None (Some value) holds is = absurd holds
+    neither (Some r) v holds is = absurd cc
 
 -- the node of a root shows the formula that is held
 pub shows_held : (t : Table) (root node : ℕ) (f : Expression) → HoldsValue t root f → get t.roots root ≡ Some node
@@ -171,6 +186,7 @@ pub record ChangesName (code new : RunState) (name : ℕ) (root : Option ℕ) (r
       ≡ cond (is_at (nat_cmp name) q) root (maps.get nat_cmp code.names q)
   pub manager : new.manager ≡ record code.manager { roots = roots }
   pub cache : new.cache ≡ code.cache
+  pub limit : new.limit ≡ code.limit
   pub fresh : (r : ℕ) → root ≡ Some r → get code.manager.roots r ≡ None
   pub released : (r : ℕ) → maps.get nat_cmp code.names name ≡ Some r → get roots r ≡ None
   pub others : (r : ℕ) → ¬ (root ≡ Some r) → ¬ (maps.get nat_cmp code.names name ≡ Some r)
@@ -256,11 +272,13 @@ module _ (code new : RunState) (seen : State) (name : ℕ) (root : Option ℕ) (
       not_same q differ = λ same. let yes = eq-eqb name q same in absurd cc
 
   -- the code represents the state that is the same at each other name
-  stands_changed : (next : State) (value : Option Expression) → next.tree ≡ seen.tree
-      → ((q : ℕ) → named next.names q ≡ cond (eqb name q) value (named seen.names q))
+  stands_changed : (next : State) (value : Option Expression) → next.tree ≡ seen.tree → next.limit ≡ seen.limit
+      → AreDistinct (names_of next) → ((q : ℕ) → named next.names q ≡ cond (eqb name q) value (named seen.names q))
       → HoldsName (record code.manager { roots = roots }) root value → Represents new next
-  stands_changed next value same_tree names here = record {
+  stands_changed next value same_tree same_limit distinct names here = record {
     tree = same_tree ∙ was.tree ∙ ap (λ t. plain_tree t.vtree) (sym changes.manager);
+    limit = same_limit ∙ was.limit ∙ sym changes.limit;
+    once = distinct;
     holds = λ q.
         subst (λ t. HoldsName t (maps.get nat_cmp new.names q) (named next.names q)) (sym changes.manager)
         (subst (λ v. HoldsName (record code.manager { roots = roots }) (maps.get nat_cmp new.names q) v)
@@ -277,50 +295,37 @@ module _ (code new : RunState) (seen : State) (name : ℕ) (root : Option ℕ) (
 
 -- ---- one name more
 
--- the code represents the state with one more name, whose former root is released
-pub stands_bound : (code new : RunState) (seen : State) (name node root : ℕ) (former : Option ℕ) (f : Expression)
-    → Represents code seen → ShowsFormula code.manager node f → get code.manager.roots root ≡ None
-    → former ≡ maps.get nat_cmp code.names name
-    → new.manager ≡ record code.manager { roots = removed (insert code.manager.roots root node) former }
-    → new.cache ≡ code.cache
+-- the code represents the state with one more name, which was free
+pub stands_bound : (code new : RunState) (seen : State) (name node root : ℕ) (f : Expression)
+    → Represents code seen → ShowsFormula code.manager node f → get code.manager.roots root ≡ None → IsFree code name
+    → new.manager ≡ with_root code.manager root node → new.cache ≡ code.cache → new.limit ≡ code.limit
     → ((q : ℕ) → maps.get nat_cmp new.names q
     ≡ cond (is_at (nat_cmp name) q) (Some root) (maps.get nat_cmp code.names q))
     → Represents new (with_name seen name f)
-stands_bound code new seen name node root former f was shows absent had is same_cache names =
-    stands_changed code new seen name (Some root) roots was changes (with_name seen name f) (Some f) refl named_now held
+stands_bound code new seen name node root f was shows absent free is same_cache same_limit names =
+    stands_changed code new seen name (Some root) (insert code.manager.roots root node) was changes
+    (with_name seen name f) (Some f) refl refl
+    (distinct_bound seen.names name (not_named code seen name was free) was.once)
+    (λ q. refl) held
   where
-    roots : FinMap nat_cmp ℕ
-    roots = removed (insert code.manager.roots root node) former
-
-    not_former : ¬ (former ≡ Some root)
-    not_former = λ e. not_absent code.manager _ _ root root (was.holds name) (sym had ∙ e) absent refl
-
-    changes : ChangesName code new name (Some root) (removed (insert code.manager.roots root node) former)
+    changes : ChangesName code new name (Some root) (insert code.manager.roots root node)
     changes = record {
       names = names;
       manager = is;
       cache = same_cache;
+      limit = same_limit;
       fresh = λ r e. let same : root ≡ r = cc in subst (λ k. get code.manager.roots k ≡ None) same absent;
-      released = λ r at. removed_at (insert code.manager.roots root node) former r (had ∙ at);
+      released = λ r at. let bad : ◌≡◌ {A = Option ℕ} None (Some r) = sym free ∙ at in absurd cc;
       others = λ r other differ.
-          removed_else (insert code.manager.roots root node) former r (λ e. differ (sym had ∙ e))
-          ∙ get_insert_other code.manager.roots root node r (λ same. other (ap Some (sym same)));
+          get_insert_other code.manager.roots root node r (λ same. other (ap Some (sym same)));
     }
 
-    held : HoldsValue (record code.manager { roots = removed (insert code.manager.roots root node) former }) root f
+    held : HoldsValue (with_root code.manager root node) root f
     held = record {
       diagram = shows.diagram;
-      is = record {
-        code = node;
-        held = removed_else (insert code.manager.roots root node) former root not_former
-            ∙ get_insert_same code.manager.roots root node;
-        is = shows.is;
-      };
+      is = record { code = node; held = get_insert_same code.manager.roots root node; is = shows.is };
       of_value = shows.of_value;
     }
-
-    named_now : (q : ℕ) → named ((name, f) ∷ seen.names) q ≡ cond (eqb name q) (Some f) (named seen.names q)
-    named_now q = refl
 
 -- a root that is held and released again leaves the manager as it was
 regained : (t : Table) (root node : ℕ) → get t.roots root ≡ None
@@ -336,50 +341,76 @@ regained t root node absent = ap (λ roots. record t { roots = roots }) (same_at
           get_remove_other (insert t.roots root node) root q differ ∙ get_insert_other t.roots root node q differ
     ]
 
--- a root that was just made is held
-pub newly_held : (old new : Table) (root node again : ℕ) → new ≡ with_root old root node → again ≡ root
-    → IsSome (get new.roots again)
-newly_held old new root node again is same =
-    subst (λ t. IsSome (get t.roots again)) (sym is)
-    (subst (λ r. IsSome (get (insert old.roots root node) r)) (sym same)
-    (subst (λ o. IsSome o) (sym (get_insert_same old.roots root node)) refl))
+-- and a code whose root is released is the one before
+pub code_regained : (code : RunState) (t : Table) (root node : ℕ) → get code.manager.roots root ≡ None
+    → t ≡ with_root code.manager root node → record code { manager = without_root t root } ≡ code
+code_regained code t root node absent is =
+    ap (λ m. record code { manager = m })
+    (ap (λ x. without_root x root) is ∙ regained code.manager root node absent)
 
--- so where it is released, nothing changed
-pub given_up : (old mid new : Table) (root node again : ℕ) → get old.roots root ≡ None
-    → mid ≡ with_root old root node → again ≡ root → new ≡ without_root mid again → new ≡ old
-given_up old mid new root node again absent held same released =
-    released ∙ ap (λ t. without_root t again) held ∙ ap (without_root (with_root old root node)) same
-    ∙ regained old root node absent
+-- a root that is released and held again leaves the manager as it was
+restored : (t : Table) (root node : ℕ) → get t.roots root ≡ Some node → t ≡ with_root (without_root t root) root node
+restored t root node held = ap (λ roots. record t { roots = roots }) (same_at_each _ _ at)
+  where
+    at : (q : ℕ) → get t.roots q ≡ get (insert (remove t.roots root) root node) q
+    at q = elim (cases_eq q root) [
+      | inl same ↦
+          subst (λ k. get t.roots k ≡ get (insert (remove t.roots root) root node) k) (sym same)
+          (held ∙ sym (get_insert_same (remove t.roots root) root node))
+      | inr differ ↦
+          sym (get_insert_other (remove t.roots root) root node q differ ∙ get_remove_other t.roots root q differ)
+    ]
 
--- the former root is taken away after the new one was made
-pub made_and_released : (old mid new : Table) (root node : ℕ) (former : Option ℕ) → mid ≡ with_root old root node
-    → new ≡ record mid { roots = removed mid.roots former }
-    → new ≡ record old { roots = removed (insert old.roots root node) former }
-made_and_released old mid new root node former held released =
-    let without_former : Table → Table = λ t. record t { roots = removed t.roots former } in
-    released ∙ ap without_former held
+-- a root that was just made holds the formula of its node
+pub newly_holds : (old new : Table) (root node : ℕ) (f : Expression) → new ≡ with_root old root node
+    → ShowsFormula old node f → HoldsValue new root f
+newly_holds old new root node f is shows =
+    subst (λ t. HoldsValue t root f) (sym is)
+    (record {
+      diagram = shows.diagram;
+      is = record { code = node; held = get_insert_same old.roots root node; is = shows.is };
+      of_value = shows.of_value;
+    })
 
 -- at most one root more
-pub one_root_more : (old new : Table) (root node : ℕ) (former : Option ℕ)
-    → new ≡ record old { roots = removed (insert old.roots root node) former } → len new.roots ≤ len old.roots + 1
-one_root_more old new root node former is =
-    let fewer = fewer_removed (insert old.roots root node) former in
-    subst (λ t. len t.roots ≤ len old.roots + 1) (sym is)
-    (with_one _ _ fewer (at _ (len-insert nat_cmp_total old.roots root node)))
+pub one_root_more : (old new : Table) (root node : ℕ) → new ≡ with_root old root node
+    → len new.roots ≤ len old.roots + 1
+one_root_more old new root node is =
+    subst (λ t. len t.roots ≤ len old.roots + 1) (sym is) (at _ (len-insert nat_cmp_total old.roots root node))
   where
-    with_one : (a b : ℕ) → a ≤ b → b ≤ len old.roots + 1 → a ≤ len old.roots + 1
-    with_one a b p q = omega (arith, p, q)
-
     at : (b : Bool) → len (insert old.roots root node) ≡ cond b (len old.roots) (len old.roots + 1)
         → len (insert old.roots root node) ≤ len old.roots + 1
     at true e = omega (arith, e)
     at false e = omega (arith, e)
+
+-- ---- a root gets a name
+
+-- the code represents the state with one more name, whose root was there without a name
+pub stands_named : (code new : RunState) (seen : State) (name root : ℕ) (f : Expression)
+    → Represents (without code root) seen → HoldsValue code.manager root f → IsFree code name
+    → new.manager ≡ code.manager → new.cache ≡ code.cache → new.limit ≡ code.limit
+    → ((q : ℕ) → maps.get nat_cmp new.names q
+    ≡ cond (is_at (nat_cmp name) q) (Some root) (maps.get nat_cmp code.names q))
+    → Represents new (with_name seen name f)
+stands_named code new seen name root f was holds free is same_cache same_limit names =
+    stands_bound (without code root) new seen name holds.is.code root f was
+    (record {
+      diagram = holds.diagram;
+      is = record { shows = holds.is.is.shows; canonical = holds.is.is.canonical };
+      of_value = holds.of_value;
+    })
+    (get_remove_same code.manager.roots root) free (is ∙ restored code.manager root holds.is.code holds.is.held)
+    same_cache same_limit names
 
 -- no root more
 pub no_root_more : (old new : Table) (root : Option ℕ) → new ≡ record old { roots = removed old.roots root }
     → len new.roots ≤ len old.roots
 no_root_more old new root is =
     subst (λ t. len t.roots ≤ len old.roots) (sym is) (fewer_removed old.roots root)
+
+-- a root that holds a formula is there
+pub value_held : (t : Table) (root : ℕ) (f : Expression) → HoldsValue t root f → IsSome (get t.roots root)
+value_held t root f holds = subst (λ o. IsSome o) (sym holds.is.held) refl
 
 -- ---- one name less
 
@@ -410,17 +441,19 @@ named_dropped (e ∷ es) name q = elim (cases_eq e.0 name) [
 pub stands_released : (code new : RunState) (seen : State) (name : ℕ) (former : Option ℕ) → Represents code seen
     → former ≡ maps.get nat_cmp code.names name
     → new.manager ≡ record code.manager { roots = removed code.manager.roots former } → new.cache ≡ code.cache
+    → new.limit ≡ code.limit
     → ((q : ℕ) → maps.get nat_cmp new.names q ≡ cond (is_at (nat_cmp name) q) None (maps.get nat_cmp code.names q))
     → Represents new (dropped seen name)
-stands_released code new seen name former was had is same_cache names =
+stands_released code new seen name former was had is same_cache same_limit names =
     stands_changed code new seen name None (removed code.manager.roots former) was changes (dropped seen name) None refl
-    (named_dropped seen.names name) tt
+    refl (distinct_dropped seen.names name was.once) (named_dropped seen.names name) tt
   where
     changes : ChangesName code new name None (removed code.manager.roots former)
     changes = record {
       names = names;
       manager = is;
       cache = same_cache;
+      limit = same_limit;
       fresh = λ r e. absurd cc;
       released = λ r at. removed_at code.manager.roots former r (had ∙ at);
       others = λ r other differ. removed_else code.manager.roots former r (λ e. differ (sym had ∙ e));
@@ -431,17 +464,6 @@ pub former_held : (code : RunState) (seen : State) (name : ℕ) (former : Option
     → former ≡ maps.get nat_cmp code.names name → IfSome former (λ r. IsSome (get code.manager.roots r))
 former_held code seen name None was had = tt
 former_held code seen name (Some root) was had = name_in code seen name root was (sym had)
-
--- and it still is, once another root is held
-pub former_held_with : (code : RunState) (seen : State) (name : ℕ) (former : Option ℕ) (mid : Table) (root node : ℕ)
-    → Represents code seen → former ≡ maps.get nat_cmp code.names name → get code.manager.roots root ≡ None
-    → mid ≡ with_root code.manager root node → IfSome former (λ r. IsSome (get mid.roots r))
-former_held_with code seen name None mid root node was had absent is = tt
-former_held_with code seen name (Some r) mid root node was had absent is =
-    subst (λ t. IsSome (get t.roots r)) (sym is) (subst (λ o. IsSome o)
-    (sym (get_insert_other code.manager.roots root node r
-    (not_absent code.manager _ _ r root (was.holds name) (sym had) absent)))
-    (name_in code seen name r was (sym had)))
 
 -- ---- a later table
 
@@ -457,12 +479,14 @@ holds_kept old new (Some r) (Some value) kept holds = record {
   of_value = subst (λ v. IsDiagramOf (plain_tree v) value holds.diagram) (sym kept.reached.vtree) holds.of_value;
 }
 
--- the code represents the state in a later table
-pub stands_kept : (code : RunState) (t : Table) (cache : Entries) (seen : State) → Represents code seen
+-- the code represents the state in a later table, whatever the next sweep waits for
+pub stands_swept : (code : RunState) (t : Table) (cache : Entries) (most : ℕ) (seen : State) → Represents code seen
     → KeepsAll code.manager t → Serves cache t → AreUnmarked t
-    → Represents (record { manager = t; cache = cache; names = code.names }) seen
-stands_kept code t cache seen was kept serves unmarked = record {
+    → Represents (record code { manager = t; cache = cache; most = most }) seen
+stands_swept code t cache most seen was kept serves unmarked = record {
   tree = was.tree ∙ ap plain_tree (sym kept.reached.vtree);
+  limit = was.limit;
+  once = was.once;
   holds = λ q. holds_kept code.manager t _ _ kept (was.holds q);
   apart = was.apart;
   only = λ root held. of_name root
@@ -474,25 +498,48 @@ stands_kept code t cache seen was kept serves unmarked = record {
 }
   where
     of_name : (root : ℕ) → IsOfName code root
-        → IsOfName (record { manager = t; cache = cache; names = code.names }) root
+        → IsOfName (record code { manager = t; cache = cache; most = most }) root
     of_name root had = record { name = had.name; is = had.is }
+
+pub stands_kept : (code : RunState) (t : Table) (cache : Entries) (seen : State) → Represents code seen
+    → KeepsAll code.manager t → Serves cache t → AreUnmarked t
+    → Represents (record code { manager = t; cache = cache }) seen
+stands_kept code t cache seen was kept serves unmarked =
+    stands_swept code t cache code.most seen was kept serves unmarked
 
 -- and after more nodes were made
 pub stands_on : (code : RunState) (t : Table) (cache : Entries) (seen : State) → Represents code seen
-    → Extends code.manager t → Serves cache t
-    → Represents (record { manager = t; cache = cache; names = code.names }) seen
+    → Extends code.manager t → Serves cache t → Represents (record code { manager = t; cache = cache }) seen
 stands_on code t cache seen was kept serves =
     stands_kept code t cache seen was (all_extended code.manager t kept) serves
     (unmarked_extended code.manager t kept was.unmarked)
 
+-- and under another limit
+pub stands_limited : (code : RunState) (limit : ℕ) (seen : State) → Represents code seen
+    → Represents (record code { limit = limit }) (record seen { limit = limit })
+stands_limited code limit seen was = record {
+  tree = was.tree;
+  limit = refl;
+  once = was.once;
+  holds = was.holds;
+  apart = was.apart;
+  only = λ root held. let had = was.only root held in record { name = had.name; is = had.is };
+  serves = was.serves;
+  bound = was.bound;
+  no_move = was.no_move;
+  unmarked = was.unmarked;
+}
+
 -- ---- what stays after an error
 
 -- where nothing changed, all is as before
-pub as_before : (code new : RunState) → new.manager ≡ code.manager → new.cache ≡ code.cache
+pub as_before : (code new : RunState) → new.manager ≡ code.manager → new.cache ≡ code.cache → new.limit ≡ code.limit
     → ((q : ℕ) → maps.get nat_cmp new.names q ≡ maps.get nat_cmp code.names q) → IsAsBefore code new
-as_before code new is same_cache names = record {
+as_before code new is same_cache same_limit names = record {
   represents = λ seen was. record {
     tree = was.tree ∙ ap (λ t. plain_tree t.vtree) (sym is);
+    limit = was.limit ∙ sym same_limit;
+    once = was.once;
     holds = λ q.
         subst (λ t. HoldsName t (maps.get nat_cmp new.names q) (named seen.names q)) (sym is)
         (subst (λ r. HoldsName code.manager r (named seen.names q)) (sym (names q)) (was.holds q));
@@ -512,11 +559,11 @@ as_before code new is same_cache names = record {
 -- a command that reads the state leaves it, whatever it answers
 pub as_before_self : {X E : Type 0} (code : RunState) (result : Result X E) → OnErr result (IsAsBefore code code)
 as_before_self code (Ok x) = tt
-as_before_self code (Err e) = as_before code code refl refl (λ q. refl)
+as_before_self code (Err e) = as_before code code refl refl refl (λ q. refl)
 
 -- a later table leaves all as before
 pub as_before_kept : (code : RunState) (t : Table) (cache : Entries) → KeepsAll code.manager t → Serves cache t
-    → AreUnmarked t → IsAsBefore code (record { manager = t; cache = cache; names = code.names })
+    → AreUnmarked t → IsAsBefore code (record code { manager = t; cache = cache })
 as_before_kept code t cache kept serves unmarked = record {
   represents = λ seen was. stands_kept code t cache seen was kept serves unmarked;
   holds = λ root d held. kept.holds root d held;
@@ -525,36 +572,67 @@ as_before_kept code t cache kept serves unmarked = record {
 
 -- so does making nodes
 pub as_before_on : (code : RunState) (t : Table) (cache : Entries) → Extends code.manager t → Serves cache t
-    → IsAsBefore code (record { manager = t; cache = cache; names = code.names })
+    → IsAsBefore code (record code { manager = t; cache = cache })
 as_before_on code t cache kept serves = record {
   represents = λ seen was. stands_on code t cache seen was kept serves;
   holds = λ root d held. (all_extended code.manager t kept).holds root d held;
   roots = kept.roots;
 }
 
--- all is as before after that, and an error after it
-pub before_then : {X E : Type 0} (result : Result X E) (code mid new : RunState) → IsAsBefore code mid
-    → OnErr result (IsAsBefore mid new) → OnErr result (IsAsBefore code new)
-before_then (Ok x) code mid new first later = tt
-before_then (Err e) code mid new first later = record {
+-- all is as before after that, and after more
+pub before_both : (code mid new : RunState) → IsAsBefore code mid → IsAsBefore mid new → IsAsBefore code new
+before_both code mid new first later = record {
   represents = λ seen was. later.represents seen (first.represents seen was);
   holds = λ root d held. later.holds root d (first.holds root d held);
   roots = later.roots ∙ first.roots;
 }
 
+before_then : {X E : Type 0} (result : Result X E) (code mid new : RunState) → IsAsBefore code mid
+    → OnErr result (IsAsBefore mid new) → OnErr result (IsAsBefore code new)
+before_then (Ok x) code mid new first later = tt
+before_then (Err e) code mid new first later = before_both code mid new first later
+
 -- and after nodes were made
 pub as_before_then : {X E : Type 0} (result : Result X E) (code new : RunState) (t : Table) (cache : Entries)
     → Extends code.manager t → Serves cache t
-    → OnErr result (IsAsBefore (record { manager = t; cache = cache; names = code.names }) new)
+    → OnErr result (IsAsBefore (record code { manager = t; cache = cache }) new)
     → OnErr result (IsAsBefore code new)
 as_before_then result code new t cache kept serves later =
-    before_then result code (record { manager = t; cache = cache; names = code.names }) new
+    before_then result code (record code { manager = t; cache = cache }) new
     (as_before_on code t cache kept serves) later
+
+-- ---- a formula was compiled into a new root
+
+-- without it the code represents what it did
+pub stands_compiled : (code : RunState) (t : Table) (cache : Entries) (root : ℕ) (seen : State) → Represents code seen
+    → get code.manager.roots root ≡ None → KeepsOtherRoots code.manager t root → Serves cache t → AreUnmarked t
+    → Represents (without (record code { manager = t; cache = cache }) root) seen
+stands_compiled code t cache root seen was absent kept serves unmarked =
+    stands_kept code (without_root t root) cache seen was
+    (released_all code.manager t (without_root t root) root root absent kept refl refl)
+    (serves_roots cache t (remove t.roots root) serves) unmarked
+
+-- and all is as before
+pub as_before_compiled : (code : RunState) (t : Table) (cache : Entries) (root : ℕ) → get code.manager.roots root ≡ None
+    → KeepsOtherRoots code.manager t root → Serves cache t → AreUnmarked t
+    → IsAsBefore code (without (record code { manager = t; cache = cache }) root)
+as_before_compiled code t cache root absent kept serves unmarked =
+    as_before_kept code (without_root t root) cache
+    (released_all code.manager t (without_root t root) root root absent kept refl refl)
+    (serves_roots cache t (remove t.roots root) serves) unmarked
+
+-- the root holds the formula
+pub holds_compiled : (t : Table) (root : ℕ) (f : Expression) → HoldsFormula t f root → HoldsValue t root f
+holds_compiled t root f h = record {
+  diagram = h.shown.diagram;
+  is = record { code = h.code; held = h.held; is = h.shown.is };
+  of_value = record { canonical = h.shown.is.canonical; same_value = λ a fits. h.shown.value a };
+}
 
 -- ---- what the manager alone holds
 
 -- a bound name has a root that holds its formula
-bound_root : (t : Table) (r : Option ℕ) (v : Option Expression) (f : Expression) → HoldsName t r v → v ≡ Some f
+pub bound_root : (t : Table) (r : Option ℕ) (v : Option Expression) (f : Expression) → HoldsName t r v → v ≡ Some f
     → (root : ℕ) × HoldsValue t root f
 bound_root t None None f holds is = absurd cc
 bound_root t None (Some value) f holds is = absurd holds
@@ -563,7 +641,7 @@ bound_root t (Some root) (Some value) f holds is =
     let same : value ≡ f = cc in (root, subst (λ v. HoldsValue t root v) same holds)
 
 -- a name with a root is bound, and the root holds its formula
-root_bound : (t : Table) (r : Option ℕ) (v : Option Expression) (root : ℕ) → HoldsName t r v → r ≡ Some root
+pub root_bound : (t : Table) (r : Option ℕ) (v : Option Expression) (root : ℕ) → HoldsName t r v → r ≡ Some root
     → (f : Expression) × (v ≡ Some f) × HoldsValue t root f
 root_bound t None v root holds is = absurd cc
 root_bound t (Some n) None root holds is = absurd holds

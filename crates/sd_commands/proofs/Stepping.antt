@@ -1,41 +1,74 @@
 -- What a command comes to, from what was bound or handed out.
-use Rattle.std.proofs.Common.{◌≡◌, ℕ, true, eqb, List, [], ◌∷◌, map}
-use Rattle.std.proofs.Common.{Option, Some, None, Result, Ok, Err, IfOk, refl, sym, ap, subst, ◌∙◌}
-use Rattle.std.proofs.Common.{inl, inr}
-use Rattle.std.specs.List.{list_all}
+use Rattle.std.proofs.Common.{◌≡◌, ℕ, Bool, true, false, ◌||◌, eqb, List, [], ◌∷◌, map}
+use Rattle.std.proofs.Common.{Option, Some, None, Result, Ok, Err, IfOk, IfErr, refl, sym, ap, subst, ◌∙◌}
+use Rattle.std.proofs.Common.{inl, inr, ◌<◌, ◌+◌, length, get_or, drop}
+use Rattle.std.proofs.Math.ListN.{get_or-map}
+use Rattle.std.proofs.lemmas.List.{length-map}
+use Rattle.std.specs.List.{list_all, list_any}
 use Rattle.std.specs.Option.{IsSome}
 use Rattle.std.specs.declared.alloc.AllocError.{AllocError}
 use Rattle.std.proofs.lemmas.Bool.{cases_Bool, and_parts}
 use Rattle.sd_runs.specs.declared.error.TakeError.{TakeError}
+use Rattle.sd_runs.specs.declared.error.TakeError.TheVariants as taking
 use Rattle.sd_model.specs.Expression.{Expression}
+use Rattle.sd_formula.specs.Dimacs.{Groups}
+use Rattle.sd_manager.specs.Table.{Table}
+use Rattle.sd_manager.specs.Making.{KeepsRule}
 use Rattle.sd_commands.specs.Effects.{Write, Print}
-use Rattle.sd_commands.specs.Commands.{State, Done, Step, named, with_name}
-use Rattle.sd_commands.specs.Fits.{Fits, has, uses}
-use Rattle.sd_commands.specs.Standing.{Represents, HoldsName, HasRoot, BindsTo, HandsOut, StepsTo}
-use Rattle.sd_commands.specs.Standing.{names_of, effects_of}
+use Rattle.sd_commands.specs.Commands.{State, Outcome, Done, OverLimit, Step, Settles, MayFill, named}
+use Rattle.sd_commands.specs.Fits.{Fits, AllFit, has, uses, binds, bound_after, of_no_line, unnumbered}
+use Rattle.sd_commands.specs.Standing.{Represents, HoldsName, HasRoot, IsFree, SettlesAt, IsNotSettled, HandsOut}
+use Rattle.sd_commands.specs.Standing.{StepsTo, StopsAt, names_of, effects_of, error_of_operation}
 use Rattle.sd_commands.specs.declared.command.RunCommand.{RunCommand}
 use Rattle.sd_commands.specs.declared.command.Effect.{Effect as CodeEffect}
 use Rattle.sd_commands.specs.declared.command.Effect.TheVariants.{WriteFile, PrintLine}
+use Rattle.sd_commands.specs.declared.error.CommandError.{CommandError}
+use Rattle.sd_commands.specs.declared.error.CommandError.TheVariants as errors
 use Rattle.sd_commands.specs.declared.state.RunState.{RunState}
+use Rattle.sd_commands.proofs.Names.{named_not}
+use Rattle.sd_commands.proofs.Outcomes.{fit_at}
 
--- ---- a name is bound
+-- ---- the total size settles a command
 
-pub bound_steps : (input : Expression) (seen : State) (command : RunCommand) (name : ℕ) (f : Expression)
-    (code : RunState) (result : Result (Option CodeEffect) TakeError)
-    → Step input seen command (Done (with_name seen name f) [])
-    → IfOk result (λ effect. BindsTo seen name f code effect)
+-- it leads to its state
+pub settled_steps : (input : Groups) (seen next : State) (command : RunCommand) (code : RunState)
+    (result : Result (Option CodeEffect) CommandError)
+    → ((outcome : Outcome) → Settles next outcome → Step input seen command outcome)
+    → IfOk result (λ effect. SettlesAt next code effect)
     → IfOk result (λ effect. StepsTo input seen command code effect)
-bound_steps input seen command name f code (Err e) step binds = tt
-bound_steps input seen command name f code (Ok effect) step binds = record {
-  next = with_name seen name f;
-  step = subst (λ a. Step input seen command (Done (with_name seen name f) (effects_of a))) (sym binds.quiet) step;
-  represents = binds.represents;
+settled_steps input seen next command code (Err e) step settles = tt
+settled_steps input seen next command code (Ok effect) step settles = record {
+  next = next;
+  step = subst (λ a. Step input seen command (Done next (effects_of a))) (sym settles.quiet)
+      (step (Done next []) (inl (settles.within, refl)));
+  represents = settles.represents;
 }
+
+-- or it stops
+pub settled_stops : (input : Groups) (seen next : State) (command : RunCommand) (t : Table)
+    (result : Result (Option CodeEffect) CommandError)
+    → ((outcome : Outcome) → Settles next outcome → Step input seen command outcome)
+    → IfErr result (λ e. IsNotSettled next e) → IfErr result (λ e. StopsAt input seen command t e)
+settled_stops input seen next command t (Ok effect) step h = tt
+settled_stops input seen next command t (Err (errors.OverLimit group size limit)) step h =
+    subst (λ g. Step input seen command (OverLimit g size limit)) (sym h.0)
+    (subst (λ l. Step input seen command (OverLimit None size l)) (sym h.2)
+    (step (OverLimit None size next.limit) (inr (size, h.1, refl))))
+settled_stops input seen next command t (Err (errors.ArenaFull elements)) step h = absurd h
+settled_stops input seen next command t (Err errors.OutOfMemory) step h = tt
+
+-- an operation before it stops
+pub operation_stops : (input : Groups) (seen : State) (command : RunCommand) (t : Table) (e : TakeError)
+    → MayFill command → t.bound ≡ 2147483647 → KeepsRule t e
+    → StopsAt input seen command t (error_of_operation e)
+operation_stops input seen command t (taking.ArenaFull elements) fill bound rule =
+    (fill, record { whole = bound; rule = rule })
+operation_stops input seen command t taking.OutOfMemory fill bound rule = tt
 
 -- ---- a command with an effect, and no change of the state
 
 -- a line is printed
-pub printed : (input : Expression) (seen : State) (command : RunCommand) (code : RunState) (line said : List ℕ)
+pub printed : (input : Groups) (seen : State) (command : RunCommand) (code : RunState) (line said : List ℕ)
     → Represents code seen → Step input seen command (Done seen (Print said ∷ [])) → line ≡ said
     → StepsTo input seen command code (Some (PrintLine line))
 printed input seen command code line said was step is = record {
@@ -45,7 +78,7 @@ printed input seen command code line said was step is = record {
 }
 
 -- a file is written
-pub written : (input : Expression) (seen : State) (command : RunCommand) (code : RunState)
+pub written : (input : Groups) (seen : State) (command : RunCommand) (code : RunState)
     (name file text said : List ℕ) → Represents code seen → Step input seen command (Done seen (Write file said ∷ []))
     → name ≡ file → text ≡ said → StepsTo input seen command code (Some (WriteFile name text))
 written input seen command code name file text said was step names is = record {
@@ -56,14 +89,23 @@ written input seen command code name file text said was step names is = record {
 }
 
 -- what is handed out is the command's
-pub handed_steps : (input : Expression) (seen : State) (command : RunCommand) (code : RunState)
-    (effect : Result CodeEffect AllocError) (result : Result (Option CodeEffect) TakeError)
+pub handed_steps : (input : Groups) (seen : State) (command : RunCommand) (code : RunState)
+    (effect : Result CodeEffect AllocError) (result : Result (Option CodeEffect) CommandError)
     → IfOk effect (λ a. StepsTo input seen command code (Some a)) → HandsOut effect result
     → IfOk result (λ a. StepsTo input seen command code a)
 handed_steps input seen command code (Err e) result steps out =
     subst (λ r. IfOk r (λ a. StepsTo input seen command code a)) (sym out) tt
 handed_steps input seen command code (Ok effect) result steps out =
     subst (λ r. IfOk r (λ a. StepsTo input seen command code a)) (sym out) steps
+
+-- or there was no memory for it
+pub handed_stops : (input : Groups) (seen : State) (command : RunCommand) (t : Table)
+    (effect : Result CodeEffect AllocError) (result : Result (Option CodeEffect) CommandError)
+    → HandsOut effect result → IfErr result (λ e. StopsAt input seen command t e)
+handed_stops input seen command t (Err e) result out =
+    subst (λ r. IfErr r (λ e. StopsAt input seen command t e)) (sym out) tt
+handed_stops input seen command t (Ok effect) result out =
+    subst (λ r. IfErr r (λ e. StopsAt input seen command t e)) (sym out) tt
 
 -- ---- what a command needs
 
@@ -102,3 +144,31 @@ second_used code seen v command a b others was fits is =
     let all : list_all (has (names_of seen)) (a ∷ b ∷ others) ≡ true =
     ap (list_all (has (names_of seen))) (sym is) ∙ fits.used_bound in
     has_root code seen b was (and_parts _ _ (and_parts _ _ all).1).0
+
+-- the name that a command binds is free
+pub binds_free : (code : RunState) (seen : State) (v : ℕ) (command : RunCommand) (name : ℕ)
+    → Represents code seen → Fits v (names_of seen) command → binds command ≡ name ∷ [] → IsFree code name
+binds_free code seen v command name was fits is =
+    let none : list_any (has (names_of seen)) (name ∷ []) ≡ false =
+    ap (list_any (has (names_of seen))) (sym is) ∙ fits.free in
+    free _ _ (was.holds name) (named_not seen.names name (one (has (names_of seen) name) none))
+  where
+    one : (b : Bool) → b || false ≡ false → b ≡ false
+    one true h = absurd cc
+    one false h = refl
+
+    free : (r : Option ℕ) (v : Option Expression) → HoldsName code.manager r v → v ≡ None → r ≡ None
+    free None v holds none = refl
+    free (Some r) None holds none = absurd holds
+    free (Some r) (Some value) holds none = absurd cc
+
+-- ---- commands of no line
+
+-- one of them can be done, and so can those after it
+pub fit_next : (v : ℕ) (names : List ℕ) (commands : List RunCommand) (i : ℕ) (c : RunCommand) → i < length commands
+    → c ≡ get_or commands i c → AllFit v names (drop i (unnumbered commands))
+    → Fits v names c × AllFit v (bound_after names c) (drop (i + 1) (unnumbered commands))
+fit_next v names commands i c below at fit =
+    fit_at v names (unnumbered commands) i (of_no_line c)
+    (subst (λ n. i < n) (sym (length-map commands of_no_line)) below)
+    (ap of_no_line at ∙ sym (get_or-map of_no_line commands i c)) fit

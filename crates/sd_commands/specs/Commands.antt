@@ -1,16 +1,20 @@
 -- The commands of a run, and what each comes to. A later command is a case more of `RunCommand` and of `Step`.
-use Rattle.std.specs.Prelude.{◌≡◌, ℕ, Bool, true, false, not, ◌==◌, List, [], ◌∷◌, ◌++◌, filter, codes}
-use Rattle.std.specs.Prelude.{Option, Some, None, unwrap_or, if◌then◌else◌}
+use Rattle.std.specs.Prelude.{◌≡◌, ◌⊎◌, ℕ, ◌+◌, ◌<◌, ◌≤◌, Bool, true, false, not, ◌==◌, List, [], ◌∷◌, ◌++◌}
+use Rattle.std.specs.Prelude.{map, filter, length, codes, Option, Some, None, unwrap_or, if◌then◌else◌}
 use Rattle.sd_model.specs.Expression.{Expression, Constant, Atom, Combined, Negated, Conditioned, Forgotten}
 use Rattle.sd_model.specs.Expression.{expression_value, AreOneFunction}
 use Rattle.sd_model.specs.Tree.{Tree, leaves}
 use Rattle.sd_model.specs.Diagram.{Diagram}
 use Rattle.sd_model.specs.Size.{IsDiagramOf, HasSize}
 use Rattle.sd_model.specs.Text.{number_text, sdd_text, vtree_text}
+use Rattle.sd_formula.specs.Dimacs.{Groups}
+use Rattle.sd_formula.specs.Formulas.{expression_of}
 use Rattle.sd_file.specs.Reads.{expression_of_file}
+use Rattle.sd_compile.specs.Compiling.{prefix_of}
 use Rattle.sd_commands.specs.Effects.{Effect, Write, Print}
 use Rattle.sd_commands.specs.declared.command.RunCommand.{RunCommand}
 use Rattle.sd_commands.specs.declared.command.RunCommand.TheVariants as commands
+use Rattle.sd_commands.specs.declared.command.NumberedCommand.{NumberedCommand}
 
 -- what a run holds between two commands: the bound names with their formulas, the last one first, the tree, and the
 -- limit of the total size
@@ -20,11 +24,11 @@ pub record State : Type 0 where
   pub limit : ℕ
 
 -- a command is done, with a new state and at most one effect; its place is not movable; or the total size passes the
--- limit, at a group or after the command
+-- limit, at a group of the input or after the command
 pub data Outcome : Type 0 where
   Done : (state : State) (effects : List Effect) → Outcome
   NotMovable : Outcome
-  OverLimit : (group : Option ℕ) (size : ℕ) → Outcome
+  OverLimit : (group : Option ℕ) (size limit : ℕ) → Outcome
 
 -- the formula of a name, if it is bound
 abbrev pub named : List (ℕ × Expression) → ℕ → Option Expression
@@ -43,9 +47,57 @@ with_name state name f = record state { names = (name, f) ∷ state.names }
 abbrev pub dropped : State → ℕ → State
 dropped state name = record state { names = filter (λ entry. not (entry.0 == name)) state.names }
 
--- the name is bound to the formula, and nothing is done outside
+-- the formulas of the bound names
+abbrev pub formulas_of : State → List Expression
+formulas_of state = map (λ entry. entry.1) state.names
+
+-- the size of the formulas' diagrams together is within the limit
+pub record AreWithin (fs : List Expression) (tree : Tree) (limit : ℕ) : Type 0 where
+  pub size : ℕ
+  pub total : HasSize fs tree size
+  pub within : size ≤ limit
+
+-- that size passes the limit
+pub record PassLimit (fs : List Expression) (tree : Tree) (limit size : ℕ) : Type 0 where
+  pub total : HasSize fs tree size
+  pub passes : limit < size
+
+-- A command leads to this state, and does nothing outside, where the total size there is within the limit. Else it is
+-- refused.
+abbrev pub Settles : State → Outcome → Type 0
+Settles next outcome =
+    (AreWithin (formulas_of next) next.tree next.limit × (outcome ≡ Done next []))
+    ⊎ ((size : ℕ) × PassLimit (formulas_of next) next.tree next.limit size
+    × (outcome ≡ OverLimit None size next.limit))
+
+-- the name is bound to the formula, if the total size is then within the limit
 abbrev pub Binds : State → ℕ → Expression → Outcome → Type 0
-Binds state name f outcome = outcome ≡ Done (with_name state name f) []
+Binds state name f outcome = Settles (with_name state name f) outcome
+
+-- the first groups of the input, as one formula beside those of the bound names
+abbrev pub with_groups : Groups → State → ℕ → List Expression
+with_groups input state count = prefix_of input count ∷ formulas_of state
+
+-- with so many groups, from 1 up to below this number, the total size is within the limit
+abbrev pub AreWithinBelow : Groups → State → ℕ → Type 0
+AreWithinBelow input state end = (count : ℕ) → 1 ≤ count → count < end
+    → AreWithin (with_groups input state count) state.tree state.limit
+
+-- this group is the first with which the total size passes the limit
+pub record PassesAtGroup (input : Groups) (state : State) (group size : ℕ) : Type 0 where
+  pub least : 1 ≤ group
+  pub most : group ≤ length input.groups
+  pub before : AreWithinBelow input state group
+  pub passes : PassLimit (with_groups input state group) state.tree state.limit size
+
+-- The name is bound to the input if after each of its groups the total size is within the limit. Else the command is
+-- refused at the first group after which it is not.
+abbrev pub BindsInput : Groups → State → ℕ → Outcome → Type 0
+BindsInput input state name outcome =
+    (AreWithinBelow input state (length input.groups + 1)
+    × (outcome ≡ Done (with_name state name (expression_of input)) []))
+    ⊎ ((group size : ℕ) × PassesAtGroup input state group size
+    × (outcome ≡ OverLimit (Some group) size state.limit))
 
 -- the command writes or prints this, and the state stays
 abbrev pub Does : State → Effect → Outcome → Type 0
@@ -81,10 +133,10 @@ value_line true = codes "value 1" ++ 10 ∷ []
 value_line false = codes "value 0" ++ 10 ∷ []
 
 -- what a command comes to in a state, where this formula is the input
-abbrev pub Step : Expression → State → RunCommand → Outcome → Type 0
+abbrev pub Step : Groups → State → RunCommand → Outcome → Type 0
 Step input state (commands.Generated variables groups) outcome =
     Does state (Print (generated_line variables groups)) outcome
-Step input state (commands.Input n) outcome = Binds state n input outcome
+Step input state (commands.Input n) outcome = BindsInput input state n outcome
 Step input state (commands.Load n file) outcome = Binds state n (expression_of_file file) outcome
 Step input state (commands.Literal n literal) outcome = Binds state n (Atom literal) outcome
 Step input state (commands.Constant n value) outcome = Binds state n (Constant value) outcome
@@ -95,6 +147,7 @@ Step input state (commands.Given n a literal) outcome =
     Binds state n (Conditioned (formula_named state a) literal) outcome
 Step input state (commands.Forget n a x) outcome = Binds state n (Forgotten (formula_named state a) x) outcome
 Step input state (commands.Drop a) outcome = outcome ≡ Done (dropped state a) []
+Step input state (commands.Limit limit) outcome = Settles (record state { limit = limit }) outcome
 Step input state (commands.Same a b) outcome =
     (answer : Bool) × Compares state.tree (formula_named state a) (formula_named state b) answer
     × Does state (Print (same_line answer)) outcome
@@ -117,8 +170,9 @@ MayFill (commands.Forget n a x) = Unit {0}
 MayFill command = ⊥
 
 -- these commands are all done, one after another, with these effects
-abbrev pub Steps : Expression → State → List RunCommand → List Effect → State → Type 0
+abbrev pub Steps : Groups → State → List NumberedCommand → List Effect → State → Type 0
 Steps input old [] effects new = (effects ≡ []) × (new ≡ old)
 Steps input old (command ∷ commands) effects new =
     (mid : State) × (first : List Effect) × (others : List Effect)
-    × Step input old command (Done mid first) × Steps input mid commands others new × (effects ≡ first ++ others)
+    × Step input old command.command (Done mid first) × Steps input mid commands others new
+    × (effects ≡ first ++ others)

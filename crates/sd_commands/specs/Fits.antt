@@ -1,9 +1,10 @@
 -- Which commands can be done: what they use is bound, and their numbers and files are those of the variables.
-use Rattle.std.specs.Prelude.{◌≡◌, ℕ, Bool, true, not, ◌==◌, ◌&&◌, nat_le, List, [], ◌∷◌, ◌++◌, filter, length}
-use Rattle.std.specs.Prelude.{unsigned_abs}
+use Rattle.std.specs.Prelude.{◌≡◌, ℕ, Bool, true, false, not, ◌==◌, ◌&&◌, nat_le, List, [], ◌∷◌, ◌++◌, filter}
+use Rattle.std.specs.Prelude.{map, length, unsigned_abs}
 use Rattle.std.specs.List.{list_any, list_all}
 use Rattle.sd_commands.specs.declared.command.RunCommand.{RunCommand}
 use Rattle.sd_commands.specs.declared.command.RunCommand.TheVariants as commands
+use Rattle.sd_commands.specs.declared.command.NumberedCommand.{NumberedCommand}
 
 -- a number is in a list
 abbrev pub has : List ℕ → ℕ → Bool
@@ -22,7 +23,7 @@ uses (commands.Value a bits) = a ∷ []
 uses (commands.Write a file) = a ∷ []
 uses command = []
 
--- the name that is bound then
+-- the name that must be free, and is bound then
 abbrev pub binds : RunCommand → List ℕ
 binds (commands.Input n) = n ∷ []
 binds (commands.Load n file) = n ∷ []
@@ -53,12 +54,21 @@ in_range v (commands.Forget n a x) = nat_le 1 x && nat_le x v
 in_range v (commands.Value a bits) = length bits == v
 in_range v command = true
 
--- the command can be done over v variables, where these names are bound
+-- the command can be done over v variables, where these names are bound: it uses bound names alone, and binds none
+-- again
 pub record Fits (v : ℕ) (names : List ℕ) (c : RunCommand) : Type 0 where
   pub used_bound : list_all (has names) (uses c) ≡ true
+  pub free : list_any (has names) (binds c) ≡ false
   pub ranges : in_range v c ≡ true
 
 -- so can each of these commands, after those before it
-abbrev pub AllFit : ℕ → List ℕ → List RunCommand → Type 0
+abbrev pub AllFit : ℕ → List ℕ → List NumberedCommand → Type 0
 AllFit v names [] = Unit {0}
-AllFit v names (c ∷ cs) = Fits v names c × AllFit v (bound_after names c) cs
+AllFit v names (c ∷ cs) = Fits v names c.command × AllFit v (bound_after names c.command) cs
+
+-- commands that stand in no line
+abbrev pub of_no_line : RunCommand → NumberedCommand
+of_no_line c = record { line = 0; command = c }
+
+abbrev pub unnumbered : List RunCommand → List NumberedCommand
+unnumbered commands = map of_no_line commands

@@ -1,29 +1,34 @@
 -- How the code represents a state of a run, and what a command leaves.
-use Rattle.std.specs.Prelude.{◌≡◌, ℕ, ◌<◌, List, [], ◌∷◌, map, Option, Some, None, Result, Ok, Err}
+use Rattle.std.specs.Prelude.{◌≡◌, ℕ, List, [], ◌∷◌, map, Option, Some, None, Result, Ok, Err}
 use Rattle.std.specs.Option.{IsSome}
 use Rattle.std.specs.declared.alloc.AllocError.{AllocError}
 use Rattle.std.specs.BTreeMap as maps
 use Rattle.std.specs.FinMap.{FinMap, get, len, remove}
 use Rattle.std.specs.Ordering.{nat_cmp}
-use Rattle.sd_model.specs.Tree.{Tree}
+use Rattle.sd_model.specs.Tree.{Tree, AreDistinct}
 use Rattle.sd_model.specs.Diagram.{Diagram}
 use Rattle.sd_model.specs.Expression.{Expression}
 use Rattle.sd_model.specs.Size.{IsDiagramOf}
+use Rattle.sd_formula.specs.Dimacs.{Groups}
 use Rattle.sd_vtree.specs.Numbered.{plain_tree}
-use Rattle.sd_runs.specs.declared.error.TakeError.{TakeError}
-use Rattle.sd_runs.specs.declared.error.TakeError.TheVariants.{ArenaFull, OutOfMemory}
 use Rattle.sd_manager.specs.Table.{Table}
 use Rattle.sd_manager.specs.Shown.{ShowsCanonical, HoldsDiagram}
-use Rattle.sd_manager.specs.Making.{IsPastBound}
+use Rattle.sd_manager.specs.Making.{IsPastBound, without_root}
 use Rattle.sd_manager.specs.Marking.{AreUnmarked}
 use Rattle.sd_apply.specs.Serving.{Serves}
+use Rattle.sd_commands.specs.Effects.{Effect, Write, Print}
 use Rattle.sd_compile.specs.declared.error.CompileError.{CompileError}
 use Rattle.sd_compile.specs.declared.error.CompileError.TheVariants as compiling
-use Rattle.sd_commands.specs.Effects.{Effect, Write, Print}
-use Rattle.sd_commands.specs.Commands.{State, Done, Step, MayFill, named, with_name}
+use Rattle.sd_compile.specs.declared.error.HoldError.{HoldError}
+use Rattle.sd_compile.specs.declared.error.HoldError.TheVariants as holding
+use Rattle.sd_runs.specs.declared.error.TakeError.{TakeError}
+use Rattle.sd_runs.specs.declared.error.TakeError.TheVariants as taking
+use Rattle.sd_commands.specs.Commands.{State, Done, OverLimit, Step, MayFill, named, formulas_of, AreWithin, PassLimit}
 use Rattle.sd_commands.specs.declared.command.RunCommand.{RunCommand}
 use Rattle.sd_commands.specs.declared.command.Effect.{Effect as CodeEffect}
 use Rattle.sd_commands.specs.declared.command.Effect.TheVariants.{WriteFile, PrintLine}
+use Rattle.sd_commands.specs.declared.error.CommandError.{CommandError}
+use Rattle.sd_commands.specs.declared.error.CommandError.TheVariants as errors
 use Rattle.sd_commands.specs.declared.state.RunState.{RunState}
 
 -- no name is bound
@@ -57,10 +62,12 @@ pub record IsOfName (code : RunState) (root : ℕ) : Type 0 where
   pub name : ℕ
   pub is : maps.get nat_cmp code.names name ≡ Some root
 
--- The code represents this state: each bound name has a root of its own in a manager with the whole bound and outside a
--- move, the manager holds no other root, no node is marked, and the cache serves it.
+-- The code represents this state: each bound name, bound once, has a root of its own in a manager with the whole bound
+-- and outside a move, the manager holds no other root, no node is marked, and the cache serves it.
 pub record Represents (code : RunState) (state : State) : Type 0 where
   pub tree : state.tree ≡ plain_tree code.manager.vtree
+  pub limit : state.limit ≡ code.limit
+  pub once : AreDistinct (names_of state)
   pub holds : (name : ℕ) → HoldsName code.manager (maps.get nat_cmp code.names name) (named state.names name)
   pub apart : (a b root : ℕ) → maps.get nat_cmp code.names a ≡ Some root → maps.get nat_cmp code.names b ≡ Some root
       → a ≡ b
@@ -94,6 +101,14 @@ removed roots (Some root) = remove roots root
 abbrev pub HasRoot : RunState → ℕ → Type 0
 HasRoot code name = IsSome (maps.get nat_cmp code.names name)
 
+-- no root is there for the name
+abbrev pub IsFree : RunState → ℕ → Type 0
+IsFree code name = maps.get nat_cmp code.names name ≡ None
+
+-- the code without a root
+abbrev pub without : RunState → ℕ → RunState
+without code root = record code { manager = without_root code.manager root }
+
 -- how many roots the code holds
 abbrev pub root_count : RunState → ℕ
 root_count code = len code.manager.roots
@@ -114,31 +129,50 @@ effects_of None = []
 effects_of (Some effect) = effect_of effect ∷ []
 
 -- the command is done with this effect, and the code represents the new state
-pub record StepsTo (input : Expression) (seen : State) (command : RunCommand) (code : RunState)
+pub record StepsTo (input : Groups) (seen : State) (command : RunCommand) (code : RunState)
     (effect : Option CodeEffect)
     : Type 0 where
   pub next : State
   pub step : Step input seen command (Done next (effects_of effect))
   pub represents : Represents code next
 
--- nothing is done outside, and the code represents the state with one more name
-pub record BindsTo (seen : State) (name : ℕ) (f : Expression) (code : RunState) (effect : Option CodeEffect)
-    : Type 0 where
+-- nothing is done outside, the total size is within the limit in this state, and the code represents it
+pub record SettlesAt (next : State) (code : RunState) (effect : Option CodeEffect) : Type 0 where
   pub quiet : effect ≡ None
-  pub represents : Represents code (with_name seen name f)
+  pub within : AreWithin (formulas_of next) next.tree next.limit
+  pub represents : Represents code next
+
+-- Why a command does not lead to this state: the total size there passes the limit, or there was no memory.
+abbrev pub IsNotSettled : State → CommandError → Type 0
+IsNotSettled next (errors.OverLimit group size limit) =
+    (group ≡ None) × PassLimit (formulas_of next) next.tree next.limit size × (limit ≡ next.limit)
+IsNotSettled next (errors.ArenaFull elements) = ⊥
+IsNotSettled next errors.OutOfMemory = Unit {0}
+
+-- an answer of an operation, as one of a command
+abbrev pub error_of_operation : TakeError → CommandError
+error_of_operation (taking.ArenaFull elements) = errors.ArenaFull elements
+error_of_operation taking.OutOfMemory = errors.OutOfMemory
+
+-- why a node is not held, as an answer of a command with this limit
+abbrev pub error_of_holding : HoldError → ℕ → CommandError
+error_of_holding (holding.OverLimit size) limit = errors.OverLimit None size limit
+error_of_holding holding.OutOfMemory limit = errors.OutOfMemory
+
+-- an answer of compiling, as one of a command
+abbrev pub error_of_compiling : CompileError → CommandError
+error_of_compiling (compiling.OverLimit group size limit) = errors.OverLimit (Some group) size limit
+error_of_compiling (compiling.ArenaFull elements) = errors.ArenaFull elements
+error_of_compiling compiling.OutOfMemory = errors.OutOfMemory
 
 -- the effect is handed out, or there was no memory for it
-abbrev pub HandsOut : Result CodeEffect AllocError → Result (Option CodeEffect) TakeError → Type 0
+abbrev pub HandsOut : Result CodeEffect AllocError → Result (Option CodeEffect) CommandError → Type 0
 HandsOut (Ok effect) result = result ≡ Ok (Some effect)
-HandsOut (Err e) result = result ≡ Err OutOfMemory
+HandsOut (Err e) result = result ≡ Err errors.OutOfMemory
 
--- the command stops: there was no memory, or the arena was full and the command may need it
-abbrev pub StopsAt : RunCommand → Table → TakeError → Type 0
-StopsAt command t OutOfMemory = Unit {0}
-StopsAt command t (ArenaFull elements) = MayFill command × IsFilled elements t
-
--- a size that passes the limit passes the greatest one
-abbrev pub IsNoLimit : CompileError → Type 0
-IsNoLimit (compiling.OverLimit group size most) = 4294967295 < size
-IsNoLimit (compiling.ArenaFull elements) = Unit {0}
-IsNoLimit compiling.OutOfMemory = Unit {0}
+-- The command stops in this state: the total size passes the limit, the arena was full and the command may need it, or
+-- there was no memory.
+abbrev pub StopsAt : Groups → State → RunCommand → Table → CommandError → Type 0
+StopsAt input seen command t (errors.OverLimit group size limit) = Step input seen command (OverLimit group size limit)
+StopsAt input seen command t (errors.ArenaFull elements) = MayFill command × IsFilled elements t
+StopsAt input seen command t errors.OutOfMemory = Unit {0}

@@ -1,44 +1,46 @@
-//! The commands that bind a name or free one.
+//! The commands that bind a name or set the limit.
 ghost use Rattle.std.specs.Prelude.{◌≡◌, ◌<◌, ◌≤◌, ◌+◌, ◌-◌, ◌^◌, IfOk, IfErr, OnErr};
 ghost use Rattle.sd_model.specs.Tree.{leaves};
 ghost use Rattle.sd_model.specs.Expression.{Expression};
 ghost use Rattle.sd_vtree.specs.Numbered.{plain_tree};
-ghost use Rattle.sd_formula.specs.Formulas.{expression_of};
-ghost use Rattle.sd_runs.specs.declared.error.TakeError.TheVariants.{OutOfMemory};
+ghost use Rattle.sd_formula.specs.Dimacs.{Groups};
 ghost use Rattle.sd_manager.specs.Literals.{IsLiteralTo};
-ghost use Rattle.sd_commands.specs.Commands.{State};
-ghost use Rattle.sd_commands.specs.Standing.{Represents, ShowsFormula, HasRoot, BindsTo, StepsTo, StopsAt};
-ghost use Rattle.sd_commands.specs.Standing.{IsAsBefore, root_count};
+ghost use Rattle.sd_commands.specs.Commands.{State, with_name};
+ghost use Rattle.sd_commands.specs.Standing.{Represents, ShowsFormula, HasRoot, IsFree, SettlesAt, IsNotSettled};
+ghost use Rattle.sd_commands.specs.Standing.{StepsTo, StopsAt, IsAsBefore, root_count};
 
 use crate::command::{Effect, RunCommand};
-use crate::input::input_node;
+use crate::error::{CommandError, compiling_error, operation_error};
 use crate::state::RunState;
 use sd_apply::negate;
-use sd_compile::connect;
+use sd_compile::laws::total_of_formulas;
+use sd_compile::{compile, connect};
 use sd_cond::{forget, given};
 use sd_file::{SddFile, build};
 use sd_formula::Formula;
 use sd_manager::NodeId;
 use sd_model::Operation;
-use sd_runs::TakeError;
 use std::alloc::Global;
 
 // Binds a name to a node that shows the diagram of a formula.
-fn bind(state: &mut RunState, name: u32, node: NodeId) -> Result<Option<Effect>, TakeError>
+fn bind(state: &mut RunState, name: u32, node: NodeId) -> Result<Option<Effect>, CommandError>
     requires represents { (seen : State) × Represents state.old seen }
     requires shown { (f : Expression) × ShowsFormula state.old.manager node f }
+    requires free { IsFree state.old name }
     requires room { root_count state.old < 2 ^ 32 - 1 }
     ensures done { (seen : State) (f : Expression) → Represents state.old seen →
         ShowsFormula state.old.manager node f
-        → IfOk result (λ effect. BindsTo seen name f state.new effect) }
-    ensures stops { IfErr result (λ e. e ≡ OutOfMemory) }
+        → IfOk result (λ effect. SettlesAt (with_name seen name f) state.new effect) }
+    ensures stops { (seen : State) (f : Expression) → Represents state.old seen →
+        ShowsFormula state.old.manager node f
+        → IfErr result (λ e. IsNotSettled (with_name seen name f) e) }
     ensures err { OnErr result (IsAsBefore state.old state.new) }
     ensures vtree { state.new.manager.vtree ≡ state.old.manager.vtree }
     ensures roots { root_count state.new ≤ root_count state.old + 1 }
 {
     match state.bind(name, node) {
         Ok(()) => Ok(None),
-        Err(_) => Err(TakeError::OutOfMemory),
+        Err(e) => Err(e),
     }
 }
 
@@ -48,20 +50,45 @@ pub(crate) fn bind_input(
     input: &Formula,
     state: &mut RunState,
     name: u32,
-) -> Result<Option<Effect>, TakeError>
+) -> Result<Option<Effect>, CommandError>
     requires represents { (seen : State) × Represents state.old seen }
     requires variables { leaves (plain_tree state.old.manager.vtree) ≡ input.now.variables }
+    requires free { IsFree state.old name }
     requires room { root_count state.old < 2 ^ 32 - 1 }
     ensures done { (seen : State) → Represents state.old seen →
-        IfOk result (λ effect. StepsTo (expression_of input.now) seen (RunCommand.Input name)
-        state.new effect) }
-    ensures stops { IfErr result (λ e. StopsAt (RunCommand.Input name) state.new.manager e) }
+        IfOk result
+        (λ effect. StepsTo input.now seen (RunCommand.Input name) state.new effect) }
+    ensures stops { (seen : State) → Represents state.old seen →
+        IfErr result (λ e. StopsAt input.now seen (RunCommand.Input name) state.new.manager e) }
     ensures err { OnErr result (IsAsBefore state.old state.new) }
     ensures vtree { state.new.manager.vtree ≡ state.old.manager.vtree }
     ensures roots { root_count state.new ≤ root_count state.old + 1 }
 {
-    match input_node(alloc, &mut state.manager, &mut state.cache, input) {
-        Ok(node) => bind(state, name, node),
+    total_of_formulas(&state.manager);
+    let limit = state.limit;
+    let root = match compile(alloc, &mut state.manager, &mut state.cache, input, limit) {
+        Ok(root) => root,
+        Err(error) => return Err(compiling_error(error)),
+    };
+    match state.name_root(name, root) {
+        Ok(()) => Ok(None),
+        Err(_) => Err(CommandError::OutOfMemory),
+    }
+}
+
+/// Sets the limit of the total size.
+pub(crate) fn set_limit(state: &mut RunState, limit: u32) -> Result<Option<Effect>, CommandError>
+    requires represents { (seen : State) × Represents state.old seen }
+    ensures done { (input : Groups) (seen : State) → Represents state.old seen →
+        IfOk result (λ effect. StepsTo input seen (RunCommand.Limit limit) state.new effect) }
+    ensures stops { (input : Groups) (seen : State) → Represents state.old seen →
+        IfErr result (λ e. StopsAt input seen (RunCommand.Limit limit) state.new.manager e) }
+    ensures err { OnErr result (IsAsBefore state.old state.new) }
+    ensures vtree { state.new.manager.vtree ≡ state.old.manager.vtree }
+    ensures roots { root_count state.new ≤ root_count state.old + 1 }
+{
+    match state.set_limit(limit) {
+        Ok(()) => Ok(None),
         Err(e) => Err(e),
     }
 }
@@ -72,22 +99,24 @@ pub(crate) fn bind_file(
     state: &mut RunState,
     name: u32,
     file: &SddFile,
-) -> Result<Option<Effect>, TakeError>
+) -> Result<Option<Effect>, CommandError>
     requires represents { (seen : State) × Represents state.old seen }
     requires variables { leaves (plain_tree state.old.manager.vtree) ≡ file.now.variables }
+    requires free { IsFree state.old name }
     requires room { root_count state.old < 2 ^ 32 - 1 }
-    ensures done { (input : Expression) (seen : State) → Represents state.old seen →
+    ensures done { (input : Groups) (seen : State) → Represents state.old seen →
         IfOk result
         (λ effect. StepsTo input seen (RunCommand.Load name file.now) state.new effect) }
-    ensures stops { IfErr result
-        (λ e. StopsAt (RunCommand.Load name file.now) state.new.manager e) }
+    ensures stops { (input : Groups) (seen : State) → Represents state.old seen →
+        IfErr result
+        (λ e. StopsAt input seen (RunCommand.Load name file.now) state.new.manager e) }
     ensures err { OnErr result (IsAsBefore state.old state.new) }
     ensures vtree { state.new.manager.vtree ≡ state.old.manager.vtree }
     ensures roots { root_count state.new ≤ root_count state.old + 1 }
 {
     match build(alloc, &mut state.manager, &mut state.cache, file) {
         Ok(node) => bind(state, name, node),
-        Err(e) => Err(e),
+        Err(e) => Err(operation_error(e)),
     }
 }
 
@@ -96,14 +125,17 @@ pub(crate) fn bind_literal(
     state: &mut RunState,
     name: u32,
     literal: i32,
-) -> Result<Option<Effect>, TakeError>
+) -> Result<Option<Effect>, CommandError>
     requires represents { (seen : State) × Represents state.old seen }
     requires literal { IsLiteralTo (leaves (plain_tree state.old.manager.vtree)) literal }
+    requires free { IsFree state.old name }
     requires room { root_count state.old < 2 ^ 32 - 1 }
-    ensures done { (input : Expression) (seen : State) → Represents state.old seen →
+    ensures done { (input : Groups) (seen : State) → Represents state.old seen →
         IfOk result
         (λ effect. StepsTo input seen (RunCommand.Literal name literal) state.new effect) }
-    ensures stops { IfErr result (λ e. e ≡ OutOfMemory) }
+    ensures stops { (input : Groups) (seen : State) → Represents state.old seen →
+        IfErr result
+        (λ e. StopsAt input seen (RunCommand.Literal name literal) state.new.manager e) }
     ensures err { OnErr result (IsAsBefore state.old state.new) }
     ensures vtree { state.new.manager.vtree ≡ state.old.manager.vtree }
     ensures roots { root_count state.new ≤ root_count state.old + 1 }
@@ -117,13 +149,16 @@ pub(crate) fn bind_constant(
     state: &mut RunState,
     name: u32,
     value: bool,
-) -> Result<Option<Effect>, TakeError>
+) -> Result<Option<Effect>, CommandError>
     requires represents { (seen : State) × Represents state.old seen }
+    requires free { IsFree state.old name }
     requires room { root_count state.old < 2 ^ 32 - 1 }
-    ensures done { (input : Expression) (seen : State) → Represents state.old seen →
+    ensures done { (input : Groups) (seen : State) → Represents state.old seen →
         IfOk result
         (λ effect. StepsTo input seen (RunCommand.Constant name value) state.new effect) }
-    ensures stops { IfErr result (λ e. e ≡ OutOfMemory) }
+    ensures stops { (input : Groups) (seen : State) → Represents state.old seen →
+        IfErr result
+        (λ e. StopsAt input seen (RunCommand.Constant name value) state.new.manager e) }
     ensures err { OnErr result (IsAsBefore state.old state.new) }
     ensures vtree { state.new.manager.vtree ≡ state.old.manager.vtree }
     ensures roots { root_count state.new ≤ root_count state.old + 1 }
@@ -140,16 +175,18 @@ pub(crate) fn bind_combination(
     name: u32,
     a: u32,
     b: u32,
-) -> Result<Option<Effect>, TakeError>
+) -> Result<Option<Effect>, CommandError>
     requires represents { (seen : State) × Represents state.old seen }
     requires first { HasRoot state.old a }
     requires second { HasRoot state.old b }
+    requires free { IsFree state.old name }
     requires room { root_count state.old < 2 ^ 32 - 1 }
-    ensures done { (input : Expression) (seen : State) → Represents state.old seen →
-        IfOk result (λ effect. StepsTo input seen (RunCommand.Combine operation name a b) state.new
-        effect) }
-    ensures stops { IfErr result
-        (λ e. StopsAt (RunCommand.Combine operation name a b) state.new.manager e) }
+    ensures done { (input : Groups) (seen : State) → Represents state.old seen →
+        IfOk result
+        (λ effect. StepsTo input seen (RunCommand.Combine operation name a b) state.new effect) }
+    ensures stops { (input : Groups) (seen : State) → Represents state.old seen →
+        IfErr result
+        (λ e. StopsAt input seen (RunCommand.Combine operation name a b) state.new.manager e) }
     ensures err { OnErr result (IsAsBefore state.old state.new) }
     ensures vtree { state.new.manager.vtree ≡ state.old.manager.vtree }
     ensures roots { root_count state.new ≤ root_count state.old + 1 }
@@ -165,7 +202,7 @@ pub(crate) fn bind_combination(
         second,
     ) {
         Ok(joined) => bind(state, name, joined),
-        Err(e) => Err(e),
+        Err(e) => Err(operation_error(e)),
     }
 }
 
@@ -175,13 +212,17 @@ pub(crate) fn bind_negation(
     state: &mut RunState,
     name: u32,
     a: u32,
-) -> Result<Option<Effect>, TakeError>
+) -> Result<Option<Effect>, CommandError>
     requires represents { (seen : State) × Represents state.old seen }
     requires bound { HasRoot state.old a }
+    requires free { IsFree state.old name }
     requires room { root_count state.old < 2 ^ 32 - 1 }
-    ensures done { (input : Expression) (seen : State) → Represents state.old seen →
-        IfOk result (λ effect. StepsTo input seen (RunCommand.Negate name a) state.new effect) }
-    ensures stops { IfErr result (λ e. StopsAt (RunCommand.Negate name a) state.new.manager e) }
+    ensures done { (input : Groups) (seen : State) → Represents state.old seen →
+        IfOk result
+        (λ effect. StepsTo input seen (RunCommand.Negate name a) state.new effect) }
+    ensures stops { (input : Groups) (seen : State) → Represents state.old seen →
+        IfErr result
+        (λ e. StopsAt input seen (RunCommand.Negate name a) state.new.manager e) }
     ensures err { OnErr result (IsAsBefore state.old state.new) }
     ensures vtree { state.new.manager.vtree ≡ state.old.manager.vtree }
     ensures roots { root_count state.new ≤ root_count state.old + 1 }
@@ -189,7 +230,7 @@ pub(crate) fn bind_negation(
     let positive = state.node(a);
     match negate(alloc, &mut state.manager, &mut state.cache, positive) {
         Ok(opposite) => bind(state, name, opposite),
-        Err(e) => Err(e),
+        Err(e) => Err(operation_error(e)),
     }
 }
 
@@ -200,16 +241,18 @@ pub(crate) fn bind_condition(
     name: u32,
     a: u32,
     literal: i32,
-) -> Result<Option<Effect>, TakeError>
+) -> Result<Option<Effect>, CommandError>
     requires represents { (seen : State) × Represents state.old seen }
     requires bound { HasRoot state.old a }
     requires literal { IsLiteralTo (leaves (plain_tree state.old.manager.vtree)) literal }
+    requires free { IsFree state.old name }
     requires room { root_count state.old < 2 ^ 32 - 1 }
-    ensures done { (input : Expression) (seen : State) → Represents state.old seen →
+    ensures done { (input : Groups) (seen : State) → Represents state.old seen →
         IfOk result
         (λ effect. StepsTo input seen (RunCommand.Given name a literal) state.new effect) }
-    ensures stops { IfErr result
-        (λ e. StopsAt (RunCommand.Given name a literal) state.new.manager e) }
+    ensures stops { (input : Groups) (seen : State) → Represents state.old seen →
+        IfErr result
+        (λ e. StopsAt input seen (RunCommand.Given name a literal) state.new.manager e) }
     ensures err { OnErr result (IsAsBefore state.old state.new) }
     ensures vtree { state.new.manager.vtree ≡ state.old.manager.vtree }
     ensures roots { root_count state.new ≤ root_count state.old + 1 }
@@ -217,7 +260,7 @@ pub(crate) fn bind_condition(
     let node = state.node(a);
     match given(alloc, &mut state.manager, &mut state.cache, node, literal) {
         Ok(conditioned) => bind(state, name, conditioned),
-        Err(e) => Err(e),
+        Err(e) => Err(operation_error(e)),
     }
 }
 
@@ -228,17 +271,19 @@ pub(crate) fn bind_forgotten(
     name: u32,
     a: u32,
     variable: u32,
-) -> Result<Option<Effect>, TakeError>
+) -> Result<Option<Effect>, CommandError>
     requires represents { (seen : State) × Represents state.old seen }
     requires bound { HasRoot state.old a }
     requires at_least_one { 1 ≤ variable }
     requires within_limit { variable ≤ leaves (plain_tree state.old.manager.vtree) }
+    requires free { IsFree state.old name }
     requires room { root_count state.old < 2 ^ 32 - 1 }
-    ensures done { (input : Expression) (seen : State) → Represents state.old seen →
+    ensures done { (input : Groups) (seen : State) → Represents state.old seen →
         IfOk result
         (λ effect. StepsTo input seen (RunCommand.Forget name a variable) state.new effect) }
-    ensures stops { IfErr result
-        (λ e. StopsAt (RunCommand.Forget name a variable) state.new.manager e) }
+    ensures stops { (input : Groups) (seen : State) → Represents state.old seen →
+        IfErr result
+        (λ e. StopsAt input seen (RunCommand.Forget name a variable) state.new.manager e) }
     ensures err { OnErr result (IsAsBefore state.old state.new) }
     ensures vtree { state.new.manager.vtree ≡ state.old.manager.vtree }
     ensures roots { root_count state.new ≤ root_count state.old + 1 }
@@ -246,6 +291,6 @@ pub(crate) fn bind_forgotten(
     let node = state.node(a);
     match forget(alloc, &mut state.manager, &mut state.cache, node, variable) {
         Ok(forgotten) => bind(state, name, forgotten),
-        Err(e) => Err(e),
+        Err(e) => Err(operation_error(e)),
     }
 }

@@ -27,6 +27,8 @@ pub enum RunCommand {
     Forget(u32, u32, u32),
     /// Frees a name.
     Drop(u32),
+    /// Sets the limit of the total size.
+    Limit(u32),
     /// Prints whether the formulas of two names are one function.
     Same(u32, u32),
     /// Prints the size of a name's diagram.
@@ -37,6 +39,13 @@ pub enum RunCommand {
     Write(u32, Name),
     /// Writes the text of the vtree to a file.
     WriteVtree(Name),
+}
+
+/// A command with the number of its line, counted from 1, or 0 where it stands in no line.
+#[derive(Drop)]
+pub struct NumberedCommand {
+    pub line: u32,
+    pub command: RunCommand,
 }
 
 /// What a command does outside.

@@ -1,7 +1,7 @@
 //! The commands that write a file or print a line.
 ghost use Rattle.std.specs.Prelude.{◌≡◌, Some, length, IfOk};
 ghost use Rattle.sd_model.specs.Tree.{leaves};
-ghost use Rattle.sd_model.specs.Expression.{Expression};
+ghost use Rattle.sd_formula.specs.Dimacs.{Groups};
 ghost use Rattle.sd_vtree.specs.Numbered.{plain_tree};
 ghost use Rattle.sd_commands.specs.Commands.{State, generated_line, size_line, same_line, value_line};
 ghost use Rattle.sd_commands.specs.Standing.{Represents, HasRoot, StepsTo};
@@ -22,7 +22,7 @@ pub(crate) fn print_generated(
     variables: u32,
     groups: u32,
 ) -> Result<Effect, AllocError>
-    ensures { (input : Expression) (seen : State) (state : SeenState) → Represents state seen →
+    ensures { (input : Groups) (seen : State) (state : SeenState) → Represents state seen →
         IfOk result (λ effect. StepsTo input seen (RunCommand.Generated variables groups) state
         (Some effect)) }
 {
@@ -40,7 +40,7 @@ pub(crate) fn print_same(
     requires represents { (seen : State) × Represents state.now seen }
     requires first { HasRoot state.now a }
     requires second { HasRoot state.now b }
-    ensures { (input : Expression) (seen : State) → Represents state.now seen →
+    ensures { (input : Groups) (seen : State) → Represents state.now seen →
         IfOk result (λ effect. StepsTo input seen (RunCommand.Same a b) state.now (Some effect)) }
 {
     let same = state.manager.same(state.root(a), state.root(b));
@@ -56,7 +56,7 @@ pub(crate) fn print_size(
 ) -> Result<Effect, AllocError>
     requires represents { (seen : State) × Represents state.old seen }
     requires bound { HasRoot state.old name }
-    ensures done { (input : Expression) (seen : State) → Represents state.old seen →
+    ensures done { (input : Groups) (seen : State) → Represents state.old seen →
         IfOk result (λ effect. StepsTo input seen (RunCommand.Size name) state.new (Some effect)) }
     ensures same { state.new ≡ state.old }
 {
@@ -75,7 +75,7 @@ pub(crate) fn print_value(
     requires represents { (seen : State) × Represents state.now seen }
     requires bound { HasRoot state.now name }
     requires values { length bits.now ≡ leaves (plain_tree state.now.manager.vtree) }
-    ensures { (input : Expression) (seen : State) → Represents state.now seen →
+    ensures { (input : Groups) (seen : State) → Represents state.now seen →
         IfOk result (λ effect. StepsTo input seen (RunCommand.Value name bits.now) state.now
         (Some effect)) }
 {
@@ -93,7 +93,7 @@ pub(crate) fn write_diagram(
 ) -> Result<Effect, AllocError>
     requires represents { (seen : State) × Represents state.now seen }
     requires bound { HasRoot state.now name }
-    ensures { (input : Expression) (seen : State) → Represents state.now seen →
+    ensures { (input : Groups) (seen : State) → Represents state.now seen →
         IfOk result (λ effect. StepsTo input seen (RunCommand.Write name file.now) state.now
         (Some effect)) }
 {
@@ -108,7 +108,7 @@ pub(crate) fn write_vtree_text(
     state: &RunState,
     file: &Name,
 ) -> Result<Effect, AllocError>
-    ensures { (input : Expression) (seen : State) → Represents state.now seen →
+    ensures { (input : Groups) (seen : State) → Represents state.now seen →
         IfOk result (λ effect. StepsTo input seen (RunCommand.WriteVtree file.now) state.now
         (Some effect)) }
 {

@@ -5,12 +5,13 @@
 mod bind;
 mod command;
 mod effects;
-mod input;
+mod error;
 mod state;
 mod steps;
 #[cfg(test)]
 mod tests;
 
-pub use command::{Effect, RunCommand};
+pub use command::{Effect, NumberedCommand, RunCommand};
+pub use error::CommandError;
 pub use state::RunState;
 pub use steps::step;

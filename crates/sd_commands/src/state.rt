@@ -1,5 +1,6 @@
 //! What a run holds between two commands.
-ghost use Rattle.std.specs.Prelude.{◌≡◌, ℕ, [], ◌∷◌, ◌<◌, ◌≤◌, ◌+◌, ◌-◌, ◌^◌, Some, None, IfSome, IfOk, OnOk, OnErr};
+ghost use Rattle.std.specs.Prelude.{◌≡◌, ℕ, [], ◌∷◌, ◌<◌, ◌≤◌, ◌+◌, ◌-◌, ◌^◌, Some, None, IfSome, IfOk, IfErr};
+ghost use Rattle.std.specs.Prelude.{OnOk, OnErr};
 ghost use Rattle.std.specs.Option.{IsSome};
 ghost use Rattle.std.specs.FinMap.{get};
 ghost use Rattle.std.specs.BTreeMap as maps;
@@ -7,11 +8,14 @@ ghost use Rattle.std.specs.Ordering.{nat_cmp};
 ghost use Rattle.sd_model.specs.Expression.{Expression};
 ghost use Rattle.sd_model.specs.Size.{HasSize};
 ghost use Rattle.sd_vtree.specs.Numbered.{plain_tree};
-ghost use Rattle.sd_commands.specs.Commands.{State, with_name, dropped, formula_named};
-ghost use Rattle.sd_commands.specs.Standing.{Represents, HoldsValue, ShowsFormula, HasRoot};
-ghost use Rattle.sd_commands.specs.Standing.{start, root_count, removed, IsAsBefore};
+ghost use Rattle.sd_commands.specs.Commands.{State, with_name, dropped, formula_named, formulas_of, AreWithin};
+ghost use Rattle.sd_commands.specs.Standing.{Represents, HoldsValue, ShowsFormula, HasRoot, IsFree, IsNotSettled};
+ghost use Rattle.sd_commands.specs.Standing.{start, root_count, removed, without, IsAsBefore};
 
+use crate::error::{CommandError, holding_error};
 use sd_cache::Cache;
+use sd_compile::laws::{total_is_of_formulas, total_of_formulas};
+use sd_compile::{LEAST_GARBAGE, hold_within, sweep_past, total_over};
 use sd_manager::{Manager, NodeId, Root};
 use sd_sweep::size_of;
 use sd_vtree::Vtree;
@@ -21,19 +25,22 @@ use std::collections::BTreeMap;
 /// The most elements that the arena of the diagrams may hold.
 const BOUND: u32 = 2_147_483_647;
 
-/// The diagrams of a run, and a root for each bound name.
+/// The diagrams of a run, a root for each bound name, and the limit of the total size.
 #[derive(Drop)]
 pub struct RunState {
     pub manager: Manager,
     pub cache: Cache,
     pub(crate) names: BTreeMap<u32, Root>,
+    pub(crate) limit: u32,
+    // the number of elements in use from which on a sweep pays
+    pub(crate) most: u32,
 }
 
 impl RunState {
     /// No name is bound. The only error: out of memory.
-    pub fn new(alloc: Global, vtree: Vtree) -> Result<RunState, AllocError>
-        ensures represents { IfOk result (λ state. (limit : ℕ)
-            → Represents state (start (plain_tree vtree) limit)) }
+    pub fn new(alloc: Global, vtree: Vtree, limit: u32) -> Result<RunState, AllocError>
+        ensures represents { IfOk result (λ state.
+            Represents state (start (plain_tree vtree) limit)) }
         ensures vtree { IfOk result (λ state. state.manager.vtree ≡ vtree) }
         ensures roots { IfOk result (λ state. root_count state ≡ 0) }
     {
@@ -43,6 +50,8 @@ impl RunState {
             manager,
             cache,
             names: BTreeMap::new(alloc),
+            limit,
+            most: LEAST_GARBAGE,
         })
     }
 
@@ -83,25 +92,53 @@ impl RunState {
         size_of(&mut self.manager, root)
     }
 
-    /// Binds a name to a node that shows the diagram of a formula, and releases the root that the name had. The only
-    /// error: out of memory, and then all is as before.
-    pub(crate) fn bind(&mut self, name: u32, node: NodeId) -> Result<(), AllocError>
+    /// Binds a free name to a node that shows the diagram of a formula, if the total size is then within the limit.
+    /// Else all is as before.
+    pub(crate) fn bind(&mut self, name: u32, node: NodeId) -> Result<(), CommandError>
         requires represents { (seen : State) × Represents self.old seen }
         requires shown { (f : Expression) × ShowsFormula self.old.manager node f }
+        requires free { IsFree self.old name }
         requires room { root_count self.old < 2 ^ 32 - 1 }
         ensures represents { OnOk result ((seen : State) (f : Expression) → Represents self.old seen
             → ShowsFormula self.old.manager node f → Represents self.new (with_name seen name f)) }
+        ensures within { OnOk result ((seen : State) (f : Expression) → Represents self.old seen →
+            ShowsFormula self.old.manager node f
+            → AreWithin (formulas_of (with_name seen name f)) seen.tree seen.limit) }
+        ensures refused { (seen : State) (f : Expression) → Represents self.old seen →
+            ShowsFormula self.old.manager node f →
+            IfErr result (λ e. IsNotSettled (with_name seen name f) e) }
         ensures err { OnErr result (IsAsBefore self.old self.new) }
         ensures vtree { self.new.manager.vtree ≡ self.old.manager.vtree }
         ensures roots { root_count self.new ≤ root_count self.old + 1 }
     {
-        let root = match self.manager.hold(node) {
+        total_of_formulas(&self.manager);
+        let limit = self.limit;
+        let root = match hold_within(&mut self.manager, node, limit) {
             Ok(root) => root,
-            Err(e) => return Err(e),
+            Err(error) => return Err(holding_error(error, limit)),
         };
+        match self.name_root(name, root) {
+            Ok(()) => Ok(()),
+            Err(_) => Err(CommandError::OutOfMemory),
+        }
+    }
+
+    /// Binds a free name to a root that no other name has, and sweeps garbage. The only error: out of memory, and then
+    /// the root is released.
+    pub(crate) fn name_root(&mut self, name: u32, root: Root) -> Result<(), AllocError>
+        requires represents { (seen : State) × Represents (without self.old root) seen }
+        requires holds { (f : Expression) × HoldsValue self.old.manager root f }
+        requires free { IsFree self.old name }
+        ensures represents { OnOk result ((seen : State) (f : Expression) →
+            Represents (without self.old root) seen → HoldsValue self.old.manager root f
+            → Represents self.new (with_name seen name f)) }
+        ensures err { OnErr result (IsAsBefore (without self.old root) self.new) }
+        ensures vtree { self.new.manager.vtree ≡ self.old.manager.vtree }
+        ensures roots { root_count self.new ≤ root_count self.old }
+    {
         match self.names.insert(name, root) {
-            Ok(former) => {
-                release_any(&mut self.manager, former);
+            Ok(_) => {
+                self.sweep();
                 Ok(())
             }
             Err(refused) => {
@@ -110,6 +147,44 @@ impl RunState {
                 Err(AllocError)
             }
         }
+    }
+
+    // Takes garbage away where there is enough of it.
+    fn sweep(&mut self)
+        requires represents { (seen : State) × Represents self.old seen }
+        ensures represents { (seen : State) → Represents self.old seen → Represents self.new seen }
+        ensures vtree { self.new.manager.vtree ≡ self.old.manager.vtree }
+        ensures roots { root_count self.new ≡ root_count self.old }
+    {
+        sweep_past(
+            &mut self.manager,
+            &self.cache,
+            &mut self.most,
+            false,
+            self.limit,
+        );
+    }
+
+    /// Sets the limit, if the total size is within it. Else nothing is changed.
+    pub(crate) fn set_limit(&mut self, limit: u32) -> Result<(), CommandError>
+        requires represents { (seen : State) × Represents self.old seen }
+        ensures within { OnOk result ((seen : State) → Represents self.old seen →
+            AreWithin (formulas_of seen) seen.tree limit) }
+        ensures ok { OnOk result (self.new ≡ record self.old { limit = limit }) }
+        ensures refused { (seen : State) → Represents self.old seen →
+            IfErr result (λ e. IsNotSettled (record seen { limit = limit }) e) }
+        ensures err { OnErr result (self.new ≡ self.old) }
+    {
+        total_is_of_formulas(&self.manager);
+        if let Some(size) = total_over(&mut self.manager, limit) {
+            return Err(CommandError::OverLimit {
+                group: None,
+                size,
+                limit,
+            });
+        }
+        self.limit = limit;
+        Ok(())
     }
 
     /// Frees a bound name, and releases its root.

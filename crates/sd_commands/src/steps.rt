@@ -2,7 +2,6 @@
 ghost use Rattle.std.specs.Prelude.{◌≡◌, ◌<◌, ◌≤◌, ◌+◌, ◌-◌, ◌^◌, IfOk, IfErr, OnErr};
 ghost use Rattle.sd_model.specs.Tree.{leaves};
 ghost use Rattle.sd_vtree.specs.Numbered.{plain_tree};
-ghost use Rattle.sd_formula.specs.Formulas.{expression_of};
 ghost use Rattle.sd_commands.specs.Commands.{State};
 ghost use Rattle.sd_commands.specs.Fits.{Fits};
 ghost use Rattle.sd_commands.specs.Standing.{Represents, StepsTo, StopsAt, HandsOut, IsAsBefore};
@@ -10,33 +9,36 @@ ghost use Rattle.sd_commands.specs.Standing.{names_of, root_count};
 
 use crate::bind::{
     bind_combination, bind_condition, bind_constant, bind_file, bind_forgotten, bind_input,
-    bind_literal, bind_negation,
+    bind_literal, bind_negation, set_limit,
 };
 use crate::command::{Effect, RunCommand};
 use crate::effects::{
     print_generated, print_same, print_size, print_value, write_diagram, write_vtree_text,
 };
+use crate::error::CommandError;
 use crate::state::RunState;
 use sd_formula::Formula;
-use sd_runs::TakeError;
 use std::alloc::{AllocError, Global};
 
-/// Does one command, up to its effect, which is handed out. ArenaFull where the elements of a node find no room in
-/// the arena, and OutOfMemory where memory runs out; then the names, the tree and what each root holds are as before.
+/// Does one command, up to its effect, which is handed out. OverLimit where the total size passes the limit after a
+/// command that binds a name or sets the limit, or after a group of the input; ArenaFull where the elements of a node
+/// find no room in the arena; and OutOfMemory where memory runs out. Then the names, the tree, the limit and what each
+/// root holds are as before.
 pub fn step(
     alloc: Global,
     input: &Formula,
     state: &mut RunState,
     command: &RunCommand,
-) -> Result<Option<Effect>, TakeError>
+) -> Result<Option<Effect>, CommandError>
     requires represents { (seen : State) × Represents state.old seen
         × Fits input.now.variables (names_of seen) command.now }
     requires variables { leaves (plain_tree state.old.manager.vtree) ≡ input.now.variables }
     requires room { root_count state.old < 2 ^ 32 - 1 }
     ensures done { (seen : State) → Represents state.old seen →
         IfOk result
-        (λ effect. StepsTo (expression_of input.now) seen command.now state.new effect) }
-    ensures stops { IfErr result (λ e. StopsAt command.now state.new.manager e) }
+        (λ effect. StepsTo input.now seen command.now state.new effect) }
+    ensures stops { (seen : State) → Represents state.old seen →
+        IfErr result (λ e. StopsAt input.now seen command.now state.new.manager e) }
     ensures err { OnErr result (IsAsBefore state.old state.new) }
     ensures vtree { state.new.manager.vtree ≡ state.old.manager.vtree }
     ensures roots { root_count state.new ≤ root_count state.old + 1 }
@@ -59,6 +61,7 @@ pub fn step(
             state.free(*name);
             Ok(None)
         }
+        RunCommand::Limit(limit) => set_limit(state, *limit),
         RunCommand::Same(a, b) => or_out_of_memory(print_same(alloc, state, *a, *b)),
         RunCommand::Size(name) => or_out_of_memory(print_size(alloc, state, *name)),
         RunCommand::Value(name, bits) => or_out_of_memory(print_value(alloc, state, *name, bits)),
@@ -68,11 +71,11 @@ pub fn step(
 }
 
 // The effect, where there was memory for it.
-fn or_out_of_memory(effect: Result<Effect, AllocError>) -> Result<Option<Effect>, TakeError>
+fn or_out_of_memory(effect: Result<Effect, AllocError>) -> Result<Option<Effect>, CommandError>
     ensures { HandsOut effect result }
 {
     match effect {
         Ok(effect) => Ok(Some(effect)),
-        Err(_) => Err(TakeError::OutOfMemory),
+        Err(_) => Err(CommandError::OutOfMemory),
     }
 }

@@ -1,9 +1,11 @@
-use Rattle.std.proofs.Common.{refl}
+use Rattle.std.proofs.Common.{sym, subst, ◌∙◌}
 use Rattle.sd_model.specs.Expression.{Combined}
-use Rattle.sd_commands.specs.Commands.{formula_named}
 use Rattle.sd_commands.proofs.Values.{combined_value, value_node}
+use Rattle.sd_commands.specs.Commands.{with_name, formula_named}
+use Rattle.sd_commands.specs.Standing.{StopsAt}
+use Rattle.sd_commands.specs.declared.command.RunCommand.TheVariants as commands
 use Rattle.sd_commands.proofs.Standing.{stands_on, as_before_on, as_before_then}
-use Rattle.sd_commands.proofs.Stepping.{bound_steps}
+use Rattle.sd_commands.proofs.Stepping.{settled_steps, settled_stops, operation_stops}
 use Rattle.sd_commands.proofs.bind.bind_combination.Goals as goal
 
 pub bind-requires-clause-represents : goal.bind-requires-clause-represents
@@ -23,13 +25,29 @@ bind-requires-clause-shown c = (
 
 pub returns-in-Ok-clause-done : goal.returns-in-Ok-clause-done
 returns-in-Ok-clause-done c = λ input seen was.
-    bound_steps _ seen _ c.args.name
-    (Combined c.args.operation (formula_named seen c.args.a) (formula_named seen c.args.b)) _ _
-    refl
-    (c.bind.ensures.done seen (Combined c.args.operation (formula_named seen c.args.a) (formula_named seen c.args.b))
+    let f = Combined c.args.operation (formula_named seen c.args.a) (formula_named seen c.args.b) in
+    settled_steps input seen (with_name seen c.args.name f) _ _ _ (λ outcome h. h)
+    (c.bind.ensures.done seen f
     (stands_on c.args.state.now _ _ seen was c.in-Ok.ensures.kept c.in-Ok.ensures.serves)
     (combined_value c.args.state.now.manager _ c.args.operation _ _ _ _ _ c.in-Ok.ensures.kept
     (c.node-first.ensures seen was) (c.node-second.ensures seen was) c.in-Ok.ensures.ok))
+
+pub returns-in-Ok-clause-stops : goal.returns-in-Ok-clause-stops
+returns-in-Ok-clause-stops c = λ input seen was.
+    let f = Combined c.args.operation (formula_named seen c.args.a) (formula_named seen c.args.b) in
+    settled_stops input seen (with_name seen c.args.name f)
+    (commands.Combine c.args.operation c.args.name c.args.a c.args.b) c.bind.new.state.manager _ (λ outcome h. h)
+    (c.bind.ensures.stops seen f
+    (stands_on c.args.state.now _ _ seen was c.in-Ok.ensures.kept c.in-Ok.ensures.serves)
+    (combined_value c.args.state.now.manager _ c.args.operation _ _ _ _ _ c.in-Ok.ensures.kept
+    (c.node-first.ensures seen was) (c.node-second.ensures seen was) c.in-Ok.ensures.ok))
+
+pub returns-in-Err-clause-stops : goal.returns-in-Err-clause-stops
+returns-in-Err-clause-stops c = λ input seen was.
+    let command = commands.Combine c.args.operation c.args.name c.args.a c.args.b in
+    subst (λ e. StopsAt input seen command c.connect.new.m e) (sym c.operation_error.ensures)
+    (operation_stops input seen command c.connect.new.m c.in-Err.e tt (c.in-Err.ensures.kept.bound ∙ was.bound)
+    c.in-Err.ensures.rule)
 
 pub connect-requires-clause-first : goal.connect-requires-clause-first
 connect-requires-clause-first c =

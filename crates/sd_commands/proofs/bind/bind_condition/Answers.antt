@@ -1,11 +1,13 @@
-use Rattle.std.proofs.Common.{ℤ, refl, subst, w32}
+use Rattle.std.proofs.Common.{ℤ, sym, subst, ◌∙◌, w32}
 use Rattle.std.proofs.lemmas.Int.{to_z-of_z}
 use Rattle.sd_model.specs.Expression.{Conditioned}
 use Rattle.sd_cond.specs.Answers.{Conditions}
-use Rattle.sd_commands.specs.Commands.{formula_named}
 use Rattle.sd_commands.proofs.Values.{conditioned_value, value_node}
+use Rattle.sd_commands.specs.Commands.{with_name, formula_named}
+use Rattle.sd_commands.specs.Standing.{StopsAt}
+use Rattle.sd_commands.specs.declared.command.RunCommand.TheVariants as commands
 use Rattle.sd_commands.proofs.Standing.{stands_on, as_before_on, as_before_then}
-use Rattle.sd_commands.proofs.Stepping.{bound_steps}
+use Rattle.sd_commands.proofs.Stepping.{settled_steps, settled_stops, operation_stops}
 use Rattle.sd_commands.proofs.bind.bind_condition.Goals as goal
 
 pub bind-requires-clause-represents : goal.bind-requires-clause-represents
@@ -25,13 +27,33 @@ bind-requires-clause-shown c = (
 
 pub returns-in-Ok-clause-done : goal.returns-in-Ok-clause-done
 returns-in-Ok-clause-done c = λ input seen was.
-    bound_steps _ seen _ c.args.name (Conditioned (formula_named seen c.args.a) c.args.literal) _ _ refl
-    (c.bind.ensures.done seen (Conditioned (formula_named seen c.args.a) c.args.literal)
+    let f = Conditioned (formula_named seen c.args.a) c.args.literal in
+    settled_steps input seen (with_name seen c.args.name f) _ _ _ (λ outcome h. h)
+    (c.bind.ensures.done seen f
     (stands_on c.args.state.now _ _ seen was c.in-Ok.ensures.kept c.in-Ok.ensures.serves)
     (conditioned_value c.args.state.now.manager _ _ _ _ _ c.in-Ok.ensures.kept c.requires.literal
     (c.node-node.ensures seen was)
     (subst (λ (z : ℤ). Conditions c.args.state.now.manager c.given.new.m c.node-node.result z c.in-Ok.conditioned)
     (to_z-of_z w32 c.args.literal c.ranges.literal) c.in-Ok.ensures.ok)))
+
+pub returns-in-Ok-clause-stops : goal.returns-in-Ok-clause-stops
+returns-in-Ok-clause-stops c = λ input seen was.
+    let f = Conditioned (formula_named seen c.args.a) c.args.literal in
+    settled_stops input seen (with_name seen c.args.name f)
+    (commands.Given c.args.name c.args.a c.args.literal) c.bind.new.state.manager _ (λ outcome h. h)
+    (c.bind.ensures.stops seen f
+    (stands_on c.args.state.now _ _ seen was c.in-Ok.ensures.kept c.in-Ok.ensures.serves)
+    (conditioned_value c.args.state.now.manager _ _ _ _ _ c.in-Ok.ensures.kept c.requires.literal
+    (c.node-node.ensures seen was)
+    (subst (λ (z : ℤ). Conditions c.args.state.now.manager c.given.new.m c.node-node.result z c.in-Ok.conditioned)
+    (to_z-of_z w32 c.args.literal c.ranges.literal) c.in-Ok.ensures.ok)))
+
+pub returns-in-Err-clause-stops : goal.returns-in-Err-clause-stops
+returns-in-Err-clause-stops c = λ input seen was.
+    let command = commands.Given c.args.name c.args.a c.args.literal in
+    subst (λ e. StopsAt input seen command c.given.new.m e) (sym c.operation_error.ensures)
+    (operation_stops input seen command c.given.new.m c.in-Err.e tt (c.in-Err.ensures.kept.bound ∙ was.bound)
+    c.in-Err.ensures.rule)
 
 pub given-requires-clause-node : goal.given-requires-clause-node
 given-requires-clause-node c =

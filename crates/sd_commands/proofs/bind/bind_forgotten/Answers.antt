@@ -1,9 +1,11 @@
-use Rattle.std.proofs.Common.{refl}
+use Rattle.std.proofs.Common.{sym, subst, ◌∙◌}
 use Rattle.sd_model.specs.Expression.{Forgotten}
-use Rattle.sd_commands.specs.Commands.{formula_named}
 use Rattle.sd_commands.proofs.Values.{forgotten_value, value_node}
+use Rattle.sd_commands.specs.Commands.{with_name, formula_named}
+use Rattle.sd_commands.specs.Standing.{StopsAt}
+use Rattle.sd_commands.specs.declared.command.RunCommand.TheVariants as commands
 use Rattle.sd_commands.proofs.Standing.{stands_on, as_before_on, as_before_then}
-use Rattle.sd_commands.proofs.Stepping.{bound_steps}
+use Rattle.sd_commands.proofs.Stepping.{settled_steps, settled_stops, operation_stops}
 use Rattle.sd_commands.proofs.bind.bind_forgotten.Goals as goal
 
 pub bind-requires-clause-represents : goal.bind-requires-clause-represents
@@ -16,18 +18,34 @@ pub bind-requires-clause-shown : goal.bind-requires-clause-shown
 bind-requires-clause-shown c = (
   Forgotten (formula_named c.requires.represents.0 c.args.a) c.args.variable,
   forgotten_value c.args.state.now.manager _ _ _ _ _ c.in-Ok.ensures.kept c.requires.at_least_one
-      c.requires.within_limit
-      (c.node-node.ensures c.requires.represents.0 c.requires.represents.1) c.in-Ok.ensures.ok,
+      c.requires.within_limit (c.node-node.ensures c.requires.represents.0 c.requires.represents.1) c.in-Ok.ensures.ok,
 )
 
 pub returns-in-Ok-clause-done : goal.returns-in-Ok-clause-done
 returns-in-Ok-clause-done c = λ input seen was.
-    bound_steps _ seen _ c.args.name (Forgotten (formula_named seen c.args.a) c.args.variable) _ _ refl
-    (c.bind.ensures.done seen (Forgotten (formula_named seen c.args.a) c.args.variable)
+    let f = Forgotten (formula_named seen c.args.a) c.args.variable in
+    settled_steps input seen (with_name seen c.args.name f) _ _ _ (λ outcome h. h)
+    (c.bind.ensures.done seen f
     (stands_on c.args.state.now _ _ seen was c.in-Ok.ensures.kept c.in-Ok.ensures.serves)
     (forgotten_value c.args.state.now.manager _ _ _ _ _ c.in-Ok.ensures.kept c.requires.at_least_one
-    c.requires.within_limit
-    (c.node-node.ensures seen was) c.in-Ok.ensures.ok))
+    c.requires.within_limit (c.node-node.ensures seen was) c.in-Ok.ensures.ok))
+
+pub returns-in-Ok-clause-stops : goal.returns-in-Ok-clause-stops
+returns-in-Ok-clause-stops c = λ input seen was.
+    let f = Forgotten (formula_named seen c.args.a) c.args.variable in
+    settled_stops input seen (with_name seen c.args.name f)
+    (commands.Forget c.args.name c.args.a c.args.variable) c.bind.new.state.manager _ (λ outcome h. h)
+    (c.bind.ensures.stops seen f
+    (stands_on c.args.state.now _ _ seen was c.in-Ok.ensures.kept c.in-Ok.ensures.serves)
+    (forgotten_value c.args.state.now.manager _ _ _ _ _ c.in-Ok.ensures.kept c.requires.at_least_one
+    c.requires.within_limit (c.node-node.ensures seen was) c.in-Ok.ensures.ok))
+
+pub returns-in-Err-clause-stops : goal.returns-in-Err-clause-stops
+returns-in-Err-clause-stops c = λ input seen was.
+    let command = commands.Forget c.args.name c.args.a c.args.variable in
+    subst (λ e. StopsAt input seen command c.forget.new.m e) (sym c.operation_error.ensures)
+    (operation_stops input seen command c.forget.new.m c.in-Err.e tt (c.in-Err.ensures.kept.bound ∙ was.bound)
+    c.in-Err.ensures.rule)
 
 pub forget-requires-clause-node : goal.forget-requires-clause-node
 forget-requires-clause-node c =

@@ -1,33 +1,56 @@
-use Rattle.std.proofs.Common.{refl}
+use Rattle.std.proofs.Common.{refl, sym, subst, ◌∙◌, inl, length}
 use Rattle.sd_formula.specs.Formulas.{expression_of}
-use Rattle.sd_commands.proofs.Values.{answer_value}
-use Rattle.sd_commands.proofs.Standing.{stands_kept, as_before_kept, before_then}
-use Rattle.sd_commands.proofs.Stepping.{bound_steps}
+use Rattle.sd_commands.specs.Commands.{with_name, formulas_of}
+use Rattle.sd_commands.specs.Standing.{StopsAt}
+use Rattle.sd_commands.specs.declared.command.RunCommand.TheVariants.{Input}
+use Rattle.sd_commands.proofs.Standing.{stands_compiled, as_before_compiled, holds_compiled}
+use Rattle.sd_commands.proofs.Standing.{as_before_kept, before_both}
+use Rattle.sd_commands.proofs.Limits.{groups_within, input_stops}
 use Rattle.sd_commands.proofs.bind.bind_input.Goals as goal
 
-pub bind-requires-clause-represents : goal.bind-requires-clause-represents
-bind-requires-clause-represents c = (
+pub name_root-requires-clause-represents : goal.name_root-requires-clause-represents
+name_root-requires-clause-represents c = (
   c.requires.represents.0,
-  stands_kept c.args.state.now _ _ _ c.requires.represents.1 c.in-Ok.ensures.kept c.in-Ok.ensures.serves
-      c.in-Ok.ensures.unmarked,
+  stands_compiled c.args.state.now _ _ c.in-Ok.root _ c.requires.represents.1 c.in-Ok.ensures.absent
+      c.in-Ok.ensures.kept c.in-Ok.ensures.serves c.in-Ok.ensures.unmarked,
 )
 
-pub bind-requires-clause-shown : goal.bind-requires-clause-shown
-bind-requires-clause-shown c = (expression_of c.args.input.now, answer_value _ _ _ c.in-Ok.ensures.ok)
+pub name_root-requires-clause-holds : goal.name_root-requires-clause-holds
+name_root-requires-clause-holds c =
+    (expression_of c.args.input.now, holds_compiled c.compile.new.m c.in-Ok.root _ c.in-Ok.ensures.ok)
 
-pub returns-in-Ok-clause-done : goal.returns-in-Ok-clause-done
-returns-in-Ok-clause-done c = λ seen was.
-    bound_steps _ seen _ c.args.name (expression_of c.args.input.now) _ _ refl
-    (c.bind.ensures.done seen (expression_of c.args.input.now)
-    (stands_kept c.args.state.now _ _ seen was c.in-Ok.ensures.kept c.in-Ok.ensures.serves c.in-Ok.ensures.unmarked)
-    (answer_value _ _ _ c.in-Ok.ensures.ok))
+pub returns-in-Ok-name_root-clause-done : goal.returns-in-Ok-name_root-clause-done
+returns-in-Ok-name_root-clause-done c = λ seen was.
+    let f = expression_of c.args.input.now in
+    record {
+      next = with_name seen c.args.name f;
+      step = inl (
+        groups_within c.args.state.now seen c.total_of_formulas.ensures.table.numbered was
+            (λ g n are total. c.total_of_formulas.ensures.total g (formulas_of seen) n are total) c.args.input.now
+            c.args.state.now.limit (length c.args.input.now.groups) _ refl refl c.in-Ok.ensures.within,
+        refl,
+      );
+      represents =
+          c.in-Ok-name_root.ensures.represents seen f
+          (stands_compiled c.args.state.now _ _ c.in-Ok.root seen was c.in-Ok.ensures.absent c.in-Ok.ensures.kept
+          c.in-Ok.ensures.serves c.in-Ok.ensures.unmarked)
+          (holds_compiled c.compile.new.m c.in-Ok.root f c.in-Ok.ensures.ok);
+    }
 
-pub returns-in-Ok-clause-err : goal.returns-in-Ok-clause-err
-returns-in-Ok-clause-err c =
-    before_then c.bind.result c.args.state.now _ _
-    (as_before_kept c.args.state.now _ _ c.in-Ok.ensures.kept c.in-Ok.ensures.serves c.in-Ok.ensures.unmarked)
-    c.bind.ensures.err
+pub returns-in-Err-clause-stops : goal.returns-in-Err-clause-stops
+returns-in-Err-clause-stops c = λ seen was.
+    subst (λ e. StopsAt c.args.input.now seen (Input c.args.name) c.compile.new.m e) (sym c.compiling_error.ensures)
+    (input_stops c.args.state.now seen c.total_of_formulas.ensures.table.numbered was
+    (λ g n are total. c.total_of_formulas.ensures.total g (formulas_of seen) n are total) c.args.input.now c.args.name
+    c.compile.new.m c.in-Err.error (c.in-Err.ensures.all_kept.bound ∙ was.bound) c.in-Err.ensures.err)
 
 pub returns-in-Err-clause-err : goal.returns-in-Err-clause-err
 returns-in-Err-clause-err c =
-    as_before_kept c.args.state.now _ _ c.in-Err.ensures.kept c.in-Err.ensures.serves c.in-Err.ensures.unmarked
+    as_before_kept c.args.state.now _ _ c.in-Err.ensures.all_kept c.in-Err.ensures.serves c.in-Err.ensures.unmarked
+
+pub returns-in-Err-name_root-clause-err : goal.returns-in-Err-name_root-clause-err
+returns-in-Err-name_root-clause-err c =
+    before_both c.args.state.now _ _
+    (as_before_compiled c.args.state.now _ _ c.in-Ok.root c.in-Ok.ensures.absent c.in-Ok.ensures.kept
+    c.in-Ok.ensures.serves c.in-Ok.ensures.unmarked)
+    c.in-Err-name_root.ensures.err

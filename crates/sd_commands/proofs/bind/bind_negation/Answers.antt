@@ -1,9 +1,11 @@
-use Rattle.std.proofs.Common.{refl}
+use Rattle.std.proofs.Common.{sym, subst, ◌∙◌}
 use Rattle.sd_model.specs.Expression.{Negated}
-use Rattle.sd_commands.specs.Commands.{formula_named}
 use Rattle.sd_commands.proofs.Values.{negated_value, value_node}
+use Rattle.sd_commands.specs.Commands.{with_name, formula_named}
+use Rattle.sd_commands.specs.Standing.{StopsAt}
+use Rattle.sd_commands.specs.declared.command.RunCommand.TheVariants as commands
 use Rattle.sd_commands.proofs.Standing.{stands_on, as_before_on, as_before_then}
-use Rattle.sd_commands.proofs.Stepping.{bound_steps}
+use Rattle.sd_commands.proofs.Stepping.{settled_steps, settled_stops, operation_stops}
 use Rattle.sd_commands.proofs.bind.bind_negation.Goals as goal
 
 pub bind-requires-clause-represents : goal.bind-requires-clause-represents
@@ -21,11 +23,29 @@ bind-requires-clause-shown c = (
 
 pub returns-in-Ok-clause-done : goal.returns-in-Ok-clause-done
 returns-in-Ok-clause-done c = λ input seen was.
-    bound_steps _ seen _ c.args.name (Negated (formula_named seen c.args.a)) _ _ refl
-    (c.bind.ensures.done seen (Negated (formula_named seen c.args.a))
+    let f = Negated (formula_named seen c.args.a) in
+    settled_steps input seen (with_name seen c.args.name f) _ _ _ (λ outcome h. h)
+    (c.bind.ensures.done seen f
     (stands_on c.args.state.now _ _ seen was c.in-Ok.ensures.kept c.in-Ok.ensures.serves)
-    (negated_value c.args.state.now.manager _ _ _ _ c.in-Ok.ensures.kept
-    (c.node-positive.ensures seen was) c.in-Ok.ensures.ok))
+    (negated_value c.args.state.now.manager _ _ _ _ c.in-Ok.ensures.kept (c.node-positive.ensures seen was)
+    c.in-Ok.ensures.ok))
+
+pub returns-in-Ok-clause-stops : goal.returns-in-Ok-clause-stops
+returns-in-Ok-clause-stops c = λ input seen was.
+    let f = Negated (formula_named seen c.args.a) in
+    settled_stops input seen (with_name seen c.args.name f)
+    (commands.Negate c.args.name c.args.a) c.bind.new.state.manager _ (λ outcome h. h)
+    (c.bind.ensures.stops seen f
+    (stands_on c.args.state.now _ _ seen was c.in-Ok.ensures.kept c.in-Ok.ensures.serves)
+    (negated_value c.args.state.now.manager _ _ _ _ c.in-Ok.ensures.kept (c.node-positive.ensures seen was)
+    c.in-Ok.ensures.ok))
+
+pub returns-in-Err-clause-stops : goal.returns-in-Err-clause-stops
+returns-in-Err-clause-stops c = λ input seen was.
+    let command = commands.Negate c.args.name c.args.a in
+    subst (λ e. StopsAt input seen command c.negate.new.m e) (sym c.operation_error.ensures)
+    (operation_stops input seen command c.negate.new.m c.in-Err.e tt (c.in-Err.ensures.kept.bound ∙ was.bound)
+    c.in-Err.ensures.rule)
 
 pub negate-requires-clause-node : goal.negate-requires-clause-node
 negate-requires-clause-node c =

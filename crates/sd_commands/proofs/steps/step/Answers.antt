@@ -1,12 +1,11 @@
-use Rattle.std.proofs.Common.{ℤ, None, IfOk, OnErr, refl, sym, ap, subst, rules, w32}
+use Rattle.std.proofs.Common.{ℤ, None, IfOk, IfErr, OnErr, refl, sym, ap, subst, rules, w32}
 use Rattle.std.proofs.lemmas.Int.{to_z-of_z}
 use mir.Val.{SFits}
-use Rattle.sd_formula.specs.Formulas.{expression_of}
 use Rattle.sd_commands.specs.Commands.{dropped}
-use Rattle.sd_commands.specs.Fits.{uses}
-use Rattle.sd_commands.specs.Standing.{StepsTo, IsAsBefore}
+use Rattle.sd_commands.specs.Fits.{uses, binds}
+use Rattle.sd_commands.specs.Standing.{StepsTo, StopsAt, IsAsBefore}
 use Rattle.sd_commands.specs.declared.command.RunCommand.TheVariants.{Literal, Given}
-use Rattle.sd_commands.proofs.Stepping.{first_used, second_used, handed_steps}
+use Rattle.sd_commands.proofs.Stepping.{first_used, second_used, binds_free, handed_steps}
 use Rattle.sd_commands.proofs.Standing.{as_before_self}
 use Rattle.sd_commands.proofs.steps.step.Goals as goal
 
@@ -62,11 +61,53 @@ write_diagram-requires-clause-bound c =
     first_used c.args.state.now c.requires.represents.0 _ _ _ _ c.requires.represents.1 c.requires.represents.2
     (ap uses c.in-Write.is)
 
+-- ---- the name that a command binds is free
+
+pub bind_input-requires-clause-free : goal.bind_input-requires-clause-free
+bind_input-requires-clause-free c =
+    binds_free c.args.state.now c.requires.represents.0 _ _ _ c.requires.represents.1 c.requires.represents.2
+    (ap binds c.in-Input.is)
+
+pub bind_file-requires-clause-free : goal.bind_file-requires-clause-free
+bind_file-requires-clause-free c =
+    binds_free c.args.state.now c.requires.represents.0 _ _ _ c.requires.represents.1 c.requires.represents.2
+    (ap binds c.in-Load.is)
+
+pub bind_literal-requires-clause-free : goal.bind_literal-requires-clause-free
+bind_literal-requires-clause-free c =
+    binds_free c.args.state.now c.requires.represents.0 _ _ _ c.requires.represents.1 c.requires.represents.2
+    (ap binds c.in-Literal.is)
+
+pub bind_constant-requires-clause-free : goal.bind_constant-requires-clause-free
+bind_constant-requires-clause-free c =
+    binds_free c.args.state.now c.requires.represents.0 _ _ _ c.requires.represents.1 c.requires.represents.2
+    (ap binds c.in-Constant.is)
+
+pub bind_combination-requires-clause-free : goal.bind_combination-requires-clause-free
+bind_combination-requires-clause-free c =
+    binds_free c.args.state.now c.requires.represents.0 _ _ _ c.requires.represents.1 c.requires.represents.2
+    (ap binds c.in-Combine.is)
+
+pub bind_negation-requires-clause-free : goal.bind_negation-requires-clause-free
+bind_negation-requires-clause-free c =
+    binds_free c.args.state.now c.requires.represents.0 _ _ _ c.requires.represents.1 c.requires.represents.2
+    (ap binds c.in-Negate.is)
+
+pub bind_condition-requires-clause-free : goal.bind_condition-requires-clause-free
+bind_condition-requires-clause-free c =
+    binds_free c.args.state.now c.requires.represents.0 _ _ _ c.requires.represents.1 c.requires.represents.2
+    (ap binds c.in-Given.is)
+
+pub bind_forgotten-requires-clause-free : goal.bind_forgotten-requires-clause-free
+bind_forgotten-requires-clause-free c =
+    binds_free c.args.state.now c.requires.represents.0 _ _ _ c.requires.represents.1 c.requires.represents.2
+    (ap binds c.in-Forget.is)
+
 -- ---- what each command comes to
 
 pub returns-in-Generated-clause-done : goal.returns-in-Generated-clause-done
 returns-in-Generated-clause-done c = λ seen was.
-    let input = expression_of c.args.input.now in
+    let input = c.args.input.now in
     let code = c.args.state.now in
     subst (λ command. IfOk c.or_out_of_memory.result (λ effect. StepsTo input seen command code effect))
     (sym c.in-Generated.is)
@@ -74,7 +115,7 @@ returns-in-Generated-clause-done c = λ seen was.
 
 pub returns-in-Literal-clause-done : goal.returns-in-Literal-clause-done
 returns-in-Literal-clause-done c = λ seen was.
-    let input = expression_of c.args.input.now in
+    let input = c.args.input.now in
     let range : SFits w32 c.in-Literal.literal = search rules in
     subst (λ command. IfOk c.bind_literal.result (λ effect. StepsTo input seen command c.bind_literal.new.state effect))
     (sym c.in-Literal.is)
@@ -84,7 +125,7 @@ returns-in-Literal-clause-done c = λ seen was.
 
 pub returns-in-Given-clause-done : goal.returns-in-Given-clause-done
 returns-in-Given-clause-done c = λ seen was.
-    let input = expression_of c.args.input.now in
+    let input = c.args.input.now in
     let result = c.bind_condition.result in
     let state = c.bind_condition.new.state in
     let range : SFits w32 c.in-Given.literal = search rules in
@@ -95,12 +136,12 @@ returns-in-Given-clause-done c = λ seen was.
 
 pub returns-in-Drop-clause-done : goal.returns-in-Drop-clause-done
 returns-in-Drop-clause-done c = λ seen was.
-    subst (λ command. StepsTo (expression_of c.args.input.now) seen command c.free.new.self None) (sym c.in-Drop.is)
+    subst (λ command. StepsTo c.args.input.now seen command c.free.new.self None) (sym c.in-Drop.is)
     (record { next = dropped seen c.in-Drop.name; step = refl; represents = c.free.ensures.represents seen was })
 
 pub returns-in-Same-clause-done : goal.returns-in-Same-clause-done
 returns-in-Same-clause-done c = λ seen was.
-    let input = expression_of c.args.input.now in
+    let input = c.args.input.now in
     let code = c.args.state.now in
     subst (λ command. IfOk c.or_out_of_memory-in-Same.result (λ effect. StepsTo input seen command code effect))
     (sym c.in-Same.is)
@@ -108,7 +149,7 @@ returns-in-Same-clause-done c = λ seen was.
 
 pub returns-in-Size-clause-done : goal.returns-in-Size-clause-done
 returns-in-Size-clause-done c = λ seen was.
-    let input = expression_of c.args.input.now in
+    let input = c.args.input.now in
     let code = c.print_size.new.state in
     subst (λ command. IfOk c.or_out_of_memory-in-Size.result (λ effect. StepsTo input seen command code effect))
     (sym c.in-Size.is)
@@ -116,7 +157,7 @@ returns-in-Size-clause-done c = λ seen was.
 
 pub returns-in-Value-clause-done : goal.returns-in-Value-clause-done
 returns-in-Value-clause-done c = λ seen was.
-    let input = expression_of c.args.input.now in
+    let input = c.args.input.now in
     let code = c.args.state.now in
     subst (λ command. IfOk c.or_out_of_memory-in-Value.result (λ effect. StepsTo input seen command code effect))
     (sym c.in-Value.is)
@@ -124,7 +165,7 @@ returns-in-Value-clause-done c = λ seen was.
 
 pub returns-in-Write-clause-done : goal.returns-in-Write-clause-done
 returns-in-Write-clause-done c = λ seen was.
-    let input = expression_of c.args.input.now in
+    let input = c.args.input.now in
     let code = c.args.state.now in
     subst (λ command. IfOk c.or_out_of_memory-in-Write.result (λ effect. StepsTo input seen command code effect))
     (sym c.in-Write.is)
@@ -132,12 +173,75 @@ returns-in-Write-clause-done c = λ seen was.
 
 pub returns-in-WriteVtree-clause-done : goal.returns-in-WriteVtree-clause-done
 returns-in-WriteVtree-clause-done c = λ seen was.
-    let input = expression_of c.args.input.now in
+    let input = c.args.input.now in
     let code = c.args.state.now in
     subst (λ command. IfOk c.or_out_of_memory-in-WriteVtree.result (λ effect. StepsTo input seen command code effect))
     (sym c.in-WriteVtree.is)
     (handed_steps input seen _ code _ _ (c.write_vtree_text.ensures input seen was)
     c.or_out_of_memory-in-WriteVtree.ensures)
+
+-- ---- why it stops
+
+pub returns-in-Literal-clause-stops : goal.returns-in-Literal-clause-stops
+returns-in-Literal-clause-stops c = λ seen was.
+    let input = c.args.input.now in
+    let table = c.bind_literal.new.state.manager in
+    let range : SFits w32 c.in-Literal.literal = search rules in
+    subst (λ command. IfErr c.bind_literal.result (λ e. StopsAt input seen command table e)) (sym c.in-Literal.is)
+    (subst (λ (z : ℤ). IfErr c.bind_literal.result (λ e. StopsAt input seen (Literal c.in-Literal.name z) table e))
+    (to_z-of_z w32 c.in-Literal.literal range) (c.bind_literal.ensures.stops input seen was))
+
+pub returns-in-Given-clause-stops : goal.returns-in-Given-clause-stops
+returns-in-Given-clause-stops c = λ seen was.
+    let input = c.args.input.now in
+    let table = c.bind_condition.new.state.manager in
+    let range : SFits w32 c.in-Given.literal = search rules in
+    subst (λ command. IfErr c.bind_condition.result (λ e. StopsAt input seen command table e)) (sym c.in-Given.is)
+    (subst (λ (z : ℤ). IfErr c.bind_condition.result
+    (λ e. StopsAt input seen (Given c.in-Given.name c.in-Given.a z) table e))
+    (to_z-of_z w32 c.in-Given.literal range) (c.bind_condition.ensures.stops input seen was))
+
+pub returns-in-Load-clause-stops : goal.returns-in-Load-clause-stops
+returns-in-Load-clause-stops c = λ seen was.
+    let input = c.args.input.now in
+    let table = c.bind_file.new.state.manager in
+    subst (λ command. IfErr c.bind_file.result (λ e. StopsAt input seen command table e)) (sym c.in-Load.is)
+    (c.bind_file.ensures.stops input seen was)
+
+pub returns-in-Constant-clause-stops : goal.returns-in-Constant-clause-stops
+returns-in-Constant-clause-stops c = λ seen was.
+    let input = c.args.input.now in
+    let table = c.bind_constant.new.state.manager in
+    subst (λ command. IfErr c.bind_constant.result (λ e. StopsAt input seen command table e)) (sym c.in-Constant.is)
+    (c.bind_constant.ensures.stops input seen was)
+
+pub returns-in-Combine-clause-stops : goal.returns-in-Combine-clause-stops
+returns-in-Combine-clause-stops c = λ seen was.
+    let input = c.args.input.now in
+    let table = c.bind_combination.new.state.manager in
+    subst (λ command. IfErr c.bind_combination.result (λ e. StopsAt input seen command table e)) (sym c.in-Combine.is)
+    (c.bind_combination.ensures.stops input seen was)
+
+pub returns-in-Negate-clause-stops : goal.returns-in-Negate-clause-stops
+returns-in-Negate-clause-stops c = λ seen was.
+    let input = c.args.input.now in
+    let table = c.bind_negation.new.state.manager in
+    subst (λ command. IfErr c.bind_negation.result (λ e. StopsAt input seen command table e)) (sym c.in-Negate.is)
+    (c.bind_negation.ensures.stops input seen was)
+
+pub returns-in-Forget-clause-stops : goal.returns-in-Forget-clause-stops
+returns-in-Forget-clause-stops c = λ seen was.
+    let input = c.args.input.now in
+    let table = c.bind_forgotten.new.state.manager in
+    subst (λ command. IfErr c.bind_forgotten.result (λ e. StopsAt input seen command table e)) (sym c.in-Forget.is)
+    (c.bind_forgotten.ensures.stops input seen was)
+
+pub returns-in-Limit-clause-stops : goal.returns-in-Limit-clause-stops
+returns-in-Limit-clause-stops c = λ seen was.
+    let input = c.args.input.now in
+    let table = c.set_limit.new.state.manager in
+    subst (λ command. IfErr c.set_limit.result (λ e. StopsAt input seen command table e)) (sym c.in-Limit.is)
+    (c.set_limit.ensures.stops input seen was)
 
 -- ---- a command that reads the state leaves it
 

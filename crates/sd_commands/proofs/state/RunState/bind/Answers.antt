@@ -1,54 +1,70 @@
-use Rattle.std.proofs.Common.{refl, ap, ◌∙◌, arith}
-use Rattle.std.specs.BTreeMap.{is_at}
-use Rattle.std.specs.Map.{lookup}
-use Rattle.std.specs.Ordering.{nat_cmp}
-use Rattle.std.specs.FinMap.{len}
-use Rattle.sd_commands.proofs.Standing.{stands_bound, made_and_released, one_root_more, former_held_with, newly_held}
-use Rattle.sd_commands.proofs.Standing.{given_up, as_before}
+use Rattle.std.proofs.Common.{refl, sym, subst, arith}
+use Rattle.sd_commands.specs.Commands.{formulas_of, with_name}
+use Rattle.sd_commands.specs.Standing.{Represents, IsAsBefore, IsNotSettled}
+use Rattle.sd_commands.proofs.Standing.{code_regained, newly_holds, one_root_more, as_before}
+use Rattle.sd_commands.proofs.Limits.{within_with, not_held}
 use Rattle.sd_commands.proofs.state.RunState.bind.Goals as goal
 
-pub hold-requires : goal.hold-requires
-hold-requires c = record {
+pub hold_within-requires : goal.hold_within-requires
+hold_within-requires c = record {
   no_move = c.requires.represents.1.no_move;
+  unmarked = c.requires.represents.1.unmarked;
   shown = record { diagram = c.requires.shown.1.diagram; is = c.requires.shown.1.is };
   room = c.requires.room;
 }
 
-pub release_any-requires : goal.release_any-requires
-release_any-requires c = record {
-  no_move = ap (λ t. t.moving) c.in-Ok.ensures.ok ∙ c.requires.represents.1.no_move;
-  held = former_held_with c.args.self.now c.requires.represents.0 c.args.name c.in-Ok-insert.former _ c.in-Ok.root
-      c.args.node c.requires.represents.1 c.in-Ok-insert.ensures.old c.in-Ok.ensures.absent c.in-Ok.ensures.ok;
+pub name_root-requires : goal.name_root-requires
+name_root-requires c = record {
+  represents = (
+    c.requires.represents.0,
+    subst (λ code. Represents code c.requires.represents.0)
+        (sym (code_regained c.args.self.now _ c.in-Ok.root c.args.node c.in-Ok.ensures.absent c.in-Ok.ensures.ok))
+        c.requires.represents.1,
+  );
+  holds = (
+    c.requires.shown.0,
+    newly_holds c.args.self.now.manager _ c.in-Ok.root c.args.node _ c.in-Ok.ensures.ok c.requires.shown.1,
+  );
+  free = c.requires.free;
 }
 
-pub release-requires : goal.release-requires
-release-requires c = record {
-  no_move = ap (λ t. t.moving) c.in-Ok.ensures.ok ∙ c.requires.represents.1.no_move;
-  root = newly_held c.args.self.now.manager _ c.in-Ok.root c.args.node _ c.in-Ok.ensures.ok
-      (ap (λ p. p.1) c.in-Err-insert.ensures.value_returned);
-}
+pub returns-in-Ok-name_root-clause-represents : goal.returns-in-Ok-name_root-clause-represents
+returns-in-Ok-name_root-clause-represents c = λ seen f was shows.
+    c.in-Ok-name_root.ensures.represents seen f
+    (subst (λ code. Represents code seen)
+    (sym (code_regained c.args.self.now _ c.in-Ok.root c.args.node c.in-Ok.ensures.absent c.in-Ok.ensures.ok)) was)
+    (newly_holds c.args.self.now.manager _ c.in-Ok.root c.args.node f c.in-Ok.ensures.ok shows)
 
-pub returns-in-Ok-insert-clause-represents : goal.returns-in-Ok-insert-clause-represents
-returns-in-Ok-insert-clause-represents c = λ seen f was shows.
-    stands_bound c.args.self.now _ seen c.args.name c.args.node c.in-Ok.root c.in-Ok-insert.former f was shows
-    c.in-Ok.ensures.absent c.in-Ok-insert.ensures.old
-    (made_and_released _ _ _ _ _ _ c.in-Ok.ensures.ok c.release_any.ensures) refl
-    (λ q. c.in-Ok-insert.ensures.updates.0 q)
+pub returns-in-Ok-name_root-clause-within : goal.returns-in-Ok-name_root-clause-within
+returns-in-Ok-name_root-clause-within c = λ seen f was shows.
+    within_with c.args.self.now seen c.total_of_formulas.ensures.table.numbered was
+    (λ g n are total. c.total_of_formulas.ensures.total g (formulas_of seen) n are total) f c.args.self.now.limit refl
+    (c.in-Ok.ensures.within f shows.diagram shows.is shows.of_value)
 
-pub returns-in-Err-insert-clause-err : goal.returns-in-Err-insert-clause-err
-returns-in-Err-insert-clause-err c =
-    as_before c.args.self.now _
-    (given_up _ _ _ _ _ _ c.in-Ok.ensures.absent c.in-Ok.ensures.ok
-    (ap (λ p. p.1) c.in-Err-insert.ensures.value_returned) c.release.ensures.released)
-    refl (λ q. ap (lookup (is_at (nat_cmp q))) c.in-Err-insert.ensures.err)
+pub returns-in-Err-clause-refused : goal.returns-in-Err-clause-refused
+returns-in-Err-clause-refused c = λ seen f was shows.
+    subst (λ e. IsNotSettled (with_name seen c.args.name f) e) (sym c.holding_error.ensures)
+    (not_held c.args.self.now seen c.total_of_formulas.ensures.table.numbered was
+    (λ g n are total. c.total_of_formulas.ensures.total g (formulas_of seen) n are total) c.args.name f c.in-Err.error
+    (c.in-Err.ensures.err f shows.diagram shows.is shows.of_value))
 
-pub returns-in-Ok-insert-clause-roots : goal.returns-in-Ok-insert-clause-roots
-returns-in-Ok-insert-clause-roots c =
-    one_root_more c.args.self.now.manager _ c.in-Ok.root c.args.node c.in-Ok-insert.former
-    (made_and_released _ _ _ _ _ _ c.in-Ok.ensures.ok c.release_any.ensures)
+pub returns-in-Err-clause-err : goal.returns-in-Err-clause-err
+returns-in-Err-clause-err c = as_before c.args.self.now _ c.in-Err.ensures.unchanged refl refl (λ q. refl)
 
-pub returns-in-Err-insert-clause-roots : goal.returns-in-Err-insert-clause-roots
-returns-in-Err-insert-clause-roots c =
-    let same = ap (λ t. len t.roots) (given_up _ _ _ _ _ _ c.in-Ok.ensures.absent c.in-Ok.ensures.ok
-    (ap (λ p. p.1) c.in-Err-insert.ensures.value_returned) c.release.ensures.released) in
-    omega arith
+pub returns-in-Err-name_root-clause-err : goal.returns-in-Err-name_root-clause-err
+returns-in-Err-name_root-clause-err c =
+    subst (λ code. IsAsBefore code c.name_root.new.self)
+    (code_regained c.args.self.now _ c.in-Ok.root c.args.node c.in-Ok.ensures.absent c.in-Ok.ensures.ok)
+    c.in-Err-name_root.ensures.err
+
+pub returns-in-Ok-name_root-clause-roots : goal.returns-in-Ok-name_root-clause-roots
+returns-in-Ok-name_root-clause-roots c =
+    let more = one_root_more c.args.self.now.manager _ c.in-Ok.root c.args.node c.in-Ok.ensures.ok in
+    let named = c.name_root.ensures.roots in
+    omega (arith, more, named)
+
+pub returns-in-Err-name_root-clause-roots : goal.returns-in-Err-name_root-clause-roots
+returns-in-Err-name_root-clause-roots c =
+    let more = one_root_more c.args.self.now.manager _ c.in-Ok.root c.args.node c.in-Ok.ensures.ok in
+    let named = c.name_root.ensures.roots in
+    omega (arith, more, named)

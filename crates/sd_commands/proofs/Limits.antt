@@ -1,0 +1,159 @@
+-- The total size of the formulas of bound names, from what the manager's roots hold.
+use Rattle.std.proofs.Common.{◌≡◌, ℕ, ◌+◌, ◌<◌, ◌≤◌, ◌∷◌, List, Some}
+use Rattle.std.proofs.Common.{refl, sym, subst, ◌∙◌, arith, inr}
+use Rattle.std.specs.Option.{IsSome}
+use Rattle.std.specs.FinMap.{get}
+use Rattle.std.proofs.lemmas.Option.{same_Some}
+use Rattle.sd_model.specs.Diagram.{Diagram}
+use Rattle.sd_model.specs.Expression.{Expression}
+use Rattle.sd_model.specs.Size.{HasSize, IsDiagramOf}
+use Rattle.sd_formula.specs.Dimacs.{Groups}
+use Rattle.sd_vtree.specs.Numbered.{plain_tree, IsNumbered}
+use Rattle.sd_laws.proofs.Codes.{one_diagram}
+use Rattle.sd_manager.specs.Table.{Table}
+use Rattle.sd_manager.specs.Shown.{ShowsCanonical}
+use Rattle.sd_compile.specs.Compiling.{prefix_of, AreWithinLimit, IsFormulaRefused}
+use Rattle.sd_compile.specs.Compiling.{IsHoldRefused}
+use Rattle.sd_compile.specs.Total.{HasTotalWith, IsWithinLimit, IsHeldFormula, AreHeldFormulas}
+use Rattle.sd_compile.specs.Total.{IsTotal, IsTotalWithin}
+use Rattle.sd_compile.specs.declared.error.CompileError.{CompileError}
+use Rattle.sd_compile.specs.declared.error.CompileError.TheVariants as compiling
+use Rattle.sd_compile.specs.declared.error.HoldError.{HoldError}
+use Rattle.sd_compile.specs.declared.error.HoldError.TheVariants as holding
+use Rattle.sd_commands.specs.Commands.{State, formulas_of, with_name, AreWithin, PassLimit, AreWithinBelow}
+use Rattle.sd_commands.specs.Commands.{PassesAtGroup, OverLimit}
+use Rattle.sd_commands.specs.Commands.{Step}
+use Rattle.sd_commands.specs.Standing.{Represents, HoldsValue, IsNotSettled, StopsAt, error_of_holding}
+use Rattle.sd_commands.specs.Standing.{error_of_compiling}
+use Rattle.sd_commands.specs.declared.command.RunCommand.TheVariants.{Input}
+use Rattle.sd_commands.specs.declared.state.RunState.{RunState}
+use Rattle.sd_commands.proofs.Names.{formula_named_by, named_formula}
+use Rattle.sd_commands.proofs.Standing.{bound_root, root_bound}
+
+-- ---- the bound names' formulas are what roots hold
+
+-- a root that holds a formula holds its diagram
+held_formula : (t : Table) (root : ℕ) (f : Expression) → HoldsValue t root f → IsHeldFormula t f
+held_formula t root f holds = record {
+  diagram = holds.diagram;
+  held = record { root = root; code = holds.is.code; held = holds.is.held; is = holds.is.is };
+  of_formula = holds.of_value;
+}
+
+-- and a diagram that it holds is that of the formula
+held_diagram : (t : Table) (root code : ℕ) (f : Expression) (d : Diagram) → IsNumbered t.vtree → HoldsValue t root f
+    → get t.roots root ≡ Some code → ShowsCanonical t code d → IsDiagramOf (plain_tree t.vtree) f d
+held_diagram t root code f d numbered holds held is =
+    let same : holds.is.code ≡ code = same_Some holds.is.code code (sym holds.is.held ∙ held) in
+    let one : holds.diagram ≡ d =
+    one_diagram t.vtree (get t.linked) numbered holds.diagram code d
+    (subst (λ c. ShowsCanonical t c holds.diagram) same holds.is.is).shows is.shows in
+    subst (IsDiagramOf (plain_tree t.vtree) f) one holds.of_value
+
+pub held_formulas : (code : RunState) (seen : State) → IsNumbered code.manager.vtree → Represents code seen
+    → AreHeldFormulas code.manager (formulas_of seen)
+held_formulas code seen numbered was = record {
+  each = λ f among.
+      let by = formula_named_by seen.names f was.once among in
+      let root = bound_root code.manager _ _ f (was.holds by.0) by.1 in
+      held_formula code.manager root.0 f root.1;
+  only = λ d held.
+      let of_name = was.only held.root (subst (λ o. IsSome o) (sym held.held) refl) in
+      let bound = root_bound code.manager _ _ held.root (was.holds of_name.name) of_name.is in
+      record {
+        formula = bound.0;
+        among = named_formula seen.names of_name.name bound.0 bound.1;
+        is = held_diagram code.manager held.root held.code bound.0 d numbered bound.2 held.held held.is;
+      };
+}
+
+-- ---- one formula more
+
+module _ (code : RunState) (seen : State) (numbered : IsNumbered code.manager.vtree) (was : Represents code seen)
+    (law : (f : Expression) (n : ℕ) → AreHeldFormulas code.manager (formulas_of seen) → HasTotalWith code.manager f n
+    → HasSize (f ∷ formulas_of seen) (plain_tree code.manager.vtree) n) where
+  -- the total with it is the size of all formulas
+  size_with : (f : Expression) (n : ℕ) → HasTotalWith code.manager f n → HasSize (f ∷ formulas_of seen) seen.tree n
+  size_with f n total =
+      subst (λ t. HasSize (f ∷ formulas_of seen) t n) (sym was.tree)
+      (law f n (held_formulas code seen numbered was) total)
+
+  -- which is within the limit
+  pub within_with : (f : Expression) (limit : ℕ) → limit ≡ code.limit → IsWithinLimit code.manager f limit
+      → AreWithin (f ∷ formulas_of seen) seen.tree seen.limit
+  within_with f limit same h = record {
+    size = h.size;
+    total = size_with f h.size h.total;
+    within = subst (λ l. h.size ≤ l) (same ∙ sym was.limit) h.within;
+  }
+
+  -- or passes it
+  pub passes_with : (f : Expression) (limit n : ℕ) → limit ≡ code.limit → HasTotalWith code.manager f n → limit < n
+      → PassLimit (f ∷ formulas_of seen) seen.tree seen.limit n
+  passes_with f limit n same total passes = record {
+    total = size_with f n total;
+    passes = subst (λ l. l < n) (same ∙ sym was.limit) passes;
+  }
+
+  -- a node that is not held leads to no state
+  pub not_held : (name : ℕ) (f : Expression) (e : HoldError) → IsHoldRefused code.manager f code.limit e
+      → IsNotSettled (with_name seen name f) (error_of_holding e code.limit)
+  not_held name f (holding.OverLimit size) h =
+      (refl, passes_with f code.limit size refl h.0 h.1, sym was.limit)
+  not_held name f holding.OutOfMemory h = tt
+
+  -- the groups of the input are within the limit
+  pub groups_within : (input : Groups) (limit last end : ℕ) → limit ≡ code.limit → end ≡ last + 1
+      → AreWithinLimit code.manager input limit 0 last → AreWithinBelow input seen end
+  groups_within input limit last end same next h count low high =
+      within_with (prefix_of input count) limit same (h count (omega (arith, low)) (omega (arith, high, next)))
+
+  -- or some group is the first with which the size passes it
+  pub group_passes : (input : Groups) (new : Table) (limit group size most : ℕ) → limit ≡ code.limit
+      → IsFormulaRefused code.manager new input limit 0 (compiling.OverLimit group size most)
+      → PassesAtGroup input seen group size
+  group_passes input new limit group size most same h = record {
+    least = let low = h.0 in omega (arith, low);
+    most = h.1;
+    before = λ count low high.
+        within_with (prefix_of input count) limit same (h.3 count (omega (arith, low)) high);
+    passes = passes_with (prefix_of input group) limit size same h.2.total h.2.passes;
+  }
+
+  -- so the command stops
+  pub input_stops : (input : Groups) (name : ℕ) (new : Table) (e : CompileError) → new.bound ≡ 2147483647
+      → IsFormulaRefused code.manager new input code.limit 0 e
+      → StopsAt input seen (Input name) new (error_of_compiling e)
+  input_stops input name new (compiling.OverLimit group size most) bound h =
+      subst (λ l. Step input seen (Input name) (OverLimit (Some group) size l)) (was.limit ∙ sym h.2.most_is)
+      (inr (group, size, group_passes input new code.limit group size most refl h, refl))
+  input_stops input name new (compiling.ArenaFull elements) bound h = (tt, record { whole = bound; rule = h })
+  input_stops input name new compiling.OutOfMemory bound h = tt
+
+-- ---- the formulas of all names
+
+module _ (code : RunState) (seen : State) (numbered : IsNumbered code.manager.vtree) (was : Represents code seen) where
+  -- a size within a limit
+  pub total_within : (limit : ℕ)
+      → ((fs : List Expression) (most : ℕ) → AreHeldFormulas code.manager fs → IsTotalWithin code.manager most
+      → (n : ℕ) × HasSize fs (plain_tree code.manager.vtree) n × (n ≤ most))
+      → IsTotalWithin code.manager limit → AreWithin (formulas_of seen) seen.tree limit
+  total_within limit law within =
+      let h = law (formulas_of seen) limit (held_formulas code seen numbered was) within in
+      record {
+        size = h.0;
+        total = subst (λ t. HasSize (formulas_of seen) t h.0) (sym was.tree) h.1;
+        within = h.2;
+      }
+
+  -- or one that passes it
+  pub total_passes : (limit size : ℕ)
+      → ((fs : List Expression) (n : ℕ) → AreHeldFormulas code.manager fs → IsTotal code.manager n
+      → HasSize fs (plain_tree code.manager.vtree) n)
+      → limit < size → IsTotal code.manager size → PassLimit (formulas_of seen) seen.tree limit size
+  total_passes limit size law passes total = record {
+    total =
+        subst (λ t. HasSize (formulas_of seen) t size) (sym was.tree)
+        (law (formulas_of seen) size (held_formulas code seen numbered was) total);
+    passes = passes;
+  }

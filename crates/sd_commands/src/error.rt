@@ -1,0 +1,67 @@
+//! Why a command is not done.
+ghost use Rattle.std.specs.Prelude.{◌≡◌};
+ghost use Rattle.sd_commands.specs.Standing.{error_of_operation, error_of_compiling, error_of_holding};
+
+use sd_compile::{CompileError, HoldError};
+use sd_runs::TakeError;
+use thiserror::Error;
+
+/// Why a command is not done.
+#[derive(Clone, Copy, Debug, PartialEq, Eq, Error)]
+pub enum CommandError {
+    /// With what the command binds, or with the groups of the input up to this one, counted from 1, the total size
+    /// passes the limit.
+    #[error("OverLimit")]
+    OverLimit {
+        group: Option<u32>,
+        size: u32,
+        limit: u32,
+    },
+    /// `elements`, the arena's extent with the length of a list added, is past the bound.
+    #[error("ArenaFull")]
+    ArenaFull {
+        elements: u64,
+    },
+    /// Out of memory, whatever the arena.
+    #[error("OutOfMemory")]
+    OutOfMemory,
+}
+
+// What an operation answers, as an answer of a command.
+pub(crate) fn operation_error(error: TakeError) -> CommandError
+    ensures { result ≡ error_of_operation error }
+{
+    match error {
+        TakeError::ArenaFull { elements } => CommandError::ArenaFull { elements },
+        TakeError::OutOfMemory => CommandError::OutOfMemory,
+    }
+}
+
+// What compiling answers, as an answer of a command.
+pub(crate) fn compiling_error(error: CompileError) -> CommandError
+    ensures { result ≡ error_of_compiling error }
+{
+    match error {
+        CompileError::OverLimit { group, size, limit } => CommandError::OverLimit {
+            group: Some(group),
+            size,
+            limit,
+        },
+        CompileError::ArenaFull { elements } => CommandError::ArenaFull { elements },
+        CompileError::OutOfMemory => CommandError::OutOfMemory,
+    }
+}
+
+// Why a node is not held, as an answer of a command.
+pub(crate) fn holding_error(error: HoldError, limit: u32) -> CommandError
+    ensures { result ≡ error_of_holding error limit }
+{
+    match error {
+        HoldError::OverLimit { size } => CommandError::OverLimit {
+            group: None,
+            size,
+            limit,
+        },
+        HoldError::OutOfMemory => CommandError::OutOfMemory,
+    }
+}
