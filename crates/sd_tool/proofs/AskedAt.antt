@@ -29,17 +29,19 @@ use Rattle.sd_words.specs.declared.jobs.TreeWord.{TreeWord}
 use Rattle.sd_words.specs.declared.jobs.TreeWord.TheVariants as trees
 use Rattle.sd_words.specs.declared.faults.WordsFault.{WordsFault}
 use Rattle.sd_commands.specs.Effects.{Effect, Write, Print}
+use Rattle.sd_commands.specs.declared.command.NumberedCommand.{NumberedCommand}
 use Rattle.sd_commands.specs.declared.command.RunCommand.{RunCommand}
 use Rattle.sd_commands.specs.declared.command.RunCommand.TheVariants as commands
 use Rattle.sd_tool.specs.Asks.{ReadsBy, GoesTo, HasAsked, writings, begun}
 use Rattle.sd_tool.specs.Devices.{Moment}
-use Rattle.sd_tool.specs.Ends.{End, Finished, Refused, Unreadable, Unwritable, OutOfMemory, ArenaFull, status_of}
+use Rattle.sd_tool.specs.Ends.{End, Finished, Refused, Unreadable, Unwritable, OutOfMemory, ArenaFull, OverLimit}
+use Rattle.sd_tool.specs.Ends.{status_of}
 use Rattle.sd_tool.specs.Headline.{IsCourse}
 use Rattle.sd_tool.specs.Readings.{Input, Reading, Refuses, Begins, Reads, Text, Whole, TooLong}
 use Rattle.sd_tool.specs.Readings.{reading_of, with_job, with_input, with_input_word, with_formula, with_tree_word}
 use Rattle.sd_tool.specs.Readings.{with_tree, with_vtree_text, with_vtree_reading, with_commands, script_reading}
 use Rattle.sd_tool.specs.Readings.{with_script_text, with_script_reading, with_lines, with_action, with_sdd}
-use Rattle.sd_tool.specs.Readings.{with_sdd_reading, is_served, is_plain, file_name, plan_for}
+use Rattle.sd_tool.specs.Readings.{with_sdd_reading, in_line, is_served, is_plain, file_name, plan_for}
 use Rattle.sd_tool.specs.Refusals.{refusal_status}
 use Rattle.sd_tool.specs.declared.refusal.Refusal.{Refusal}
 use Rattle.sd_tool.specs.declared.refusal.Refusal.TheVariants.{NotYet}
@@ -86,22 +88,22 @@ accepted_action v s next (actions.Forget n a x) accepted = accepted (commands.Fo
 accepted_action v s next (actions.Drop a) accepted = accepted (commands.Drop a)
 accepted_action v s next (actions.Turn kind p) accepted = λ e. cc
 accepted_action v s next (actions.Minimise rounds) accepted = λ e. cc
-accepted_action v s next (actions.Limit k) accepted = λ e. cc
+accepted_action v s next (actions.Limit limit) accepted = accepted (commands.Limit limit)
 accepted_action v s next (actions.Same a b) accepted = accepted (commands.Same a b)
 accepted_action v s next (actions.Size a) accepted = accepted (commands.Size a)
 accepted_action v s next (actions.Value a bits) accepted = accepted (commands.Value a bits)
 accepted_action v s next (actions.Write a file) accepted = accepted (commands.Write a (file_name s file))
 accepted_action v s next (actions.Vtree file) accepted = accepted (commands.WriteVtree (file_name s file))
 
-accepted_lines : (v : ℕ) (s : Script) (begin : List RunCommand → Reading) (done : List RunCommand) (lines : List Line)
-    → ((cs : List RunCommand) → AreAccepted (begin cs)) → AreAccepted (with_lines v s begin done lines)
+accepted_lines : (v : ℕ) (s : Script) (begin : List NumberedCommand → Reading) (done : List NumberedCommand) (lines : List Line)
+    → ((cs : List NumberedCommand) → AreAccepted (begin cs)) → AreAccepted (with_lines v s begin done lines)
 accepted_lines v s begin done [] accepted = accepted done
 accepted_lines v s begin done (line ∷ lines) accepted =
-    accepted_action v s (λ command. with_lines v s begin (done ++ command ∷ []) lines) line.action
-    (λ command. accepted_lines v s begin (done ++ command ∷ []) lines accepted)
+    accepted_action v s (λ command. with_lines v s begin (done ++ in_line line command ∷ []) lines) line.action
+    (λ command. accepted_lines v s begin (done ++ in_line line command ∷ []) lines accepted)
 
-accepted_script : (v : ℕ) (s : Script) (begin : List RunCommand → Reading)
-    → ((cs : List RunCommand) → AreAccepted (begin cs)) → AreAccepted (script_reading v begin s)
+accepted_script : (v : ℕ) (s : Script) (begin : List NumberedCommand → Reading)
+    → ((cs : List NumberedCommand) → AreAccepted (begin cs)) → AreAccepted (script_reading v begin s)
 accepted_script v s begin accepted = go (list_all (λ (line : Line). is_served line.action) s.commands)
   where
     go : (served : Bool)
@@ -109,8 +111,8 @@ accepted_script v s begin accepted = go (list_all (λ (line : Line). is_served l
     go true = accepted_lines v s begin [] s.commands accepted
     go false = λ e. cc
 
-accepted_script_text : (file : List ℕ) (v : ℕ) (begin : List RunCommand → Reading) (text : Text)
-    → ((cs : List RunCommand) → AreAccepted (begin cs)) → AreAccepted (with_script_text file v begin text)
+accepted_script_text : (file : List ℕ) (v : ℕ) (begin : List NumberedCommand → Reading) (text : Text)
+    → ((cs : List NumberedCommand) → AreAccepted (begin cs)) → AreAccepted (with_script_text file v begin text)
 accepted_script_text file v begin TooLong accepted = λ e. cc
 accepted_script_text file v begin (Whole bytes) accepted = go (script_of v bytes)
   where
@@ -121,7 +123,7 @@ accepted_script_text file v begin (Whole bytes) accepted = go (script_of v bytes
 accepted_tree : (job : Job) (f : Groups) (tree : Tree) → AreAccepted (with_tree job f tree)
 accepted_tree job f tree = go job.script
   where
-    begin : List RunCommand → Reading
+    begin : List NumberedCommand → Reading
     begin cs = Begins (plan_for job f tree cs)
 
     go : (file : Option (List ℕ))
@@ -204,6 +206,7 @@ order_of asks words files effects OutOfMemory (inl (inl p, none)) = only_reading
 order_of asks words files effects OutOfMemory (inl (inr p, none)) =
     only_readings asks (p.1.names ++ p.0 ∷ []) p.1.asked
 order_of asks words files effects (ArenaFull n) (inl p) = absurd p.0
+order_of asks words files effects (OverLimit l g n k) (inl p) = absurd p.0
 
 -- ---- status by status
 
@@ -227,6 +230,7 @@ asked_at {asks = asks} words status kept old new went = record {
     none (Unwritable effect) goes is s = cc
     none OutOfMemory goes is s = cc
     none (ArenaFull n) goes is s = cc
+    none (OverLimit l g n k) goes is s = cc
 
     alone : (end : End) → GoesTo asks words old.contents.files went.effects end → status ≡ status_of end
         → (status ≡ 1) ⊎ (status ≡ 2) ⊎ (status ≡ 3) ⊎ (status ≡ 5) ⊎ (status ≡ 9)
@@ -239,3 +243,4 @@ asked_at {asks = asks} words status kept old new went = record {
     alone (Unwritable effect) goes is s = no_idle status 6 refl is s
     alone OutOfMemory goes is s = no_idle status 7 refl is s
     alone (ArenaFull n) goes is s = no_idle status 8 refl is s
+    alone (OverLimit l g n k) goes is s = no_idle status 4 refl is s

@@ -8,12 +8,12 @@ use Rattle.sd_commands.specs.Effects.{Effect}
 use Rattle.sd_tool.specs.Effects.{Contents, after}
 use Rattle.sd_tool.specs.Readings.{Refuses, Reads, reading_of, ReadsTo}
 use Rattle.sd_tool.specs.Refusals.{refusal_status}
-use Rattle.sd_tool.specs.Ends.{End, Finished, Refused, Unreadable, Unwritable, OutOfMemory, ArenaFull}
+use Rattle.sd_tool.specs.Ends.{End, Finished, Refused, Unreadable, Unwritable, OutOfMemory, ArenaFull, OverLimit}
 use Rattle.sd_tool.specs.Ends.{status_of}
 use Rattle.sd_tool.specs.Devices.{Moment, HasDeviceCause, WritesEndLine}
 use Rattle.sd_tool.specs.Course.{MayEnd, Leaves}
 use Rattle.sd_tool.specs.Headline.{IsCourse, HasEffects, HasLine, HasEnd, WasFull}
-use Rattle.sd_tool.specs.Headline.{IsRefused, CouldNotRead, CouldNotWrite}
+use Rattle.sd_tool.specs.Headline.{IsRefused, PassedLimit, CouldNotRead, CouldNotWrite}
 use Rattle.sd_tool.specs.KeptManager.{KeepsManager}
 use Rattle.sd_tool.specs.declared.refusal.Refusal.{Refusal}
 use Rattle.sd_tool.specs.declared.refusal.Refusal.TheVariants as refusals
@@ -128,6 +128,7 @@ effects_at {asks = asks} words status kept old new went = go went.end
       none = λ s. no_idle status 0 refl is s;
       first = λ s. cc;
       full = λ s. cc;
+      over = λ s. cc;
       in_hand = λ s. cc;
     }
     go (Refused refusal) may_end is leaves = record {
@@ -136,6 +137,7 @@ effects_at {asks = asks} words status kept old new went = go went.end
           (refused_early words old.contents.files went.effects refusal may_end).1 leaves;
       first = λ s. other_status refusal status 7 is refl s;
       full = λ s. other_status refusal status 8 is refl s;
+      over = λ s. other_status refusal status 4 is refl s;
       in_hand = λ s. other_status refusal status 6 is refl s;
     }
     go (Unreadable file) may_end is leaves = record {
@@ -144,6 +146,7 @@ effects_at {asks = asks} words status kept old new went = go went.end
           (unread_early words old.contents.files went.effects file may_end) leaves;
       first = λ s. cc;
       full = λ s. cc;
+      over = λ s. cc;
       in_hand = λ s. cc;
     }
     go (Unwritable effect) may_end is leaves = record {
@@ -151,6 +154,7 @@ effects_at {asks = asks} words status kept old new went = go went.end
       none = λ s. no_idle status 6 refl is s;
       first = λ s. cc;
       full = λ s. cc;
+      over = λ s. cc;
       in_hand = λ s. (went.effects, effect, may_end, leaves);
     }
     go OutOfMemory may_end is leaves = record {
@@ -158,6 +162,7 @@ effects_at {asks = asks} words status kept old new went = go went.end
       none = λ s. no_idle status 7 refl is s;
       first = λ s. (went.effects, may_end, leaves);
       full = λ s. cc;
+      over = λ s. cc;
       in_hand = λ s. cc;
     }
     go (ArenaFull n) may_end is leaves = record {
@@ -165,6 +170,15 @@ effects_at {asks = asks} words status kept old new went = go went.end
       none = λ s. no_idle status 8 refl is s;
       first = λ s. cc;
       full = λ s. (went.effects, n, may_end, leaves);
+      over = λ s. cc;
+      in_hand = λ s. cc;
+    }
+    go (OverLimit line group size limit) may_end is leaves = record {
+      all = λ s. cc;
+      none = λ s. no_idle status 4 refl is s;
+      first = λ s. cc;
+      full = λ s. cc;
+      over = λ s. (went.effects, line, group, size, limit, may_end, leaves);
       in_hand = λ s. cc;
     }
 
@@ -181,6 +195,7 @@ end_finished : (words : List (List ℕ)) (status : ℕ) (kept : Option Table) (o
 end_finished words status kept old new is keeps = record {
   one_of = inl is;
   refused = λ s. no_refused status 0 refl is s;
+  over_limit = λ s. no_same status 0 4 is refl refl s;
   read_fault = λ s. no_same status 0 5 is refl refl s;
   write_fault = λ s. no_same status 0 6 is refl refl s;
   arena_full = λ s. no_same status 0 8 is refl refl s;
@@ -189,11 +204,12 @@ end_finished words status kept old new is keeps = record {
 
 -- a refusal has one of the statuses
 among_all : (status : ℕ) → (status ≡ 1) ⊎ (status ≡ 2) ⊎ (status ≡ 3) ⊎ (status ≡ 9) → (status ≡ 0) ⊎ (status ≡ 1)
-    ⊎ (status ≡ 2) ⊎ (status ≡ 3) ⊎ (status ≡ 5) ⊎ (status ≡ 6) ⊎ (status ≡ 7) ⊎ (status ≡ 8) ⊎ (status ≡ 9)
+    ⊎ (status ≡ 2) ⊎ (status ≡ 3) ⊎ (status ≡ 4) ⊎ (status ≡ 5) ⊎ (status ≡ 6) ⊎ (status ≡ 7) ⊎ (status ≡ 8)
+    ⊎ (status ≡ 9)
 among_all status (inl s) = inr (inl s)
 among_all status (inr (inl s)) = inr (inr (inl s))
 among_all status (inr (inr (inl s))) = inr (inr (inr (inl s)))
-among_all status (inr (inr (inr s))) = inr (inr (inr (inr (inr (inr (inr (inr s)))))))
+among_all status (inr (inr (inr s))) = inr (inr (inr (inr (inr (inr (inr (inr (inr s))))))))
 
 -- where the words or a text were refused
 end_refused : (words : List (List ℕ)) (status : ℕ) (kept : Option Table) (old new : Moment) (refusal : Refusal)
@@ -201,9 +217,23 @@ end_refused : (words : List (List ℕ)) (status : ℕ) (kept : Option Table) (ol
 end_refused words status kept old new refusal is keeps refused = record {
   one_of = among_all status (one_of_four refusal status is);
   refused = λ s. refused;
+  over_limit = λ s. other_status refusal status 4 is refl s;
   read_fault = λ s. other_status refusal status 5 is refl s;
   write_fault = λ s. other_status refusal status 6 is refl s;
   arena_full = λ s. other_status refusal status 8 is refl s;
+  none_kept = λ s. keeps;
+}
+
+-- where the total size passed the limit
+end_over : (words : List (List ℕ)) (status : ℕ) (kept : Option Table) (old new : Moment) → status ≡ 4
+    → kept ≡ None → PassedLimit words old new → HasEnd words status kept old new
+end_over words status kept old new is keeps passed = record {
+  one_of = inr (inr (inr (inr (inl is))));
+  refused = λ s. no_refused status 4 refl is s;
+  over_limit = λ s. passed;
+  read_fault = λ s. no_same status 4 5 is refl refl s;
+  write_fault = λ s. no_same status 4 6 is refl refl s;
+  arena_full = λ s. no_same status 4 8 is refl refl s;
   none_kept = λ s. keeps;
 }
 
@@ -211,8 +241,9 @@ end_refused words status kept old new refusal is keeps refused = record {
 end_unread : (words : List (List ℕ)) (status : ℕ) (kept : Option Table) (old new : Moment) → status ≡ 5
     → kept ≡ None → CouldNotRead words old new → HasEnd words status kept old new
 end_unread words status kept old new is keeps unread = record {
-  one_of = inr (inr (inr (inr (inl is))));
+  one_of = inr (inr (inr (inr (inr (inl is)))));
   refused = λ s. no_refused status 5 refl is s;
+  over_limit = λ s. no_same status 5 4 is refl refl s;
   read_fault = λ s. unread;
   write_fault = λ s. no_same status 5 6 is refl refl s;
   arena_full = λ s. no_same status 5 8 is refl refl s;
@@ -223,8 +254,9 @@ end_unread words status kept old new is keeps unread = record {
 end_unwritten : (words : List (List ℕ)) (status : ℕ) (kept : Option Table) (old new : Moment) → status ≡ 6
     → kept ≡ None → CouldNotWrite words old new → HasEnd words status kept old new
 end_unwritten words status kept old new is keeps unwritten = record {
-  one_of = inr (inr (inr (inr (inr (inl is)))));
+  one_of = inr (inr (inr (inr (inr (inr (inl is))))));
   refused = λ s. no_refused status 6 refl is s;
+  over_limit = λ s. no_same status 6 4 is refl refl s;
   read_fault = λ s. no_same status 6 5 is refl refl s;
   write_fault = λ s. unwritten;
   arena_full = λ s. no_same status 6 8 is refl refl s;
@@ -235,8 +267,9 @@ end_unwritten words status kept old new is keeps unwritten = record {
 end_no_memory : (words : List (List ℕ)) (status : ℕ) (kept : Option Table) (old new : Moment) → status ≡ 7
     → kept ≡ None → HasEnd words status kept old new
 end_no_memory words status kept old new is keeps = record {
-  one_of = inr (inr (inr (inr (inr (inr (inl is))))));
+  one_of = inr (inr (inr (inr (inr (inr (inr (inl is)))))));
   refused = λ s. no_refused status 7 refl is s;
+  over_limit = λ s. no_same status 7 4 is refl refl s;
   read_fault = λ s. no_same status 7 5 is refl refl s;
   write_fault = λ s. no_same status 7 6 is refl refl s;
   arena_full = λ s. no_same status 7 8 is refl refl s;
@@ -247,8 +280,9 @@ end_no_memory words status kept old new is keeps = record {
 end_full : (words : List (List ℕ)) (status : ℕ) (kept : Option Table) (old new : Moment) → status ≡ 8
     → WasFull words kept old new → HasEnd words status kept old new
 end_full words status kept old new is full = record {
-  one_of = inr (inr (inr (inr (inr (inr (inr (inl is)))))));
+  one_of = inr (inr (inr (inr (inr (inr (inr (inr (inl is))))))));
   refused = λ s. no_refused status 8 refl is s;
+  over_limit = λ s. no_same status 8 4 is refl refl s;
   read_fault = λ s. no_same status 8 5 is refl refl s;
   write_fault = λ s. no_same status 8 6 is refl refl s;
   arena_full = λ s. full;
@@ -296,3 +330,13 @@ end_at {asks = asks} words status kept old new went =
     go effects OutOfMemory may_end is cause keeps line = end_no_memory words status kept old new is keeps
     go effects (ArenaFull n) may_end is cause keeps line =
         end_full words status kept old new is (full_at words n effects kept old new keeps may_end line)
+    go effects (OverLimit at group size limit) may_end is cause keeps line =
+        end_over words status kept old new is keeps record {
+          at_line = at;
+          group = group;
+          size = size;
+          limit = limit;
+          effects = effects;
+          in_hand = may_end;
+          line = line;
+        }

@@ -6,7 +6,7 @@ use Rattle.sd_base.specs.Files.{Files}
 use Rattle.sd_manager.specs.Table.{Table}
 use Rattle.sd_formula.specs.Dimacs.{Groups}
 use Rattle.sd_commands.specs.Effects.{Effect}
-use Rattle.sd_commands.specs.declared.command.RunCommand.{RunCommand}
+use Rattle.sd_commands.specs.declared.command.NumberedCommand.{NumberedCommand}
 use Rattle.sd_commands.specs.declared.state.RunState.{RunState}
 use Rattle.sd_tool.specs.Effects.{Contents}
 use Rattle.sd_tool.specs.Readings.{Plan, Begins, reading_of, ReadsTo}
@@ -15,7 +15,7 @@ use Rattle.sd_tool.specs.Course.{EndsAmong, Leaves}
 use Rattle.sd_tool.specs.PlanViews.{plan_with}
 use Rattle.sd_tool.specs.Headline.{IsCourse}
 use Rattle.sd_tool.specs.Ends.{End, Finished, Refused, Unreadable, Unwritable, OutOfMemory as NoMemory}
-use Rattle.sd_tool.specs.Ends.{ArenaFull as NoRoom, line_of, status_of}
+use Rattle.sd_tool.specs.Ends.{ArenaFull as NoRoom, OverLimit as Passes, line_of, status_of}
 use Rattle.sd_tool.specs.Refusals.{refusal_status}
 use Rattle.sd_tool.specs.KeptManager.{KeepsOf, KeepsManager}
 use Rattle.sd_tool.specs.Devices.{Moment, Faults, NotFewer, HasDeviceCause, WritesLine, WritesEndLine}
@@ -26,6 +26,7 @@ use Rattle.sd_tool.specs.declared.refusal.Refusal.TheVariants as refusals
 use Rattle.sd_tool.specs.declared.stop.Stop.{Stop}
 use Rattle.sd_tool.specs.declared.stop.Stop.TheVariants as stops
 use Rattle.sd_tool.specs.declared.stop.Stop.TheVariants.{ReadFault, WriteFault, OutputFault, OutOfMemory, ArenaFull}
+use Rattle.sd_tool.specs.declared.stop.Stop.TheVariants.{OverLimit}
 use Rattle.sd_tool.proofs.AskLemmas.{Joins, comes_reads}
 use Rattle.sd_tool.proofs.StepLemmas.{cause_since}
 
@@ -56,6 +57,7 @@ reading_stops words (ReadFault file) kept old new before now none same stops = r
 reading_stops words (WriteFault file) kept old new before now none same stops = absurd stops
 reading_stops words OutputFault kept old new before now none same stops = absurd stops
 reading_stops words (ArenaFull n) kept old new before now none same stops = absurd stops
+reading_stops words (OverLimit l g n k) kept old new before now none same stops = absurd stops
 reading_stops words OutOfMemory kept old new before now none same stops = record {
   end = NoMemory;
   at = record { status = refl; text = refl; stopped = λ e. cc };
@@ -77,6 +79,7 @@ cause_from plan effects (Unwritable effect) files others first mid last ends few
     cause_since effect files others first mid last fewer cause
 cause_from plan effects NoMemory files others first mid last ends fewer cause = tt
 cause_from plan effects (NoRoom n) files others first mid last ends fewer cause = tt
+cause_from plan effects (Passes l g n k) files others first mid last ends fewer cause = tt
 
 -- a refusal has not the status of a full arena
 pub no_refusal : (refusal : Refusal) → refusal_status refusal ≡ 8 → ⊥
@@ -98,6 +101,7 @@ kept_full plan effects (Unreadable file) t is full_at = cc
 kept_full plan effects (Unwritable effect) t is full_at = cc
 kept_full plan effects NoMemory t is full_at = cc
 kept_full plan effects (NoRoom n) t is full_at = full_at
+kept_full plan effects (Passes l g n k) t is full_at = cc
 
 -- at each other end nothing is kept
 kept_none : (plan : Plan) (effects : List Effect) (end : End) → (status_of end ≡ 8 → ⊥) → KeepsOf plan effects end None
@@ -107,6 +111,7 @@ kept_none plan effects (Unreadable file) other = refl
 kept_none plan effects (Unwritable effect) other = refl
 kept_none plan effects NoMemory other = refl
 kept_none plan effects (NoRoom n) other = absurd (other refl)
+kept_none plan effects (Passes l g n k) other = refl
 
 -- the commands came to an end, and what is kept is that of the end
 carried : {asks : List Request → Type 0} (plan : Plan) (t : Table) (kept : Option Table)
@@ -125,22 +130,22 @@ carried plan t kept result old new before now goes keeps = record {
 }
 
 -- the commands in hand are those of the plan
-abbrev with_own : (List Request → Type 0) → Groups → RunState → ℕ → Option Table → Result (Unit {0}) Stop → Contents
-    → Contents → Faults → Faults → List RunCommand → Type 0
-with_own asks formula state limit kept result old new before now commands =
-    CarriesOut asks (plan_with formula state limit commands) kept result old new before now
+abbrev with_own : (List Request → Type 0) → Groups → RunState → Option Table → Result (Unit {0}) Stop → Contents
+    → Contents → Faults → Faults → List NumberedCommand → Type 0
+with_own asks formula state kept result old new before now commands =
+    CarriesOut asks (plan_with formula state commands) kept result old new before now
 
 -- all commands were done
-pub carried_done : {asks : List Request → Type 0} (formula : Groups) (state : RunState) (limit : ℕ)
-    (done commands : List RunCommand) (t : Table)
+pub carried_done : {asks : List Request → Type 0} (formula : Groups) (state : RunState)
+    (done commands : List NumberedCommand) (t : Table)
     (kept : Option Table) (old new : Contents) (before now : Faults) → done ≡ commands → kept ≡ None
-    → RunsToEnd asks (plan_with formula state limit done) t (Ok tt) old new before now
-    → CarriesOut asks (plan_with formula state limit commands) kept (Ok tt) old new before now
-carried_done {asks = asks} formula state limit done commands t kept old new before now all none goes =
-    subst (with_own asks formula state limit kept (Ok tt) old new before now) all
-    (carried (plan_with formula state limit done) t kept (Ok tt) old new before now goes
-    (subst (KeepsOf (plan_with formula state limit done) goes.effects goes.end) (sym none)
-    (kept_none (plan_with formula state limit done) goes.effects goes.end (λ e. other goes.at e))))
+    → RunsToEnd asks (plan_with formula state done) t (Ok tt) old new before now
+    → CarriesOut asks (plan_with formula state commands) kept (Ok tt) old new before now
+carried_done {asks = asks} formula state done commands t kept old new before now all none goes =
+    subst (with_own asks formula state kept (Ok tt) old new before now) all
+    (carried (plan_with formula state done) t kept (Ok tt) old new before now goes
+    (subst (KeepsOf (plan_with formula state done) goes.effects goes.end) (sym none)
+    (kept_none (plan_with formula state done) goes.effects goes.end (λ e. other goes.at e))))
   where
     other : goes.end ≡ Finished → status_of goes.end ≡ 8 → ⊥
     other is e = let zero_ = ap status_of is in let bad : ⊥ = cc in bad
@@ -167,18 +172,20 @@ keeps_at plan effects OutputFault end t kept was none is status full_at =
     kept_other plan effects OutputFault end kept was none is status (λ e. cc)
 keeps_at plan effects OutOfMemory end t kept was none is status full_at =
     kept_other plan effects OutOfMemory end kept was none is status (λ e. cc)
+keeps_at plan effects (OverLimit l g n k) end t kept was none is status full_at =
+    kept_other plan effects (OverLimit l g n k) end kept was none is status (λ e. cc)
 
 -- the commands stopped, and the manager is kept if it was full
-pub carried_stop : {asks : List Request → Type 0} (formula : Groups) (state : RunState) (limit : ℕ)
-    (done commands : List RunCommand) (t : Table)
+pub carried_stop : {asks : List Request → Type 0} (formula : Groups) (state : RunState)
+    (done commands : List NumberedCommand) (t : Table)
     (kept was : Option Table) (stop : Stop) (old new : Contents) (before now : Faults) → done ≡ commands
     → was ≡ None → kept ≡ cond (is_full stop) (Some t) was
-    → RunsToEnd asks (plan_with formula state limit done) t (Err stop) old new before now
-    → CarriesOut asks (plan_with formula state limit commands) kept (Err stop) old new before now
-carried_stop {asks = asks} formula state limit done commands t kept was stop old new before now all none is goes =
-    subst (with_own asks formula state limit kept (Err stop) old new before now) all
-    (carried (plan_with formula state limit done) t kept (Err stop) old new before now goes
-    (keeps_at (plan_with formula state limit done) goes.effects stop goes.end t kept was none is goes.at.status
+    → RunsToEnd asks (plan_with formula state done) t (Err stop) old new before now
+    → CarriesOut asks (plan_with formula state commands) kept (Err stop) old new before now
+carried_stop {asks = asks} formula state done commands t kept was stop old new before now all none is goes =
+    subst (with_own asks formula state kept (Err stop) old new before now) all
+    (carried (plan_with formula state done) t kept (Err stop) old new before now goes
+    (keeps_at (plan_with formula state done) goes.effects stop goes.end t kept was none is goes.at.status
     goes.full_at))
 
 -- what is kept is that of the plan to which the readings led
@@ -191,6 +198,7 @@ keeps_led words files plan effects (Unreadable file) kept led keeps = keeps
 keeps_led words files plan effects (Unwritable effect) kept led keeps = keeps
 keeps_led words files plan effects NoMemory kept led keeps = keeps
 keeps_led words files plan effects (NoRoom n) kept led keeps = (plan, led, keeps)
+keeps_led words files plan effects (Passes l g n k) kept led keeps = keeps
 
 -- the commands go on from where the readings led
 pub commands_go : {a b c : List Request → Type 0} (words : List (List ℕ)) (plan : Plan) (kept : Option Table)
@@ -227,6 +235,8 @@ says_end stop (Unwritable effect) old new at says =
 says_end stop NoMemory old new at says =
     subst (λ t. WritesLine (line_of t) old.errors new.errors old.err_faults new.err_faults) at.text says
 says_end stop (NoRoom n) old new at says =
+    subst (λ t. WritesLine (line_of t) old.errors new.errors old.err_faults new.err_faults) at.text says
+says_end stop (Passes l g n k) old new at says =
     subst (λ t. WritesLine (line_of t) old.errors new.errors old.err_faults new.err_faults) at.text says
 
 -- a run that stopped and said so went to that end

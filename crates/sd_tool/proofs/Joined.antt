@@ -23,16 +23,17 @@ use Rattle.sd_words.specs.declared.jobs.InputWord.TheVariants as inputs
 use Rattle.sd_words.specs.declared.jobs.TreeWord.{TreeWord}
 use Rattle.sd_words.specs.declared.jobs.TreeWord.TheVariants as trees
 use Rattle.sd_commands.specs.Effects.{Effect, Write}
-use Rattle.sd_commands.specs.Commands.{State, Outcome, Done, Step, Steps, Binds, IsTextOf}
-use Rattle.sd_commands.specs.Commands.{named, with_name, formula_named}
+use Rattle.sd_commands.specs.Commands.{State, Done, Step, Steps, IsTextOf, named, with_name, formula_named}
+use Rattle.sd_commands.specs.declared.command.NumberedCommand.{NumberedCommand}
 use Rattle.sd_commands.specs.declared.command.RunCommand.{RunCommand}
 use Rattle.sd_commands.specs.declared.command.RunCommand.TheVariants as commands
+use Rattle.sd_commands.proofs.Outcomes.{settled_done, input_done}
 use Rattle.sd_tool.specs.Effects.{Contents, after}
 use Rattle.sd_tool.specs.Readings.{Plan, Reading, Refuses, Begins, Reads, Whole, ReadsTo, reading_of, with_job}
 use Rattle.sd_tool.specs.Readings.{with_input_word, with_input, with_formula, with_tree_word, with_tree}
 use Rattle.sd_tool.specs.Readings.{with_vtree_text, with_vtree_reading, with_commands, with_script_text}
 use Rattle.sd_tool.specs.Readings.{with_script_reading, script_reading, with_lines, with_action, is_served}
-use Rattle.sd_tool.specs.Readings.{Input, announcement, plan_for, file_name, input_file}
+use Rattle.sd_tool.specs.Readings.{Input, announcement, plan_for, file_name, input_file, in_line}
 use Rattle.sd_tool.specs.declared.refusal.Refusal.TheVariants as refusals
 use Rattle.sd_tool.specs.Ends.{Finished}
 use Rattle.sd_tool.specs.Devices.{Moment, NoneRose, HasDeviceCause}
@@ -49,38 +50,46 @@ use Rattle.sd_tool.proofs.ReadingLemmas.{reads_on, reads_same, file_asked}
 
 -- ---- the lines as commands
 
+-- where a command is done, it leads to the state with one more name, without an effect
+abbrev pub BindsName : Groups → State → RunCommand → ℕ → Expression → Type 0
+BindsName input state command name f = (next : State) (effects : List Effect)
+    → Step input state command (Done next effects) → (next ≡ with_name state name f) × (effects ≡ [])
+
 -- a line that needs no other name is one command, which binds its name
-record OwnLine (input : Expression) (action : Action) (name : ℕ) (f : Expression) : Type 0 where
+record OwnLine (input : Groups) (action : Action) (name : ℕ) (f : Expression) : Type 0 where
   command : RunCommand
   served : is_served action ≡ true
   acts : (v : ℕ) (script : Script) (next : RunCommand → Reading) → with_action v script next action ≡ next command
-  binds : (state : State) (outcome : Outcome) → Step input state command outcome → Binds state name f outcome
+  binds : (state : State) → BindsName input state command name f
 
 -- an equal name is bound to an equal formula
-binds_same : (state : State) (outcome : Outcome) (a b : ℕ × Expression) → Some a ≡ Some b
-    → Binds state a.0 a.1 outcome → Binds state b.0 b.1 outcome
-binds_same state outcome a b is binds =
-    let same : a ≡ b = cc in subst (λ (p : ℕ × Expression). Binds state p.0 p.1 outcome) same binds
+binds_same : (input : Groups) (state : State) (command : RunCommand) (a b : ℕ × Expression) → Some a ≡ Some b
+    → BindsName input state command a.0 a.1 → BindsName input state command b.0 b.1
+binds_same input state command a b is binds =
+    let same : a ≡ b = cc in subst (λ (p : ℕ × Expression). BindsName input state command p.0 p.1) same binds
 
-own_line : (input : Expression) (action : Action) (name : ℕ) (f : Expression)
-    → own_formula input action ≡ Some (name, f) → OwnLine input action name f
+own_line : (input : Groups) (action : Action) (name : ℕ) (f : Expression)
+    → own_formula (expression_of input) action ≡ Some (name, f) → OwnLine input action name f
 own_line input (actions.Input n) name f is = record {
   command = commands.Input n;
   served = refl;
   acts = λ v script next. refl;
-  binds = λ state outcome step. binds_same state outcome (n, input) (name, f) is step;
+  binds = λ state. binds_same input state (commands.Input n) (n, expression_of input) (name, f) is
+      (λ next effects step. input_done input state next n effects step);
 }
 own_line input (actions.Lit n literal) name f is = record {
   command = commands.Literal n literal;
   served = refl;
   acts = λ v script next. refl;
-  binds = λ state outcome step. binds_same state outcome (n, Atom literal) (name, f) is step;
+  binds = λ state. binds_same input state (commands.Literal n literal) (n, Atom literal) (name, f) is
+      (λ next effects step. settled_done (with_name state n (Atom literal)) next effects step);
 }
 own_line input (actions.Constant n value) name f is = record {
   command = commands.Constant n value;
   served = refl;
   acts = λ v script next. refl;
-  binds = λ state outcome step. binds_same state outcome (n, Constant value) (name, f) is step;
+  binds = λ state. binds_same input state (commands.Constant n value) (n, Constant value) (name, f) is
+      (λ next effects step. settled_done (with_name state n (Constant value)) next effects step);
 }
 own_line input action name f is = let bad : ⊥ = cc in absurd bad
 
@@ -98,26 +107,27 @@ not_announced (inputs.Dnf file) input formula is = refl
 not_announced (inputs.Generate count seed) input formula is = let bad : ⊥ = cc in absurd bad
 
 -- the commands of four lines
-module _ (v : ℕ) (script : Script) (begin : List RunCommand → Reading) where
+module _ (v : ℕ) (script : Script) (begin : List NumberedCommand → Reading) where
   -- one line more
-  line_more : (done : List RunCommand) (l : Line) (ls : List Line) (c : RunCommand)
+  line_more : (done : List NumberedCommand) (l : Line) (ls : List Line) (c : RunCommand)
       → ((next : RunCommand → Reading) → with_action v script next l.action ≡ next c)
-      → with_lines v script begin done (l ∷ ls) ≡ with_lines v script begin (done ++ c ∷ []) ls
-  line_more done l ls c acts = acts (λ command. with_lines v script begin (done ++ command ∷ []) ls)
+      → with_lines v script begin done (l ∷ ls) ≡ with_lines v script begin (done ++ in_line l c ∷ []) ls
+  line_more done l ls c acts = acts (λ command. with_lines v script begin (done ++ in_line l command ∷ []) ls)
 
   four_lines : (k l m n : Line) (a b c d : RunCommand)
       → ((next : RunCommand → Reading) → with_action v script next k.action ≡ next a)
       → ((next : RunCommand → Reading) → with_action v script next l.action ≡ next b)
       → ((next : RunCommand → Reading) → with_action v script next m.action ≡ next c)
       → ((next : RunCommand → Reading) → with_action v script next n.action ≡ next d)
-      → with_lines v script begin [] (k ∷ l ∷ m ∷ n ∷ []) ≡ begin (a ∷ b ∷ c ∷ d ∷ [])
+      → with_lines v script begin [] (k ∷ l ∷ m ∷ n ∷ [])
+      ≡ begin (in_line k a ∷ in_line l b ∷ in_line m c ∷ in_line n d ∷ [])
   four_lines k l m n a b c d p q r s =
-      line_more [] k (l ∷ m ∷ n ∷ []) a p ∙ line_more (a ∷ []) l (m ∷ n ∷ []) b q
-      ∙ line_more (a ∷ b ∷ []) m (n ∷ []) c r
-      ∙ line_more (a ∷ b ∷ c ∷ []) n [] d s
+      line_more [] k (l ∷ m ∷ n ∷ []) a p ∙ line_more (in_line k a ∷ []) l (m ∷ n ∷ []) b q
+      ∙ line_more (in_line k a ∷ in_line l b ∷ []) m (n ∷ []) c r
+      ∙ line_more (in_line k a ∷ in_line l b ∷ in_line m c ∷ []) n [] d s
 
-module _ (input : Expression) (script : Script) (joined : Expression) (file : List ℕ)
-    (two : JoinsTwo input script joined file) where
+module _ (input : Groups) (script : Script) (joined : Expression) (file : List ℕ)
+    (two : JoinsTwo (expression_of input) script joined file) where
   first_line : OwnLine input two.first.action two.f two.left
   first_line = own_line input two.first.action two.f two.left two.binds_f
 
@@ -125,14 +135,16 @@ module _ (input : Expression) (script : Script) (joined : Expression) (file : Li
   second_line = own_line input two.second.action two.g two.right two.binds_g
 
   -- the commands of the script
-  abbrev four_commands : List RunCommand
+  abbrev four_commands : List NumberedCommand
   four_commands =
-      (own_line input two.first.action two.f two.left two.binds_f).command
-      ∷ (own_line input two.second.action two.g two.right two.binds_g).command
-      ∷ commands.Combine two.operation two.h two.f two.g ∷ commands.Write two.h (file_name script two.number) ∷ []
+      in_line two.first (own_line input two.first.action two.f two.left two.binds_f).command
+      ∷ in_line two.second (own_line input two.second.action two.g two.right two.binds_g).command
+      ∷ in_line two.third (commands.Combine two.operation two.h two.f two.g)
+      ∷ in_line two.last (commands.Write two.h (file_name script two.number)) ∷ []
 
   -- all four lines are served, and they become these commands
-  script_leads : (v : ℕ) (begin : List RunCommand → Reading) → script_reading v begin script ≡ begin four_commands
+  script_leads : (v : ℕ) (begin : List NumberedCommand → Reading)
+      → script_reading v begin script ≡ begin four_commands
   script_leads v begin =
       let one = own_line input two.first.action two.f two.left two.binds_f in
       let other = own_line input two.second.action two.g two.right two.binds_g in
@@ -170,12 +182,12 @@ tree_follows files job f tree point (trees.File file) (bytes, there, short, read
 module _ (words : List (List ℕ)) (files : Files) (job : Job) (formula : Groups) (script : Script) (tree : Tree)
     (has : HasScript words files job formula script) (start : IsStartTree files job.tree formula.variables tree) where
   -- where the script becomes these commands, it is a plan
-  script_follows : (cs : List RunCommand)
-      → ((begin : List RunCommand → Reading) → script_reading formula.variables begin script ≡ begin cs)
+  script_follows : (cs : List NumberedCommand)
+      → ((begin : List NumberedCommand → Reading) → script_reading formula.variables begin script ≡ begin cs)
       → ReadsTo (Some files) (with_tree job formula tree) (Begins (plan_for job formula tree cs))
   script_follows cs becomes =
       let told = Some files in
-      let begin = λ (l : List RunCommand). Begins (plan_for job formula tree l) in
+      let begin = λ (l : List NumberedCommand). Begins (plan_for job formula tree l) in
       let asks = Reads has.script_file (with_script_text has.script_file formula.variables begin) in
       let read : ReadsTo told asks (begin cs) =
       inr (
@@ -188,8 +200,8 @@ module _ (words : List (List ℕ)) (files : Files) (job : Job) (formula : Groups
       (reads_same told _ _ (ap (with_commands job formula.variables begin) has.asked)) read
 
   -- the words, the input, the tree and the script lead to it
-  leads_to_script : (cs : List RunCommand)
-      → ((begin : List RunCommand → Reading) → script_reading formula.variables begin script ≡ begin cs)
+  leads_to_script : (cs : List NumberedCommand)
+      → ((begin : List NumberedCommand → Reading) → script_reading formula.variables begin script ≡ begin cs)
       → ReadsTo (Some files) (reading_of words) (Begins (plan_for job formula tree cs))
   leads_to_script cs becomes =
       let told = Some files in
@@ -213,23 +225,20 @@ module _ (words : List (List ℕ)) (files : Files) (job : Job) (formula : Groups
 -- ---- the commands, done
 
 -- a command that binds a name, and the others after it
-bind_done : (input : Expression) (state last : State) (name : ℕ) (f : Expression) (command : RunCommand)
-    (rest : List RunCommand) (effects : List Effect)
-    → ((outcome : Outcome) → Step input state command outcome → Binds state name f outcome)
+bind_done : (input : Groups) (state last : State) (name : ℕ) (f : Expression) (command : NumberedCommand)
+    (rest : List NumberedCommand) (effects : List Effect) → BindsName input state command.command name f
     → Steps input state (command ∷ rest) effects last → Steps input (with_name state name f) rest effects last
 bind_done input state last name f command rest effects binds (mid, first, others, step, steps, is) =
-    let done : Done mid first ≡ Done (with_name state name f) [] = binds (Done mid first) step in
-    let same : mid ≡ with_name state name f = cc in
-    let none : first ≡ [] = cc in
-    let all : effects ≡ others = is ∙ ap (λ (l : List Effect). l ++ others) none in
+    let done = binds mid first step in
+    let all : effects ≡ others = is ∙ ap (λ (l : List Effect). l ++ others) done.1 in
     subst (λ l. Steps input (with_name state name f) rest l last) (sym all)
-    (subst (λ s. Steps input s rest others last) same steps)
+    (subst (λ s. Steps input s rest others last) done.0 steps)
 
 -- a last command that writes a diagram
-write_done : (input : Expression) (state last : State) (name : ℕ) (file : List ℕ) (effects : List Effect)
-    → Steps input state (commands.Write name file ∷ []) effects last
+write_done : (input : Groups) (state last : State) (name : ℕ) (file : List ℕ) (line : Line) (effects : List Effect)
+    → Steps input state (in_line line (commands.Write name file) ∷ []) effects last
     → (text : List ℕ) × IsTextOf state.tree (formula_named state name) text × (effects ≡ Write file text ∷ [])
-write_done input state last name file effects (mid, first, others, step, steps, is) =
+write_done input state last name file line effects (mid, first, others, step, steps, is) =
     let wrote : first ≡ Write file step.0 ∷ [] = let e = step.2 in cc in
     (step.0, step.1, is ∙ ap (λ (l : List Effect). l ++ others) wrote ∙ ap (λ l. Write file step.0 ∷ l) steps.0)
 
@@ -257,26 +266,27 @@ joined_formula state f g h left right operation differ =
     ∙ ap (λ y. Combined operation left y) (named_first ((f, left) ∷ state.names) g right)
 
 -- four commands that are all done write the joined formula
-four_done : (input : Expression) (script : Script) (joined : Expression) (file : List ℕ)
-    (two : JoinsTwo input script joined file) (state last : State) (effects : List Effect)
+four_done : (input : Groups) (script : Script) (joined : Expression) (file : List ℕ)
+    (two : JoinsTwo (expression_of input) script joined file) (state last : State) (effects : List Effect)
     → Steps input state (four_commands input script joined file two) effects last
     → (text : List ℕ) × IsTextOf state.tree joined text × (effects ≡ Write file text ∷ [])
 four_done input script joined file two state last effects steps =
     let one = own_line input two.first.action two.f two.left two.binds_f in
     let other = own_line input two.second.action two.g two.right two.binds_g in
-    let combine = commands.Combine two.operation two.h two.f two.g in
-    let write = commands.Write two.h (file_name script two.number) in
+    let second = in_line two.second other.command in
+    let combine = in_line two.third (commands.Combine two.operation two.h two.f two.g) in
+    let write = in_line two.last (commands.Write two.h (file_name script two.number)) in
     let a = with_name state two.f two.left in
     let b = with_name a two.g two.right in
     let value = Combined two.operation (formula_named b two.f) (formula_named b two.g) in
     let c = with_name b two.h value in
-    let after_first = bind_done input state last two.f two.left one.command (other.command ∷ combine ∷ write ∷ [])
-    effects (one.binds state) steps in
-    let after_second = bind_done input a last two.g two.right other.command (combine ∷ write ∷ []) effects
+    let after_first = bind_done input state last two.f two.left (in_line two.first one.command)
+    (second ∷ combine ∷ write ∷ []) effects (one.binds state) steps in
+    let after_second = bind_done input a last two.g two.right second (combine ∷ write ∷ []) effects
     (other.binds a) after_first in
-    let after_third = bind_done input b last two.h value combine (write ∷ []) effects (λ outcome step. step)
-    after_second in
-    let done = write_done input c last two.h (file_name script two.number) effects after_third in (
+    let after_third = bind_done input b last two.h value combine (write ∷ []) effects
+    (λ next done step. settled_done (with_name b two.h value) next done step) after_second in
+    let done = write_done input c last two.h (file_name script two.number) two.last effects after_third in (
       done.0,
       subst (λ f. IsTextOf state.tree f done.0)
           (joined_formula state two.f two.g two.h two.left two.right two.operation two.two ∙ sym two.is) done.1,
@@ -311,11 +321,10 @@ leaves_text files tree f file text effects old new told are is_text is =
 pub joined_at : {asks : List Request → Type 0} (words : List (List ℕ)) (status : ℕ) (kept : Option Table)
     (old new : Moment) → IsCourse asks words status kept old new → HasJoined words status old new
 joined_at {asks = asks} words status kept old new went = λ files job formula tree script joined file told has start two.
-    let input = expression_of formula in
-    let cs = four_commands input script joined file two in
+    let cs = four_commands formula script joined file two in
     let plan = plan_for job formula tree cs in
     let led = leads_to_script words files job formula script tree has start cs
-    (script_leads input script joined file two formula.variables) in (
+    (script_leads formula script joined file two formula.variables) in (
       ends files plan told led,
       λ zero_.
           let all = (effects_at words status kept old new went).all zero_ in
@@ -326,33 +335,34 @@ joined_at {asks = asks} words status kept old new went = λ files job formula tr
   where
     ends : (files : Files) (plan : Plan) → old.contents.files ≡ Some files
         → ReadsTo (Some files) (reading_of words) (Begins plan) → NoneRose old.faults new.faults
-        → (status ≡ 0) ⊎ (status ≡ 7) ⊎ (status ≡ 8)
+        → (status ≡ 0) ⊎ (status ≡ 4) ⊎ (status ≡ 7) ⊎ (status ≡ 8)
     ends files plan told led calm =
         let may_end = subst (λ f. MayEnd words f went.effects went.end) told
         (goes_may_end asks words old.contents.files went.effects went.end went.goes) in
         let cause = subst (λ f. HasDeviceCause went.end f old.faults new.faults) told went.cause in
         elim (done_or_none words files plan went.effects went.end old.faults new.faults led may_end cause calm) [
           | inl done ↦ inl (went.status_is ∙ done)
-          | inr (inl memory) ↦ inr (inl (went.status_is ∙ memory))
-          | inr (inr full) ↦ inr (inr (went.status_is ∙ full))
+          | inr (inl passes) ↦ inr (inl (went.status_is ∙ passes))
+          | inr (inr (inl memory)) ↦ inr (inr (inl (went.status_is ∙ memory)))
+          | inr (inr (inr full)) ↦ inr (inr (inr (went.status_is ∙ full)))
         ]
 
     writes : (files : Files) (job : Job) (formula : Groups) (tree : Tree) (script : Script) (joined : Expression)
         (file : List ℕ) (two : JoinsTwo (expression_of formula) script joined file) → old.contents.files ≡ Some files
         → announcement job.input formula ≡ [] → ReadsTo (Some files) (reading_of words)
-        (Begins (plan_for job formula tree (four_commands (expression_of formula) script joined file two)))
+        (Begins (plan_for job formula tree (four_commands formula script joined file two)))
         → (effects : List Effect) → MayEnd words (Some files) effects Finished
         → new.contents ≡ after effects old.contents
         → WritesDiagram files tree joined file old.contents new.contents
     writes files job formula tree script joined file two told none led effects (inl p) is = absurd p.0
     writes files job formula tree script joined file two told none led effects (inr p) is =
-        let cs = four_commands (expression_of formula) script joined file two in
+        let cs = four_commands formula script joined file two in
         let plan = plan_for job formula tree cs in
         let same = one_plan words files plan p.0 led p.1 in
         let all = subst (λ (q : Plan). Steps q.input q.start q.commands effects p.2.0) same
         (whole_plan p.0 p.2.0 effects p.2.1) in
-        let steps = subst (λ (l : List RunCommand). Steps plan.input plan.start (l ++ cs) effects p.2.0) none all in
-        let done = four_done (expression_of formula) script joined file two plan.start p.2.0 effects steps in
+        let steps = subst (λ (l : List NumberedCommand). Steps plan.input plan.start (l ++ cs) effects p.2.0) none all in
+        let done = four_done formula script joined file two plan.start p.2.0 effects steps in
         leaves_text files tree joined file done.0 effects old.contents new.contents told done.2 done.1 is
 
 -- ---- a script of this form

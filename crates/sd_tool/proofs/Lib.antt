@@ -4,6 +4,7 @@ pub mod ByStatus
 pub mod EndLemmas
 pub mod FormulaFaults
 pub mod Joined
+pub mod Limited
 pub mod NotOutOfMemory
 pub mod OneCourse
 pub mod OnePoint

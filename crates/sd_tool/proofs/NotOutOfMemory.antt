@@ -33,13 +33,14 @@ use Rattle.sd_words.specs.declared.jobs.TreeWord.{TreeWord}
 use Rattle.sd_words.specs.declared.jobs.TreeWord.TheVariants as trees
 use Rattle.sd_words.specs.declared.faults.WordsFault.{WordsFault}
 use Rattle.sd_words.specs.declared.faults.WordsFault.TheVariants as words
+use Rattle.sd_commands.specs.declared.command.NumberedCommand.{NumberedCommand}
 use Rattle.sd_commands.specs.declared.command.RunCommand.{RunCommand}
 use Rattle.sd_commands.specs.declared.command.RunCommand.TheVariants as commands
 use Rattle.sd_tool.specs.Readings.{Plan, Input, Reading, Refuses, Begins, Reads, Text, Whole, TooLong, ReadsTo}
 use Rattle.sd_tool.specs.Readings.{reading_of, with_job, with_input, with_input_word, with_formula, with_tree_word}
 use Rattle.sd_tool.specs.Readings.{with_tree, with_vtree_text, with_vtree_reading, with_commands, script_reading}
 use Rattle.sd_tool.specs.Readings.{with_script_text, with_script_reading, with_lines, with_action, with_sdd}
-use Rattle.sd_tool.specs.Readings.{with_sdd_reading, is_served, is_plain, file_name, plan_for, default_of}
+use Rattle.sd_tool.specs.Readings.{with_sdd_reading, in_line, is_served, is_plain, file_name, plan_for, default_of}
 use Rattle.sd_tool.specs.Refusals.{IsOfText}
 use Rattle.sd_tool.specs.declared.refusal.Refusal.{Refusal}
 use Rattle.sd_tool.specs.declared.refusal.Refusal.TheVariants.{NotYet, BadWords, BadFormula, BadVtree, BadSdd}
@@ -125,21 +126,21 @@ sound_action v s next (actions.Forget n a x) sound = sound (commands.Forget n a 
 sound_action v s next (actions.Drop a) sound = sound (commands.Drop a)
 sound_action v s next (actions.Turn kind p) sound = tt
 sound_action v s next (actions.Minimise rounds) sound = tt
-sound_action v s next (actions.Limit k) sound = tt
+sound_action v s next (actions.Limit limit) sound = sound (commands.Limit limit)
 sound_action v s next (actions.Same a b) sound = sound (commands.Same a b)
 sound_action v s next (actions.Size a) sound = sound (commands.Size a)
 sound_action v s next (actions.Value a bits) sound = sound (commands.Value a bits)
 sound_action v s next (actions.Write a file) sound = sound (commands.Write a (file_name s file))
 sound_action v s next (actions.Vtree file) sound = sound (commands.WriteVtree (file_name s file))
 
-sound_lines : (v : ℕ) (s : Script) (begin : List RunCommand → Reading) (done : List RunCommand) (lines : List Line)
-    → ((cs : List RunCommand) → AreSound (begin cs)) → AreSound (with_lines v s begin done lines)
+sound_lines : (v : ℕ) (s : Script) (begin : List NumberedCommand → Reading) (done : List NumberedCommand) (lines : List Line)
+    → ((cs : List NumberedCommand) → AreSound (begin cs)) → AreSound (with_lines v s begin done lines)
 sound_lines v s begin done [] sound = sound done
 sound_lines v s begin done (line ∷ lines) sound =
-    sound_action v s (λ command. with_lines v s begin (done ++ command ∷ []) lines) line.action
-    (λ command. sound_lines v s begin (done ++ command ∷ []) lines sound)
+    sound_action v s (λ command. with_lines v s begin (done ++ in_line line command ∷ []) lines) line.action
+    (λ command. sound_lines v s begin (done ++ in_line line command ∷ []) lines sound)
 
-sound_script : (v : ℕ) (s : Script) (begin : List RunCommand → Reading) → ((cs : List RunCommand) → AreSound (begin cs))
+sound_script : (v : ℕ) (s : Script) (begin : List NumberedCommand → Reading) → ((cs : List NumberedCommand) → AreSound (begin cs))
     → AreSound (script_reading v begin s)
 sound_script v s begin sound = go (list_all (λ (line : Line). is_served line.action) s.commands)
   where
@@ -148,8 +149,8 @@ sound_script v s begin sound = go (list_all (λ (line : Line). is_served line.ac
     go true = sound_lines v s begin [] s.commands sound
     go false = tt
 
-sound_script_text : (file : List ℕ) (v : ℕ) (begin : List RunCommand → Reading) (text : Text)
-    → ((cs : List RunCommand) → AreSound (begin cs)) → AreSound (with_script_text file v begin text)
+sound_script_text : (file : List ℕ) (v : ℕ) (begin : List NumberedCommand → Reading) (text : Text)
+    → ((cs : List NumberedCommand) → AreSound (begin cs)) → AreSound (with_script_text file v begin text)
 sound_script_text file v begin TooLong sound = tt
 sound_script_text file v begin (Whole bytes) sound = go (script_of v bytes) (not_out_of_memory_script v bytes)
   where
@@ -158,8 +159,8 @@ sound_script_text file v begin (Whole bytes) sound = go (script_of v bytes) (not
     go (Ok s) never = sound_script v s begin sound
     go (Err fault) never = other_script_fault file fault (λ same. never (ap Err same))
 
-sound_commands : (job : Job) (v : ℕ) (begin : List RunCommand → Reading) (file : Option (List ℕ))
-    → ((cs : List RunCommand) → AreSound (begin cs)) → AreSound (with_commands job v begin file)
+sound_commands : (job : Job) (v : ℕ) (begin : List NumberedCommand → Reading) (file : Option (List ℕ))
+    → ((cs : List NumberedCommand) → AreSound (begin cs)) → AreSound (with_commands job v begin file)
 sound_commands job v begin None sound = sound (default_of job)
 sound_commands job v begin (Some file) sound = λ text. sound_script_text file v begin text sound
 

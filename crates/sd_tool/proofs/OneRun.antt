@@ -20,9 +20,9 @@ use Rattle.sd_tool.specs.Readings.{with_job, with_input_word, with_formula, with
 use Rattle.sd_tool.specs.Readings.{with_vtree_text, with_vtree_reading, with_commands, plan_for, default_of}
 use Rattle.sd_tool.specs.declared.refusal.Refusal.{Refusal}
 use Rattle.sd_tool.specs.declared.refusal.Refusal.TheVariants as refusals
-use Rattle.sd_tool.specs.Ends.{End, Finished, Refused, Unreadable, Unwritable, OutOfMemory, ArenaFull}
+use Rattle.sd_tool.specs.Ends.{End, Finished, Refused, Unreadable, Unwritable, OutOfMemory, ArenaFull, OverLimit}
 use Rattle.sd_tool.specs.Ends.{status_of}
-use Rattle.sd_tool.specs.Devices.{Moment, Faults, NoneRose, HasDeviceCause}
+use Rattle.sd_tool.specs.Devices.{Moment, Faults, NoneRose, HasDeviceCause, WritesEndLine}
 use Rattle.sd_tool.specs.Course.{EndsAmong, MayEnd, Leaves}
 use Rattle.sd_tool.specs.Headline.{IsCourse, IsOwn, IsComplete}
 use Rattle.sd_tool.specs.Written.{IsFormulaOf, IsInput, IsStartTree}
@@ -33,7 +33,7 @@ use Rattle.sd_tool.proofs.OnePoint.{one_point}
 use Rattle.sd_tool.proofs.ReadingLemmas.{reads_on, reads_same}
 
 -- the readings come to one plan
-same_plan : (files : Files) (reading : Reading) (a b : Plan) → ReadsTo (Some files) reading (Begins a)
+pub same_plan : (files : Files) (reading : Reading) (a b : Plan) → ReadsTo (Some files) reading (Begins a)
     → ReadsTo (Some files) reading (Begins b) → a ≡ b
 same_plan files reading a b p q = elim (one_point files reading (Begins a) (Begins b) tt p q) [
   | inl is ↦ cc
@@ -65,6 +65,8 @@ one_own words files effects done own end a b (inr p) (inr q) =
     (subst (λ (plan : Plan). EndsAmong plan done end) (sym same) q.2)
 one_own words files effects done Finished end a b (inl p) q = absurd p.0
 one_own words files effects done own Finished a b p (inl q) = absurd q.0
+one_own words files effects done (OverLimit l g n k) end a b (inl p) q = absurd p.0
+one_own words files effects done own (OverLimit l g n k) a b p (inl q) = absurd q.0
 one_own words files effects done (Refused r) (Refused s) a b (inl p) (inl q) =
     (same_refusal files (reading_of words) r s p.0 q.0, q.1 ∙ sym p.1)
 one_own words files effects done (Refused r) end a b (inl p) (inr q) =
@@ -112,6 +114,7 @@ none_missing words files effects (Unreadable name) file next a (inl p) q lacks =
 none_missing words files effects (Unwritable effect) file next a (inl p) q lacks = absurd a
 none_missing words files effects OutOfMemory file next a (inl p) q lacks = absurd a
 none_missing words files effects (ArenaFull n) file next a (inl p) q lacks = absurd a
+none_missing words files effects (OverLimit l g n k) file next a (inl p) q lacks = absurd p.0
 
 -- the end of a run is determined, but for devices and memory
 no_other_end : (words : List (List ℕ)) (files : Files) (effects done : List Effect) (own end : End)
@@ -122,6 +125,8 @@ no_other_end words files effects done own Finished before now a all may_end caus
     inl (one_own words files effects done own Finished a tt all may_end)
 no_other_end words files effects done own (Refused r) before now a all may_end cause calm =
     inl (one_own words files effects done own (Refused r) a tt all may_end)
+no_other_end words files effects done own (OverLimit l g n k) before now a all may_end cause calm =
+    inl (one_own words files effects done own (OverLimit l g n k) a tt all may_end)
 no_other_end words files effects done own (Unreadable file) before now a all (inl asked) (inl lacks) calm =
     absurd (none_missing words files effects own file asked.0.0 a all asked.0.1 lacks)
 no_other_end words files effects done own (Unreadable file) before now a all (inl asked) (inr rose) calm =
@@ -140,7 +145,8 @@ comes_to_own : {asks : List Request → Type 0} (words : List (List ℕ)) (statu
     → IsCourse asks words status kept old new
     → (files : Files) (effects : List Effect) (own : End) → old.contents.files ≡ Some files
     → NoneRose old.faults new.faults → IsOwn own → MayEnd words (Some files) effects own
-    → ((status ≡ status_of own) × (new.contents ≡ after effects old.contents)) ⊎ (status ≡ 7) ⊎ (status ≡ 8)
+    → ((status ≡ status_of own) × (new.contents ≡ after effects old.contents) × WritesEndLine own old new)
+    ⊎ (status ≡ 7) ⊎ (status ≡ 8)
 comes_to_own {asks = asks} words status kept old new went files effects own told calm is all =
     let may_end = subst (λ f. MayEnd words f went.effects went.end) told
     (goes_may_end asks words old.contents.files went.effects went.end went.goes) in
@@ -150,6 +156,7 @@ comes_to_own {asks = asks} words status kept old new went files effects own told
         went.status_is ∙ ap status_of whole.0,
         all_done own is (subst (λ e. Leaves went.effects e old.contents new.contents) whole.0 went.leaves)
             ∙ ap (λ l. after l old.contents) whole.1,
+        subst (λ e. WritesEndLine e old new) whole.0 went.line,
       )
       | inr (inl memory) ↦ inr (inl (went.status_is ∙ ap status_of memory))
       | inr (inr full) ↦ inr (inr (went.status_is ∙ ap status_of full.1))
@@ -163,6 +170,7 @@ comes_to_own {asks = asks} words status kept old new went files effects own told
     all_done (Unwritable effect) is leaves = absurd is
     all_done OutOfMemory is leaves = absurd is
     all_done (ArenaFull n) is leaves = absurd is
+    all_done (OverLimit l g n k) is leaves = leaves
 
 -- a tree leads to its plan, without a script
 leads_at_tree : (told : Option Files) (job : Job) (f : Groups) (own tree : Tree) → job.script ≡ None → own ≡ tree
@@ -210,7 +218,7 @@ formula_follows files job f (inputs.Generate count seed) is =
     reads_same (Some files) _ _ (ap (λ g. with_tree_word job g job.tree) (sym is))
 
 -- an input with a start tree leads to its plan
-leads_to_plan : (words : List (List ℕ)) (files : Files) (job : Job) (f : Groups) (tree : Tree)
+pub leads_to_plan : (words : List (List ℕ)) (files : Files) (job : Job) (f : Groups) (tree : Tree)
     → IsInput words files job f → IsStartTree files job.tree f.variables tree
     → ReadsTo (Some files) (reading_of words) (Begins (plan_for job f tree (default_of job)))
 leads_to_plan words files job f tree input start =
@@ -220,12 +228,13 @@ leads_to_plan words files job f tree input start =
     (reads_on told asks (with_tree_word job f job.tree) _ (formula_follows files job f job.input input.input)
     (leads_with_tree files job f tree job.tree input.alone start))
 
--- where the readings lead to a plan and no device fails, all is done, or there was no memory
+-- where the readings lead to a plan and no device fails, all is done, or the size passes the limit, or there was no
+-- memory
 pub done_or_none : (words : List (List ℕ)) (files : Files) (plan : Plan) (effects : List Effect) (end : End)
     (before now : Faults) → ReadsTo (Some files) (reading_of words) (Begins plan)
     → MayEnd words (Some files) effects end
     → HasDeviceCause end (Some files) before now → NoneRose before now
-    → (status_of end ≡ 0) ⊎ (status_of end ≡ 7) ⊎ (status_of end ≡ 8)
+    → (status_of end ≡ 0) ⊎ (status_of end ≡ 4) ⊎ (status_of end ≡ 7) ⊎ (status_of end ≡ 8)
 done_or_none words files plan effects Finished before now leads may_end cause calm = inl refl
 done_or_none words files plan effects (Refused r) before now leads (inl p) cause calm =
     absurd (no_plan files (reading_of words) r plan p.0 leads)
@@ -239,8 +248,9 @@ done_or_none words files plan effects (Unwritable (Write file bytes)) before now
     absurd (calm.write cause)
 done_or_none words files plan effects (Unwritable (Print line)) before now leads may_end cause calm =
     absurd (calm.print cause)
-done_or_none words files plan effects OutOfMemory before now leads may_end cause calm = inr (inl refl)
-done_or_none words files plan effects (ArenaFull n) before now leads may_end cause calm = inr (inr refl)
+done_or_none words files plan effects (OverLimit l g n k) before now leads may_end cause calm = inr (inl refl)
+done_or_none words files plan effects OutOfMemory before now leads may_end cause calm = inr (inr (inl refl))
+done_or_none words files plan effects (ArenaFull n) before now leads may_end cause calm = inr (inr (inr refl))
 
 -- a run that went somewhere is complete
 pub completes : {asks : List Request → Type 0} (words : List (List ℕ)) (status : ℕ) (kept : Option Table)
@@ -255,8 +265,9 @@ completes {asks = asks} words status kept old new went = record {
       let leads = leads_to_plan words files job formula tree input start in
       elim (done_or_none words files plan went.effects went.end old.faults new.faults leads may_end cause calm) [
         | inl done ↦ inl (went.status_is ∙ done)
-        | inr (inl memory) ↦ inr (inl (went.status_is ∙ memory))
-        | inr (inr full) ↦ inr (inr (went.status_is ∙ full))
+        | inr (inl passes) ↦ inr (inl (went.status_is ∙ passes))
+        | inr (inr (inl memory)) ↦ inr (inr (inl (went.status_is ∙ memory)))
+        | inr (inr (inr full)) ↦ inr (inr (inr (went.status_is ∙ full)))
       ];
   own = comes_to_own words status kept old new went;
 }

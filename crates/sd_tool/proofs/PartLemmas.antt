@@ -41,22 +41,18 @@ pub then_second : (old mid new : Option (List ℕ)) (a b : List ℕ) → mid ≡
 then_second old mid new a b first second =
     second ∙ ap (λ told. told_then told b) first ∙ told_then_then old a b
 
--- the line of parts, in the two halves in which it is written
-pub two_halves : (start s b f m g a end : List ℕ)
-    → (start ++ s ++ b ++ f) ++ (m ++ g ++ a ++ end) ≡ start ++ (s ++ b ++ f ++ m ++ g ++ a) ++ end
-two_halves start s b f m g a end = simp append_assoc
+-- the text of parts, with the digits of their numbers
+pub parts_are : (p : Parts) (f g : List ℕ) → f ≡ number_seen p.first → g ≡ number_seen p.second
+    → p.subject.now ++ p.before.now ++ f ++ p.between.now ++ g ++ p.after.now ≡ parts_text p
+parts_are p f g first second =
+    ap (λ (l : List ℕ). p.subject.now ++ p.before.now ++ l ++ p.between.now ++ g ++ p.after.now) first
+    ∙ ap (λ (l : List ℕ). p.subject.now ++ p.before.now ++ number_seen p.first ++ p.between.now ++ l ++ p.after.now)
+    second
 
--- the same with the digits of the numbers
-pub line_is : (p : Parts) (f g : List ℕ) → f ≡ number_seen p.first → g ≡ number_seen p.second
-    → (codes "sddc: " ++ p.subject.now ++ p.before.now ++ f) ++ (p.between.now ++ g ++ p.after.now ++ 10 ∷ [])
-    ≡ line_of (parts_text p)
-line_is p f g first second =
-    ap (λ (l : List ℕ). (codes "sddc: " ++ p.subject.now ++ p.before.now ++ l)
-    ++ (p.between.now ++ g ++ p.after.now ++ 10 ∷ [])) first
-    ∙ ap (λ (l : List ℕ). (codes "sddc: " ++ p.subject.now ++ p.before.now ++ number_seen p.first)
-    ++ (p.between.now ++ l ++ p.after.now ++ 10 ∷ [])) second
-    ∙ two_halves (codes "sddc: ") p.subject.now p.before.now (number_seen p.first) p.between.now
-    (number_seen p.second) p.after.now (10 ∷ [])
+-- the line of two halves, as it is written
+pub line_is : (front back : List ℕ)
+    → codes "sddc: " ++ front ++ back ++ 10 ∷ [] ≡ line_of (front ++ back)
+line_is front back = ap (λ (l : List ℕ). l ++ 10 ∷ []) (append_assoc (codes "sddc: ") front back)
 
 -- ---- a fault of a formula file that ends in a number
 

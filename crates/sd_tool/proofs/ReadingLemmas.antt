@@ -19,7 +19,7 @@ use Rattle.sd_words.specs.declared.jobs.TreeWord.{TreeWord}
 use Rattle.sd_words.specs.declared.jobs.TreeWord.TheVariants as trees
 use Rattle.sd_tool.specs.Readings.{Reading, Refuses, Begins, Reads, Text, Whole, TooLong, IsText, ReadsTo}
 use Rattle.sd_script.specs.Scripts.{Script}
-use Rattle.sd_commands.specs.declared.command.RunCommand.{RunCommand}
+use Rattle.sd_commands.specs.declared.command.NumberedCommand.{NumberedCommand}
 use Rattle.sd_tool.specs.Readings.{with_commands, script_reading, with_script_text}
 use Rattle.sd_tool.specs.Readings.{Input, input_file, with_input, with_input_word, with_tree_word, with_tree}
 use Rattle.sd_tool.specs.Readings.{with_vtree_text}
@@ -29,7 +29,7 @@ use Rattle.sd_tool.proofs.AskLemmas.{Joins, comes_on, last_on, breaks_on, last_h
 use Rattle.sd_tool.specs.declared.refusal.Refusal.{Refusal}
 use Rattle.sd_tool.specs.declared.stop.Stop.{Stop}
 use Rattle.sd_tool.specs.declared.stop.Stop.TheVariants.{Refused, ReadFault, WriteFault, OutputFault, OutOfMemory}
-use Rattle.sd_tool.specs.declared.stop.Stop.TheVariants.{ArenaFull}
+use Rattle.sd_tool.specs.declared.stop.Stop.TheVariants.{ArenaFull, OverLimit}
 
 -- what was read of a told file is its text
 pub is_text : (told : Option Files) (file bytes : List ℕ) → HasBytes told file bytes → length bytes ≤ 67108864
@@ -73,6 +73,7 @@ stops_on (WriteFault file) told reading mid first before now join a later b = ab
 stops_on OutputFault told reading mid first before now join a later b = absurd b
 stops_on OutOfMemory told reading mid first before now join a later b = breaks_on told reading mid join a b
 stops_on (ArenaFull n) told reading mid first before now join a later b = absurd b
+stops_on (OverLimit l g n k) told reading mid first before now join a later b = absurd b
 
 -- a stop with what is asked in it, said otherwise
 pub stops_with : {a c : List Request → Type 0} (stop : Stop) (told : Option Files) (reading : Reading) (before now : ℕ)
@@ -89,6 +90,7 @@ stops_with OutOfMemory told reading before now said (inl p) =
 stops_with OutOfMemory told reading before now said (inr p) =
     inr (p.0, record { names = p.1.names; next = p.1.next; asked = said _ p.1.asked; reads = p.1.reads })
 stops_with (ArenaFull n) told reading before now said p = absurd p
+stops_with (OverLimit l g n k) told reading before now said p = absurd p
 
 -- a read fault at the file that is asked for
 pub stops_at_file : (asks : List Request → Type 0) (told : Option Files) (file name : List ℕ) (next : Text → Reading)
@@ -121,6 +123,7 @@ stops_for asks told reading refusal (WriteFault file) before now a is = absurd i
 stops_for asks told reading refusal OutputFault before now a is = absurd is
 stops_for asks told reading refusal OutOfMemory before now a is = inl (Refuses refusal, a)
 stops_for asks told reading refusal (ArenaFull n) before now a is = absurd is
+stops_for asks told reading refusal (OverLimit l g n k) before now a is = absurd is
 
 -- what a text gives leads on, and its fault is where the readings stop
 pub text_leads : {X Y E : Type 0} (asks : List Request → Type 0) (told : Option Files) (reading : Reading)
@@ -139,6 +142,7 @@ text_leads asks told reading after view refuse parsed (Err (WriteFault file)) be
 text_leads asks told reading after view refuse parsed (Err OutputFault) before now refused a is = absurd is
 text_leads asks told reading after view refuse parsed (Err OutOfMemory) before now refused a is = inl (after parsed, a)
 text_leads asks told reading after view refuse parsed (Err (ArenaFull n)) before now refused a is = absurd is
+text_leads asks told reading after view refuse parsed (Err (OverLimit l g n k)) before now refused a is = absurd is
 
 -- ---- the text of a file, as the code has it
 
@@ -229,7 +233,7 @@ vtree_file_leads asks told job formula word name file result before now is same 
 
 -- the commands are those of a script
 pub script_leads : (asks : List Request → Type 0) (told : Option Files) (job : Job) (v : ℕ)
-    (begin : List RunCommand → Reading)
+    (begin : List NumberedCommand → Reading)
     (word : Option (List ℕ)) (name file : List ℕ) (result : Result Script Stop) (before now : ℕ)
     → word ≡ Some file → name ≡ file
     → LeadsTo asks told (Reads name (with_script_text name v begin)) (script_reading v begin) result before now

@@ -3,7 +3,7 @@ use Rattle.std.proofs.Common.{◌≡◌, ℕ, zero, suc, ◌+◌, ◌<◌, ◌�
 use Rattle.std.proofs.Common.{take, drop, filter, get_or, Option, Some, None, Result, refl, sym, ap, subst, ◌∙◌}
 use Rattle.std.proofs.Common.{arith, length-append}
 use Rattle.std.specs.Prelude.{slice_get, slice_index_or}
-use Rattle.std.specs.List.{list_all}
+use Rattle.std.specs.List.{list_all, list_any}
 use Rattle.std.proofs.lemmas.List.{take_more}
 use Rattle.std.proofs.Math.Seq.{drop-cons}
 use Rattle.sd_base.specs.Asked.{Request}
@@ -16,12 +16,13 @@ use Rattle.sd_script.specs.declared.command.Action.TheVariants as actions
 use Rattle.sd_script.specs.declared.command.Command.{Command as Line}
 use Rattle.sd_words.specs.declared.jobs.Job.{Job}
 use Rattle.sd_commands.specs.Fits.{Fits, AllFit, frees, has, bound_after}
+use Rattle.sd_commands.specs.declared.command.NumberedCommand.{NumberedCommand}
 use Rattle.sd_commands.specs.declared.command.RunCommand.{RunCommand}
 use Rattle.sd_commands.specs.declared.command.RunCommand.TheVariants as commands
-use Rattle.sd_tool.specs.Actions.{plain_of, IsCommandOf, AreCommandsOf}
+use Rattle.sd_tool.specs.Actions.{plain_of, bound_by, IsCommandOf, AreCommandsOf}
 use Rattle.sd_file.specs.Reads.{File}
 use Rattle.sd_tool.specs.Readings.{Reading, Reads, with_action, with_lines, with_sdd, file_name, default_of}
-use Rattle.sd_tool.specs.Readings.{for_file}
+use Rattle.sd_tool.specs.Readings.{for_file, in_line, in_lines}
 use Rattle.sd_tool.specs.Asks.{ComesTo}
 use Rattle.sd_tool.specs.Stops.{LeadsTo}
 use Rattle.sd_tool.specs.declared.stop.Stop.{Stop}
@@ -59,6 +60,8 @@ plain v script next (actions.Forget n a x) =
     record { same = record { uses = refl; binds = refl; frees = refl; in_range = λ h. h }; leads = refl }
 plain v script next (actions.Drop a) =
     record { same = record { uses = refl; binds = refl; frees = refl; in_range = λ h. h }; leads = refl }
+plain v script next (actions.Limit limit) =
+    record { same = record { uses = refl; binds = refl; frees = refl; in_range = λ h. refl }; leads = refl }
 plain v script next (actions.Same a b) =
     record { same = record { uses = refl; binds = refl; frees = refl; in_range = λ h. h }; leads = refl }
 plain v script next (actions.Size a) =
@@ -91,10 +94,10 @@ fold_more f b [] x = refl
 fold_more f b (y ∷ ys) x = fold_more f (f b y) ys x
 
 -- a command that fits behind the others
-fit_more : (v : ℕ) (names : List ℕ) (cs : List RunCommand) (c : RunCommand) → AllFit v names cs
-    → Fits v (fold bound_after names cs) c → AllFit v names (cs ++ c ∷ [])
+fit_more : (v : ℕ) (names : List ℕ) (cs : List NumberedCommand) (c : NumberedCommand) → AllFit v names cs
+    → Fits v (fold (λ ns d. bound_after ns d.command) names cs) c.command → AllFit v names (cs ++ c ∷ [])
 fit_more v names [] c all fits = (fits, tt)
-fit_more v names (d ∷ ds) c all fits = (all.0, fit_more v (bound_after names d) ds c all.1 fits)
+fit_more v names (d ∷ ds) c all fits = (all.0, fit_more v (bound_after names d.command) ds c all.1 fits)
 
 -- the element of a loop stands at its index
 found : {X : Type 0} (xs : List X) (i : ℕ) (x : X) → i < length xs → slice_get xs i ≡ Some (get_or xs i x)
@@ -134,20 +137,23 @@ bound_same names others v line c same is =
     ∙ ap (λ (ns : List ℕ). lines.bound_after ns line) is
 
 -- one more line became a command
-pub becomes_next : (v : ℕ) (script : Script) (index : ℕ) (done : List RunCommand) (line : Line) (c : RunCommand)
+pub becomes_next : (v : ℕ) (script : Script) (index : ℕ) (done : List NumberedCommand) (line : Line) (c : RunCommand)
     → IsScript v script → IsNext script.commands index line → IsCommandOf v line.action c
-    → AreCommandsOf v script.commands index done → AreCommandsOf v script.commands (index + 1) (done ++ c ∷ [])
+    → AreCommandsOf v script.commands index done
+    → AreCommandsOf v script.commands (index + 1) (done ++ in_line line c ∷ [])
 becomes_next v script index done line c is next same was =
     let allowed = next_allowed v script index line is next in
     record {
-      count = length-append done (c ∷ []) ∙ ap (λ n. n + 1) was.count;
-      names = fold_more bound_after [] done c
-          ∙ bound_same (fold bound_after [] done) (lines.bound (take index script.commands)) v line c same was.names
+      count = length-append done (in_line line c ∷ []) ∙ ap (λ n. n + 1) was.count;
+      names = fold_more (λ ns d. bound_after ns d.command) [] done (in_line line c)
+          ∙ bound_same (bound_by done) (lines.bound (take index script.commands)) v line c same was.names
           ∙ sym (fold_more lines.bound_after [] (take index script.commands) line)
           ∙ ap lines.bound (sym (taken script.commands index line next));
-      fit = fit_more v [] done c was.fit (record {
-        used_bound = ap (list_all (has (fold bound_after [] done))) same.uses
+      fit = fit_more v [] done (in_line line c) was.fit (record {
+        used_bound = ap (list_all (has (bound_by done))) same.uses
             ∙ ap (λ (ns : List ℕ). list_all (has ns) (lines.uses line.action)) was.names ∙ allowed.used_bound;
+        free = ap (list_any (has (bound_by done))) same.binds
+            ∙ ap (λ (ns : List ℕ). list_any (has ns) (lines.binds line.action)) was.names ∙ allowed.free;
         ranges = same.in_range allowed.ranges;
       });
     }
@@ -163,25 +169,34 @@ left_at xs index line next =
 
 -- its commands can be done
 pub stated_fit : (v : ℕ) (job : Job) → AllFit v [] (default_of job)
-stated_fit v job = (record { used_bound = refl; ranges = refl }, go job.out_vtree job.out_sdd)
+stated_fit v job = (record { used_bound = refl; free = refl; ranges = refl }, go job.out_vtree job.out_sdd)
   where
     go : (tree diagram : Option (List ℕ))
-        → AllFit v (0 ∷ [])
-        (for_file commands.WriteVtree tree ++ for_file (commands.Write 0) diagram ++ commands.Size 0 ∷ [])
-    go None None = (record { used_bound = refl; ranges = refl }, tt)
-    go None (Some d) = (record { used_bound = refl; ranges = refl }, (record { used_bound = refl; ranges = refl }, tt))
-    go (Some t) None = (record { used_bound = refl; ranges = refl }, (record { used_bound = refl; ranges = refl }, tt))
+        → AllFit v (0 ∷ []) (in_lines 2
+        (for_file commands.WriteVtree tree ++ for_file (commands.Write 0) diagram ++ commands.Size 0 ∷ []))
+    go None None = (record { used_bound = refl; free = refl; ranges = refl }, tt)
+    go None (Some d) = (
+      record { used_bound = refl; free = refl; ranges = refl },
+      (record { used_bound = refl; free = refl; ranges = refl }, tt),
+    )
+    go (Some t) None = (
+      record { used_bound = refl; free = refl; ranges = refl },
+      (record { used_bound = refl; free = refl; ranges = refl }, tt),
+    )
     go (Some t) (Some d) = (
-      record { used_bound = refl; ranges = refl },
-      (record { used_bound = refl; ranges = refl }, (record { used_bound = refl; ranges = refl }, tt)),
+      record { used_bound = refl; free = refl; ranges = refl },
+      (
+        record { used_bound = refl; free = refl; ranges = refl },
+        (record { used_bound = refl; free = refl; ranges = refl }, tt),
+      ),
     )
 
 -- and there are few of them
 pub stated_few : (job : Job) → length (default_of job) ≤ 100000
 stated_few job = go job.out_vtree job.out_sdd
   where
-    go : (tree diagram : Option (List ℕ)) → length (commands.Input 0
-        ∷ for_file commands.WriteVtree tree ++ for_file (commands.Write 0) diagram ++ commands.Size 0 ∷ []) ≤ 100000
+    go : (tree diagram : Option (List ℕ)) → length (in_lines 1 (commands.Input 0
+        ∷ for_file commands.WriteVtree tree ++ for_file (commands.Write 0) diagram ++ commands.Size 0 ∷ [])) ≤ 100000
     go None None = omega arith
     go None (Some d) = omega arith
     go (Some t) None = omega arith
@@ -229,18 +244,19 @@ vtree_leads asks told v script action file name copy is there same none next =
 
 -- the next line leads on where its command does
 pub line_leads : {a b c : List Request → Type 0} (told now : Option Files) (v : ℕ) (script : Script) (index : ℕ)
-    (line : Line) (done : List RunCommand) (begin : List RunCommand → Reading) (result : Result RunCommand Stop)
+    (line : Line) (done : List NumberedCommand) (begin : List NumberedCommand → Reading)
+    (result : Result RunCommand Stop)
     (first before last : ℕ)
     → Joins a b c → IsNext script.commands index line → now ≡ told → first ≤ before
     → ComesTo a told (with_lines v script begin [] script.commands)
     (with_lines v script begin done (drop index script.commands))
     → ((next : RunCommand → Reading) → LeadsTo b now (with_action v script next line.action) next result before last)
     → LeadsTo c told (with_lines v script begin [] script.commands)
-    (λ c. with_lines v script begin (done ++ c ∷ []) (drop (index + 1) script.commands)) result first last
+    (λ c. with_lines v script begin (done ++ in_line line c ∷ []) (drop (index + 1) script.commands)) result first last
 line_leads {a = a} told now v script index line done begin result first before last join at same later p leads =
     let reading = with_lines v script begin [] script.commands in
     let rest = drop (index + 1) script.commands in
-    let next : RunCommand → Reading = λ c. with_lines v script begin (done ++ c ∷ []) rest in
+    let next : RunCommand → Reading = λ c. with_lines v script begin (done ++ in_line line c ∷ []) rest in
     leads_on told now reading (with_lines v script begin done (line ∷ rest)) next result first before last join same
     later
     (subst (λ (ls : List Line). ComesTo a told reading (with_lines v script begin done ls))

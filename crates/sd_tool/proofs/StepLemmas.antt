@@ -6,25 +6,28 @@ use Rattle.std.proofs.Math.Seq.{drop-cons}
 use Rattle.sd_base.specs.Asked.{Request, ToWrite}
 use Rattle.sd_base.specs.Faults.{Rose}
 use Rattle.sd_base.specs.Files.{Files}
-use Rattle.sd_model.specs.Expression.{Expression}
+use Rattle.sd_formula.specs.Dimacs.{Groups}
 use Rattle.sd_manager.specs.Table.{Table}
 use Rattle.sd_commands.specs.Effects.{Effect, Write, Print}
-use Rattle.sd_commands.specs.Commands.{State, Done, Step, Steps, MayFill}
+use Rattle.sd_commands.specs.Commands.{State, Done, OverLimit as PassesLimit, Step, Steps, MayFill}
 use Rattle.sd_commands.specs.Fits.{AllFit}
-use Rattle.sd_commands.specs.Standing.{Represents, StepsTo, IsFilled, HoldsState, effects_of, names_of}
+use Rattle.sd_commands.specs.Standing.{Represents, StepsTo, StopsAt, IsFilled, HoldsState, effects_of, names_of}
 use Rattle.sd_commands.specs.declared.command.Effect.{Effect as CodeEffect}
-use Rattle.sd_commands.specs.declared.command.RunCommand.{RunCommand}
+use Rattle.sd_commands.specs.declared.command.NumberedCommand.{NumberedCommand}
+use Rattle.sd_commands.specs.declared.error.CommandError.{CommandError}
+use Rattle.sd_commands.specs.declared.error.CommandError.TheVariants as errors
 use Rattle.sd_commands.specs.declared.state.RunState.{RunState}
 use Rattle.sd_commands.proofs.Outcomes.{names_after}
+use Rattle.sd_commands.proofs.Standing.{holds_state}
 use Rattle.sd_tool.specs.Effects.{Contents, after_effect, after, DoesPart}
 use Rattle.sd_tool.specs.Readings.{Plan}
-use Rattle.sd_tool.specs.Ends.{Finished, Unwritable, OutOfMemory as NoMemory, ArenaFull as NoRoom}
+use Rattle.sd_tool.specs.Ends.{Finished, Unwritable, OutOfMemory as NoMemory, ArenaFull as NoRoom, OverLimit as Passes}
 use Rattle.sd_tool.specs.Devices.{Faults, NotFewer, HasDeviceCause}
 use Rattle.sd_tool.specs.Asks.{writings}
 use Rattle.sd_tool.specs.Course.{IsAtCommand}
-use Rattle.sd_tool.specs.Stops.{FailsAt, RunsToEnd}
+use Rattle.sd_tool.specs.Stops.{FailsAt, RunsToEnd, stop_of}
 use Rattle.sd_tool.specs.declared.stop.Stop.{Stop}
-use Rattle.sd_tool.specs.declared.stop.Stop.TheVariants.{OutOfMemory, ArenaFull}
+use Rattle.sd_tool.specs.declared.stop.Stop.TheVariants.{OutOfMemory, ArenaFull, OverLimit}
 use Rattle.sd_tool.proofs.AskLemmas.{Joins}
 
 -- the contents after two lists of effects
@@ -41,14 +44,14 @@ writings_append (Write file bytes ∷ first) others =
 writings_append (Print line ∷ first) others = writings_append first others
 
 -- one command more
-Steps_push : (input : Expression) (start mid new : State) (done : List RunCommand) (effects here : List Effect)
-    (next : RunCommand) → Steps input start done effects mid → Step input mid next (Done new here)
+Steps_push : (input : Groups) (start mid new : State) (done : List NumberedCommand) (effects here : List Effect)
+    (next : NumberedCommand) → Steps input start done effects mid → Step input mid next.command (Done new here)
     → Steps input start (done ++ next ∷ []) (effects ++ here) new
 Steps_push input start mid new [] effects here next steps step = (
   new,
   here,
   [],
-  subst (λ (s : State). Step input s next (Done new here)) steps.1 step,
+  subst (λ (s : State). Step input s next.command (Done new here)) steps.1 step,
   (refl, refl),
   ap (λ (l : List Effect). l ++ here) steps.0 ∙ sym (append-nil here),
 )
@@ -74,12 +77,12 @@ pub record SoFar (asks : List Request → Type 0) (plan : Plan) (v index : ℕ) 
   pub asked : asks (writings effects)
 
 -- the loop is at this command
-pub record IsNext (commands : List RunCommand) (index : ℕ) (command : RunCommand) : Type 0 where
+pub record IsNext (commands : List NumberedCommand) (index : ℕ) (command : NumberedCommand) : Type 0 where
   pub within : index < length commands
   pub is : command ≡ get_or commands index command
 
 -- the commands from the index on are this one and those after it
-left_at : (commands : List RunCommand) (index : ℕ) (command : RunCommand) → IsNext commands index command
+left_at : (commands : List NumberedCommand) (index : ℕ) (command : NumberedCommand) → IsNext commands index command
     → drop index commands ≡ command ∷ drop (index + 1) commands
 left_at commands index command next =
     drop-cons commands index command next.within
@@ -88,21 +91,21 @@ left_at commands index command next =
 
 -- so it can be done, and those after it
 pub fits_next : {asks : List Request → Type 0} (plan : Plan) (v index : ℕ) (code : RunState) (old now : Contents)
-    (command : RunCommand)
+    (command : NumberedCommand)
     → IsNext plan.commands index command → (so_far : SoFar asks plan v index code old now)
     → AllFit v (names_of so_far.state) (command ∷ drop (index + 1) plan.commands)
 fits_next plan v index code old now command next so_far =
     subst (AllFit v (names_of so_far.state)) (left_at plan.commands index command next) so_far.fit
 
 -- and it is the next
-reaches_next : (plan : Plan) (state : State) (index : ℕ) (effects : List Effect) (command : RunCommand)
+reaches_next : (plan : Plan) (state : State) (index : ℕ) (effects : List Effect) (command : NumberedCommand)
     → IsNext plan.commands index command → Steps plan.input plan.start (take index plan.commands) effects state
     → IsAtCommand plan effects state command
 reaches_next plan state index effects command next steps = record {
   left = drop (index + 1) plan.commands;
   reaches = record {
     done = take index plan.commands;
-    in_order = ap (λ (l : List RunCommand). take index plan.commands ++ l)
+    in_order = ap (λ (l : List NumberedCommand). take index plan.commands ++ l)
         (sym (left_at plan.commands index command next)) ∙ take-append-drop index plan.commands;
     steps = steps;
   };
@@ -110,21 +113,21 @@ reaches_next plan state index effects command next steps = record {
 
 -- the command at the index is done
 pub so_far_more : {a b c : List Request → Type 0} (plan : Plan) (v index : ℕ) (code code' : RunState)
-    (old now new : Contents) (command : RunCommand)
+    (old now new : Contents) (command : NumberedCommand)
     (asked : Option CodeEffect) → Joins a b c → IsNext plan.commands index command
     → (so_far : SoFar a plan v index code old now)
-    → StepsTo plan.input so_far.state command code' asked → new ≡ after (effects_of asked) now
+    → StepsTo plan.input so_far.state command.command code' asked → new ≡ after (effects_of asked) now
     → b (writings (effects_of asked)) → SoFar c plan v (index + 1) code' old new
 so_far_more {c = c} plan v index code code' old now new command asked join next so_far done effect asks = record {
   effects = so_far.effects ++ effects_of asked;
   state = done.next;
-  steps = subst (λ (l : List RunCommand). Steps plan.input plan.start l (so_far.effects ++ effects_of asked) done.next)
+  steps = subst (λ (l : List NumberedCommand). Steps plan.input plan.start l (so_far.effects ++ effects_of asked) done.next)
       (ap (λ c. take index plan.commands ++ c ∷ []) next.is ∙ sym (take_more plan.commands index command next.within))
       (Steps_push plan.input plan.start so_far.state done.next (take index plan.commands) so_far.effects
       (effects_of asked) command so_far.steps done.step);
   represents = done.represents;
   fit = subst (λ names. AllFit v names (drop (index + 1) plan.commands))
-      (sym (names_after plan.input so_far.state done.next command (effects_of asked) done.step))
+      (sym (names_after plan.input so_far.state done.next command.command (effects_of asked) done.step))
       (fits_next plan v index code old now command next so_far).1;
   is = effect ∙ ap (after (effects_of asked)) so_far.is ∙ sym (after_append so_far.effects (effects_of asked) old);
   asked = subst c (sym (writings_append so_far.effects (effects_of asked))) (join.meets _ _ so_far.asked asks);
@@ -151,9 +154,9 @@ cause_since (Print line) files others first mid last fewer rose =
     rose_since first.print mid.print last.print fewer.print rose
 
 -- there was no memory for a command
-pub goes_to_out_of_memory : {asks : List Request → Type 0} (plan : Plan) (v index : ℕ) (code : RunState) (t : Table)
+goes_to_out_of_memory : {asks : List Request → Type 0} (plan : Plan) (v index : ℕ) (code : RunState) (t : Table)
     (old now : Contents)
-    (before after_ : Faults) (command : RunCommand) → IsNext plan.commands index command
+    (before after_ : Faults) (command : NumberedCommand) → IsNext plan.commands index command
     → SoFar asks plan v index code old now → RunsToEnd asks plan t (Err OutOfMemory) old now before after_
 goes_to_out_of_memory plan v index code t old now before after_ command next so_far =
     let at = reaches_next plan so_far.state index so_far.effects command next so_far.steps in record {
@@ -168,10 +171,10 @@ goes_to_out_of_memory plan v index code t old now before after_ command next so_
     }
 
 -- the arena was full, and the command may need it
-pub goes_to_full : {asks : List Request → Type 0} (plan : Plan) (v index : ℕ) (code : RunState) (t : Table)
+goes_to_full : {asks : List Request → Type 0} (plan : Plan) (v index : ℕ) (code : RunState) (t : Table)
     (old now : Contents)
-    (before after_ : Faults) (command : RunCommand) (n : ℕ) → IsNext plan.commands index command
-    → (so_far : SoFar asks plan v index code old now) → MayFill command → IsFilled n t → HoldsState t so_far.state
+    (before after_ : Faults) (command : NumberedCommand) (n : ℕ) → IsNext plan.commands index command
+    → (so_far : SoFar asks plan v index code old now) → MayFill command.command → IsFilled n t → HoldsState t so_far.state
     → RunsToEnd asks plan t (Err (ArenaFull n)) old now before after_
 goes_to_full plan v index code t old now before after_ command n next so_far needs filled holds = record {
   end = NoRoom n;
@@ -198,12 +201,54 @@ goes_to_full plan v index code t old now before after_ command n next so_far nee
   cause = tt;
 }
 
+-- the total size passes the limit
+goes_to_over : {asks : List Request → Type 0} (plan : Plan) (v index : ℕ) (code : RunState) (t : Table)
+    (old now : Contents) (before after_ : Faults) (command : NumberedCommand) (group : Option ℕ) (size limit : ℕ)
+    → IsNext plan.commands index command → (so_far : SoFar asks plan v index code old now)
+    → Step plan.input so_far.state command.command (PassesLimit group size limit)
+    → RunsToEnd asks plan t (Err (OverLimit command.line group size limit)) old now before after_
+goes_to_over plan v index code t old now before after_ command group size limit next so_far refused = record {
+  end = Passes command.line group size limit;
+  at = record { status = refl; text = refl; stopped = λ e. cc };
+  effects = so_far.effects;
+  ends = (
+    so_far.state,
+    command,
+    reaches_next plan so_far.state index so_far.effects command next so_far.steps,
+    refl,
+    refused,
+  );
+  asked = so_far.asked;
+  full_at = tt;
+  leaves = so_far.is;
+  cause = tt;
+}
+
+-- a command is not done
+pub goes_to_stop : {asks : List Request → Type 0} (plan : Plan) (v index : ℕ) (code new : RunState)
+    (old now : Contents) (before after_ : Faults) (command : NumberedCommand) (error : CommandError) (stop : Stop)
+    → IsNext plan.commands index command → (so_far : SoFar asks plan v index code old now)
+    → StopsAt plan.input so_far.state command.command new.manager error → Represents new so_far.state
+    → stop ≡ stop_of command.line error → RunsToEnd asks plan new.manager (Err stop) old now before after_
+goes_to_stop {asks = asks} plan v index code new old now before after_ command error stop next so_far stops same is =
+    subst (λ s. RunsToEnd asks plan new.manager (Err s) old now before after_) (sym is) (go error stops)
+  where
+    go : (e : CommandError) → StopsAt plan.input so_far.state command.command new.manager e
+        → RunsToEnd asks plan new.manager (Err (stop_of command.line e)) old now before after_
+    go (errors.OverLimit group size limit) stops =
+        goes_to_over plan v index code new.manager old now before after_ command group size limit next so_far stops
+    go (errors.ArenaFull n) stops =
+        goes_to_full plan v index code new.manager old now before after_ command n next so_far stops.0 stops.1
+        (holds_state new so_far.state same)
+    go errors.OutOfMemory stops =
+        goes_to_out_of_memory plan v index code new.manager old now before after_ command next so_far
+
 -- the effect of a command fails
 pub goes_to_fault : {a b c : List Request → Type 0} (plan : Plan) (v index : ℕ) (code code' : RunState) (t : Table)
     (old now new : Contents)
-    (first before after_ : Faults) (command : RunCommand) (stop : Stop) (asked : Option CodeEffect)
+    (first before after_ : Faults) (command : NumberedCommand) (stop : Stop) (asked : Option CodeEffect)
     → Joins a b c → IsNext plan.commands index command → (so_far : SoFar a plan v index code old now)
-    → NotFewer first before → StepsTo plan.input so_far.state command code' asked
+    → NotFewer first before → StepsTo plan.input so_far.state command.command code' asked
     → FailsAt stop (effects_of asked) now new before after_ → b (writings (effects_of asked))
     → RunsToEnd c plan t (Err stop) old new first after_
 goes_to_fault {c = c} plan v index code code' t old now new first before after_ command stop asked join next so_far
@@ -218,7 +263,7 @@ goes_to_fault {c = c} plan v index code code' t old now new first before after_ 
         reaches_next plan so_far.state index so_far.effects command next so_far.steps,
         (
           done.next,
-          subst (λ (l : List Effect). Step plan.input so_far.state command (Done done.next l)) fails.one done.step,
+          subst (λ (l : List Effect). Step plan.input so_far.state command.command (Done done.next l)) fails.one done.step,
         ),
       );
       asked = subst c

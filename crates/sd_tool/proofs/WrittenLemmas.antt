@@ -1,6 +1,6 @@
 -- At status 0 a run without a script writes the texts of the input's diagram and of its vtree.
 -- Equal texts of diagrams are one function.
-use Rattle.std.proofs.Common.{◌≡◌, ◌↔◌, ℕ, Bool, true, false, List, [], ◌∷◌, ◌++◌, length, Option, Some, None}
+use Rattle.std.proofs.Common.{◌≡◌, ◌↔◌, ℕ, ◌+◌, Bool, true, false, List, [], ◌∷◌, ◌++◌, length, Option, Some, None}
 use Rattle.std.proofs.Common.{Result, Ok, Err}
 use Rattle.std.proofs.Common.{inl, inr, refl, sym, ap, subst, ◌∙◌, if◌then◌else◌}
 use Rattle.std.specs.List.{AllZip}
@@ -32,13 +32,15 @@ use Rattle.sd_commands.specs.Effects.{Effect, Write, Print}
 use Rattle.sd_commands.specs.Commands.{State, Done, Steps, IsTextOf, with_name, formula_named, size_line}
 use Rattle.sd_commands.specs.Commands.{generated_line}
 use Rattle.sd_commands.specs.Standing.{start}
+use Rattle.sd_commands.specs.declared.command.NumberedCommand.{NumberedCommand}
 use Rattle.sd_commands.specs.declared.command.RunCommand.{RunCommand}
 use Rattle.sd_commands.specs.declared.command.RunCommand.TheVariants as commands
+use Rattle.sd_commands.proofs.Outcomes.{input_done}
 use Rattle.sd_tool.specs.Effects.{Contents, after}
 use Rattle.sd_tool.specs.Readings.{Plan, Input, Begins, Refuses, Text, Whole, TooLong, ReadsTo, IsText}
 use Rattle.sd_tool.specs.Readings.{reading_of, with_job, with_input_word, with_input, with_formula, with_tree_word}
 use Rattle.sd_tool.specs.Readings.{with_tree, with_vtree_reading, with_commands, plan_for, for_file, default_of}
-use Rattle.sd_tool.specs.Readings.{is_plain, announcement}
+use Rattle.sd_tool.specs.Readings.{is_plain, announcement, in_lines}
 use Rattle.sd_tool.specs.declared.refusal.Refusal.TheVariants as refusals
 use Rattle.sd_tool.specs.Ends.{Finished}
 use Rattle.sd_tool.specs.Devices.{Moment}
@@ -62,7 +64,7 @@ record FromInput (words : List (List ℕ)) (files : Files) (job : Job) (plan : P
 from_tree : (told : Option Files) (job : Job) (f : Groups) (tree : Tree) (plan : Plan) → job.script ≡ None
     → ReadsTo told (with_tree job f tree) (Begins plan) → plan ≡ plan_for job f tree (default_of job)
 from_tree told job f tree plan alone p =
-    let begin = λ (l : List RunCommand). Begins (plan_for job f tree l) in
+    let begin = λ (l : List NumberedCommand). Begins (plan_for job f tree l) in
     let is : Begins plan ≡ Begins (plan_for job f tree (default_of job)) =
     subst (λ script. ReadsTo told (with_commands job f.variables begin script) (Begins plan)) alone p in
     cc
@@ -181,14 +183,14 @@ record AllDone (state : State) (out_vtree out_sdd : Option (List ℕ)) (effects 
       ++ Print (size_line (size_of (diagram ∷ []))) ∷ []
 
 -- a first command with one effect, and the others after it
-record Before (input : Expression) (state last : State) (rest : List RunCommand) (effect : Effect)
+record Before (input : Groups) (state last : State) (rest : List NumberedCommand) (effect : Effect)
     (effects : List Effect)
     : Type 0 where
   others : List Effect
   steps : Steps input state rest others last
   are : effects ≡ effect ∷ others
 
-first_done : (input : Expression) (state mid last : State) (rest : List RunCommand) (effect : Effect)
+first_done : (input : Groups) (state mid last : State) (rest : List NumberedCommand) (effect : Effect)
     (first others effects : List Effect) → Done mid first ≡ Done state (effect ∷ [])
     → Steps input mid rest others last → effects ≡ first ++ others → Before input state last rest effect effects
 first_done input state mid last rest effect first others effects done steps is =
@@ -199,18 +201,19 @@ first_done input state mid last rest effect first others effects done steps is =
       are = is ∙ ap (λ (l : List Effect). l ++ others) wrote;
     }
 
-vtree_done : (input : Expression) (state last : State) (file : List ℕ) (rest : List RunCommand) (effects : List Effect)
-    → Steps input state (commands.WriteVtree file ∷ rest) effects last
+vtree_done : (input : Groups) (state last : State) (line : ℕ) (file : List ℕ) (rest : List NumberedCommand)
+    (effects : List Effect)
+    → Steps input state (record { line = line; command = commands.WriteVtree file } ∷ rest) effects last
     → Before input state last rest (Write file (vtree_text state.tree)) effects
-vtree_done input state last file rest effects (mid, first, others, step, steps, is) =
+vtree_done input state last line file rest effects (mid, first, others, step, steps, is) =
     first_done input state mid last rest _ first others effects step steps is
 
-diagram_done : (input : Expression) (state last : State) (file : List ℕ) (rest : List RunCommand)
+diagram_done : (input : Groups) (state last : State) (line : ℕ) (file : List ℕ) (rest : List NumberedCommand)
     (effects : List Effect)
-    → Steps input state (commands.Write 0 file ∷ rest) effects last
+    → Steps input state (record { line = line; command = commands.Write 0 file } ∷ rest) effects last
     → (text : List ℕ) × IsTextOf state.tree (formula_named state 0) text
     × Before input state last rest (Write file text) effects
-diagram_done input state last file rest effects (mid, first, others, step, steps, is) =
+diagram_done input state last line file rest effects (mid, first, others, step, steps, is) =
     (step.0, step.1, first_done input state mid last rest _ first others effects step.2 steps is)
 
 one_diagram : (t : Tree) (f : Expression) (ds : List Diagram) → AllZip (IsDiagramOf t) (f ∷ []) ds
@@ -220,11 +223,11 @@ one_diagram t f (d ∷ []) p = (d, p.0, refl)
 one_diagram t f (d ∷ e ∷ ds) p = absurd p.1
 
 -- the size is printed last
-size_done : (input : Expression) (state last : State) (effects : List Effect)
-    → Steps input state (commands.Size 0 ∷ []) effects last
+size_done : (input : Groups) (state last : State) (line : ℕ) (effects : List Effect)
+    → Steps input state (in_lines line (commands.Size 0 ∷ [])) effects last
     → (d : Diagram) × IsDiagramOf state.tree (formula_named state 0) d
     × (effects ≡ Print (size_line (size_of (d ∷ []))) ∷ [])
-size_done input state last effects (mid, first, others, step, steps, is) =
+size_done input state last line effects (mid, first, others, step, steps, is) =
     let before = first_done input state mid last [] _ first others effects step.2 steps is in
     let found = one_diagram state.tree (formula_named state 0) step.1.diagrams step.1.each in
     let size : step.0 ≡ size_of (found.0 ∷ []) = sym step.1.size ∙ ap size_of found.2 in (
@@ -241,12 +244,13 @@ same_text : (tree : Tree) (f : Expression) (d : Diagram) (text : List ℕ) → I
 same_text tree f d text valid is of_value =
     is.is ∙ ap sdd_text (diagram_determined tree f is.diagram d valid is.of_value of_value)
 
-diagram_and_size : (input : Expression) (state last : State) (file : List ℕ) (effects : List Effect)
-    → IsVtree state.tree → Steps input state (commands.Write 0 file ∷ commands.Size 0 ∷ []) effects last
+diagram_and_size : (input : Groups) (state last : State) (line : ℕ) (file : List ℕ) (effects : List Effect)
+    → IsVtree state.tree
+    → Steps input state (in_lines line (commands.Write 0 file ∷ commands.Size 0 ∷ [])) effects last
     → AllDone state None (Some file) effects
-diagram_and_size input state last file effects valid p =
-    let one = diagram_done input state last file (commands.Size 0 ∷ []) effects p in
-    let two = size_done input state last one.2.others one.2.steps in record {
+diagram_and_size input state last line file effects valid p =
+    let one = diagram_done input state last line file (in_lines (line + 1) (commands.Size 0 ∷ [])) effects p in
+    let two = size_done input state last (line + 1) one.2.others one.2.steps in record {
       diagram = two.0;
       of_value = two.1;
       are = one.2.are ∙ ap (λ (l : List Effect). Write file one.0 ∷ l) two.2
@@ -254,49 +258,53 @@ diagram_and_size input state last file effects valid p =
           (same_text state.tree (formula_named state 0) two.0 one.0 valid one.1 two.1);
     }
 
-size_alone : (input : Expression) (state last : State) (effects : List Effect)
-    → Steps input state (commands.Size 0 ∷ []) effects last → AllDone state None None effects
-size_alone input state last effects p =
-    let two = size_done input state last effects p in record { diagram = two.0; of_value = two.1; are = two.2 }
+size_alone : (input : Groups) (state last : State) (line : ℕ) (effects : List Effect)
+    → Steps input state (in_lines line (commands.Size 0 ∷ [])) effects last → AllDone state None None effects
+size_alone input state last line effects p =
+    let two = size_done input state last line effects p in
+    record { diagram = two.0; of_value = two.1; are = two.2 }
 
 -- the stated commands after the first, one after another
-all_done : (input : Expression) (state last : State) (out_vtree out_sdd : Option (List ℕ)) (effects : List Effect)
-    → IsVtree state.tree
+all_done : (input : Groups) (state last : State) (line : ℕ) (out_vtree out_sdd : Option (List ℕ))
+    (effects : List Effect) → IsVtree state.tree
     → Steps input state
-    (for_file commands.WriteVtree out_vtree ++ for_file (commands.Write 0) out_sdd ++ commands.Size 0 ∷ []) effects last
+    (in_lines line
+    (for_file commands.WriteVtree out_vtree ++ for_file (commands.Write 0) out_sdd ++ commands.Size 0 ∷ []))
+    effects last
     → AllDone state out_vtree out_sdd effects
-all_done input state last None None effects valid p = size_alone input state last effects p
-all_done input state last None (Some file) effects valid p = diagram_and_size input state last file effects valid p
-all_done input state last (Some file) None effects valid p =
-    let one = vtree_done input state last file (commands.Size 0 ∷ []) effects p in
-    let rest = size_alone input state last one.others one.steps in record {
+all_done input state last line None None effects valid p = size_alone input state last line effects p
+all_done input state last line None (Some file) effects valid p =
+    diagram_and_size input state last line file effects valid p
+all_done input state last line (Some file) None effects valid p =
+    let one = vtree_done input state last line file (in_lines (line + 1) (commands.Size 0 ∷ [])) effects p in
+    let rest = size_alone input state last (line + 1) one.others one.steps in record {
       diagram = rest.diagram;
       of_value = rest.of_value;
       are = one.are ∙ ap (λ (l : List Effect). Write file (vtree_text state.tree) ∷ l) rest.are;
     }
-all_done input state last (Some file) (Some other) effects valid p =
-    let one = vtree_done input state last file (commands.Write 0 other ∷ commands.Size 0 ∷ []) effects p in
-    let rest = diagram_and_size input state last other one.others valid one.steps in record {
+all_done input state last line (Some file) (Some other) effects valid p =
+    let one = vtree_done input state last line file
+    (in_lines (line + 1) (commands.Write 0 other ∷ commands.Size 0 ∷ [])) effects p in
+    let rest = diagram_and_size input state last (line + 1) other one.others valid one.steps in record {
       diagram = rest.diagram;
       of_value = rest.of_value;
       are = one.are ∙ ap (λ (l : List Effect). Write file (vtree_text state.tree) ∷ l) rest.are;
     }
 
 -- name 0 is bound to the input first, without an effect
-record AfterInput (input : Expression) (state last : State) (rest : List RunCommand) (effects : List Effect)
+record AfterInput (input : Groups) (state last : State) (rest : List NumberedCommand) (effects : List Effect)
     : Type 0 where
-  steps : Steps input (with_name state 0 input) rest effects last
+  steps : Steps input (with_name state 0 (expression_of input)) rest effects last
 
-input_done : (input : Expression) (state last : State) (rest : List RunCommand) (effects : List Effect)
-    → Steps input state (commands.Input 0 ∷ rest) effects last → AfterInput input state last rest effects
-input_done input state last rest effects (mid, first, others, step, steps, is) =
-    let done : Done mid first ≡ Done (with_name state 0 input) [] = step in
-    let same : mid ≡ with_name state 0 input = cc in
-    let none : first ≡ [] = cc in
-    let all : effects ≡ others = is ∙ ap (λ (l : List Effect). l ++ others) none in
+after_input : (input : Groups) (state last : State) (line : ℕ) (rest : List NumberedCommand) (effects : List Effect)
+    → Steps input state (record { line = line; command = commands.Input 0 } ∷ rest) effects last
+    → AfterInput input state last rest effects
+after_input input state last line rest effects (mid, first, others, step, steps, is) =
+    let done = input_done input state mid 0 first step in
+    let all : effects ≡ others = is ∙ ap (λ (l : List Effect). l ++ others) done.1 in
     record {
-      steps = subst (λ l. Steps input (with_name state 0 input) rest l last) (sym all)
-          (subst (λ s. Steps input s rest others last) same steps);
+      steps = subst (λ l. Steps input (with_name state 0 (expression_of input)) rest l last) (sym all)
+          (subst (λ s. Steps input s rest others last) done.0 steps);
     }
 
 -- the files after the commands
@@ -322,21 +330,21 @@ printed_after (Some file) (Some other) vtree diagram line old = refl
 -- ---- the line of a generated formula
 
 -- the effect before all others
-abbrev announces : InputWord → Groups → List Effect
+abbrev pub announces : InputWord → Groups → List Effect
 announces (inputs.Generate count seed) formula =
     Print (generated_line formula.variables (length formula.groups)) ∷ []
 announces word formula = []
 
 -- the commands behind it, done
-record Announced (input : Expression) (state last : State) (word : InputWord) (formula : Groups)
-    (rest : List RunCommand) (effects : List Effect)
+record Announced (input : Groups) (state last : State) (word : InputWord) (formula : Groups)
+    (rest : List NumberedCommand) (effects : List Effect)
     : Type 0 where
   others : List Effect
   steps : Steps input state rest others last
   are : effects ≡ announces word formula ++ others
 
-announced_done : (input : Expression) (state last : State) (word : InputWord) (formula : Groups)
-    (rest : List RunCommand) (effects : List Effect)
+announced_done : (input : Groups) (state last : State) (word : InputWord) (formula : Groups)
+    (rest : List NumberedCommand) (effects : List Effect)
     → Steps input state (announcement word formula ++ rest) effects last
     → Announced input state last word formula rest effects
 announced_done input state last (inputs.Cnf file) formula rest effects p =
@@ -385,12 +393,13 @@ plan_writes words files job plan last effects old new told from valid steps is =
     let own_steps = subst (λ (p : Plan). Steps p.input p.start p.commands effects last) from.is steps in
     let own_valid = subst (λ (p : Plan). IsVtree p.start.tree) from.is valid in
     let told_of = announced_done own.input own.start last job.input from.formula (default_of job) effects own_steps in
-    let after_input = input_done own.input own.start last
-    (for_file commands.WriteVtree job.out_vtree ++ for_file (commands.Write 0) job.out_sdd ++ commands.Size 0 ∷ [])
+    let bound = after_input own.input own.start last 1
+    (in_lines 2
+    (for_file commands.WriteVtree job.out_vtree ++ for_file (commands.Write 0) job.out_sdd ++ commands.Size 0 ∷ []))
     told_of.others told_of.steps in
     writes files job from.formula from.tree told_of.others old new told
-    (all_done own.input (compiled job from.formula from.tree) last job.out_vtree job.out_sdd told_of.others own_valid
-    after_input.steps)
+    (all_done own.input (compiled job from.formula from.tree) last 2 job.out_vtree job.out_sdd told_of.others own_valid
+    bound.steps)
     (is ∙ ap (λ l. after l old) told_of.are ∙ after_announced job.input from.formula told_of.others old)
 
 -- at status 0 the formula of the input was written

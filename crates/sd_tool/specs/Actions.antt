@@ -6,6 +6,7 @@ use Rattle.sd_script.specs.declared.command.Action.{Action}
 use Rattle.sd_script.specs.declared.command.Action.TheVariants as actions
 use Rattle.sd_script.specs.declared.command.Command.{Command as Line}
 use Rattle.sd_commands.specs.Fits.{AllFit, uses, binds, frees, in_range, bound_after}
+use Rattle.sd_commands.specs.declared.command.NumberedCommand.{NumberedCommand}
 use Rattle.sd_commands.specs.declared.command.RunCommand.{RunCommand}
 use Rattle.sd_commands.specs.declared.command.RunCommand.TheVariants as commands
 
@@ -19,6 +20,7 @@ plain_of (actions.Not n a) = Some (commands.Negate n a)
 plain_of (actions.Given n a literal) = Some (commands.Given n a literal)
 plain_of (actions.Forget n a x) = Some (commands.Forget n a x)
 plain_of (actions.Drop a) = Some (commands.Drop a)
+plain_of (actions.Limit limit) = Some (commands.Limit limit)
 plain_of (actions.Same a b) = Some (commands.Same a b)
 plain_of (actions.Size a) = Some (commands.Size a)
 plain_of (actions.Value a bits) = Some (commands.Value a bits)
@@ -31,9 +33,13 @@ pub record IsCommandOf (v : ℕ) (action : Action) (command : RunCommand) : Type
   pub frees : frees command ≡ script.frees action
   pub in_range : reads.in_range v action ≡ true → in_range v command ≡ true
 
+-- the names that commands leave bound
+abbrev pub bound_by : List NumberedCommand → List ℕ
+bound_by done = fold (λ names c. bound_after names c.command) [] done
+
 -- The first lines of a script have become these commands: each fits behind those before it, and they bind the names
 -- that the lines bind.
-pub record AreCommandsOf (v : ℕ) (lines : List Line) (index : ℕ) (done : List RunCommand) : Type 0 where
+pub record AreCommandsOf (v : ℕ) (lines : List Line) (index : ℕ) (done : List NumberedCommand) : Type 0 where
   pub count : length done ≡ index
-  pub names : fold bound_after [] done ≡ script.bound (take index lines)
+  pub names : bound_by done ≡ script.bound (take index lines)
   pub fit : AllFit v [] done

@@ -4,7 +4,7 @@ use Rattle.sd_base.specs.Asked.{Request, ToRead, ToWrite}
 use Rattle.sd_base.specs.Files.{Files}
 use Rattle.sd_commands.specs.Effects.{Effect, Write, Print}
 use Rattle.sd_tool.specs.Readings.{Plan, Reading, Refuses, Begins, Reads, Text, IsText, reading_of}
-use Rattle.sd_tool.specs.Ends.{End, Finished, Refused, Unreadable, Unwritable, OutOfMemory, ArenaFull}
+use Rattle.sd_tool.specs.Ends.{End, Finished, Refused, Unreadable, Unwritable, OutOfMemory, ArenaFull, OverLimit}
 use Rattle.sd_tool.specs.Course.{EndsAmong}
 
 -- no request at all
@@ -61,6 +61,7 @@ EndsAsking asks files reading (Unreadable file) = AsksLast asks files reading fi
 EndsAsking asks files reading (Unwritable effect) = ⊥
 EndsAsking asks files reading OutOfMemory = BreaksOff asks files reading
 EndsAsking asks files reading (ArenaFull elements) = ⊥
+EndsAsking asks files reading (OverLimit line group size limit) = ⊥
 
 -- After these effects, a run with these words over these files comes to this end, and it asks of the shelf what its
 -- readings ask, and then the writings of the effects that are begun.

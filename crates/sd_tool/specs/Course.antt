@@ -2,11 +2,11 @@
 use Rattle.std.specs.Prelude.{◌≡◌, ◌⊎◌, ℕ, List, [], ◌∷◌, ◌++◌, Option}
 use Rattle.sd_base.specs.Files.{Files}
 use Rattle.sd_commands.specs.Effects.{Effect}
-use Rattle.sd_commands.specs.Commands.{State, Done, Step, Steps, MayFill}
-use Rattle.sd_commands.specs.declared.command.RunCommand.{RunCommand}
+use Rattle.sd_commands.specs.Commands.{State, Done, OverLimit as PassesLimit, Step, Steps, MayFill}
+use Rattle.sd_commands.specs.declared.command.NumberedCommand.{NumberedCommand}
 use Rattle.sd_tool.specs.Effects.{Contents, after, DoesPart}
 use Rattle.sd_tool.specs.Readings.{Plan, Reading, Refuses, Begins, Reads, reading_of, ReadsTo}
-use Rattle.sd_tool.specs.Ends.{End, Finished, Refused, Unreadable, Unwritable, OutOfMemory, ArenaFull}
+use Rattle.sd_tool.specs.Ends.{End, Finished, Refused, Unreadable, Unwritable, OutOfMemory, ArenaFull, OverLimit}
 
 -- The run ends at its readings, before any command: refused, at a file that it asks for, or out of memory.
 abbrev pub EndsReading : Option Files → Reading → End → Type 0
@@ -16,30 +16,34 @@ EndsReading files reading (Unreadable file) = (next : _) × ReadsTo files readin
 EndsReading files reading (Unwritable effect) = ⊥
 EndsReading files reading OutOfMemory = Unit {0}
 EndsReading files reading (ArenaFull elements) = ⊥
+EndsReading files reading (OverLimit line group size limit) = ⊥
 
 -- The first commands of a plan are done with these effects, and the others are left.
-pub record Reaches (plan : Plan) (effects : List Effect) (state : State) (left : List RunCommand) : Type 0 where
-  pub done : List RunCommand
+pub record Reaches (plan : Plan) (effects : List Effect) (state : State) (left : List NumberedCommand) : Type 0 where
+  pub done : List NumberedCommand
   pub in_order : done ++ left ≡ plan.commands
   pub steps : Steps plan.input plan.start done effects state
 
 -- the same, and there is a next command
-pub record IsAtCommand (plan : Plan) (effects : List Effect) (state : State) (next : RunCommand) : Type 0 where
-  pub left : List RunCommand
+pub record IsAtCommand (plan : Plan) (effects : List Effect) (state : State) (next : NumberedCommand) : Type 0 where
+  pub left : List NumberedCommand
   pub reaches : Reaches plan effects state (next ∷ left)
 
 -- The run ends among its commands, after these effects: all are done, the effect of the next fails, for want of
--- memory, or at a full arena, which the next may need. No command is refused: each one is done in every state.
+-- memory, at a full arena, which the next may need, or where the next is refused since the total size passes the limit.
 abbrev pub EndsAmong : Plan → List Effect → End → Type 0
 EndsAmong plan effects Finished = (state : State) × Reaches plan effects state []
 EndsAmong plan effects (Refused refusal) = ⊥
 EndsAmong plan effects (Unreadable file) = ⊥
 EndsAmong plan effects (Unwritable effect) =
-    (state : State) × (next : RunCommand) × IsAtCommand plan effects state next
-    × ((then_on : State) × Step plan.input state next (Done then_on (effect ∷ [])))
-EndsAmong plan effects OutOfMemory = (state : State) × (left : List RunCommand) × Reaches plan effects state left
+    (state : State) × (next : NumberedCommand) × IsAtCommand plan effects state next
+    × ((then_on : State) × Step plan.input state next.command (Done then_on (effect ∷ [])))
+EndsAmong plan effects OutOfMemory = (state : State) × (left : List NumberedCommand) × Reaches plan effects state left
 EndsAmong plan effects (ArenaFull elements) =
-    (state : State) × (next : RunCommand) × IsAtCommand plan effects state next × MayFill next
+    (state : State) × (next : NumberedCommand) × IsAtCommand plan effects state next × MayFill next.command
+EndsAmong plan effects (OverLimit line group size limit) =
+    (state : State) × (next : NumberedCommand) × IsAtCommand plan effects state next × (next.line ≡ line)
+    × Step plan.input state next.command (PassesLimit group size limit)
 
 -- After these effects, a run with these words over these files may come to this end.
 abbrev pub MayEnd : List (List ℕ) → Option Files → List Effect → End → Type 0

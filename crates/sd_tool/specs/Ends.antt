@@ -1,5 +1,5 @@
 -- How a run ends: its status, and its line on `err`.
-use Rattle.std.specs.Prelude.{ℕ, List, [], ◌∷◌, ◌++◌, codes}
+use Rattle.std.specs.Prelude.{ℕ, List, [], ◌∷◌, ◌++◌, Option, Some, None, codes}
 use Rattle.sd_model.specs.Text.{number_text}
 use Rattle.sd_commands.specs.Effects.{Effect, Write, Print}
 use Rattle.sd_tool.specs.Refusals.{refusal_status, refusal_text}
@@ -18,6 +18,8 @@ pub data End : Type 0 where
   OutOfMemory : End
   -- the arena of the diagrams would have to hold so many elements
   ArenaFull : (elements : ℕ) → End
+  -- the total size passes the limit, at the command of a line, or there at a group of the input
+  OverLimit : (line : ℕ) (group : Option ℕ) (size limit : ℕ) → End
 
 abbrev pub status_of : End → ℕ
 status_of Finished = 0
@@ -26,6 +28,12 @@ status_of (Unreadable file) = 5
 status_of (Unwritable effect) = 6
 status_of OutOfMemory = 7
 status_of (ArenaFull elements) = 8
+status_of (OverLimit line group size limit) = 4
+
+-- a group of the input, if it is told
+abbrev pub group_text : Option ℕ → List ℕ
+group_text None = []
+group_text (Some group) = codes ": group " ++ number_text group
 
 -- the text of the line, after the name of the program
 abbrev pub text_of : End → List ℕ
@@ -36,6 +44,9 @@ text_of (Unwritable (Write file bytes)) = file ++ codes ": write fault"
 text_of (Unwritable (Print line)) = codes "output: write fault"
 text_of OutOfMemory = codes "out of memory"
 text_of (ArenaFull elements) = codes "arena full: " ++ number_text elements
+text_of (OverLimit line group size limit) =
+    codes "line " ++ number_text line ++ group_text group ++ codes ": size " ++ number_text size
+    ++ codes " passes limit " ++ number_text limit
 
 -- a line on `err`
 abbrev pub line_of : List ℕ → List ℕ

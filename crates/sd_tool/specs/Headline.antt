@@ -12,7 +12,7 @@ use Rattle.sd_tool.specs.Effects.{after, DoesPart}
 use Rattle.sd_tool.specs.Readings.{Plan, Refuses, Begins, Reads, reading_of, ReadsTo}
 use Rattle.sd_tool.specs.Refusals.{IsOfText, refusal_status}
 use Rattle.sd_tool.specs.declared.refusal.Refusal.{Refusal}
-use Rattle.sd_tool.specs.Ends.{End, Finished, Refused, Unreadable, Unwritable, OutOfMemory, ArenaFull}
+use Rattle.sd_tool.specs.Ends.{End, Finished, Refused, Unreadable, Unwritable, OutOfMemory, ArenaFull, OverLimit}
 use Rattle.sd_tool.specs.Ends.{status_of}
 use Rattle.sd_tool.specs.Devices.{Moment, NoneRose, HasDeviceCause, WritesEndLine}
 use Rattle.sd_tool.specs.Asks.{GoesTo}
@@ -33,7 +33,7 @@ pub record IsCourse (asks : List Request → Type 0) (words : List (List ℕ)) (
   pub keeps : KeepsManager words old.contents.files effects end kept
   pub line : WritesEndLine end old new
 
--- What was done outside: at status 0 all effects of the run, at 1, 2, 3, 5 and 9 none, at 7 and 8 those of the first
+-- What was done outside: at status 0 all effects of the run, at 1, 2, 3, 5 and 9 none, at 4, 7 and 8 those of the first
 -- commands, at 6 those before the effect in hand, and a part of that one.
 pub record HasEffects (words : List (List ℕ)) (status : ℕ) (old new : Moment) : Type 0 where
   pub all : status ≡ 0 → (effects : List Effect)
@@ -43,6 +43,9 @@ pub record HasEffects (words : List (List ℕ)) (status : ℕ) (old new : Moment
       × MayEnd words old.contents.files effects OutOfMemory × (new.contents ≡ after effects old.contents)
   pub full : status ≡ 8 → (effects : List Effect) × (elements : ℕ)
       × MayEnd words old.contents.files effects (ArenaFull elements) × (new.contents ≡ after effects old.contents)
+  pub over : status ≡ 4 → (effects : List Effect) × (line : ℕ) × (group : Option ℕ) × (size limit : ℕ)
+      × MayEnd words old.contents.files effects (OverLimit line group size limit)
+      × (new.contents ≡ after effects old.contents)
   pub in_hand : status ≡ 6 → (effects : List Effect) × (effect : Effect)
       × MayEnd words old.contents.files effects (Unwritable effect)
       × DoesPart effect (after effects old.contents) new.contents
@@ -89,12 +92,24 @@ pub record WasFull (words : List (List ℕ)) (kept : Option Table) (old new : Mo
   pub holds : HoldsAt plan effects manager
   pub line : WritesEndLine (ArenaFull elements) old new
 
+-- The total size passed the limit: all readings were accepted, and the next command has this line and is refused in the
+-- state after those before it, with this group, size and limit. The line tells them.
+pub record PassedLimit (words : List (List ℕ)) (old new : Moment) : Type 0 where
+  pub at_line : ℕ
+  pub group : Option ℕ
+  pub size : ℕ
+  pub limit : ℕ
+  pub effects : List Effect
+  pub in_hand : MayEnd words old.contents.files effects (OverLimit at_line group size limit)
+  pub line : WritesEndLine (OverLimit at_line group size limit) old new
+
 -- When each status comes, and that a manager is kept at 8 alone. That a refusal comes wherever it may is the other
 -- half, in `IsComplete` and `IsCourse`.
 pub record HasEnd (words : List (List ℕ)) (status : ℕ) (kept : Option Table) (old new : Moment) : Type 0 where
-  pub one_of : (status ≡ 0) ⊎ (status ≡ 1) ⊎ (status ≡ 2) ⊎ (status ≡ 3) ⊎ (status ≡ 5) ⊎ (status ≡ 6)
-      ⊎ (status ≡ 7) ⊎ (status ≡ 8) ⊎ (status ≡ 9)
+  pub one_of : (status ≡ 0) ⊎ (status ≡ 1) ⊎ (status ≡ 2) ⊎ (status ≡ 3) ⊎ (status ≡ 4) ⊎ (status ≡ 5)
+      ⊎ (status ≡ 6) ⊎ (status ≡ 7) ⊎ (status ≡ 8) ⊎ (status ≡ 9)
   pub refused : (status ≡ 1) ⊎ (status ≡ 2) ⊎ (status ≡ 3) ⊎ (status ≡ 9) → IsRefused words status old new
+  pub over_limit : status ≡ 4 → PassedLimit words old new
   pub read_fault : status ≡ 5 → CouldNotRead words old new
   pub write_fault : status ≡ 6 → CouldNotWrite words old new
   pub arena_full : status ≡ 8 → WasFull words kept old new
@@ -104,16 +119,18 @@ pub record HasEnd (words : List (List ℕ)) (status : ℕ) (kept : Option Table)
 abbrev pub IsOwn : End → Type 0
 IsOwn Finished = Unit {0}
 IsOwn (Refused refusal) = Unit {0}
+IsOwn (OverLimit line group size limit) = Unit {0}
 IsOwn end = ⊥
 
--- Over told files, where neither the shelf nor `out` fails: an input with a start tree is written, or there was no
--- memory or no room; and where the words and the files lead to an end of their own, the run comes to it with all its
--- effects, or there was no memory or no room.
+-- Over told files, where neither the shelf nor `out` fails: an input with a start tree is written, or it passes the
+-- limit, or there was no memory or no room; and where the words and the files lead to an end of their own, the run
+-- comes to it with all its effects and its line, or there was no memory or no room.
 pub record IsComplete (words : List (List ℕ)) (status : ℕ) (old new : Moment) : Type 0 where
   pub served : (files : Files) (job : Job) (formula : Groups) (tree : Tree) → old.contents.files ≡ Some files
       → NoneRose old.faults new.faults → IsInput words files job formula
       → IsStartTree files job.tree formula.variables tree
-      → (status ≡ 0) ⊎ (status ≡ 7) ⊎ (status ≡ 8)
+      → (status ≡ 0) ⊎ (status ≡ 4) ⊎ (status ≡ 7) ⊎ (status ≡ 8)
   pub own : (files : Files) (effects : List Effect) (end : End) → old.contents.files ≡ Some files
       → NoneRose old.faults new.faults → IsOwn end → MayEnd words (Some files) effects end
-      → ((status ≡ status_of end) × (new.contents ≡ after effects old.contents)) ⊎ (status ≡ 7) ⊎ (status ≡ 8)
+      → ((status ≡ status_of end) × (new.contents ≡ after effects old.contents) × WritesEndLine end old new)
+      ⊎ (status ≡ 7) ⊎ (status ≡ 8)

@@ -77,11 +77,11 @@ pub record WritesDiagram (files : Files) (tree : Tree) (f : Expression) (file : 
   pub files_are : new.files ≡ Some (with_file files file (sdd_text diagram))
   pub printed_is : new.printed ≡ old.printed
 
--- Over told files, a run with such a script is done where no device failed, or there was no memory or no room; and
--- where it is done, its file is the text of the two formulas, joined.
+-- Over told files, a run with such a script is done where no device failed, or its size passes the limit, or there was
+-- no memory or no room; and where it is done, its file is the text of the two formulas, joined.
 abbrev pub HasJoined : List (List ℕ) → ℕ → Moment → Moment → Type 0
 HasJoined words status old new = (files : Files) (job : Job) (formula : Groups) (tree : Tree) (script : Script)
     (joined : Expression) (file : List ℕ) → old.contents.files ≡ Some files → HasScript words files job formula script
     → IsStartTree files job.tree formula.variables tree → JoinsTwo (expression_of formula) script joined file
-    → (NoneRose old.faults new.faults → (status ≡ 0) ⊎ (status ≡ 7) ⊎ (status ≡ 8))
+    → (NoneRose old.faults new.faults → (status ≡ 0) ⊎ (status ≡ 4) ⊎ (status ≡ 7) ⊎ (status ≡ 8))
     × (status ≡ 0 → WritesDiagram files tree joined file old.contents new.contents)

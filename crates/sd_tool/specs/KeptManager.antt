@@ -5,7 +5,7 @@ use Rattle.sd_manager.specs.Table.{Table}
 use Rattle.sd_commands.specs.Effects.{Effect}
 use Rattle.sd_commands.specs.Commands.{State, MayFill}
 use Rattle.sd_commands.specs.Standing.{IsFilled, HoldsState}
-use Rattle.sd_commands.specs.declared.command.RunCommand.{RunCommand}
+use Rattle.sd_commands.specs.declared.command.NumberedCommand.{NumberedCommand}
 use Rattle.sd_tool.specs.Readings.{Plan, Begins, reading_of, ReadsTo}
 use Rattle.sd_tool.specs.Ends.{End, ArenaFull}
 use Rattle.sd_tool.specs.Course.{IsAtCommand}
@@ -14,9 +14,9 @@ use Rattle.sd_tool.specs.Course.{IsAtCommand}
 -- state there, and its roots hold the diagrams of the names that are bound there.
 pub record HoldsAt (plan : Plan) (effects : List Effect) (t : Table) : Type 0 where
   pub state : State
-  pub next : RunCommand
+  pub next : NumberedCommand
   pub at : IsAtCommand plan effects state next
-  pub needs : MayFill next
+  pub needs : MayFill next.command
   pub holds : HoldsState t state
 
 -- at a full arena the manager that refused is kept, as it was at the command in hand, and at each other end none

@@ -8,6 +8,7 @@ pub mod PlanViews
 pub mod Headline
 pub mod Joined
 pub mod KeptManager
+pub mod Limited
 pub mod Parts
 pub mod Readings
 pub mod Refusals

@@ -1,31 +1,35 @@
 -- What contracts see of a plan of the code.
-use Rattle.std.specs.Prelude.{◌≡◌, ℕ, ◌≤◌, List, [], length}
+use Rattle.std.specs.Prelude.{◌≡◌, ℕ, ◌+◌, ◌≤◌, List, [], ◌++◌, length}
 use Rattle.sd_model.specs.Tree.{leaves}
 use Rattle.sd_formula.specs.Dimacs.{Groups}
-use Rattle.sd_formula.specs.Formulas.{expression_of}
 use Rattle.sd_vtree.specs.Numbered.{plain_tree}
 use Rattle.sd_commands.specs.Fits.{AllFit}
 use Rattle.sd_commands.specs.Standing.{Represents, start, root_count}
+use Rattle.sd_commands.specs.declared.command.NumberedCommand.{NumberedCommand}
 use Rattle.sd_commands.specs.declared.command.RunCommand.{RunCommand}
 use Rattle.sd_commands.specs.declared.state.RunState.{RunState}
-use Rattle.sd_tool.specs.Readings.{Plan}
+use Rattle.sd_tool.specs.Readings.{Plan, in_lines}
 use Rattle.sd_tool.specs.declared.plan.RunPlan.{RunPlan}
 
--- the plan with this formula, the tree of the state, and these commands
-abbrev pub plan_with : Groups → RunState → ℕ → List RunCommand → Plan
-plan_with formula state limit commands = record {
-  input = expression_of formula;
-  start = start (plain_tree state.manager.vtree) limit;
+-- commands in the lines that follow these
+abbrev pub behind : List NumberedCommand → List RunCommand → List NumberedCommand
+behind lines commands = lines ++ in_lines (length lines + 1) commands
+
+-- the plan with this formula, the tree and the limit of the state, and these commands
+abbrev pub plan_with : Groups → RunState → List NumberedCommand → Plan
+plan_with formula state commands = record {
+  input = formula;
+  start = start (plain_tree state.manager.vtree) state.limit;
   commands = commands;
 }
 
 abbrev pub plan_of : RunPlan → Plan
-plan_of plan = plan_with plan.formula plan.state plan.limit plan.commands.items
+plan_of plan = plan_with plan.formula plan.state plan.commands.items
 
 -- These commands can be carried out: the code represents a state without names, over the formula's variables, each
 -- command can be done after those before it, and there are at most 100,001 of them.
-pub record IsReadyWith (formula : Groups) (state : RunState) (commands : List RunCommand) : Type 0 where
-  pub represents : (limit : ℕ) → Represents state (start (plain_tree state.manager.vtree) limit)
+pub record IsReadyWith (formula : Groups) (state : RunState) (commands : List NumberedCommand) : Type 0 where
+  pub represents : Represents state (start (plain_tree state.manager.vtree) state.limit)
   pub variables : leaves (plain_tree state.manager.vtree) ≡ formula.variables
   pub fit : AllFit formula.variables [] commands
   pub within_limit : length commands ≤ 100001

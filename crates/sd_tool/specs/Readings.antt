@@ -1,17 +1,15 @@
 -- What a run reads before its first command, and when that is refused. A later reading is one more `Reads`.
-use Rattle.std.specs.Prelude.{◌≡◌, ◌⊎◌, ℕ, ◌<◌, ◌≤◌, Bool, true, false, ◌==◌, ◌&&◌, is_none}
+use Rattle.std.specs.Prelude.{◌≡◌, ◌⊎◌, ℕ, ◌+◌, ◌<◌, ◌≤◌, Bool, true, false, ◌==◌, ◌&&◌, is_none}
 use Rattle.std.specs.Prelude.{List, [], ◌∷◌, ◌++◌, length, slice_index_or, if◌then◌else◌}
 use Rattle.std.specs.Prelude.{Option, Some, None, Result, Ok, Err}
 use Rattle.std.specs.List.{list_all}
 use Rattle.sd_base.specs.Files.{Files, bytes_at}
-use Rattle.sd_model.specs.Expression.{Expression}
 use Rattle.sd_model.specs.Tree.{Tree}
 use Rattle.sd_model.specs.StartTrees.{balanced_tree, right_tree, left_tree}
 use Rattle.sd_formula.specs.declared.error.FormulaError.{FormulaError}
 use Rattle.sd_formula.specs.declared.formula.Kind.{Kind}
 use Rattle.sd_formula.specs.declared.formula.Kind.TheVariants as kinds
 use Rattle.sd_formula.specs.Dimacs.{Groups, dimacs}
-use Rattle.sd_formula.specs.Formulas.{expression_of}
 use Rattle.sd_formula.specs.Generated.{generated_formula}
 use Rattle.sd_vfile.specs.Reads.{vtree_file}
 use Rattle.sd_vfile.specs.declared.fault.VtreeFault.{VtreeFault}
@@ -31,6 +29,7 @@ use Rattle.sd_words.specs.declared.jobs.TreeWord.TheVariants as trees
 use Rattle.sd_words.specs.declared.faults.WordsFault.{WordsFault}
 use Rattle.sd_commands.specs.Commands.{State}
 use Rattle.sd_commands.specs.Standing.{start}
+use Rattle.sd_commands.specs.declared.command.NumberedCommand.{NumberedCommand}
 use Rattle.sd_commands.specs.declared.command.RunCommand.{RunCommand}
 use Rattle.sd_commands.specs.declared.command.RunCommand.TheVariants as commands
 use Rattle.sd_tool.specs.declared.refusal.Refusal.{Refusal}
@@ -39,9 +38,9 @@ use Rattle.sd_tool.specs.declared.refusal.Refusal.TheVariants.{BadScript, LongSc
 
 -- what the commands begin with
 pub record Plan : Type 0 where
-  pub input : Expression
+  pub input : Groups
   pub start : State
-  pub commands : List RunCommand
+  pub commands : List NumberedCommand
 
 -- what reading a file gives: its bytes, or that it is too long
 pub data Text : Type 0 where
@@ -65,9 +64,9 @@ input_file (inputs.Cnf file) = Some record { kind = kinds.Cnf; file = file }
 input_file (inputs.Dnf file) = Some record { kind = kinds.Dnf; file = file }
 input_file (inputs.Generate count seed) = None
 
--- a job without a search, with the limit and the slack of default
+-- a job without a search, with the slack of default
 abbrev pub is_plain : Job → Bool
-is_plain job = is_none job.minimise && (is_none job.every && (job.slack == 200 && job.limit == 16777216))
+is_plain job = is_none job.minimise && (is_none job.every && job.slack == 200)
 
 -- ---- the commands
 
@@ -76,17 +75,23 @@ abbrev pub for_file : (List ℕ → RunCommand) → Option (List ℕ) → List R
 for_file command None = []
 for_file command (Some file) = command file ∷ []
 
--- Without a script the formula is compiled, its vtree and its diagram are written, and then its size is printed.
-abbrev pub default_of : Job → List RunCommand
+-- commands in lines that follow one another, from this one on
+abbrev pub in_lines : ℕ → List RunCommand → List NumberedCommand
+in_lines line [] = []
+in_lines line (command ∷ commands) = record { line = line; command = command } ∷ in_lines (line + 1) commands
+
+-- Without a script the formula is compiled, its vtree and its diagram are written, and then its size is printed: a
+-- script of two to four lines.
+abbrev pub default_of : Job → List NumberedCommand
 default_of job =
-    commands.Input 0 ∷ for_file commands.WriteVtree job.out_vtree ++ for_file (commands.Write 0) job.out_sdd
-    ++ commands.Size 0 ∷ []
+    in_lines 1
+    (commands.Input 0 ∷ for_file commands.WriteVtree job.out_vtree ++ for_file (commands.Write 0) job.out_sdd
+    ++ commands.Size 0 ∷ [])
 
 -- a command of a script that runs have yet
 abbrev pub is_served : Action → Bool
 is_served (actions.Turn kind p) = false
 is_served (actions.Minimise rounds) = false
-is_served (actions.Limit k) = false
 is_served action = true
 
 -- the name of a file of a script
@@ -115,6 +120,7 @@ with_action v script next (actions.Not n a) = next (commands.Negate n a)
 with_action v script next (actions.Given n a literal) = next (commands.Given n a literal)
 with_action v script next (actions.Forget n a x) = next (commands.Forget n a x)
 with_action v script next (actions.Drop a) = next (commands.Drop a)
+with_action v script next (actions.Limit limit) = next (commands.Limit limit)
 with_action v script next (actions.Same a b) = next (commands.Same a b)
 with_action v script next (actions.Size a) = next (commands.Size a)
 with_action v script next (actions.Value a bits) = next (commands.Value a bits)
@@ -122,45 +128,50 @@ with_action v script next (actions.Write a file) = next (commands.Write a (file_
 with_action v script next (actions.Vtree file) = next (commands.WriteVtree (file_name script file))
 with_action v script next action = Refuses NotYet
 
+-- a command with the number of its line
+abbrev pub in_line : Line → RunCommand → NumberedCommand
+in_line line command = record { line = line.line; command = command }
+
 -- the commands of these lines, behind others
-abbrev pub with_lines : ℕ → Script → (List RunCommand → Reading) → List RunCommand → List Line → Reading
+abbrev pub with_lines : ℕ → Script → (List NumberedCommand → Reading) → List NumberedCommand → List Line → Reading
 with_lines v script begin done [] = begin done
 with_lines v script begin done (line ∷ lines) =
-    with_action v script (λ command. with_lines v script begin (done ++ command ∷ []) lines) line.action
+    with_action v script (λ command. with_lines v script begin (done ++ in_line line command ∷ []) lines) line.action
 
 -- a script, if runs have its commands yet; no file is read before that is known
-abbrev pub script_reading : ℕ → (List RunCommand → Reading) → Script → Reading
+abbrev pub script_reading : ℕ → (List NumberedCommand → Reading) → Script → Reading
 script_reading v begin script =
     if list_all (λ (line : Line). is_served line.action) script.commands
     then with_lines v script begin [] script.commands
     else Refuses NotYet
 
 -- a script that was read, or the refusal of its text
-abbrev pub with_script_reading : List ℕ → ℕ → (List RunCommand → Reading) → Result Script ScriptFault → Reading
+abbrev pub with_script_reading : List ℕ → ℕ → (List NumberedCommand → Reading) → Result Script ScriptFault → Reading
 with_script_reading file v begin (Err fault) = Refuses (BadScript file fault)
 with_script_reading file v begin (Ok script) = script_reading v begin script
 
 -- the text of a script over v variables
-abbrev pub with_script_text : List ℕ → ℕ → (List RunCommand → Reading) → Text → Reading
+abbrev pub with_script_text : List ℕ → ℕ → (List NumberedCommand → Reading) → Text → Reading
 with_script_text file v begin TooLong = Refuses (LongScript file)
 with_script_text file v begin (Whole bytes) = with_script_reading file v begin (script_of v bytes)
 
 -- the commands of a job: those of its script, or the stated ones
-abbrev pub with_commands : Job → ℕ → (List RunCommand → Reading) → Option (List ℕ) → Reading
+abbrev pub with_commands : Job → ℕ → (List NumberedCommand → Reading) → Option (List ℕ) → Reading
 with_commands job v begin None = begin (default_of job)
 with_commands job v begin (Some file) = Reads file (with_script_text file v begin)
 
 -- ---- the formula and its tree
 
--- a generated formula is told of first, by its numbers of variables and groups
-abbrev pub announcement : InputWord → Groups → List RunCommand
-announcement (inputs.Generate count seed) formula = commands.Generated formula.variables (length formula.groups) ∷ []
+-- a generated formula is told of first, before all lines, by its numbers of variables and groups
+abbrev pub announcement : InputWord → Groups → List NumberedCommand
+announcement (inputs.Generate count seed) formula =
+    record { line = 0; command = commands.Generated formula.variables (length formula.groups) } ∷ []
 announcement word formula = []
 
 -- what commands begin with: the formula, no name, the tree, and the job's limit
-abbrev pub plan_for : Job → Groups → Tree → List RunCommand → Plan
+abbrev pub plan_for : Job → Groups → Tree → List NumberedCommand → Plan
 plan_for job formula tree commands = record {
-  input = expression_of formula;
+  input = formula;
   start = start tree job.limit;
   commands = announcement job.input formula ++ commands;
 }

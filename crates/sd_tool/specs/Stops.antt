@@ -7,10 +7,12 @@ use Rattle.sd_base.specs.Files.{Files, Lacks}
 use Rattle.sd_manager.specs.Table.{Table}
 use Rattle.sd_commands.specs.Effects.{Effect, Write, Print}
 use Rattle.sd_commands.specs.Standing.{IsFilled}
+use Rattle.sd_commands.specs.declared.error.CommandError.{CommandError}
+use Rattle.sd_commands.specs.declared.error.CommandError.TheVariants as errors
 use Rattle.sd_tool.specs.Effects.{Contents, DoesPart}
 use Rattle.sd_tool.specs.Readings.{Plan, Reading, Refuses, Text, Whole, TooLong}
 use Rattle.sd_tool.specs.Ends.{End, Finished, Refused, Unreadable, Unwritable, OutOfMemory as NoMemory}
-use Rattle.sd_tool.specs.Ends.{ArenaFull as NoRoom, status_of, text_of}
+use Rattle.sd_tool.specs.Ends.{ArenaFull as NoRoom, OverLimit, status_of, text_of}
 use Rattle.sd_tool.specs.KeptManager.{HoldsAt, KeepsOf, KeepsManager}
 use Rattle.sd_tool.specs.Devices.{HasDeviceCause, Faults}
 use Rattle.sd_tool.specs.Asks.{ComesTo, AsksLast, BreaksOff, GoesTo, begun, writings}
@@ -27,6 +29,7 @@ end_of (stops.WriteFault file) = Unwritable (Write file [])
 end_of stops.OutputFault = Unwritable (Print [])
 end_of stops.OutOfMemory = NoMemory
 end_of (stops.ArenaFull elements) = NoRoom elements
+end_of (stops.OverLimit line group size limit) = OverLimit line group size limit
 
 abbrev pub stop_status : Stop → ℕ
 stop_status stop = status_of (end_of stop)
@@ -34,6 +37,12 @@ stop_status stop = status_of (end_of stop)
 -- the text of a stop's line
 abbrev pub stop_text : Stop → List ℕ
 stop_text stop = text_of (end_of stop)
+
+-- the stop at a command of this line that is not done
+abbrev pub stop_of : ℕ → CommandError → Stop
+stop_of line (errors.OverLimit group size limit) = stops.OverLimit line group size limit
+stop_of line (errors.ArenaFull elements) = stops.ArenaFull elements
+stop_of line errors.OutOfMemory = stops.OutOfMemory
 
 -- the stop has the status and the text of this end
 pub record StandsFor (stop : Stop) (end : End) : Type 0 where

@@ -22,6 +22,7 @@ use Rattle.sd_words.specs.declared.jobs.TreeWord.{TreeWord}
 use Rattle.sd_words.specs.declared.jobs.TreeWord.TheVariants as trees
 use Rattle.sd_commands.specs.Effects.{Effect}
 use Rattle.sd_commands.specs.Commands.{State, IsTextOf, formula_named, generated_line, size_line}
+use Rattle.sd_commands.specs.declared.command.NumberedCommand.{NumberedCommand}
 use Rattle.sd_commands.specs.declared.command.RunCommand.TheVariants as commands
 use Rattle.sd_tool.specs.Readings.{Plan, Begins, is_plain, reading_of, ReadsTo}
 use Rattle.sd_tool.specs.Course.{IsAtCommand}
@@ -91,7 +92,9 @@ pub record Writes (plan : Plan) (f : Expression) (tree : Tree) (text : List ℕ)
   pub file : List ℕ
   pub effects : List Effect
   pub state : State
-  pub at : IsAtCommand plan effects state (commands.Write name file)
+  pub next : NumberedCommand
+  pub at : IsAtCommand plan effects state next
+  pub writes : next.command ≡ commands.Write name file
   pub formula : f ≡ formula_named state name
   pub tree_is : tree ≡ state.tree
   pub text_is : IsTextOf tree f text

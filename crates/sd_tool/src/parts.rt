@@ -1,18 +1,18 @@
-// A line of text in parts, of which two may be numbers. It is written without memory, so that
-// running out of memory can't come between a status and its line.
+// A line of text in one or two halves, each in parts, of which two may be numbers. It is written without memory, so
+// that running out of memory can't come between a status and its line.
 ghost use Rattle.std.specs.Prelude.{◌≡◌, ◌≤◌, ◌++◌, OnOk, OnErr, codes, if◌then◌else◌};
 ghost use Rattle.sd_base.specs.Faults.{Rose};
 ghost use Rattle.sd_base.specs.Sink.{told_then, AppendsPart};
 ghost use Rattle.sd_model.specs.Text.{number_text};
 ghost use Rattle.sd_tool.specs.Devices.{WritesLine};
-ghost use Rattle.sd_tool.specs.Ends.{line_of};
-ghost use Rattle.sd_tool.specs.Parts.{parts_text, number_seen};
+ghost use Rattle.sd_tool.specs.Ends.{OverLimit, text_of, group_text, line_of};
+ghost use Rattle.sd_tool.specs.Parts.{parts_text, line_text, number_seen};
 ghost use Rattle.sd_tool.specs.Refusals.{at_line, counts, signed_text};
 
 use itoa::Buffer;
 use sd_base::{Sink, WriteFault, write_all};
 
-/// What a line is about, and what it says of it: texts, and perhaps one number or two between them.
+/// What a text is about, and what it says of it: texts, and perhaps one number or two between them.
 #[derive(Clone, Copy, Debug)]
 pub struct Parts<'a> {
     pub subject: &'a [u8],
@@ -21,6 +21,65 @@ pub struct Parts<'a> {
     pub between: &'static [u8],
     pub second: Option<u64>,
     pub after: &'static [u8],
+}
+
+/// The two halves of a line.
+#[derive(Clone, Copy, Debug)]
+pub struct LineParts<'a> {
+    pub front: Parts<'a>,
+    pub back: Parts<'a>,
+}
+
+/// A line whose second half is empty.
+pub fn alone(front: Parts<'_>) -> LineParts<'_>
+    ensures { line_text result ≡ parts_text front.entry }
+{
+    LineParts {
+        front,
+        back: plain(b"", b""),
+    }
+}
+
+/// A total size that passes the limit, in this line, and there at a group of the input if it is told.
+pub fn over_limit(line: u32, group: Option<u32>, size: u32, limit: u32) -> LineParts<'static>
+    ensures { line_text result ≡ text_of (OverLimit line group size limit) }
+{
+    LineParts {
+        front: place(line, group),
+        back: passing(size, limit),
+    }
+}
+
+// A line, and a group of the input if it is told.
+fn place(line: u32, group: Option<u32>) -> Parts<'static>
+    ensures { parts_text result ≡ codes "line " ++ number_text line ++ group_text group }
+{
+    match group {
+        Some(group) => Parts {
+            subject: b"line ",
+            before: b"",
+            first: Some(u64::from(line)),
+            between: b": group ",
+            second: Some(u64::from(group)),
+            after: b"",
+        },
+        None => numbered(b"line ", b"", u64::from(line), b""),
+    }
+}
+
+// A size that passes a limit.
+fn passing(size: u32, limit: u32) -> Parts<'static>
+    ensures { parts_text result
+        ≡ codes ": size " ++ number_text size ++ codes " passes limit " ++ number_text limit }
+{
+    Parts {
+        subject: b": size ",
+        before: b"",
+        first: Some(u64::from(size)),
+        between: b" passes limit ",
+        second: Some(u64::from(limit)),
+        after: b"",
+    }
 }
 
 /// A text without numbers.
@@ -104,19 +163,55 @@ pub fn counts(file: &[u8], stated: u64, found: u64) -> Parts<'_>
     }
 }
 
-/// Writes the line of these parts, as far as it goes.
-pub fn write_line<E: Sink>(err: &mut E, parts: &Parts<'_>)
-    ensures { WritesLine (line_of (parts_text parts.now))
+/// Writes the line, as far as it goes.
+pub fn write_line<E: Sink>(err: &mut E, line: &LineParts<'_>)
+    ensures { WritesLine (line_of (line_text line.now))
         (E.written err.old) (E.written err.new) (E.faults err.old) (E.faults err.new) }
+{
+    let _ = write_halves(err, line);
+}
+
+// Writes the line, behind the name of the program.
+fn write_halves<E: Sink>(err: &mut E, line: &LineParts<'_>) -> Result<(), WriteFault>
+    ensures ok { OnOk result (E.written err.new
+        ≡ told_then (E.written err.old) (line_of (line_text line.now))) }
+    ensures err { OnErr result
+        (AppendsPart (E.written err.old) (line_of (line_text line.now)) (E.written err.new)) }
+    ensures cause { OnErr result (Rose (E.faults err.old) (E.faults err.new)) }
+    ensures faults { E.faults err.old ≤ E.faults err.new }
+{
+    let Ok(()) = write_all(err, b"sddc: ") else {
+        return Err(WriteFault);
+    };
+    let Ok(()) = write_parts(err, &line.front) else {
+        return Err(WriteFault);
+    };
+    let Ok(()) = write_parts(err, &line.back) else {
+        return Err(WriteFault);
+    };
+    match write_all(err, b"\n") {
+        Ok(()) => Ok(()),
+        Err(_) => Err(WriteFault),
+    }
+}
+
+// Writes the text of these parts.
+fn write_parts<E: Sink>(err: &mut E, parts: &Parts<'_>) -> Result<(), WriteFault>
+    ensures ok { OnOk result (E.written err.new
+        ≡ told_then (E.written err.old) (parts_text parts.now)) }
+    ensures err { OnErr result
+        (AppendsPart (E.written err.old) (parts_text parts.now) (E.written err.new)) }
+    ensures cause { OnErr result (Rose (E.faults err.old) (E.faults err.new)) }
+    ensures faults { E.faults err.old ≤ E.faults err.new }
 {
     let mut first = Buffer::new();
     let mut second = Buffer::new();
-    let _ = write_text(
+    write_text(
         err,
         parts,
         digits(&mut first, parts.first),
         digits(&mut second, parts.second),
-    );
+    )
 }
 
 // A number in decimal, if it is there.
@@ -135,7 +230,7 @@ fn number_digits(buffer: &mut Buffer, number: u64) -> &[u8]
     buffer.format(number).as_bytes()
 }
 
-// Writes the line of these parts, whose numbers have these digits.
+// Writes the text of these parts, whose numbers have these digits.
 fn write_text<E: Sink>(
     err: &mut E,
     parts: &Parts<'_>,
@@ -145,16 +240,19 @@ fn write_text<E: Sink>(
     requires first { first.now ≡ number_seen parts.now.first }
     requires second { second.now ≡ number_seen parts.now.second }
     ensures ok { OnOk result (E.written err.new
-        ≡ told_then (E.written err.old) (line_of (parts_text parts.now))) }
+        ≡ told_then (E.written err.old) (parts_text parts.now)) }
     ensures err { OnErr result
-        (AppendsPart (E.written err.old) (line_of (parts_text parts.now)) (E.written err.new)) }
+        (AppendsPart (E.written err.old) (parts_text parts.now) (E.written err.new)) }
     ensures cause { OnErr result (Rose (E.faults err.old) (E.faults err.new)) }
     ensures faults { E.faults err.old ≤ E.faults err.new }
 {
-    let Ok(()) = write_four(err, b"sddc: ", parts.subject, parts.before, first) else {
+    let Ok(()) = write_four(err, parts.subject, parts.before, first, parts.between) else {
         return Err(WriteFault);
     };
-    match write_four(err, parts.between, second, parts.after, b"\n") {
+    let Ok(()) = write_all(err, second) else {
+        return Err(WriteFault);
+    };
+    match write_all(err, parts.after) {
         Ok(()) => Ok(()),
         Err(_) => Err(WriteFault),
     }

@@ -24,7 +24,7 @@ use crate::scripts::read_commands;
 use crate::stop::Stop;
 use crate::texts::{read_text, too_long};
 use sd_base::{Name, Shelf};
-use sd_commands::{RunCommand, RunState};
+use sd_commands::{NumberedCommand, RunState};
 use sd_formula::{Formula, FormulaError, Kind, generate, read_dimacs};
 use sd_vfile::{VtreeFault, read_vtree};
 use sd_vtree::Vtree;
@@ -122,7 +122,7 @@ fn make_plan(
     job: &Job,
     formula: Formula,
     vtree: Vtree,
-    commands: Vec<RunCommand>,
+    commands: Vec<NumberedCommand>,
 ) -> Result<RunPlan, Stop>
     requires variables { leaves (plain_tree vtree) ≡ formula.variables }
     requires fit { AllFit formula.variables [] commands.items }
@@ -133,11 +133,10 @@ fn make_plan(
     ensures ready { IfOk result IsReady }
 {
     match announced(job, &formula, commands) {
-        Ok(commands) => match RunState::new(alloc, vtree) {
+        Ok(commands) => match RunState::new(alloc, vtree, job.limit) {
             Ok(state) => Ok(RunPlan {
                 formula,
                 state,
-                limit: job.limit,
                 commands,
             }),
             Err(_) => Err(Stop::OutOfMemory),
@@ -165,11 +164,11 @@ fn read_job(alloc: Global, words: &[String]) -> Result<Job, Stop>
     }
 }
 
-// Whether a job has no search, and the limit and the slack of default.
+// Whether a job has no search, and the slack of default.
 fn is_plain(job: &Job) -> bool
     ensures { result ≡ is_plain job.now }
 {
-    job.minimise.is_none() && job.every.is_none() && job.slack == 200 && job.limit == 16_777_216
+    job.minimise.is_none() && job.every.is_none() && job.slack == 200
 }
 
 // The formula of the job's input.

@@ -8,6 +8,7 @@ ghost use Rattle.sd_script.specs.Read.{IsScript, reads};
 ghost use Rattle.sd_script.specs.Commands.{writes};
 ghost use Rattle.sd_script.specs.Scripts.{script_of};
 ghost use Rattle.sd_commands.specs.Fits.{AllFit};
+ghost use Rattle.sd_commands.specs.declared.command.NumberedCommand.{NumberedCommand as SeenLine};
 ghost use Rattle.sd_commands.specs.declared.command.RunCommand.{RunCommand as Seen};
 ghost use Rattle.sd_tool.specs.Readings.{Reading, Reads, with_commands, with_script_text, script_reading};
 ghost use Rattle.sd_tool.specs.Readings.{with_lines, with_action, with_sdd, is_served};
@@ -20,7 +21,7 @@ use crate::refusal::Refusal;
 use crate::stop::Stop;
 use crate::texts::{read_text, too_long};
 use sd_base::{Bits, Name, Shelf};
-use sd_commands::RunCommand;
+use sd_commands::{NumberedCommand, RunCommand};
 use sd_file::{SddFault, SddFile, read_sdd};
 use sd_script::{Action, Command as Line, Script, ScriptFault, read_script};
 use sd_words::Job;
@@ -32,7 +33,7 @@ pub fn read_commands<F: Shelf>(
     job: &Job,
     variables: u32,
     shelf: &mut F,
-) -> Result<Vec<RunCommand>, Stop>
+) -> Result<Vec<NumberedCommand>, Stop>
     requires hand { F.hand shelf.old ≡ NoFile }
     requires at_least_one { 1 ≤ variables }
     requires within_limit { variables ≤ 1024 }
@@ -40,7 +41,7 @@ pub fn read_commands<F: Shelf>(
     ensures files { F.files shelf.new ≡ F.files shelf.old }
     ensures read_faults { F.read_faults shelf.old ≤ F.read_faults shelf.new }
     ensures write_faults { F.write_faults shelf.new ≡ F.write_faults shelf.old }
-    ensures leads { (begin : List Seen → Reading)
+    ensures leads { (begin : List SeenLine → Reading)
         → LeadsTo (Adds F.asked shelf.old shelf.new) (F.files shelf.old)
         (with_commands job.now variables begin job.now.script) (λ commands. begin commands.items)
         result (F.read_faults shelf.old) (F.read_faults shelf.new) }
@@ -73,7 +74,7 @@ fn read_script_file<F: Shelf>(
     ensures files { F.files shelf.new ≡ F.files shelf.old }
     ensures read_faults { F.read_faults shelf.old ≤ F.read_faults shelf.new }
     ensures write_faults { F.write_faults shelf.new ≡ F.write_faults shelf.old }
-    ensures leads { (begin : List Seen → Reading)
+    ensures leads { (begin : List SeenLine → Reading)
         → LeadsTo (Adds F.asked shelf.old shelf.new) (F.files shelf.old)
         (Reads file.now (with_script_text file.now variables begin))
         (script_reading variables begin)
@@ -124,7 +125,7 @@ fn script_commands<F: Shelf>(
     script: &Script,
     variables: u32,
     shelf: &mut F,
-) -> Result<Vec<RunCommand>, Stop>
+) -> Result<Vec<NumberedCommand>, Stop>
     requires hand { F.hand shelf.old ≡ NoFile }
     requires at_least_one { 1 ≤ variables }
     requires within_limit { variables ≤ 1024 }
@@ -134,7 +135,7 @@ fn script_commands<F: Shelf>(
     ensures files { F.files shelf.new ≡ F.files shelf.old }
     ensures read_faults { F.read_faults shelf.old ≤ F.read_faults shelf.new }
     ensures write_faults { F.write_faults shelf.new ≡ F.write_faults shelf.old }
-    ensures leads { (begin : List Seen → Reading)
+    ensures leads { (begin : List SeenLine → Reading)
         → LeadsTo (Adds F.asked shelf.old shelf.new) (F.files shelf.old)
         (script_reading variables begin script.now) (λ commands. begin commands.items)
         result (F.read_faults shelf.old) (F.read_faults shelf.new) }
@@ -159,10 +160,7 @@ fn all_served(lines: &[Line]) -> bool
 fn is_served(action: &Action) -> bool
     ensures { result ≡ is_served action.now }
 {
-    !matches!(
-        action,
-        Action::Turn(..) | Action::Minimise(_) | Action::Limit(_)
-    )
+    !matches!(action, Action::Turn(..) | Action::Minimise(_))
 }
 
 // The commands of the lines of a script, one after another.
@@ -171,7 +169,7 @@ fn served_commands<F: Shelf>(
     script: &Script,
     variables: u32,
     shelf: &mut F,
-) -> Result<Vec<RunCommand>, Stop>
+) -> Result<Vec<NumberedCommand>, Stop>
     requires hand { F.hand shelf.old ≡ NoFile }
     requires at_least_one { 1 ≤ variables }
     requires within_limit { variables ≤ 1024 }
@@ -181,7 +179,7 @@ fn served_commands<F: Shelf>(
     ensures files { F.files shelf.new ≡ F.files shelf.old }
     ensures read_faults { F.read_faults shelf.old ≤ F.read_faults shelf.new }
     ensures write_faults { F.write_faults shelf.new ≡ F.write_faults shelf.old }
-    ensures leads { (begin : List Seen → Reading)
+    ensures leads { (begin : List SeenLine → Reading)
         → LeadsTo (Adds F.asked shelf.old shelf.new) (F.files shelf.old)
         (with_lines variables script.now begin [] script.now.commands)
         (λ commands. begin commands.items)
@@ -192,7 +190,7 @@ fn served_commands<F: Shelf>(
     let mut commands = Vec::new(alloc);
     for line in script.commands() {
         match command_of(alloc, script, &line.action, variables, shelf) {
-            Ok(command) => match put(&mut commands, command) {
+            Ok(command) => match put(&mut commands, line.line, command) {
                 Ok(()) => {}
                 Err(_) => return Err(Stop::OutOfMemory),
             },
@@ -202,11 +200,16 @@ fn served_commands<F: Shelf>(
     Ok(commands)
 }
 
-// Puts a command behind the others.
-fn put(commands: &mut Vec<RunCommand>, command: RunCommand) -> Result<(), AllocError>
-    ensures { OnOk result (commands.new.items ≡ commands.old.items ++ command ∷ []) }
+// Puts the command of a line behind the others.
+fn put(
+    commands: &mut Vec<NumberedCommand>,
+    line: u32,
+    command: RunCommand,
+) -> Result<(), AllocError>
+    ensures { OnOk result (commands.new.items
+        ≡ commands.old.items ++ record { line = line; command = command } ∷ []) }
 {
-    commands.push(command)?;
+    commands.push(NumberedCommand { line, command })?;
     Ok(())
 }
 
@@ -255,6 +258,7 @@ fn plain_command(alloc: Global, action: &Action) -> Result<Option<RunCommand>, A
         Action::Given(name, a, literal) => Ok(Some(RunCommand::Given(*name, *a, *literal))),
         Action::Forget(name, a, variable) => Ok(Some(RunCommand::Forget(*name, *a, *variable))),
         Action::Drop(name) => Ok(Some(RunCommand::Drop(*name))),
+        Action::Limit(limit) => Ok(Some(RunCommand::Limit(*limit))),
         Action::Same(a, b) => Ok(Some(RunCommand::Same(*a, *b))),
         Action::Size(name) => Ok(Some(RunCommand::Size(*name))),
         Action::Value(name, bits) => Ok(Some(RunCommand::Value(*name, copy_of_bits(alloc, bits)?))),

@@ -1,9 +1,9 @@
 // Why a run stops before its end, and the line that says so.
 ghost use Rattle.std.specs.Prelude.{◌≡◌};
-ghost use Rattle.sd_tool.specs.Parts.{parts_text};
+ghost use Rattle.sd_tool.specs.Parts.{line_text};
 ghost use Rattle.sd_tool.specs.Stops.{stop_status, stop_text, is_full};
 
-use crate::parts::{Parts, numbered, plain};
+use crate::parts::{LineParts, alone, numbered, over_limit, plain};
 use crate::refusal::Refusal;
 use sd_base::Name;
 
@@ -22,6 +22,13 @@ pub enum Stop {
     OutOfMemory,
     /// The arena of the diagrams would have to hold so many elements.
     ArenaFull(u64),
+    /// The total size passes the limit, at the command of a line, or there at a group of the input.
+    OverLimit {
+        line: u32,
+        group: Option<u32>,
+        size: u32,
+        limit: u32,
+    },
 }
 
 impl Stop {
@@ -35,6 +42,7 @@ impl Stop {
             Stop::WriteFault(_) | Stop::OutputFault => 6,
             Stop::OutOfMemory => 7,
             Stop::ArenaFull(_) => 8,
+            Stop::OverLimit { .. } => 4,
         }
     }
 
@@ -46,16 +54,22 @@ impl Stop {
     }
 
     /// The text of the line.
-    pub fn parts(&self) -> Parts<'_>
-        ensures { parts_text result ≡ stop_text self.now }
+    pub fn parts(&self) -> LineParts<'_>
+        ensures { line_text result ≡ stop_text self.now }
     {
         match self {
-            Stop::Refused(refusal) => refusal.parts(),
-            Stop::ReadFault(file) => plain(file.as_str().as_bytes(), b": read fault"),
-            Stop::WriteFault(file) => plain(file.as_str().as_bytes(), b": write fault"),
-            Stop::OutputFault => plain(b"output", b": write fault"),
-            Stop::OutOfMemory => plain(b"out of memory", b""),
-            Stop::ArenaFull(elements) => numbered(b"arena full: ", b"", *elements, b""),
+            Stop::Refused(refusal) => alone(refusal.parts()),
+            Stop::ReadFault(file) => alone(plain(file.as_str().as_bytes(), b": read fault")),
+            Stop::WriteFault(file) => alone(plain(file.as_str().as_bytes(), b": write fault")),
+            Stop::OutputFault => alone(plain(b"output", b": write fault")),
+            Stop::OutOfMemory => alone(plain(b"out of memory", b"")),
+            Stop::ArenaFull(elements) => alone(numbered(b"arena full: ", b"", *elements, b"")),
+            Stop::OverLimit {
+                line,
+                group,
+                size,
+                limit,
+            } => over_limit(*line, *group, *size, *limit),
         }
     }
 }

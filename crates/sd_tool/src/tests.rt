@@ -6,10 +6,12 @@ use std::test::Fail;
 use std::thread::Threads;
 
 mod compiled;
+mod conditioning;
 mod devices;
 mod formulas;
 mod generated;
 mod hostile;
+mod limit;
 mod scripts;
 mod vtrees;
 mod words;
@@ -74,7 +76,30 @@ impl Outcome {
     }
 }
 
-// Runs the words of a line over these files, in pieces of at most 32 bytes, with these planned faults.
+// Runs the words of a line over these files, in pieces of at most 32 bytes, with these planned faults: of the files,
+// and of the lines to `out` and to `err`.
+fn ran_over(
+    rt: &(impl Threads + Sync),
+    alloc: Global,
+    line: &str,
+    files: Vec<NamedBytes>,
+    planned: Vec<PlannedFault>,
+    (printing, telling): (Vec<u64>, Vec<u64>),
+) -> Result<Outcome, AllocError> {
+    let words = words_of(alloc, line)?;
+    let mut files = MemoryShelf::new(alloc, files, 32, planned);
+    let mut out = MemorySink::new(alloc, printing);
+    let mut err = MemorySink::new(alloc, telling);
+    let status = run(rt, alloc, &words, &mut files, &mut out, &mut err, &mut None);
+    Ok(Outcome {
+        status,
+        files,
+        out,
+        err,
+    })
+}
+
+// The same where each line to `err` is written.
 fn ran_with(
     rt: &(impl Threads + Sync),
     alloc: Global,
@@ -83,17 +108,8 @@ fn ran_with(
     planned: Vec<PlannedFault>,
     printing: Vec<u64>,
 ) -> Result<Outcome, AllocError> {
-    let words = words_of(alloc, line)?;
-    let mut files = MemoryShelf::new(alloc, files, 32, planned);
-    let mut out = MemorySink::new(alloc, printing);
-    let mut err = MemorySink::new(alloc, Vec::new(alloc));
-    let status = run(rt, alloc, &words, &mut files, &mut out, &mut err, &mut None);
-    Ok(Outcome {
-        status,
-        files,
-        out,
-        err,
-    })
+    let lines = (printing, Vec::new(alloc));
+    ran_over(rt, alloc, line, files, planned, lines)
 }
 
 // The same without faults.

@@ -1,13 +1,14 @@
 // The whole run: its readings, its commands, and the line of its end.
-ghost use Rattle.std.specs.Prelude.{◌≡◌, ℕ, Some, None, cond, map, string_bytes};
+ghost use Rattle.std.specs.Prelude.{◌≡◌, Some, None, cond, map, string_bytes};
 ghost use Rattle.sd_base.specs.Asked.{Adds};
 ghost use Rattle.sd_base.specs.Shelf.{NoFile};
 ghost use Rattle.sd_tool.specs.Asks.{HasAsked};
 ghost use Rattle.sd_tool.specs.Devices.{contents, faults, between, NotFewer};
 ghost use Rattle.sd_tool.specs.PlanViews.{plan_of, plan_with, IsReady, IsReadyWith};
 ghost use Rattle.sd_tool.specs.Headline.{IsCourse, HasEffects, HasLine, HasEnd, IsComplete};
-ghost use Rattle.sd_tool.specs.Stops.{RunsToEnd, CarriesOut, Attempts, is_full};
+ghost use Rattle.sd_tool.specs.Stops.{RunsToEnd, CarriesOut, Attempts, is_full, stop_of};
 ghost use Rattle.sd_tool.specs.Written.{HasWritten, HasEqualTexts};
+ghost use Rattle.sd_tool.specs.Limited.{HasLimit};
 ghost use Rattle.sd_tool.specs.Joined.{HasJoined};
 
 use crate::devices::perform_any;
@@ -16,19 +17,19 @@ use crate::plan::RunPlan;
 use crate::reading::prepare;
 use crate::stop::Stop;
 use sd_base::{Shelf, Sink};
-use sd_commands::{RunCommand, RunState, step};
+use sd_commands::{CommandError, NumberedCommand, RunState, step};
 use sd_formula::Formula;
 use sd_manager::Manager;
-use sd_runs::TakeError;
 use std::alloc::Global;
 use std::thread::Threads;
 
 /// Runs the program with these words over a shelf of files, and answers its status:
 /// 0 where all was done, 1 where the words are refused, 2 where the formula file, the vtree file or a loaded file is
-/// too long or has a fault, 3 where the script is too long or has a fault, 5 where an input was not read, 6 where an
-/// output or a printed line was not written, 7 where memory ran out, 8 where the arena of the diagrams was full, and 9
-/// where the words or the script ask for what is not served yet. The words are read first, then the formula file, the
-/// vtree file, the script, and the files that it loads; no other is asked for, and none after an output.
+/// too long or has a fault, 3 where the script is too long or has a fault, 4 where the total size passes the limit, 5
+/// where an input was not read, 6 where an output or a printed line was not written, 7 where memory ran out, 8 where the
+/// arena of the diagrams was full, and 9 where the words or the script ask for what is not served yet. The words are
+/// read first, then the formula file, the vtree file, the script, and the files that it loads; no other is asked for,
+/// and none after an output.
 /// At every status but 0 the one line that says so is written to `err`. At 8 the manager that refused is put into
 /// `kept`, which is empty before.
 pub fn run<R: Threads + Sync, F: Shelf, O: Sink, E: Sink>(
@@ -66,6 +67,10 @@ pub fn run<R: Threads + Sync, F: Shelf, O: Sink, E: Sink>(
         E.faults
         shelf.old out.old err.old shelf.new out.new err.new
         (HasWritten (map string_bytes words.now) result) }
+    ensures limited { between F.files F.read_faults F.write_faults O.written O.faults E.written
+        E.faults
+        shelf.old out.old err.old shelf.new out.new err.new
+        (HasLimit (map string_bytes words.now) result) }
     ensures joined { between F.files F.read_faults F.write_faults O.written O.faults E.written
         E.faults
         shelf.old out.old err.old shelf.new out.new err.new
@@ -148,7 +153,6 @@ fn carry_out<F: Shelf, O: Sink>(
         formula,
         mut state,
         commands,
-        ..
     } = plan;
     match do_all(alloc, shelf, out, &formula, &mut state, &commands) {
         Ok(()) => Ok(()),
@@ -175,26 +179,24 @@ fn do_all<F: Shelf, O: Sink>(
     out: &mut O,
     formula: &Formula,
     state: &mut RunState,
-    commands: &[RunCommand],
+    commands: &[NumberedCommand],
 ) -> Result<(), Stop>
     requires hand { F.hand shelf.old ≡ NoFile }
     requires ready { IsReadyWith formula.now state.old commands.now }
     ensures hand { F.hand shelf.new ≡ NoFile }
     ensures fewer { NotFewer (faults F.read_faults F.write_faults O.faults shelf.old out.old)
         (faults F.read_faults F.write_faults O.faults shelf.new out.new) }
-    ensures goes { (limit : ℕ)
-        → RunsToEnd (Adds F.asked shelf.old shelf.new)
-        (plan_with formula.now state.old limit commands.now) state.new.manager result
+    ensures goes { RunsToEnd (Adds F.asked shelf.old shelf.new)
+        (plan_with formula.now state.old commands.now) state.new.manager result
         (contents F.files O.written shelf.old out.old)
         (contents F.files O.written shelf.new out.new)
         (faults F.read_faults F.write_faults O.faults shelf.old out.old)
         (faults F.read_faults F.write_faults O.faults shelf.new out.new) }
 {
     for command in commands {
-        let effect = match step(alloc, formula, state, command) {
+        let effect = match step(alloc, formula, state, &command.command) {
             Ok(effect) => effect,
-            Err(TakeError::ArenaFull { elements }) => return Err(Stop::ArenaFull(elements)),
-            Err(TakeError::OutOfMemory) => return Err(Stop::OutOfMemory),
+            Err(error) => return Err(stop_at(command.line, error)),
         };
         match perform_any(shelf, out, effect) {
             Ok(()) => {}
@@ -202,4 +204,20 @@ fn do_all<F: Shelf, O: Sink>(
         }
     }
     Ok(())
+}
+
+// The stop at a command of this line.
+fn stop_at(line: u32, error: CommandError) -> Stop
+    ensures { result ≡ stop_of line error }
+{
+    match error {
+        CommandError::OverLimit { group, size, limit } => Stop::OverLimit {
+            line,
+            group,
+            size,
+            limit,
+        },
+        CommandError::ArenaFull { elements } => Stop::ArenaFull(elements),
+        CommandError::OutOfMemory => Stop::OutOfMemory,
+    }
 }

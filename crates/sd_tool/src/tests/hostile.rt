@@ -1,5 +1,5 @@
 // Runs over texts that are cut off, and over devices of which each call fails in turn.
-use super::{A_CLAUSE, A_CLAUSE_AS_SDD, Outcome, file, ran, ran_with, two_files};
+use super::{A_CLAUSE, A_CLAUSE_AS_SDD, Outcome, file, ran, ran_over, ran_with, two_files};
 use sd_base::{NamedBytes, PlannedFault, ShelfCall};
 use std::alloc::{AllocError, Global};
 use std::test::Fail;
@@ -141,6 +141,8 @@ fn diagrams_that_are_cut_off(rt: HostRuntime) -> Result<(), Fail> {
     Ok(())
 }
 
+const TWO_WRITINGS: &str = "--cnf in --vtree tree --script s";
+
 // The files of a run that writes one diagram twice and prints its size.
 fn four_files(alloc: Global) -> Result<Vec<NamedBytes>, AllocError> {
     let script = "input f\nwrite f A\nwrite f B\nsize f\n";
@@ -170,11 +172,10 @@ fn ran_failing(
     nth: u64,
 ) -> Result<Outcome, AllocError> {
     let planned = vec![in alloc; PlannedFault { call, nth }]?;
-    let words = "--cnf in --vtree tree --script s";
     ran_with(
         rt,
         alloc,
-        words,
+        TWO_WRITINGS,
         four_files(alloc)?,
         planned,
         Vec::new(alloc),
@@ -269,5 +270,42 @@ fn the_end_of_each_writing_fails(rt: HostRuntime) -> Result<(), Fail> {
         );
     }
     assert!(rt; ends_well(&rt, alloc, ShelfCall::Finish, 6)?);
+    Ok(())
+}
+
+/// A printed line is one write, and the line of a fault is four. A failure of `err` changes no status.
+#[test]
+fn each_write_of_a_line_fails(rt: HostRuntime) -> Result<(), Fail> {
+    let alloc = rt.alloc();
+    let table = [
+        (1, 6, "", "sddc: output: write fault\n"),
+        (2, 0, "size 2\n", ""),
+    ];
+    for (nth, status, out, err) in table {
+        let lines = (vec![in alloc; nth]?, Vec::new(alloc));
+        let files = four_files(alloc)?;
+        let end = ran_over(&rt, alloc, TWO_WRITINGS, files, Vec::new(alloc), lines)?;
+        assert!(rt; end.ended(status, out, err), "{nth}");
+        assert!(rt;
+            held(&end, "A") == Some(51) && held(&end, "B") == Some(51),
+            "{nth}"
+        );
+    }
+    let line = "sddc: B: write fault\n";
+    for (nth, told) in [(1, 0), (2, 6), (3, 7), (4, 20), (5, 21)] {
+        let call = ShelfCall::Append;
+        let planned = vec![in alloc; PlannedFault { call, nth: 4 }]?;
+        let lines = (Vec::new(alloc), vec![in alloc; nth]?);
+        let end = ran_over(&rt, alloc, TWO_WRITINGS, four_files(alloc)?, planned, lines)?;
+        assert!(rt; end.status == 6 && end.out.bytes().is_empty(), "{nth}");
+        assert!(rt;
+            Some(end.err.bytes()) == line.as_bytes().get(..told),
+            "{nth}"
+        );
+        assert!(rt;
+            held(&end, "A") == Some(51) && held(&end, "B") == Some(32),
+            "{nth}"
+        );
+    }
     Ok(())
 }

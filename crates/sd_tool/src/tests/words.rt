@@ -36,7 +36,6 @@ fn words_are_refused(rt: HostRuntime) -> Result<(), Fail> {
 fn other_jobs_are_not_served_yet(rt: HostRuntime) -> Result<(), Fail> {
     let alloc = rt.alloc();
     let table = [
-        "--cnf gone --limit 8 --out-sdd out",
         "--cnf gone --slack 100 --out-sdd out",
         "--cnf gone --minimise 3 --out-sdd out",
         "--cnf gone --every 1 --out-sdd out",
@@ -47,7 +46,7 @@ fn other_jobs_are_not_served_yet(rt: HostRuntime) -> Result<(), Fail> {
             alloc,
             A_CLAUSE,
             "s",
-            "input f\nload g gone\nwrite f out\nlimit 9\n",
+            "input f\nload g gone\nwrite f out\nminimise 9\n",
         )?;
         let end = ran(&rt, alloc, words, files)?;
         assert!(rt; end.ended(9, "", "sddc: not yet\n"), "{words}");

@@ -8,7 +8,7 @@ pub returns-in-Ok-new-clause-leads : goal.returns-in-Ok-new-clause-leads
 returns-in-Ok-new-clause-leads c = λ told before now.
     comes_same IsNone told _ _ refl
     (sym (plan_made c.args.job.now c.args.formula c.args.vtree c.in-Ok-new.state c.in-Ok.commands.items
-    c.args.commands.items c.in-Ok.ensures c.in-Ok-new.ensures.vtree))
+    c.args.commands.items c.in-Ok.ensures c.in-Ok-new.ensures.vtree c.in-Ok-new.ensures.represents))
 
 pub returns-in-Err-new-clause-leads : goal.returns-in-Err-new-clause-leads
 returns-in-Err-new-clause-leads c = λ told before now. breaks_here IsNone told _ refl
@@ -20,7 +20,7 @@ pub returns-in-Ok-new-clause-ready : goal.returns-in-Ok-new-clause-ready
 returns-in-Ok-new-clause-ready c =
     let job = c.args.job.now in
     let all = c.in-Ok.commands.items in
-    ready_made c.args.formula c.args.vtree c.in-Ok-new.state all c.in-Ok-new.ensures.represents
+    ready_made c.args.formula c.args.vtree job.limit c.in-Ok-new.state all c.in-Ok-new.ensures.represents
     c.in-Ok-new.ensures.vtree c.in-Ok-new.ensures.roots c.requires.variables
     (announced_fit c.args.formula.variables job.input c.args.formula all c.args.commands.items c.in-Ok.ensures
     c.requires.fit)

@@ -1,6 +1,6 @@
 use Rattle.std.proofs.Common.{◌+◌, List, [], drop, Ok, Err, refl, sym, subst, ◌∙◌, arith}
 use Rattle.sd_script.specs.declared.command.Command.{Command as Line}
-use Rattle.sd_commands.specs.declared.command.RunCommand.{RunCommand}
+use Rattle.sd_commands.specs.declared.command.NumberedCommand.{NumberedCommand}
 use Rattle.sd_tool.specs.Actions.{AreCommandsOf}
 use Rattle.sd_base.specs.Asked.{Adds}
 use Rattle.sd_tool.specs.Asks.{ComesTo}
@@ -22,10 +22,10 @@ loop-line-init g c =
       read_faults = omega arith;
       write_faults = refl;
       same = c.commands-line-items.ensures;
-      commands_of = subst (λ (done : List RunCommand). AreCommandsOf v script.commands 0 done)
+      commands_of = subst (λ (done : List NumberedCommand). AreCommandsOf v script.commands 0 done)
           (sym c.new-commands.ensures.items)
           (becomes_first v script.commands);
-      leads = λ begin. subst (λ (done : List RunCommand). ComesTo
+      leads = λ begin. subst (λ (done : List NumberedCommand). ComesTo
           (Adds g.F.Shelf.asked c.args.shelf.now c.args.shelf.now) told (with_lines v script begin [] script.commands)
           (with_lines v script begin done script.commands)) (sym c.new-commands.ensures.items)
           (comes_same _ told _ (with_lines v script begin [] script.commands)
@@ -77,11 +77,11 @@ loop-line-preserved g c =
       read_faults = omega (arith, was.read_faults, c.in-Ok.ensures.read_faults);
       write_faults = c.in-Ok.ensures.write_faults ∙ was.write_faults;
       same = was.same;
-      commands_of = subst (λ (cs : List RunCommand). AreCommandsOf v script.commands (index + 1) cs)
+      commands_of = subst (λ (cs : List NumberedCommand). AreCommandsOf v script.commands (index + 1) cs)
           (sym c.in-Ok-put.ensures)
           (becomes_next v script index done line c.in-Ok.command c.requires.script next c.in-Ok.ensures.same
           was.commands_of);
-      leads = λ begin. subst (λ (cs : List RunCommand). ComesTo
+      leads = λ begin. subst (λ (cs : List NumberedCommand). ComesTo
           (Adds g.F.Shelf.asked c.args.shelf.now c.command_of.new.shelf) told
           (with_lines v script begin [] script.commands)
           (with_lines v script begin cs (drop (index + 1) script.commands))) (sym c.in-Ok-put.ensures)

@@ -1,4 +1,4 @@
-use Rattle.std.proofs.Common.{◌≡◌, ℕ, ◌≤◌}
+use Rattle.std.proofs.Common.{◌≡◌, ◌≤◌}
 use Rattle.sd_base.specs.Asked.{Adds}
 use Rattle.sd_base.specs.Shelf.{NoFile}
 use Rattle.sd_commands.specs.Standing.{root_count}
@@ -10,8 +10,8 @@ use Rattle.sd_tool.proofs.whole_run.do_all.Given as goal
 abbrev pub invariant-loop-command : goal.invariant-loop-command
 invariant-loop-command g l = record {
   hand : g.F.Shelf.hand l.shelf ≡ NoFile;
-  so_far : (limit : ℕ) → SoFar (Adds g.F.Shelf.asked l.fn.shelf l.shelf)
-      (plan_with l.formula l.fn.state limit l.commands) l.formula.variables
+  so_far : SoFar (Adds g.F.Shelf.asked l.fn.shelf l.shelf)
+      (plan_with l.formula l.fn.state l.commands) l.formula.variables
       l.command-index l.state
       (contents g.F.Shelf.files g.O.Sink.written l.fn.shelf l.fn.out)
       (contents g.F.Shelf.files g.O.Sink.written l.shelf l.out);

@@ -1,5 +1,6 @@
 use Rattle.sd_tool.proofs.ByStatus.{effects_at, line_at, end_at}
 use Rattle.sd_tool.proofs.Joined.{joined_at}
+use Rattle.sd_tool.proofs.Limited.{limited_at}
 use Rattle.sd_tool.proofs.OneRun.{completes}
 use Rattle.sd_tool.proofs.WrittenLemmas.{written_at, equal_texts}
 use Rattle.sd_tool.proofs.AskedAt.{asked_at}
@@ -28,3 +29,6 @@ returns-clause-asked g c = asked_at _ _ _ _ _ c.conduct.ensures.course
 
 pub returns-clause-joined : goal.returns-clause-joined
 returns-clause-joined g c = joined_at _ _ _ _ _ c.conduct.ensures.course
+
+pub returns-clause-limited : goal.returns-clause-limited
+returns-clause-limited g c = limited_at _ _ _ _ _ c.conduct.ensures.course
