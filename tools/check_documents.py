@@ -1,0 +1,186 @@
+#!/usr/bin/env python3
+"""Checks that the documents say what the code says, and prints what differs.
+
+README's table of options against the options of `sd_words`, the fault texts of docs/FORMATS.md against the definitions
+of `sd_tool`, the crates and what they stand on in docs/MAP.md against crates.txt, each edit that docs/ANSWERS.md names
+and each path that a document names against the files, the number of definitions in README against the count, and
+README's commands against examples/expected.txt, which has what each prints and writes. With --run PROGRAM it runs these
+too, as `python3 tools/check_documents.py --run ./sddc` does. Its status is 1 where something differs.
+"""
+import glob
+import os
+import re
+import subprocess
+import sys
+import tempfile
+
+TOP = os.path.join(os.path.dirname(os.path.abspath(__file__)), "..")
+DOCUMENTS = ["README.md", "CHANGES.md"] + sorted(os.path.relpath(p, TOP) for p in glob.glob(TOP + "/docs/*.md"))
+faults = []
+
+
+def text_of(path):
+    with open(os.path.join(TOP, path), encoding="utf-8") as file:
+        return file.read()
+
+
+def expect(holds, fault):
+    if not holds:
+        faults.append(fault)
+
+
+def rows_of(text):
+    """The rows of all tables of a text, as lists of cells."""
+    return [[cell.strip() for cell in line.strip().strip("|").split("|")]
+            for line in text.splitlines() if line.startswith("|")]
+
+
+def check_options():
+    source = text_of("crates/sd_words/src/options.rt")
+    order = re.search(r"ALL_OPTIONS.*?\[(.*?)\];", source, re.S).group(1)
+    variants = re.findall(r"OptionName::(\w+)", order)
+    word = dict(re.findall(r'OptionName::(\w+) => "([\w-]+)"', source))
+    ranges = dict((name, (low, high)) for name, low, high
+                  in re.findall(r"OptionName::(\w+) => Some\(\(([\d_]+), ([\d_]+)\)\)", source))
+    table = {row[0]: row for row in rows_of(text_of("README.md")) if row[0].startswith("`--")}
+    expect(list(table) == ["`--%s`" % word[name] for name in variants],
+           "README.md: the table of options has not just the options, in their order")
+    for name, bounds in ranges.items():
+        said = "%s to %s" % tuple("{:,}".format(int(bound)) for bound in bounds)
+        row = table.get("`--%s`" % word[name], ["", ""])
+        expect(row[1].split(",  ")[0].startswith(said), "README.md: --%s is %s" % (word[name], said))
+    for name, number in re.findall(r"DEFAULT_(\w+): u32 = ([\d_]+);", source):
+        said = "else {:,}".format(int(number))
+        expect(said in table.get("`--%s`" % name.lower(), ["", ""])[1], "README.md: --%s, %s" % (name.lower(), said))
+
+
+def texts_defined(definition):
+    """The texts of a function by cases over faults, with # for each number."""
+    texts = set()
+    specs = text_of("crates/sd_tool/specs/Refusals.antt")
+    for line in re.findall(r"^%s .*? = (.*)$" % definition, specs, re.M):
+        if line == "[]":
+            continue
+        parts = re.findall(r'codes "([^"]*)"|(number_text|signed_text|word_of|\+\+ name)', line)
+        text = "".join(string if string else "#" for string, _ in parts)
+        if line.startswith("at_line"):
+            text = ": line #" + text
+        if line.startswith("counts"):
+            text = ": # stated, # found"
+        texts.add(text)
+    return texts
+
+
+def texts_told(section):
+    """The texts of the table of a section, with # for each placeholder."""
+    body = re.search(r"^## %s\n(.*?)(?=^## |\Z)" % re.escape(section), text_of("docs/FORMATS.md"), re.M | re.S).group(1)
+    return set(re.sub(r"\b[A-Z]\b", "#", row[1].strip("`")) for row in rows_of(body)
+               if len(row) == 3 and row[1].startswith("`: "))
+
+
+def check_faults():
+    for definition, section in [("formula_fault_text", "DIMACS"), ("sdd_fault_text", "SDD files"),
+                                ("vtree_fault_text", "Vtree files"), ("script_fault_text", "Scripts")]:
+        defined, told = texts_defined(definition), texts_told(section)
+        for text in sorted(defined - told):
+            faults.append("docs/FORMATS.md, %s: lacks the fault '%s'" % (section, text))
+        for text in sorted(told - defined):
+            faults.append("docs/FORMATS.md, %s: no fault has the text '%s'" % (section, text))
+    told = text_of("docs/FORMATS.md")
+    for line in re.findall(r"^text_of .*? = (.*)$", text_of("crates/sd_tool/specs/Ends.antt"), re.M):
+        for string in re.findall(r'codes "([^"]*)"', line):
+            expect(string.strip() in told, "docs/FORMATS.md: lacks '%s'" % string)
+    for text in texts_defined("words_fault_text"):
+        expect("`sddc: %s" % text.split("#")[0] in told, "docs/FORMATS.md: lacks '%s'" % text)
+
+
+def check_crates():
+    stands = {}
+    for line in text_of("crates.txt").splitlines():
+        if not line.startswith("#"):
+            name, below = line.split(":")
+            stands[name] = sorted(below.split())
+    table = {row[0].strip("`"): row for row in rows_of(text_of("docs/MAP.md")) if len(row) == 5}
+    for name, below in stands.items():
+        said = sorted(re.findall(r"`(\w+)`", table[name][4])) if name in table else None
+        expect(said == below, "docs/MAP.md: %s stands on %s" % (name, ", ".join(below)))
+
+
+def check_names():
+    edits = set(os.path.basename(path)[:-5] for path in glob.glob(TOP + "/crates/*/must-fail/*.edit"))
+    sources = "".join(open(path, encoding="utf-8").read() for path in glob.glob(TOP + "/crates/*/src/**/*.rt", recursive=True))
+    for row in rows_of(text_of("docs/ANSWERS.md"))[2:]:
+        for name in re.findall(r"`(\w+)`", row[-1]):
+            expect(name in edits or name in sources, "docs/ANSWERS.md: no edit or test is named %s" % name)
+    for document in DOCUMENTS:
+        for path in re.findall(r"(?:crates|docs|examples|tools)/[\w./-]*\w", text_of(document)):
+            expect(os.path.exists(os.path.join(TOP, path)), "%s: there is no %s" % (document, path))
+
+
+def check_count():
+    counted = subprocess.run([sys.executable, os.path.join(TOP, "tools/reached_definitions.py")],
+                             stdout=subprocess.PIPE, text=True, check=True).stdout
+    definitions, lines = re.findall(r"\d+", counted)
+    said = "{} definitions of {:,} lines".format(definitions, int(lines))
+    expect(said in text_of("README.md"), "README.md: a reader believes %s" % said)
+
+
+def stored_runs():
+    """The stored runs: the words, what is printed, and for each file written the one that it is equal to."""
+    runs = []
+    for line in text_of("examples/expected.txt").splitlines():
+        if line.startswith("$ "):
+            runs.append((line[2:], [], []))
+        elif line.startswith("= "):
+            runs[-1][2].append(line[2:].split())
+        elif line and not line.startswith("#"):
+            runs[-1][1].append(line)
+    return runs
+
+
+def check_commands(program):
+    runs = stored_runs()
+    stored = set(words for words, _, _ in runs)
+    for words in re.findall(r"^\./sddc (.*)$", text_of("README.md"), re.M):
+        expect(words in stored, "examples/expected.txt: lacks ./sddc %s" % words)
+    for words, printed, files in runs:
+        for name, same in files:
+            expect(os.path.exists(os.path.join(TOP, same)), "examples/expected.txt: there is no %s" % same)
+            expect(name in words.split() or ".script" in words, "examples/expected.txt: %s is not written" % name)
+            size = sum(int(line.split()[3]) for line in text_of(same).splitlines() if line.startswith("D "))
+            expect(printed == ["size %d" % size], "examples/expected.txt: %s has the size %d" % (same, size))
+    if program:
+        for words, printed, files in runs:
+            run_stored(program, words, printed, files)
+
+
+def run_stored(program, words, printed, files):
+    with tempfile.TemporaryDirectory() as folder:
+        os.symlink(os.path.abspath(os.path.join(TOP, "examples")), os.path.join(folder, "examples"))
+        moved = words.split()
+        for name, _ in files:
+            moved = [os.path.join(folder, os.path.basename(name)) if word == name else word for word in moved]
+        run = subprocess.run([os.path.abspath(program)] + moved, cwd=folder, stdout=subprocess.PIPE, text=True)
+        expect(run.returncode == 0 and run.stdout.splitlines() == printed, "./sddc %s: printed %r" % (words, run.stdout))
+        for name, same in files:
+            path = os.path.join(folder, os.path.basename(name))
+            written = open(path, encoding="utf-8").read() if os.path.exists(path) else None
+            expect(written == text_of(same), "./sddc %s: %s differs from %s" % (words, name, same))
+
+
+def main():
+    check_options()
+    check_faults()
+    check_crates()
+    check_names()
+    check_count()
+    check_commands(sys.argv[2] if sys.argv[1:2] == ["--run"] else None)
+    for fault in faults:
+        print(fault)
+    if not faults:
+        print("the documents agree with the code")
+    return 1 if faults else 0
+
+
+if __name__ == "__main__":
+    sys.exit(main())
