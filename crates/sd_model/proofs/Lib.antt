@@ -9,6 +9,7 @@ pub mod Difference
 pub mod Dependence
 pub mod Blend
 pub mod Valued
+pub mod Parity
 -- uniqueness
 pub mod Partition
 pub mod Members

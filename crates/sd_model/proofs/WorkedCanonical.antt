@@ -1,7 +1,7 @@
 -- Worked diagrams are canonical for their vtrees, and have the values of their formulas.
 use Rattle.std.proofs.Common.{◌≡◌, Bool, true, false, List, [], ◌∷◌, refl, arith, eqb, eqb-true}
-use Rattle.std.specs.Prelude.{pos, negsuc}
-use Rattle.sd_model.specs.Expression.{Expression, Cnf, Dnf}
+use Rattle.std.specs.Prelude.{ℤ, pos, negsuc}
+use Rattle.sd_model.specs.Expression.{Expression, Group, Cnf, Dnf}
 use Rattle.sd_model.specs.Tree.{Leaf, Node, IsVtree}
 use Rattle.sd_model.specs.Diagram.{Diagram, Bottom, Top, Literal, Elements}
 use Rattle.sd_model.specs.Canonical.{IsElement, true_primes, IsCanonical, canonical_bottom, canonical_top}
@@ -16,8 +16,12 @@ use Rattle.sd_model.proofs.WorkedTrees.{balanced_four, left_four, rotated_four, 
 use Rattle.sd_model.proofs.CanonicalByCases.{each_of_two, each_of_three, Halves, Thirds, agree, agree_at}
 use Rattle.sd_model.proofs.CanonicalByCases.{canonical_halves, canonical_split, canonical_thirds}
 
+-- literals as a clause
+abbrev clause : List ℤ → Group
+clause literals = record { exclusive = false; literals = literals }
+
 -- the diagram of 1 or 2
-diagram_of_disjunction : IsDiagramOf (Node (Leaf 1) (Leaf 2)) (Cnf ((pos 1 ∷ pos 2 ∷ []) ∷ [])) disjunction
+diagram_of_disjunction : IsDiagramOf (Node (Leaf 1) (Leaf 2)) (Cnf (clause (pos 1 ∷ pos 2 ∷ []) ∷ [])) disjunction
 diagram_of_disjunction = record {
   canonical = canonical_split (omega arith) (canonical_literal true) canonical_top (λ e. cc) refl refl;
   same_value = agree_at 2 _ _ refl;
@@ -183,7 +187,7 @@ clauses_thirds = record {
 
 -- the diagram of (1 or 2 or not 3) and (not 2 or 3 or not 4)
 diagram_of_two_clauses : IsDiagramOf balanced_four
-    (Cnf ((pos 1 ∷ pos 2 ∷ negsuc 2 ∷ []) ∷ (negsuc 1 ∷ pos 3 ∷ negsuc 3 ∷ []) ∷ [])) two_clauses
+    (Cnf (clause (pos 1 ∷ pos 2 ∷ negsuc 2 ∷ []) ∷ clause (negsuc 1 ∷ pos 3 ∷ negsuc 3 ∷ []) ∷ [])) two_clauses
 diagram_of_two_clauses = record {
   canonical =
       canonical_thirds canonical_two canonical_one_and_not_two (canonical_not_one_and false)

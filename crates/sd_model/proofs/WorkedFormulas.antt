@@ -1,7 +1,7 @@
 -- Worked formulas and their values, by computation.
 use Rattle.std.proofs.Common.{◌≡◌, Bool, true, false, List, [], ◌∷◌, refl}
-use Rattle.std.specs.Prelude.{pos, negsuc}
-use Rattle.sd_model.specs.Expression.{Expression, Dnf, OfFile, FileNode, FileLiteral}
+use Rattle.std.specs.Prelude.{ℤ, pos, negsuc}
+use Rattle.sd_model.specs.Expression.{Expression, Cnf, Dnf, OfFile, FileNode, FileLiteral}
 use Rattle.sd_model.specs.Expression.{FileDecomposition, Conditioned, expression_value}
 
 -- a file whose decomposition is not compressed: (1 and 2) or (not 1 and 2)
@@ -30,3 +30,27 @@ value_of_terms = refl
 -- where 1 is given false, the same assignment makes them false
 value_of_conditioned : expression_value (Conditioned terms (negsuc 0)) first_two ≡ false
 value_of_conditioned = refl
+
+-- ---- exclusive groups
+
+-- literals as an exclusive group, the only one of its formula
+abbrev parity : List ℤ → Expression
+parity literals = Cnf (record { exclusive = true; literals = literals } ∷ [])
+
+-- it is true where an odd number of its literals hold: one of three here, and three of three
+value_of_one : expression_value (parity (pos 1 ∷ negsuc 1 ∷ pos 3 ∷ [])) first_two ≡ true
+value_of_one = refl
+
+value_of_three : expression_value (parity (pos 1 ∷ negsuc 2 ∷ pos 2 ∷ [])) first_two ≡ true
+value_of_three = refl
+
+-- two of two are an even number, also where one literal is written twice, and so is none of none
+value_of_two : expression_value (parity (pos 1 ∷ pos 2 ∷ [])) first_two ≡ false
+value_of_two = refl
+
+value_of_repeated : (b : Bool) → expression_value (parity (pos 1 ∷ pos 1 ∷ [])) (b ∷ []) ≡ false
+value_of_repeated true = refl
+value_of_repeated false = refl
+
+value_of_empty : (a : List Bool) → expression_value (parity []) a ≡ false
+value_of_empty a = refl
