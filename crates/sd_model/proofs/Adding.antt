@@ -4,7 +4,7 @@ use Rattle.std.proofs.Common.{refl, sym, ◌∙◌, ap, subst, append_assoc, app
 use Rattle.std.specs.Ordering.{is_eq, ordering_reverse}
 use Rattle.std.specs.declared.cmp.Ordering.{Ordering}
 use Rattle.std.specs.declared.cmp.Ordering.TheVariants.{Less, Equal, Greater}
-use Rattle.std.specs.List.{filter}
+use Rattle.std.specs.List.{filter, flat_map}
 use Rattle.sd_model.specs.Diagram.{Diagram, Elements, Pair, diagram_cmp}
 use Rattle.sd_model.specs.Size.{is_same, first_occurrences, walk, walk_elements, completed}
 use Rattle.sd_model.specs.Listing.{is_among, add_one, add}
@@ -118,7 +118,11 @@ filter_all (x ∷ xs) = ap (λ v. x ∷ v) (filter_all xs)
 pub first_occurrences_add : (es : List Diagram) → first_occurrences es ≡ add [] es
 first_occurrences_add es = sym (add_first_occurrences [] es ∙ filter_all (first_occurrences es))
 
--- so the distinct diagrams are the walk added to the empty list
-pub completed_add : (d : Diagram) → completed (d ∷ []) ≡ add [] (walk d)
+-- so the distinct diagrams under roots are their walks added to the empty list
+pub completed_walks : (roots : List Diagram) → completed roots ≡ add [] (flat_map walk roots)
 unfolding completed
-completed_add d = ap first_occurrences (append-nil (walk d)) ∙ first_occurrences_add (walk d)
+completed_walks roots = first_occurrences_add (flat_map walk roots)
+
+-- and those under one diagram its walk
+pub completed_add : (d : Diagram) → completed (d ∷ []) ≡ add [] (walk d)
+completed_add d = completed_walks (d ∷ []) ∙ ap (λ v. add [] v) (append-nil (walk d))

@@ -1,12 +1,13 @@
--- In the list of the distinct diagrams under a diagram each one stands behind those under it.
+-- In the list of the distinct diagrams under some roots each one stands behind those under it, and each root is there.
 use Rattle.std.proofs.Common.{◌≡◌, Bool, true, false, cond, List, [], ◌∷◌, ◌++◌}
 use Rattle.std.proofs.Common.{refl, sym, ◌∙◌, subst, append_assoc, append-nil}
+use Rattle.std.specs.List.{AllByRecursion, flat_map}
 use Rattle.sd_model.specs.Diagram.{Diagram, Bottom, Top, Literal, Decomposition, Elements, End, Pair}
 use Rattle.sd_model.specs.Canonical.{IsElement, first, later}
 use Rattle.sd_model.specs.Size.{is_same, walk, walk_elements, completed}
 use Rattle.sd_model.specs.Listing.{is_among, add_one, add}
 use Rattle.sd_model.proofs.Blend.{or_left, or_right}
-use Rattle.sd_model.proofs.Adding.{same_itself, add_append, add_pair, is_among_append, completed_add}
+use Rattle.sd_model.proofs.Adding.{same_itself, add_append, add_pair, is_among_append, completed_walks}
 
 -- the primes and subs of a diagram stand in the list
 abbrev pub ChildrenAmong : List Diagram → Diagram → Type 0
@@ -103,6 +104,34 @@ mutual
       } in
       subst (AddedElements ds (Pair p s rest)) (sym (add_pair ds p s rest)) whole
 
--- the list of the distinct diagrams is closed
-pub closed_completed : (d : Diagram) → IsClosed [] (completed (d ∷ []))
-closed_completed d = subst (IsClosed []) (sym (completed_add d)) (add_walk d [] tt).lists.closed
+-- each of these diagrams stands in the list
+abbrev pub AreAllAmong : List Diagram → List Diagram → Type 0
+AreAllAmong ds roots = AllByRecursion (λ d. is_among d ds ≡ true) roots
+
+-- a closed list with some roots in it
+pub record AddedRoots (ds roots es : List Diagram) : Type 0 where
+  pub lists : Lists ds es
+  pub among : AreAllAmong es roots
+
+-- adding the walks of roots, one after another
+add_walks : (roots ds : List Diagram) → IsClosed [] ds → AddedRoots ds roots (add ds (flat_map walk roots))
+add_walks [] ds c = record { lists = record { extends = λ x k. k; closed = c }; among = tt }
+add_walks (d ∷ roots) ds c =
+    let one : Added ds d (add ds (walk d)) = add_walk d ds c in
+    let rest : AddedRoots (add ds (walk d)) roots (add (add ds (walk d)) (flat_map walk roots)) =
+    add_walks roots (add ds (walk d)) one.lists.closed in
+    let whole : AddedRoots ds (d ∷ roots) (add (add ds (walk d)) (flat_map walk roots)) =
+    record { lists = joined one.lists rest.lists; among = (rest.lists.extends d one.among, rest.among) } in
+    subst (AddedRoots ds (d ∷ roots)) (sym (add_append ds (walk d) (flat_map walk roots))) whole
+
+-- the list of the distinct diagrams is such a list
+roots_completed : (roots : List Diagram) → AddedRoots [] roots (completed roots)
+roots_completed roots = subst (AddedRoots [] roots) (sym (completed_walks roots)) (add_walks roots [] tt)
+
+-- so it is closed
+pub closed_completed : (roots : List Diagram) → IsClosed [] (completed roots)
+closed_completed roots = (roots_completed roots).lists.closed
+
+-- and has the roots
+pub roots_among : (roots : List Diagram) → AreAllAmong (completed roots) roots
+roots_among roots = (roots_completed roots).among

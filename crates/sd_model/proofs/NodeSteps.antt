@@ -1,8 +1,9 @@
--- Steps of the functions that list the distinct diagrams under a diagram.
+-- Steps of the functions that list the distinct diagrams under roots.
 use Rattle.std.proofs.Common.{◌≡◌, ◌≢◌, ℕ, suc, ◌+◌, ◌<◌, ◌≤◌, Bool, true, false, cond, ◌||◌, List}
-use Rattle.std.proofs.Common.{[], ◌∷◌, ◌++◌, length, get_or, drop, refl, sym, ◌∙◌, ap, arith, add-one}
+use Rattle.std.proofs.Common.{[], ◌∷◌, ◌++◌, map, length, get_or, drop, refl, sym, ◌∙◌, ap, arith, add-one}
 use Rattle.std.proofs.Math.Seq.{drop-cons}
-use Rattle.std.proofs.lemmas.List.{map-append}
+use Rattle.std.proofs.lemmas.List.{map-append, drop_all}
+use Rattle.std.specs.List.{flat_map}
 use Rattle.std.specs.Ordering.{is_eq}
 use Rattle.std.specs.declared.cmp.Ordering.{Ordering}
 use Rattle.std.specs.declared.cmp.Ordering.TheVariants.{Less, Equal, Greater}
@@ -16,7 +17,7 @@ use Rattle.sd_model.specs.Size.{is_same, walk, walk_elements, completed}
 use Rattle.sd_model.specs.Listing.{is_among, add}
 use Rattle.sd_model.specs.Text.{index_of}
 use Rattle.sd_model.specs.Seen.{diagram_of, elements_of, diagrams_of}
-use Rattle.sd_model.proofs.Adding.{add_append, add_pair, completed_add}
+use Rattle.sd_model.proofs.Adding.{add_append, add_pair, completed_walks}
 use Rattle.sd_model.proofs.SeenLemmas.{seen_decomposition, elements_of_drop}
 
 -- the nodes from an index on
@@ -116,7 +117,24 @@ pub node_there : (old : List (Bor OwnedDiagram)) (d : Bor OwnedDiagram) →
     diagrams_of old ≡ add (diagrams_of old) (diagram_of d.now ∷ [])
 node_there old d h = sym (add_old (diagrams_of old) (diagram_of d.now) (λ e. h (e ∙ length_diagrams_of old)))
 
--- what was added to an empty list is the list of the distinct diagrams
-pub nodes_completed : (d : Diagram) (before nodes : List (Bor OwnedDiagram)) → before ≡ [] →
-    diagrams_of nodes ≡ add (diagrams_of before) (walk d) → diagrams_of nodes ≡ completed (d ∷ [])
-nodes_completed d before nodes e h = h ∙ ap (λ ns. add (diagrams_of ns) (walk d)) e ∙ sym (completed_add d)
+-- the walk over the roots from an index on
+pub add_root : (ds : List Diagram) (roots : List OwnedDiagram) (i : ℕ) (r : OwnedDiagram) → i < length roots →
+    add ds (flat_map walk (map diagram_of (drop i roots)))
+    ≡ add (add ds (walk (diagram_of (get_or roots i r)))) (flat_map walk (map diagram_of (drop (i + 1) roots)))
+add_root ds roots i r h =
+    rw (add-one, drop-cons roots i r h)
+    (add_append ds (walk (diagram_of (get_or roots i r))) (flat_map walk (map diagram_of (drop (suc i) roots))))
+
+-- before the first root nothing was added
+pub roots_begun : (roots : List OwnedDiagram) (nodes : List (Bor OwnedDiagram)) → nodes ≡ [] →
+    add (diagrams_of nodes) (flat_map walk (map diagram_of roots)) ≡ completed (map diagram_of roots)
+roots_begun roots nodes e =
+    ap (λ ns. add (diagrams_of ns) (flat_map walk (map diagram_of roots))) e
+    ∙ sym (completed_walks (map diagram_of roots))
+
+-- after the last one all are
+pub roots_done : (roots : List OwnedDiagram) (nodes : List (Bor OwnedDiagram)) (i : ℕ) → length roots ≤ i →
+    add (diagrams_of nodes) (flat_map walk (map diagram_of (drop i roots))) ≡ completed (map diagram_of roots) →
+    diagrams_of nodes ≡ completed (map diagram_of roots)
+roots_done roots nodes i ended h =
+    sym (ap (λ rs. add (diagrams_of nodes) (flat_map walk (map diagram_of rs))) (drop_all i roots ended)) ∙ h

@@ -1,6 +1,7 @@
--- Steps of the functions that write the text of a diagram.
-use Rattle.std.proofs.Common.{◌≡◌, ℕ, List, [], ◌∷◌, ◌++◌, length, map, sym, ap, subst, append_assoc, append-nil}
+-- Steps of the functions that write the text of diagrams.
+use Rattle.std.proofs.Common.{◌≡◌, ℕ, List, [], ◌∷◌, ◌++◌, length, map, sym, ◌∙◌, ap, subst, append_assoc, append-nil}
 use Rattle.std.specs.List.{flat_map}
+use Rattle.std.proofs.lemmas.List.Concat.{flat_map-append}
 use Rattle.std.specs.declared.vec.Vec.{Vec}
 use Rattle.std.specs.declared.alloc.Global.{Global}
 use denote.Bor.{Bor}
@@ -8,7 +9,7 @@ use Rattle.sd_model.specs.declared.diagrams.Diagram.{Diagram as OwnedDiagram, De
 use Rattle.sd_model.specs.declared.diagrams.Element.{Element as OwnedElement}
 use Rattle.sd_model.specs.Diagram.{Diagram}
 use Rattle.sd_model.specs.Size.{completed}
-use Rattle.sd_model.specs.Text.{number_text, spaced, line_text, index_of, element_words, node_words, sdd_text}
+use Rattle.sd_model.specs.Text.{number_text, spaced, line_text, index_of, element_words, node_words, naming_lines, roots_text}
 use Rattle.sd_model.specs.Seen.{diagram_of, elements_of, diagrams_of}
 use Rattle.sd_model.proofs.NodeSteps.{length_diagrams_of}
 use Rattle.sd_model.proofs.SeenLemmas.{seen_decomposition, count_elements_of}
@@ -27,20 +28,29 @@ decomposition_line old nodes d p v e =
     subst (λ x. pieces old nodes x p v.items ≡ old ++ line_text (node_words nodes x)) (sym (seen_decomposition d p v e))
     (rw count_elements_of (simp append_assoc))
 
--- a header with a number of nodes, and the nodes' lines
-abbrev pub header_and_lines : ℕ → List Diagram → List ℕ
-header_and_lines count nodes =
+-- a header with a number of nodes, the nodes' lines, and those that name the roots
+abbrev pub all_pieces : ℕ → List Diagram → List Diagram → List ℕ
+all_pieces count nodes roots =
     (115 ∷ 100 ∷ 100 ∷ []) ++ 32 ∷ number_text count ++ 10 ∷ [] ++ flat_map line_text (map (node_words nodes) nodes)
+    ++ flat_map line_text (naming_lines nodes roots)
 
 -- they are the text
-pub whole_text : (d : Diagram) (nodes : List (Bor OwnedDiagram)) → diagrams_of nodes ≡ completed (d ∷ []) →
-    header_and_lines (length nodes) (diagrams_of nodes) ≡ sdd_text d
-unfolding sdd_text
-whole_text d nodes h =
+pub whole_text : (roots : List Diagram) (nodes : List (Bor OwnedDiagram)) → diagrams_of nodes ≡ completed roots →
+    all_pieces (length nodes) (diagrams_of nodes) roots ≡ roots_text roots
+unfolding roots_text
+whole_text roots nodes h =
     rw (← length_diagrams_of nodes)
-    (subst (λ ns. header_and_lines (length ns) ns ≡ sdd_text d) (sym h)
-    (ap (λ number. 115 ∷ 100 ∷ 100 ∷ 32 ∷ (number ++ 10 ∷ [] ++ lines))
-    (sym (append-nil (number_text (length (completed (d ∷ []))))))))
+    (subst (λ ns. all_pieces (length ns) ns roots ≡ roots_text roots) (sym h)
+    (rw (flat_map-append line_text (map (node_words all) all) (naming_lines all roots))
+    (ap (λ number. (115 ∷ 100 ∷ 100 ∷ 32 ∷ (number ++ 10 ∷ [])) ++ lines ++ naming)
+    (sym (append-nil (number_text (length all))))
+    ∙ append_assoc (115 ∷ 100 ∷ 100 ∷ 32 ∷ ((number_text (length all) ++ []) ++ 10 ∷ [])) lines naming)))
   where
+    all : List Diagram
+    all = completed roots
+
     lines : List ℕ
-    lines = flat_map line_text (map (node_words (completed (d ∷ []))) (completed (d ∷ [])))
+    lines = flat_map line_text (map (node_words all) all)
+
+    naming : List ℕ
+    naming = flat_map line_text (naming_lines all roots)

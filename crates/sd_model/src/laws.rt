@@ -1,6 +1,6 @@
 // Laws of the definitions: functions whose contracts state a fact, and that do nothing.
 
-ghost use Rattle.std.specs.Prelude.{◌≡◌, ◌≢◌, ◌↔◌, Bool, true, List, length, IsSome};
+ghost use Rattle.std.specs.Prelude.{◌≡◌, ◌≢◌, ◌↔◌, ◌≤◌, Bool, true, List, map, length, IsSome};
 ghost use Rattle.std.specs.Option.{option_and_then};
 ghost use Rattle.std.specs.Ordering.{ordering_reverse};
 ghost use Rattle.std.specs.declared.cmp.Ordering.TheVariants.{Less, Equal};
@@ -9,7 +9,7 @@ ghost use Rattle.sd_model.specs.Tree.{IsVtree, leaves};
 ghost use Rattle.sd_model.specs.Diagram.{meaning, diagram_cmp, Bottom};
 ghost use Rattle.sd_model.specs.Canonical.{IsCanonical};
 ghost use Rattle.sd_model.specs.Seen.{tree_of, diagram_of};
-ghost use Rattle.sd_model.specs.Text.{sdd_text};
+ghost use Rattle.sd_model.specs.Text.{roots_text};
 
 use crate::diagrams::Diagram;
 use crate::trees::{Move, Side, Tree};
@@ -35,11 +35,13 @@ pub fn satisfiable(tree: &Tree, a: &Diagram)
         × (meaning (diagram_of a.now) values ≡ true) }
 {}
 
-/// Two diagrams with equal texts are equal. They need not be canonical, so the tree plays no part.
-#[tactic(auto, using(crate::proofs::TextBack::sdd_text_back))]
-pub fn text_injective(tree: &Tree, a: &Diagram, b: &Diagram)
-    requires { sdd_text (diagram_of a.now) ≡ sdd_text (diagram_of b.now) }
-    ensures { diagram_of a.now ≡ diagram_of b.now }
+/// Two lists of roots with equal texts are equal. They need not be canonical, so the tree plays no part.
+#[tactic(auto, using(crate::proofs::TextBack::roots_text_back))]
+pub fn text_injective(tree: &Tree, a: &[Diagram], b: &[Diagram])
+    requires first_some { 1 ≤ length a.now }
+    requires second_some { 1 ≤ length b.now }
+    requires same_text { roots_text (map diagram_of a.now) ≡ roots_text (map diagram_of b.now) }
+    ensures { map diagram_of a.now ≡ map diagram_of b.now }
 {}
 
 /// A move that is defined, followed by its inverse at the same place, gives back the tree.

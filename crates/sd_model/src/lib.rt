@@ -14,7 +14,7 @@ pub mod trees;
 pub use diagrams::{Diagram, Element, compare, value_of};
 pub use moves::{MovedError, moved};
 pub use sizes::size_of;
-pub use texts::text_of;
+pub use texts::{text_of, texts_of};
 pub use trees::{Move, Operation, Side, Tree};
 
 #[cfg(test)]

@@ -1,7 +1,7 @@
-// The distinct diagrams under a diagram, in the order in which they are first complete: the list that the text and the
-// size stand on. It walks the diagram as a tree and looks each node up by comparison, so it is for small diagrams.
+// The distinct diagrams under some roots, in the order in which they are first complete: the list that the text and the
+// size stand on. It walks each root as a tree and looks each node up by comparison, so it is for small diagrams.
 
-ghost use Rattle.std.specs.Prelude.{◌≡◌, ◌∷◌, [], OnOk, IfOk};
+ghost use Rattle.std.specs.Prelude.{◌≡◌, ◌∷◌, [], map, OnOk, IfOk};
 ghost use Rattle.sd_model.specs.Listing.{add};
 ghost use Rattle.sd_model.specs.Size.{walk, walk_elements, completed};
 ghost use Rattle.sd_model.specs.Text.{index_of};
@@ -11,12 +11,16 @@ use crate::diagrams::{Diagram, Element, compare};
 use std::alloc::{AllocError, Global};
 use std::cmp::Ordering;
 
-/// The distinct diagrams under a diagram. Each stands behind those under it, and the diagram itself is last.
-pub fn nodes_of<'a>(alloc: Global, d: &'a Diagram) -> Result<Vec<&'a Diagram>, AllocError>
-    ensures { IfOk result (λ nodes. diagrams_of nodes.items ≡ completed (diagram_of d.now ∷ [])) }
+/// The distinct diagrams under the roots. Each stands behind those under it, and before those that later roots add.
+#[tactic(auto, using(crate::proofs::NodeSteps::add_root, crate::proofs::Adding::completed_walks))]
+pub fn nodes_of<'a>(alloc: Global, roots: &'a [Diagram]) -> Result<Vec<&'a Diagram>, AllocError>
+    ensures { IfOk result (λ nodes.
+        diagrams_of nodes.items ≡ completed (map diagram_of roots.now)) }
 {
     let mut nodes = Vec::new(alloc);
-    add_diagram(&mut nodes, d)?;
+    for root in roots {
+        add_diagram(&mut nodes, root)?;
+    }
     Ok(nodes)
 }
 

@@ -9,6 +9,7 @@ ghost use Rattle.sd_model.specs.Seen.{diagram_of, diagrams_of};
 use crate::diagrams::Diagram;
 use crate::nodes::nodes_of;
 use std::alloc::{AllocError, Global};
+use std::slice;
 
 /// The size of a diagram: the sum of the element counts of the distinct decompositions in it.
 /// A sum past 64 bits, which no memory can hold, is answered as out of memory. It is for small diagrams, as is
@@ -17,7 +18,7 @@ use std::alloc::{AllocError, Global};
 pub fn size_of(alloc: Global, d: &Diagram) -> Result<u64, AllocError>
     ensures { IfOk result (λ n. n ≡ size_of (diagram_of d.now ∷ [])) }
 {
-    let nodes = nodes_of(alloc, d)?;
+    let nodes = nodes_of(alloc, slice::from_ref(d))?;
     total(&nodes).ok_or(AllocError)
 }
 

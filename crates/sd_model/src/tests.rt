@@ -4,7 +4,8 @@ ghost use Rattle.sd_model.specs.Diagram.{Literal};
 ghost use Rattle.sd_model.specs.Seen.{diagram_of};
 
 use crate::{
-    Diagram, Element, Move, MovedError, Side, Tree, compare, moved, size_of, text_of, value_of,
+    Diagram, Element, Move, MovedError, Side, Tree, compare, moved, size_of, text_of, texts_of,
+    value_of,
 };
 use std::alloc::{AllocError, Global};
 use std::cmp::Ordering;
@@ -85,6 +86,21 @@ fn texts_and_sizes(rt: HostRuntime) -> Result<(), Fail> {
         assert_eq!(rt; text_of(alloc, d)?.as_slice(), text.as_bytes());
         assert_eq!(rt; size_of(alloc, d)?, size);
     }
+    Ok(())
+}
+
+const BOTH: &str =
+    "sdd 7\nL 0 0 -1\nF 1\nL 2 0 1\nL 3 2 2\nD 4 1 2 0 1 2 3\nT 5\nD 6 1 2 0 3 2 5\nc root 0 4\n\
+    c root 1 6\n";
+
+// A conjunction and a disjunction of 1 and 2 share their literals.
+#[test]
+fn text_of_two_roots(rt: HostRuntime) -> Result<(), Fail> {
+    let alloc = rt.alloc();
+    let conjunction = cases(alloc, 0, 1, Diagram::Bottom, literal(2, 2, true))?;
+    let disjunction = cases(alloc, 0, 1, literal(2, 2, true), Diagram::Top)?;
+    let roots = [conjunction, disjunction];
+    assert_eq!(rt; texts_of(alloc, &roots)?.as_slice(), BOTH.as_bytes());
     Ok(())
 }
 
