@@ -3,11 +3,12 @@ use Rattle.std.proofs.Common.{◌≡◌, ℕ, zero, suc, ◌+◌, ◌-◌, ◌*�
 use Rattle.std.proofs.Common.{ℤ, pos, neg_ℤ, unsigned_abs, if◌then◌else◌, nat_lt, refl, ap, sym, subst, ◌∙◌, arith}
 use Rattle.std.proofs.Common.{length-append}
 use Rattle.std.specs.List.{AllByRecursion}
+use Rattle.sd_formula.specs.declared.flat.End.{End}
 use Rattle.sd_formula.specs.declared.formula.Kind.TheVariants.{Cnf}
-use Rattle.sd_formula.specs.Formulas.{IsLiteral, AreLiterals, IsFormula, groups_between}
+use Rattle.sd_formula.specs.Formulas.{IsLiteral, IsGroup, IsFormula, groups_between}
 use Rattle.sd_formula.specs.Generated.{IsGenerable, state_at, literal_by, generated_clause, generated_clauses}
 use Rattle.sd_formula.specs.Flat.{cut}
-use Rattle.sd_formula.specs.Steps.{Parts, ended, extended, parts_of}
+use Rattle.sd_formula.specs.Steps.{Parts, no_group, ended, extended, parts_of}
 use Rattle.sd_formula.proofs.FitLaws.{all_push}
 
 -- three literals and the end of their clause
@@ -18,12 +19,12 @@ put_three p s variable =
 
 -- the clauses so far as parts
 abbrev pub clauses_put : ℕ → ℕ → Parts
-clauses_put seed n = record { closed = generated_clauses seed n; open_part = [] }
+clauses_put seed n = record { closed = generated_clauses seed n; open_part = no_group }
 
 -- three literals by the states behind a number are the clause of that number
 three_are : (seed i : ℕ) →
     literal_by (state_at (state_at seed (3 * i)) 1) (i + 1) ∷ literal_by (state_at (state_at seed (3 * i)) 2) (i + 1 + 1)
-    ∷ literal_by (state_at (state_at seed (3 * i)) 3) (i + 1 + 2) ∷ [] ≡ generated_clause seed i
+    ∷ literal_by (state_at (state_at seed (3 * i)) 3) (i + 1 + 2) ∷ [] ≡ (generated_clause seed i).literals
 three_are seed i =
     let first : suc (3 * i) ≡ 3 * i + 1 = omega arith in
     let second : suc (suc (3 * i)) ≡ 3 * i + 2 = omega arith in
@@ -50,7 +51,10 @@ clause_more seed i s old new state before after =
     ∙ ap (λ clause. put_clause clause) (three_are seed i) ∙ ap (clauses_put seed) next
   where
     put_clause : List ℤ → Parts
-    put_clause clause = record { closed = generated_clauses seed i ++ clause ∷ []; open_part = [] }
+    put_clause clause = record {
+      closed = generated_clauses seed i ++ record { exclusive = false; literals = clause } ∷ [];
+      open_part = no_group;
+    }
 
 -- and so is the state
 pub state_more : (seed i s t : ℕ) → s ≡ state_at seed (3 * i) → t ≡ state_at s 3 → t ≡ state_at seed (3 * (i + 1))
@@ -76,16 +80,21 @@ literal_fits v x j low high = record {
 }
 
 -- the literals of the clauses are of the variables
-clauses_fit : (seed v n : ℕ) → n + 2 ≤ v → AllByRecursion (AreLiterals v) (generated_clauses seed n)
+clauses_fit : (seed v n : ℕ) → n + 2 ≤ v → AllByRecursion (IsGroup Cnf v) (generated_clauses seed n)
 clauses_fit seed v zero h = tt
 clauses_fit seed v (suc n) h =
-    all_push (AreLiterals v) (generated_clauses seed n) (generated_clause seed n) (clauses_fit seed v n (omega arith)) (
-      literal_fits v (state_at seed (3 * n + 1)) (n + 1) (omega arith) (omega arith),
-      (
-        literal_fits v (state_at seed (3 * n + 2)) (n + 2) (omega arith) (omega arith),
-        (literal_fits v (state_at seed (3 * n + 3)) (n + 3) (omega arith) (omega arith), tt),
-      ),
-    )
+    let clause : IsGroup Cnf v (generated_clause seed n) = record {
+      mark = tt;
+      literals = (
+        literal_fits v (state_at seed (3 * n + 1)) (n + 1) (omega arith) (omega arith),
+        (
+          literal_fits v (state_at seed (3 * n + 2)) (n + 2) (omega arith) (omega arith),
+          (literal_fits v (state_at seed (3 * n + 3)) (n + 3) (omega arith) (omega arith), tt),
+        ),
+      );
+    } in
+    all_push (IsGroup Cnf v) (generated_clauses seed n) (generated_clause seed n)
+    (clauses_fit seed v n (omega arith)) clause
 
 clauses_count : (seed n : ℕ) → length (generated_clauses seed n) ≡ n
 clauses_count seed zero = refl
@@ -94,14 +103,14 @@ clauses_count seed (suc n) =
     omega (arith, length-append (generated_clauses seed n) (generated_clause seed n ∷ []), shorter)
 
 -- what was put is a formula
-pub is_formula : (count seed : ℕ) (ends : List ℕ) (literals : List ℤ) → IsGenerable count seed
-    → parts_of ends literals ≡ clauses_put seed (count - 2) → IsFormula (groups_between Cnf count ends literals)
-is_formula count seed ends literals range is =
+pub is_formula : (count seed : ℕ) (ends : List End) (literals : List ℤ) (marked : Bool) → IsGenerable count seed
+    → parts_of ends literals marked ≡ clauses_put seed (count - 2) → IsFormula (groups_between Cnf count ends literals)
+is_formula count seed ends literals marked range is =
     let groups : cut 0 ends literals ≡ generated_clauses seed (count - 2) = ap (λ p. p.closed) is in
     record {
       at_least_one = omega (arith, range.at_least_three);
       within_limit = range.within_limit;
       count = omega (arith, ap length groups, clauses_count seed (count - 2), range.within_limit);
-      literals = subst (AllByRecursion (AreLiterals count)) (sym groups)
+      groups = subst (AllByRecursion (IsGroup Cnf count)) (sym groups)
           (clauses_fit seed count (count - 2) (omega (arith, range.at_least_three)));
     }

@@ -1,132 +1,254 @@
--- The parts that a reader keeps are the parts of the whole list of literals between zeros.
-use Rattle.std.proofs.Common.{◌≡◌, ℕ, ◌<◌, Bool, true, false, List, [], ◌∷◌, ◌++◌, length, ℤ, Result, Ok, Err}
-use Rattle.std.proofs.Common.{refl, sym, ap, ◌∙◌, append_assoc, arith, inl, inr}
-use Rattle.std.specs.List.{slice_split, onto_first, fold}
+-- The parts that a reader keeps are the groups of the whole list of words between zeros.
+use Rattle.std.proofs.Common.{◌≡◌, ℕ, suc, ◌==◌, ◌<◌, Bool, true, false, not, ◌&&◌, List, [], ◌∷◌, ◌++◌, length}
+use Rattle.std.proofs.Common.{if◌then◌else◌}
+use Rattle.std.proofs.Common.{ℤ, unsigned_abs, ltb, Option, Some, None, ok_or, Result, Ok, Err}
+use Rattle.std.proofs.Common.{refl, sym, ap, subst, ◌∙◌, append_assoc, arith, inl, inr}
+use Rattle.std.specs.Prelude.{codes, bytes_eq}
+use Rattle.std.specs.List.{slice_split, onto_first}
 use Rattle.std.proofs.lemmas.List.{append-nil}
-use Rattle.std.proofs.lemmas.Bool.{cases_Bool}
-use Rattle.sd_base.specs.Reading.{◌>>=◌, each}
+use Rattle.std.proofs.lemmas.Bool.{cases_Bool, and_parts, not-true, not-false, not_from_false, eqb-true, ltb-true}
+use Rattle.std.proofs.lemmas.Slice.Eq.{bytes_eq-Decides}
+use Rattle.sd_base.specs.Numbers.{integer_value}
+use Rattle.sd_base.specs.Reading.{◌>>=◌, ◌>>◌, fault_if, each}
 use Rattle.sd_base.proofs.Pieces.{split_is_filled}
+use Rattle.sd_model.specs.Expression.{Group}
 use Rattle.sd_formula.specs.declared.error.FormulaError.{FormulaError}
-use Rattle.sd_formula.specs.Dimacs.{BodyWord, literal_of_word, is_zero}
-use Rattle.sd_formula.specs.Steps.{Parts, no_parts, put_literal, put_words, all_groups}
+use Rattle.sd_formula.specs.declared.error.FormulaError.TheVariants.{BadWord, LiteralRange}
+use Rattle.sd_formula.specs.declared.formula.Kind.{Kind}
+use Rattle.sd_formula.specs.declared.formula.Kind.TheVariants.{Cnf, Dnf}
+use Rattle.sd_formula.specs.Dimacs.{BodyWord, literal_of_word, group_of_words, has_begun}
+use Rattle.sd_formula.specs.Dimacs.{is_mark, is_zero, ends, is_end}
+use Rattle.sd_formula.specs.Steps.{Parts, no_group, no_parts, ended, put_literal}
+use Rattle.sd_formula.specs.Steps.{put_word, put_words, all_groups}
 
--- ---- one more element at the end of a list that is cut into parts
+abbrev done : {A : Type 0} → A → Result A FormulaError
+done x = Ok x
 
--- an element at the end of the last part
-onto_last : {X : Type 0} → X → List (List X) → List (List X)
-onto_last z [] = (z ∷ []) ∷ []
-onto_last z (part ∷ []) = (part ++ z ∷ []) ∷ []
-onto_last z (part ∷ next ∷ parts) = part ∷ onto_last z (next ∷ parts)
+-- ---- the group in hand, and the words behind it
 
-onto_last_cons : {X : Type 0} (z : X) (part : List X) (parts : List (List X)) → 0 < length parts
-    → onto_last z (part ∷ parts) ≡ part ∷ onto_last z parts
-unfolding onto_last
-onto_last_cons z part [] h = absurd (omega arith)
-onto_last_cons z part (next ∷ parts) h = refl
+-- a group that has not begun has nothing
+not_begun : (o : Group) → has_begun o ≡ false → o ≡ no_group
+not_begun o h = go o.exclusive o.literals h
+  where
+    go : (b : Bool) (zs : List ℤ) → has_begun (record { exclusive = b; literals = zs }) ≡ false
+        → record { exclusive = b; literals = zs } ≡ no_group
+    go true zs h = absurd cc
+    go false [] h = refl
+    go false (z ∷ zs) h = absurd (omega (arith, eqb-true (suc (length zs)) 0 (not-false (suc (length zs) == 0) h)))
 
--- the order of an element in front and one at the end does not matter
-onto_both : {X : Type 0} (x z : X) (parts : List (List X))
-    → onto_first x (onto_last z parts) ≡ onto_last z (onto_first x parts)
-unfolding onto_last
-onto_both x z [] = refl
-onto_both x z (part ∷ []) = refl
-onto_both x z (part ∷ next ∷ parts) = refl
-
--- an element that ends no part goes to the end of the last one
-split_push : {X : Type 0} (p : X → Bool) (xs : List X) (z : X) → p z ≡ false
-    → slice_split p (xs ++ z ∷ []) ≡ onto_last z (slice_split p xs)
-unfolding onto_last
-split_push p [] z other = rw other refl
-split_push p (x ∷ xs) z other =
-    let parts = slice_split p xs in
-    let shorter = split_push p xs z other in
-    let behind = onto_last_cons z [] parts (split_is_filled p xs) in
-    elim (cases_Bool (p x)) [
-      | inl ends ↦ rw ends (ap (λ parts. [] ∷ parts) shorter ∙ sym behind)
-      | inr inside ↦ rw inside (ap (onto_first x) shorter ∙ onto_both x z parts)
+-- with one literal more a group has begun
+begun_more : (b : Bool) (zs : List ℤ) (z : ℤ)
+    → has_begun (record { exclusive = b; literals = zs ++ z ∷ [] }) ≡ true
+begun_more true zs z = refl
+begun_more false [] z = refl
+begun_more false (x ∷ zs) z =
+    let more = length (zs ++ z ∷ []) in
+    not_from_false (suc more == 0) (not_zero_length more)
+  where
+    not_zero_length : (n : ℕ) → (suc n == 0) ≡ false
+    not_zero_length n = elim (cases_Bool (suc n == 0)) [
+      | inl is ↦ absurd (omega (arith, eqb-true (suc n) 0 is))
+      | inr other ↦ other
     ]
 
-onto_append : {X : Type 0} (x : X) (parts : List (List X)) → 0 < length parts
-    → onto_first x (parts ++ [] ∷ []) ≡ onto_first x parts ++ [] ∷ []
-onto_append x [] h = absurd (omega arith)
-onto_append x (part ∷ parts) h = refl
+-- the words as further literals of a group
+abbrev literals_behind : ℕ → Group → List BodyWord → Result Group FormulaError
+literals_behind v o words =
+    each (literal_of_word v) words >>= λ zs. Ok (record { exclusive = o.exclusive; literals = o.literals ++ zs })
 
--- an element that ends a part leaves an empty one behind it
-split_push_end : {X : Type 0} (p : X → Bool) (xs : List X) (z : X) → p z ≡ true
-    → slice_split p (xs ++ z ∷ []) ≡ slice_split p xs ++ [] ∷ []
-split_push_end p [] z ends = rw ends refl
-split_push_end p (x ∷ xs) z ends =
-    let parts = slice_split p xs in
-    let shorter = split_push_end p xs z ends in
-    elim (cases_Bool (p x)) [
-      | inl at ↦ rw at (ap (λ parts. [] ∷ parts) shorter)
-      | inr at ↦ rw at (ap (onto_first x) shorter ∙ onto_append x parts (split_is_filled p xs))
-    ]
+-- the group in hand with the words up to the next zero
+abbrev goes_on : Kind → ℕ → Group → List BodyWord → Result Group FormulaError
+goes_on kind v o words = if has_begun o then literals_behind v o words else group_of_words kind v words
 
-onto_last_push : (z : ℤ) (closed : List (List ℤ)) (part : List ℤ)
-    → onto_last z (closed ++ part ∷ []) ≡ closed ++ (part ++ z ∷ []) ∷ []
-unfolding onto_last
-onto_last_push z [] part = refl
-onto_last_push z (x ∷ []) part = refl
-onto_last_push z (x ∷ y ∷ ys) part = ap (λ ps. x ∷ ps) (onto_last_push z (y ∷ ys) part)
-
--- ---- literals put one after another
-
--- one more literal or zero
-put_is : (xs : List ℤ) (p : Parts) (z : ℤ) → all_groups p ≡ slice_split is_zero xs
-    → all_groups (put_literal p z) ≡ slice_split is_zero (xs ++ z ∷ [])
-put_is xs p z so_far = elim (cases_Bool (is_zero z)) [
-  | inl ends ↦ rw ends (ap (λ ps. ps ++ [] ∷ []) so_far ∙ sym (split_push_end is_zero xs z ends))
-  | inr other ↦
-      let behind = sym (onto_last_push z p.closed p.open_part) in
-      rw other (behind ∙ ap (onto_last z) so_far ∙ sym (split_push is_zero xs z other))
+-- no words are left for it
+goes_nowhere : (kind : Kind) (v : ℕ) (o : Group) → goes_on kind v o [] ≡ Ok o
+goes_nowhere kind v o = elim (cases_Bool (has_begun o)) [
+  | inl begun ↦
+      rw begun (ap (λ zs. done (record { exclusive = o.exclusive; literals = zs })) (append-nil o.literals))
+  | inr fresh ↦ rw fresh (ap done (sym (not_begun o fresh)))
 ]
 
--- and many more
-puts_are : (zs xs : List ℤ) (p : Parts) → all_groups p ≡ slice_split is_zero xs
-    → all_groups (fold put_literal p zs) ≡ slice_split is_zero (xs ++ zs)
-puts_are [] xs p so_far = so_far ∙ ap (slice_split is_zero) (sym (append-nil xs))
-puts_are (z ∷ zs) xs p so_far =
-    let later = puts_are zs (xs ++ z ∷ []) (put_literal p z) (put_is xs p z so_far) in
-    later ∙ ap (slice_split is_zero) (append_assoc xs (z ∷ []) zs)
+unmarked : (a c : Bool) → (a && not c) ≡ false → c ≡ false → a ≡ false
+unmarked true true h fresh = absurd cc
+unmarked true false h fresh = absurd cc
+unmarked false c h fresh = refl
 
--- the parts of literals that are put from the start on
-pub puts_from_none : (zs : List ℤ) → all_groups (fold put_literal no_parts zs) ≡ slice_split is_zero zs
-puts_from_none zs = puts_are zs [] no_parts refl
+-- a word that is no mark, or stands where none may, is a literal
+go_literal : (kind : Kind) (v : ℕ) (o : Group) (w : BodyWord) (ws : List BodyWord)
+    → (is_mark kind w && not (has_begun o)) ≡ false → goes_on kind v o (w ∷ ws) ≡ literals_behind v o (w ∷ ws)
+go_literal kind v o w ws other = elim (cases_Bool (has_begun o)) [
+  | inl begun ↦ rw begun refl
+  | inr fresh ↦
+      let plain = unmarked (is_mark kind w) (has_begun o) other fresh in
+      let same = ap (λ g. literals_behind v g (w ∷ ws)) (sym (not_begun o fresh)) in
+      rw (fresh, plain) same
+]
 
--- ---- words that are read one after another
+-- ---- the parts so far, and the words behind them
 
--- all literals of some words are put
-abbrev put_all : Parts → Result (List ℤ) FormulaError → Result Parts FormulaError
-put_all p reading = reading >>= λ zs. Ok (fold put_literal p zs)
+-- the groups before, one more, and those after it
+abbrev with_more : List Group → Result Group FormulaError → Result (List Group) FormulaError
+    → Result (List Group) FormulaError
+with_more closed r rs = r >>= λ g. rs >>= λ gs. Ok (closed ++ g ∷ gs)
 
--- reading and putting word by word is reading all words and putting their literals
-pub put_words_each : (v : ℕ) (p : Parts) (words : List BodyWord)
-    → put_words v p words ≡ put_all p (each (literal_of_word v) words)
-put_words_each v p [] = refl
-put_words_each v p (word ∷ words) = after (literal_of_word v word) (λ z. put_words_each v (put_literal p z) words)
+-- the parts with the words behind them, which are cut at zeros
+abbrev resumed : Kind → ℕ → Parts → List (List BodyWord) → Result (List Group) FormulaError
+resumed kind v p [] = Ok p.closed
+resumed kind v p (part ∷ parts) =
+    with_more p.closed (goes_on kind v p.open_part part) (each (group_of_words kind v) parts)
+
+-- a literal that was read is put before the others
+literal_more : (kind : Kind) (v : ℕ) (p : Parts) (r : Result ℤ FormulaError) (part : List BodyWord)
+    (parts : List (List BodyWord)) → ((z : ℤ) → r ≡ Ok z → is_zero z ≡ false)
+    → ((r >>= λ z. done (put_literal p z)) >>= λ q. resumed kind v q (part ∷ parts))
+    ≡ with_more p.closed ((r >>= λ z. each (literal_of_word v) part >>= λ zs. done (z ∷ zs)) >>= λ zs.
+    done (record { exclusive = p.open_part.exclusive; literals = p.open_part.literals ++ zs }))
+    (each (group_of_words kind v) parts)
+literal_more kind v p (Err e) part parts other = refl
+literal_more kind v p (Ok z) part parts other =
+    rw (other z refl, begun_more p.open_part.exclusive p.open_part.literals z)
+    (regroup (each (literal_of_word v) part))
   where
-    regroup : (z : ℤ) (r : Result (List ℤ) FormulaError)
-        → put_all (put_literal p z) r ≡ put_all p (r >>= λ zs. Ok (z ∷ zs))
-    regroup z (Ok zs) = refl
-    regroup z (Err e) = refl
+    regroup : (r : Result (List ℤ) FormulaError) →
+        with_more p.closed (r >>= λ zs.
+        done (record { exclusive = p.open_part.exclusive; literals = (p.open_part.literals ++ z ∷ []) ++ zs }))
+        (each (group_of_words kind v) parts)
+        ≡ with_more p.closed ((r >>= λ zs. done (z ∷ zs)) >>= λ zs.
+        done (record { exclusive = p.open_part.exclusive; literals = p.open_part.literals ++ zs }))
+        (each (group_of_words kind v) parts)
+    regroup (Err e) = refl
+    regroup (Ok zs) =
+        ap (λ ys. with_more p.closed (Ok (record { exclusive = p.open_part.exclusive; literals = ys }))
+        (each (group_of_words kind v) parts)) (append_assoc p.open_part.literals (z ∷ []) zs)
 
-    after : (r : Result ℤ FormulaError)
-        → ((z : ℤ) → put_words v (put_literal p z) words ≡ put_all (put_literal p z) (each (literal_of_word v) words))
-        → (r >>= λ z. put_words v (put_literal p z) words)
-        ≡ put_all p (r >>= λ z. each (literal_of_word v) words >>= λ zs. Ok (z ∷ zs))
-    after (Ok z) shorter = shorter z ∙ regroup z (each (literal_of_word v) words)
+-- what was read of a word that ends no group is not zero
+not_zero : (v line : ℕ) (o : Option ℤ) (z : ℤ) → ends o ≡ false
+    → (ok_or o (BadWord line) >>= λ y. fault_if (ltb v (unsigned_abs y)) (LiteralRange line y) >> done y) ≡ Ok z
+    → is_zero z ≡ false
+not_zero v line None z other e = absurd cc
+not_zero v line (Some y) z other e = elim (cases_Bool (ltb v (unsigned_abs y))) [
+  | inl past ↦ let refused : Err (LiteralRange line y) ≡ Ok z = rw past at e in absurd cc
+  | inr within ↦
+      let same : done y ≡ done z = rw within at e in
+      let is : y ≡ z = cc in
+      subst (λ x. is_zero x ≡ false) is other
+]
+
+-- a word that ends no group is put before the others of its group
+word_more : (kind : Kind) (v : ℕ) (p : Parts) (w : BodyWord) (part : List BodyWord) (parts : List (List BodyWord))
+    → is_end w ≡ false
+    → (put_word kind v p w >>= λ q. resumed kind v q (part ∷ parts)) ≡ resumed kind v p ((w ∷ part) ∷ parts)
+word_more kind v p w part parts other = elim (cases_Bool (is_mark kind w && not (has_begun p.open_part))) [
+  | inl both ↦
+      let facts = and_parts (is_mark kind w) (not (has_begun p.open_part)) both in
+      let fresh = not-true (has_begun p.open_part) facts.1 in
+      let same = ap (λ g. with_more p.closed
+      (literals_behind v (record { exclusive = true; literals = g.literals }) part)
+      (each (group_of_words kind v) parts)) (not_begun p.open_part fresh) in
+      rw (both, fresh, facts.0) same
+  | inr plain ↦
+      let read = literal_more kind v p (literal_of_word v w) part parts
+      (λ z is. not_zero v w.line (integer_value w.bytes) z other is) in
+      let behind = ap (λ g. with_more p.closed g (each (group_of_words kind v) parts))
+      (go_literal kind v p.open_part w part plain) in
+      rw plain (read ∙ sym behind)
+]
+
+-- ---- a zero
+
+zero_read : (v line : ℕ) (o : Option ℤ) (p : Parts) → ends o ≡ true
+    → ((ok_or o (BadWord line) >>= λ y. fault_if (ltb v (unsigned_abs y)) (LiteralRange line y) >> done y)
+    >>= λ z. done (put_literal p z)) ≡ Ok (ended p)
+zero_read v line None p is = absurd cc
+zero_read v line (Some z) p is = elim (cases_Bool (ltb v (unsigned_abs z))) [
+  | inl past ↦ absurd (omega (arith, eqb-true (unsigned_abs z) 0 is, ltb-true v (unsigned_abs z) past))
+  | inr within ↦ rw (within, is) refl
+]
+
+-- the mark ends no group
+mark_ends_none : (kind : Kind) (w : BodyWord) → is_end w ≡ true → is_mark kind w ≡ false
+mark_ends_none Dnf w at = refl
+mark_ends_none Cnf w at = elim (cases_Bool (bytes_eq w.bytes (codes "x"))) [
+  | inl mark ↦
+      let is : w.bytes ≡ codes "x" = (bytes_eq-Decides w.bytes (codes "x")).0 mark in
+      let fails : false ≡ true = subst (λ bytes. is_end (record { line = w.line; bytes = bytes }) ≡ true) is at in
+      absurd cc
+  | inr other ↦ other
+]
+
+-- a word that ends a group is put
+end_put : (kind : Kind) (v : ℕ) (p : Parts) (w : BodyWord) → is_end w ≡ true → put_word kind v p w ≡ Ok (ended p)
+end_put kind v p w is =
+    rw (mark_ends_none kind w is) (zero_read v w.line (integer_value w.bytes) p is)
+
+-- the groups behind a zero
+end_more : (kind : Kind) (v : ℕ) (p : Parts) (parts : List (List BodyWord)) → 0 < length parts
+    → resumed kind v (ended p) parts ≡ resumed kind v p ([] ∷ parts)
+end_more kind v p [] h = absurd (omega arith)
+end_more kind v p (part ∷ parts) h =
+    go (group_of_words kind v part) (each (group_of_words kind v) parts)
+    ∙ sym (ap (λ g. with_more p.closed g (each (group_of_words kind v) (part ∷ parts)))
+    (goes_nowhere kind v p.open_part))
+  where
+    go : (r : Result Group FormulaError) (rs : Result (List Group) FormulaError)
+        → with_more (p.closed ++ p.open_part ∷ []) r rs
+        ≡ with_more p.closed (Ok p.open_part) (r >>= λ g. rs >>= λ gs. done (g ∷ gs))
+    go (Err e) rs = refl
+    go (Ok g) (Err e) = refl
+    go (Ok g) (Ok gs) = ap done (append_assoc p.closed (p.open_part ∷ []) (g ∷ gs))
+
+-- ---- words that are put one after another
+
+-- the words of the part in hand are in front
+onto_more : (kind : Kind) (v : ℕ) (p : Parts) (w : BodyWord) (parts : List (List BodyWord)) → 0 < length parts
+    → is_end w ≡ false
+    → (put_word kind v p w >>= λ q. resumed kind v q parts) ≡ resumed kind v p (onto_first w parts)
+onto_more kind v p w [] h other = absurd (omega arith)
+onto_more kind v p w (part ∷ parts) h other = word_more kind v p w part parts other
+
+-- the groups of the parts with these words
+abbrev all_put : Kind → ℕ → Parts → List BodyWord → Result (List Group) FormulaError
+all_put kind v p words = put_words kind v p words >>= λ q. Ok (all_groups q)
+
+-- putting word by word is reading the parts between zeros
+puts_are : (kind : Kind) (v : ℕ) (p : Parts) (words : List BodyWord)
+    → all_put kind v p words ≡ resumed kind v p (slice_split is_end words)
+puts_are kind v p [] = sym (ap (λ g. with_more p.closed g (Ok [])) (goes_nowhere kind v p.open_part))
+puts_are kind v p (w ∷ ws) = elim (cases_Bool (is_end w)) [
+  | inl is ↦
+      let put = ap (λ r. r >>= (λ q. put_words kind v q ws) >>= λ q. done (all_groups q)) (end_put kind v p w is) in
+      let later = puts_are kind v (ended p) ws in
+      let behind = end_more kind v p (slice_split is_end ws) (split_is_filled is_end ws) in
+      rw is (put ∙ later ∙ behind)
+  | inr other ↦
+      let later = after (put_word kind v p w) (λ q. puts_are kind v q ws) in
+      let behind = onto_more kind v p w (slice_split is_end ws) (split_is_filled is_end ws) other in
+      rw other (later ∙ behind)
+]
+  where
+    after : (r : Result Parts FormulaError)
+        → ((q : Parts) → all_put kind v q ws ≡ resumed kind v q (slice_split is_end ws))
+        → ((r >>= λ q. put_words kind v q ws) >>= λ q. done (all_groups q))
+        ≡ (r >>= λ q. resumed kind v q (slice_split is_end ws))
+    after (Ok q) shorter = shorter q
     after (Err e) shorter = refl
 
--- what comes after the words sees the parts of the whole list of literals
-pub by_parts : {Y : Type 0} (v : ℕ) (words : List BodyWord) (next : List (List ℤ) → Result Y FormulaError)
-    → (each (literal_of_word v) words >>= λ zs. next (slice_split is_zero zs))
-    ≡ (put_words v no_parts words >>= λ p. next (all_groups p))
-by_parts v words next =
-    let finished = λ (r : Result Parts FormulaError). r >>= λ p. next (all_groups p) in
-    sym (ap finished (put_words_each v no_parts words) ∙ at (each (literal_of_word v) words))
+-- from the start on, they are the groups of all the words
+from_none : (kind : Kind) (v : ℕ) (parts : List (List BodyWord)) → 0 < length parts
+    → resumed kind v no_parts parts ≡ each (group_of_words kind v) parts
+from_none kind v [] h = absurd (omega arith)
+from_none kind v (part ∷ parts) h = refl
+
+-- what comes after the words sees the groups of the whole list of words
+pub by_parts : {Y : Type 0} (kind : Kind) (v : ℕ) (words : List BodyWord)
+    (next : List Group → Result Y FormulaError) → (each (group_of_words kind v) (slice_split is_end words) >>= next)
+    ≡ (put_words kind v no_parts words >>= λ p. next (all_groups p))
+by_parts kind v words next =
+    let filled = split_is_filled is_end words in
+    let whole = puts_are kind v no_parts words ∙ from_none kind v (slice_split is_end words) filled in
+    sym (ap (λ r. r >>= next) whole) ∙ at (put_words kind v no_parts words)
   where
-    at : (r : Result (List ℤ) FormulaError)
-        → (put_all no_parts r >>= λ p. next (all_groups p)) ≡ (r >>= λ zs. next (slice_split is_zero zs))
-    at (Ok zs) = ap next (puts_from_none zs)
+    at : (r : Result Parts FormulaError)
+        → ((r >>= λ p. done (all_groups p)) >>= next) ≡ (r >>= λ p. next (all_groups p))
+    at (Ok p) = refl
     at (Err e) = refl

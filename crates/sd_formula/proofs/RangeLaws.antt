@@ -3,7 +3,7 @@ use Rattle.std.proofs.Common.{◌≡◌, ℕ, Bool, true, false, not, ◌&&◌, 
 use Rattle.std.proofs.Common.{Result, Ok, Err, refl, sym, subst, ◌∙◌, arith}
 use Rattle.std.proofs.lemmas.Bool.{and_parts, not-false, leb-true, ltb-false, eqb-true}
 use Rattle.std.specs.Prelude.{nat_le, nat_lt, ◌==◌, ok_or}
-use Rattle.std.specs.List.{AllByRecursion}
+use Rattle.std.specs.List.{AllByRecursion, flat_map}
 use Rattle.sd_base.specs.Lines.{TextLine, content_of}
 use Rattle.sd_base.specs.Reading.{◌>>=◌, ◌>>◌, fault_if}
 use Rattle.sd_formula.specs.declared.formula.Kind.{Kind}
@@ -11,10 +11,10 @@ use Rattle.sd_formula.specs.declared.error.FormulaError.TheVariants.{NoHeader, B
 use Rattle.sd_formula.specs.declared.error.FormulaError.TheVariants.{Unterminated, CountDiffers, TooManyGroups}
 use Rattle.sd_formula.specs.Dimacs.{Groups, Stated, dimacs, formula_of, header_of, counts_in_range}
 use Rattle.sd_formula.specs.Dimacs.{numbers_of, is_header}
-use Rattle.sd_formula.specs.Dimacs.{groups_of, body_of, all_but_last, last_part}
-use Rattle.sd_formula.specs.Formulas.{AreLiterals, IsFormula}
+use Rattle.sd_formula.specs.Dimacs.{groups_of, body_of, all_but_last, last_part, has_begun, pieces_of}
+use Rattle.sd_formula.specs.Formulas.{IsGroup, IsFormula}
 use Rattle.sd_formula.specs.Steps.{Parts, no_parts, put_words, all_groups, InRange, PartsFit}
-use Rattle.sd_formula.proofs.FitLaws.{words_fit}
+use Rattle.sd_formula.proofs.FitLaws.{nothing_fits, words_fit}
 use Rattle.sd_formula.proofs.PartsLaws.{by_parts}
 use Rattle.sd_formula.proofs.ReaderLaws.{all_but_last_push}
 
@@ -60,13 +60,13 @@ header_fits kind line t e =
     numbers_fit second.middle t second.led
 
 -- the groups are as many as the header states, and their literals are in range
-groups_fit : (kind : Kind) (s : Stated) (p : Parts) (f : Groups) → InRange s → PartsFit s.variables p
+groups_fit : (kind : Kind) (s : Stated) (p : Parts) (f : Groups) → InRange s → PartsFit kind s.variables p
     → groups_of kind s (all_groups p) ≡ Ok f → IsFormula f
 groups_fit kind s p f range fit e =
     let groups = all_but_last (all_groups p) in
     let formula : Groups = record { kind = kind; variables = s.variables; groups = groups } in
     let same = s.groups == length groups in
-    let first = past (not (length (last_part (all_groups p)) == 0)) Unterminated
+    let first = past (has_begun (last_part (all_groups p))) Unterminated
     (fault_if (not same) (CountDiffers s.groups (length groups)) >> Ok formula) f e in
     let second = past (not same) (CountDiffers s.groups (length groups)) (Ok formula) f first.1 in
     let whole : Ok formula ≡ Ok f = second.1 in
@@ -77,7 +77,7 @@ groups_fit kind s p f range fit e =
       at_least_one = range.at_least_one;
       within_limit = range.within_limit;
       count = omega (arith, range.count, count);
-      literals = subst (AllByRecursion (AreLiterals s.variables)) (sym closed) fit.closed;
+      groups = subst (AllByRecursion (IsGroup kind s.variables)) (sym closed) fit.closed;
     } in
     subst IsFormula is fits
 
@@ -86,10 +86,12 @@ lines_fit kind [] f e = absurd cc
 lines_fit kind (header ∷ lines) f e =
     let head = through (header_of kind header) _ f e in
     let s = head.middle in
-    let words = body_of lines in
-    let by = sym (by_parts s.variables words (groups_of kind s)) ∙ head.led in
-    let body = through (put_words s.variables no_parts words) (λ p. groups_of kind s (all_groups p)) f by in
-    let fit = words_fit s.variables no_parts body.middle words (record { closed = tt; open_part = tt }) body.gave in
+    let words = flat_map (pieces_of kind) (body_of lines) in
+    let by = sym (by_parts kind s.variables words (groups_of kind s)) ∙ head.led in
+    let body = through (put_words kind s.variables no_parts words) (λ p. groups_of kind s (all_groups p)) f by in
+    let none : PartsFit kind s.variables no_parts =
+    record { closed = tt; open_part = nothing_fits kind s.variables } in
+    let fit = words_fit kind s.variables no_parts body.middle words none body.gave in
     groups_fit kind s body.middle f (header_fits kind header s head.gave) fit body.led
 
 -- the formula of a text has its numbers and its literals in range

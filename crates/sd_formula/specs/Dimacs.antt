@@ -1,11 +1,13 @@
 -- The formula that a text of DIMACS stands for, or its first fault.
-use Rattle.std.specs.Prelude.{◌≡◌, ℕ, Bool, false, not, ◌&&◌, ◌==◌, nat_lt, nat_le, if◌then◌else◌, codes, bytes_eq}
+use Rattle.std.specs.Prelude.{◌≡◌, ℕ, Bool, true, false, not, ◌&&◌, ◌||◌, ◌==◌, nat_lt, nat_le, if◌then◌else◌}
+use Rattle.std.specs.Prelude.{codes, bytes_eq}
 use Rattle.std.specs.Prelude.{List, [], ◌∷◌, length, drop, map, flat_map, take_while, ℤ, unsigned_abs}
 use Rattle.std.specs.Prelude.{Option, Some, None, ok_or, Result, Ok, Err}
 use Rattle.std.specs.List.{slice_split}
 use Rattle.sd_base.specs.Lines.{TextLine, content_of, begins_with}
 use Rattle.sd_base.specs.Numbers.{natural_value, integer_value}
 use Rattle.sd_base.specs.Reading.{◌>>=◌, ◌>>◌, fault_if, each}
+use Rattle.sd_model.specs.Expression.{Group}
 use Rattle.sd_formula.specs.declared.formula.Kind.{Kind}
 use Rattle.sd_formula.specs.declared.formula.Kind.TheVariants.{Cnf, Dnf}
 use Rattle.sd_formula.specs.declared.error.FormulaError.{FormulaError}
@@ -13,11 +15,12 @@ use Rattle.sd_formula.specs.declared.error.FormulaError.TheVariants.{NoHeader, B
 use Rattle.sd_formula.specs.declared.error.FormulaError.TheVariants.{LiteralRange, Unterminated, CountDiffers}
 use Rattle.sd_formula.specs.declared.error.FormulaError.TheVariants.{TooManyGroups, OutOfMemory}
 
--- A formula as it is seen: a literal is a number of DIMACS, n or -n, and each group is a clause or a term.
+-- A formula as it is seen: a literal is a number of DIMACS, n or -n, and each group is a clause, an exclusive group
+-- or a term.
 pub record Groups : Type 0 where
   pub kind : Kind
   pub variables : ℕ
-  pub groups : List (List ℤ)
+  pub groups : List Group
 
 -- ---- the header: the words p and cnf or dnf, and the numbers of variables and groups
 
@@ -84,30 +87,77 @@ literal_of_word variables word = do
   fault_if (nat_lt variables (unsigned_abs z)) (LiteralRange word.line z)
   Ok z
 
--- ---- the groups: the parts of the literals between zeros, where nothing stands after the last zero
+-- ---- the groups: the parts of the words between zeros, where nothing stands after the last zero; under cnf a part
+-- ---- that begins with the mark is an exclusive group of the literals after it
 
--- a zero ends a group
+-- what follows the x that a word begins with, under cnf
+abbrev pub after_mark : Kind → List ℕ → Option (List ℕ)
+after_mark Cnf (byte ∷ bytes) = if byte == 120 then Some bytes else None
+after_mark kind bytes = None
+
+-- a word, or the mark and, where bytes follow it, a further word of these
+abbrev pub split_mark : BodyWord → Option (List ℕ) → List BodyWord
+split_mark word None = word ∷ []
+split_mark word (Some []) = record { line = word.line; bytes = codes "x" } ∷ []
+split_mark word (Some (byte ∷ bytes)) =
+    record { line = word.line; bytes = codes "x" } ∷ record { line = word.line; bytes = byte ∷ bytes } ∷ []
+
+-- the words that a word stands for
+abbrev pub pieces_of : Kind → BodyWord → List BodyWord
+pieces_of kind word = split_mark word (after_mark kind word.bytes)
+
+-- the mark
+abbrev pub is_mark : Kind → BodyWord → Bool
+is_mark Cnf word = bytes_eq word.bytes (codes "x")
+is_mark Dnf word = false
+
+-- a zero
 abbrev pub is_zero : ℤ → Bool
 is_zero z = unsigned_abs z == 0
 
+-- a number that is a zero
+abbrev pub ends : Option ℤ → Bool
+ends (Some z) = is_zero z
+ends None = false
+
+-- a word that ends a group
+abbrev pub is_end : BodyWord → Bool
+is_end word = ends (integer_value word.bytes)
+
+-- the literals of words, as a group
+abbrev pub literals_group : ℕ → Bool → List BodyWord → Result Group FormulaError
+literals_group variables exclusive words = do
+  literals ← each (literal_of_word variables) words
+  Ok (record { exclusive = exclusive; literals = literals })
+
+-- the group of the words between two zeros; a mark that is not the first is no literal
+abbrev pub group_of_words : Kind → ℕ → List BodyWord → Result Group FormulaError
+group_of_words kind variables [] = literals_group variables false []
+group_of_words kind variables (word ∷ words) =
+    if is_mark kind word then literals_group variables true words else literals_group variables false (word ∷ words)
+
 -- the parts that a zero ends
-abbrev pub all_but_last : List (List ℤ) → List (List ℤ)
+abbrev pub all_but_last : List Group → List Group
 all_but_last [] = []
 all_but_last (part ∷ []) = []
 all_but_last (part ∷ next ∷ parts) = part ∷ all_but_last (next ∷ parts)
 
 -- what stands after the last zero
-abbrev pub last_part : List (List ℤ) → List ℤ
-last_part [] = []
+abbrev pub last_part : List Group → Group
+last_part [] = record { exclusive = false; literals = [] }
 last_part (part ∷ []) = part
 last_part (part ∷ next ∷ parts) = last_part (next ∷ parts)
 
+-- a mark or a literal
+abbrev pub has_begun : Group → Bool
+has_begun group = group.exclusive || not (length group.literals == 0)
+
 -- the formula of the parts, of which the last is empty and the others are as many as was stated
-abbrev pub groups_of : Kind → Stated → List (List ℤ) → Result Groups FormulaError
+abbrev pub groups_of : Kind → Stated → List Group → Result Groups FormulaError
 groups_of kind stated parts =
     let groups = all_but_last parts in
     let found = length groups in do
-      fault_if (not (length (last_part parts) == 0)) Unterminated
+      fault_if (has_begun (last_part parts)) Unterminated
       fault_if (not (stated.groups == found)) (CountDiffers stated.groups found)
       Ok (record { kind = kind; variables = stated.variables; groups = groups })
 
@@ -118,8 +168,8 @@ abbrev pub formula_of : Kind → List TextLine → Result Groups FormulaError
 formula_of kind [] = Err NoHeader
 formula_of kind (header ∷ lines) = do
   stated ← header_of kind header
-  literals ← each (literal_of_word stated.variables) (body_of lines)
-  groups_of kind stated (slice_split is_zero literals)
+  parts ← each (group_of_words kind stated.variables) (slice_split is_end (flat_map (pieces_of kind) (body_of lines)))
+  groups_of kind stated parts
 
 -- The formula of a text, or its first fault. Blank lines and comments, which begin with c, are passed over.
 unfoldable pub dimacs : Kind → List ℕ → Result Groups FormulaError

@@ -1,6 +1,7 @@
 -- The generated formula: clauses of three neighbouring variables, whose signs a linear congruential generator gives.
 use Rattle.std.specs.Prelude.{ℕ, zero, suc, ◌+◌, ◌-◌, ◌*◌, ◌%◌, ◌≤◌, ◌<◌, ◌^◌, nat_lt, if◌then◌else◌, List, [], ◌∷◌, ◌++◌}
-use Rattle.std.specs.Prelude.{ℤ, pos, neg_ℤ}
+use Rattle.std.specs.Prelude.{ℤ, pos, neg_ℤ, false}
+use Rattle.sd_model.specs.Expression.{Group}
 use Rattle.sd_formula.specs.declared.formula.Kind.TheVariants.{Cnf}
 use Rattle.sd_formula.specs.Dimacs.{Groups}
 
@@ -24,13 +25,15 @@ abbrev pub literal_by : ℕ → ℕ → ℤ
 literal_by x variable = if nat_lt x 2147483648 then pos variable else neg_ℤ (pos variable)
 
 -- the clause of a number, counted from 0: a literal for each of its three variables, each by a state of its own
-abbrev pub generated_clause : ℕ → ℕ → List ℤ
-generated_clause seed i =
-    literal_by (state_at seed (3 * i + 1)) (i + 1) ∷ literal_by (state_at seed (3 * i + 2)) (i + 2)
-    ∷ literal_by (state_at seed (3 * i + 3)) (i + 3) ∷ []
+abbrev pub generated_clause : ℕ → ℕ → Group
+generated_clause seed i = record {
+  exclusive = false;
+  literals = literal_by (state_at seed (3 * i + 1)) (i + 1) ∷ literal_by (state_at seed (3 * i + 2)) (i + 2)
+      ∷ literal_by (state_at seed (3 * i + 3)) (i + 3) ∷ [];
+}
 
 -- the first clauses
-abbrev pub generated_clauses : ℕ → ℕ → List (List ℤ)
+abbrev pub generated_clauses : ℕ → ℕ → List Group
 generated_clauses seed zero = []
 generated_clauses seed (suc n) = generated_clauses seed n ++ generated_clause seed n ∷ []
 

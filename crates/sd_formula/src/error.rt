@@ -24,13 +24,13 @@ pub enum FormulaError {
     /// The header states more than 1,000,000 groups.
     #[error("TooManyGroups")]
     TooManyGroups { stated: u64 },
-    /// A word of the body is no integer.
+    /// A word of the body is neither an integer nor a mark, or a mark is not the first word of a group of a CNF.
     #[error("BadWord")]
     BadWord { line: u32 },
     /// A literal is of no variable of the formula.
     #[error("LiteralRange")]
     LiteralRange { line: u32, literal: i64 },
-    /// Literals stand after the last zero.
+    /// A mark or literals stand after the last zero.
     #[error("Unterminated")]
     Unterminated,
     /// The number of groups is not the one that the header states.

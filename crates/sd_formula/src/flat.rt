@@ -1,26 +1,47 @@
 //! Groups that stand one after another in one list.
 
-ghost use Rattle.std.specs.Prelude.{◌≡◌, ◌<◌, ◌≤◌, length, slice_get};
+ghost use Rattle.std.specs.Prelude.{◌≡◌, ◌<◌, ◌≤◌, List, ℤ, length, slice_get, option_map};
 ghost use Rattle.sd_formula.specs.Flat.{AreEnds, start_at, cut};
 
-/// The group of a number, counted from 0, where the groups end at these indices.
-pub(crate) fn group_between<'a>(literals: &'a [i32], ends: &[u32], index: usize) -> &'a [i32]
+/// Where a group ends in a list of literals.
+#[derive(Clone, Copy, Debug)]
+pub(crate) struct End {
+    /// How many literals stand up to its end.
+    pub(crate) index: u32,
+    /// Whether it begins with the mark of exclusive groups.
+    pub(crate) exclusive: bool,
+}
+
+/// The literals of the group of a number, counted from 0, where the groups end so.
+pub(crate) fn group_between<'a>(literals: &'a [i32], ends: &[End], index: usize) -> &'a [i32]
     requires rise { AreEnds 0 ends.now (length literals.now) }
     requires below { index < length ends.now }
-    ensures { slice_get (cut 0 ends.now literals.now) index ≡ Some result.now }
+    ensures { option_map (λ group. group.literals) (slice_get (cut 0 ends.now literals.now) index)
+        ≡ Some result.now }
 {
-    &literals[start_of(ends, index)..ends[index] as usize]
+    &literals[start_of(ends, index)..ends[index].index as usize]
+}
+
+/// Whether the group of a number, counted from 0, begins with the mark of exclusive groups.
+#[tactic(auto, using(crate::proofs::FlatLaws::mark_at))]
+pub(crate) fn is_marked(ends: &[End], index: usize) -> bool
+    requires { index < length ends.now }
+    ensures { (literals : List ℤ) → option_map (λ group. group.exclusive)
+        (slice_get (cut 0 ends.now literals) index)
+        ≡ Some result }
+{
+    ends[index].exclusive
 }
 
 /// Where the group of a number begins, or would begin behind the others.
 #[tactic(auto, using(crate::proofs::FlatLaws::start_is))]
-pub(crate) fn start_of(ends: &[u32], index: usize) -> usize
+pub(crate) fn start_of(ends: &[End], index: usize) -> usize
     requires { index ≤ length ends.now }
     ensures { result ≡ start_at 0 ends.now index }
 {
     if index == 0 {
         0
     } else {
-        ends[index - 1] as usize
+        ends[index - 1].index as usize
     }
 }

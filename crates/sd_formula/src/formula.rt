@@ -1,20 +1,20 @@
 //! A formula in groups.
 
-ghost use Rattle.std.specs.Prelude.{◌≡◌, ◌<◌, ◌≤◌, length, slice_get};
+ghost use Rattle.std.specs.Prelude.{◌≡◌, ◌<◌, ◌≤◌, true, length, slice_get, option_map};
 ghost use Rattle.std.specs.List.{list_any, list_all};
 ghost use Rattle.sd_model.specs.Assignment.{literal_holds};
-ghost use Rattle.sd_model.specs.Expression.{expression_value};
+ghost use Rattle.sd_model.specs.Expression.{expression_value, group_holds};
 ghost use Rattle.sd_formula.specs.Dimacs.{kind_word};
 ghost use Rattle.sd_formula.specs.Formulas.{AreLiterals, expression_of};
 
-use crate::flat::group_between;
-use crate::literals::{all_hold, some_holds};
+use crate::flat::{End, group_between, is_marked};
+use crate::literals::{all_hold, odd_hold, some_holds};
 use std::marker::Model;
 
-/// Whether the groups are clauses or terms.
+/// Whether the groups are clauses, some of them exclusive groups, or terms.
 #[derive(Clone, Copy, Debug, PartialEq, Eq)]
 pub enum Kind {
-    /// Clauses: each has a literal that holds.
+    /// Clauses, of which each has a literal that holds, and exclusive groups, of which each has an odd number.
     Cnf,
     /// Terms: one has only literals that hold.
     Dnf,
@@ -32,7 +32,7 @@ impl Kind {
     }
 }
 
-/// Clauses that hold together, or terms of which one holds. The literals are numbers of DIMACS.
+/// Clauses and exclusive groups that hold together, or terms of which one holds. The literals are numbers of DIMACS.
 #[derive(Debug, Drop)]
 pub struct Formula {
     pub(crate) kind: Kind,
@@ -40,8 +40,8 @@ pub struct Formula {
     pub(crate) variables: u32,
     /// The literals of all groups, one group after another.
     pub(crate) literals: Vec<i32>,
-    /// For each group how many literals stand up to its end.
-    pub(crate) ends: Vec<u32>,
+    /// Where each group ends, and whether it is exclusive.
+    pub(crate) ends: Vec<End>,
 }
 
 impl Model for Formula {
@@ -59,7 +59,7 @@ impl Model for Formula {
 }
 
 impl Formula {
-    /// Whether the groups are clauses or terms.
+    /// Whether the groups are clauses or exclusive groups, or terms.
     pub fn kind(&self) -> Kind
         ensures { result ≡ self.now.kind }
     {
@@ -74,7 +74,7 @@ impl Formula {
         self.variables
     }
 
-    /// How many clauses or terms there are.
+    /// How many clauses, exclusive groups or terms there are.
     pub fn groups(&self) -> usize
         ensures value { result ≡ length self.now.groups }
         ensures within_limit { result ≤ 1000000 }
@@ -82,46 +82,73 @@ impl Formula {
         self.ends.len()
     }
 
-    /// The literals of a clause or term, counted from 0, in the order of the text.
+    /// Whether a group, counted from 0, is exclusive: it demands that an odd number of its literals hold.
+    pub fn is_exclusive(&self, index: usize) -> bool
+        requires { index < length self.now.groups }
+        ensures value { option_map (λ group. group.exclusive) (slice_get self.now.groups index)
+            ≡ Some result }
+        ensures of_cnf { result ≡ true → self.now.kind ≡ Kind.Cnf }
+    {
+        is_marked(&self.ends, index)
+    }
+
+    /// The literals of a group, counted from 0, in the order of the text, without the mark of an exclusive one.
     pub fn group(&self, index: usize) -> &[i32]
         requires { index < length self.now.groups }
-        ensures value { slice_get self.now.groups index ≡ Some result.now }
+        ensures value { option_map (λ group. group.literals) (slice_get self.now.groups index)
+            ≡ Some result.now }
         ensures literals { AreLiterals self.now.variables result.now }
     {
         group_between(&self.literals, &self.ends, index)
     }
 
-    /// The value under an assignment, which has a truth value for each variable: a CNF is true
-    /// where every clause has a true literal, a DNF where some term has only true literals.
+    /// The value under an assignment, which has a truth value for each variable: a CNF is true where every clause has
+    /// a literal that holds and every exclusive group an odd number, a DNF where some term has only literals that hold.
     pub fn value(&self, assignment: &[bool]) -> bool
         requires { length assignment.now ≡ self.now.variables }
         ensures { result ≡ expression_value (expression_of self.now) assignment.now }
     {
         match self.kind {
-            Kind::Cnf => self.every_clause_holds(assignment),
+            Kind::Cnf => self.every_group_holds(assignment),
             Kind::Dnf => self.some_term_holds(assignment),
         }
     }
 
-    /// Whether each group has a literal that holds.
+    /// Whether each clause and each exclusive group holds.
     #[tactic(auto, using(crate::proofs::GroupLaws::drop_at))]
-    fn every_clause_holds(&self, assignment: &[bool]) -> bool
+    fn every_group_holds(&self, assignment: &[bool]) -> bool
         requires { length assignment.now ≡ self.now.variables }
-        ensures { result ≡ list_all (list_any (literal_holds assignment.now)) self.now.groups }
+        ensures { result ≡ list_all (group_holds assignment.now) self.now.groups }
     {
         for index in 0..self.groups() {
-            if !some_holds(self.group(index), assignment) {
+            if !self.group_holds(index, assignment) {
                 return false;
             }
         }
         true
     }
 
+    /// Whether a clause has a literal that holds, or an exclusive group an odd number.
+    fn group_holds(&self, index: usize, assignment: &[bool]) -> bool
+        requires below { index < length self.now.groups }
+        requires length { length assignment.now ≡ self.now.variables }
+        ensures { option_map (group_holds assignment.now) (slice_get self.now.groups index)
+            ≡ Some result }
+    {
+        let literals = self.group(index);
+        if self.is_exclusive(index) {
+            odd_hold(literals, assignment)
+        } else {
+            some_holds(literals, assignment)
+        }
+    }
+
     /// Whether some group has only literals that hold.
     #[tactic(auto, using(crate::proofs::GroupLaws::drop_at))]
     fn some_term_holds(&self, assignment: &[bool]) -> bool
         requires { length assignment.now ≡ self.now.variables }
-        ensures { result ≡ list_any (list_all (literal_holds assignment.now)) self.now.groups }
+        ensures { result ≡ list_any (λ term. list_all (literal_holds assignment.now) term.literals)
+            self.now.groups }
     {
         for index in 0..self.groups() {
             if all_hold(self.group(index), assignment) {

@@ -4,7 +4,7 @@ ghost use Rattle.std.specs.Prelude.{◌≡◌, ◌≢◌, ◌↔◌, ◌<◌, �
 ghost use Rattle.std.specs.Prelude.{IfOk, IfErr, ◌-◌};
 ghost use Rattle.sd_formula.specs.Dimacs.{is_zero};
 ghost use Rattle.sd_formula.specs.Generated.{IsGenerable, next_state, state_at, literal_by, generated_clauses, generated_formula};
-ghost use Rattle.sd_formula.specs.Steps.{body_view, extended, ended};
+ghost use Rattle.sd_formula.specs.Steps.{body_view, no_group, extended, ended};
 
 use crate::formula::{Formula, Kind};
 use crate::parts::Body;
@@ -55,7 +55,7 @@ pub fn generate(alloc: Global, count: u64, seed: u64) -> Result<Formula, Generat
 fn generated_body(alloc: Global, count: u32, seed: u32) -> Result<Body, AllocError>
     requires { IsGenerable count seed }
     ensures { IfOk result (λ body. body_view body
-        ≡ record { closed = generated_clauses seed (count - 2); open_part = [] }) }
+        ≡ record { closed = generated_clauses seed (count - 2); open_part = no_group }) }
 {
     let mut body = Body::new(alloc);
     let mut state = seed;

@@ -3,6 +3,7 @@
 ghost use Rattle.std.specs.Prelude.{◌≡◌, length};
 ghost use Rattle.std.specs.List.{list_any, list_all};
 ghost use Rattle.sd_model.specs.Assignment.{literal_holds};
+ghost use Rattle.sd_model.specs.Expression.{odd_hold};
 ghost use Rattle.sd_formula.specs.Formulas.{IsLiteral, AreLiterals};
 
 /// Whether some literal of a clause holds.
@@ -16,6 +17,19 @@ pub(crate) fn some_holds(clause: &[i32], assignment: &[bool]) -> bool
         }
     }
     false
+}
+
+/// Whether an odd number of the literals of an exclusive group hold.
+#[tactic(auto, using(sd_model::proofs::Parity::odd_more, sd_model::proofs::Parity::xor_assoc))]
+pub(crate) fn odd_hold(group: &[i32], assignment: &[bool]) -> bool
+    requires { AreLiterals (length assignment.now) group.now }
+    ensures { result ≡ odd_hold assignment.now group.now }
+{
+    let mut odd = false;
+    for literal in group {
+        odd = odd != holds(*literal, assignment);
+    }
+    odd
 }
 
 /// Whether each literal of a term holds.

@@ -4,23 +4,26 @@ ghost use Rattle.std.specs.Prelude.{◌≡◌, ◌==◌, ◌<◌, ◌≤◌, ◌
 ghost use Rattle.std.specs.Prelude.{if◌then◌else◌, is_ok, OnOk, OnErr};
 ghost use Rattle.sd_formula.specs.Flat.{AreEnds, AreEnds_prop};
 
-use crate::flat::start_of;
+use crate::flat::{End, start_of};
 use std::alloc::{AllocError, Global};
 
 // For how many more items a list gets room at least.
 const LEAST_ROOM: usize = 16;
 
-/// The literals that were read, without zeros, and the indices at which groups end.
+/// The literals that were read, without marks and zeros, where groups end, and whether the group in hand is exclusive.
 #[derive(Drop)]
 pub(crate) struct Body {
     pub(crate) literals: Vec<i32>,
-    /// For each zero how many literals stood before it.
-    pub(crate) ends: Vec<u32>,
+    /// For each zero how many literals stood before it, and whether its group had the mark.
+    pub(crate) ends: Vec<End>,
+    /// Whether a mark stands after the last zero.
+    pub(crate) exclusive: bool,
     ghost rise: { AreEnds 0 ends.items (length literals.items) } by { AreEnds_prop _ _ _ },
 }
 
 impl Body {
-    ghost use Rattle.sd_formula.specs.Steps.{body_view, no_parts, ended, extended, put_literal};
+    ghost use Rattle.sd_formula.specs.Dimacs.{has_begun};
+    ghost use Rattle.sd_formula.specs.Steps.{body_view, no_parts, ended, extended, marked, put_literal};
 
     /// Nothing read yet.
     pub(crate) fn new(alloc: Global) -> Self
@@ -30,6 +33,7 @@ impl Body {
         Body {
             literals: Vec::new(alloc),
             ends: Vec::new(alloc),
+            exclusive: false,
         }
     }
 
@@ -55,7 +59,12 @@ impl Body {
         ensures ok { OnOk result (body_view self.new ≡ ended (body_view self.old)) }
         ensures err { OnErr result (body_view self.new ≡ body_view self.old) }
     {
-        put_last(&mut self.ends, self.literals.len() as u32)?;
+        let end = End {
+            index: self.literals.len() as u32,
+            exclusive: self.exclusive,
+        };
+        put_last(&mut self.ends, end)?;
+        self.exclusive = false;
         Ok(())
     }
 
@@ -70,12 +79,20 @@ impl Body {
         Ok(())
     }
 
-    /// Whether literals stand after the last zero.
-    #[tactic(auto, using(crate::proofs::FlatLaws::open_is))]
-    pub(crate) fn is_open(&self) -> bool
-        ensures { result ≡ not (length (body_view self.now).open_part == 0) }
+    /// Begins an exclusive group.
+    pub(crate) fn mark(&mut self)
+        ensures literals { self.new.literals.items ≡ self.old.literals.items }
+        ensures marked { body_view self.new ≡ marked (body_view self.old) }
     {
-        start_of(&self.ends, self.ends.len()) != self.literals.len()
+        self.exclusive = true;
+    }
+
+    /// Whether a mark or literals stand after the last zero.
+    #[tactic(auto, using(crate::proofs::FlatLaws::open_is))]
+    pub(crate) fn has_begun(&self) -> bool
+        ensures { result ≡ has_begun (body_view self.now).open_part }
+    {
+        self.exclusive || start_of(&self.ends, self.ends.len()) != self.literals.len()
     }
 }
 

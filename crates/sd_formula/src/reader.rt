@@ -18,7 +18,8 @@ use std::alloc::Global;
 /// The header is the first line that is neither blank nor a comment, which begins with `c`: `p`,
 /// `cnf` or `dnf`, the number of variables, the number of groups. The lines after it, up to the
 /// first that begins with `%`, are integers: a literal is put into the group in hand, and 0 ends
-/// the group. Literals that are repeated or opposite are kept as they are written. Separators
+/// the group. Under `cnf` a group that begins with `x`, as a word or joined to the next one, is an
+/// exclusive group. Literals that are repeated or opposite are kept as they are written. Separators
 /// before the first byte of a line do not count. Any text may answer `OutOfMemory`.
 pub fn read_dimacs(alloc: Global, bytes: &[u8], kind: Kind) -> Result<Formula, FormulaError>
     requires { length bytes.now ≤ 67108864 }
@@ -40,19 +41,19 @@ fn read_text(alloc: Global, bytes: &[u8], kind: Kind) -> Result<Formula, Formula
         return Err(FormulaError::NoHeader);
     };
     let header = header_of(kind, &first)?;
-    let body = read_body(alloc, header.variables, lines)?;
+    let body = read_body(alloc, kind, header.variables, lines)?;
     finish(kind, header, body)
 }
 
-/// The formula of these groups, where nothing stands after the last zero.
+/// The formula of these groups, where no mark and no literal stands after the last zero.
 #[tactic(auto, using(crate::proofs::ReaderLaws::counted))]
 fn finish(kind: Kind, header: Header, body: Body) -> Result<Formula, FormulaError>
     requires range { InRange (header_view header) }
-    requires literals { PartsFit header.variables (body_view body) }
+    requires literals { PartsFit kind header.variables (body_view body) }
     ensures { Gives (λ f. f) result
         (groups_of kind (header_view header) (all_groups (body_view body))) }
 {
-    if body.is_open() {
+    if body.has_begun() {
         return Err(FormulaError::Unterminated);
     }
     let found = body.ends.len() as u64;

@@ -29,6 +29,27 @@ fn texts_and_their_groups(rt: HostRuntime) -> Result<(), Fail> {
     Ok(())
 }
 
+/// The mark as a word, joined to a literal and to a zero.
+#[test]
+fn exclusive_groups(rt: HostRuntime) -> Result<(), Fail> {
+    let text = b"p cnf 3 5\nx 1 2\n-3 0 x-1 1 1 0 1 0 x0\nx -0";
+    let groups: [(bool, &[i32]); 5] = [
+        (true, &[1, 2, -3]),
+        (true, &[-1, 1, 1]),
+        (false, &[1]),
+        (true, &[]),
+        (true, &[]),
+    ];
+    let formula = read_dimacs(rt.alloc(), text, Kind::Cnf)?;
+    assert_eq!(rt; formula.groups(), groups.len());
+    for (index, (exclusive, literals)) in groups.iter().enumerate() {
+        assert!(rt; index < formula.groups());
+        assert_eq!(rt; formula.is_exclusive(index), *exclusive);
+        assert_eq!(rt; formula.group(index), *literals);
+    }
+    Ok(())
+}
+
 /// The fault of each text, read as a CNF.
 #[test]
 fn texts_that_are_refused(rt: HostRuntime) {
@@ -49,6 +70,18 @@ fn texts_that_are_refused(rt: HostRuntime) {
             FormulaError::TooManyGroups { stated: 1_000_001 },
         ),
         (b"p cnf 2 1\np cnf 2 1\n", FormulaError::BadWord { line: 2 }),
+        (b"p cnf 2 1\n1 x 2 0", FormulaError::BadWord { line: 2 }),
+        (b"p cnf 2 1\nxx1 0", FormulaError::BadWord { line: 2 }),
+        (b"p cnf 2 1\n1\nx9 0", FormulaError::BadWord { line: 3 }),
+        (
+            b"p cnf 2 1\nx9 0",
+            FormulaError::LiteralRange {
+                line: 2,
+                literal: 9,
+            },
+        ),
+        (b"p cnf 2 1\nx", FormulaError::Unterminated),
+        (b"p cnf 2 1\nx\n%\n0\n", FormulaError::Unterminated),
         (
             b"p cnf 2 1\n1000000000000000000 0",
             FormulaError::BadWord { line: 2 },
@@ -89,12 +122,21 @@ fn texts_that_are_refused(rt: HostRuntime) {
     }
 }
 
+/// The mark is no word of a DNF.
+#[test]
+fn marks_of_terms(rt: HostRuntime) {
+    for text in [b"p dnf 2 1\nx 1 0".as_slice(), b"p dnf 2 1\nx1 0"] {
+        let answer = read_dimacs(rt.alloc(), text, Kind::Dnf);
+        assert!(rt; matches!(answer, Err(FormulaError::BadWord { line: 2 })));
+    }
+}
+
 /// The values of texts over two variables, where these are false and false, true and false, false
 /// and true, true and true.
 #[test]
 fn values_under_each_assignment(rt: HostRuntime) -> Result<(), Fail> {
     let assignments = [[false, false], [true, false], [false, true], [true, true]];
-    let rows: [(&[u8], Kind, [bool; 4]); 6] = [
+    let rows: [(&[u8], Kind, [bool; 4]); 10] = [
         (
             b"p cnf 2 2\n1 2 0 -1 2 0",
             Kind::Cnf,
@@ -107,6 +149,14 @@ fn values_under_each_assignment(rt: HostRuntime) -> Result<(), Fail> {
         ),
         (b"p cnf 2 0", Kind::Cnf, [true; 4]),
         (b"p cnf 2 2\n1 -1 0 0", Kind::Cnf, [false; 4]),
+        (b"p cnf 2 1\nx 1 2 0", Kind::Cnf, [false, true, true, false]),
+        (
+            b"p cnf 2 2\nx1 2 0 x-1 0",
+            Kind::Cnf,
+            [false, false, true, false],
+        ),
+        (b"p cnf 2 1\nx 0", Kind::Cnf, [false; 4]),
+        (b"p cnf 2 1\nx 1 1 0", Kind::Cnf, [false; 4]),
         (b"p dnf 2 0", Kind::Dnf, [false; 4]),
         (b"p dnf 2 2\n1 -1 0 0", Kind::Dnf, [true; 4]),
     ];
@@ -129,6 +179,7 @@ fn a_generated_formula(rt: HostRuntime) -> Result<(), Fail> {
     assert_eq!(rt; formula.groups(), 2);
     for (index, group) in [[1, 2, -3], [-2, 3, -4]].iter().enumerate() {
         assert!(rt; index < formula.groups());
+        assert!(rt; !formula.is_exclusive(index));
         assert_eq!(rt; formula.group(index), group.as_slice());
     }
     Ok(())

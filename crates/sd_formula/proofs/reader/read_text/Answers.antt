@@ -1,10 +1,11 @@
 use Rattle.std.proofs.Common.{sym, ◌∙◌, arith}
 use Rattle.std.proofs.lemmas.Result.{err_from_is_err_and}
+use Rattle.std.specs.List.{flat_map}
 use Rattle.sd_base.specs.Views.{content_left}
-use Rattle.sd_formula.specs.Dimacs.{body_of, dimacs}
+use Rattle.sd_formula.specs.Dimacs.{body_of, pieces_of, dimacs}
 use Rattle.sd_formula.specs.Steps.{no_parts, body_view}
 use Rattle.sd_formula.proofs.FewWords.{few_words}
-use Rattle.sd_formula.proofs.FitLaws.{words_fit}
+use Rattle.sd_formula.proofs.FitLaws.{nothing_fits, words_fit}
 use Rattle.sd_formula.proofs.ReaderLaws.{whole, body_fails}
 use Rattle.sd_formula.proofs.reader.read_text.Goals as goal
 
@@ -27,9 +28,11 @@ returns c =
 -- the literals of the body are in range
 pub finish-requires-clause-literals : goal.finish-requires-clause-literals
 finish-requires-clause-literals c =
-    let words = body_of (content_left c.next.new.self) in
-    words_fit c.in_ok-header.header.variables no_parts (body_view c.in_ok-body.body) words
-    (record { closed = tt; open_part = tt }) c.in_ok-body.ensures
+    let kind = c.args.kind in
+    let v = c.in_ok-header.header.variables in
+    let words = flat_map (pieces_of kind) (body_of (content_left c.next.new.self)) in
+    words_fit kind v no_parts (body_view c.in_ok-body.body) words
+    (record { closed = tt; open_part = nothing_fits kind v }) c.in_ok-body.ensures
 
 -- there are no more words than bytes
 pub read_body-requires-clause-within_limit : goal.read_body-requires-clause-within_limit

@@ -1,4 +1,5 @@
-use Rattle.std.proofs.Common.{◌≡◌, ◌<◌, length, slice_get, Some, sym, subst}
+use Rattle.std.proofs.Common.{◌≡◌, ◌<◌, length, slice_get, option_map, Some, sym, subst}
+use Rattle.sd_model.specs.Expression.{Group}
 use Rattle.sd_formula.specs.Formulas.{IsFormula}
 use Rattle.sd_formula.specs.Dimacs.{Groups}
 use Rattle.sd_formula.specs.Flat.{cut}
@@ -18,8 +19,10 @@ group_between-requires-clause-below c =
 pub returns-clause-literals : goal.returns-clause-literals
 returns-clause-literals c =
     let f = c.self.inside in
-    let here : slice_get (cut 0 f.ends.items f.literals.items) c.args.index ≡ Some c.group_between.result.now =
+    let literals = c.group_between.result.now in
+    let here : option_map (λ (g : Group). g.literals) (slice_get (cut 0 f.ends.items f.literals.items) c.args.index)
+    ≡ Some literals =
     rw (c.deref-2.ensures.value, c.deref.ensures.value) at c.group_between.ensures in
-    let group = c.group_between.result.now in
-    let at = subst (λ (g : Groups). slice_get g.groups c.args.index ≡ Some group) c.self.view_is here in
-    literals_at c.args.self.now c.args.index group (subst IsFormula c.self.view_is c.self.invariant.1) at
+    let at = subst (λ (g : Groups). option_map (λ (x : Group). x.literals) (slice_get g.groups c.args.index)
+    ≡ Some literals) c.self.view_is here in
+    literals_at c.args.self.now c.args.index literals (subst IsFormula c.self.view_is c.self.invariant.1) at
