@@ -1,0 +1,193 @@
+-- A walk, a round and a search have one result each, and it is a vtree.
+use Rattle.std.proofs.Common.{◌≡◌, ℕ, zero, suc, ◌*◌, ◌/◌, ◌<◌, ◌≤◌, nat_le, List, [], ◌∷◌, ◌++◌, map}
+use Rattle.std.proofs.Common.{refl, sym, ◌∙◌, ap, subst}
+use native.Mathlib.Omega.{arith}
+use Rattle.std.specs.Prelude.{take}
+use Rattle.std.specs.List.{AllByRecursion, prefix_len}
+use Rattle.sd_model.specs.Expression.{Expression}
+use Rattle.sd_model.specs.Tree.{Tree, IsVtree}
+use Rattle.sd_model.specs.Size.{HasSize}
+use Rattle.sd_model.specs.declared.trees.Side.{Side}
+use Rattle.sd_model.specs.declared.trees.Side.TheVariants.{Left, Right}
+use Rattle.sd_model.proofs.Determined.{size_determined}
+use Rattle.sd_search.specs.Search.{WalkMove, walk_moves, LeadThrough, State, IsFirstLeast, within, IsWalk}
+use Rattle.sd_search.specs.Search.{IsRound, round_at_leaf, round_at_node}
+use Rattle.sd_search.specs.Search.{Found, IsSearch, no_round, last_round, further_round}
+use Rattle.sd_search.proofs.Moved.{moved_vtree}
+
+-- ---- lists
+
+-- what holds of all holds of one in the middle
+all_middle : {A : Type 0} (P : A → Type 0) (xs ys : List A) (a : A) → AllByRecursion P (xs ++ a ∷ ys) → P a
+all_middle P [] ys a h = h.0
+all_middle P (x ∷ xs) ys a h = all_middle P xs ys a h.1
+
+-- and of one of the first
+all_take : {A : Type 0} (P : A → Type 0) (n : ℕ) (xs : List A) → AllByRecursion P xs → AllByRecursion P (take n xs)
+all_take P zero xs h = tt
+all_take P (suc n) [] h = tt
+all_take P (suc n) (x ∷ xs) h = (h.0, all_take P n xs h.1)
+
+-- ---- a walk
+
+-- there is one first state of least size
+first_least : (xs ys us vs : List State) (a b : State) → xs ++ a ∷ us ≡ ys ++ b ∷ vs →
+    AllByRecursion (λ s. a.size < s.size) xs → AllByRecursion (λ s. a.size ≤ s.size) us →
+    AllByRecursion (λ s. b.size < s.size) ys → AllByRecursion (λ s. b.size ≤ s.size) vs → a ≡ b
+first_least [] [] us vs a b e p q r s = cc
+first_least [] (y ∷ ys) us vs a b e p q r s =
+    let head : a ≡ y = cc in
+    let tail : us ≡ ys ++ b ∷ vs = cc in
+    let least : a.size ≤ b.size =
+    all_middle (λ s. a.size ≤ s.size) ys vs b (subst (AllByRecursion (λ s. a.size ≤ s.size)) tail q) in
+    absurd (omega (arith, least, r.0, ap (λ s. s.size) head))
+first_least (x ∷ xs) [] us vs a b e p q r s =
+    let head : x ≡ b = cc in
+    let tail : xs ++ a ∷ us ≡ vs = cc in
+    let least : b.size ≤ a.size =
+    all_middle (λ s. b.size ≤ s.size) xs us a (subst (AllByRecursion (λ s. b.size ≤ s.size)) (sym tail) s) in
+    absurd (omega (arith, least, p.0, ap (λ s. s.size) head))
+first_least (x ∷ xs) (y ∷ ys) us vs a b e p q r s =
+    let tail : xs ++ a ∷ us ≡ ys ++ b ∷ vs = cc in
+    first_least xs ys us vs a b tail p.1 q r.1 s
+
+least_determined : (states : List State) (a b : State) → IsFirstLeast states a → IsFirstLeast states b → a ≡ b
+least_determined states a b p q =
+    first_least p.before q.before p.behind q.behind a b (sym p.parts ∙ q.parts)
+    p.larger p.not_smaller q.larger q.not_smaller
+
+-- the trees that moves lead through are vtrees
+through_valid : (t : Tree) (path : List Side) (ms : List WalkMove) (states : List State) → IsVtree t →
+    LeadThrough t path ms (map (λ s. s.tree) states) → AllByRecursion (λ s. IsVtree s.tree) states
+through_valid t path [] [] v h = tt
+through_valid t path [] (s ∷ states) v h = cc
+through_valid t path (m ∷ ms) [] v h = tt
+through_valid t path (m ∷ ms) (s ∷ states) v h =
+    let next = moved_vtree m.kind t (path ++ m.below) s.tree h.0 v in
+    (next, through_valid s.tree path ms states next h.1)
+
+-- a state with the tree and the size of another one is that one
+same_state : (a b : State) → a.tree ≡ b.tree → a.size ≡ b.size → a ≡ b
+same_state a b e f =
+    let with_tree : Tree → State = λ t. record { tree = t; size = a.size } in
+    let with_size : ℕ → State = λ n. record { tree = b.tree; size = n } in
+    ap with_tree e ∙ ap with_size f
+
+-- moves lead through one list of trees, and each has one size
+states_determined : (fs : List Expression) (t : Tree) (path : List Side) (ms : List WalkMove) (us vs : List State) →
+    IsVtree t → LeadThrough t path ms (map (λ s. s.tree) us) → AllByRecursion (λ s. HasSize fs s.tree s.size) us →
+    LeadThrough t path ms (map (λ s. s.tree) vs) → AllByRecursion (λ s. HasSize fs s.tree s.size) vs → us ≡ vs
+states_determined fs t path [] [] [] v p q r s = refl
+states_determined fs t path [] [] (b ∷ vs) v p q r s = cc
+states_determined fs t path [] (a ∷ us) vs v p q r s = cc
+states_determined fs t path (m ∷ ms) [] vs v p q r s = absurd p
+states_determined fs t path (m ∷ ms) (a ∷ us) [] v p q r s = absurd r
+states_determined fs t path (m ∷ ms) (a ∷ us) (b ∷ vs) v p q r s =
+    let next = moved_vtree m.kind t (path ++ m.below) a.tree p.0 v in
+    let tree : a.tree ≡ b.tree = (let e = sym p.0 ∙ r.0 in cc) in
+    let size : a.size ≡ b.size =
+    size_determined a.tree fs a.size b.size next q.0 (subst (λ t. HasSize fs t b.size) (sym tree) s.0) in
+    let rest : us ≡ vs =
+    states_determined fs a.tree path ms us vs next p.1 q.1
+    (subst (λ t. LeadThrough t path ms (map (λ s. s.tree) vs)) (sym tree) r.1) s.1 in
+    let head = same_state a b tree size in
+    cc
+
+pub walk_determined : (fs : List Expression) (slack : ℕ) (t : Tree) (path : List Side) (u v : Tree) → IsVtree t →
+    IsWalk fs slack t path u → IsWalk fs slack t path v → u ≡ v
+walk_determined fs slack t path u v valid p q =
+    let here : p.here ≡ q.here = (let e = sym p.at ∙ q.at in cc) in
+    let size : p.size ≡ q.size = size_determined t fs p.size q.size valid p.start q.start in
+    let states : p.states ≡ q.states =
+    states_determined fs t path (walk_moves p.here) p.states q.states valid p.through p.sizes
+    (subst (λ h. LeadThrough t path (walk_moves h) (map (λ s. s.tree) q.states)) (sym here) q.through) q.sizes in
+    let by_size : ℕ → List State → Type 0 = λ n ss.
+    IsFirstLeast (record { tree = t; size = n } ∷ within (n * slack / 100) ss) p.least in
+    let first = subst (by_size q.size) states (subst (λ n. by_size n p.states) size p.first) in
+    let least = least_determined (record { tree = t; size = q.size } ∷ within (q.size * slack / 100) q.states)
+    p.least q.least first q.first in
+    sym p.end ∙ ap (λ s. s.tree) least ∙ q.end
+
+pub walk_valid : (fs : List Expression) (slack : ℕ) (t : Tree) (path : List Side) (u : Tree) → IsVtree t →
+    IsWalk fs slack t path u → IsVtree u
+walk_valid fs slack t path u valid p =
+    let bound = p.size * slack / 100 in
+    let all = through_valid t path (walk_moves p.here) p.states valid p.through in
+    let within_all : AllByRecursion (λ s. IsVtree s.tree) (record { tree = t; size = p.size } ∷ within bound p.states) =
+    (valid, all_take (λ s. IsVtree s.tree) (prefix_len (λ s. nat_le s.size bound) p.states) p.states all) in
+    subst IsVtree p.end
+    (all_middle (λ s. IsVtree s.tree) p.first.before p.first.behind p.least
+    (subst (AllByRecursion (λ s. IsVtree s.tree)) p.first.parts within_all))
+
+-- ---- rounds and searches
+
+pub round_valid : {fs : List Expression} {slack : ℕ} {start end : Tree} {way : List Side} → IsVtree start →
+    IsRound fs slack start way end → IsVtree end
+round_valid valid (round_at_leaf x e) = valid
+round_valid {fs} {slack} {start} {end} {way} valid (round_at_node {u} l r e walk p q) =
+    round_valid (round_valid (walk_valid fs slack start way u valid walk) p) q
+
+pub round_determined : {fs : List Expression} {slack : ℕ} {start a b : Tree} {way : List Side} → IsVtree start →
+    IsRound fs slack start way a → IsRound fs slack start way b → a ≡ b
+round_determined valid (round_at_leaf x e) (round_at_leaf y f) = refl
+round_determined valid (round_at_leaf x e) (round_at_node l r f walk p q) = cc
+round_determined valid (round_at_node l r e walk p q) (round_at_leaf y f) = cc
+round_determined {fs} {slack} {start} {a} {b} {way} valid (round_at_node {u} {v} l r e walk p q)
+    (round_at_node {u = u'} {v = v'} l' r' e' walk' p' q') =
+    let walked : u ≡ u' = walk_determined fs slack start way u u' valid walk walk' in
+    let next = walk_valid fs slack start way u valid walk in
+    let left : v ≡ v' =
+    round_determined next p (subst (λ x. IsRound fs slack x (way ++ Left ∷ []) v') (sym walked) p') in
+    round_determined (round_valid next p) q (subst (λ x. IsRound fs slack x (way ++ Right ∷ []) b) (sym left) q')
+
+-- a search says the size at its start
+search_before : {fs : List Expression} {slack rounds : ℕ} {start : Tree} {found : Found} →
+    IsSearch fs slack rounds start found → HasSize fs start found.before
+search_before (no_round size) = size
+search_before (last_round size round after no_less) = size
+search_before (further_round size round less more) = size
+
+-- what a search finds with one more round before it
+abbrev with_round : ℕ → Found → Found
+with_round n found = record { tree = found.tree; before = n; after = found.after; rounds = suc found.rounds }
+
+-- one round that does not lessen the size
+abbrev with_last : Tree → ℕ → ℕ → Found
+with_last u n k = record { tree = u; before = n; after = k; rounds = suc zero }
+
+-- none
+abbrev with_none : Tree → ℕ → Found
+with_none t n = record { tree = t; before = n; after = n; rounds = zero }
+
+pub search_determined : {fs : List Expression} {slack rounds : ℕ} {start : Tree} {a b : Found} → IsVtree start →
+    IsSearch fs slack rounds start a → IsSearch fs slack rounds start b → a ≡ b
+search_determined {fs} {slack} {rounds} {start} valid (no_round {n} size) (no_round {n = n'} size') =
+    ap (with_none start) (size_determined start fs n n' valid size size')
+search_determined {fs} {slack} {rounds} {start} valid (last_round {u} {n} {k} size round after no_less)
+    (last_round {u = u'} {n = n'} {k = k'} size' round' after' no_less') =
+    let same : u ≡ u' = round_determined valid round round' in
+    let sizes : k ≡ k' =
+    size_determined u' fs k k' (round_valid valid round') (subst (λ x. HasSize fs x k) same after) after' in
+    ap (λ x. with_last x n k) same ∙ ap (λ x. with_last u' x k) (size_determined start fs n n' valid size size')
+    ∙ ap (with_last u' n') sizes
+search_determined {fs} {slack} {rounds} {start} valid (last_round {u} {n} {k} size round after no_less)
+    (further_round {u = u'} {n = n'} {found = found'} size' round' less more) =
+    let same : u' ≡ u = round_determined valid round' round in
+    let sizes : found'.before ≡ k =
+    size_determined u fs found'.before k (round_valid valid round)
+    (subst (λ x. HasSize fs x found'.before) same (search_before more)) after in
+    absurd (omega (arith, sizes, no_less, less, size_determined start fs n n' valid size size'))
+search_determined {fs} {slack} {rounds} {start} valid (further_round {u} {n} {found} size round less more)
+    (last_round {u = u'} {n = n'} {k = k'} size' round' after' no_less') =
+    let same : u ≡ u' = round_determined valid round round' in
+    let sizes : found.before ≡ k' =
+    size_determined u' fs found.before k' (round_valid valid round')
+    (subst (λ x. HasSize fs x found.before) same (search_before more)) after' in
+    absurd (omega (arith, sizes, no_less', less, size_determined start fs n n' valid size size'))
+search_determined {fs} {slack} {rounds} {start} valid (further_round {u} {rounds = r} {n} {found} size round less more)
+    (further_round {u = u'} {n = n'} {found = found'} size' round' less' more') =
+    let same : u' ≡ u = round_determined valid round' round in
+    let rest : found ≡ found' =
+    search_determined (round_valid valid round) more
+    (subst (λ x. IsSearch fs slack r x found') same more') in
+    ap (λ x. with_round x found) (size_determined start fs n n' valid size size') ∙ ap (with_round n') rest

@@ -1,0 +1,115 @@
+-- The search for a vtree under which formulas have a smaller size: a walk over the arrangements of the subtrees at a
+-- node, a round of walks over all nodes, and rounds until one gains nothing.
+use Rattle.std.specs.Prelude.{◌≡◌, ℕ, zero, suc, ◌*◌, ◌/◌, ◌<◌, ◌≤◌, nat_le}
+use Rattle.std.specs.Prelude.{List, [], ◌∷◌, ◌++◌, map, Option, Some, None}
+use Rattle.std.specs.List.{AllByRecursion, take_while}
+use Rattle.sd_model.specs.Expression.{Expression}
+use Rattle.sd_model.specs.Tree.{Tree, Leaf, Node}
+use Rattle.sd_model.specs.Size.{HasSize}
+use Rattle.sd_model.specs.Moves.{moved}
+use Rattle.sd_model.specs.declared.trees.Side.{Side}
+use Rattle.sd_model.specs.declared.trees.Side.TheVariants.{Left, Right}
+use Rattle.sd_model.specs.declared.trees.Move.{Move}
+use Rattle.sd_model.specs.declared.trees.Move.TheVariants.{RotateLeft, Swap}
+
+-- ---- a walk
+
+-- a move of a walk, and the way from the node of the walk to the node that it moves
+pub record WalkMove : Type 0 where
+  pub kind : Move
+  pub below : List Side
+
+-- the node of the walk is swapped
+abbrev pub swap : WalkMove
+swap = record { kind = Swap; below = [] }
+
+-- the node of the walk is rotated to the left
+abbrev pub rotate : WalkMove
+rotate = record { kind = RotateLeft; below = [] }
+
+-- a child of it is swapped
+abbrev pub swap_child : Side → WalkMove
+swap_child side = record { kind = Swap; below = side ∷ [] }
+
+-- The moves of a walk, by the form of the subtree at its node. Where that has three subtrees, they lead through their
+-- other eleven arrangements.
+abbrev pub walk_moves : Tree → List WalkMove
+walk_moves (Leaf x) = []
+walk_moves (Node (Node a b) c) =
+    swap ∷ rotate ∷ swap ∷ rotate ∷ swap ∷ swap_child Right ∷ rotate ∷ swap ∷ rotate ∷ swap ∷ rotate ∷ []
+walk_moves (Node (Leaf x) (Node b c)) =
+    rotate ∷ swap ∷ rotate ∷ swap ∷ rotate ∷ swap_child Left ∷ swap ∷ rotate ∷ swap ∷ rotate ∷ swap ∷ []
+walk_moves (Node (Leaf x) (Leaf y)) = swap ∷ []
+
+-- the subtree at the end of a path
+abbrev pub subtree_at : Tree → List Side → Option Tree
+subtree_at t [] = Some t
+subtree_at (Leaf x) (side ∷ path) = None
+subtree_at (Node l r) (Left ∷ path) = subtree_at l path
+subtree_at (Node l r) (Right ∷ path) = subtree_at r path
+
+-- from a tree, the moves at the node at the end of a path lead through these trees
+abbrev pub LeadThrough : Tree → List Side → List WalkMove → List Tree → Type 0
+LeadThrough t path [] states = states ≡ []
+LeadThrough t path (m ∷ ms) [] = ⊥
+LeadThrough t path (m ∷ ms) (u ∷ us) = (moved m.kind t (path ++ m.below) ≡ Some u) × LeadThrough u path ms us
+
+-- a tree and the size that the formulas have under it
+pub record State : Type 0 where
+  pub tree : Tree
+  pub size : ℕ
+
+-- the first one of least size
+pub record IsFirstLeast (states : List State) (least : State) : Type 0 where
+  pub before : List State
+  pub behind : List State
+  pub parts : states ≡ before ++ least ∷ behind
+  pub larger : AllByRecursion (λ s. least.size < s.size) before
+  pub not_smaller : AllByRecursion (λ s. least.size ≤ s.size) behind
+
+-- the states from the first on whose size is within a bound
+abbrev pub within : ℕ → List State → List State
+within bound states = take_while (λ s. nat_le s.size bound) states
+
+-- A walk at the node at the end of a path: it stops before the first state whose size passes so many hundredths of the
+-- size at its start, and goes back to the first state of least size, the start included.
+pub record IsWalk (fs : List Expression) (slack : ℕ) (t : Tree) (path : List Side) (u : Tree) : Type 0 where
+  pub here : Tree
+  pub at : subtree_at t path ≡ Some here
+  pub size : ℕ
+  pub start : HasSize fs t size
+  pub states : List State
+  pub through : LeadThrough t path (walk_moves here) (map (λ s. s.tree) states)
+  pub sizes : AllByRecursion (λ s. HasSize fs s.tree s.size) states
+  pub least : State
+  pub first : IsFirstLeast (record { tree = t; size = size } ∷ within (size * slack / 100) states) least
+  pub end : least.tree ≡ u
+
+-- ---- rounds and searches
+
+-- A round at the node at the end of a path: at a leaf nothing is done; else a walk there, then a round at the left
+-- child, and then one at the right child, each in the tree that the one before left.
+pub data IsRound (fs : List Expression) (slack : ℕ) : Tree → List Side → Tree → Type 0 where
+  round_at_leaf : {t : Tree} {path : List Side} (x : ℕ) → subtree_at t path ≡ Some (Leaf x) →
+      IsRound fs slack t path t
+  round_at_node : {t u v w : Tree} {path : List Side} (l r : Tree) → subtree_at t path ≡ Some (Node l r) →
+      IsWalk fs slack t path u → IsRound fs slack u (path ++ Left ∷ []) v →
+      IsRound fs slack v (path ++ Right ∷ []) w → IsRound fs slack t path w
+
+-- what a search comes to: the tree, the sizes at its start and its end, and the number of rounds done
+pub record Found : Type 0 where
+  pub tree : Tree
+  pub before : ℕ
+  pub after : ℕ
+  pub rounds : ℕ
+
+-- A search of at most so many rounds: it ends with the first round that does not lessen the size, which counts as done.
+pub data IsSearch (fs : List Expression) (slack : ℕ) : ℕ → Tree → Found → Type 0 where
+  no_round : {t : Tree} {n : ℕ} → HasSize fs t n →
+      IsSearch fs slack zero t (record { tree = t; before = n; after = n; rounds = zero })
+  last_round : {t u : Tree} {rounds n k : ℕ} → HasSize fs t n → IsRound fs slack t [] u → HasSize fs u k → n ≤ k →
+      IsSearch fs slack (suc rounds) t (record { tree = u; before = n; after = k; rounds = suc zero })
+  further_round : {t u : Tree} {rounds n : ℕ} {found : Found} → HasSize fs t n → IsRound fs slack t [] u →
+      found.before < n → IsSearch fs slack rounds u found →
+      IsSearch fs slack (suc rounds) t
+      (record { tree = found.tree; before = n; after = found.after; rounds = suc found.rounds })

@@ -1,0 +1,23 @@
+//! Laws of the search: functions whose contracts state a fact, and that do nothing.
+
+ghost use Rattle.std.specs.Prelude.{◌≡◌, ℕ, List, ◌∷◌, [], map};
+ghost use Rattle.sd_model.specs.Expression.{Expression};
+ghost use Rattle.sd_model.specs.Tree.{Tree, Node, IsVtree};
+ghost use Rattle.sd_search.specs.Search.{IsSearch, Found, walk_moves, LeadThrough};
+
+/// A search from a vtree has one result: the tree, both sizes and the number of rounds are functions of the formulas,
+/// the slack, the number of rounds asked for and the vtree.
+#[tactic(auto, using(crate::proofs::Determined::search_determined))]
+pub fn one_result()
+    ensures { (fs : List Expression) (slack rounds : ℕ) (t : Tree) (a b : Found) → IsVtree t
+        → IsSearch fs slack rounds t a → IsSearch fs slack rounds t b → a ≡ b }
+{}
+
+/// From two subtrees on the left a walk leads through the other eleven arrangements of the three subtrees.
+#[tactic(auto, using(crate::proofs::WorkedSearch::from_left))]
+pub fn eleven_arrangements()
+    ensures { (a b c : Tree) → LeadThrough (Node (Node a b) c) [] (walk_moves (Node (Node a b) c))
+        (Node c (Node a b) ∷ Node (Node c a) b ∷ Node b (Node c a) ∷ Node (Node b c) a
+        ∷ Node a (Node b c) ∷ Node a (Node c b) ∷ Node (Node a c) b ∷ Node b (Node a c)
+        ∷ Node (Node b a) c ∷ Node c (Node b a) ∷ Node (Node c b) a ∷ []) }
+{}
