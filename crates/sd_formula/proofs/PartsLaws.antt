@@ -68,6 +68,7 @@ goes_nowhere kind v o = elim (cases_Bool (has_begun o)) [
   | inr fresh ↦ rw fresh (ap done (sym (not_begun o fresh)))
 ]
 
+-- where a mark might stand, there is none
 unmarked : (a c : Bool) → (a && not c) ≡ false → c ≡ false → a ≡ false
 unmarked true true h fresh = absurd cc
 unmarked true false h fresh = absurd cc

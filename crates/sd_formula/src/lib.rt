@@ -1,5 +1,5 @@
-//! Propositional formulas as groups of literals: the clauses of a CNF or the terms of a DNF,
-//! and their texts in the format of DIMACS.
+//! Propositional formulas as groups of literals: the clauses and exclusive groups of a CNF or the
+//! terms of a DNF, and their texts in the format of DIMACS.
 #![tactic(auto)]
 
 mod body;
