@@ -1,10 +1,11 @@
 -- The literals of a group, joined in another order and in parts.
-use Rattle.std.proofs.Common.{◌≡◌, ◌≢◌, ℕ, zero, suc, Bool, true, false, not, ◌&&◌, ◌||◌, List, [], ◌∷◌, ◌++◌, map}
+use Rattle.std.proofs.Common.{◌≡◌, ℕ, zero, suc, ◌+◌, cond, arith, Bool, true, false, not, ◌&&◌, ◌||◌, List, [], ◌∷◌, ◌++◌, map}
 use Rattle.std.proofs.Common.{take, drop, length, slice_range, ℤ, refl, sym, ap, subst, ◌∙◌}
 use Rattle.std.proofs.lemmas.List.{take_rest}
-use Rattle.std.specs.List.{list_all, list_any, AllByRecursion}
+use Rattle.std.specs.List.{list_all, list_any, sum_by, AllByRecursion}
 use Rattle.std.specs.List.Sorted.{IsPermutation}
-use Rattle.std.proofs.lemmas.List.Sorted.{list_any-IsPermutation}
+use Rattle.std.proofs.lemmas.List.Sorted.{list_any-IsPermutation, sum_by-IsPermutation}
+use Rattle.std.proofs.lemmas.List.Sums.{sum_by-cons}
 use Rattle.sd_model.specs.declared.trees.Operation.{Operation}
 use Rattle.sd_model.specs.declared.trees.Operation.TheVariants.{And, Or, Xor}
 use Rattle.sd_model.specs.Assignment.{literal_holds}
@@ -38,7 +39,7 @@ taken_dropped zero xs = refl
 taken_dropped (suc n) [] = refl
 taken_dropped (suc n) (x ∷ xs) = ap (λ l. x ∷ l) (taken_dropped n xs)
 
-joined_parts : {X : Type 0} (o : Operation) (p : X → Bool) (n : ℕ) (xs : List X) →
+pub joined_parts : {X : Type 0} (o : Operation) (p : X → Bool) (n : ℕ) (xs : List X) →
     combine o (joined o p (take n xs)) (joined o p (drop n xs)) ≡ joined o p xs
 joined_parts o p n xs = sym (joined_append o p (take n xs) (drop n xs)) ∙ ap (joined o p) (taken_dropped n xs)
 
@@ -57,14 +58,35 @@ all_by_any p (x ∷ xs) = ap (λ b. p x && b) (all_by_any p xs) ∙ go (p x) (li
     go true b = refl
     go false b = refl
 
--- clauses and terms have the same value in another order
-pub joined_permuted : {X : Type 0} (o : Operation) → o ≢ Xor → (p : X → Bool) (xs ys : List X) → IsPermutation xs ys →
+-- a number is odd
+abbrev odd : ℕ → Bool
+odd zero = false
+odd (suc n) = not (odd n)
+
+-- the exclusive or is that an odd number of values are true
+joined_odd : {X : Type 0} (p : X → Bool) (xs : List X) → joined Xor p xs ≡ odd (sum_by (λ x. cond (p x) 1 0) xs)
+joined_odd p [] = refl
+joined_odd p (x ∷ xs) =
+    ap (combine Xor (p x)) (joined_odd p xs) ∙ go (p x) (sum_by (λ y. cond (p y) 1 0) xs)
+    ∙ ap odd (sym (sum_by-cons (λ y. cond (p y) 1 0) x xs))
+  where
+    go : (b : Bool) (n : ℕ) → combine Xor b (odd n) ≡ odd (cond b 1 0 + n)
+    go true n = let more : suc n ≡ 1 + n = omega arith in ap odd more
+    go false n = let same : n ≡ 0 + n = omega arith in ap odd same
+
+exclusive_permuted : {X : Type 0} (p : X → Bool) (xs ys : List X) → IsPermutation xs ys →
+    joined Xor p xs ≡ joined Xor p ys
+exclusive_permuted p xs ys h =
+    joined_odd p xs ∙ ap odd (sym (sum_by-IsPermutation (λ x. cond (p x) 1 0) xs ys h)) ∙ sym (joined_odd p ys)
+
+-- values are joined to the same in another order
+pub joined_permuted : {X : Type 0} (o : Operation) (p : X → Bool) (xs ys : List X) → IsPermutation xs ys →
     joined o p xs ≡ joined o p ys
-joined_permuted And other p xs ys h =
+joined_permuted And p xs ys h =
     sym (all_joined p xs) ∙ all_by_any p xs ∙ ap not (list_any-IsPermutation (λ x. not (p x)) xs ys h)
     ∙ sym (all_by_any p ys) ∙ all_joined p ys
-joined_permuted Or other p xs ys h = sym (any_joined p xs) ∙ list_any-IsPermutation p xs ys h ∙ any_joined p ys
-joined_permuted Xor other p xs ys h = absurd (other refl)
+joined_permuted Or p xs ys h = sym (any_joined p xs) ∙ list_any-IsPermutation p xs ys h ∙ any_joined p ys
+joined_permuted Xor p xs ys h = exclusive_permuted p xs ys h
 
 -- ---- the literals with their positions
 
@@ -78,15 +100,15 @@ are_placed v xs placed all h = go placed (all_permuted (IsLiteral v) xs (map lit
     go (e ∷ l) a = (a.0, go l a.1)
 
 -- and joined they have the value of the group
-pub placed_joined : (t : Table) (o : Operation) → o ≢ Xor → (xs : List ℤ) (placed : List (ℕ × ℤ)) (c : ℕ) →
+pub placed_joined : (t : Table) (o : Operation) (xs : List ℤ) (placed : List (ℕ × ℤ)) (c : ℕ) →
     IsPermutation xs (map literal_of_place placed) →
     HasAnswer t (λ a. joined o (λ e. literal_holds a (literal_of_place e)) placed) c →
     HasAnswer t (λ a. joined o (literal_holds a) xs) c
-placed_joined t o other xs placed c h =
+placed_joined t o xs placed c h =
     answer_same t (λ a. joined o (λ e. literal_holds a (literal_of_place e)) placed)
     (λ a. joined o (literal_holds a) xs) c
     (λ a. sym (joined_map o (literal_holds a) literal_of_place placed)
-    ∙ sym (joined_permuted o other (literal_holds a) xs (map literal_of_place placed) h))
+    ∙ sym (joined_permuted o (literal_holds a) xs (map literal_of_place placed) h))
 
 -- the value of such literals, joined
 abbrev pub placed_value : Operation → List (ℕ × ℤ) → List Bool → Bool

@@ -1,6 +1,7 @@
 pub mod Joining
 pub mod Grouping
 pub mod OnePass
+pub mod Parities
 pub mod Holding
 pub mod Kept
 pub mod Totals

@@ -34,11 +34,11 @@ group_joined : (kind : Kind) (g : List Bool) (xs : List ℤ) (placed : List (ℕ
 group_joined Cnf g xs placed h =
     any_joined (λ e. literal_holds g (literal_of_place e)) placed
     ∙ sym (joined_map Or (literal_holds g) literal_of_place placed)
-    ∙ sym (joined_permuted Or (λ same. absurd cc) (literal_holds g) xs (map literal_of_place placed) h)
+    ∙ sym (joined_permuted Or (literal_holds g) xs (map literal_of_place placed) h)
 group_joined Dnf g xs placed h =
     all_joined (λ e. literal_holds g (literal_of_place e)) placed
     ∙ sym (joined_map And (literal_holds g) literal_of_place placed)
-    ∙ sym (joined_permuted And (λ same. absurd cc) (literal_holds g) xs (map literal_of_place placed) h)
+    ∙ sym (joined_permuted And (literal_holds g) xs (map literal_of_place placed) h)
 
 -- a node joined with such a group is joined with its literals
 pub literals_joined : (old new : Table) (kind : Kind) (o : Operation) (a : ℕ) (xs : List ℤ) (placed : List (ℕ × ℤ))

@@ -1,5 +1,5 @@
 -- Truth values joined by a connective, and the connectives of a formula in groups.
-use Rattle.std.specs.Prelude.{ℕ, ℤ, Bool, true, false, List, [], ◌∷◌}
+use Rattle.std.specs.Prelude.{ℕ, ℤ, Bool, true, false, not, List, [], ◌∷◌}
 use Rattle.std.specs.List.{AllByRecursion}
 use Rattle.sd_model.specs.declared.trees.Operation.{Operation}
 use Rattle.sd_model.specs.declared.trees.Operation.TheVariants.{And, Or, Xor}
@@ -45,3 +45,8 @@ ArePlaced v placed = AllByRecursion (λ (e : ℕ × ℤ). IsLiteral v (literal_o
 pub record JoinsLiterals (old new : Table) (kind : Kind) (a : ℕ) (literals : List ℤ) (c : ℕ) : Type 0 where
   pub each : (x : Diagram) → ShowsCanonical old a x → HasAnswer new (λ assignment. combine (outer kind)
       (meaning x assignment) (joined (inner kind) (literal_holds assignment) literals)) c
+
+-- one node has the value f, and one the opposite value
+pub record HasBothAnswers (t : Table) (f : List Bool → Bool) (a b : ℕ) : Type 0 where
+  pub one : HasAnswer t f a
+  pub other : HasAnswer t (λ assignment. not (f assignment)) b

@@ -1,10 +1,9 @@
 // The literals of a group, joined along the vtree, so that each join is at the lowest vtree node over what it joins and
 // makes no node that the group does not have.
-ghost use Rattle.std.specs.Prelude.{◌≡◌, ◌≢◌, ◌<◌, ◌≤◌, ℕ, length, map, IfOk, IfErr};
+ghost use Rattle.std.specs.Prelude.{◌≡◌, ◌<◌, ◌≤◌, ℕ, length, map, IfOk, IfErr};
 ghost use Rattle.std.specs.List.Sorted.{IsPermutation};
 ghost use Rattle.sd_model.specs.Tree.{leaves};
 ghost use Rattle.sd_model.specs.Assignment.{literal_holds};
-ghost use Rattle.sd_model.specs.declared.trees.Operation.TheVariants.{Xor};
 ghost use Rattle.sd_vtree.specs.Numbered.{plain_tree};
 ghost use Rattle.sd_formula.specs.Formulas.{AreLiterals};
 ghost use Rattle.sd_manager.specs.Valid.{IsTable};
@@ -14,6 +13,7 @@ ghost use Rattle.sd_apply.specs.Serving.{Serves};
 ghost use Rattle.sd_compile.specs.Joined.{joined, literal_of_place, ArePlaced};
 
 use crate::connectives::{connect, neutral_value};
+use crate::parity::parity_of;
 use sd_cache::Cache;
 use sd_manager::{Manager, NodeId};
 use sd_model::Operation;
@@ -28,7 +28,6 @@ pub(crate) fn group_node(
     operation: Operation,
     literals: &[i32],
 ) -> Result<NodeId, TakeError>
-    requires operation { operation ≢ Xor }
     requires literals { AreLiterals (leaves (plain_tree m.old.vtree)) literals.now }
     requires serves { Serves c.old m.old }
     ensures ok { IfOk result (λ node.
@@ -42,7 +41,34 @@ pub(crate) fn group_node(
     // its contract tells that the table is valid
     let _ = m.vtree();
     let placed = by_position(alloc, m, literals)?;
-    join_placed(alloc, m, c, operation, &placed)
+    join_in_order(alloc, m, c, operation, &placed)
+}
+
+// Literals in the order of their leaves, joined.
+fn join_in_order(
+    alloc: Global,
+    m: &mut Manager,
+    c: &mut Cache,
+    operation: Operation,
+    placed: &[(u32, i32)],
+) -> Result<NodeId, TakeError>
+    requires placed { ArePlaced (leaves (plain_tree m.old.vtree)) placed.now }
+    requires serves { Serves c.old m.old }
+    ensures ok { IfOk result (λ node. HasAnswer m.new
+        (λ assignment. joined operation (λ e. literal_holds assignment (literal_of_place e)) placed.now)
+        node) }
+    ensures kept { Extends m.old m.new }
+    ensures serves { Serves c.new m.new }
+    ensures rule { IfErr result (λ e. KeepsRule m.new e) }
+    ensures table { IsTable m.new }
+{
+    match operation {
+        Operation::And | Operation::Or => join_placed(alloc, m, c, operation, placed),
+        Operation::Xor => {
+            let both = parity_of(alloc, m, c, placed)?;
+            Ok(both.odd)
+        }
+    }
 }
 
 // The literals with the positions of their leaves, in the order of the leaves.
@@ -95,7 +121,7 @@ fn join_placed(
 
 // How many literals stand below the left child of the lowest vtree node over all of them, and half of them where all
 // are of one leaf.
-fn parting(m: &Manager, placed: &[(u32, i32)]) -> usize
+pub(crate) fn parting(m: &Manager, placed: &[(u32, i32)]) -> usize
     requires literals { ArePlaced (leaves (plain_tree m.now.vtree)) placed.now }
     requires several { 2 ≤ length placed.now }
     ensures at_least_one { 1 ≤ result }

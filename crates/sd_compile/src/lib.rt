@@ -8,6 +8,7 @@ mod groups;
 pub mod laws;
 mod limited;
 mod one_pass;
+mod parity;
 
 pub use compiling::{Compiling, add_group, begin, compile, finish};
 pub use connectives::connect;
