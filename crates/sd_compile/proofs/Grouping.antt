@@ -9,14 +9,14 @@ use Rattle.std.proofs.lemmas.List.Sums.{sum_by-cons}
 use Rattle.sd_model.specs.declared.trees.Operation.{Operation}
 use Rattle.sd_model.specs.declared.trees.Operation.TheVariants.{And, Or, Xor}
 use Rattle.sd_model.specs.Assignment.{literal_holds}
-use Rattle.sd_model.specs.Expression.{combine}
+use Rattle.sd_model.specs.Expression.{combine, is_odd}
 use Rattle.sd_laws.proofs.Lists.{all_permuted}
 use Rattle.sd_formula.specs.Formulas.{IsLiteral, AreLiterals}
 use Rattle.sd_manager.specs.Table.{Table}
 use Rattle.sd_apply.specs.Answers.{HasAnswer, Combines}
 use Rattle.sd_manager.specs.Making.{Extends}
 use Rattle.sd_compile.specs.Joined.{joined, neutral, literal_of_place, ArePlaced}
-use Rattle.sd_compile.proofs.Joining.{all_joined, any_joined, grouped, answer_on, answer_same, combined}
+use Rattle.sd_compile.proofs.Joining.{all_joined, any_joined, joined_map, grouped, answer_on, answer_same, combined}
 
 -- the value of none changes nothing
 neutral_first : (o : Operation) (b : Bool) → b ≡ combine o (neutral o) b
@@ -43,12 +43,6 @@ pub joined_parts : {X : Type 0} (o : Operation) (p : X → Bool) (n : ℕ) (xs :
     combine o (joined o p (take n xs)) (joined o p (drop n xs)) ≡ joined o p xs
 joined_parts o p n xs = sym (joined_append o p (take n xs) (drop n xs)) ∙ ap (joined o p) (taken_dropped n xs)
 
--- the values at what another list has
-pub joined_map : {X Y : Type 0} (o : Operation) (p : Y → Bool) (f : X → Y) (xs : List X) →
-    joined o p (map f xs) ≡ joined o (λ x. p (f x)) xs
-joined_map o p f [] = refl
-joined_map o p f (x ∷ xs) = ap (combine o (p (f x))) (joined_map o p f xs)
-
 -- all pass where none fails
 all_by_any : {X : Type 0} (p : X → Bool) (xs : List X) → list_all p xs ≡ not (list_any (λ x. not (p x)) xs)
 all_by_any p [] = refl
@@ -58,26 +52,21 @@ all_by_any p (x ∷ xs) = ap (λ b. p x && b) (all_by_any p xs) ∙ go (p x) (li
     go true b = refl
     go false b = refl
 
--- a number is odd
-abbrev odd : ℕ → Bool
-odd zero = false
-odd (suc n) = not (odd n)
-
 -- the exclusive or is that an odd number of values are true
-joined_odd : {X : Type 0} (p : X → Bool) (xs : List X) → joined Xor p xs ≡ odd (sum_by (λ x. cond (p x) 1 0) xs)
+joined_odd : {X : Type 0} (p : X → Bool) (xs : List X) → joined Xor p xs ≡ is_odd (sum_by (λ x. cond (p x) 1 0) xs)
 joined_odd p [] = refl
 joined_odd p (x ∷ xs) =
     ap (combine Xor (p x)) (joined_odd p xs) ∙ go (p x) (sum_by (λ y. cond (p y) 1 0) xs)
-    ∙ ap odd (sym (sum_by-cons (λ y. cond (p y) 1 0) x xs))
+    ∙ ap is_odd (sym (sum_by-cons (λ y. cond (p y) 1 0) x xs))
   where
-    go : (b : Bool) (n : ℕ) → combine Xor b (odd n) ≡ odd (cond b 1 0 + n)
-    go true n = let more : suc n ≡ 1 + n = omega arith in ap odd more
-    go false n = let same : n ≡ 0 + n = omega arith in ap odd same
+    go : (b : Bool) (n : ℕ) → combine Xor b (is_odd n) ≡ is_odd (cond b 1 0 + n)
+    go true n = let more : suc n ≡ 1 + n = omega arith in ap is_odd more
+    go false n = let same : n ≡ 0 + n = omega arith in ap is_odd same
 
 exclusive_permuted : {X : Type 0} (p : X → Bool) (xs ys : List X) → IsPermutation xs ys →
     joined Xor p xs ≡ joined Xor p ys
 exclusive_permuted p xs ys h =
-    joined_odd p xs ∙ ap odd (sym (sum_by-IsPermutation (λ x. cond (p x) 1 0) xs ys h)) ∙ sym (joined_odd p ys)
+    joined_odd p xs ∙ ap is_odd (sym (sum_by-IsPermutation (λ x. cond (p x) 1 0) xs ys h)) ∙ sym (joined_odd p ys)
 
 -- values are joined to the same in another order
 pub joined_permuted : {X : Type 0} (o : Operation) (p : X → Bool) (xs ys : List X) → IsPermutation xs ys →

@@ -1,6 +1,6 @@
 -- Nodes joined one after another show the joined values.
 use Rattle.std.proofs.Common.{◌≡◌, ℕ, zero, suc, ◌+◌, ◌≤◌, Bool, true, false, ◌&&◌, ◌||◌}
-use Rattle.std.proofs.Common.{List, [], ◌∷◌, ◌++◌, length, take, slice_get}
+use Rattle.std.proofs.Common.{List, [], ◌∷◌, ◌++◌, length, take, map, slice_get, Option, None, option_map}
 use Rattle.std.proofs.Common.{Some, ℤ, pos, negsuc, refl, sym, ap, subst, ◌∙◌, arith, add-one}
 use Rattle.std.specs.List.{list_all, list_any}
 use Rattle.std.specs.FinMap.{get}
@@ -8,7 +8,8 @@ use Rattle.sd_model.specs.declared.trees.Operation.{Operation}
 use Rattle.sd_model.specs.declared.trees.Operation.TheVariants.{And, Or, Xor}
 use Rattle.sd_model.specs.Assignment.{literal_holds}
 use Rattle.sd_model.specs.Diagram.{meaning}
-use Rattle.sd_model.specs.Expression.{combine, expression_value}
+use Rattle.sd_model.specs.Expression.{Group, combine, odd_hold, group_holds, expression_value}
+use Rattle.sd_model.proofs.Parity.{odd_more}
 use Rattle.sd_formula.specs.declared.formula.Kind.{Kind}
 use Rattle.sd_formula.specs.declared.formula.Kind.TheVariants.{Cnf, Dnf}
 use Rattle.sd_formula.specs.Dimacs.{Groups}
@@ -23,7 +24,7 @@ use Rattle.sd_manager.specs.Shown.{ShowsCanonical, IsNodeOf, constant_diagram}
 use Rattle.sd_manager.specs.Literals.{IsLiteralTo}
 use Rattle.sd_manager.specs.Making.{Extends}
 use Rattle.sd_apply.specs.Answers.{HasAnswer, Combines}
-use Rattle.sd_compile.specs.Joined.{joined, neutral, outer, inner, JoinsLiterals}
+use Rattle.sd_compile.specs.Joined.{joined, neutral, outer, inner, value_of_group, JoinsLiterals}
 
 -- all and any are joined
 pub all_joined : {X : Type 0} (p : X → Bool) (xs : List X) → list_all p xs ≡ joined And p xs
@@ -41,21 +42,38 @@ joined_same o p q [] same = refl
 joined_same o p q (x ∷ xs) same =
     ap (λ b. combine o b (joined o p xs)) (same x) ∙ ap (combine o (q x)) (joined_same o p q xs same)
 
+-- the values at what another list has
+pub joined_map : {X Y : Type 0} (o : Operation) (p : Y → Bool) (f : X → Y) (xs : List X) →
+    joined o p (map f xs) ≡ joined o (λ x. p (f x)) xs
+joined_map o p f [] = refl
+joined_map o p f (x ∷ xs) = ap (combine o (p (f x))) (joined_map o p f xs)
+
+-- an odd number of literals hold
+exclusive_joined : (a : List Bool) (zs : List ℤ) → joined Xor (literal_holds a) zs ≡ odd_hold a zs
+exclusive_joined a [] = refl
+exclusive_joined a (z ∷ zs) = ap (combine Xor (literal_holds a z)) (exclusive_joined a zs) ∙ sym (odd_more a z zs)
+
+-- a group of a CNF holds
+group_joined : (a : List Bool) (exclusive : Bool) (zs : List ℤ) → joined (inner Cnf exclusive) (literal_holds a) zs
+    ≡ group_holds a (record { exclusive = exclusive; literals = zs })
+group_joined a true zs = exclusive_joined a zs
+group_joined a false zs = sym (any_joined (literal_holds a) zs)
+
 -- the value of a formula, by its connectives
 pub formula_joined : (f : Groups) (assignment : List Bool)
-    → joined (outer f.kind) (λ g. joined (inner f.kind) (literal_holds assignment) g) f.groups
+    → joined (outer f.kind) (value_of_group f.kind assignment) f.groups
     ≡ expression_value (expression_of f) assignment
 formula_joined f assignment = go f.kind f.groups
   where
-    go : (kind : Kind) (groups : List (List ℤ))
-        → joined (outer kind) (λ g. joined (inner kind) (literal_holds assignment) g) groups
+    go : (kind : Kind) (groups : List Group) → joined (outer kind) (value_of_group kind assignment) groups
         ≡ expression_value (expression_of (record { kind = kind; variables = f.variables; groups = groups })) assignment
     go Cnf groups =
-        joined_same And _ _ groups (λ g. sym (any_joined (literal_holds assignment) g))
-        ∙ sym (all_joined (λ g. list_any (literal_holds assignment) g) groups)
+        joined_same And _ _ groups (λ g. group_joined assignment g.exclusive g.literals)
+        ∙ sym (all_joined (group_holds assignment) groups)
     go Dnf groups =
-        joined_same Or _ _ groups (λ g. sym (all_joined (literal_holds assignment) g))
-        ∙ sym (any_joined (λ g. list_all (literal_holds assignment) g) groups)
+        joined_same Or _ _ groups (λ g. sym (all_joined (literal_holds assignment) g.literals))
+        ∙ sym (joined_map Or (list_all (literal_holds assignment)) (λ (g : Group). g.literals) groups)
+        ∙ sym (any_joined (list_all (literal_holds assignment)) (map (λ (g : Group). g.literals) groups))
 
 -- connectives are associative, and have a neutral value
 pub grouped : (o : Operation) (a b c : Bool) → combine o a (combine o b c) ≡ combine o (combine o a b) c
@@ -150,32 +168,39 @@ take_all (y ∷ ys) (suc i) h = ap (λ l. y ∷ l) (take_all ys i (omega (arith,
 
 -- the value of the first groups
 abbrev pub front_value : Groups → ℕ → List Bool → Bool
-front_value f i assignment =
-    joined (outer f.kind) (λ group. joined (inner f.kind) (literal_holds assignment) group) (take i f.groups)
+front_value f i assignment = joined (outer f.kind) (value_of_group f.kind assignment) (take i f.groups)
+
+-- a group from its parts
+pub group_at : (o : Option Group) (exclusive : Bool) (zs : List ℤ) →
+    option_map (λ (g : Group). g.exclusive) o ≡ Some exclusive → option_map (λ (g : Group). g.literals) o ≡ Some zs →
+    o ≡ Some (record { exclusive = exclusive; literals = zs })
+group_at None exclusive zs marked listed = absurd cc
+group_at (Some g) exclusive zs marked listed =
+    ap (λ b. Some (record { exclusive = b; literals = g.literals })) (same_Some g.exclusive exclusive marked)
+    ∙ ap (λ l. Some (record { exclusive = exclusive; literals = l })) (same_Some g.literals zs listed)
 
 -- with one group more it is joined with the value of this
-front_more : (f : Groups) (i : ℕ) (g : List ℤ) → slice_get f.groups i ≡ Some g → (assignment : List Bool) →
-    combine (outer f.kind) (front_value f i assignment) (joined (inner f.kind) (literal_holds assignment) g)
+front_more : (f : Groups) (i : ℕ) (g : Group) → slice_get f.groups i ≡ Some g → (assignment : List Bool) →
+    combine (outer f.kind) (front_value f i assignment) (value_of_group f.kind assignment g)
     ≡ front_value f (i + 1) assignment
 front_more f i g at assignment =
-    sym (joined_push (outer f.kind) (λ group. joined (inner f.kind) (literal_holds assignment) group) (take i f.groups)
-    g)
-    ∙ ap (joined (outer f.kind) (λ group. joined (inner f.kind) (literal_holds assignment) group))
+    sym (joined_push (outer f.kind) (value_of_group f.kind assignment) (take i f.groups) g)
+    ∙ ap (joined (outer f.kind) (value_of_group f.kind assignment))
     (sym (ap (λ n. take n f.groups) (add-one i) ∙ take_at f.groups i g at))
 
 -- one group more
-pub group_more : (f : Groups) (old mid new : Table) (between within : Operation) (i : ℕ) (g : List ℤ) (a b c : ℕ)
-    → between ≡ outer f.kind → within ≡ inner f.kind → slice_get f.groups i ≡ Some g → Extends old mid
-    → HasAnswer old (front_value f i) a → HasAnswer mid (λ assignment. joined within (literal_holds assignment) g) b
+pub group_more : (f : Groups) (old mid new : Table) (between within : Operation) (i : ℕ) (g : Group) (a b c : ℕ)
+    → between ≡ outer f.kind → within ≡ inner f.kind g.exclusive → slice_get f.groups i ≡ Some g → Extends old mid
+    → HasAnswer old (front_value f i) a → HasAnswer mid (λ assignment. joined within (literal_holds assignment) g.literals) b
     → Combines mid new between a b c → HasAnswer new (front_value f (i + 1)) c
 group_more f old mid new between within i g a b c outside inside at kept front group combines =
     answer_same new (λ assignment. combine (outer f.kind) (front_value f i assignment)
-    (joined (inner f.kind) (literal_holds assignment) g)) (front_value f (i + 1)) c
+    (value_of_group f.kind assignment g)) (front_value f (i + 1)) c
     (front_more f i g at)
     (combined mid new (outer f.kind) (front_value f i)
-    (λ assignment. joined (inner f.kind) (literal_holds assignment) g) a b c
+    (λ assignment. value_of_group f.kind assignment g) a b c
     (answer_on old mid (front_value f i) a kept front)
-    (subst (λ o. HasAnswer mid (λ assignment. joined o (literal_holds assignment) g) b) inside group)
+    (subst (λ o. HasAnswer mid (λ assignment. joined o (literal_holds assignment) g.literals) b) inside group)
     (subst (λ o. Combines mid new o a b c) outside combines))
 
 -- the value of a prefix
@@ -185,7 +210,7 @@ prefix_joined f n = formula_joined (record f { groups = take n f.groups })
 
 -- all groups are the formula
 pub whole_prefix : (f : Groups) (n : ℕ) → length f.groups ≤ n → prefix_of f n ≡ expression_of f
-whole_prefix f n all = ap (λ (l : List (List ℤ)). expression_of (record f { groups = l })) (take_all f.groups n all)
+whole_prefix f n all = ap (λ (l : List Group). expression_of (record f { groups = l })) (take_all f.groups n all)
 
 -- a root holds a node that is one of a later table
 pub prefix_node : (f : Expression) (old mid : Table) (root a : ℕ) → Extends old mid → HoldsFormula old f root →
@@ -195,10 +220,11 @@ prefix_node f old mid root a kept h held =
     answer_on old mid (expression_value f) a kept (subst (HasAnswer old (expression_value f)) e h.shown)
 
 -- The node of a prefix with one group more.
-pub prefix_more : (f : Groups) (old mid new : Table) (between within : Operation) (i : ℕ) (g : List ℤ)
-    (root a b c : ℕ) → between ≡ outer f.kind → within ≡ inner f.kind → slice_get f.groups i ≡ Some g →
+pub prefix_more : (f : Groups) (old mid new : Table) (between within : Operation) (i : ℕ) (g : Group)
+    (root a b c : ℕ) → between ≡ outer f.kind → within ≡ inner f.kind g.exclusive → slice_get f.groups i ≡ Some g →
     Extends old mid → HoldsFormula old (prefix_of f i) root → get mid.roots root ≡ Some a →
-    HasAnswer mid (λ assignment. joined within (literal_holds assignment) g) b → Combines mid new between a b c →
+    HasAnswer mid (λ assignment. joined within (literal_holds assignment) g.literals) b →
+    Combines mid new between a b c →
     HasAnswer new (expression_value (prefix_of f (i + 1))) c
 prefix_more f old mid new between within i g root a b c outside inside at kept h held group combines =
     answer_same new (front_value f (i + 1)) (expression_value (prefix_of f (i + 1))) c (prefix_joined f (i + 1))
@@ -207,19 +233,20 @@ prefix_more f old mid new between within i g root a b c outside inside at kept h
     (prefix_node (prefix_of f i) old mid root a kept h held))
     group combines)
 
--- the same where the node is joined with the group's literals
+-- the same where the node is joined with the literals of a clause or a term
 pub prefix_passed : (f : Groups) (t new : Table) (i : ℕ) (g : List ℤ) (root a c : ℕ) →
-    slice_get f.groups i ≡ Some g → HoldsFormula t (prefix_of f i) root → get t.roots root ≡ Some a →
+    slice_get f.groups i ≡ Some (record { exclusive = false; literals = g }) → HoldsFormula t (prefix_of f i) root →
+    get t.roots root ≡ Some a →
     JoinsLiterals t new f.kind a g c → HasAnswer new (expression_value (prefix_of f (i + 1))) c
 prefix_passed f t new i g root a c at h held joins =
     let p = prefix_node (prefix_of f i) t t root a (extends_self t) h held in
     let o = outer f.kind in
     answer_same new
-    (λ s. combine o (meaning p.diagram s) (joined (inner f.kind) (literal_holds s) g))
+    (λ s. combine o (meaning p.diagram s) (joined (inner f.kind false) (literal_holds s) g))
     (expression_value (prefix_of f (i + 1))) c
-    (λ s. ap (λ v. combine o v (joined (inner f.kind) (literal_holds s) g))
+    (λ s. ap (λ v. combine o v (joined (inner f.kind false) (literal_holds s) g))
     (p.value s ∙ sym (prefix_joined f i s))
-    ∙ front_more f i g at s ∙ prefix_joined f (i + 1) s)
+    ∙ front_more f i (record { exclusive = false; literals = g }) at s ∙ prefix_joined f (i + 1) s)
     (joins.each p.diagram p.is)
 
 -- the value of no groups

@@ -1,5 +1,5 @@
 -- A node that is joined with a group in one pass.
-use Rattle.std.proofs.Common.{◌≡◌, ◌≢◌, ℕ, ℤ, Bool, List, map, sym, ap, ◌∙◌}
+use Rattle.std.proofs.Common.{◌≡◌, ◌≢◌, ℕ, ℤ, Bool, false, List, map, sym, ap, ◌∙◌}
 use Rattle.std.specs.List.{AllByRecursion}
 use Rattle.std.specs.List.Sorted.{IsPermutation}
 use Rattle.sd_model.specs.declared.trees.Operation.{Operation}
@@ -15,8 +15,8 @@ use Rattle.sd_manager.specs.Table.{Table}
 use Rattle.sd_manager.specs.Literals.{IsLiteralTo}
 use Rattle.sd_apply.specs.Group.{group_value, JoinsGroup}
 use Rattle.sd_compile.specs.Joined.{joined, outer, inner, literal_of_place, JoinsLiterals}
-use Rattle.sd_compile.proofs.Joining.{all_joined, any_joined, literal_of_tree}
-use Rattle.sd_compile.proofs.Grouping.{joined_map, joined_permuted}
+use Rattle.sd_compile.proofs.Joining.{all_joined, any_joined, joined_map, literal_of_tree}
+use Rattle.sd_compile.proofs.Grouping.{joined_permuted}
 
 -- literals of variables from 1 to v are the vtree's
 pub literals_of_tree : (v : ℕ) (xs : List ℤ) → AreLiterals v xs → AllByRecursion (IsLiteralTo v) xs
@@ -27,10 +27,10 @@ pub outer_other : (o : Operation) (kind : Kind) → o ≡ outer kind → o ≢ X
 outer_other o Cnf is same = absurd cc
 outer_other o Dnf is same = absurd cc
 
--- the value of a group in the order of its leaves
+-- the value of a clause or a term in the order of its leaves
 group_joined : (kind : Kind) (g : List Bool) (xs : List ℤ) (placed : List (ℕ × ℤ)) →
     IsPermutation xs (map literal_of_place placed) →
-    group_value (outer kind) placed g ≡ joined (inner kind) (literal_holds g) xs
+    group_value (outer kind) placed g ≡ joined (inner kind false) (literal_holds g) xs
 group_joined Cnf g xs placed h =
     any_joined (λ e. literal_holds g (literal_of_place e)) placed
     ∙ sym (joined_map Or (literal_holds g) literal_of_place placed)

@@ -1,11 +1,11 @@
 -- Truth values joined by a connective, and the connectives of a formula in groups.
-use Rattle.std.specs.Prelude.{ℕ, ℤ, Bool, true, false, not, List, [], ◌∷◌}
+use Rattle.std.specs.Prelude.{ℕ, ℤ, Bool, true, false, not, if◌then◌else◌, List, [], ◌∷◌}
 use Rattle.std.specs.List.{AllByRecursion}
 use Rattle.sd_model.specs.declared.trees.Operation.{Operation}
 use Rattle.sd_model.specs.declared.trees.Operation.TheVariants.{And, Or, Xor}
 use Rattle.sd_model.specs.Assignment.{literal_holds}
 use Rattle.sd_model.specs.Diagram.{Diagram, meaning}
-use Rattle.sd_model.specs.Expression.{combine}
+use Rattle.sd_model.specs.Expression.{Group, combine}
 use Rattle.sd_formula.specs.Formulas.{IsLiteral}
 use Rattle.sd_formula.specs.declared.formula.Kind.{Kind}
 use Rattle.sd_formula.specs.declared.formula.Kind.TheVariants.{Cnf, Dnf}
@@ -24,14 +24,19 @@ abbrev pub joined : {X : Type 0} → Operation → (X → Bool) → List X → B
 joined o p [] = neutral o
 joined o p (x ∷ xs) = combine o (p x) (joined o p xs)
 
--- what joins the groups, and what joins the literals of a group
+-- what joins the groups
 abbrev pub outer : Kind → Operation
 outer Cnf = And
 outer Dnf = Or
 
-abbrev pub inner : Kind → Operation
-inner Cnf = Or
-inner Dnf = And
+-- what joins the literals of a clause or a term, and of an exclusive group
+abbrev pub inner : Kind → Bool → Operation
+inner Cnf exclusive = if exclusive then Xor else Or
+inner Dnf exclusive = And
+
+-- the value of a group
+abbrev pub value_of_group : Kind → List Bool → Group → Bool
+value_of_group kind assignment group = joined (inner kind group.exclusive) (literal_holds assignment) group.literals
 
 -- the literal of a pair with the position of its leaf
 abbrev pub literal_of_place : ℕ × ℤ → ℤ
@@ -41,10 +46,10 @@ literal_of_place e = e.1
 abbrev pub ArePlaced : ℕ → List (ℕ × ℤ) → Type 0
 ArePlaced v placed = AllByRecursion (λ (e : ℕ × ℤ). IsLiteral v (literal_of_place e)) placed
 
--- a node of the old table, joined with the literals of a group
+-- a node of the old table, joined with the literals of a clause or a term
 pub record JoinsLiterals (old new : Table) (kind : Kind) (a : ℕ) (literals : List ℤ) (c : ℕ) : Type 0 where
   pub each : (x : Diagram) → ShowsCanonical old a x → HasAnswer new (λ assignment. combine (outer kind)
-      (meaning x assignment) (joined (inner kind) (literal_holds assignment) literals)) c
+      (meaning x assignment) (joined (inner kind false) (literal_holds assignment) literals)) c
 
 -- one node has the value f, and one the opposite value
 pub record HasBothAnswers (t : Table) (f : List Bool → Bool) (a b : ℕ) : Type 0 where

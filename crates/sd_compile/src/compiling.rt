@@ -184,7 +184,8 @@ fn next_node(
     }
 }
 
-// The same where the group is joined in one pass along the node of the prefix.
+// The same where the group is joined in one pass along the node of the prefix. An exclusive group has a node of its
+// own.
 fn next_in_one_pass(
     alloc: Global,
     m: &mut Manager,
@@ -203,8 +204,12 @@ fn next_in_one_pass(
     ensures rule { IfErr result (λ e. KeepsRule m.new e) }
     ensures table { IsTable m.new }
 {
+    let index = work.groups as usize;
+    if f.is_exclusive(index) {
+        return next_by_node(alloc, m, c, f, work);
+    }
     let prefix = m.node_of(&work.root);
-    let literals = f.group(work.groups as usize);
+    let literals = f.group(index);
     join_literals(alloc, m, c, f.kind(), prefix, literals)
 }
 
@@ -227,13 +232,9 @@ fn next_by_node(
     ensures rule { IfErr result (λ e. KeepsRule m.new e) }
     ensures table { IsTable m.new }
 {
-    let group = group_node(
-        alloc,
-        m,
-        c,
-        within_group(f.kind()),
-        f.group(work.groups as usize),
-    )?;
+    let index = work.groups as usize;
+    let within = within_group(f.kind(), f.is_exclusive(index));
+    let group = group_node(alloc, m, c, within, f.group(index))?;
     let prefix = m.node_of(&work.root);
     connect(alloc, m, c, between_groups(f.kind()), prefix, group)
 }

@@ -49,10 +49,11 @@ pub(crate) fn between_groups(kind: Kind) -> Operation
     }
 }
 
-pub(crate) fn within_group(kind: Kind) -> Operation
-    ensures { result ≡ inner kind }
+pub(crate) fn within_group(kind: Kind, exclusive: bool) -> Operation
+    ensures { result ≡ inner kind exclusive }
 {
     match kind {
+        Kind::Cnf if exclusive => Operation::Xor,
         Kind::Cnf => Operation::Or,
         Kind::Dnf => Operation::And,
     }

@@ -1,11 +1,11 @@
-use Rattle.std.proofs.Common.{◌+◌, sym, subst}
+use Rattle.std.proofs.Common.{◌≡◌, ◌+◌, false, slice_get, option_map, Some, sym, subst}
 use Rattle.std.proofs.lemmas.Result.{IfOk-weaker}
-use Rattle.sd_model.specs.Expression.{expression_value}
+use Rattle.sd_model.specs.Expression.{Group, expression_value}
 use Rattle.sd_apply.specs.Answers.{HasAnswer}
 use Rattle.sd_manager.proofs.Extending.{extends_self}
 use Rattle.sd_compile.specs.Joined.{JoinsLiterals}
 use Rattle.sd_compile.specs.Compiling.{CompiledPrefix, prefix_of, HoldsPrefix}
-use Rattle.sd_compile.proofs.Joining.{answer_node, prefix_node, prefix_passed}
+use Rattle.sd_compile.proofs.Joining.{answer_node, prefix_node, group_at, prefix_passed}
 use Rattle.sd_compile.proofs.compiling.next_in_one_pass.Goals as goal
 
 pub join_literals-requires-clause-node : goal.join_literals-requires-clause-node
@@ -27,6 +27,11 @@ returns-clause-ok c =
     subst (λ (w : CompiledPrefix). HasAnswer new (expression_value (prefix_of c.args.f.now (w.groups + 1))) r)
     c.work.view_is
     (prefix_passed c.args.f.now old new c.work.inside.groups c.group-literals.result.now c.work.inside.root
-    c.node_of-prefix.result r c.group-literals.ensures.value holds.1 c.node_of-prefix.ensures.held
+    c.node_of-prefix.result r
+    (group_at (slice_get c.args.f.now.groups c.work.inside.groups) false c.group-literals.result.now
+    (subst
+    (λ b. option_map (λ (g : Group). g.exclusive) (slice_get c.args.f.now.groups c.work.inside.groups) ≡ Some b)
+    c.if-is_exclusive.false c.is_exclusive.ensures.value) c.group-literals.ensures.value) holds.1
+    c.node_of-prefix.ensures.held
     (subst (λ k. JoinsLiterals old new k c.node_of-prefix.result c.group-literals.result.now r) c.kind.ensures
     joins))) c.join_literals.ensures.ok
