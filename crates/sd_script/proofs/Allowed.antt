@@ -5,6 +5,7 @@ use Rattle.std.proofs.Common.{Result, Ok, Err}
 use Rattle.std.specs.Prelude.{nat_lt, int_le, ℤ, pos, negsuc, unsigned_abs, slice_get, ok_or}
 use Rattle.std.specs.Prelude.{Option, Some, None}
 use Rattle.std.specs.List.{list_any, list_all, AllByRecursion}
+use Rattle.std.proofs.lemmas.List.{length-map}
 use Rattle.sd_base.specs.Words.{lines_of}
 use Rattle.sd_base.specs.Lines.{TextLine, numbered_lines_from, is_content}
 use Rattle.sd_base.specs.Reading.{◌>>=◌, ◌>>◌, fault_if}
@@ -19,7 +20,7 @@ use Rattle.sd_script.specs.Scripts.{Script, empty, number_of_word, seen, numbere
 use Rattle.sd_script.specs.Scripts.{numbers_fit, is_within}
 use Rattle.sd_script.specs.Scripts.{checked, with_phrase, with_command, with_line, after_line}
 use Rattle.sd_script.specs.Scripts.{after_lines, script_of}
-use Rattle.sd_script.proofs.Bits.{bits_fit, phrase_fits}
+use Rattle.sd_script.proofs.Bits.{lengths_fit, phrase_fits}
 use Rattle.sd_script.proofs.Seeing.{numbers_within, length_see_least}
 
 -- ---- steps of a reading that has no fault
@@ -96,13 +97,13 @@ names_same (p.Limit k) = refl
 names_same (p.Same a b) = refl
 names_same (p.Size a) = refl
 names_same (p.Value a bits) = refl
-names_same (p.Write a file) = refl
+names_same (p.Write names file) = refl
 names_same (p.Vtree file) = refl
 
 -- its files
 files_same : (q : Phrase ℕ) → files_in q ≡ reads (action_of q) ++ writes (action_of q)
 files_same (p.Load n file) = refl
-files_same (p.Write a file) = refl
+files_same (p.Write names file) = refl
 files_same (p.Vtree file) = refl
 files_same q = refl
 
@@ -114,7 +115,7 @@ variable_fits v (negsuc n) h = cc
 
 -- its numbers
 ranges : (v : ℕ) (q : Phrase ℕ)
-    → literals_fit v q ≡ true → numbers_fit v q ≡ true → bits_fit v q ≡ true → in_range v (action_of q) ≡ true
+    → literals_fit v q ≡ true → numbers_fit v q ≡ true → lengths_fit v q ≡ true → in_range v (action_of q) ≡ true
 ranges v (p.Lit n literal) l m b = l
 ranges v (p.Given n a literal) l m b = l
 ranges v (p.Forget n a x) l m b = variable_fits v x l
@@ -122,13 +123,15 @@ ranges v (p.Turn kind q) l m b = m
 ranges v (p.Minimise rounds) l m b = m
 ranges v (p.Limit k) l m b = m
 ranges v (p.Value a bits) l m b = b
+ranges v (p.Write names file) l m b = b
 ranges v q l m b = refl
 
 -- the same with numbers for words
-bits_stay : {W X : Type 0} (v : ℕ) (name file : W → X) (q : Phrase W)
-    → bits_fit v (renamed name file q) ≡ bits_fit v q
-bits_stay v name file (p.Value a bits) = refl
-bits_stay v name file q = refl
+lengths_stay : {W X : Type 0} (v : ℕ) (name file : W → X) (q : Phrase W)
+    → lengths_fit v (renamed name file q) ≡ lengths_fit v q
+lengths_stay v name file (p.Value a bits) = refl
+lengths_stay v name file (p.Write names f) = ap (is_within 1 1024) (length-map names name)
+lengths_stay v name file q = refl
 
 -- ---- a list with one more at its end
 
@@ -166,7 +169,7 @@ still_allowed v s t earlier c names files h = record {
 }
 
 -- a command that passes its tests can be done
-allowed : (v : ℕ) (s : Script) (line : ℕ) (phrase : Phrase Word) → bits_fit v phrase ≡ true
+allowed : (v : ℕ) (s : Script) (line : ℕ) (phrase : Phrase Word) → lengths_fit v phrase ≡ true
     → Passes v s.commands (numbered_phrase (seen s phrase) phrase)
     → IsAllowed v (seen s phrase) s.commands
     (record { line = line; action = action_of (numbered_phrase (seen s phrase) phrase) })
@@ -181,12 +184,12 @@ allowed v s line phrase bits h =
       free = h.free;
       unwritten = h.unwritten;
       ranges =
-          ranges v q h.literals h.numbers (bits_stay v (number_of_word t.names) (number_of_word t.files) phrase ∙ bits);
+          ranges v q h.literals h.numbers (lengths_stay v (number_of_word t.names) (number_of_word t.files) phrase ∙ bits);
     }
 
 -- a script with one more command
 more : (v : ℕ) (s : Script) (line : ℕ) (phrase : Phrase Word)
-    → bits_fit v phrase ≡ true → IsScript v s
+    → lengths_fit v phrase ≡ true → IsScript v s
     → Passes v s.commands (numbered_phrase (seen s phrase) phrase)
     → IsScript v (record (seen s phrase) {
       commands = with_command s.commands line (numbered_phrase (seen s phrase) phrase);

@@ -1,6 +1,7 @@
 pub mod Ascii
 pub mod TableLaws
 pub mod Marking
+pub mod Writing
 pub mod Seeing
 pub mod Ahead
 pub mod Bits

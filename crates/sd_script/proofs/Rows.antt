@@ -112,7 +112,7 @@ freed : script_of 2 (codes "lit a 1\ndrop a\nlit b 1\nlit a -2\nwrite a in\n") �
       ∷ record { line = 2; action = Drop 0 }
       ∷ record { line = 3; action = Lit 1 (pos 1) }
       ∷ record { line = 4; action = Lit 0 (negsuc 1) }
-      ∷ record { line = 5; action = Write 0 0 }
+      ∷ record { line = 5; action = Write (0 ∷ []) 0 }
       ∷ [];
   names = codes "a" ∷ codes "b" ∷ [];
   files = codes "in" ∷ [];
@@ -136,9 +136,31 @@ compared = refl
 
 -- a file may be loaded and written, and has one number
 loaded_and_written : script_of 2 (codes "load a f\nwrite a f\n") ≡ Ok (record {
-  commands = record { line = 1; action = Load 0 0 } ∷ record { line = 2; action = Write 0 0 } ∷ [];
+  commands = record { line = 1; action = Load 0 0 } ∷ record { line = 2; action = Write (0 ∷ []) 0 } ∷ [];
   names = codes "a" ∷ [];
   files = codes "f" ∷ [];
 })
 unfolding script_of see number_of_word
 loaded_and_written = refl
+
+-- the names of a write stand in its order, one as often as it is named
+written_together : script_of 2 (codes "lit a 1\nlit b 2\nwrite b a b f\n") ≡ Ok (record {
+  commands = record { line = 1; action = Lit 0 (pos 1) }
+      ∷ record { line = 2; action = Lit 1 (pos 2) }
+      ∷ record { line = 3; action = Write (1 ∷ 0 ∷ 1 ∷ []) 0 }
+      ∷ [];
+  names = codes "a" ∷ codes "b" ∷ [];
+  files = codes "f" ∷ [];
+})
+unfolding script_of see number_of_word
+written_together = refl
+
+-- a write has a name
+no_name : script_of 2 (codes "write f\n") ≡ Err (BadLine 1)
+unfolding script_of see number_of_word
+no_name = refl
+
+-- each name of a write is bound
+one_unknown : script_of 2 (codes "lit a 1\nwrite a b f\n") ≡ Err (NameUnknown 2)
+unfolding script_of see number_of_word
+one_unknown = refl

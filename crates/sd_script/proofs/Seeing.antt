@@ -1,13 +1,15 @@
 -- The numbers of the words of a command, and how many words there are.
 use Rattle.std.proofs.Common.{◌≡◌, ℕ, ◌+◌, ◌<◌, ◌≤◌, Bool, true, false, List, [], ◌∷◌, ◌++◌, length}
-use Rattle.std.proofs.Common.{refl, ap, arith, if◌then◌else◌, length-append}
+use Rattle.std.proofs.Common.{refl, ap, sym, ◌∙◌, map, take, get_or, arith, if◌then◌else◌, length-append}
+use Rattle.std.proofs.lemmas.List.{map-append}
+use Rattle.std.proofs.lemmas.Grind.{take_at_read}
 use Rattle.std.specs.Prelude.{bytes_eq}
 use Rattle.std.specs.List.{list_any, position_or_len, AllByRecursion}
 use Rattle.sd_script.specs.Phrases as phrases
 use Rattle.sd_script.specs.Phrases.{Phrase, Word, names_in, files_in, Load, Write, Vtree}
 use Rattle.sd_script.specs.Scripts.{Script, see, see_all, number_of_word, seen, numbered_phrase}
 use Rattle.sd_script.specs.Steps.{HasNamesIn, HasRoom}
-use Rattle.sd_script.proofs.TableLaws.{has_see, has_see_other}
+use Rattle.sd_script.proofs.TableLaws.{has_see, has_see_other, number_see_other}
 
 -- an index that is there is within
 index_within : {X : Type 0} (p : X → Bool) (xs : List X)
@@ -49,6 +51,89 @@ numbers_within_two : (words : List Word) (a b : Word)
     (number_of_word (see (see words a) b) a ∷ number_of_word (see (see words a) b) b ∷ [])
 numbers_within_two words a b = (within_two words a b, (within_one (see words a) b, tt))
 
+-- a word that is there stays, with more of them
+pub has_see_all : (words more : List Word) (w : Word) → list_any (bytes_eq w) words ≡ true
+    → list_any (bytes_eq w) (see_all words more) ≡ true
+has_see_all words [] w h = h
+has_see_all words (m ∷ more) w h = has_see_all (see words m) more w (has_see_other words w m h)
+
+-- words that were seen are there
+pub all_seen : (words more : List Word)
+    → AllByRecursion (λ w. list_any (bytes_eq w) (see_all words more) ≡ true) more
+all_seen words [] = tt
+all_seen words (m ∷ more) =
+    (has_see_all (see words m) more m (has_see words m), all_seen (see words m) more)
+
+-- the numbers of words that are there
+all_within : (words some : List Word) → AllByRecursion (λ w. list_any (bytes_eq w) words ≡ true) some
+    → AllByRecursion (λ n. n < length words) (map (number_of_word words) some)
+all_within words [] h = tt
+all_within words (w ∷ some) h = (within words w h.0, all_within words some h.1)
+
+-- of many
+numbers_within_all : (words more : List Word)
+    → AllByRecursion (λ n. n < length (see_all words more)) (map (number_of_word (see_all words more)) more)
+numbers_within_all words more = all_within (see_all words more) more (all_seen words more)
+
+-- words that are there keep their numbers, with one more
+all_stay : (words some : List Word) (x : Word) → AllByRecursion (λ w. list_any (bytes_eq w) words ≡ true) some
+    → map (number_of_word (see words x)) some ≡ map (number_of_word words) some
+all_stay words [] x h = refl
+all_stay words (w ∷ some) x h =
+    ap (λ n. n ∷ map (number_of_word (see words x)) some) (number_see_other words w x h.0)
+    ∙ ap (λ ns. number_of_word words w ∷ ns) (all_stay words some x h.1)
+
+-- the words with more of them, one at a time
+pub see_all_more : (words more : List Word) (x : Word)
+    → see_all words (more ++ x ∷ []) ≡ see (see_all words more) x
+see_all_more words [] x = refl
+see_all_more words (m ∷ more) x = see_all_more (see words m) more x
+
+-- the numbers of words that were seen, with one more
+pub numbers_more : (words more : List Word) (x : Word)
+    → map (number_of_word (see (see_all words more) x)) (more ++ x ∷ [])
+    ≡ map (number_of_word (see_all words more)) more ++ number_of_word (see (see_all words more) x) x ∷ []
+numbers_more words more x =
+    map-append (number_of_word (see (see_all words more) x)) more (x ∷ [])
+    ∙ ap (λ ns. ns ++ number_of_word (see (see_all words more) x) x ∷ [])
+    (all_stay (see_all words more) more x (all_seen words more))
+
+-- ---- words that are numbered one after another, by their references
+
+module _ {R : Type 0} (view : R → Word) where
+  -- the words up to one more place
+  up_to_next : (refs : List R) (i : ℕ) (d : R) → i < length refs
+      → map view (take (i + 1) refs) ≡ map view (take i refs) ++ view (get_or refs i d) ∷ []
+  up_to_next refs i d h =
+      ap (map view) (take_at_read refs i d h).1 ∙ map-append view (take i refs) (get_or refs i d ∷ [])
+
+  -- what the table has after the word at that place
+  pub seen_more : (old t u : List Word) (refs : List R) (i : ℕ) (d : R) → i < length refs
+      → t ≡ see_all old (map view (take i refs)) → u ≡ see t (view (get_or refs i d))
+      → u ≡ see_all old (map view (take (i + 1) refs))
+  seen_more old t u refs i d h e f =
+      f ∙ ap (λ l. see l (view (get_or refs i d))) e
+      ∙ sym (see_all_more old (map view (take i refs)) (view (get_or refs i d)))
+      ∙ ap (see_all old) (sym (up_to_next refs i d h))
+
+  -- and the numbers that were given
+  pub numbered_more : (old t u : List Word) (refs : List R) (i : ℕ) (d : R) → i < length refs
+      → (before after : List ℕ) (n : ℕ)
+      → t ≡ see_all old (map view (take i refs))
+      → before ≡ map (number_of_word t) (map view (take i refs))
+      → u ≡ see t (view (get_or refs i d))
+      → n ≡ number_of_word u (view (get_or refs i d)) → after ≡ before ++ n ∷ []
+      → after ≡ map (number_of_word u) (map view (take (i + 1) refs))
+  numbered_more old t u refs i d h before after n e b f m a =
+      let w = view (get_or refs i d) in
+      let words = map view (take i refs) in
+      let whole : u ≡ see (see_all old words) w = f ∙ ap (λ l. see l w) e in
+      a ∙ ap (λ l. l ++ n ∷ []) (b ∙ ap (λ l. map (number_of_word l) words) e)
+      ∙ ap (λ k. map (number_of_word (see_all old words)) words ++ k ∷ []) (m ∙ ap (λ l. number_of_word l w) whole)
+      ∙ sym (numbers_more old words w)
+      ∙ ap (λ l. map (number_of_word l) (words ++ w ∷ [])) (sym whole)
+      ∙ ap (map (number_of_word u)) (sym (up_to_next refs i d h))
+
 -- the numbers of a phrase are those of words that were seen
 pub numbers_within : (s : Script) (p : Phrase Word) → HasNamesIn (seen s p) (numbered_phrase (seen s p) p)
 numbers_within s (phrases.Input n) = record { names = (within_one s.names n, tt); files = tt }
@@ -74,8 +159,8 @@ numbers_within s (phrases.Same a b) =
     record { names = numbers_within_two s.names a b; files = tt }
 numbers_within s (phrases.Size a) = record { names = (within_one s.names a, tt); files = tt }
 numbers_within s (phrases.Value a bits) = record { names = (within_one s.names a, tt); files = tt }
-numbers_within s (phrases.Write a f) =
-    record { names = (within_one s.names a, tt); files = (within_one s.files f, tt) }
+numbers_within s (phrases.Write names f) =
+    record { names = numbers_within_all s.names names; files = (within_one s.files f, tt) }
 numbers_within s (phrases.Vtree f) = record { names = tt; files = (within_one s.files f, tt) }
 
 -- ---- how many words there are
@@ -104,44 +189,24 @@ length_see_least words [] = omega arith
 length_see_least words (w ∷ more) =
     omega (arith, see_least words w, length_see_least (see words w) more)
 
--- a phrase has three names at most
-length_names : (words : List Word) (p : Phrase Word)
-    → length (see_all words (names_in p)) ≤ length words + 3
-length_names words (phrases.Input n) = omega (arith, length_see words n)
-length_names words (phrases.Load n f) = omega (arith, length_see words n)
-length_names words (phrases.Lit n literal) = omega (arith, length_see words n)
-length_names words (phrases.Constant n value) = omega (arith, length_see words n)
-length_names words (phrases.Binary operation n a b) =
-    omega (arith, length_see words n, length_see (see words n) a, length_see (see (see words n) a) b)
-length_names words (phrases.Not n a) =
-    omega (arith, length_see words n, length_see (see words n) a)
-length_names words (phrases.Given n a literal) =
-    omega (arith, length_see words n, length_see (see words n) a)
-length_names words (phrases.Forget n a x) =
-    omega (arith, length_see words n, length_see (see words n) a)
-length_names words (phrases.Drop a) = omega (arith, length_see words a)
-length_names words (phrases.Turn kind p) = omega arith
-length_names words (phrases.Minimise rounds) = omega arith
-length_names words (phrases.Limit k) = omega arith
-length_names words (phrases.Same a b) = omega (arith, length_see words a, length_see (see words a) b)
-length_names words (phrases.Size a) = omega (arith, length_see words a)
-length_names words (phrases.Value a bits) = omega (arith, length_see words a)
-length_names words (phrases.Write a f) = omega (arith, length_see words a)
-length_names words (phrases.Vtree f) = omega arith
+-- nor are they more than all together
+length_see_all : (words more : List Word) → length (see_all words more) ≤ length words + length more
+length_see_all words [] = omega arith
+length_see_all words (w ∷ more) = omega (arith, length_see words w, length_see_all (see words w) more)
 
--- and one file at most
-length_files : (words : List Word) (p : Phrase Word)
-    → length (see_all words (files_in p)) ≤ length words + 3
-length_files words (phrases.Load n f) = omega (arith, length_see words f)
-length_files words (phrases.Write a f) = omega (arith, length_see words f)
-length_files words (phrases.Vtree f) = omega (arith, length_see words f)
-length_files words p = omega arith
+-- a phrase has one file at most
+one_file : (p : Phrase Word) → length (files_in p) ≤ 1
+one_file (phrases.Load n f) = omega arith
+one_file (phrases.Write names f) = omega arith
+one_file (phrases.Vtree f) = omega arith
+one_file p = omega arith
 
 -- there is room after one more line
-pub room_seen : (n : ℕ) (s : Script) (p : Phrase Word) → HasRoom n s → HasRoom (n + 1) (seen s p)
-room_seen n s p h = record {
-  names = omega (arith, length_names s.names p, h.names);
-  files = omega (arith, length_files s.files p, h.files);
+pub room_seen : (n : ℕ) (s : Script) (p : Phrase Word) → length (names_in p) ≤ 1024
+    → HasRoom n s → HasRoom (n + 1) (seen s p)
+room_seen n s p few h = record {
+  names = omega (arith, length_see_all s.names (names_in p), few, h.names);
+  files = omega (arith, length_see_all s.files (files_in p), one_file p, h.files);
 }
 
 -- ---- the same, of scripts that are equal
@@ -153,9 +218,10 @@ numbers_within_as s t p q e f = rw (f, e) (numbers_within s p)
 
 -- there is room where no further names and files came
 pub room_as : (n : ℕ) (s t u : Script) (p : Phrase Word)
+    → length (names_in p) ≤ 1024
     → HasRoom n s → t ≡ seen s p → u.names ≡ t.names → u.files ≡ t.files → HasRoom (n + 1) u
-room_as n s t u p h e names files =
-    let room = room_seen n s p h in
+room_as n s t u p few h e names files =
+    let room = room_seen n s p few h in
     record {
       names = omega (arith, room.names, ap (λ r. length r.names) e, ap length names);
       files = omega (arith, room.files, ap (λ r. length r.files) e, ap length files);

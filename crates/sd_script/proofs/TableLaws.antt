@@ -78,7 +78,7 @@ number_see words w = by (list_any (bytes_eq w) words) refl
     by false e = index_next (bytes_eq w) words w e (same_word w)
 
 -- a word that is there keeps its number
-number_see_other : (words : List Word) (w x : Word) → list_any (bytes_eq w) words ≡ true
+pub number_see_other : (words : List Word) (w x : Word) → list_any (bytes_eq w) words ≡ true
     → number_of_word (see words x) w ≡ number_of_word words w
 unfolding see number_of_word
 number_see_other words w x h = by (list_any (bytes_eq x) words)

@@ -30,7 +30,7 @@ action_of (phrases.Limit k) = Limit k
 action_of (phrases.Same a b) = Same a b
 action_of (phrases.Size a) = Size a
 action_of (phrases.Value a bits) = Value a bits
-action_of (phrases.Write a file) = Write a file
+action_of (phrases.Write names file) = Write names file
 action_of (phrases.Vtree file) = Vtree file
 
 -- ---- what a command uses, binds, frees and writes
@@ -45,7 +45,7 @@ uses (Drop a) = a ∷ []
 uses (Same a b) = a ∷ b ∷ []
 uses (Size a) = a ∷ []
 uses (Value a bits) = a ∷ []
-uses (Write a file) = a ∷ []
+uses (Write names file) = names
 uses action = []
 
 -- the name that must be free, and is bound then
@@ -67,7 +67,7 @@ frees action = []
 
 -- the file that is written
 abbrev pub writes : Action → List ℕ
-writes (Write a file) = file ∷ []
+writes (Write names file) = file ∷ []
 writes (Vtree file) = file ∷ []
 writes action = []
 

@@ -1,9 +1,10 @@
 -- The words of a command. A phrase has its names and files as they are written, or as numbers.
 use Rattle.std.specs.Prelude.{ℕ, Bool, true, false, ◌&&◌, ◌||◌, ◌==◌, nat_le, if◌then◌else◌, codes}
 use Rattle.std.specs.Prelude.{bytes_eq}
-use Rattle.std.specs.Prelude.{List, [], ◌∷◌, length, map, Option, Some, None, option_map, ℤ}
+use Rattle.std.specs.Prelude.{◌-◌, List, [], ◌∷◌, length, take, map, Option, Some, None, option_map, ℤ}
 use Rattle.std.specs.Char.{is_ascii_alphabetic, is_ascii_alphanumeric}
-use Rattle.std.specs.List.{list_all}
+use Rattle.std.specs.List.{list_all, last_or}
+use Rattle.std.specs.Option.{option_and_then}
 use Rattle.sd_base.specs.Numbers.{natural_value, integer_value}
 use Rattle.sd_model.specs.declared.trees.Move.{Move}
 use Rattle.sd_model.specs.declared.trees.Move.TheVariants.{RotateLeft, RotateRight, Swap}
@@ -27,7 +28,7 @@ pub data Phrase (W : Type 0) : Type 0 where
   Same : W → W → Phrase W
   Size : W → Phrase W
   Value : W → List Bool → Phrase W
-  Write : W → W → Phrase W
+  Write : List W → W → Phrase W
   Vtree : W → Phrase W
 
 -- a word, as its bytes
@@ -110,7 +111,6 @@ two_words v command a b =
     else if bytes_eq command (codes "not") then pair Not (name_of a) (name_of b)
     else if bytes_eq command (codes "same") then pair Same (name_of a) (name_of b)
     else if bytes_eq command (codes "value") then pair Value (name_of a) (bits_of v b)
-    else if bytes_eq command (codes "write") then pair Write (name_of a) (file_name_of b)
     else None
 
 -- a command with three words after it
@@ -123,12 +123,30 @@ three_words command a b c =
     else if bytes_eq command (codes "forget") then triple Forget (name_of a) (name_of b) (integer_value c)
     else None
 
+-- a command with one, two or three words after it, over v variables
+abbrev pub few_words : ℕ → Word → List Word → Option (Phrase Word)
+few_words v command (a ∷ []) = one_word command a
+few_words v command (a ∷ b ∷ []) = two_words v command a b
+few_words v command (a ∷ b ∷ c ∷ []) = three_words command a b c
+few_words v command words = None
+
+-- words that are names, 1 to 1,024 of them
+abbrev pub names_of : List Word → Option (List Word)
+names_of words =
+    if (nat_le 1 (length words) && nat_le (length words) 1024) && list_all is_name words then Some words
+    else None
+
+-- a write: the words but the last are names, and the last is its file
+abbrev pub write_of : List Word → Option (Phrase Word)
+write_of words =
+    pair Write (names_of (take (length words - 1) words))
+    (option_and_then file_name_of (last_or None words))
+
 -- the command of the words of a line, over v variables
 abbrev pub phrase_of : ℕ → List Word → Option (Phrase Word)
-phrase_of v (command ∷ a ∷ []) = one_word command a
-phrase_of v (command ∷ a ∷ b ∷ []) = two_words v command a b
-phrase_of v (command ∷ a ∷ b ∷ c ∷ []) = three_words command a b c
-phrase_of v words = None
+phrase_of v [] = None
+phrase_of v (command ∷ words) =
+    if bytes_eq command (codes "write") then write_of words else few_words v command words
 
 -- ---- the names and the files of a phrase
 
@@ -149,13 +167,13 @@ names_in (Limit k) = []
 names_in (Same a b) = a ∷ b ∷ []
 names_in (Size a) = a ∷ []
 names_in (Value a bits) = a ∷ []
-names_in (Write a file) = a ∷ []
+names_in (Write names file) = names
 names_in (Vtree file) = []
 
 -- the file, if there is one
 abbrev pub files_in : {W : Type 0} → Phrase W → List W
 files_in (Load n file) = file ∷ []
-files_in (Write a file) = file ∷ []
+files_in (Write names file) = file ∷ []
 files_in (Vtree file) = file ∷ []
 files_in phrase = []
 
@@ -176,5 +194,5 @@ renamed name file (Limit k) = Limit k
 renamed name file (Same a b) = Same (name a) (name b)
 renamed name file (Size a) = Size (name a)
 renamed name file (Value a bits) = Value (name a) bits
-renamed name file (Write a f) = Write (name a) (file f)
+renamed name file (Write names f) = Write (map name names) (file f)
 renamed name file (Vtree f) = Vtree (file f)

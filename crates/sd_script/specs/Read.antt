@@ -4,7 +4,7 @@ use Rattle.std.specs.Prelude.{List, [], ◌∷◌, ◌++◌, length, take, slice
 use Rattle.std.specs.List.{list_any, list_all, AllByRecursion}
 use Rattle.sd_script.specs.declared.command.Action.{Action}
 use Rattle.sd_script.specs.declared.command.Action.TheVariants.{Load, Lit, Given, Forget, Turn}
-use Rattle.sd_script.specs.declared.command.Action.TheVariants.{Minimise, Limit, Value}
+use Rattle.sd_script.specs.declared.command.Action.TheVariants.{Minimise, Limit, Value, Write}
 use Rattle.sd_script.specs.declared.command.Command.{Command}
 use Rattle.sd_script.specs.Commands.{uses, binds, writes, has, bound, written_files}
 use Rattle.sd_script.specs.Scripts.{Script, is_within}
@@ -14,7 +14,8 @@ abbrev pub reads : Action → List ℕ
 reads (Load n file) = file ∷ []
 reads action = []
 
--- The numbers of a command are in range over the variables 1 to v, and a value has as many bits.
+-- The numbers of a command are in range over the variables 1 to v, a value has as many bits, and a
+-- write has 1 to 1,024 names.
 abbrev pub in_range : ℕ → Action → Bool
 in_range v (Lit n literal) = is_within 1 v (unsigned_abs literal)
 in_range v (Given n a literal) = is_within 1 v (unsigned_abs literal)
@@ -23,6 +24,7 @@ in_range v (Turn kind p) = nat_le p (2 * v - 2)
 in_range v (Minimise rounds) = is_within 1 100 rounds
 in_range v (Limit k) = is_within 1 268435456 k
 in_range v (Value a bits) = length bits == v
+in_range v (Write names file) = is_within 1 1024 (length names)
 in_range v action = true
 
 -- A command of a script can be done after the earlier ones: its names and files are the script's,

@@ -23,10 +23,10 @@ pub record IsPhraseInRange (v loaded : ℕ) (phrase : Phrase ℕ) : Type 0 where
   pub numbers : numbers_fit v phrase ≡ true
   pub loads : is_load (action_of phrase) ≡ true → loaded < 64
 
--- there is room for the words of a line: each line has three at most
+-- there is room for the words of a line: each line has at most 1,024 names and one file
 pub record HasRoom (line : ℕ) (script : Script) : Type 0 where
-  pub names : length script.names ≤ 3 * line
-  pub files : length script.files ≤ 3 * line
+  pub names : length script.names ≤ 1024 * line
+  pub files : length script.files ≤ line
 
 -- the numbers of lines rise, and the first of them passes n
 abbrev pub IsAhead : ℕ → List TextLine → Type 0

@@ -1,5 +1,5 @@
 -- What a phrase of the code stands for.
-use Rattle.std.specs.Prelude.{ℕ}
+use Rattle.std.specs.Prelude.{ℕ, map}
 use Rattle.sd_script.specs.declared.phrase.Phrase as code
 use Rattle.sd_script.specs.declared.phrase.Phrase.TheVariants as variants
 use Rattle.sd_script.specs.Phrases.{Phrase, Input, Load, Lit, Constant, Binary, Not, Given, Forget}
@@ -23,7 +23,7 @@ viewed view (variants.Limit k) = Limit k
 viewed view (variants.Same a b) = Same (view a) (view b)
 viewed view (variants.Size a) = Size (view a)
 viewed view (variants.Value a bits) = Value (view a) (digit_values bits.now)
-viewed view (variants.Write a file) = Write (view a) (view file)
+viewed view (variants.Write names file) = Write (map view names.items) (view file)
 viewed view (variants.Vtree file) = Vtree (view file)
 
 -- a phrase over numbers

@@ -1,5 +1,6 @@
 //! Commands.
 
+use crate::indices::Indices;
 use sd_base::Bits;
 use sd_model::{Move, Operation};
 
@@ -37,8 +38,8 @@ pub enum Action {
     Size(u32),
     /// `value A BITS`, with a truth value for each variable.
     Value(u32, Bits),
-    /// `write A FILE`.
-    Write(u32, u32),
+    /// `write A1 .. Ak FILE`, with 1 to 1,024 names.
+    Write(Indices, u32),
     /// `vtree FILE`.
     Vtree(u32),
 }

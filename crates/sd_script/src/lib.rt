@@ -4,6 +4,7 @@
 
 mod command;
 mod fault;
+mod indices;
 mod marks;
 mod number;
 mod phrase;
@@ -14,6 +15,7 @@ mod table;
 
 pub use command::{Action, Command};
 pub use fault::ScriptFault;
+pub use indices::Indices;
 pub use script::{Script, read_script};
 
 #[cfg(test)]

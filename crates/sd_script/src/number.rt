@@ -7,6 +7,7 @@ ghost use Rattle.sd_script.specs.Scripts as texts;
 ghost use Rattle.sd_script.specs.Views.{numbers_view};
 
 use crate::command::Action;
+use crate::indices::Indices;
 use crate::phrase::Phrase;
 use sd_base::Bits;
 use std::alloc::{AllocError, Global};
@@ -58,27 +59,30 @@ pub(crate) fn action_of(
     requires numbers { texts.numbers_fit variables (numbers_view phrase.now) ≡ true }
     ensures { IfOk result (λ action. action ≡ commands.action_of (numbers_view phrase.now)) }
 {
-    match *phrase {
-        Phrase::Input(n) => Ok(Action::Input(n)),
-        Phrase::Load(n, file) => Ok(Action::Load(n, file)),
-        Phrase::Lit(n, literal) => Ok(Action::Lit(n, literal as i32)),
-        Phrase::Constant(n, value) => Ok(Action::Constant(n, value)),
-        Phrase::Binary(operation, n, a, b) => Ok(Action::Binary(operation, n, a, b)),
-        Phrase::Not(n, a) => Ok(Action::Not(n, a)),
-        Phrase::Given(n, a, literal) => Ok(Action::Given(n, a, literal as i32)),
-        Phrase::Forget(n, a, x) => Ok(Action::Forget(n, a, x as u32)),
-        Phrase::Drop(a) => Ok(Action::Drop(a)),
-        Phrase::Turn(kind, position) => Ok(Action::Turn(kind, position as u32)),
-        Phrase::Minimise(rounds) => Ok(Action::Minimise(rounds as u32)),
-        Phrase::Limit(limit) => Ok(Action::Limit(limit as u32)),
-        Phrase::Same(a, b) => Ok(Action::Same(a, b)),
-        Phrase::Size(a) => Ok(Action::Size(a)),
+    match phrase {
+        Phrase::Input(n) => Ok(Action::Input(*n)),
+        Phrase::Load(n, file) => Ok(Action::Load(*n, *file)),
+        Phrase::Lit(n, literal) => Ok(Action::Lit(*n, *literal as i32)),
+        Phrase::Constant(n, value) => Ok(Action::Constant(*n, *value)),
+        Phrase::Binary(operation, n, a, b) => Ok(Action::Binary(*operation, *n, *a, *b)),
+        Phrase::Not(n, a) => Ok(Action::Not(*n, *a)),
+        Phrase::Given(n, a, literal) => Ok(Action::Given(*n, *a, *literal as i32)),
+        Phrase::Forget(n, a, x) => Ok(Action::Forget(*n, *a, *x as u32)),
+        Phrase::Drop(a) => Ok(Action::Drop(*a)),
+        Phrase::Turn(kind, position) => Ok(Action::Turn(*kind, *position as u32)),
+        Phrase::Minimise(rounds) => Ok(Action::Minimise(*rounds as u32)),
+        Phrase::Limit(limit) => Ok(Action::Limit(*limit as u32)),
+        Phrase::Same(a, b) => Ok(Action::Same(*a, *b)),
+        Phrase::Size(a) => Ok(Action::Size(*a)),
         Phrase::Value(a, digits) => {
             let bits = bits_from(alloc, digits)?;
-            Ok(Action::Value(a, bits))
+            Ok(Action::Value(*a, bits))
         }
-        Phrase::Write(a, file) => Ok(Action::Write(a, file)),
-        Phrase::Vtree(file) => Ok(Action::Vtree(file)),
+        Phrase::Write(names, file) => {
+            let indices = Indices::new(names.to_vec(alloc)?);
+            Ok(Action::Write(indices, *file))
+        }
+        Phrase::Vtree(file) => Ok(Action::Vtree(*file)),
     }
 }
 

@@ -1,13 +1,14 @@
 //! A command by the words of its line.
 
-ghost use Rattle.std.specs.Prelude.{◌≡◌, option_map};
+ghost use Rattle.std.specs.Prelude.{◌≡◌, ◌≤◌, true, length, map, option_map, IfOk};
 ghost use Rattle.std.specs.List.{list_all};
-ghost use Rattle.sd_base.specs.Views.{line_view};
+ghost use Rattle.sd_base.specs.Views.{line_view, words_left};
 ghost use Rattle.sd_script.specs.Phrases as texts;
 ghost use Rattle.sd_script.specs.Views.{viewed};
 
-use sd_base::{Line, integer, natural};
+use sd_base::{Line, Words, integer, natural};
 use sd_model::{Move, Operation};
+use std::alloc::{AllocError, Global};
 use std::str::from_utf8;
 
 // The length of the longest name, without its first letter.
@@ -16,8 +17,11 @@ const MAX_LATER: usize = 31;
 // The length of the longest word that names a file.
 const MAX_FILE: usize = 255;
 
+// The most names of a write.
+const MAX_NAMES: usize = 1024;
+
 /// A command, with its names and files as words or as numbers.
-#[derive(Clone, Copy)]
+#[derive(Drop)]
 pub(crate) enum Phrase<'a, W> {
     Input(W),
     Load(W, W),
@@ -35,17 +39,74 @@ pub(crate) enum Phrase<'a, W> {
     Size(W),
     /// The truth values are digits 0 and 1.
     Value(W, &'a [u8]),
-    Write(W, W),
+    /// The names, and the file.
+    Write(Vec<W>, W),
     Vtree(W),
 }
 
 /// The command of a line, where it is one.
-pub(crate) fn phrase_of<'a>(variables: u32, line: &Line<'a>) -> Option<Phrase<'a, &'a str>>
-    ensures { option_map (viewed (λ word. word.now)) result
-        ≡ texts.phrase_of variables (line_view line.now).words }
+pub(crate) fn phrase_of<'a>(
+    alloc: Global,
+    variables: u32,
+    line: &Line<'a>,
+) -> Result<Option<Phrase<'a, &'a str>>, AllocError>
+    ensures { IfOk result (λ found. option_map (viewed (λ word. word.now)) found
+        ≡ texts.phrase_of variables (line_view line.now).words) }
 {
     let mut words = line.words();
-    let command = words.next()?;
+    let Some(command) = words.next() else {
+        return Ok(None);
+    };
+    if command == b"write".as_slice() {
+        return write_of(alloc, words);
+    }
+    Ok(few_words(variables, command, words))
+}
+
+/// A write of the names and the file that a line has left.
+fn write_of<'a>(alloc: Global, words: Words<'a>) -> Result<Option<Phrase<'a, &'a str>>, AllocError>
+    ensures { IfOk result (λ found. option_map (viewed (λ word. word.now)) found
+        ≡ texts.write_of (words_left words.entry)) }
+{
+    let mut words = words;
+    let Some(first) = words.next() else {
+        return Ok(None);
+    };
+    let mut names = Vec::new(alloc);
+    let mut last = first;
+    for word in words {
+        if names.len() == MAX_NAMES {
+            return Ok(None);
+        }
+        let Some(name) = name_of(last) else {
+            return Ok(None);
+        };
+        names.push(name)?;
+        last = word;
+    }
+    Ok(write_with(names, last))
+}
+
+// A write of at most 1,024 names, with the last word of its line.
+fn write_with<'a>(names: Vec<&'a str>, last: &'a [u8]) -> Option<Phrase<'a, &'a str>>
+    requires few { length names.items ≤ 1024 }
+    requires names { list_all texts.is_name (map (λ word. word.now) names.items) ≡ true }
+    ensures { option_map (viewed (λ word. word.now)) result
+        ≡ texts.pair texts.Write (texts.names_of (map (λ word. word.now) names.entry.items))
+        (texts.file_name_of last.now) }
+{
+    if names.is_empty() {
+        return None;
+    }
+    Some(Phrase::Write(names, file_of(last)?))
+}
+
+/// A command with one, two or three words after it.
+fn few_words<'a>(variables: u32, command: &[u8], words: Words<'a>) -> Option<Phrase<'a, &'a str>>
+    ensures { option_map (viewed (λ word. word.now)) result
+        ≡ texts.few_words variables command.now (words_left words.entry) }
+{
+    let mut words = words;
     let first = words.next()?;
     let Some(second) = words.next() else {
         return one_word(command, first);
@@ -111,8 +172,6 @@ fn two_words<'a>(
         Some(Phrase::Same(name_of(a)?, name_of(b)?))
     } else if command == b"value".as_slice() {
         Some(Phrase::Value(name_of(a)?, bits_of(variables, b)?))
-    } else if command == b"write".as_slice() {
-        Some(Phrase::Write(name_of(a)?, file_of(b)?))
     } else {
         None
     }

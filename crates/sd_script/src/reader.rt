@@ -5,6 +5,7 @@ ghost use Rattle.std.specs.List.{list_any, list_all};
 ghost use Rattle.sd_base.specs.Views.{line_view};
 ghost use Rattle.sd_script.specs.Commands.{uses, binds, writes, has, bound, written_files, loads};
 ghost use Rattle.sd_script.specs.Commands as commands;
+ghost use Rattle.sd_script.specs.Phrases.{names_in};
 ghost use Rattle.sd_script.specs.Scripts as texts;
 ghost use Rattle.sd_script.specs.Scripts.{Gives, empty, seen, numbered_phrase, with_command};
 ghost use Rattle.sd_script.specs.Tables.{table_words, is_marked};
@@ -82,10 +83,17 @@ impl<'a> Reader<'a> {
             | Phrase::Forget(_, a, _)
             | Phrase::Drop(a)
             | Phrase::Size(a)
-            | Phrase::Value(a, _)
-            | Phrase::Write(a, _) => self.is_bound(*a),
+            | Phrase::Value(a, _) => self.is_bound(*a),
+            Phrase::Write(names, _) => self.all_bound(names),
             _ => true,
         }
+    }
+
+    // Whether the names of these numbers are bound.
+    fn all_bound(&self, numbers: &[u32]) -> bool
+        ensures { result ≡ list_all (has (bound self.now.commands.items)) numbers.now }
+    {
+        numbers.iter().all(|number| self.is_bound(*number))
     }
 
     /// Whether the name that a command binds is bound.
@@ -191,14 +199,19 @@ impl<'a> Reader<'a> {
     }
 
     /// The command over numbers; names and files that are new are put behind the others.
-    fn number(&mut self, phrase: &Phrase<'a, &'a str>) -> Result<Phrase<'a, u32>, AllocError>
-        requires { HasRoom 100000 (script_view self.old) }
+    fn number(
+        &mut self,
+        alloc: Global,
+        phrase: &Phrase<'a, &'a str>,
+    ) -> Result<Phrase<'a, u32>, AllocError>
+        requires room { HasRoom 100000 (script_view self.old) }
+        requires few { length (names_in (viewed (λ word. word.now) phrase.now)) ≤ 1024 }
         ensures seen { OnOk result (script_view self.new
             ≡ seen (script_view self.old) (viewed (λ word. word.now) phrase.now)) }
         ensures numbered { IfOk result (λ p. numbers_view p ≡ numbered_phrase (script_view self.new)
             (viewed (λ word. word.now) phrase.now)) }
     {
-        number_words(&mut self.names, &mut self.files, phrase)
+        number_words(alloc, &mut self.names, &mut self.files, phrase)
     }
 
     /// Reads a command line.
@@ -217,8 +230,10 @@ impl<'a> Reader<'a> {
         ensures room { OnOk result (HasRoom (line.now.number + 1) (script_view self.new)) }
     {
         let number = line.number;
-        let words = phrase_of(variables, line).ok_or(ScriptFault::BadLine { line: number })?;
-        let phrase = self.number(&words)?;
+        let Some(words) = phrase_of(alloc, variables, line)? else {
+            return Err(ScriptFault::BadLine { line: number });
+        };
+        let phrase = self.number(alloc, &words)?;
         self.put_checked(alloc, variables, number, &phrase)?;
         Ok(())
     }

@@ -1,9 +1,9 @@
 //! Words with their numbers, and which of them are marked.
 
 ghost use Rattle.std.specs.Prelude.{◌≡◌, ◌+◌, ◌<◌, ◌≤◌, ◌^◌, ℕ, [], ◌∷◌, false, not, ◌&&◌, ◌||◌};
-ghost use Rattle.std.specs.Prelude.{length, IfOk, OnOk, vec_len};
+ghost use Rattle.std.specs.Prelude.{length, map, IfOk, OnOk, vec_len};
 ghost use Rattle.sd_script.specs.Commands.{has};
-ghost use Rattle.sd_script.specs.Scripts.{see, number_of_word};
+ghost use Rattle.sd_script.specs.Scripts.{see, see_all, number_of_word};
 
 use indexmap::IndexSet;
 use sd_base::Name;
@@ -95,6 +95,27 @@ impl<'a> NameTable<'a> {
         let second = self.number(b)?;
         let third = self.number(c)?;
         Ok([first, second, third])
+    }
+
+    /// The numbers of words, one after another.
+    pub(crate) fn number_all(
+        &mut self,
+        alloc: Global,
+        words: &[&'a str],
+    ) -> Result<Vec<u32>, AllocError>
+        requires names { length (table_words self.old) < 2 ^ 30 }
+        requires few { length (map (λ word. word.now) words.now) ≤ 1024 }
+        ensures words { OnOk result (table_words self.new
+            ≡ see_all (table_words self.old) (map (λ word. word.now) words.now)) }
+        ensures numbers { IfOk result (λ ns. ns.items
+            ≡ map (number_of_word (table_words self.new)) (map (λ word. word.now) words.now)) }
+        ensures marks { (i : ℕ) → is_marked self.new i ≡ is_marked self.old i }
+    {
+        let mut numbers = Vec::new(alloc);
+        for word in words {
+            numbers.push(self.number(word)?)?;
+        }
+        Ok(numbers)
     }
 
     /// Whether the word of a number is marked.

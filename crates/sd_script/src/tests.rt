@@ -5,7 +5,7 @@ use std::test::Fail;
 
 #[test]
 fn each_fault(rt: HostRuntime) {
-    let rows: [(&[u8], ScriptFault); 22] = [
+    let rows: [(&[u8], ScriptFault); 26] = [
         (b"and g a b\n", ScriptFault::NameUnknown { line: 1 }),
         (b"lit a 1\nlit a 2\n", ScriptFault::NameTaken { line: 2 }),
         (b"lit a 3\n", ScriptFault::LiteralRange { line: 1 }),
@@ -40,11 +40,63 @@ fn each_fault(rt: HostRuntime) {
             b"lit a 1\ndrop a\nsize a\n",
             ScriptFault::NameUnknown { line: 3 },
         ),
+        (b"write f\n", ScriptFault::BadLine { line: 1 }),
+        (b"lit a 1\nwrite a 1b f\n", ScriptFault::BadLine { line: 2 }),
+        (
+            b"lit a 1\nwrite a b f\n",
+            ScriptFault::NameUnknown { line: 2 },
+        ),
+        (
+            b"lit a 1\nwrite a a f\nvtree f\n",
+            ScriptFault::FileTwice { line: 3 },
+        ),
     ];
     for (text, fault) in rows {
         let answer = read_script(rt.alloc(), text, 2);
         assert!(rt; matches!(answer, Err(found) if found == fault), "{text:?}");
     }
+}
+
+// Whether a command writes these names to this file.
+fn writes(action: &Action, names: &[u32], file: u32) -> bool {
+    match action {
+        Action::Write(indices, found) => indices.as_slice() == names && *found == file,
+        _ => false,
+    }
+}
+
+/// A text that writes so many names, a second one among them where there is room for it.
+fn write_of(alloc: Global, count: u32) -> Result<Vec<u8>, AllocError> {
+    let mut text = b"lit a 1\nlit b 2\nwrite".to_vec(alloc)?;
+    for number in 0..count {
+        let name = if number == 1 { b" b" } else { b" a" };
+        text.extend_from_slice(name)?;
+    }
+    text.extend_from_slice(b" f")?;
+    Ok(text)
+}
+
+#[test]
+fn the_most_names(rt: HostRuntime) -> Result<(), Fail> {
+    let rows = [
+        (0, Some(ScriptFault::BadLine { line: 3 })),
+        (1, None),
+        (1_024, None),
+        (1_025, Some(ScriptFault::BadLine { line: 3 })),
+    ];
+    for (count, wanted) in rows {
+        let text = write_of(rt.alloc(), count)?;
+        assert!(rt; text.len() < 10_000);
+        let fault = read_script(rt.alloc(), &text, 2).err();
+        assert_eq!(rt; fault, wanted, "{count}");
+    }
+    let text = write_of(rt.alloc(), 3)?;
+    assert!(rt; text.len() < 10_000);
+    let script = read_script(rt.alloc(), &text, 2)?;
+    let commands = script.commands();
+    assert_eq!(rt; commands.len(), 3);
+    assert!(rt; writes(&commands[2].action, &[0, 1, 0], 0));
+    Ok(())
 }
 
 #[test]
@@ -59,7 +111,7 @@ fn commands_of_three_words(rt: HostRuntime) -> Result<(), Fail> {
     assert!(rt; matches!(commands[0].action, Action::Lit(0, literal) if literal == 1));
     assert!(rt; matches!(commands[1].action, Action::Binary(Operation::Xor, 1, 0, 0)));
     assert!(rt; matches!(commands[2].action, Action::Given(2, 1, literal) if literal == -2));
-    assert!(rt; matches!(commands[3].action, Action::Write(2, 0)));
+    assert!(rt; writes(&commands[3].action, &[2], 0));
     assert!(rt; matches!(commands[4].action, Action::Forget(3, 2, 2)));
     Ok(())
 }
@@ -79,7 +131,7 @@ fn names_and_files_have_numbers(rt: HostRuntime) -> Result<(), Fail> {
         _ => &[],
     };
     assert_eq!(rt; bits, [true, false].as_slice());
-    assert!(rt; matches!(commands[5].action, Action::Write(1, 0)));
+    assert!(rt; writes(&commands[5].action, &[1], 0));
     assert!(rt; matches!(commands[6].action, Action::Turn(Move::RotateRight, 2)));
     Ok(())
 }
