@@ -1,17 +1,19 @@
 -- One node more is complete: what the lines of its kind bring about.
 use Rattle.std.proofs.Common.{◌≡◌, ℕ, suc, ltb, Bool, true, false, cond, List, [], ◌∷◌, ◌++◌, length}
-use Rattle.std.proofs.Common.{refl, sym, ◌∙◌, ap, subst, arith, append-nil, map, Some}
+use Rattle.std.proofs.Common.{refl, sym, ◌∙◌, ap, subst, arith, append_assoc, append-nil, map, Some}
 use Rattle.std.specs.Prelude.{codes, slice_index_or}
 use Rattle.std.specs.FinMap.{get}
 use Rattle.std.specs.List.{flat_map}
 use Rattle.std.proofs.lemmas.Bool.Decides.{nat_tests}
+use Rattle.std.proofs.lemmas.List.Concat.{flat_map-append}
 use Rattle.std.proofs.lemmas.Option.{same_Some}
 use Rattle.sd_model.specs.Diagram.{Diagram, Bottom, Top, Literal, Decomposition, Elements}
 use Rattle.sd_model.specs.Canonical.{IsElement}
-use Rattle.sd_model.specs.Size.{walk, walk_elements}
+use Rattle.sd_model.specs.Size.{walk, walk_elements, completed}
 use Rattle.sd_model.specs.Listing.{is_among, add}
-use Rattle.sd_model.specs.Text.{number_text, literal_text, line_text, index_of, node_words, element_words, sdd_text}
-use Rattle.sd_model.proofs.Adding.{completed_add}
+use Rattle.sd_model.specs.Text.{number_text, literal_text, line_text, index_of, node_words, element_words}
+use Rattle.sd_model.specs.Text.{naming_lines, roots_text}
+use Rattle.sd_model.proofs.Adding.{completed_walks}
 use Rattle.sd_laws.specs.Shown.{ShowElements}
 use Rattle.sd_manager.specs.Table.{Table}
 use Rattle.sd_manager.specs.Shown.{Shows, ShowsCanonical, HoldsDiagram, constant_diagram}
@@ -143,18 +145,24 @@ none_written t listing marks number text =
       text = text;
     }
 
--- the header and the lines are the text
-pub whole_text : (t : Table) (listing : Listing) (d : Diagram) → HasNodeLines t listing (add [] (walk d)) →
-    ((115 ∷ 100 ∷ 100 ∷ []) ++ 32 ∷ number_text listing.numbers.count ++ 10 ∷ []) ++ listing.text.items ≡ sdd_text d
-unfolding sdd_text
-whole_text t listing d w =
-    let ds : List Diagram = add [] (walk d) in
+-- the header, the lines and those that name the roots are the text
+pub whole_text : (t : Table) (listing : Listing) (roots : List Diagram) →
+    HasNodeLines t listing (add [] (flat_map walk roots)) →
+    (((115 ∷ 100 ∷ 100 ∷ []) ++ 32 ∷ number_text listing.numbers.count ++ 10 ∷ []) ++ listing.text.items)
+    ++ flat_map line_text (naming_lines (completed roots) roots) ≡ roots_text roots
+unfolding roots_text
+whole_text t listing roots w =
+    let ds : List Diagram = add [] (flat_map walk roots) in
+    let naming : List ℕ = flat_map line_text (naming_lines ds roots) in
     subst
-    (λ ns. ((115 ∷ 100 ∷ 100 ∷ []) ++ 32 ∷ number_text listing.numbers.count ++ 10 ∷ []) ++ listing.text.items
-    ≡ flat_map line_text ((codes "sdd" ∷ number_text (length ns) ∷ []) ∷ map (node_words ns) ns))
-    (sym (completed_add d))
-    (rw (w.numbered.count, w.text)
-    (ap (λ number. 115 ∷ 100 ∷ 100 ∷ 32 ∷ (number ++ 10 ∷ [] ++ diagram_lines ds))
+    (λ ns. (((115 ∷ 100 ∷ 100 ∷ []) ++ 32 ∷ number_text listing.numbers.count ++ 10 ∷ []) ++ listing.text.items)
+    ++ flat_map line_text (naming_lines ns roots)
+    ≡ flat_map line_text
+    ((codes "sdd" ∷ number_text (length ns) ∷ []) ∷ map (node_words ns) ns ++ naming_lines ns roots))
+    (sym (completed_walks roots))
+    (rw (w.numbered.count, w.text, flat_map-append line_text (map (node_words ds) ds) (naming_lines ds roots))
+    (append_assoc (115 ∷ 100 ∷ 100 ∷ 32 ∷ (number_text (length ds) ++ 10 ∷ [])) (diagram_lines ds) naming
+    ∙ ap (λ number. 115 ∷ 100 ∷ 100 ∷ 32 ∷ ((number ++ 10 ∷ []) ++ (diagram_lines ds ++ naming)))
     (sym (append-nil (number_text (length ds))))))
 
 -- the node that a root holds shows the root's diagram

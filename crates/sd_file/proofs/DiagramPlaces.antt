@@ -1,13 +1,13 @@
 -- The index of a diagram in a list in which each diagram stands once.
 use Rattle.std.proofs.Common.{◌≡◌, ◌≢◌, suc, ◌<◌, ◌≤◌, Bool, true, false, cond, ◌||◌, List, [], ◌∷◌, ◌++◌}
 use Rattle.std.proofs.Common.{map, length, slice_index_or, refl, sym, ap, ◌∙◌, subst, arith, append_assoc, append-nil}
-use Rattle.std.specs.List.{AllByRecursion}
+use Rattle.std.specs.List.{AllByRecursion, flat_map}
 use Rattle.sd_model.specs.Diagram.{Diagram}
 use Rattle.sd_model.specs.Canonical.{AreDifferent}
 use Rattle.sd_model.specs.Size.{is_same, walk, completed}
 use Rattle.sd_model.specs.Listing.{is_among, add}
 use Rattle.sd_model.specs.Text.{index_of}
-use Rattle.sd_model.proofs.Adding.{same_itself, equal_from_same, is_among_append, completed_add}
+use Rattle.sd_model.proofs.Adding.{same_itself, equal_from_same, is_among_append, completed_walks}
 use Rattle.sd_model.proofs.Blend.{or_left, or_right}
 
 -- no diagram of the list stands before itself, earlier ones included
@@ -33,9 +33,9 @@ new_add ds (e ∷ es) new =
     go there new true is = there
     go there new false is = new is
 
--- the diagrams under a diagram stand once each
-pub new_completed : (d : Diagram) → AreNew [] (completed (d ∷ []))
-new_completed d = subst (AreNew []) (sym (completed_add d)) (new_add [] (walk d) tt)
+-- the diagrams under roots stand once each
+pub new_completed : (roots : List Diagram) → AreNew [] (completed roots)
+new_completed roots = subst (AreNew []) (sym (completed_walks roots)) (new_add [] (flat_map walk roots) tt)
 
 -- an earlier diagram is none of them
 new_differ : (d : Diagram) (before ds : List Diagram) → is_among d before ≡ true → AreNew before ds

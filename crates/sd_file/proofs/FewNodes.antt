@@ -1,22 +1,23 @@
--- Under a diagram that a manager holds there are no more diagrams than codes, so its text is read back.
+-- Under diagrams that a manager shows there are no more diagrams than codes, so their text is read back.
 use Rattle.std.proofs.Common.{◌≡◌, inl, inr, ℕ, ◌+◌, ◌<◌, ◌≤◌, List, [], ◌∷◌, ◌++◌, length}
 use Rattle.std.proofs.Common.{Option, Some, None, refl, sym, ap, subst, arith}
 use Rattle.std.specs.FinMap.{get}
-use Rattle.std.specs.List.{AllByRecursion}
+use Rattle.std.specs.List.{AllByRecursion, AllZip, flat_map}
 use Rattle.std.specs.Option.{IsSome}
 use Rattle.sd_model.specs.Tree.{leaves}
 use Rattle.sd_model.specs.Diagram.{Diagram, Bottom, Top, Literal, Decomposition, Elements, End, Pair}
 use Rattle.sd_model.specs.Size.{walk, walk_elements, completed}
-use Rattle.sd_model.specs.Text.{sdd_text}
-use Rattle.sd_model.proofs.Adding.{completed_add}
+use Rattle.sd_model.specs.Text.{roots_text}
+use Rattle.sd_model.specs.Canonical.{IsCanonical}
+use Rattle.sd_model.proofs.Adding.{completed_walks}
 use Rattle.sd_vtree.specs.Numbered.{Numbered, plain_tree, or_else}
 use Rattle.sd_laws.specs.Shown.{Lookup, Shows, ShowElements}
 use Rattle.sd_laws.proofs.Codes.{one_diagram}
 use Rattle.sd_laws.proofs.Nodes.{code_of_node}
 use Rattle.sd_manager.specs.Table.{Table}
-use Rattle.sd_manager.specs.Shown.{ShowsCanonical, HoldsDiagram}
+use Rattle.sd_manager.specs.Shown.{ShowsCanonical}
 use Rattle.sd_manager.specs.Valid.{IsTable}
-use Rattle.sd_file.specs.RoundTrip.{ReadsBack}
+use Rattle.sd_file.specs.RoundTrip.{ReadsBack, IsLastOf}
 use Rattle.sd_file.proofs.DiagramPlaces.{new_completed, all_differ}
 use Rattle.sd_file.proofs.Pigeons.{HaveCodes, few_coded}
 use Rattle.sd_file.proofs.Readable.{all_append, all_add}
@@ -66,33 +67,54 @@ code_below t table c d h = elim (code_of_node t.vtree (get t.linked) table.numbe
   | inr node ↦ omega (arith, node.1, linked_below t node.0 table node.2)
 ]
 
--- the diagrams under one that is shown
-pub few_nodes : (t : Table) (c : ℕ) (d : Diagram) → IsTable t → ShowsCanonical t c d
-    → length (completed (d ∷ [])) ≤ 2050 + t.records
-few_nodes t c d table is =
+-- each diagram under some that are shown is shown
+walks_shown : (t : Table) (n : ℕ) → AreBelow t.vtree (get t.linked) n → (cs : List ℕ) (ds : List Diagram)
+    → AllZip (ShowsCanonical t) cs ds → AllByRecursion (HasCode t.vtree (get t.linked) n) (flat_map walk ds)
+walks_shown t n below [] [] h = tt
+walks_shown t n below [] (d ∷ ds) h = absurd h
+walks_shown t n below (c ∷ cs) [] h = absurd h
+walks_shown t n below (c ∷ cs) (d ∷ ds) h =
+    all_append (HasCode t.vtree (get t.linked) n) (walk d) (flat_map walk ds)
+    (walk_shown t.vtree (get t.linked) n below d c h.0.shows) (walks_shown t n below cs ds h.1)
+
+-- so there are few of them
+pub few_nodes : (t : Table) (cs : List ℕ) (ds : List Diagram) → IsTable t → AllZip (ShowsCanonical t) cs ds
+    → length (completed ds) ≤ 2050 + t.records
+few_nodes t cs ds table shown =
     let at : Lookup = get t.linked in
     let n = 2050 + t.records in
     let one = λ (c : ℕ) (d e : Diagram) (h : Shows t.vtree at c d) (k : Shows t.vtree at c e).
     one_diagram t.vtree at table.numbered d c e h k in
-    let shown = walk_shown t.vtree at n (code_below t table) d c is.shows in
-    let coded : HaveCodes (Shows t.vtree at) n (completed (d ∷ [])) =
-    subst (AllByRecursion (HasCode t.vtree at n)) (sym (completed_add d))
-    (all_add (HasCode t.vtree at n) [] (walk d) tt shown) in
-    few_coded (Shows t.vtree at) n one (completed (d ∷ [])) (all_differ [] (completed (d ∷ [])) (new_completed d)) coded
+    let coded : HaveCodes (Shows t.vtree at) n (completed ds) =
+    subst (AllByRecursion (HasCode t.vtree at n)) (sym (completed_walks ds))
+    (all_add (HasCode t.vtree at n) [] (flat_map walk ds) tt (walks_shown t n (code_below t table) cs ds shown)) in
+    few_coded (Shows t.vtree at) n one (completed ds) (all_differ [] (completed ds) (new_completed ds)) coded
 
--- a diagram that a root holds is read back from its text
-pub held_reads_back : (t : Table) (root : ℕ) (d : Diagram) → IsTable t → HoldsDiagram t root d
-    → ReadsBack (leaves (plain_tree t.vtree)) (sdd_text d) d
-held_reads_back t root d table held =
-    let within_limit = few_nodes t held.code d table held.is in
+-- diagrams that are shown are canonical
+all_canonical : (t : Table) (cs : List ℕ) (ds : List Diagram) → AllZip (ShowsCanonical t) cs ds
+    → AllByRecursion (IsCanonical (plain_tree t.vtree) 0) ds
+all_canonical t [] [] h = tt
+all_canonical t [] (d ∷ ds) h = absurd h
+all_canonical t (c ∷ cs) [] h = absurd h
+all_canonical t (c ∷ cs) (d ∷ ds) h = (h.0.canonical, all_canonical t cs ds h.1)
+
+-- their text is read back as the one that is complete last
+pub shown_read_back : (t : Table) (cs : List ℕ) (ds : List Diagram) (d : Diagram) → IsTable t
+    → AllZip (ShowsCanonical t) cs ds → IsLastOf (completed ds) d
+    → ReadsBack (leaves (plain_tree t.vtree)) (roots_text ds) d
+shown_read_back t cs ds d table shown last =
+    let within_limit = few_nodes t cs ds table shown in
     let records = table.records_fit in
     let extent = table.bounded in
     let bound = table.bound_fits in
-    reads_back (plain_tree t.vtree) d table.numbered.vtree table.numbered.within_limit held.is.canonical (omega arith)
+    reads_back (plain_tree t.vtree) ds d table.numbered.vtree table.numbered.within_limit (all_canonical t cs ds shown)
+    (omega arith) last
 
--- so is one from a text that is its own
-pub written_reads_back : (t : Table) (root : ℕ) (text : List ℕ) → IsTable t
-    → ((d : Diagram) → HoldsDiagram t root d → text ≡ sdd_text d) → (d : Diagram) → HoldsDiagram t root d
+-- and so is a text that is theirs
+pub written_reads_back : (t : Table) (cs : List ℕ) (text : List ℕ) → IsTable t
+    → ((ds : List Diagram) → AllZip (ShowsCanonical t) cs ds → text ≡ roots_text ds) → (ds : List Diagram)
+    → AllZip (ShowsCanonical t) cs ds → (d : Diagram) → IsLastOf (completed ds) d
     → ReadsBack (leaves (plain_tree t.vtree)) text d
-written_reads_back t root text table is d held =
-    subst (λ x. ReadsBack (leaves (plain_tree t.vtree)) x d) (sym (is d held)) (held_reads_back t root d table held)
+written_reads_back t cs text table is ds shown d last =
+    subst (λ x. ReadsBack (leaves (plain_tree t.vtree)) x d) (sym (is ds shown))
+    (shown_read_back t cs ds d table shown last)

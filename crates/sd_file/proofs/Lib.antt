@@ -3,6 +3,7 @@ pub mod Ascending
 pub mod Building
 pub mod Collected
 pub mod Collecting
+pub mod Comments
 pub mod Complete
 pub mod DiagramPlaces
 pub mod Distinct
@@ -28,6 +29,7 @@ pub mod RankedBelow
 pub mod Ranking
 pub mod ReadBack
 pub mod Readable
+pub mod Roots
 pub mod Rows
 pub mod Standing
 pub mod Tried

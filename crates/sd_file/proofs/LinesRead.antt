@@ -11,7 +11,8 @@ use Rattle.sd_model.specs.Text.{number_text, literal_text, line_text, element_wo
 use Rattle.sd_model.specs.Text.{index_of as index_in}
 use Rattle.sd_model.proofs.ClosedLists.{IsClosed}
 use Rattle.sd_model.proofs.Words.{number_is_word}
-use Rattle.sd_vfile.proofs.Texts.{IsFullWord, IsTextLine, numbered, full_number, natural_back, text_back}
+use Rattle.sd_vfile.proofs.Texts.{IsFullWord, IsTextLine, numbered, full_number, natural_back}
+use Rattle.sd_file.proofs.Comments.{IsComment, lines_before_comments}
 use Rattle.sd_file.specs.Reads.{Entry, entry_of, file_of_lines}
 use Rattle.sd_file.proofs.IdPlaces.{AreOwnPlaces, no_ids, next_id}
 use Rattle.sd_file.proofs.DiagramPlaces.{AreNew, index_new, index_below, index_most}
@@ -104,13 +105,14 @@ lines_read v n nodes before (d ∷ ds) earlier is small closed new fit own same 
     (subst AreOwnPlaces (sym pushed) (next_id ids own)) longer in
     rw line (rest ∙ ap Ok (append_assoc earlier (entry ∷ []) (map (written_entry nodes) ds)))
 
--- the text of all nodes, behind a header with their number
-pub text_read : (v : ℕ) (nodes : List Diagram) → 1 ≤ length nodes → length nodes < 10 ^ 18 → IsClosed [] nodes
-    → AreNew [] nodes → AllByRecursion (IsReadable v) nodes
+-- the text of all nodes, behind a header with their number and before comments
+pub text_read : (v : ℕ) (nodes : List Diagram) (comments : List (List (List ℕ))) → 1 ≤ length nodes
+    → length nodes < 10 ^ 18 → IsClosed [] nodes → AreNew [] nodes → AllByRecursion (IsReadable v) nodes
+    → AllByRecursion IsComment comments
     → file_of_lines v (content_of 99 (flat_map line_text
-    ((codes "sdd" ∷ number_text (length nodes) ∷ []) ∷ map (node_words nodes) nodes)))
+    ((codes "sdd" ∷ number_text (length nodes) ∷ []) ∷ map (node_words nodes) nodes ++ comments)))
     ≡ Ok (record { variables = v; nodes = map (written_entry nodes) nodes })
-text_read v nodes some small closed new fit =
+text_read v nodes comments some small closed new fit passed =
     let header : List (List ℕ) = codes "sdd" ∷ number_text (length nodes) ∷ [] in
     let lines = map (node_words nodes) nodes in
     let entries = map (written_entry nodes) nodes in
@@ -120,7 +122,8 @@ text_read v nodes some small closed new fit =
     record { words = (name, (full_number (length nodes) small, tt)); not_blank = refl; plain = refl } in
     let read = lines_read v 2 nodes [] nodes [] refl small closed new fit no_ids refl in
     let count : length nodes ≡ length entries = sym (length-map nodes (written_entry nodes)) in
-    ap (file_of_lines v) (text_back 99 (header ∷ lines) (head, node_lines v nodes nodes small fit))
+    ap (file_of_lines v)
+    (lines_before_comments 1 (header ∷ lines) comments (head, node_lines v nodes nodes small fit) passed)
     ∙ rw (
       natural_back (length nodes) small,
       read,

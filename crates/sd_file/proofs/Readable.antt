@@ -2,7 +2,7 @@
 use Rattle.std.proofs.Common.{◌≡◌, ◌≢◌, ℕ, ◌+◌, ◌*◌, ◌^◌, ◌<◌, ◌≤◌, Bool, true, false, cond, List, [], ◌∷◌, ◌++◌}
 use Rattle.std.proofs.Common.{map, length, slice_index_or, refl, sym, ap, ◌∙◌, subst, arith, length-append}
 use Rattle.std.proofs.Common.{append_assoc}
-use Rattle.std.specs.List.{AllByRecursion}
+use Rattle.std.specs.List.{AllByRecursion, flat_map}
 use Rattle.std.specs.List.Sorted.{IsStrictlySortedBy}
 use Rattle.std.specs.declared.cmp.Ordering.TheVariants.{Less}
 use Rattle.sd_model.specs.Tree.{Tree, Node, variables, leaves, right_base, position}
@@ -15,7 +15,7 @@ use Rattle.sd_model.specs.Canonical.{canonical_decomposition}
 use Rattle.sd_model.specs.Size.{walk, walk_elements, completed}
 use Rattle.sd_model.specs.Listing.{is_among, add}
 use Rattle.sd_model.specs.Text.{index_of}
-use Rattle.sd_model.proofs.Adding.{completed_add}
+use Rattle.sd_model.proofs.Adding.{completed_walks}
 use Rattle.sd_model.proofs.ClosedLists.{ChildrenAmong, IsClosed}
 use Rattle.sd_model.proofs.Order.{irreflexive}
 use Rattle.sd_vtree.proofs.Building.{leaves_positive, leaves_node}
@@ -99,13 +99,22 @@ walk_plain (canonical_decomposition {l = l} {r = r} {base = base} {elements = es
     (λ p s m. walk_plain (right p s m) v n back room_r))
     ((below, part.several, part.ascending), tt)
 
--- each of them once
-plain_completed : (t : Tree) (d : Diagram) (v n : ℕ) → IsCanonical t 0 d
+-- under roots that are
+walks_plain : (t : Tree) (roots : List Diagram) (v n : ℕ) → AllByRecursion (IsCanonical t 0) roots
     → AllByRecursion (λ x. (1 ≤ x) × (x ≤ v)) (variables t) → 2 * leaves t ≤ n
-    → AllByRecursion (IsPlain v n) (completed (d ∷ []))
-plain_completed t d v n k range room =
-    subst (AllByRecursion (IsPlain v n)) (sym (completed_add d))
-    (all_add (IsPlain v n) [] (walk d) tt (walk_plain k v n range (omega (arith, room))))
+    → AllByRecursion (IsPlain v n) (flat_map walk roots)
+walks_plain t [] v n k range room = tt
+walks_plain t (d ∷ roots) v n k range room =
+    all_append (IsPlain v n) (walk d) (flat_map walk roots) (walk_plain k.0 v n range (omega (arith, room)))
+    (walks_plain t roots v n k.1 range room)
+
+-- each of them once
+plain_completed : (t : Tree) (roots : List Diagram) (v n : ℕ) → AllByRecursion (IsCanonical t 0) roots
+    → AllByRecursion (λ x. (1 ≤ x) × (x ≤ v)) (variables t) → 2 * leaves t ≤ n
+    → AllByRecursion (IsPlain v n) (completed roots)
+plain_completed t roots v n k range room =
+    subst (AllByRecursion (IsPlain v n)) (sym (completed_walks roots))
+    (all_add (IsPlain v n) [] (flat_map walk roots) tt (walks_plain t roots v n k range room))
 
 -- ---- the number of elements
 
@@ -184,11 +193,11 @@ all_readable v n before (d ∷ ds) small room within_limit closed plain =
       all_readable v n (before ++ d ∷ []) ds small room (omega (arith, joined, within_limit)) closed.1 plain.1,
     )
 
--- the diagrams under one that is canonical for a tree of variables from 1 to v
-pub readable_completed : (t : Tree) (d : Diagram) (v : ℕ) → IsCanonical t 0 d
+-- the diagrams under roots that are canonical for a tree of variables from 1 to v
+pub readable_completed : (t : Tree) (roots : List Diagram) (v : ℕ) → AllByRecursion (IsCanonical t 0) roots
     → AllByRecursion (λ x. (1 ≤ x) × (x ≤ v)) (variables t) → v < 10 ^ 18 → 2 * leaves t ≤ 10 ^ 18
-    → length (completed (d ∷ [])) < 10 ^ 18 → IsClosed [] (completed (d ∷ []))
-    → AllByRecursion (IsReadable v) (completed (d ∷ []))
-readable_completed t d v k range small room within_limit closed =
-    all_readable v (10 ^ 18) [] (completed (d ∷ [])) small (omega arith) within_limit closed
-    (plain_completed t d v (10 ^ 18) k range room)
+    → length (completed roots) < 10 ^ 18 → IsClosed [] (completed roots)
+    → AllByRecursion (IsReadable v) (completed roots)
+readable_completed t roots v k range small room within_limit closed =
+    all_readable v (10 ^ 18) [] (completed roots) small (omega arith) within_limit closed
+    (plain_completed t roots v (10 ^ 18) k range room)

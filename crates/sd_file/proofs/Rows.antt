@@ -7,7 +7,7 @@ use Rattle.sd_file.specs.declared.fault.SddFault.{SddFault}
 use Rattle.sd_model.specs.Diagram.{Diagram, Bottom, Literal, Decomposition, End, Pair}
 use Rattle.sd_model.specs.Expression.{expression_value}
 use Rattle.sd_model.specs.Size.{completed}
-use Rattle.sd_model.specs.Text.{number_text, sdd_text}
+use Rattle.sd_model.specs.Text.{number_text, roots_text, sdd_text}
 use Rattle.sd_file.specs.Reads.{Constant as ConstantNode, Literal as LiteralNode, Decomposition as DecompositionNode}
 use Rattle.sd_file.specs.Reads.{File, sdd_file, expression_of_file}
 use Rattle.sd_file.specs.RoundTrip.{ReadsBack}
@@ -59,7 +59,7 @@ both = Decomposition 1 (Pair (Literal 0 1 false) Bottom (Pair (Literal 0 1 true)
 
 -- its text
 both_text : sdd_text both ≡ codes "sdd 5\nL 0 0 -1\nF 1\nL 2 0 1\nL 3 2 2\nD 4 1 2 0 1 2 3\n"
-unfolding sdd_text completed number_text both
+unfolding roots_text sdd_text completed number_text both
 both_text = refl
 
 -- which is read back

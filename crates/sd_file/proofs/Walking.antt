@@ -134,13 +134,13 @@ both_at t lists levels pairs i e all lt is =
     (All-from_recursion (BothCanBeWalked t lists levels) pairs all i e lt)
 
 -- it is the first of what is left
-pub next_left : (pairs : List (ℕ × ℕ)) (i : ℕ) (e : ℕ × ℕ) → i < length pairs → e ≡ get_or pairs i e →
+pub next_left : {X : Type 0} (pairs : List X) (i : ℕ) (e : X) → i < length pairs → e ≡ get_or pairs i e →
     drop i pairs ≡ e ∷ drop (i + 1) pairs
 next_left pairs i e lt is =
     drop-cons pairs i e lt ∙ ap (λ x. x ∷ drop (suc i) pairs) (sym is) ∙ rw add-one refl
 
 -- nothing is left at the end
-pub none_left : (pairs : List (ℕ × ℕ)) (i : ℕ) → length pairs ≤ i → drop i pairs ≡ []
+pub none_left : {X : Type 0} (pairs : List X) (i : ℕ) → length pairs ≤ i → drop i pairs ≡ []
 none_left [] zero h = refl
 none_left [] (suc i) h = refl
 none_left (e ∷ pairs) zero h = absurd (omega arith)

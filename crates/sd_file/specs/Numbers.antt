@@ -1,6 +1,6 @@
 -- The numbers that codes have, kept as marks: one more than the number, and 0 for a code with none.
 use Rattle.std.specs.Prelude.{◌≡◌, ℕ, ◌+◌, ◌-◌, ◌<◌, ◌^◌, List, [], ◌∷◌, length, slice_index_or}
-use Rattle.std.specs.Prelude.{◌==◌, if◌then◌else◌}
+use Rattle.std.specs.Prelude.{suc, codes, ◌==◌, if◌then◌else◌}
 use Rattle.std.specs.List.{sum_by}
 use Rattle.sd_model.specs.Text.{number_text}
 use Rattle.sd_file.specs.declared.numbers.Numbers.{Numbers}
@@ -39,3 +39,20 @@ abbrev pub pair_words : Numbers → List (ℕ × ℕ) → List (List ℕ)
 pair_words numbers [] = []
 pair_words numbers (e ∷ es) =
     number_text (mark_at numbers e.0 - 1) ∷ number_text (mark_at numbers e.1 - 1) ∷ pair_words numbers es
+
+-- the code has a number
+abbrev pub HasNumber : Numbers → ℕ → Type 0
+HasNumber numbers c = 0 < mark_at numbers c
+
+-- the lines `c root I ID` of the codes of roots, with I from a number on
+abbrev pub root_words : Numbers → ℕ → List ℕ → List (List (List ℕ))
+root_words numbers n [] = []
+root_words numbers n (c ∷ others) =
+    (codes "c" ∷ codes "root" ∷ number_text n ∷ number_text (mark_at numbers c - 1) ∷ [])
+    ∷ root_words numbers (suc n) others
+
+-- the lines that name the roots of two or more codes; a single one has none
+abbrev pub naming_words : Numbers → List ℕ → List (List (List ℕ))
+naming_words numbers [] = []
+naming_words numbers (c ∷ []) = []
+naming_words numbers (c ∷ second ∷ others) = root_words numbers 0 (c ∷ second ∷ others)

@@ -7,7 +7,7 @@ use Rattle.std.specs.Ordering.{nat_cmp}
 use Rattle.sd_model.specs.Diagram.{Diagram, Decomposition, Elements, End, Pair}
 use Rattle.sd_laws.specs.Shown.{ShowElements}
 use Rattle.sd_manager.specs.Table.{Table}
-use Rattle.sd_manager.specs.Shown.{Shows}
+use Rattle.sd_manager.specs.Shown.{Shows, ShowsCanonical}
 use Rattle.sd_file.specs.declared.order.Ordered.{Ordered}
 
 -- a list of pairs of codes for some codes
@@ -43,3 +43,7 @@ abbrev mutual
   pub AreOrdered : Table → Elements → Lists → Type 0
   AreOrdered t End lists = Unit {0}
   AreOrdered t (Pair p s rest) lists = IsOrdered t p lists × IsOrdered t s lists × AreOrdered t rest lists
+
+-- each canonical diagram that the code shows has the elements of its decompositions in order
+abbrev pub HasOrder : Table → Lists → ℕ → Type 0
+HasOrder t lists c = (d : Diagram) → ShowsCanonical t c d → IsOrdered t d lists

@@ -1,5 +1,5 @@
 -- Ranks of codes, which are compared as the diagrams that the codes show, and how they are given.
-use Rattle.std.specs.Prelude.{◌≡◌, ◌⊎◌, ℕ, ◌+◌, ◌<◌, ◌==◌, Bool, true, cond, [], ◌∷◌}
+use Rattle.std.specs.Prelude.{◌≡◌, ◌⊎◌, ℕ, ◌+◌, ◌<◌, ◌≤◌, ◌==◌, Bool, true, cond, [], ◌∷◌}
 use Rattle.std.specs.Prelude.{◌++◌, List, length, map, take, drop, Option, Some, None, if◌then◌else◌}
 use Rattle.std.specs.List.{AllByRecursion, IsDistinct}
 use Rattle.std.specs.List.Sorted.{IsStrictlySortedBy}
@@ -18,6 +18,7 @@ use Rattle.std.specs.declared.alloc.Global.{Global}
 use Rattle.sd_model.specs.Diagram.{Diagram, Bottom, Top, Literal, Decomposition, Elements, diagram_cmp}
 use Rattle.sd_model.specs.Canonical.{IsCanonical}
 use Rattle.sd_vtree.specs.Numbered.{Numbered, plain_tree, subtree}
+use Rattle.sd_laws.specs.Depth.{depth}
 use Rattle.sd_laws.specs.Shown.{ShowElements}
 use Rattle.sd_laws.proofs.Lists.{IsAmong}
 use Rattle.sd_laws.proofs.Numbers.{PartAt}
@@ -269,3 +270,12 @@ pub record HasCollectedTo (t : Table) (old new : Ordered) (f g : Found) (c i : �
   pub collected : AreCollected t new g
   pub keeps_all : KeepCollected old new f g
   pub stand : AllByRecursion (BothHaveRankOrGroup new g.groups) (take i (pairs_at t c))
+
+-- the code shows a canonical diagram of at most so many levels of decompositions
+abbrev pub IsShownWithin : Table → ℕ → ℕ → Type 0
+IsShownWithin t levels c = (d : Diagram) × ShowsCanonical t c d × (depth d ≤ levels)
+
+-- the first of these codes have ranks or are found
+pub record HaveCollectedTo (t : Table) (o : Ordered) (f : Found) (codes : List ℕ) (i : ℕ) : Type 0 where
+  pub collected : AreCollected t o f
+  pub stand : AllByRecursion (HasRankOrGroup o f.groups) (take i codes)

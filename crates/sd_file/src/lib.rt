@@ -19,7 +19,7 @@ pub use compile::build;
 pub use fault::SddFault;
 pub use file::{FileNode, SddFile};
 pub use reader::read_sdd;
-pub use writer::write_sdd;
+pub use writer::{write_nodes, write_sdd};
 
 #[cfg(test)]
 mod tests;

@@ -1,9 +1,10 @@
 //! The lines of the nodes that are complete, and their numbers.
 
 ghost use Rattle.std.specs.Prelude.{◌≡◌, ◌∷◌, [], ◌++◌, length, codes, cond, OnOk};
-ghost use Rattle.std.specs.List.{AllByRecursion};
+ghost use Rattle.std.specs.List.{AllByRecursion, flat_map};
 ghost use Rattle.sd_model.specs.Text.{number_text, literal_text, line_text, spaced};
 ghost use Rattle.sd_file.specs.Numbers.{CanGive, HaveNumbers, HasNextNumber, pair_words};
+ghost use Rattle.sd_file.specs.Numbers.{HasNumber, root_words, naming_words};
 ghost use Rattle.sd_file.specs.Lines.{HasNodeLine};
 
 use crate::numbers::Numbers;
@@ -147,4 +148,43 @@ pub(crate) fn push_feed(text: &mut Vec<u8>) -> Result<(), AllocError>
 {
     text.push(b'\n')?;
     Ok(())
+}
+
+// Writes the lines that name the roots, where there are two or more.
+pub(crate) fn push_naming(
+    text: &mut Vec<u8>,
+    numbers: &Numbers,
+    nodes: &[NodeId],
+) -> Result<(), AllocError>
+    requires { AllByRecursion (HasNumber numbers.now) nodes.now }
+    ensures { OnOk result (text.new.items
+        ≡ text.old.items ++ flat_map line_text (naming_words numbers.now nodes.now)) }
+{
+    if nodes.len() < 2 {
+        return Ok(());
+    }
+    push_roots(text, numbers, nodes)
+}
+
+// Writes the lines of the roots.
+fn push_roots(text: &mut Vec<u8>, numbers: &Numbers, nodes: &[NodeId]) -> Result<(), AllocError>
+    requires { AllByRecursion (HasNumber numbers.now) nodes.now }
+    ensures { OnOk result (text.new.items
+        ≡ text.old.items ++ flat_map line_text (root_words numbers.now 0 nodes.now)) }
+{
+    for (index, node) in nodes.iter().enumerate() {
+        push_root(text, index as u64, numbers.number(node.0))?;
+    }
+    Ok(())
+}
+
+// Writes the line of the root with an index, whose node has a number.
+fn push_root(text: &mut Vec<u8>, index: u64, number: u32) -> Result<(), AllocError>
+    ensures { OnOk result (text.new.items ≡ text.old.items
+        ++ line_text (codes "c" ∷ codes "root" ∷ number_text index ∷ number_text number ∷ [])) }
+{
+    text.extend_from_slice(b"c root")?;
+    push_number(text, index)?;
+    push_number(text, u64::from(number))?;
+    push_feed(text)
 }

@@ -1,4 +1,4 @@
-//! The elements of the decompositions below a node, in the structural order.
+//! The elements of the decompositions below some nodes, in the structural order.
 //!
 //! A list in the table ascends by codes, which depend on what was made before. A text must not, so it goes by the order
 //! of the diagrams themselves: constants, then literals, then decompositions by position, count and elements. To compare
@@ -19,16 +19,16 @@ ghost use Rattle.std.specs.List.{AllByRecursion};
 ghost use Rattle.std.specs.List.Sorted.{IsPermutation, IsSorted};
 ghost use Rattle.sd_model.specs.Diagram.{Diagram, Decomposition, Elements};
 ghost use Rattle.sd_manager.specs.Table.{Table};
-ghost use Rattle.sd_manager.specs.Shown.{Shows, ShowsCanonical, constant_diagram};
+ghost use Rattle.sd_manager.specs.Shown.{Shows, ShowsCanonical, IsNodeOf, constant_diagram};
 ghost use Rattle.sd_manager.specs.Views.{pairs_at};
 ghost use Rattle.sd_manager.specs.Valid.{IsTable};
-ghost use Rattle.sd_file.specs.Ordered.{IsOrdered, list_of, rank_of, Rank};
+ghost use Rattle.sd_file.specs.Ordered.{HasOrder, list_of, rank_of, Rank};
 ghost use Rattle.sd_file.specs.Ranks.{IsRanked, AreRanks, IsEntry, HasNewRank};
 ghost use Rattle.sd_file.specs.Ranks.{IsGiving, codes_of, ranked_cmp, entry_cmp};
 ghost use Rattle.sd_file.specs.Ranks.{IsNodeAt, IsGroup, IsFresh, NoneAt};
 ghost use Rattle.sd_file.specs.Ranks.{AreLeft, FitsPlain, AreFound, IsAdded, was_seen, items_of};
 ghost use Rattle.sd_file.specs.Ranks.{KeepRanks, HasRankedPairs, HasRanks, AreRankedBelow, AreCollected};
-ghost use Rattle.sd_file.specs.Ranks.{BothHaveRankOrGroup, KeepCollected, IsFoundAlso, HasRankOrGroup};
+ghost use Rattle.sd_file.specs.Ranks.{BothHaveRankOrGroup, KeepCollected, IsFoundAlso, HasRankOrGroup, IsShownWithin};
 
 use sd_manager::{Manager, NodeId, View};
 use sd_vtree::VNode;
@@ -44,7 +44,7 @@ type Ranked = (Rank, Rank, u32, u32);
 // A decomposition: the number of its elements, these, and its code.
 type Entry = (usize, Vec<Ranked>, u32);
 
-/// The elements of the distinct decompositions at and below a node, each list in the structural order of the primes.
+/// The elements of the distinct decompositions at and below some nodes, each list in the structural order of primes.
 #[derive(Drop)]
 pub(crate) struct Ordered {
     lists: BTreeMap<u32, Vec<(NodeId, NodeId)>>,
@@ -406,11 +406,32 @@ fn collect_below(
     Ok(())
 }
 
-/// The elements of the decompositions at and below a node.
-pub(crate) fn in_order(alloc: Global, m: &Manager, node: NodeId) -> Result<Ordered, AllocError>
-    requires { (d : Diagram) × ShowsCanonical m.now node d }
-    ensures { IfOk result (λ o. (d : Diagram) → ShowsCanonical m.now node d
-        → IsOrdered m.now d (list_of o)) }
+// The same at and below each of some nodes, one after another.
+fn collect_all(
+    alloc: Global,
+    m: &Manager,
+    o: &mut Ordered,
+    found: &mut Found,
+    nodes: &[NodeId],
+    levels: u32,
+) -> Result<(), AllocError>
+    requires table { IsTable m.now }
+    requires collected { AreCollected m.now o.old found.old }
+    requires shown { AllByRecursion (IsShownWithin m.now levels) nodes.now }
+    ensures collected { OnOk result (AreCollected m.now o.new found.new) }
+    ensures stand { OnOk result
+        (AllByRecursion (HasRankOrGroup o.new found.new.groups) nodes.now) }
+{
+    for node in nodes {
+        collect(alloc, m, o, found, *node, levels)?;
+    }
+    Ok(())
+}
+
+/// The elements of the decompositions at and below some nodes.
+pub(crate) fn in_order(alloc: Global, m: &Manager, nodes: &[NodeId]) -> Result<Ordered, AllocError>
+    requires { AllByRecursion (IsNodeOf m.now) nodes.now }
+    ensures { IfOk result (λ o. AllByRecursion (HasOrder m.now (list_of o)) nodes.now) }
 {
     let mut o = Ordered {
         lists: BTreeMap::new(alloc),
@@ -421,7 +442,7 @@ pub(crate) fn in_order(alloc: Global, m: &Manager, node: NodeId) -> Result<Order
         seen: BTreeSet::new(alloc),
     };
     let levels = m.vtree().variables();
-    collect(alloc, m, &mut o, &mut found, node, levels)?;
+    collect_all(alloc, m, &mut o, &mut found, nodes, levels)?;
     rank_below(alloc, m, &mut found.groups, &mut o, m.vtree().root())?;
     Ok(o)
 }

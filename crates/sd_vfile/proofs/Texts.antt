@@ -32,7 +32,7 @@ natural_back n h =
 -- ---- pieces
 
 -- a piece before the first end of a piece
-split_at : (p : ℕ → Bool) (xs ys : List ℕ) (z : ℕ) → AllByRecursion (λ b. p b ≡ false) xs → p z ≡ true
+pub split_at : (p : ℕ → Bool) (xs ys : List ℕ) (z : ℕ) → AllByRecursion (λ b. p b ≡ false) xs → p z ≡ true
     → slice_split p (xs ++ z ∷ ys) ≡ xs ∷ slice_split p ys
 split_at p [] ys z none ends = rw ends refl
 split_at p (x ∷ xs) ys z none ends = rw none.0 (ap (onto_first x) (split_at p xs ys z none.1 ends))
@@ -74,7 +74,7 @@ line_bytes [] = []
 line_bytes (w ∷ ws) = w ++ spaced ws
 
 -- the words of a line
-words_back : (w : List ℕ) (ws : List (List ℕ)) → AllByRecursion IsFullWord (w ∷ ws)
+pub words_back : (w : List ℕ) (ws : List (List ℕ)) → AllByRecursion IsFullWord (w ∷ ws)
     → words_of (w ++ spaced ws) ≡ w ∷ ws
 words_back w [] h =
     rw (append-nil w, split_whole is_separator w (no_separators w h.0.bytes), h.0.filled) refl
@@ -95,12 +95,14 @@ abbrev pub numbered : ℕ → List (List (List ℕ)) → List TextLine
 numbered n [] = []
 numbered n (line ∷ lines) = record { number = n; words = line } ∷ numbered (n + 1) lines
 
-feedless : (bytes rest : List ℕ) → IsWord bytes → AllByRecursion (λ b. is_line_end b ≡ false) rest
+-- no line end stands in words
+pub feedless : (bytes rest : List ℕ) → IsWord bytes → AllByRecursion (λ b. is_line_end b ≡ false) rest
     → AllByRecursion (λ b. is_line_end b ≡ false) (bytes ++ rest)
 feedless [] rest h k = k
 feedless (b ∷ bs) rest h k = (ne_eqb b 10 (λ e. omega (arith, h.0)), feedless bs rest h.1 k)
 
-feedless_line : (w : List ℕ) (ws : List (List ℕ)) → AllByRecursion IsFullWord (w ∷ ws)
+-- nor in a line
+pub feedless_line : (w : List ℕ) (ws : List (List ℕ)) → AllByRecursion IsFullWord (w ∷ ws)
     → AllByRecursion (λ b. is_line_end b ≡ false) (w ++ spaced ws)
 feedless_line w [] h = feedless w [] h.0.bytes tt
 feedless_line w (v ∷ vs) h = feedless w (32 ∷ (v ++ spaced vs)) h.0.bytes (refl, feedless_line v vs h.1)

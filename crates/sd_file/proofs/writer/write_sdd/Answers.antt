@@ -1,40 +1,28 @@
-use Rattle.std.proofs.Common.{ap, arith, ◌∙◌, []}
-use Rattle.sd_model.specs.Tree.{leaves}
-use Rattle.sd_vtree.specs.Numbered.{plain_tree}
-use Rattle.sd_laws.proofs.Depths.{depth_canonical}
-use Rattle.sd_file.proofs.Added.{whole_text, held_shown, none_written}
-use Rattle.sd_file.proofs.FewNodes.{written_reads_back}
+use Rattle.std.proofs.Common.{sym, ◌∙◌, subst, [], ◌∷◌}
+use Rattle.std.proofs.lemmas.Result.{IfOk-weaker}
+use Rattle.std.specs.List.{AllZip}
+use Rattle.sd_model.proofs.TextBack.{single_text}
+use Rattle.sd_manager.specs.Shown.{ShowsCanonical}
+use Rattle.sd_file.proofs.Added.{held_shown}
+use Rattle.sd_file.proofs.ReadBack.{single_last}
 use Rattle.sd_file.proofs.writer.write_sdd.Goals as goal
 
--- the walk may begin at the node
-pub add_node-requires-clause-shown : goal.add_node-requires-clause-shown
-add_node-requires-clause-shown c =
-    let d = c.requires.held.0 in
-    let shown = held_shown c.args.m.now c.args.root.now c.node_of-node.result d c.requires.held.1
-    c.node_of-node.ensures.held in (
-      d,
-      shown,
-      omega (
-        arith,
-        depth_canonical shown.canonical,
-        c.variables.ensures.count,
-        ap (λ t. leaves (plain_tree t)) c.vtree.ensures.vtree,
-      ),
-      c.in_ok-ordered.ensures d shown,
-    )
-
--- the header and the lines make the text
+-- the text of the list of the root's node alone
 pub returns-clause-text : goal.returns-clause-text
-returns-clause-text c = λ d h.
-    let shown = held_shown c.args.m.now c.args.root.now c.node_of-node.result d h c.node_of-node.ensures.held in
-    c.new.ensures ∙ c.in_ok-extend_from_slice.ensures.items
-    ∙ rw (c.in_ok-text.ensures, c.deref.ensures.value, c.count.ensures)
-    (whole_text c.args.m.now c.add_node.new.listing d
-    (c.in_ok-add_node.ensures d [] shown.shows
-    (none_written c.args.m.now c.new-listing.result c.new-listing.ensures.marks c.new-listing.ensures.count
-    c.new-listing.ensures.text)))
+returns-clause-text c =
+    IfOk-weaker c.write_nodes.result _ _
+    (λ text is d held. is (d ∷ [])
+    (subst (λ cs. AllZip (ShowsCanonical c.args.m.now) cs (d ∷ [])) (sym c.from_ref.ensures.value)
+    (held_shown c.args.m.now c.args.root.now c.node_of-node.result d held c.node_of-node.ensures.held, tt))
+    ∙ sym (single_text d))
+    c.write_nodes.ensures.text
 
--- and the text is read back
+-- whose diagram is the last of those under it
 pub returns-clause-read_back : goal.returns-clause-read_back
 returns-clause-read_back c =
-    written_reads_back c.args.m.now c.args.root.now _ c.node_of-node.ensures.table (returns-clause-text c)
+    IfOk-weaker c.write_nodes.result _ _
+    (λ text back d held. back (d ∷ [])
+    (subst (λ cs. AllZip (ShowsCanonical c.args.m.now) cs (d ∷ [])) (sym c.from_ref.ensures.value)
+    (held_shown c.args.m.now c.args.root.now c.node_of-node.result d held c.node_of-node.ensures.held, tt)) d
+    (single_last d))
+    c.write_nodes.ensures.read_back
