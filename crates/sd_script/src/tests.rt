@@ -5,7 +5,7 @@ use std::test::Fail;
 
 #[test]
 fn each_fault(rt: HostRuntime) {
-    let rows: [(&[u8], ScriptFault); 26] = [
+    let rows: [(&[u8], ScriptFault); 22] = [
         (b"and g a b\n", ScriptFault::NameUnknown { line: 1 }),
         (b"lit a 1\nlit a 2\n", ScriptFault::NameTaken { line: 2 }),
         (b"lit a 3\n", ScriptFault::LiteralRange { line: 1 }),
@@ -40,6 +40,16 @@ fn each_fault(rt: HostRuntime) {
             b"lit a 1\ndrop a\nsize a\n",
             ScriptFault::NameUnknown { line: 3 },
         ),
+    ];
+    for (text, fault) in rows {
+        let answer = read_script(rt.alloc(), text, 2);
+        assert!(rt; matches!(answer, Err(found) if found == fault), "{text:?}");
+    }
+}
+
+#[test]
+fn each_fault_of_a_write(rt: HostRuntime) {
+    let rows: [(&[u8], ScriptFault); 4] = [
         (b"write f\n", ScriptFault::BadLine { line: 1 }),
         (b"lit a 1\nwrite a 1b f\n", ScriptFault::BadLine { line: 2 }),
         (
