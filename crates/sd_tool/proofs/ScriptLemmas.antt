@@ -22,7 +22,8 @@ use Rattle.sd_commands.specs.declared.command.RunCommand.TheVariants as commands
 use Rattle.sd_tool.specs.Actions.{plain_of, bound_by, IsCommandOf, AreCommandsOf}
 use Rattle.sd_file.specs.Reads.{File}
 use Rattle.sd_tool.specs.Readings.{Reading, Reads, with_action, with_lines, with_sdd, file_name, default_of}
-use Rattle.sd_tool.specs.Readings.{for_file, in_line, in_lines}
+use Rattle.sd_tool.specs.Readings.{for_file, in_line, in_lines, only_name, with_only_name, Refuses}
+use Rattle.sd_tool.specs.declared.refusal.Refusal.TheVariants.{NotYet}
 use Rattle.sd_tool.specs.Asks.{ComesTo}
 use Rattle.sd_tool.specs.Stops.{LeadsTo}
 use Rattle.sd_tool.specs.declared.stop.Stop.{Stop}
@@ -221,14 +222,41 @@ load_leads asks told v script action n file name result before now is there lead
 
 -- a command that writes a diagram
 pub write_leads : (asks : List Request → Type 0) (told : Option Files) (v : ℕ) (script : Script) (action : Action)
-    (n file : ℕ)
-    (name copy : List ℕ) → action ≡ actions.Write n file → slice_get script.files file ≡ Some name → copy ≡ name
+    (names : List ℕ) (n file : ℕ)
+    (name copy : List ℕ) → action ≡ actions.Write names file → Some n ≡ only_name names
+    → slice_get script.files file ≡ Some name → copy ≡ name
     → asks []
     → (next : RunCommand → Reading)
     → ComesTo asks told (with_action v script next action) (next (commands.Write n copy))
-write_leads asks told v script action n file name copy is there same none next =
+write_leads asks told v script action names n file name copy is only there same none next =
     comes_same asks told _ _ none (ap (with_action v script next) is
+    ∙ ap (with_only_name (λ m. next (commands.Write m (file_name script file)))) (sym only)
     ∙ ap (λ (f : List ℕ). next (commands.Write n f)) (file_named script file name there ∙ sym same))
+
+-- a command that writes the text of several roots
+pub several_lead : (asks : List Request → Type 0) (told : Option Files) (v : ℕ) (script : Script) (action : Action)
+    (names : List ℕ) (file : ℕ) → action ≡ actions.Write names file → None ≡ only_name names → asks []
+    → (next : RunCommand → Reading)
+    → ComesTo asks told (with_action v script next action) (Refuses NotYet)
+several_lead asks told v script action names file is only none next =
+    comes_same asks told _ _ none (ap (with_action v script next) is
+    ∙ ap (with_only_name (λ m. next (commands.Write m (file_name script file)))) (sym only))
+
+-- the names of a list of one
+one_name : (names : List ℕ) (n : ℕ) → Some n ≡ only_name names → n ∷ [] ≡ names
+one_name [] n is = cc
+one_name (m ∷ []) n is = let same : n ≡ m = cc in ap (λ k. k ∷ []) same
+one_name (m ∷ k ∷ names) n is = cc
+
+-- the command of such an action
+pub write_same : (v : ℕ) (action : Action) (names : List ℕ) (n file : ℕ) (copy : List ℕ)
+    → action ≡ actions.Write names file → Some n ≡ only_name names → IsCommandOf v action (commands.Write n copy)
+write_same v action names n file copy is only = record {
+  uses = one_name names n only ∙ ap lines.uses (sym is);
+  binds = ap lines.binds (sym is);
+  frees = ap lines.frees (sym is);
+  in_range = λ h. refl;
+}
 
 -- a command that writes the vtree
 pub vtree_leads : (asks : List Request → Type 0) (told : Option Files) (v : ℕ) (script : Script) (action : Action)

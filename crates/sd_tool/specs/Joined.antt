@@ -47,7 +47,7 @@ pub record JoinsTwo (input : Expression) (script : Script) (joined : Expression)
   pub joins : third.action ≡ actions.Binary operation h f g
   pub is : joined ≡ Combined operation left right
   pub number : ℕ
-  pub writes : last.action ≡ actions.Write h number
+  pub writes : last.action ≡ actions.Write (h ∷ []) number
   pub file_is : file ≡ file_name script number
 
 -- The words name an input file and a script, neither of which is too long, and their bytes are the texts of this

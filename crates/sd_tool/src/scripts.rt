@@ -11,7 +11,7 @@ ghost use Rattle.sd_commands.specs.Fits.{AllFit};
 ghost use Rattle.sd_commands.specs.declared.command.NumberedCommand.{NumberedCommand as SeenLine};
 ghost use Rattle.sd_commands.specs.declared.command.RunCommand.{RunCommand as Seen};
 ghost use Rattle.sd_tool.specs.Readings.{Reading, Reads, with_commands, with_script_text, script_reading};
-ghost use Rattle.sd_tool.specs.Readings.{with_lines, with_action, with_sdd, is_served};
+ghost use Rattle.sd_tool.specs.Readings.{with_lines, with_action, with_sdd, is_served, only_name};
 ghost use Rattle.sd_tool.specs.Actions.{IsCommandOf, plain_of};
 ghost use Rattle.sd_tool.specs.Stops.{LeadsTo, GivesText, StopsFor};
 ghost use Rattle.sd_tool.specs.declared.refusal.Refusal.TheVariants as refusals;
@@ -160,7 +160,11 @@ fn all_served(lines: &[Line]) -> bool
 fn is_served(action: &Action) -> bool
     ensures { result ≡ is_served action.now }
 {
-    !matches!(action, Action::Turn(..) | Action::Minimise(_))
+    match action {
+        Action::Turn(..) | Action::Minimise(_) => false,
+        Action::Write(names, _) => only_name(names.as_slice()).is_some(),
+        _ => true,
+    }
 }
 
 // The commands of the lines of a script, one after another.
@@ -302,15 +306,29 @@ fn file_command<F: Shelf>(
             Ok(read) => Ok(RunCommand::Load(*name, read)),
             Err(stop) => Err(stop),
         },
-        Action::Write(name, file) => match Name::copy_of(alloc, script.file(*file)) {
-            Ok(file) => Ok(RunCommand::Write(*name, file)),
-            Err(_) => Err(Stop::OutOfMemory),
+        Action::Write(names, file) => match only_name(names.as_slice()) {
+            Some(name) => match Name::copy_of(alloc, script.file(*file)) {
+                Ok(file) => Ok(RunCommand::Write(name, file)),
+                Err(_) => Err(Stop::OutOfMemory),
+            },
+            None => Err(Stop::Refused(Refusal::NotYet)),
         },
         Action::Vtree(file) => match Name::copy_of(alloc, script.file(*file)) {
             Ok(file) => Ok(RunCommand::WriteVtree(file)),
             Err(_) => Err(Stop::OutOfMemory),
         },
         _ => Err(Stop::Refused(Refusal::NotYet)),
+    }
+}
+
+// The name of a list of one.
+fn only_name(names: &[u32]) -> Option<u32>
+    ensures { result ≡ only_name names.now }
+{
+    match names {
+        [] => None,
+        [name] => Some(*name),
+        [_, _, ..] => None,
     }
 }
 
