@@ -23,6 +23,30 @@ fn clauses_become_diagrams(rt: HostRuntime) -> Result<(), Fail> {
     Ok(())
 }
 
+/// A group with the mark `x` holds where an odd number of its literals hold, each counted as often as it is written.
+#[test]
+fn exclusive_groups_become_diagrams(rt: HostRuntime) -> Result<(), Fail> {
+    let alloc = rt.alloc();
+    let either = "sdd 5\nL 0 0 -1\nL 1 2 2\nL 2 0 1\nL 3 2 -2\nD 4 1 2 0 1 2 3\n";
+    let both = "sdd 5\nL 0 0 -1\nL 1 2 2\nL 2 0 1\nF 3\nD 4 1 2 0 1 2 3\n";
+    let table = [
+        ("p cnf 2 1\nx 1 2 0\n", either, "size 2\n"),
+        ("p cnf 2 2\nx1 2 0\nx-1 0\n", both, "size 2\n"),
+        ("p cnf 2 1\nx 0\n", "sdd 1\nF 0\n", "size 0\n"),
+        ("p cnf 2 1\nx0\n", "sdd 1\nF 0\n", "size 0\n"),
+        ("p cnf 2 1\nx-0\n", "sdd 1\nF 0\n", "size 0\n"),
+        ("p cnf 2 1\nx 1 1 0\n", "sdd 1\nF 0\n", "size 0\n"),
+        ("p cnf 2 1\nx 1 2 1 0\n", "sdd 1\nL 0 2 2\n", "size 0\n"),
+    ];
+    for (text, diagram, size) in table {
+        let files = vec![in alloc; file(alloc, "in", text.as_bytes())?]?;
+        let end = ran(&rt, alloc, "--cnf in --out-sdd out", files)?;
+        assert!(rt; end.ended(0, size, ""), "{text}");
+        assert!(rt; end.holds("out", diagram), "{text}");
+    }
+    Ok(())
+}
+
 #[test]
 fn formula_files_are_accepted(rt: HostRuntime) -> Result<(), Fail> {
     let alloc = rt.alloc();
@@ -103,6 +127,30 @@ fn bodies_are_refused(rt: HostRuntime) -> Result<(), Fail> {
         let line = format!(in alloc; "sddc: bad: {fault}\n")?;
         assert!(rt; end.ended(2, "", &line), "{text}");
         assert!(rt; end.lacks("out"), "{text}");
+    }
+    Ok(())
+}
+
+#[test]
+fn misplaced_marks_are_refused(rt: HostRuntime) -> Result<(), Fail> {
+    let alloc = rt.alloc();
+    let table = [
+        ("--cnf bad", "p cnf 2 1\n1 x 2 0\n", "line 2: bad word"),
+        ("--cnf bad", "p cnf 2 1\n1 x9 0\n", "line 2: bad word"),
+        ("--cnf bad", "p cnf 2 1\nxx1 0\n", "line 2: bad word"),
+        ("--dnf bad", "p dnf 2 1\nx 1 0\n", "line 2: bad word"),
+        ("--cnf bad", "p cnf 2 1\nx\n", "last group is not ended"),
+        (
+            "--cnf bad",
+            "p cnf 2 1\nx\n%\n0\n",
+            "last group is not ended",
+        ),
+    ];
+    for (words, text, fault) in table {
+        let files = vec![in alloc; file(alloc, "bad", text.as_bytes())?]?;
+        let end = ran(&rt, alloc, words, files)?;
+        let line = format!(in alloc; "sddc: bad: {fault}\n")?;
+        assert!(rt; end.ended(2, "", &line), "{text}");
     }
     Ok(())
 }
