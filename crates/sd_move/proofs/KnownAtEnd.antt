@@ -24,12 +24,12 @@ stands_there t c (e ∷ l) h (inr (inl k)) = subst (HasNode t) k h.0.1
 stands_there t c (e ∷ l) h (inr (inr k)) = stands_there t c l h.1 k
 
 -- a code that is there is of a constant or a literal, or of a decomposition
-base_or_node : (t : Table) (c : ℕ) → HasNode t c → IsBaseOrNode t.vtree c
+pub base_or_node : (t : Table) (c : ℕ) → HasNode t c → IsBaseOrNode t.vtree c
 base_or_node t c (inl low) = inl low
 base_or_node t c (inr h) = inr (c - 2050, omega (arith, h.0))
 
 -- what is not detached is linked
-key_linked : (t : Table) → t.detached ≡ empty → (n : ℕ) → IsSome (key_at t n) → IsSome (get t.linked n)
+pub key_linked : (t : Table) → t.detached ≡ empty → (n : ℕ) → IsSome (key_at t n) → IsSome (get t.linked n)
 key_linked t none n h = go (get t.linked n) refl h
   where
     go : (o : Option (ℕ × List (ℕ × ℕ))) → get t.linked n ≡ o → IsSome (key_at t n) → IsSome (get t.linked n)

@@ -27,7 +27,7 @@ use Rattle.sd_move.proofs.DetachedOn.{settled_below}
 use Rattle.sd_move.proofs.Linking.{linked_key}
 
 -- a number is in a list or not
-has_or_not : (n : ℕ) (ns : List ℕ) → IsMember n ns ⊎ (¬ IsMember n ns)
+pub has_or_not : (n : ℕ) (ns : List ℕ) → IsMember n ns ⊎ (¬ IsMember n ns)
 has_or_not n [] = inr (λ m. m)
 has_or_not n (i ∷ ns) = elim (cases_eq i n) [
   | inl e ↦ inl (inl e)

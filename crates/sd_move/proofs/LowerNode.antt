@@ -100,7 +100,7 @@ lower_node t u Swap x w num is lower = absurd (none-some w lower)
 module _ (m : Table) (x w : ℕ) (num : IsNumbered m.vtree) (c : IsChildNode m.vtree x w) (moving : m.moving ≡ Some x)
     (none : (n : ℕ) → ¬ IsLinkedAt m x n) where
   -- each node that is linked strictly above the child is above the moved node
-  clear_above_child : IsClearAbove m w
+  pub clear_above_child : IsClearAbove m w
   clear_above_child n k e under other settled = elim (settled x moving) [
     | inl z ↦ at_upper (sym z)
     | inr apart ↦ elim (over_either m.vtree (once_numbered m.vtree num) w x k.0 c.under under) [

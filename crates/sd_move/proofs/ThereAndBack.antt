@@ -21,7 +21,7 @@ use Rattle.sd_move.proofs.UndoKept.{needed_kept, back_same}
 -- runs that are taken away
 
 -- a run that is there without these was there, and is none of these
-without_kept : (loose : FinMap nat_cmp (List (ℕ × ℕ))) (starts : List ℕ) (s : ℕ) (l : List (ℕ × ℕ)) →
+pub without_kept : (loose : FinMap nat_cmp (List (ℕ × ℕ))) (starts : List ℕ) (s : ℕ) (l : List (ℕ × ℕ)) →
     get (without_runs loose starts) s ≡ Some l → (get loose s ≡ Some l) × (¬ IsMember s starts)
 without_kept loose [] s l h = (h, λ k. k)
 without_kept loose (m ∷ ms) s l h =
@@ -36,7 +36,7 @@ without_kept loose (m ∷ ms) s l h =
     neither z n (inr e) = n e
 
 -- the start of an own run is one of the journal's
-own_start : (es : List Named) (s : ℕ) → IsOwnRun es s → IsMember s (starts_of es)
+pub own_start : (es : List Named) (s : ℕ) → IsOwnRun es s → IsMember s (starts_of es)
 own_start [] s h = absurd h
 own_start (e ∷ es) s (inl h) = go e.run h.1
   where
@@ -50,7 +50,7 @@ own_start (e ∷ es) s (inr h) = go (own_start es s h) e.run
     go k (Some run) = inr k
 
 -- what is kept is needed
-kept_needed : (j : Journal) (t : Table) {n : ℕ} → IsKeptBack j t n → IsNeededBack j t n
+pub kept_needed : (j : Journal) (t : Table) {n : ℕ} → IsKeptBack j t n → IsNeededBack j t n
 kept_needed j t (reached_first {n = n} (inl h)) = reached_first (inl h)
 kept_needed j t (reached_first {n = n} (inr h)) = reached_first (inr (inl h))
 kept_needed j t (reached_below {m = m} {n = n} {place = p} {list = l} h e s) = reached_below (kept_needed j t h) e s

@@ -90,7 +90,7 @@ needed_reached j t c (reached_below {m = m} {n = n} {place = place} {list = list
 -- the state gone back to
 
 -- a node that shows something is linked
-linked_shown : (t : Table) → IsNumbered t.vtree → (n : ℕ) (d : Diagram) → ShowsCanonical t (2050 + n) d →
+pub linked_shown : (t : Table) → IsNumbered t.vtree → (n : ℕ) (d : Diagram) → ShowsCanonical t (2050 + n) d →
     IsSome (get t.linked n)
 linked_shown t v n d h = go (code_of_node t.vtree (get t.linked) v (2050 + n) d h.shows)
   where

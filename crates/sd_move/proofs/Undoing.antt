@@ -153,7 +153,7 @@ needed_or_below j t i still c lower upper (reached_below {m = m} {n = n} {place 
 -- the state before going back
 
 -- codes of constants, literals and decompositions
-base_codes : (t u : Numbered) (at : Lookup) (P : ℕ → Type 0) (l : List (ℕ × ℕ)) →
+pub base_codes : (t u : Numbered) (at : Lookup) (P : ℕ → Type 0) (l : List (ℕ × ℕ)) →
     leaves (plain_tree u) ≡ leaves (plain_tree t) →
     AllByRecursion (λ (e : ℕ × ℕ). IsCodeOf t at P e.0 × IsCodeOf t at P e.1) l →
     AllByRecursion (λ (e : ℕ × ℕ). IsBaseOrNode u e.0 × IsBaseOrNode u e.1) l
@@ -166,7 +166,7 @@ base_codes t u at P l same cs =
     code c (inr w) = inr (w.0, w.1)
 
 -- a code of a list stands for a node that is there
-closed_now : (t : Table) → (i : IsTable t) → t.moving ≡ None → (n p k : ℕ) (l : List (ℕ × ℕ)) →
+pub closed_now : (t : Table) → (i : IsTable t) → t.moving ≡ None → (n p k : ℕ) (l : List (ℕ × ℕ)) →
     get t.linked n ≡ Some (p, l) → StandsIn (2050 + k) l → IsSome (get t.linked k)
 closed_now t i still n p k l e s = in_list l (closed n p l (all_shown t i still n (subst IsSome (sym e) refl)) e) s
   where

@@ -1,5 +1,5 @@
 -- What a move leaves, and when it is refused.
-use Rattle.std.specs.Prelude.{◌≡◌, ◌≢◌, ℕ, ◌+◌, ◌≤◌, Bool, List, Some, None}
+use Rattle.std.specs.Prelude.{◌≡◌, ◌≢◌, ℕ, ◌+◌, ◌≤◌, ◌<◌, Bool, List, Some, None}
 use Rattle.std.specs.List.{AllZip}
 use Rattle.std.specs.FinMap.{get}
 use Rattle.sd_model.specs.declared.trees.Move.{Move}
@@ -10,9 +10,12 @@ use Rattle.sd_vtree.specs.Numbered.{Numbered, plain_tree}
 use Rattle.sd_vtree.specs.NumberedMoves.{moved_number}
 use Rattle.sd_manager.specs.Table.{Table}
 use Rattle.sd_manager.specs.Shown.{ShowsCanonical}
+use Rattle.sd_manager.specs.Making.{IsPastBound}
 use Rattle.sd_manager.specs.Moving.{IsLater}
 use Rattle.sd_laws.specs.Turned.{lower_of}
 use Rattle.sd_sweep.specs.Reached.{IsReached, AreHeldDiagrams}
+use Rattle.sd_move.specs.declared.error.MoveError.{MoveError}
+use Rattle.sd_move.specs.declared.error.MoveError.TheVariants.{NotMovable, OverMost, ArenaFull, OutOfMemory}
 use Rattle.sd_move.specs.Journal.{Journal, CanUndo, back, starts_of, without_runs}
 
 -- the second diagram is canonical for the vtree and has the value of the first one
@@ -29,6 +32,10 @@ pub record HasSizeAfter (t : Table) (kind : Move) (place n : ℕ) : Type 0 where
   pub after : List Diagram
   pub each : AllZip (HasMoved tree) before after
   pub size : size_of after ≡ n
+
+-- the move is defined at the place
+abbrev pub IsMovable : Table → Move → ℕ → Type 0
+IsMovable t kind place = (tree : Numbered) × (moved_number kind t.vtree place ≡ Some tree)
 
 -- a node shows one function in both tables
 pub record StaysFunction (old new : Table) (n : ℕ) : Type 0 where
@@ -58,3 +65,19 @@ pub record IsMoved (old new : Table) (kind : Move) (place : ℕ) (j : Journal) :
   pub lower : j.lower ≡ lower_of kind old.vtree place
   pub can_undo : CanUndo j new
   pub before : (n : ℕ) (k : ℕ × List (ℕ × ℕ)) → get old.linked n ≡ Some k → IsReached old n → back j new n ≡ Some k
+
+-- Why a move was refused: the vtree cannot be moved so at the place; the size of all held diagrams after the whole move
+-- passes the limit; or, where it can be moved, the arena was full by its rule, or memory ran out.
+abbrev pub IsMoveRefusal : Table → Table → Move → ℕ → ℕ → MoveError → Type 0
+IsMoveRefusal old new kind place most NotMovable = moved_number kind old.vtree place ≡ None
+IsMoveRefusal old new kind place most (OverMost size limit) =
+    (limit ≡ most) × (most < size) × HasSizeAfter old kind place size
+IsMoveRefusal old new kind place most (ArenaFull elements) = IsMovable old kind place × IsPastBound new elements
+IsMoveRefusal old new kind place most OutOfMemory = IsMovable old kind place
+
+-- A move that can be made was refused on its way: the arena was full by its rule, or memory ran out.
+abbrev pub IsRefusedOnTheWay : Table → MoveError → Type 0
+IsRefusedOnTheWay new NotMovable = ⊥
+IsRefusedOnTheWay new (OverMost size limit) = ⊥
+IsRefusedOnTheWay new (ArenaFull elements) = IsPastBound new elements
+IsRefusedOnTheWay new OutOfMemory = Unit {0}

@@ -7,9 +7,9 @@ pub enum MoveError {
     /// The vtree cannot be moved so at that node.
     #[error("NotMovable")]
     NotMovable,
-    /// The total size would be `size`, which is past the limit.
+    /// The total size after the move would be `size`, which is past `most`.
     #[error("OverMost")]
-    OverMost { size: u32, limit: u32 },
+    OverMost { size: u32, most: u32 },
     /// The arena had no room for a list: `elements` is the extent with its length added.
     #[error("ArenaFull")]
     ArenaFull { elements: u64 },

@@ -5,12 +5,21 @@
 #![tactic(auto)]
 
 mod beginning;
+mod bounding;
 mod detaching;
 mod error;
+mod going_back;
 mod journal;
+pub mod laws;
+mod rewriting;
 mod settling;
+mod swapping;
+mod sorting;
 mod turning;
+mod undone;
 
 pub use error::MoveError;
 pub use journal::{Journal, Moved};
 pub use settling::settle;
+pub use swapping::swap;
+pub use undone::undo;

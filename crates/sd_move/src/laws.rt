@@ -1,0 +1,33 @@
+//! Laws of journals: functions whose contracts state a fact, and that do nothing.
+
+ghost use Rattle.std.specs.Prelude.{◌≡◌, ℕ, None};
+ghost use Rattle.sd_model.specs.declared.trees.Move.{Move};
+ghost use Rattle.sd_manager.specs.Making.{Extends};
+ghost use Rattle.sd_manager.specs.Table.{Table};
+ghost use Rattle.sd_manager.specs.Valid.{IsTable};
+ghost use Rattle.sd_sweep.specs.Reached.{IsSwept, KeepsReached};
+ghost use Rattle.sd_move.specs.Journal.{Journal as TheJournal, CanUndo, Rollback, IsKeptBack};
+ghost use Rattle.sd_move.specs.Moves.{IsMoved, StaysFunction};
+
+/// What keeps each node under a held root or a loose run: operations and sweeps, one after the other, and a move that
+/// was undone.
+pub fn keeps_reached()
+    ensures operation { (t u : Table) → Extends t u → KeepsReached t u }
+    ensures sweep { (t u : Table) → IsSwept t u → KeepsReached t u }
+    ensures both { (t u w : Table) → KeepsReached t u → KeepsReached u w → KeepsReached t w }
+    ensures undone { (a b c d : Table) (kind : Move) (place : ℕ) (j : TheJournal) → IsTable a →
+        IsTable b → IsMoved a b kind place j → KeepsReached b c → Rollback j c d
+        → KeepsReached a d }
+{}
+
+/// A journal that can be undone stays one through all that keeps each node under a held root or a loose run.
+pub fn stays_undoable()
+    ensures { (j : TheJournal) (t u : Table) → IsTable t → CanUndo j t → KeepsReached t u
+        → u.moving ≡ None → CanUndo j u }
+{}
+
+/// Undoing a journal keeps the function of each node under a held root or under a loose run that is none of its own.
+pub fn undone_functions()
+    ensures { (j : TheJournal) (t u : Table) → CanUndo j t → Rollback j t u → (n : ℕ) →
+        IsKeptBack j t n → StaysFunction t u n }
+{}
