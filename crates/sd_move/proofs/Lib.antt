@@ -55,3 +55,8 @@ pub mod RefusedBack
 pub mod NewList
 pub mod RewritingLoop
 pub mod SwappedAt
+pub mod RewrittenRecorded
+pub mod MoveEnd
+pub mod RotationRecorded
+pub mod RotationOnTheWay
+pub mod RotationWhole

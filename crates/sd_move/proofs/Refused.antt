@@ -1,7 +1,6 @@
 -- A move that is refused on its way goes back to the table at which it began.
-use Rattle.std.proofs.Common.{◌≡◌, ◌≢◌, ◌⊎◌, inl, inr, ℕ, ◌+◌, ◌*◌, ◌/◌, ◌≤◌, ◌<◌, List, Option, Some, None}
+use Rattle.std.proofs.Common.{◌≡◌, ◌⊎◌, inl, inr, ℕ, ◌+◌, ◌*◌, ◌/◌, ◌≤◌, ◌<◌, List, Option, Some, None}
 use Rattle.std.proofs.Common.{refl, sym, ◌∙◌, ap, subst}
-use Rattle.std.specs.List.{AllByRecursion}
 use Rattle.std.specs.Option.{IsSome}
 use Rattle.std.specs.FinMap.{get}
 use Rattle.std.proofs.lemmas.Option.{same_Some}
@@ -12,7 +11,7 @@ use Rattle.sd_vtree.specs.Numbered.{plain_tree}
 use Rattle.sd_vtree.specs.NumberedMoves.{moved_number}
 use Rattle.sd_runs.specs.Arena.{IsMember}
 use Rattle.sd_laws.specs.Turned.{lower_of}
-use Rattle.sd_laws.specs.Values.{Valuation, StandsIn, AreOrderly, IsCodeOf}
+use Rattle.sd_laws.specs.Values.{Valuation, AreOrderly}
 use Rattle.sd_laws.proofs.Lists.{all_weaker}
 use Rattle.sd_laws.proofs.Turning.{inverse_numbered}
 use Rattle.sd_laws.proofs.Unturned.{valued_orderly}
@@ -22,8 +21,8 @@ use Rattle.sd_manager.specs.Valid.{IsTable}
 use Rattle.sd_manager.specs.Making.{IsPastBound}
 use Rattle.sd_manager.proofs.Reading.{node_of_code}
 use Rattle.sd_sweep.specs.Reached.{KeepsReached}
-use Rattle.sd_move.specs.GoingBack.{Target, ToTable, WayBack, CanGoBack, HasGoneBack, IsRightEntry}
-use Rattle.sd_move.specs.Journal.{Named, journal_entry, IsOwnRun, starts_of, without_runs}
+use Rattle.sd_move.specs.GoingBack.{ToTable, WayBack, CanGoBack, HasGoneBack, IsRightEntry}
+use Rattle.sd_move.specs.Journal.{Named, journal_entry, starts_of}
 use Rattle.sd_move.specs.Moving.{Progress, IsNew, IsBelowNode, MoveInProgress}
 use Rattle.sd_move.specs.Recorded.{IsRecorded, AreRecorded}
 use Rattle.sd_move.proofs.KnownAtEnd.{key_linked, stands_there}

@@ -1,5 +1,5 @@
 -- A cache that serves a manager serves it at a later epoch, and when a move ends.
-use Rattle.std.proofs.Common.{◌≡◌, ◌⊎◌, inl, inr, ◌≤◌, ◌<◌, sym, subst, arith}
+use Rattle.std.proofs.Common.{◌≡◌, ◌⊎◌, inl, inr, ◌≤◌, sym, subst, arith}
 use Rattle.sd_cache.specs.Entries.{Entries}
 use Rattle.sd_apply.specs.Serving.{Serves, last_epoch}
 use Rattle.sd_manager.specs.Table.{Table}

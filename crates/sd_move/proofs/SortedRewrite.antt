@@ -1,6 +1,5 @@
 -- The nodes that wait once those of the upper place of a rotation were sorted can be rewritten.
 use Rattle.std.proofs.Common.{◌≡◌, ℕ, ◌+◌, false, List, [], Some, refl, sym, ◌∙◌, ap, subst}
-use Rattle.std.specs.List.{AllByRecursion}
 use Rattle.std.specs.Option.{IsSome}
 use Rattle.std.specs.FinMap.{get}
 use Rattle.std.proofs.lemmas.Option.{same_Some}

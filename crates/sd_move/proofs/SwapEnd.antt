@@ -1,5 +1,5 @@
 -- A swap whose waiting nodes were rewritten, all of them or the first ones: it ends, or it goes back.
-use Rattle.std.proofs.Common.{◌≡◌, ◌≢◌, ◌⊎◌, inl, inr, ℕ, ◌+◌, ◌≤◌, ◌<◌, Bool, true, false, List, [], ◌∷◌, ◌++◌}
+use Rattle.std.proofs.Common.{◌≡◌, ◌⊎◌, inl, inr, ℕ, ◌+◌, ◌≤◌, ◌<◌, Bool, true, false, List, [], ◌∷◌}
 use Rattle.std.proofs.Common.{Option, Some, None, refl, sym, ◌∙◌, ap, subst, arith}
 use Rattle.std.specs.Prelude.{nat_lt, if◌then◌else◌}
 use Rattle.std.proofs.lemmas.Bool.{ltb-true, ltb-false}
@@ -7,9 +7,8 @@ use Rattle.std.specs.List.{AllByRecursion}
 use Rattle.std.specs.Option.{IsSome}
 use Rattle.std.specs.Ordering.{nat_cmp}
 use Rattle.std.specs.FinMap.{get, empty, get-empty}
-use Rattle.std.proofs.lemmas.Option.{same_Some, none-some}
+use Rattle.std.proofs.lemmas.Option.{same_Some}
 use Rattle.sd_model.specs.declared.trees.Move.TheVariants.{Swap}
-use Rattle.sd_vtree.specs.Numbered.{Numbered}
 use Rattle.sd_vtree.specs.NumberedMoves.{moved_number}
 use Rattle.sd_runs.specs.Arena.{IsMember, HasNoCopies}
 use Rattle.sd_runs.specs.declared.error.TakeError.{TakeError}
@@ -21,15 +20,14 @@ use Rattle.sd_manager.specs.Shown.{IsNodeOf}
 use Rattle.sd_manager.specs.Valid.{IsTable}
 use Rattle.sd_manager.specs.Making.{IsPastBound, KeepsRule}
 use Rattle.sd_manager.specs.Marking.{AreUnmarked}
-use Rattle.sd_manager.specs.Moving.{moving_at, with_vtree, at_rest, next_epoch, IsLater}
-use Rattle.sd_manager.specs.Places.{IsLinkedAt}
+use Rattle.sd_manager.specs.Moving.{moving_at, at_rest, next_epoch, IsLater}
 use Rattle.sd_sweep.specs.Reached.{IsReached, KeepsReached}
 use Rattle.sd_move.specs.GoingBack.{ToTable, CanGoBack, HasGoneBack}
 use Rattle.sd_move.specs.Journal.{Named, Journal}
 use Rattle.sd_move.specs.Moves.{IsMoved}
-use Rattle.sd_move.specs.Moving.{no_progress, HasBegun}
+use Rattle.sd_move.specs.Moving.{no_progress}
 use Rattle.sd_move.specs.Recorded.{AreRecorded}
-use Rattle.sd_move.specs.Rewriting.{IsWaiting, CanRewriteAll, HasRewritten, GoesOn, numbers_of}
+use Rattle.sd_move.specs.Rewriting.{CanRewriteAll, HasRewritten, GoesOn, numbers_of}
 use Rattle.sd_move.specs.Swapping.{HasSwapped}
 use Rattle.sd_move.proofs.KnownAtEnd.{may_end, key_linked}
 use Rattle.sd_move.proofs.Linking.{linked_key}

@@ -1,19 +1,19 @@
 -- Nodes that were rewritten make entries that tell what a swap has changed.
-use Rattle.std.proofs.Common.{◌≡◌, ◌≢◌, ◌⊎◌, inl, inr, ℕ, List, [], ◌∷◌, ◌++◌, Option, Some, None}
-use Rattle.std.proofs.Common.{map, length, refl, sym, ◌∙◌, ap, subst, eq-eqb, ne_eqb, if◌then◌else◌}
+use Rattle.std.proofs.Common.{◌≡◌, ◌≢◌, ◌⊎◌, inl, inr, ℕ, List, [], ◌∷◌, ◌++◌, Some, None}
+use Rattle.std.proofs.Common.{length, refl, sym, ◌∙◌, ap, eq-eqb, ne_eqb, if◌then◌else◌}
 use Rattle.std.specs.List.{AllByRecursion}
-use Rattle.std.specs.Option.{IsSome, option_map}
+use Rattle.std.specs.Option.{option_map}
 use Rattle.std.specs.Ordering.{nat_cmp}
-use Rattle.std.specs.FinMap.{FinMap, get, empty, remove}
+use Rattle.std.specs.FinMap.{FinMap, get, remove}
 use Rattle.std.proofs.lemmas.Bool.{cases_eq}
-use Rattle.std.proofs.lemmas.Option.{same_Some, none-some, some_pair_parts}
+use Rattle.std.proofs.lemmas.Option.{none-some, some_pair_parts}
 use Rattle.sd_model.specs.Tree.{AreDistinct}
 use Rattle.sd_runs.specs.Arena.{IsMember, HasNoCopies}
-use Rattle.sd_runs.proofs.Maps.{same_at_each, get_remove_same, get_remove_other}
+use Rattle.sd_runs.proofs.Maps.{same_at_each, get_remove_same}
 use Rattle.sd_laws.proofs.Lists.{all_weaker}
 use Rattle.sd_manager.specs.Table.{Table, key_at}
 use Rattle.sd_manager.specs.Valid.{IsTable}
-use Rattle.sd_move.specs.Journal.{Named, journal_entry, key_before, IsOwnRun, with_start, starts_of, without_runs}
+use Rattle.sd_move.specs.Journal.{Named, journal_entry, key_before, starts_of, without_runs}
 use Rattle.sd_move.specs.Recorded.{IsRecorded, AreRecorded}
 use Rattle.sd_move.specs.Rewriting.{WasRewritten, numbers_of, AreRewritten}
 use Rattle.sd_move.proofs.LinkedAgain.{has_or_not}

@@ -1,5 +1,5 @@
 -- After the turn of a swap each node that was detached waits for another list.
-use Rattle.std.proofs.Common.{◌≡◌, ◌≢◌, ◌⊎◌, inl, inr, ℕ, ◌+◌, ◌*◌, ◌<◌, List, [], ◌∷◌, Option, Some, None}
+use Rattle.std.proofs.Common.{◌≡◌, ◌≢◌, ◌⊎◌, inl, inr, ℕ, ◌+◌, List, [], ◌∷◌, Option, Some, None}
 use Rattle.std.proofs.Common.{refl, sym, ◌∙◌, ap, subst, arith}
 use Rattle.std.specs.List.{AllByRecursion}
 use Rattle.std.specs.Option.{IsSome}
@@ -9,13 +9,13 @@ use Rattle.sd_model.specs.declared.trees.Move.TheVariants.{Swap}
 use Rattle.sd_model.specs.Tree.{Node, leaves}
 use Rattle.sd_model.proofs.Blend.{IsApart}
 use Rattle.sd_model.proofs.OverVtree.{vtree_apart}
-use Rattle.sd_vtree.specs.Numbered.{Numbered, NumberedNode, plain_tree, subtree, IsNumbered, IsUnder}
+use Rattle.sd_vtree.specs.Numbered.{Numbered, NumberedNode, plain_tree, IsUnder}
 use Rattle.sd_vtree.specs.NumberedMoves.{moved_number}
 use Rattle.sd_vtree.proofs.Subtrees.{once_numbered}
 use Rattle.sd_runs.specs.Arena.{IsMember}
 use Rattle.sd_laws.specs.Depends.{DependsOn}
-use Rattle.sd_laws.specs.Turned.{lower_of, AreSwapped}
-use Rattle.sd_laws.specs.Values.{Valuation, IsTwoSided, ShowsValue}
+use Rattle.sd_laws.specs.Turned.{AreSwapped}
+use Rattle.sd_laws.specs.Values.{Valuation, ShowsValue}
 use Rattle.sd_laws.proofs.ByValues.{base_shown}
 use Rattle.sd_laws.proofs.Choosing.{two_sided_same}
 use Rattle.sd_laws.proofs.Evaluated.{value_of, literals_given}

@@ -1,11 +1,10 @@
 -- A whole swap: when it can be made, and why it is refused.
-use Rattle.std.proofs.Common.{◌≡◌, ℕ, ◌≤◌, ◌<◌, List, Option, Some, None, option_and_then, refl, sym, ◌∙◌, ap, subst}
+use Rattle.std.proofs.Common.{◌≡◌, ℕ, Option, Some, None, option_and_then, refl}
 use Rattle.std.specs.Option.{IsSome}
 use Rattle.sd_model.specs.declared.trees.Move.{Move}
 use Rattle.sd_model.specs.declared.trees.Move.TheVariants.{Swap}
 use Rattle.sd_vtree.specs.Numbered.{Numbered, NumberedLeaf, NumberedNode, subtree, child_numbers, children_at}
 use Rattle.sd_vtree.specs.Numbered.{IsNumbered}
-use Rattle.sd_vtree.specs.NumberedMoves.{moved_number}
 use Rattle.sd_vtree.proofs.Subtrees.{once_numbered}
 use Rattle.sd_vtree.proofs.Put.{put}
 use Rattle.sd_manager.specs.Table.{Table}

@@ -39,18 +39,18 @@ times_sum n (m ∷ ms) =
     ap (λ k. (if m == n then 1 else 0) + k) (times_sum n ms) ∙ sym (sum_by-cons (λ m. if m == n then 1 else 0) m ms)
 
 -- so it is the same in another order
-times_permuted : (n : ℕ) (xs ys : List ℕ) → IsPermutation xs ys → times n ys ≡ times n xs
+pub times_permuted : (n : ℕ) (xs ys : List ℕ) → IsPermutation xs ys → times n ys ≡ times n xs
 times_permuted n xs ys s =
     times_sum n ys ∙ sum_by-IsPermutation (λ m. if m == n then 1 else 0) xs ys s ∙ sym (times_sum n xs)
 
 -- a member is there
-member_times : (n : ℕ) (xs : List ℕ) → IsMember n xs → 1 ≤ times n xs
+pub member_times : (n : ℕ) (xs : List ℕ) → IsMember n xs → 1 ≤ times n xs
 member_times n [] k = absurd k
 member_times n (m ∷ ms) (inl e) = omega (arith, times_same n m ms e)
 member_times n (m ∷ ms) (inr k) = omega (arith, member_times n ms k, times_cons n m ms)
 
 -- and what is there is a member
-times_member : (n : ℕ) (xs : List ℕ) → 1 ≤ times n xs → IsMember n xs
+pub times_member : (n : ℕ) (xs : List ℕ) → 1 ≤ times n xs → IsMember n xs
 times_member n [] h = absurd (omega arith)
 times_member n (m ∷ ms) h = elim (cases_eq m n) [
   | inl e ↦ inl e
@@ -58,7 +58,7 @@ times_member n (m ∷ ms) h = elim (cases_eq m n) [
 ]
 
 -- without copies it is there at most once
-once_times : (xs : List ℕ) → HasNoCopies xs → (n : ℕ) → times n xs ≤ 1
+pub once_times : (xs : List ℕ) → HasNoCopies xs → (n : ℕ) → times n xs ≤ 1
 once_times [] c n = omega arith
 once_times (m ∷ ms) c n = elim (cases_eq m n) [
   | inl e ↦ elim (cases_lt 0 (times n ms)) [
@@ -69,7 +69,7 @@ once_times (m ∷ ms) c n = elim (cases_eq m n) [
 ]
 
 -- and the other way round
-times_once : (xs : List ℕ) → ((n : ℕ) → times n xs ≤ 1) → HasNoCopies xs
+pub times_once : (xs : List ℕ) → ((n : ℕ) → times n xs ≤ 1) → HasNoCopies xs
 times_once [] f = tt
 times_once (m ∷ ms) f = (
   λ k. omega (arith, f m, times_same m m ms refl, member_times m ms k),

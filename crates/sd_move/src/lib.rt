@@ -12,14 +12,16 @@ mod going_back;
 mod journal;
 pub mod laws;
 mod rewriting;
+mod rotating;
 mod settling;
-mod swapping;
 mod sorting;
+mod swapping;
 mod turning;
 mod undone;
 
 pub use error::MoveError;
 pub use journal::{Journal, Moved};
+pub use rotating::{rotate_left, rotate_right};
 pub use settling::settle;
 pub use swapping::swap;
 pub use undone::undo;

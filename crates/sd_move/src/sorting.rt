@@ -110,7 +110,7 @@ fn are_below(m: &Manager, at: VNode, number: u32, side: Side, child: VNode) -> b
 }
 
 // The child of a vtree node on the side.
-fn child_on(m: &Manager, side: Side, node: VNode) -> VNode
+pub(crate) fn child_on(m: &Manager, side: Side, node: VNode) -> VNode
     requires inner { IsSome (option_map (on side) (children_at m.now.vtree node)) }
     requires node { node < length (numbers m.now.vtree) }
     ensures child { option_map (on side) (children_at m.now.vtree node) ≡ Some result }
@@ -229,7 +229,7 @@ pub(crate) fn enter_all(
 }
 
 // The rotation that divides the nodes of a side.
-fn rotation_of(side: Side) -> Move
+pub(crate) fn rotation_of(side: Side) -> Move
     ensures { result ≡ rotation_of side }
 {
     match side {

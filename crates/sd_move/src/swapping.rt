@@ -130,7 +130,7 @@ fn swap_nodes(
 }
 
 // The refusal of a move for one of the arena.
-fn refusal(error: TakeError) -> MoveError
+pub(crate) fn refusal(error: TakeError) -> MoveError
     ensures refusal { (t : Table) → KeepsRule t error → IsRefusedOnTheWay t result }
 {
     match error {

@@ -13,7 +13,7 @@ use sd_model::Move;
 use sd_sweep::sweep;
 
 // The move that leads back.
-fn inverse_of(kind: Move) -> Move
+pub(crate) fn inverse_of(kind: Move) -> Move
     ensures inverse { result ≡ inverse_move kind }
 {
     match kind {

@@ -7,8 +7,8 @@ use Rattle.sd_move.proofs.BegunBoth.{second_can_detach, both_detached, upper_may
 use Rattle.sd_move.proofs.BegunBoth.{known_back, ended_back}
 use Rattle.sd_move.proofs.beginning.begin_at_both.Goals as goal
 
-pub detach_at-requires-clause-may : goal.detach_at-requires-clause-may
-detach_at-requires-clause-may c =
+pub detach_entered-requires-clause-may : goal.detach_entered-requires-clause-may
+detach_entered-requires-clause-may c =
     let m = c.args.m.now in
     let e = c.in_ok-upper_nodes.ensures in (
       m,
@@ -27,11 +27,11 @@ link_all-requires-clause-may c =
       c.args.upper,
       no_progress,
       value_of (get m.linked),
-      subst (CanLinkAll m c.detach_at.new.m c.args.upper no_progress (value_of (get m.linked)) c.args.upper)
+      subst (CanLinkAll m c.detach_entered.new.m c.args.upper no_progress (value_of (get m.linked)) c.args.upper)
           (sym c.deref.ensures.value)
           (upper_may_link m c.begin_at.new.m c.args.upper c.args.lower _ c.requires.table c.requires.no_move
           c.begin_at.ensures.at_begin c.requires.child c.begin_at.ensures.table e.going e.detached e.none_left
-          c.detach_at.new.m c.in-Err.ensures.err),
+          c.detach_entered.new.m c.in-Err.ensures.err),
     )
 
 pub end_move-requires-clause-none_detached : goal.end_move-requires-clause-none_detached
@@ -40,8 +40,8 @@ end_move-requires-clause-none_detached c =
     let e = c.in_ok-upper_nodes.ensures in
     let same = linked_back m c.begin_at.new.m c.args.upper c.args.lower _ c.requires.table c.requires.no_move
     c.begin_at.ensures.at_begin c.requires.child c.begin_at.ensures.table e.going e.detached e.none_left
-    c.detach_at.new.m c.link_all.new.m c.in-Err.ensures.err
-    (subst (AreLinkedAt c.detach_at.new.m c.link_all.new.m c.args.upper) c.deref.ensures.value
+    c.detach_entered.new.m c.link_all.new.m c.in-Err.ensures.err
+    (subst (AreLinkedAt c.detach_entered.new.m c.link_all.new.m c.args.upper) c.deref.ensures.value
     c.link_all.ensures.linked) in
     none_back m c.begin_at.new.m c.args.upper c.args.lower _ c.requires.table c.requires.no_move
     c.begin_at.ensures.at_begin c.requires.child c.begin_at.ensures.table e.going e.detached e.none_left
@@ -53,8 +53,8 @@ end_move-requires-clause-known c =
     let e = c.in_ok-upper_nodes.ensures in
     let same = linked_back m c.begin_at.new.m c.args.upper c.args.lower _ c.requires.table c.requires.no_move
     c.begin_at.ensures.at_begin c.requires.child c.begin_at.ensures.table e.going e.detached e.none_left
-    c.detach_at.new.m c.link_all.new.m c.in-Err.ensures.err
-    (subst (AreLinkedAt c.detach_at.new.m c.link_all.new.m c.args.upper) c.deref.ensures.value
+    c.detach_entered.new.m c.link_all.new.m c.in-Err.ensures.err
+    (subst (AreLinkedAt c.detach_entered.new.m c.link_all.new.m c.args.upper) c.deref.ensures.value
     c.link_all.ensures.linked) in
     known_back m c.begin_at.new.m c.args.upper c.args.lower _ c.requires.table c.requires.no_move
     c.begin_at.ensures.at_begin c.requires.child c.begin_at.ensures.table e.going e.detached e.none_left
@@ -68,7 +68,7 @@ returns-in-Ok-clause-ok c =
     c.begin_at.ensures.at_begin c.requires.child c.begin_at.ensures.table e.going e.detached e.none_left in
     both_detached m c.begin_at.new.m c.args.upper c.args.lower _ c.requires.table c.requires.no_move
     c.begin_at.ensures.at_begin c.requires.child c.begin_at.ensures.table e.going e.detached e.none_left
-    c.detach_at.new.m _ (c.in-Ok.ensures.going m c.args.upper no_progress (value_of (get m.linked)) k.may)
+    c.detach_entered.new.m _ (c.in-Ok.ensures.going m c.args.upper no_progress (value_of (get m.linked)) k.may)
     c.in-Ok.ensures.detached c.in-Ok.ensures.none_left
 
 pub returns-in-Err-clause-err : goal.returns-in-Err-clause-err
@@ -77,8 +77,8 @@ returns-in-Err-clause-err c =
     let e = c.in_ok-upper_nodes.ensures in
     let same = linked_back m c.begin_at.new.m c.args.upper c.args.lower _ c.requires.table c.requires.no_move
     c.begin_at.ensures.at_begin c.requires.child c.begin_at.ensures.table e.going e.detached e.none_left
-    c.detach_at.new.m c.link_all.new.m c.in-Err.ensures.err
-    (subst (AreLinkedAt c.detach_at.new.m c.link_all.new.m c.args.upper) c.deref.ensures.value
+    c.detach_entered.new.m c.link_all.new.m c.in-Err.ensures.err
+    (subst (AreLinkedAt c.detach_entered.new.m c.link_all.new.m c.args.upper) c.deref.ensures.value
     c.link_all.ensures.linked) in
     ended_back m c.begin_at.new.m c.args.upper c.args.lower _ c.requires.table c.requires.no_move
     c.begin_at.ensures.at_begin c.requires.child c.begin_at.ensures.table e.going e.detached e.none_left

@@ -4,7 +4,6 @@ use Rattle.sd_model.specs.declared.trees.Move.TheVariants.{Swap}
 use Rattle.sd_vtree.specs.Numbered.{Numbered, numbers, children_at}
 use Rattle.sd_vtree.specs.NumberedMoves.{moved_number}
 use Rattle.sd_vtree.proofs.Movable.{leaf_not_movable}
-use Rattle.sd_manager.specs.Table.{Table}
 use Rattle.sd_apply.specs.Serving.{Serves}
 use Rattle.sd_move.proofs.AfterSweep.{moved_swept}
 use Rattle.sd_move.proofs.ServesLater.{serves_later, serves_swept}

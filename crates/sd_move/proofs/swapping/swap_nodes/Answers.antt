@@ -1,4 +1,4 @@
-use Rattle.std.proofs.Common.{◌≡◌, ◌≤◌, List, [], None, refl, sym, subst, arith}
+use Rattle.std.proofs.Common.{◌≤◌, [], None, refl, sym, subst, arith}
 use Rattle.std.specs.FinMap.{get}
 use Rattle.sd_model.specs.declared.trees.Move.TheVariants.{Swap}
 use Rattle.sd_laws.proofs.Evaluated.{value_of}
