@@ -84,7 +84,7 @@ moved_swept old mid new kind place j most s m =
 module _ (old new : Table) (kind : Move) (place : ℕ) (j : Journal) (t : IsTable old) (u : IsTable new)
     (m : IsMoved old new kind place j) where
   -- the value of a code that a root holds
-  value_then : (c : ℕ) → ((n : ℕ) → c ≡ 2050 + n → IsReached old n) → (d : Diagram) → ShowsCanonical old c d →
+  pub value_then : (c : ℕ) → ((n : ℕ) → c ≡ 2050 + n → IsReached old n) → (d : Diagram) → ShowsCanonical old c d →
       (a : List Bool) → value_of (get new.linked) c a ≡ meaning d a
   value_then c reached Bottom h a =
       subst (λ z. value_of (get new.linked) z a ≡ meaning Bottom a) (sym h.shows)

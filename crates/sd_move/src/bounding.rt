@@ -31,6 +31,7 @@ pub(crate) fn within(m: &mut Manager, journal: Journal, most: u32) -> Result<Mov
     ensures back { (old : Table) (kind : Move) (place : ℕ) → IsTable old
         → IsMoved old m.old kind place journal
         → OnErr result (KeepsReached old m.new × (m.new.moving ≡ None)) }
+    ensures bound { m.new.bound ≡ m.old.bound }
     ensures later { (m.new ≡ m.old) ⊎ IsLater m.old m.new }
     ensures unmarked { AreUnmarked m.new }
     ensures table { IsTable m.new }

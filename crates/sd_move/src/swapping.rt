@@ -49,6 +49,7 @@ pub fn swap(
     ensures within { IfOk result (λ r. r.size ≤ most) }
     ensures refused { IfErr result (λ e. IsMoveRefusal m.old m.new Swap place most e) }
     ensures back { OnErr result (KeepsReached m.old m.new × (m.new.moving ≡ None)) }
+    ensures bound { m.new.bound ≡ m.old.bound }
     ensures unmarked { AreUnmarked m.new }
     ensures serves { Serves c.new m.new }
     ensures table { IsTable m.new }
@@ -100,6 +101,7 @@ fn swap_nodes(
     requires table { IsTable m.old }
     ensures moved { IfOk result (λ j. IsMoved m.old m.new Swap place j) }
     ensures back { OnErr result (KeepsReached m.old m.new × (m.new.moving ≡ None)) }
+    ensures bound { m.new.bound ≡ m.old.bound }
     ensures refused { IfErr result (λ e. IsRefusedOnTheWay m.new e) }
     ensures unmarked { AreUnmarked m.old → AreUnmarked m.new }
     ensures serves { Serves c.new m.new }

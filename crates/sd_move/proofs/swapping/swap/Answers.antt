@@ -68,6 +68,13 @@ returns-in-Ok-clause-back c =
     c.in-Ok.ensures.moved in
     c.within.ensures.back old Swap c.args.place t m
 
+pub returns-in-Ok-clause-bound : goal.returns-in-Ok-clause-bound
+returns-in-Ok-clause-bound c =
+    c.within.ensures.bound ∙ c.swap_nodes.ensures.bound ∙ c.sweep.ensures.swept.bound
+
+pub returns-in-Err-clause-bound : goal.returns-in-Err-clause-bound
+returns-in-Err-clause-bound c = c.swap_nodes.ensures.bound ∙ c.sweep.ensures.swept.bound
+
 pub returns-in-Ok-clause-serves : goal.returns-in-Ok-clause-serves
 returns-in-Ok-clause-serves c =
     let n = c.swap_nodes.new.m in

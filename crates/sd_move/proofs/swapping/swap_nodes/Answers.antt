@@ -1,4 +1,4 @@
-use Rattle.std.proofs.Common.{◌≤◌, [], None, refl, sym, subst, arith}
+use Rattle.std.proofs.Common.{◌≡◌, ◌≤◌, List, [], None, refl, sym, ap, subst, ◌∙◌, arith}
 use Rattle.std.specs.FinMap.{get}
 use Rattle.sd_model.specs.declared.trees.Move.TheVariants.{Swap}
 use Rattle.sd_laws.proofs.Evaluated.{value_of}
@@ -168,6 +168,57 @@ returns-clause-back c =
     let new = c.go_back.new.m in
     let b = subst (HasGoneBack (ToTable m0) m2 new Swap x None) value (c.go_back.ensures.back way back) in
     (swap_back m0 m1 x ns t0 still s t1 m2 t2 es w.0 r on new b, b.moving)
+
+pub returns-clause-bound : goal.returns-clause-bound
+returns-clause-bound c =
+    let m0 = c.args.m.now in
+    let m1 = c.begin_swap.new.m in
+    let x = c.args.place in
+    let ns = c.in-Ok.numbers.items in
+    let t0 = c.requires.table in
+    let still = c.requires.no_move in
+    let s = c.in-Ok.ensures.swapped in
+    let can = subst (CanRewriteAll m0 m1 x no_progress (value_of (get m0.linked))) (sym c.deref.ensures.value)
+    (swap_may m0 m1 x ns t0 still s) in
+    let t1 = c.begin_swap.ensures.table in
+    let m2 = c.rewrite_all.new.m in
+    let t2 = c.rewrite_all.ensures.table in
+    let es = c.rewrite_all.new.named.items in
+    let w = c.rewrite_all.ensures.rewritten in
+    let r : HasRewritten m1 m2 x ns [] es w.0 =
+    subst (λ b. HasRewritten m1 m2 x ns b es w.0) c.new-named.ensures.items
+    (subst (λ l. HasRewritten m1 m2 x l c.new-named.result.items es w.0) c.deref.ensures.value w.1) in
+    let on = w.2 m0 no_progress (value_of (get m0.linked)) can in
+    let value = c.deref-in-Err-rewrite_all.ensures.value in
+    let way = way_to m0 on.progress on.values in
+    let back = subst (CanGoBack way m2 Swap x None) (sym value)
+    (swap_refused m0 m1 x ns t0 still s t1 m2 t2 es w.0 r on) in
+    let new = c.go_back.new.m in
+    let b = subst (HasGoneBack (ToTable m0) m2 new Swap x None) value (c.go_back.ensures.back way back) in
+    b.bound ∙ r.done.bound ∙ ap (λ (t : Table). t.bound) s.turned ∙ ap (λ (t : Table). t.bound) s.detached.same
+
+pub returns-in-Ok-rewrite_all-clause-bound : goal.returns-in-Ok-rewrite_all-clause-bound
+returns-in-Ok-rewrite_all-clause-bound c =
+    let m0 = c.args.m.now in
+    let m1 = c.begin_swap.new.m in
+    let x = c.args.place in
+    let ns = c.in-Ok.numbers.items in
+    let t0 = c.requires.table in
+    let still = c.requires.no_move in
+    let s = c.in-Ok.ensures.swapped in
+    let can = subst (CanRewriteAll m0 m1 x no_progress (value_of (get m0.linked))) (sym c.deref.ensures.value)
+    (swap_may m0 m1 x ns t0 still s) in
+    let t1 = c.begin_swap.ensures.table in
+    let m2 = c.rewrite_all.new.m in
+    let t2 = c.rewrite_all.ensures.table in
+    let es = c.rewrite_all.new.named.items in
+    let r : HasRewritten m1 m2 x ns [] es [] =
+    subst (λ b. HasRewritten m1 m2 x ns b es []) c.new-named.ensures.items
+    (subst (λ l. HasRewritten m1 m2 x l c.new-named.result.items es []) c.deref.ensures.value
+    c.in-Ok-rewrite_all.ensures.ok) in
+    let on = c.in-Ok-rewrite_all.ensures.going m0 no_progress (value_of (get m0.linked)) can in
+    ap (λ (t : Table). t.bound) c.end_move.ensures.ended ∙ r.done.bound ∙ ap (λ (t : Table). t.bound) s.turned
+    ∙ ap (λ (t : Table). t.bound) s.detached.same
 
 pub returns-clause-refused : goal.returns-clause-refused
 returns-clause-refused c =
