@@ -1,4 +1,6 @@
 pub mod Limits
+pub mod Moved
+pub mod MovedState
 pub mod Names
 pub mod Outcomes
 pub mod Standing

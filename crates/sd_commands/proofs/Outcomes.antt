@@ -1,10 +1,12 @@
 -- A command has one outcome; where it is done the tree stays, and the bound names are those that are expected.
 use Rattle.std.proofs.Common.{◌≡◌, ℕ, Bool, true, false, not, eqb, List, [], ◌∷◌, filter, map}
 use Rattle.std.proofs.Common.{suc, ◌+◌, ◌<◌, length, get_or, drop, add-one, refl, sym, ap, subst, ◌∙◌, inl, inr}
-use Rattle.std.proofs.Common.{Some, None, arith}
+use Rattle.std.proofs.Common.{Option, Some, None, arith}
 use Rattle.std.proofs.Math.Seq.{drop-cons}
 use Rattle.std.proofs.lemmas.Bool.{cases_eq, cases_order, eq-eqb, ne_eqb}
 use Rattle.sd_model.specs.Tree.{Tree, IsVtree}
+use Rattle.sd_model.specs.Moves.{moved_at}
+use Rattle.sd_model.specs.declared.trees.Move.TheVariants.{Swap}
 use Rattle.sd_model.specs.Text.{sdd_text}
 use Rattle.sd_model.specs.Expression.{Expression, Constant, Atom, Combined, Negated, Conditioned, Forgotten}
 use Rattle.sd_model.specs.Size.{HasSize}
@@ -14,13 +16,14 @@ use Rattle.sd_formula.specs.Formulas.{expression_of}
 use Rattle.sd_file.specs.Reads.{expression_of_file}
 use Rattle.sd_commands.specs.Effects.{Effect, Write, Print}
 use Rattle.sd_commands.specs.Commands.{State, Outcome, Done, OverLimit, Step, Settles, Binds, BindsInput, Compares}
-use Rattle.sd_commands.specs.Commands.{AreWithin, PassLimit, PassesAtGroup, IsTextOf, formulas_of, with_groups}
+use Rattle.sd_commands.specs.Commands.{Moves, AreWithin, PassLimit, PassesAtGroup, IsTextOf, formulas_of, with_groups}
 use Rattle.sd_commands.specs.Commands.{with_name, formula_named, size_line, same_line}
 use Rattle.sd_commands.specs.Fits.{Fits, AllFit, has, bound_after}
 use Rattle.sd_commands.specs.Standing.{names_of}
 use Rattle.sd_commands.specs.declared.command.NumberedCommand.{NumberedCommand}
 use Rattle.sd_commands.specs.declared.command.RunCommand.{RunCommand}
 use Rattle.sd_commands.specs.declared.command.RunCommand.TheVariants as commands
+use Rattle.sd_commands.proofs.Moved.{IsReordered, vtree_reordered, swap_reordered}
 
 -- ---- one outcome
 
@@ -89,6 +92,14 @@ one_input input state name a b valid (inr p) (inr q) =
     p.3 ∙ ap (λ g. OverLimit (Some g) p.1 state.limit) same.0 ∙ ap (λ n. OverLimit (Some q.0) n state.limit) same.1
     ∙ sym q.3
 
+-- a move has one outcome
+one_moved : (state : State) (position : ℕ) (o : Option Tree) (a b : Outcome) → moved_at Swap state.tree position ≡ o
+    → IsVtree state.tree → Moves state o a → Moves state o b → a ≡ b
+one_moved state position None a b at valid p q = p ∙ sym q
+one_moved state position (Some tree) a b at valid p q =
+    one_settled (record state { tree = tree }) a b
+    (vtree_reordered state.tree tree (swap_reordered state.tree tree position at) valid) p q
+
 pub one_outcome : (input : Groups) (state : State) (command : RunCommand) (a b : Outcome) → IsVtree state.tree
     → Step input state command a → Step input state command b → a ≡ b
 one_outcome input state (commands.Generated v g) a b valid p q = p ∙ sym q
@@ -108,6 +119,8 @@ one_outcome input state (commands.Given n x literal) a b valid p q =
 one_outcome input state (commands.Forget n x variable) a b valid p q =
     one_settled (with_name state n (Forgotten (formula_named state x) variable)) a b valid p q
 one_outcome input state (commands.Drop x) a b valid p q = p ∙ sym q
+one_outcome input state (commands.Swap position) a b valid p q =
+    one_moved state position (moved_at Swap state.tree position) a b refl valid p q
 one_outcome input state (commands.Limit limit) a b valid p q =
     one_settled (record state { limit = limit }) a b valid p q
 one_outcome input state (commands.Same x y) a b valid p q =
@@ -178,26 +191,92 @@ module _ (state next : State) (effects : List Effect) where
       → names_of next ≡ filter (λ m. not (has [] m)) (names_of state)
   kept_names effect e = ap names_of (same_next _ _ _ _ e) ∙ sym (all_stay (names_of state))
 
-pub same_tree : (input : Groups) (state next : State) (command : RunCommand) (effects : List Effect)
+-- a move that is done leads to the state with a tree of the same variables
+moved_done : (state next : State) (effects : List Effect) (position : ℕ) (o : Option Tree)
+    → moved_at Swap state.tree position ≡ o → Moves state o (Done next effects)
+    → IsReordered state.tree next.tree × (names_of next ≡ names_of state)
+moved_done state next effects position None at p = let bad : ⊥ = cc in absurd bad
+moved_done state next effects position (Some tree) at p =
+    let same = (settled_done (record state { tree = tree }) next effects p).0 in (
+      subst (λ (s : State). IsReordered state.tree s.tree) (sym same) (swap_reordered state.tree tree position at),
+      ap names_of same,
+    )
+
+-- a command other than a swap
+abbrev pub KeepsTree : RunCommand → Type 0
+KeepsTree (commands.Swap position) = ⊥
+KeepsTree command = Unit {0}
+
+-- the same tree has the same variables
+kept_order : (state next : State) → next.tree ≡ state.tree → IsReordered state.tree next.tree
+kept_order state next same =
+    subst (λ t. IsReordered state.tree t) (sym same) (record { often = λ k. refl; count = refl })
+
+-- leaves the tree
+pub same_tree : (input : Groups) (state next : State) (command : RunCommand) (effects : List Effect) → KeepsTree command
     → Step input state command (Done next effects) → next.tree ≡ state.tree
-same_tree input state next (commands.Generated v g) effects p = kept_tree state next effects _ p
-same_tree input state next (commands.Input n) effects p =
+same_tree input state next (commands.Generated v g) effects keeps p = kept_tree state next effects _ p
+same_tree input state next (commands.Input n) effects keeps p =
     ap (λ s. s.tree) (input_done input state next n effects p).0
-same_tree input state next (commands.Load n file) effects p = bound_tree state next effects n _ p
-same_tree input state next (commands.Literal n literal) effects p = bound_tree state next effects n _ p
-same_tree input state next (commands.Constant n value) effects p = bound_tree state next effects n _ p
-same_tree input state next (commands.Combine operation n x y) effects p = bound_tree state next effects n _ p
-same_tree input state next (commands.Negate n x) effects p = bound_tree state next effects n _ p
-same_tree input state next (commands.Given n x literal) effects p = bound_tree state next effects n _ p
-same_tree input state next (commands.Forget n x variable) effects p = bound_tree state next effects n _ p
-same_tree input state next (commands.Drop x) effects p = ap (λ s. s.tree) (same_next _ _ _ _ p)
-same_tree input state next (commands.Limit limit) effects p =
+same_tree input state next (commands.Load n file) effects keeps p = bound_tree state next effects n _ p
+same_tree input state next (commands.Literal n literal) effects keeps p = bound_tree state next effects n _ p
+same_tree input state next (commands.Constant n value) effects keeps p = bound_tree state next effects n _ p
+same_tree input state next (commands.Combine operation n x y) effects keeps p = bound_tree state next effects n _ p
+same_tree input state next (commands.Negate n x) effects keeps p = bound_tree state next effects n _ p
+same_tree input state next (commands.Given n x literal) effects keeps p = bound_tree state next effects n _ p
+same_tree input state next (commands.Forget n x variable) effects keeps p = bound_tree state next effects n _ p
+same_tree input state next (commands.Drop x) effects keeps p = ap (λ s. s.tree) (same_next _ _ _ _ p)
+same_tree input state next (commands.Limit limit) effects keeps p =
     ap (λ s. s.tree) (settled_done (record state { limit = limit }) next effects p).0
-same_tree input state next (commands.Same x y) effects p = kept_tree state next effects _ p.2
-same_tree input state next (commands.Size x) effects p = kept_tree state next effects _ p.2
-same_tree input state next (commands.Value x bits) effects p = kept_tree state next effects _ p
-same_tree input state next (commands.Write x file) effects p = kept_tree state next effects _ p.2
-same_tree input state next (commands.WriteVtree file) effects p = kept_tree state next effects _ p
+same_tree input state next (commands.Same x y) effects keeps p = kept_tree state next effects _ p.2
+same_tree input state next (commands.Size x) effects keeps p = kept_tree state next effects _ p.2
+same_tree input state next (commands.Value x bits) effects keeps p = kept_tree state next effects _ p
+same_tree input state next (commands.Write x file) effects keeps p = kept_tree state next effects _ p.2
+same_tree input state next (commands.WriteVtree file) effects keeps p = kept_tree state next effects _ p
+same_tree input state next (commands.Swap position) effects keeps p = absurd keeps
+
+-- so each command leaves a vtree of the same variables
+pub tree_reordered : (input : Groups) (state next : State) (command : RunCommand) (effects : List Effect)
+    → Step input state command (Done next effects) → IsReordered state.tree next.tree
+tree_reordered input state next (commands.Swap position) effects p =
+    (moved_done state next effects position (moved_at Swap state.tree position) refl p).0
+tree_reordered input state next (commands.Generated v g) effects p =
+    kept_order state next (same_tree input state next (commands.Generated v g) effects tt p)
+tree_reordered input state next (commands.Input n) effects p =
+    kept_order state next (same_tree input state next (commands.Input n) effects tt p)
+tree_reordered input state next (commands.Load n file) effects p =
+    kept_order state next (same_tree input state next (commands.Load n file) effects tt p)
+tree_reordered input state next (commands.Literal n literal) effects p =
+    kept_order state next (same_tree input state next (commands.Literal n literal) effects tt p)
+tree_reordered input state next (commands.Constant n value) effects p =
+    kept_order state next (same_tree input state next (commands.Constant n value) effects tt p)
+tree_reordered input state next (commands.Combine operation n x y) effects p =
+    kept_order state next (same_tree input state next (commands.Combine operation n x y) effects tt p)
+tree_reordered input state next (commands.Negate n x) effects p =
+    kept_order state next (same_tree input state next (commands.Negate n x) effects tt p)
+tree_reordered input state next (commands.Given n x literal) effects p =
+    kept_order state next (same_tree input state next (commands.Given n x literal) effects tt p)
+tree_reordered input state next (commands.Forget n x variable) effects p =
+    kept_order state next (same_tree input state next (commands.Forget n x variable) effects tt p)
+tree_reordered input state next (commands.Drop x) effects p =
+    kept_order state next (same_tree input state next (commands.Drop x) effects tt p)
+tree_reordered input state next (commands.Limit limit) effects p =
+    kept_order state next (same_tree input state next (commands.Limit limit) effects tt p)
+tree_reordered input state next (commands.Same x y) effects p =
+    kept_order state next (same_tree input state next (commands.Same x y) effects tt p)
+tree_reordered input state next (commands.Size x) effects p =
+    kept_order state next (same_tree input state next (commands.Size x) effects tt p)
+tree_reordered input state next (commands.Value x bits) effects p =
+    kept_order state next (same_tree input state next (commands.Value x bits) effects tt p)
+tree_reordered input state next (commands.Write x file) effects p =
+    kept_order state next (same_tree input state next (commands.Write x file) effects tt p)
+tree_reordered input state next (commands.WriteVtree file) effects p =
+    kept_order state next (same_tree input state next (commands.WriteVtree file) effects tt p)
+
+pub valid_after : (input : Groups) (state next : State) (command : RunCommand) (effects : List Effect)
+    → IsVtree state.tree → Step input state command (Done next effects) → IsVtree next.tree
+valid_after input state next command effects valid p =
+    vtree_reordered state.tree next.tree (tree_reordered input state next command effects p) valid
 
 pub names_after : (input : Groups) (state next : State) (command : RunCommand) (effects : List Effect)
     → Step input state command (Done next effects) → names_of next ≡ bound_after (names_of state) command
@@ -213,6 +292,9 @@ names_after input state next (commands.Given n x literal) effects p = bound_name
 names_after input state next (commands.Forget n x variable) effects p = bound_names state next effects n _ p
 names_after input state next (commands.Drop x) effects p =
     ap names_of (same_next _ _ _ _ p) ∙ names_left state.names x
+names_after input state next (commands.Swap position) effects p =
+    (moved_done state next effects position (moved_at Swap state.tree position) refl p).1
+    ∙ sym (all_stay (names_of state))
 names_after input state next (commands.Limit limit) effects p =
     ap names_of (settled_done (record state { limit = limit }) next effects p).0 ∙ sym (all_stay (names_of state))
 names_after input state next (commands.Same x y) effects p = kept_names state next effects _ p.2

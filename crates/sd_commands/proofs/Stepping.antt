@@ -55,6 +55,7 @@ settled_stops input seen next command t (Err (errors.OverLimit group size limit)
     (subst (λ l. Step input seen command (OverLimit None size l)) (sym h.2)
     (step (OverLimit None size next.limit) (inr (size, h.1, refl))))
 settled_stops input seen next command t (Err (errors.ArenaFull elements)) step h = absurd h
+settled_stops input seen next command t (Err errors.NotMovable) step h = absurd h
 settled_stops input seen next command t (Err errors.OutOfMemory) step h = tt
 
 -- an operation before it stops

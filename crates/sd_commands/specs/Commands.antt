@@ -4,6 +4,8 @@ use Rattle.std.specs.Prelude.{map, filter, length, codes, Option, Some, None, un
 use Rattle.sd_model.specs.Expression.{Expression, Constant, Atom, Combined, Negated, Conditioned, Forgotten}
 use Rattle.sd_model.specs.Expression.{expression_value, AreOneFunction}
 use Rattle.sd_model.specs.Tree.{Tree, leaves}
+use Rattle.sd_model.specs.Moves.{moved_at}
+use Rattle.sd_model.specs.declared.trees.Move.TheVariants.{Swap}
 use Rattle.sd_model.specs.Diagram.{Diagram}
 use Rattle.sd_model.specs.Size.{IsDiagramOf, HasSize}
 use Rattle.sd_model.specs.Text.{number_text, sdd_text, vtree_text}
@@ -132,6 +134,12 @@ abbrev pub value_line : Bool → List ℕ
 value_line true = codes "value 1" ++ 10 ∷ []
 value_line false = codes "value 0" ++ 10 ∷ []
 
+-- The names keep their formulas over the moved tree, if the total size is then within the limit; where there is no such
+-- tree, the place is not movable.
+abbrev pub Moves : State → Option Tree → Outcome → Type 0
+Moves state None outcome = outcome ≡ NotMovable
+Moves state (Some tree) outcome = Settles (record state { tree = tree }) outcome
+
 -- what a command comes to in a state, where this formula is the input
 abbrev pub Step : Groups → State → RunCommand → Outcome → Type 0
 Step input state (commands.Generated variables groups) outcome =
@@ -147,6 +155,7 @@ Step input state (commands.Given n a literal) outcome =
     Binds state n (Conditioned (formula_named state a) literal) outcome
 Step input state (commands.Forget n a x) outcome = Binds state n (Forgotten (formula_named state a) x) outcome
 Step input state (commands.Drop a) outcome = outcome ≡ Done (dropped state a) []
+Step input state (commands.Swap p) outcome = Moves state (moved_at Swap state.tree p) outcome
 Step input state (commands.Limit limit) outcome = Settles (record state { limit = limit }) outcome
 Step input state (commands.Same a b) outcome =
     (answer : Bool) × Compares state.tree (formula_named state a) (formula_named state b) answer
@@ -167,6 +176,7 @@ MayFill (commands.Combine operation n a b) = Unit {0}
 MayFill (commands.Negate n a) = Unit {0}
 MayFill (commands.Given n a literal) = Unit {0}
 MayFill (commands.Forget n a x) = Unit {0}
+MayFill (commands.Swap p) = Unit {0}
 MayFill command = ⊥
 
 -- these commands are all done, one after another, with these effects

@@ -21,9 +21,12 @@ use Rattle.sd_compile.specs.declared.error.CompileError.{CompileError}
 use Rattle.sd_compile.specs.declared.error.CompileError.TheVariants as compiling
 use Rattle.sd_compile.specs.declared.error.HoldError.{HoldError}
 use Rattle.sd_compile.specs.declared.error.HoldError.TheVariants as holding
+use Rattle.sd_move.specs.declared.error.MoveError.{MoveError}
+use Rattle.sd_move.specs.declared.error.MoveError.TheVariants as moving
 use Rattle.sd_runs.specs.declared.error.TakeError.{TakeError}
 use Rattle.sd_runs.specs.declared.error.TakeError.TheVariants as taking
-use Rattle.sd_commands.specs.Commands.{State, Done, OverLimit, Step, MayFill, named, formulas_of, AreWithin, PassLimit}
+use Rattle.sd_commands.specs.Commands.{State, Done, OverLimit, NotMovable, Step, MayFill, named, formulas_of}
+use Rattle.sd_commands.specs.Commands.{AreWithin, PassLimit}
 use Rattle.sd_commands.specs.declared.command.RunCommand.{RunCommand}
 use Rattle.sd_commands.specs.declared.command.Effect.{Effect as CodeEffect}
 use Rattle.sd_commands.specs.declared.command.Effect.TheVariants.{WriteFile, PrintLine}
@@ -147,6 +150,7 @@ abbrev pub IsNotSettled : State → CommandError → Type 0
 IsNotSettled next (errors.OverLimit group size limit) =
     (group ≡ None) × PassLimit (formulas_of next) next.tree next.limit size × (limit ≡ next.limit)
 IsNotSettled next (errors.ArenaFull elements) = ⊥
+IsNotSettled next errors.NotMovable = ⊥
 IsNotSettled next errors.OutOfMemory = Unit {0}
 
 -- an answer of an operation, as one of a command
@@ -165,14 +169,22 @@ error_of_compiling (compiling.OverLimit group size limit) = errors.OverLimit (So
 error_of_compiling (compiling.ArenaFull elements) = errors.ArenaFull elements
 error_of_compiling compiling.OutOfMemory = errors.OutOfMemory
 
+-- why the vtree is not moved, as an answer of a command
+abbrev pub error_of_move : MoveError → CommandError
+error_of_move moving.NotMovable = errors.NotMovable
+error_of_move (moving.OverMost size most) = errors.OverLimit None size most
+error_of_move (moving.ArenaFull elements) = errors.ArenaFull elements
+error_of_move moving.OutOfMemory = errors.OutOfMemory
+
 -- the effect is handed out, or there was no memory for it
 abbrev pub HandsOut : Result CodeEffect AllocError → Result (Option CodeEffect) CommandError → Type 0
 HandsOut (Ok effect) result = result ≡ Ok (Some effect)
 HandsOut (Err e) result = result ≡ Err errors.OutOfMemory
 
--- The command stops in this state: the total size passes the limit, the arena was full and the command may need it, or
--- there was no memory.
+-- The command stops in this state: its place is not movable, the total size passes the limit, the arena was full and
+-- the command may need it, or there was no memory.
 abbrev pub StopsAt : Groups → State → RunCommand → Table → CommandError → Type 0
 StopsAt input seen command t (errors.OverLimit group size limit) = Step input seen command (OverLimit group size limit)
 StopsAt input seen command t (errors.ArenaFull elements) = MayFill command × IsFilled elements t
+StopsAt input seen command t errors.NotMovable = Step input seen command NotMovable
 StopsAt input seen command t errors.OutOfMemory = Unit {0}

@@ -27,6 +27,8 @@ pub enum RunCommand {
     Forget(u32, u32, u32),
     /// Frees a name.
     Drop(u32),
+    /// Exchanges the two sides of the vtree at a position.
+    Swap(u32),
     /// Sets the limit of the total size.
     Limit(u32),
     /// Prints whether the formulas of two names are one function.

@@ -1,16 +1,21 @@
 //! Why a command is not done.
 ghost use Rattle.std.specs.Prelude.{◌≡◌};
 ghost use Rattle.sd_commands.specs.Standing.{error_of_operation, error_of_compiling, error_of_holding};
+ghost use Rattle.sd_commands.specs.Standing.{error_of_move};
 
 use sd_compile::{CompileError, HoldError};
+use sd_move::MoveError;
 use sd_runs::TakeError;
 use thiserror::Error;
 
 /// Why a command is not done.
 #[derive(Clone, Copy, Debug, PartialEq, Eq, Error)]
 pub enum CommandError {
-    /// With what the command binds, or with the groups of the input up to this one, counted from 1, the total size
-    /// passes the limit.
+    /// The vtree cannot be moved so at that position.
+    #[error("NotMovable")]
+    NotMovable,
+    /// With what the command binds, under the moved vtree, or with the groups of the input up to this one, counted
+    /// from 1, the total size passes the limit.
     #[error("OverLimit")]
     OverLimit {
         group: Option<u32>,
@@ -63,5 +68,21 @@ pub(crate) fn holding_error(error: HoldError, limit: u32) -> CommandError
             limit,
         },
         HoldError::OutOfMemory => CommandError::OutOfMemory,
+    }
+}
+
+// Why the vtree is not moved, as an answer of a command.
+pub(crate) fn move_error(error: MoveError) -> CommandError
+    ensures { result ≡ error_of_move error }
+{
+    match error {
+        MoveError::NotMovable => CommandError::NotMovable,
+        MoveError::OverMost { size, most } => CommandError::OverLimit {
+            group: None,
+            size,
+            limit: most,
+        },
+        MoveError::ArenaFull { elements } => CommandError::ArenaFull { elements },
+        MoveError::OutOfMemory => CommandError::OutOfMemory,
     }
 }

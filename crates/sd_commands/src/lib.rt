@@ -6,6 +6,7 @@ mod bind;
 mod command;
 mod effects;
 mod error;
+mod moving;
 mod state;
 mod steps;
 #[cfg(test)]

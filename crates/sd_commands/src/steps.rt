@@ -16,14 +16,15 @@ use crate::effects::{
     print_generated, print_same, print_size, print_value, write_diagram, write_vtree_text,
 };
 use crate::error::CommandError;
+use crate::moving::swap_at;
 use crate::state::RunState;
 use sd_formula::Formula;
 use std::alloc::{AllocError, Global};
 
-/// Does one command, up to its effect, which is handed out. OverLimit where the total size passes the limit after a
-/// command that binds a name or sets the limit, or after a group of the input; ArenaFull where the elements of a node
-/// find no room in the arena; and OutOfMemory where memory runs out. Then the names, the tree, the limit and what each
-/// root holds are as before.
+/// Does one command, up to its effect, which is handed out. NotMovable where the vtree cannot be moved so; OverLimit
+/// where the total size passes the limit after a command that binds a name, moves the vtree or sets the limit, or after
+/// a group of the input; ArenaFull where the elements of a node find no room in the arena; and OutOfMemory where memory
+/// runs out. Then the names, the tree, the limit and what each root holds are as before.
 pub fn step(
     alloc: Global,
     input: &Formula,
@@ -40,7 +41,8 @@ pub fn step(
     ensures stops { (seen : State) → Represents state.old seen →
         IfErr result (λ e. StopsAt input.now seen command.now state.new.manager e) }
     ensures err { OnErr result (IsAsBefore state.old state.new) }
-    ensures vtree { state.new.manager.vtree ≡ state.old.manager.vtree }
+    ensures variables { leaves (plain_tree state.new.manager.vtree) ≡ leaves (plain_tree
+        state.old.manager.vtree) }
     ensures roots { root_count state.new ≤ root_count state.old + 1 }
 {
     match command {
@@ -61,6 +63,7 @@ pub fn step(
             state.free(*name);
             Ok(None)
         }
+        RunCommand::Swap(position) => swap_at(alloc, state, *position),
         RunCommand::Limit(limit) => set_limit(state, *limit),
         RunCommand::Same(a, b) => or_out_of_memory(print_same(alloc, state, *a, *b)),
         RunCommand::Size(name) => or_out_of_memory(print_size(alloc, state, *name)),

@@ -49,6 +49,6 @@ loop-command-preserved c =
             (drop (c.loop-command.command-index + 1) (unnumbered c.args.commands.now)))
             (sym (names_after _ was.fit.0 done.next c.command-item.result _ done.step)) next.1,
       );
-      tree = ap (λ v. leaves (plain_tree v)) c.in-Ok-step.ensures.vtree ∙ was.tree;
+      tree = c.in-Ok-step.ensures.variables ∙ was.tree;
       room = let more = c.in-Ok-step.ensures.roots in let room = was.room in omega arith;
     }

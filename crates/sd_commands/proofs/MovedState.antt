@@ -1,0 +1,267 @@
+-- The state that the code represents after a move of the vtree, and why a move is refused.
+use Rattle.std.proofs.Common.{◌≡◌, ◌⊎◌, inl, inr, ℕ, ◌+◌, ◌≤◌, ◌<◌, List, [], ◌∷◌, length}
+use Rattle.std.proofs.Common.{Option, Some, None, slice_get, refl, sym, ap, subst, ◌∙◌}
+use Rattle.std.specs.Option.{IsSome, option_map}
+use Rattle.std.specs.List.{AllZip}
+use Rattle.std.specs.FinMap.{FinMap, get}
+use Rattle.std.specs.Ordering.{nat_cmp}
+use Rattle.sd_model.specs.declared.trees.Move.{Move}
+use Rattle.sd_model.specs.declared.trees.Move.TheVariants.{Swap}
+use Rattle.sd_model.specs.Tree.{Tree, leaves, IsVtree}
+use Rattle.sd_model.specs.Moves.{moved_at}
+use Rattle.sd_model.specs.Diagram.{Diagram}
+use Rattle.sd_model.specs.Expression.{Expression}
+use Rattle.sd_model.specs.Size.{HasSize, IsDiagramOf, size_of}
+use Rattle.sd_model.proofs.Determined.{diagram_determined}
+use Rattle.sd_vtree.specs.Numbered.{Numbered, plain_tree, numbers, IsNumbered}
+use Rattle.sd_vtree.specs.NumberedMoves.{moved_number}
+use Rattle.sd_laws.proofs.Evaluated.{value_of_shown}
+use Rattle.sd_laws.proofs.Lists.{IsAmong, IsWithin, first_at, second_at, all_weaker}
+use Rattle.sd_cache.specs.Entries.{Entries}
+use Rattle.sd_manager.specs.Table.{Table}
+use Rattle.sd_manager.specs.Valid.{IsTable}
+use Rattle.sd_manager.specs.Marking.{AreUnmarked}
+use Rattle.sd_apply.specs.Serving.{Serves}
+use Rattle.sd_sweep.specs.Reached.{reached_first, KeepsReached}
+use Rattle.sd_move.specs.Journal.{Journal, CanUndo, CanPutBack, HasLooseRun, CanSettle, IsSettledBy}
+use Rattle.sd_move.specs.Moves.{HasMoved, HasSizeAfter, IsMoved, IsMoveRefusal}
+use Rattle.sd_move.specs.declared.error.MoveError.{MoveError}
+use Rattle.sd_move.specs.declared.error.MoveError.TheVariants as refusals
+use Rattle.sd_move.proofs.AfterSweep.{value_then}
+use Rattle.sd_compile.specs.Compiling.{KeepsAll}
+use Rattle.sd_compile.proofs.Holding.{held_among, among_held, same_size}
+use Rattle.sd_compile.proofs.Kept.{kept_holds}
+use Rattle.sd_formula.specs.Dimacs.{Groups}
+use Rattle.sd_commands.specs.Commands.{State, Moves, Done, OverLimit, NotMovable, formulas_of, AreWithin}
+use Rattle.sd_commands.specs.Standing.{Represents, IsOfName, HoldsName, HoldsValue, IsAsBefore, StepsTo, StopsAt}
+use Rattle.sd_commands.specs.Standing.{error_of_move}
+use Rattle.sd_commands.specs.declared.command.RunCommand.TheVariants as commands
+use Rattle.sd_commands.specs.declared.state.RunState.{RunState}
+use Rattle.sd_commands.proofs.Limits.{held_formulas}
+use Rattle.sd_commands.proofs.Moved.{IsReordered, vtree_reordered, swap_reordered}
+use Rattle.sd_commands.proofs.Standing.{as_before_kept}
+
+-- ---- the size of formulas whose diagrams are those of a list
+
+-- one more of the list
+both_within : (e : Diagram) (ds es : List Diagram) → IsAmong e es → IsWithin ds es → IsWithin (e ∷ ds) es
+both_within e ds es m h x (inl same) = subst (λ z. IsAmong z es) (sym same) m
+both_within e ds es m h x (inr k) = h x k
+
+-- the diagrams of the formulas, which are in the list
+diagrams_among : (t : Tree) (fs : List Expression) (es : List Diagram)
+    → ((g : Expression) → IsAmong g fs → (e : Diagram) × IsDiagramOf t g e × IsAmong e es)
+    → (ds : List Diagram) × AllZip (IsDiagramOf t) fs ds × IsWithin ds es
+diagrams_among t [] es h = ([], tt, λ x m. absurd m)
+diagrams_among t (g ∷ fs) es h =
+    let a = h g (inl refl) in
+    let r = diagrams_among t fs es (λ k m. h k (inr m)) in
+    (a.0 ∷ r.0, (a.1, r.1), both_within a.0 r.0 es a.2 r.2)
+
+-- each of the list is one of them
+among_diagrams : (t : Tree) (fs : List Expression) (ds es : List Diagram) → IsVtree t
+    → AllZip (IsDiagramOf t) fs ds
+    → ((e : Diagram) → IsAmong e es → (g : Expression) × IsAmong g fs × IsDiagramOf t g e) → IsWithin es ds
+among_diagrams t fs ds es valid each only e m =
+    let k = only e m in
+    let w = second_at (IsDiagramOf t) fs ds each k.0 k.1 in
+    subst (λ z. IsAmong z ds) (diagram_determined t k.0 w.0 e valid w.2 k.2) w.1
+
+-- so the formulas have the size of the list
+size_of_list : (t : Tree) (fs : List Expression) (es : List Diagram) (n : ℕ) → IsVtree t
+    → ((g : Expression) → IsAmong g fs → (e : Diagram) × IsDiagramOf t g e × IsAmong e es)
+    → ((e : Diagram) → IsAmong e es → (g : Expression) × IsAmong g fs × IsDiagramOf t g e)
+    → size_of es ≡ n → HasSize fs t n
+size_of_list t fs es n valid each only is =
+    let ds = diagrams_among t fs es each in
+    record {
+      diagrams = ds.0;
+      each = ds.1;
+      size = same_size ds.0 es ds.2 (among_diagrams t fs ds.0 es valid ds.1 only) ∙ is;
+    }
+
+-- ---- the size after a move
+
+-- a diagram that a move leads to is that of the formula
+of_moved : (old : Tree) (tree : Numbered) (g : Expression) (d e : Diagram) → leaves (plain_tree tree) ≡ leaves old
+    → IsDiagramOf old g d → HasMoved tree d e → IsDiagramOf (plain_tree tree) g e
+of_moved old tree g d e count of h = record {
+  canonical = h.canonical;
+  same_value = λ a fits. h.same a ∙ of.same_value a (fits ∙ count);
+}
+
+-- the size of all held diagrams after a move is that of the formulas of the bound names
+pub size_moved : (code : RunState) (seen : State) (kind : Move) (place n : ℕ) → IsNumbered code.manager.vtree
+    → Represents code seen → (h : HasSizeAfter code.manager kind place n)
+    → IsReordered (plain_tree code.manager.vtree) (plain_tree h.tree)
+    → HasSize (formulas_of seen) (plain_tree h.tree) n
+size_moved code seen kind place n numbered was h same =
+    let are = held_formulas code seen numbered was in
+    size_of_list (plain_tree h.tree) (formulas_of seen) h.after n (vtree_reordered _ _ same numbered.vtree)
+    (λ g m.
+    let f = are.each g m in
+    let w = second_at (HasMoved h.tree) h.before h.after h.each f.diagram
+    (held_among code.manager numbered h.before h.held f.held.root f.held.code f.diagram f.held.held f.held.is) in
+    (w.0, of_moved (plain_tree code.manager.vtree) h.tree g f.diagram w.0 same.count f.of_formula w.2, w.1))
+    (λ e m.
+    let w = first_at (HasMoved h.tree) h.before h.after h.each e m in
+    let f = are.only w.0 (among_held code.manager h.before h.held w.0 w.1) in
+    (f.formula, f.among, of_moved (plain_tree code.manager.vtree) h.tree f.formula w.0 e same.count f.is w.2))
+    h.size
+
+-- ---- a move that was made and settled
+
+-- its journal can be settled
+pub can_settle : (j : Journal) (t : Table) → CanUndo j t → CanSettle j t
+can_settle j t can = record {
+  runs = all_weaker (CanPutBack t j.upper j.lower) (HasLooseRun t) (λ e h. h.run) j.named can.entries;
+  once = can.runs_once;
+}
+
+-- the cache serves, whatever runs are loose or free
+serves_runs : (cache : Entries) (t new : Table) (loose : FinMap nat_cmp (List (ℕ × ℕ))) (free : FinMap nat_cmp ℕ)
+    → new ≡ record t { loose = loose; free = free } → Serves cache t → Serves cache new
+serves_runs cache t new loose free is serves = subst (Serves cache) (sym is) (record {
+  early = serves.early;
+  right = λ some e c same.
+      let was = serves.right some e c same in record {
+        served = was.served;
+        first = was.first;
+        second = was.second;
+        first_is = was.first_is;
+        second_is = was.second_is;
+        argument = was.argument;
+        answer = record { diagram = was.answer.diagram; is = was.answer.is; value = was.answer.value };
+      };
+})
+
+module _ (code : RunState) (mid new : Table) (place : ℕ) (j : Journal) (t : IsTable code.manager) (u : IsTable mid)
+    (m : IsMoved code.manager mid Swap place j) (settled : IsSettledBy mid new j)
+    (count : leaves (plain_tree mid.vtree) ≡ leaves (plain_tree code.manager.vtree)) where
+  -- a root holds its formula still
+  value_moved : (root : ℕ) (f : Expression) → HoldsValue code.manager root f → HoldsValue new root f
+  value_moved root f h =
+      let held : get mid.roots root ≡ Some h.is.code = ap (λ r. get r root) m.roots ∙ h.is.held in
+      let shown = u.held m.no_move root h.is.code held in
+      subst (λ s. HoldsValue s root f) (sym settled)
+      (record {
+        diagram = shown.diagram;
+        is = record { code = h.is.code; held = held; is = shown.is };
+        of_value = record {
+          canonical = shown.is.canonical;
+          same_value = λ a fits.
+              value_of_shown mid.vtree (get mid.linked) u.numbered h.is.code shown.diagram shown.is a
+              ∙ value_then code.manager mid Swap place j t u m h.is.code
+              (λ n is. reached_first (inl (root, h.is.held ∙ ap Some is))) h.diagram h.is.is a
+              ∙ h.of_value.same_value a (fits ∙ count);
+        };
+      })
+
+  -- and so does that of each name
+  name_moved : (r : Option ℕ) (v : Option Expression) → HoldsName code.manager r v → HoldsName new r v
+  name_moved None None holds = tt
+  name_moved None (Some value) holds = absurd holds
+  name_moved (Some r) None holds = absurd holds
+  name_moved (Some r) (Some value) holds = value_moved r value holds
+
+  -- the roots are those from before
+  roots_moved : new.roots ≡ code.manager.roots
+  roots_moved = ap (λ s. s.roots) settled ∙ m.roots
+
+  -- the code represents the state with the moved tree
+  pub stands_moved : (cache : Entries) (seen : State) → Serves cache mid → AreUnmarked mid → Represents code seen
+      → Represents (record code { manager = new; cache = cache }) (record seen { tree = plain_tree mid.vtree })
+  stands_moved cache seen serves unmarked was = record {
+    tree = ap (λ s. plain_tree s.vtree) (sym settled);
+    limit = was.limit;
+    once = was.once;
+    holds = λ name. name_moved _ _ (was.holds name);
+    apart = was.apart;
+    only = λ root held.
+        let had = was.only root (subst (λ o. IsSome o) (ap (λ r. get r root) roots_moved) held) in
+        record { name = had.name; is = had.is };
+    serves = serves_runs cache mid new _ _ settled serves;
+    bound = ap (λ s. s.bound) settled ∙ m.bound ∙ was.bound;
+    no_move = ap (λ s. s.moving) settled ∙ m.no_move;
+    unmarked = subst AreUnmarked (sym settled) unmarked;
+  }
+
+-- ---- the command
+
+-- the moved tree, where a move of the numbered one is that of the plain one
+abbrev pub IsPlainMove : Numbered → ℕ → ℕ → Type 0
+IsPlainMove tree p place = moved_at Swap (plain_tree tree) p ≡ option_map plain_tree (moved_number Swap tree place)
+
+-- it is, where this holds of the vtree that is lent out
+pub plain_law : (tree lent : Numbered) (p place : ℕ) → lent ≡ tree → slice_get (numbers lent) p ≡ Some place
+    → ((q : ℕ) → slice_get (numbers lent) q ≡ Some place → IsPlainMove lent q place) → IsPlainMove tree p place
+plain_law tree lent p place same at law = subst (λ v. IsPlainMove v p place) same (law p at)
+
+-- it has the same variables
+pub plain_reordered : (tree u : Numbered) (p place : ℕ) → IsPlainMove tree p place → moved_number Swap tree place ≡ Some u
+    → IsReordered (plain_tree tree) (plain_tree u)
+plain_reordered tree u p place law is =
+    swap_reordered (plain_tree tree) (plain_tree u) p (law ∙ ap (option_map plain_tree) is)
+
+module _ (input : Groups) (code : RunState) (seen : State) (p place : ℕ) (was : Represents code seen)
+    (law : IsPlainMove code.manager.vtree p place) where
+  -- what the tree of the state becomes
+  state_tree : (o : Option Numbered) → moved_number Swap code.manager.vtree place ≡ o
+      → moved_at Swap seen.tree p ≡ option_map plain_tree o
+  state_tree o is = ap (λ t. moved_at Swap t p) was.tree ∙ law ∙ ap (option_map plain_tree) is
+
+  -- the swap is done
+  pub swap_done : (mid : Table) (new : RunState) (size : ℕ) → IsNumbered code.manager.vtree
+      → moved_number Swap code.manager.vtree place ≡ Some mid.vtree → HasSizeAfter code.manager Swap place size
+      → size ≤ code.limit → Represents new (record seen { tree = plain_tree mid.vtree })
+      → StepsTo input seen (commands.Swap p) new None
+  swap_done mid new size numbered moved h within represents =
+      let one : ◌≡◌ {A = Option Numbered} (Some h.tree) (Some mid.vtree) = sym h.turned ∙ moved in
+      let same : h.tree ≡ mid.vtree = cc in
+      let total = size_moved code seen Swap place size numbered was h
+      (plain_reordered code.manager.vtree h.tree p place law h.turned) in
+      let in_ : AreWithin (formulas_of seen) (plain_tree mid.vtree) seen.limit = record {
+        size = size;
+        total = subst (λ (v : Numbered). HasSize (formulas_of seen) (plain_tree v) size) same total;
+        within = subst (λ l. size ≤ l) (sym was.limit) within;
+      } in
+      record {
+        next = record seen { tree = plain_tree mid.vtree };
+        step = subst (λ o. Moves seen o (Done (record seen { tree = plain_tree mid.vtree }) []))
+            (sym (state_tree (Some mid.vtree) moved)) (inl (in_, refl));
+        represents = represents;
+      }
+
+  -- or it stops
+  pub swap_stops : (new : Table) (e : MoveError) → IsNumbered code.manager.vtree → new.bound ≡ 2147483647
+      → IsMoveRefusal code.manager new Swap place code.limit e
+      → StopsAt input seen (commands.Swap p) new (error_of_move e)
+  swap_stops new refusals.NotMovable numbered bound h =
+      subst (λ o. Moves seen o NotMovable) (sym (state_tree None h)) refl
+  swap_stops new (refusals.OverMost size limit) numbered bound h =
+      subst (λ o. Moves seen o (OverLimit None size limit)) (sym (state_tree (Some h.2.tree) h.2.turned))
+      (inr (
+        size,
+        record {
+          total = size_moved code seen Swap place size numbered was h.2
+              (plain_reordered code.manager.vtree h.2.tree p place law h.2.turned);
+          passes = subst (λ l. l < size) (sym was.limit) h.1;
+        },
+        ap (λ l. OverLimit None size l) (h.0 ∙ sym was.limit),
+      ))
+  swap_stops new (refusals.ArenaFull elements) numbered bound h = (tt, record { whole = bound; rule = h.1 })
+  swap_stops new refusals.OutOfMemory numbered bound h = tt
+
+-- all is as before a move that was refused
+pub as_before_refused : (code : RunState) (t : Table) (cache : Entries) → KeepsReached code.manager t
+    → t.bound ≡ code.manager.bound → t.moving ≡ None → code.manager.moving ≡ None → Serves cache t → AreUnmarked t
+    → IsAsBefore code (record code { manager = t; cache = cache })
+as_before_refused code t cache kept bound still was serves unmarked =
+    as_before_kept code t cache
+    (record {
+      reached = kept;
+      holds = λ root d held. kept_holds code.manager t kept root d held;
+      bound = bound;
+      moving = still ∙ sym was;
+    })
+    serves unmarked
