@@ -9,6 +9,7 @@ use Rattle.sd_commands.specs.Effects.{Effect}
 use Rattle.sd_tool.specs.Asks.{IsNone, ReadsBy, ComesTo, AsksLast, BreaksOff, EndsAsking, GoesTo}
 use Rattle.sd_tool.specs.Course.{EndsReading, MayEnd}
 use Rattle.sd_tool.specs.Ends.{End, Finished, Refused, Unreadable, Unwritable, OutOfMemory, ArenaFull, OverLimit}
+use Rattle.sd_tool.specs.Ends.{NotMovable}
 use Rattle.sd_tool.specs.Readings.{Reading, Refuses, Begins, Reads, Text, IsText, ReadsTo, reading_of}
 
 -- what is asked in two parts of a time, one after another, is asked in the whole
@@ -130,6 +131,7 @@ ends_asking asks files reading (Unwritable effect) p = absurd p
 ends_asking asks files reading OutOfMemory p = tt
 ends_asking asks files reading (ArenaFull elements) p = absurd p
 ends_asking asks files reading (OverLimit line group size limit) p = absurd p
+ends_asking asks files reading (NotMovable line) p = absurd p
 
 -- how a run goes, without what it asks
 pub goes_may_end : (asks : List Request → Type 0) (words : List (List ℕ)) (files : Option Files)

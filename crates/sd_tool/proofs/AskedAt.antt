@@ -19,6 +19,7 @@ use Rattle.sd_file.specs.declared.fault.SddFault.{SddFault}
 use Rattle.sd_script.specs.Scripts.{Script, script_of}
 use Rattle.sd_script.specs.declared.command.Action.{Action}
 use Rattle.sd_script.specs.declared.command.Action.TheVariants as actions
+use Rattle.sd_model.specs.declared.trees.Move.TheVariants as moves
 use Rattle.sd_script.specs.declared.command.Command.{Command as Line}
 use Rattle.sd_script.specs.declared.fault.ScriptFault.{ScriptFault}
 use Rattle.sd_words.specs.JobOf.{job_of}
@@ -35,6 +36,7 @@ use Rattle.sd_commands.specs.declared.command.RunCommand.TheVariants as commands
 use Rattle.sd_tool.specs.Asks.{ReadsBy, GoesTo, HasAsked, writings, begun}
 use Rattle.sd_tool.specs.Devices.{Moment}
 use Rattle.sd_tool.specs.Ends.{End, Finished, Refused, Unreadable, Unwritable, OutOfMemory, ArenaFull, OverLimit}
+use Rattle.sd_tool.specs.Ends.{NotMovable}
 use Rattle.sd_tool.specs.Ends.{status_of}
 use Rattle.sd_tool.specs.Headline.{IsCourse}
 use Rattle.sd_tool.specs.Readings.{Input, Reading, Refuses, Begins, Reads, Text, Whole, TooLong}
@@ -87,7 +89,9 @@ accepted_action v s next (actions.Not n a) accepted = accepted (commands.Negate 
 accepted_action v s next (actions.Given n a literal) accepted = accepted (commands.Given n a literal)
 accepted_action v s next (actions.Forget n a x) accepted = accepted (commands.Forget n a x)
 accepted_action v s next (actions.Drop a) accepted = accepted (commands.Drop a)
-accepted_action v s next (actions.Turn kind p) accepted = λ e. cc
+accepted_action v s next (actions.Turn moves.Swap p) accepted = accepted (commands.Swap p)
+accepted_action v s next (actions.Turn moves.RotateLeft p) accepted = λ e. cc
+accepted_action v s next (actions.Turn moves.RotateRight p) accepted = λ e. cc
 accepted_action v s next (actions.Minimise rounds) accepted = λ e. cc
 accepted_action v s next (actions.Limit limit) accepted = accepted (commands.Limit limit)
 accepted_action v s next (actions.Same a b) accepted = accepted (commands.Same a b)
@@ -212,6 +216,7 @@ order_of asks words files effects OutOfMemory (inl (inr p, none)) =
     only_readings asks (p.1.names ++ p.0 ∷ []) p.1.asked
 order_of asks words files effects (ArenaFull n) (inl p) = absurd p.0
 order_of asks words files effects (OverLimit l g n k) (inl p) = absurd p.0
+order_of asks words files effects (NotMovable l) (inl p) = absurd p.0
 
 -- ---- status by status
 
@@ -236,9 +241,10 @@ asked_at {asks = asks} words status kept old new went = record {
     none OutOfMemory goes is s = cc
     none (ArenaFull n) goes is s = cc
     none (OverLimit l g n k) goes is s = cc
+    none (NotMovable l) goes is s = cc
 
     alone : (end : End) → GoesTo asks words old.contents.files went.effects end → status ≡ status_of end
-        → (status ≡ 1) ⊎ (status ≡ 2) ⊎ (status ≡ 3) ⊎ (status ≡ 5) ⊎ (status ≡ 9)
+        → (status ≡ 1) ⊎ (status ≡ 2) ⊎ (status ≡ 5) ⊎ (status ≡ 9)
         → (names : List (List ℕ)) × asks (map ToRead names)
     alone Finished goes is s = no_idle status 0 refl is s
     alone (Refused refusal) (inl p) is s = (p.0.names, p.0.asked)
@@ -249,3 +255,4 @@ asked_at {asks = asks} words status kept old new went = record {
     alone OutOfMemory goes is s = no_idle status 7 refl is s
     alone (ArenaFull n) goes is s = no_idle status 8 refl is s
     alone (OverLimit l g n k) goes is s = no_idle status 4 refl is s
+    alone (NotMovable l) goes is s = no_idle status 3 refl is s

@@ -9,23 +9,27 @@ use Rattle.sd_tool.specs.Effects.{Contents, after}
 use Rattle.sd_tool.specs.Readings.{Refuses, Reads, reading_of, ReadsTo}
 use Rattle.sd_tool.specs.Refusals.{refusal_status}
 use Rattle.sd_tool.specs.Ends.{End, Finished, Refused, Unreadable, Unwritable, OutOfMemory, ArenaFull, OverLimit}
-use Rattle.sd_tool.specs.Ends.{status_of}
+use Rattle.sd_tool.specs.Ends.{NotMovable, status_of}
 use Rattle.sd_tool.specs.Devices.{Moment, HasDeviceCause, WritesEndLine}
 use Rattle.sd_tool.specs.Course.{MayEnd, Leaves}
 use Rattle.sd_tool.specs.Headline.{IsCourse, HasEffects, HasLine, HasEnd, WasFull}
-use Rattle.sd_tool.specs.Headline.{IsRefused, PassedLimit, CouldNotRead, CouldNotWrite}
+use Rattle.sd_tool.specs.Headline.{IsRefused, PassedLimit, WasNotMovable, CouldNotRead, CouldNotWrite}
 use Rattle.sd_tool.specs.KeptManager.{KeepsManager}
 use Rattle.sd_tool.specs.declared.refusal.Refusal.{Refusal}
 use Rattle.sd_tool.specs.declared.refusal.Refusal.TheVariants as refusals
 use Rattle.sd_tool.proofs.AskLemmas.{goes_may_end}
 use Rattle.sd_tool.proofs.NotOutOfMemory.{refused_of_text}
 
--- the statuses of refusals, and with them that of a file that was not read
+-- the statuses of refusals, those of them that come before the commands alone, and with these that of a file that was
+-- not read
 abbrev pub is_refused : ℕ → Bool
 is_refused n = n == 1 || (n == 2 || (n == 3 || n == 9))
 
+abbrev pub is_early : ℕ → Bool
+is_early n = n == 1 || (n == 2 || n == 9)
+
 abbrev pub is_idle : ℕ → Bool
-is_idle n = n == 5 || is_refused n
+is_idle n = n == 5 || is_early n
 
 -- a refusal has one of its statuses
 one_of_four : (refusal : Refusal) (status : ℕ) → status ≡ refusal_status refusal
@@ -54,14 +58,20 @@ no_refused status a other is (inr (inl s)) = apart is_refused status a 2 is s ot
 no_refused status a other is (inr (inr (inl s))) = apart is_refused status a 3 is s other refl
 no_refused status a other is (inr (inr (inr s))) = apart is_refused status a 9 is s other refl
 
+-- nor one that comes before the commands alone
+no_early : {A : Type 0} (status a : ℕ) → is_early a ≡ false → status ≡ a
+    → (status ≡ 1) ⊎ (status ≡ 2) ⊎ (status ≡ 9) → A
+no_early status a other is (inl s) = apart is_early status a 1 is s other refl
+no_early status a other is (inr (inl s)) = apart is_early status a 2 is s other refl
+no_early status a other is (inr (inr s)) = apart is_early status a 9 is s other refl
+
 -- nor that of a file that was not read
 pub no_idle : {A : Type 0} (status a : ℕ) → is_idle a ≡ false → status ≡ a
-    → (status ≡ 1) ⊎ (status ≡ 2) ⊎ (status ≡ 3) ⊎ (status ≡ 5) ⊎ (status ≡ 9) → A
+    → (status ≡ 1) ⊎ (status ≡ 2) ⊎ (status ≡ 5) ⊎ (status ≡ 9) → A
 no_idle status a other is (inl s) = apart is_idle status a 1 is s other refl
 no_idle status a other is (inr (inl s)) = apart is_idle status a 2 is s other refl
-no_idle status a other is (inr (inr (inl s))) = apart is_idle status a 3 is s other refl
-no_idle status a other is (inr (inr (inr (inl s)))) = apart is_idle status a 5 is s other refl
-no_idle status a other is (inr (inr (inr (inr s)))) = apart is_idle status a 9 is s other refl
+no_idle status a other is (inr (inr (inl s))) = apart is_idle status a 5 is s other refl
+no_idle status a other is (inr (inr (inr s))) = apart is_idle status a 9 is s other refl
 
 -- a refusal has no other status
 pub other_status : {A : Type 0} (refusal : Refusal) (status a : ℕ) → status ≡ refusal_status refusal
@@ -126,6 +136,7 @@ effects_at {asks = asks} words status kept old new went = go went.end
     go Finished may_end is leaves = record {
       all = λ s. (went.effects, may_end, leaves);
       none = λ s. no_idle status 0 refl is s;
+      script = λ s. cc;
       first = λ s. cc;
       full = λ s. cc;
       over = λ s. cc;
@@ -135,6 +146,9 @@ effects_at {asks = asks} words status kept old new went = go went.end
       all = λ s. other_status refusal status 0 is refl s;
       none = λ s. nothing_done went.effects old.contents new.contents
           (refused_early words old.contents.files went.effects refusal may_end).1 leaves;
+      script = λ s.
+          let early = refused_early words old.contents.files went.effects refusal may_end in
+          inl (refusal, early.0, nothing_done went.effects old.contents new.contents early.1 leaves);
       first = λ s. other_status refusal status 7 is refl s;
       full = λ s. other_status refusal status 8 is refl s;
       over = λ s. other_status refusal status 4 is refl s;
@@ -144,6 +158,7 @@ effects_at {asks = asks} words status kept old new went = go went.end
       all = λ s. cc;
       none = λ s. nothing_done went.effects old.contents new.contents
           (unread_early words old.contents.files went.effects file may_end) leaves;
+      script = λ s. cc;
       first = λ s. cc;
       full = λ s. cc;
       over = λ s. cc;
@@ -152,6 +167,7 @@ effects_at {asks = asks} words status kept old new went = go went.end
     go (Unwritable effect) may_end is leaves = record {
       all = λ s. cc;
       none = λ s. no_idle status 6 refl is s;
+      script = λ s. cc;
       first = λ s. cc;
       full = λ s. cc;
       over = λ s. cc;
@@ -160,6 +176,7 @@ effects_at {asks = asks} words status kept old new went = go went.end
     go OutOfMemory may_end is leaves = record {
       all = λ s. cc;
       none = λ s. no_idle status 7 refl is s;
+      script = λ s. cc;
       first = λ s. (went.effects, may_end, leaves);
       full = λ s. cc;
       over = λ s. cc;
@@ -168,6 +185,7 @@ effects_at {asks = asks} words status kept old new went = go went.end
     go (ArenaFull n) may_end is leaves = record {
       all = λ s. cc;
       none = λ s. no_idle status 8 refl is s;
+      script = λ s. cc;
       first = λ s. cc;
       full = λ s. (went.effects, n, may_end, leaves);
       over = λ s. cc;
@@ -176,9 +194,19 @@ effects_at {asks = asks} words status kept old new went = go went.end
     go (OverLimit line group size limit) may_end is leaves = record {
       all = λ s. cc;
       none = λ s. no_idle status 4 refl is s;
+      script = λ s. cc;
       first = λ s. cc;
       full = λ s. cc;
       over = λ s. (went.effects, line, group, size, limit, may_end, leaves);
+      in_hand = λ s. cc;
+    }
+    go (NotMovable line) may_end is leaves = record {
+      all = λ s. cc;
+      none = λ s. no_idle status 3 refl is s;
+      script = λ s. inr (went.effects, line, may_end, leaves);
+      first = λ s. cc;
+      full = λ s. cc;
+      over = λ s. cc;
       in_hand = λ s. cc;
     }
 
@@ -194,7 +222,8 @@ end_finished : (words : List (List ℕ)) (status : ℕ) (kept : Option Table) (o
     → kept ≡ None → HasEnd words status kept old new
 end_finished words status kept old new is keeps = record {
   one_of = inl is;
-  refused = λ s. no_refused status 0 refl is s;
+  refused = λ s. no_early status 0 refl is s;
+  script = λ s. no_same status 0 3 is refl refl s;
   over_limit = λ s. no_same status 0 4 is refl refl s;
   read_fault = λ s. no_same status 0 5 is refl refl s;
   write_fault = λ s. no_same status 0 6 is refl refl s;
@@ -217,6 +246,7 @@ end_refused : (words : List (List ℕ)) (status : ℕ) (kept : Option Table) (ol
 end_refused words status kept old new refusal is keeps refused = record {
   one_of = among_all status (one_of_four refusal status is);
   refused = λ s. refused;
+  script = λ s. inl refused;
   over_limit = λ s. other_status refusal status 4 is refl s;
   read_fault = λ s. other_status refusal status 5 is refl s;
   write_fault = λ s. other_status refusal status 6 is refl s;
@@ -229,11 +259,26 @@ end_over : (words : List (List ℕ)) (status : ℕ) (kept : Option Table) (old n
     → kept ≡ None → PassedLimit words old new → HasEnd words status kept old new
 end_over words status kept old new is keeps passed = record {
   one_of = inr (inr (inr (inr (inl is))));
-  refused = λ s. no_refused status 4 refl is s;
+  refused = λ s. no_early status 4 refl is s;
+  script = λ s. no_same status 4 3 is refl refl s;
   over_limit = λ s. passed;
   read_fault = λ s. no_same status 4 5 is refl refl s;
   write_fault = λ s. no_same status 4 6 is refl refl s;
   arena_full = λ s. no_same status 4 8 is refl refl s;
+  none_kept = λ s. keeps;
+}
+
+-- where a place was not movable
+end_unmoved : (words : List (List ℕ)) (status : ℕ) (kept : Option Table) (old new : Moment) → status ≡ 3
+    → kept ≡ None → WasNotMovable words old new → HasEnd words status kept old new
+end_unmoved words status kept old new is keeps unmoved = record {
+  one_of = inr (inr (inr (inl is)));
+  refused = λ s. no_early status 3 refl is s;
+  script = λ s. inr unmoved;
+  over_limit = λ s. no_same status 3 4 is refl refl s;
+  read_fault = λ s. no_same status 3 5 is refl refl s;
+  write_fault = λ s. no_same status 3 6 is refl refl s;
+  arena_full = λ s. no_same status 3 8 is refl refl s;
   none_kept = λ s. keeps;
 }
 
@@ -242,7 +287,8 @@ end_unread : (words : List (List ℕ)) (status : ℕ) (kept : Option Table) (old
     → kept ≡ None → CouldNotRead words old new → HasEnd words status kept old new
 end_unread words status kept old new is keeps unread = record {
   one_of = inr (inr (inr (inr (inr (inl is)))));
-  refused = λ s. no_refused status 5 refl is s;
+  refused = λ s. no_early status 5 refl is s;
+  script = λ s. no_same status 5 3 is refl refl s;
   over_limit = λ s. no_same status 5 4 is refl refl s;
   read_fault = λ s. unread;
   write_fault = λ s. no_same status 5 6 is refl refl s;
@@ -255,7 +301,8 @@ end_unwritten : (words : List (List ℕ)) (status : ℕ) (kept : Option Table) (
     → kept ≡ None → CouldNotWrite words old new → HasEnd words status kept old new
 end_unwritten words status kept old new is keeps unwritten = record {
   one_of = inr (inr (inr (inr (inr (inr (inl is))))));
-  refused = λ s. no_refused status 6 refl is s;
+  refused = λ s. no_early status 6 refl is s;
+  script = λ s. no_same status 6 3 is refl refl s;
   over_limit = λ s. no_same status 6 4 is refl refl s;
   read_fault = λ s. no_same status 6 5 is refl refl s;
   write_fault = λ s. unwritten;
@@ -268,7 +315,8 @@ end_no_memory : (words : List (List ℕ)) (status : ℕ) (kept : Option Table) (
     → kept ≡ None → HasEnd words status kept old new
 end_no_memory words status kept old new is keeps = record {
   one_of = inr (inr (inr (inr (inr (inr (inr (inl is)))))));
-  refused = λ s. no_refused status 7 refl is s;
+  refused = λ s. no_early status 7 refl is s;
+  script = λ s. no_same status 7 3 is refl refl s;
   over_limit = λ s. no_same status 7 4 is refl refl s;
   read_fault = λ s. no_same status 7 5 is refl refl s;
   write_fault = λ s. no_same status 7 6 is refl refl s;
@@ -281,7 +329,8 @@ end_full : (words : List (List ℕ)) (status : ℕ) (kept : Option Table) (old n
     → WasFull words kept old new → HasEnd words status kept old new
 end_full words status kept old new is full = record {
   one_of = inr (inr (inr (inr (inr (inr (inr (inr (inl is))))))));
-  refused = λ s. no_refused status 8 refl is s;
+  refused = λ s. no_early status 8 refl is s;
+  script = λ s. no_same status 8 3 is refl refl s;
   over_limit = λ s. no_same status 8 4 is refl refl s;
   read_fault = λ s. no_same status 8 5 is refl refl s;
   write_fault = λ s. no_same status 8 6 is refl refl s;
@@ -336,6 +385,13 @@ end_at {asks = asks} words status kept old new went =
           group = group;
           size = size;
           limit = limit;
+          effects = effects;
+          in_hand = may_end;
+          line = line;
+        }
+    go effects (NotMovable at) may_end is cause keeps line =
+        end_unmoved words status kept old new is keeps record {
+          at_line = at;
           effects = effects;
           in_hand = may_end;
           line = line;

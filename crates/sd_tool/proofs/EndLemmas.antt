@@ -15,7 +15,7 @@ use Rattle.sd_tool.specs.Course.{EndsAmong, Leaves}
 use Rattle.sd_tool.specs.PlanViews.{plan_with}
 use Rattle.sd_tool.specs.Headline.{IsCourse}
 use Rattle.sd_tool.specs.Ends.{End, Finished, Refused, Unreadable, Unwritable, OutOfMemory as NoMemory}
-use Rattle.sd_tool.specs.Ends.{ArenaFull as NoRoom, OverLimit as Passes, line_of, status_of}
+use Rattle.sd_tool.specs.Ends.{ArenaFull as NoRoom, OverLimit as Passes, NotMovable as Unmoved, line_of, status_of}
 use Rattle.sd_tool.specs.Refusals.{refusal_status}
 use Rattle.sd_tool.specs.KeptManager.{KeepsOf, KeepsManager}
 use Rattle.sd_tool.specs.Devices.{Moment, Faults, NotFewer, HasDeviceCause, WritesLine, WritesEndLine}
@@ -26,7 +26,7 @@ use Rattle.sd_tool.specs.declared.refusal.Refusal.TheVariants as refusals
 use Rattle.sd_tool.specs.declared.stop.Stop.{Stop}
 use Rattle.sd_tool.specs.declared.stop.Stop.TheVariants as stops
 use Rattle.sd_tool.specs.declared.stop.Stop.TheVariants.{ReadFault, WriteFault, OutputFault, OutOfMemory, ArenaFull}
-use Rattle.sd_tool.specs.declared.stop.Stop.TheVariants.{OverLimit}
+use Rattle.sd_tool.specs.declared.stop.Stop.TheVariants.{OverLimit, NotMovable}
 use Rattle.sd_tool.proofs.AskLemmas.{Joins, comes_reads}
 use Rattle.sd_tool.proofs.StepLemmas.{cause_since}
 
@@ -58,6 +58,7 @@ reading_stops words (WriteFault file) kept old new before now none same stops = 
 reading_stops words OutputFault kept old new before now none same stops = absurd stops
 reading_stops words (ArenaFull n) kept old new before now none same stops = absurd stops
 reading_stops words (OverLimit l g n k) kept old new before now none same stops = absurd stops
+reading_stops words (NotMovable l) kept old new before now none same stops = absurd stops
 reading_stops words OutOfMemory kept old new before now none same stops = record {
   end = NoMemory;
   at = record { status = refl; text = refl; stopped = λ e. cc };
@@ -80,6 +81,7 @@ cause_from plan effects (Unwritable effect) files others first mid last ends few
 cause_from plan effects NoMemory files others first mid last ends fewer cause = tt
 cause_from plan effects (NoRoom n) files others first mid last ends fewer cause = tt
 cause_from plan effects (Passes l g n k) files others first mid last ends fewer cause = tt
+cause_from plan effects (Unmoved l) files others first mid last ends fewer cause = tt
 
 -- a refusal has not the status of a full arena
 pub no_refusal : (refusal : Refusal) → refusal_status refusal ≡ 8 → ⊥
@@ -102,6 +104,7 @@ kept_full plan effects (Unwritable effect) t is full_at = cc
 kept_full plan effects NoMemory t is full_at = cc
 kept_full plan effects (NoRoom n) t is full_at = full_at
 kept_full plan effects (Passes l g n k) t is full_at = cc
+kept_full plan effects (Unmoved l) t is full_at = cc
 
 -- at each other end nothing is kept
 kept_none : (plan : Plan) (effects : List Effect) (end : End) → (status_of end ≡ 8 → ⊥) → KeepsOf plan effects end None
@@ -112,6 +115,7 @@ kept_none plan effects (Unwritable effect) other = refl
 kept_none plan effects NoMemory other = refl
 kept_none plan effects (NoRoom n) other = absurd (other refl)
 kept_none plan effects (Passes l g n k) other = refl
+kept_none plan effects (Unmoved l) other = refl
 
 -- the commands came to an end, and what is kept is that of the end
 carried : {asks : List Request → Type 0} (plan : Plan) (t : Table) (kept : Option Table)
@@ -174,6 +178,8 @@ keeps_at plan effects OutOfMemory end t kept was none is status full_at =
     kept_other plan effects OutOfMemory end kept was none is status (λ e. cc)
 keeps_at plan effects (OverLimit l g n k) end t kept was none is status full_at =
     kept_other plan effects (OverLimit l g n k) end kept was none is status (λ e. cc)
+keeps_at plan effects (NotMovable l) end t kept was none is status full_at =
+    kept_other plan effects (NotMovable l) end kept was none is status (λ e. cc)
 
 -- the commands stopped, and the manager is kept if it was full
 pub carried_stop : {asks : List Request → Type 0} (formula : Groups) (state : RunState)
@@ -198,6 +204,7 @@ keeps_led words files plan effects (Unreadable file) kept led keeps = keeps
 keeps_led words files plan effects (Unwritable effect) kept led keeps = keeps
 keeps_led words files plan effects NoMemory kept led keeps = keeps
 keeps_led words files plan effects (NoRoom n) kept led keeps = (plan, led, keeps)
+keeps_led words files plan effects (Unmoved l) kept led keeps = keeps
 keeps_led words files plan effects (Passes l g n k) kept led keeps = keeps
 
 -- the commands go on from where the readings led
@@ -235,6 +242,8 @@ says_end stop (Unwritable effect) old new at says =
 says_end stop NoMemory old new at says =
     subst (λ t. WritesLine (line_of t) old.errors new.errors old.err_faults new.err_faults) at.text says
 says_end stop (NoRoom n) old new at says =
+    subst (λ t. WritesLine (line_of t) old.errors new.errors old.err_faults new.err_faults) at.text says
+says_end stop (Unmoved l) old new at says =
     subst (λ t. WritesLine (line_of t) old.errors new.errors old.err_faults new.err_faults) at.text says
 says_end stop (Passes l g n k) old new at says =
     subst (λ t. WritesLine (line_of t) old.errors new.errors old.err_faults new.err_faults) at.text says

@@ -46,6 +46,7 @@ use Rattle.sd_tool.proofs.ByStatus.{effects_at}
 use Rattle.sd_tool.proofs.OneCourse.{whole_plan}
 use Rattle.sd_tool.proofs.OnePoint.{one_point}
 use Rattle.sd_tool.proofs.OneRun.{done_or_none}
+use Rattle.sd_tool.proofs.StillCommands.{is_move, AreStill}
 use Rattle.sd_tool.proofs.ReadingLemmas.{reads_on, reads_same, file_asked}
 
 -- ---- the lines as commands
@@ -59,6 +60,7 @@ BindsName input state command name f = (next : State) (effects : List Effect)
 record OwnLine (input : Groups) (action : Action) (name : ℕ) (f : Expression) : Type 0 where
   command : RunCommand
   served : is_served action ≡ true
+  still : is_move command ≡ false
   acts : (v : ℕ) (script : Script) (next : RunCommand → Reading) → with_action v script next action ≡ next command
   binds : (state : State) → BindsName input state command name f
 
@@ -73,6 +75,7 @@ own_line : (input : Groups) (action : Action) (name : ℕ) (f : Expression)
 own_line input (actions.Input n) name f is = record {
   command = commands.Input n;
   served = refl;
+  still = refl;
   acts = λ v script next. refl;
   binds = λ state. binds_same input state (commands.Input n) (n, expression_of input) (name, f) is
       (λ next effects step. input_done input state next n effects step);
@@ -80,6 +83,7 @@ own_line input (actions.Input n) name f is = record {
 own_line input (actions.Lit n literal) name f is = record {
   command = commands.Literal n literal;
   served = refl;
+  still = refl;
   acts = λ v script next. refl;
   binds = λ state. binds_same input state (commands.Literal n literal) (n, Atom literal) (name, f) is
       (λ next effects step. settled_done (with_name state n (Atom literal)) next effects step);
@@ -87,6 +91,7 @@ own_line input (actions.Lit n literal) name f is = record {
 own_line input (actions.Constant n value) name f is = record {
   command = commands.Constant n value;
   served = refl;
+  still = refl;
   acts = λ v script next. refl;
   binds = λ state. binds_same input state (commands.Constant n value) (n, Constant value) (name, f) is
       (λ next effects step. settled_done (with_name state n (Constant value)) next effects step);
@@ -141,6 +146,13 @@ module _ (input : Groups) (script : Script) (joined : Expression) (file : List �
       ∷ in_line two.second (own_line input two.second.action two.g two.right two.binds_g).command
       ∷ in_line two.third (commands.Combine two.operation two.h two.f two.g)
       ∷ in_line two.last (commands.Write two.h (file_name script two.number)) ∷ []
+
+  -- none of them moves the vtree
+  four_still : AreStill four_commands
+  four_still = (
+    (own_line input two.first.action two.f two.left two.binds_f).still,
+    ((own_line input two.second.action two.g two.right two.binds_g).still, (refl, (refl, tt))),
+  )
 
   -- all four lines are served, and they become these commands
   script_leads : (v : ℕ) (begin : List NumberedCommand → Reading)
@@ -325,7 +337,9 @@ joined_at {asks = asks} words status kept old new went = λ files job formula tr
     let plan = plan_for job formula tree cs in
     let led = leads_to_script words files job formula script tree has start cs
     (script_leads formula script joined file two formula.variables) in (
-      ends files plan told led,
+      ends files plan told led (subst AreStill
+          (ap (λ begin. begin ++ cs) (sym (not_announced job.input has.input formula has.is_input)))
+          (four_still formula script joined file two)),
       λ zero_.
           let all = (effects_at words status kept old new went).all zero_ in
           writes files job formula tree script joined file two told
@@ -334,13 +348,14 @@ joined_at {asks = asks} words status kept old new went = λ files job formula tr
     )
   where
     ends : (files : Files) (plan : Plan) → old.contents.files ≡ Some files
-        → ReadsTo (Some files) (reading_of words) (Begins plan) → NoneRose old.faults new.faults
+        → ReadsTo (Some files) (reading_of words) (Begins plan) → AreStill plan.commands
+        → NoneRose old.faults new.faults
         → (status ≡ 0) ⊎ (status ≡ 4) ⊎ (status ≡ 7) ⊎ (status ≡ 8)
-    ends files plan told led calm =
+    ends files plan told led still calm =
         let may_end = subst (λ f. MayEnd words f went.effects went.end) told
         (goes_may_end asks words old.contents.files went.effects went.end went.goes) in
         let cause = subst (λ f. HasDeviceCause went.end f old.faults new.faults) told went.cause in
-        elim (done_or_none words files plan went.effects went.end old.faults new.faults led may_end cause calm) [
+        elim (done_or_none words files plan went.effects went.end old.faults new.faults led still may_end cause calm) [
           | inl done ↦ inl (went.status_is ∙ done)
           | inr (inl passes) ↦ inr (inl (went.status_is ∙ passes))
           | inr (inr (inl memory)) ↦ inr (inr (inl (went.status_is ∙ memory)))

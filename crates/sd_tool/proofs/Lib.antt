@@ -21,3 +21,4 @@ pub mod StepLemmas
 pub mod WordsFaults
 pub mod WordsInRange
 pub mod WrittenLemmas
+pub mod StillCommands

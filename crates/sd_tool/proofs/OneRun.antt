@@ -21,6 +21,7 @@ use Rattle.sd_tool.specs.Readings.{with_vtree_text, with_vtree_reading, with_com
 use Rattle.sd_tool.specs.declared.refusal.Refusal.{Refusal}
 use Rattle.sd_tool.specs.declared.refusal.Refusal.TheVariants as refusals
 use Rattle.sd_tool.specs.Ends.{End, Finished, Refused, Unreadable, Unwritable, OutOfMemory, ArenaFull, OverLimit}
+use Rattle.sd_tool.specs.Ends.{NotMovable}
 use Rattle.sd_tool.specs.Ends.{status_of}
 use Rattle.sd_tool.specs.Devices.{Moment, Faults, NoneRose, HasDeviceCause, WritesEndLine}
 use Rattle.sd_tool.specs.Course.{EndsAmong, MayEnd, Leaves}
@@ -31,6 +32,7 @@ use Rattle.sd_tool.proofs.OneCourse.{one_end_among}
 use Rattle.sd_tool.proofs.NotOutOfMemory.{valid_start}
 use Rattle.sd_tool.proofs.OnePoint.{one_point}
 use Rattle.sd_tool.proofs.ReadingLemmas.{reads_on, reads_same}
+use Rattle.sd_tool.proofs.StillCommands.{AreStill, never_unmoved, default_still}
 
 -- the readings come to one plan
 pub same_plan : (files : Files) (reading : Reading) (a b : Plan) → ReadsTo (Some files) reading (Begins a)
@@ -67,6 +69,8 @@ one_own words files effects done Finished end a b (inl p) q = absurd p.0
 one_own words files effects done own Finished a b p (inl q) = absurd q.0
 one_own words files effects done (OverLimit l g n k) end a b (inl p) q = absurd p.0
 one_own words files effects done own (OverLimit l g n k) a b p (inl q) = absurd q.0
+one_own words files effects done (NotMovable l) end a b (inl p) q = absurd p.0
+one_own words files effects done own (NotMovable l) a b p (inl q) = absurd q.0
 one_own words files effects done (Refused r) (Refused s) a b (inl p) (inl q) =
     (same_refusal files (reading_of words) r s p.0 q.0, q.1 ∙ sym p.1)
 one_own words files effects done (Refused r) end a b (inl p) (inr q) =
@@ -115,6 +119,7 @@ none_missing words files effects (Unwritable effect) file next a (inl p) q lacks
 none_missing words files effects OutOfMemory file next a (inl p) q lacks = absurd a
 none_missing words files effects (ArenaFull n) file next a (inl p) q lacks = absurd a
 none_missing words files effects (OverLimit l g n k) file next a (inl p) q lacks = absurd p.0
+none_missing words files effects (NotMovable l) file next a (inl p) q lacks = absurd p.0
 
 -- the end of a run is determined, but for devices and memory
 no_other_end : (words : List (List ℕ)) (files : Files) (effects done : List Effect) (own end : End)
@@ -127,6 +132,8 @@ no_other_end words files effects done own (Refused r) before now a all may_end c
     inl (one_own words files effects done own (Refused r) a tt all may_end)
 no_other_end words files effects done own (OverLimit l g n k) before now a all may_end cause calm =
     inl (one_own words files effects done own (OverLimit l g n k) a tt all may_end)
+no_other_end words files effects done own (NotMovable l) before now a all may_end cause calm =
+    inl (one_own words files effects done own (NotMovable l) a tt all may_end)
 no_other_end words files effects done own (Unreadable file) before now a all (inl asked) (inl lacks) calm =
     absurd (none_missing words files effects own file asked.0.0 a all asked.0.1 lacks)
 no_other_end words files effects done own (Unreadable file) before now a all (inl asked) (inr rose) calm =
@@ -171,6 +178,7 @@ comes_to_own {asks = asks} words status kept old new went files effects own told
     all_done OutOfMemory is leaves = absurd is
     all_done (ArenaFull n) is leaves = absurd is
     all_done (OverLimit l g n k) is leaves = leaves
+    all_done (NotMovable l) is leaves = leaves
 
 -- a tree leads to its plan, without a script
 leads_at_tree : (told : Option Files) (job : Job) (f : Groups) (own tree : Tree) → job.script ≡ None → own ≡ tree
@@ -232,25 +240,30 @@ leads_to_plan words files job f tree input start =
 -- memory
 pub done_or_none : (words : List (List ℕ)) (files : Files) (plan : Plan) (effects : List Effect) (end : End)
     (before now : Faults) → ReadsTo (Some files) (reading_of words) (Begins plan)
-    → MayEnd words (Some files) effects end
+    → AreStill plan.commands → MayEnd words (Some files) effects end
     → HasDeviceCause end (Some files) before now → NoneRose before now
     → (status_of end ≡ 0) ⊎ (status_of end ≡ 4) ⊎ (status_of end ≡ 7) ⊎ (status_of end ≡ 8)
-done_or_none words files plan effects Finished before now leads may_end cause calm = inl refl
-done_or_none words files plan effects (Refused r) before now leads (inl p) cause calm =
+done_or_none words files plan effects Finished before now leads still may_end cause calm = inl refl
+done_or_none words files plan effects (Refused r) before now leads still (inl p) cause calm =
     absurd (no_plan files (reading_of words) r plan p.0 leads)
-done_or_none words files plan effects (Refused r) before now leads (inr p) cause calm = absurd p.2
-done_or_none words files plan effects (Unreadable file) before now leads (inl p) (inl lacks) calm =
+done_or_none words files plan effects (Refused r) before now leads still (inr p) cause calm = absurd p.2
+done_or_none words files plan effects (Unreadable file) before now leads still (inl p) (inl lacks) calm =
     absurd (asked_before plan files (reading_of words) file p.0.0 leads p.0.1 lacks)
-done_or_none words files plan effects (Unreadable file) before now leads may_end (inr rose) calm =
+done_or_none words files plan effects (Unreadable file) before now leads still may_end (inr rose) calm =
     absurd (calm.read rose)
-done_or_none words files plan effects (Unreadable file) before now leads (inr p) cause calm = absurd p.2
-done_or_none words files plan effects (Unwritable (Write file bytes)) before now leads may_end cause calm =
+done_or_none words files plan effects (Unreadable file) before now leads still (inr p) cause calm = absurd p.2
+done_or_none words files plan effects (Unwritable (Write file bytes)) before now leads still may_end cause calm =
     absurd (calm.write cause)
-done_or_none words files plan effects (Unwritable (Print line)) before now leads may_end cause calm =
+done_or_none words files plan effects (Unwritable (Print line)) before now leads still may_end cause calm =
     absurd (calm.print cause)
-done_or_none words files plan effects (OverLimit l g n k) before now leads may_end cause calm = inr (inl refl)
-done_or_none words files plan effects OutOfMemory before now leads may_end cause calm = inr (inr (inl refl))
-done_or_none words files plan effects (ArenaFull n) before now leads may_end cause calm = inr (inr (inr refl))
+done_or_none words files plan effects (OverLimit l g n k) before now leads still may_end cause calm = inr (inl refl)
+done_or_none words files plan effects OutOfMemory before now leads still may_end cause calm = inr (inr (inl refl))
+done_or_none words files plan effects (ArenaFull n) before now leads still may_end cause calm = inr (inr (inr refl))
+done_or_none words files plan effects (NotMovable l) before now leads still (inl p) cause calm = absurd p.0
+done_or_none words files plan effects (NotMovable l) before now leads still (inr p) cause calm =
+    let same = same_plan files (reading_of words) p.0 plan p.1 leads in
+    absurd (never_unmoved plan effects l still
+    (subst (λ (q : Plan). EndsAmong q effects (NotMovable l)) same p.2))
 
 -- a run that went somewhere is complete
 pub completes : {asks : List Request → Type 0} (words : List (List ℕ)) (status : ℕ) (kept : Option Table)
@@ -263,7 +276,8 @@ completes {asks = asks} words status kept old new went = record {
       let cause = subst (λ f. HasDeviceCause went.end f old.faults new.faults) told went.cause in
       let plan = plan_for job formula tree (default_of job) in
       let leads = leads_to_plan words files job formula tree input start in
-      elim (done_or_none words files plan went.effects went.end old.faults new.faults leads may_end cause calm) [
+      elim (done_or_none words files plan went.effects went.end old.faults new.faults leads
+      (default_still job formula) may_end cause calm) [
         | inl done ↦ inl (went.status_is ∙ done)
         | inr (inl passes) ↦ inr (inl (went.status_is ∙ passes))
         | inr (inr (inl memory)) ↦ inr (inr (inl (went.status_is ∙ memory)))

@@ -29,7 +29,7 @@ use Rattle.sd_tool.proofs.AskLemmas.{Joins, comes_on, last_on, breaks_on, last_h
 use Rattle.sd_tool.specs.declared.refusal.Refusal.{Refusal}
 use Rattle.sd_tool.specs.declared.stop.Stop.{Stop}
 use Rattle.sd_tool.specs.declared.stop.Stop.TheVariants.{Refused, ReadFault, WriteFault, OutputFault, OutOfMemory}
-use Rattle.sd_tool.specs.declared.stop.Stop.TheVariants.{ArenaFull, OverLimit}
+use Rattle.sd_tool.specs.declared.stop.Stop.TheVariants.{ArenaFull, OverLimit, NotMovable}
 
 -- what was read of a told file is its text
 pub is_text : (told : Option Files) (file bytes : List ℕ) → HasBytes told file bytes → length bytes ≤ 67108864
@@ -74,6 +74,7 @@ stops_on OutputFault told reading mid first before now join a later b = absurd b
 stops_on OutOfMemory told reading mid first before now join a later b = breaks_on told reading mid join a b
 stops_on (ArenaFull n) told reading mid first before now join a later b = absurd b
 stops_on (OverLimit l g n k) told reading mid first before now join a later b = absurd b
+stops_on (NotMovable l) told reading mid first before now join a later b = absurd b
 
 -- a stop with what is asked in it, said otherwise
 pub stops_with : {a c : List Request → Type 0} (stop : Stop) (told : Option Files) (reading : Reading) (before now : ℕ)
@@ -91,6 +92,7 @@ stops_with OutOfMemory told reading before now said (inr p) =
     inr (p.0, record { names = p.1.names; next = p.1.next; asked = said _ p.1.asked; reads = p.1.reads })
 stops_with (ArenaFull n) told reading before now said p = absurd p
 stops_with (OverLimit l g n k) told reading before now said p = absurd p
+stops_with (NotMovable l) told reading before now said p = absurd p
 
 -- a read fault at the file that is asked for
 pub stops_at_file : (asks : List Request → Type 0) (told : Option Files) (file name : List ℕ) (next : Text → Reading)
@@ -124,6 +126,7 @@ stops_for asks told reading refusal OutputFault before now a is = absurd is
 stops_for asks told reading refusal OutOfMemory before now a is = inl (Refuses refusal, a)
 stops_for asks told reading refusal (ArenaFull n) before now a is = absurd is
 stops_for asks told reading refusal (OverLimit l g n k) before now a is = absurd is
+stops_for asks told reading refusal (NotMovable l) before now a is = absurd is
 
 -- what a text gives leads on, and its fault is where the readings stop
 pub text_leads : {X Y E : Type 0} (asks : List Request → Type 0) (told : Option Files) (reading : Reading)
@@ -143,6 +146,7 @@ text_leads asks told reading after view refuse parsed (Err OutputFault) before n
 text_leads asks told reading after view refuse parsed (Err OutOfMemory) before now refused a is = inl (after parsed, a)
 text_leads asks told reading after view refuse parsed (Err (ArenaFull n)) before now refused a is = absurd is
 text_leads asks told reading after view refuse parsed (Err (OverLimit l g n k)) before now refused a is = absurd is
+text_leads asks told reading after view refuse parsed (Err (NotMovable l)) before now refused a is = absurd is
 
 -- ---- the text of a file, as the code has it
 

@@ -9,7 +9,8 @@ use Rattle.sd_base.specs.Files.{Files}
 use Rattle.sd_formula.specs.Dimacs.{Groups}
 use Rattle.sd_manager.specs.Table.{Table}
 use Rattle.sd_commands.specs.Effects.{Effect, Write, Print}
-use Rattle.sd_commands.specs.Commands.{State, Done, OverLimit as PassesLimit, Step, Steps, MayFill}
+use Rattle.sd_commands.specs.Commands.{State, Done, OverLimit as PassesLimit, NotMovable as Unmoved, Step, Steps}
+use Rattle.sd_commands.specs.Commands.{MayFill}
 use Rattle.sd_commands.specs.Fits.{AllFit}
 use Rattle.sd_commands.specs.Standing.{Represents, StepsTo, StopsAt, IsFilled, HoldsState, effects_of, names_of}
 use Rattle.sd_commands.specs.declared.command.Effect.{Effect as CodeEffect}
@@ -22,12 +23,13 @@ use Rattle.sd_commands.proofs.Standing.{holds_state}
 use Rattle.sd_tool.specs.Effects.{Contents, after_effect, after, DoesPart}
 use Rattle.sd_tool.specs.Readings.{Plan}
 use Rattle.sd_tool.specs.Ends.{Finished, Unwritable, OutOfMemory as NoMemory, ArenaFull as NoRoom, OverLimit as Passes}
+use Rattle.sd_tool.specs.Ends.{NotMovable as StaysPut}
 use Rattle.sd_tool.specs.Devices.{Faults, NotFewer, HasDeviceCause}
 use Rattle.sd_tool.specs.Asks.{writings}
 use Rattle.sd_tool.specs.Course.{IsAtCommand}
 use Rattle.sd_tool.specs.Stops.{FailsAt, RunsToEnd, stop_of}
 use Rattle.sd_tool.specs.declared.stop.Stop.{Stop}
-use Rattle.sd_tool.specs.declared.stop.Stop.TheVariants.{OutOfMemory, ArenaFull, OverLimit}
+use Rattle.sd_tool.specs.declared.stop.Stop.TheVariants.{OutOfMemory, ArenaFull, OverLimit, NotMovable}
 use Rattle.sd_tool.proofs.AskLemmas.{Joins}
 
 -- the contents after two lists of effects
@@ -224,6 +226,29 @@ goes_to_over plan v index code t old now before after_ command group size limit 
   cause = tt;
 }
 
+-- the place is not movable
+goes_to_unmoved : {asks : List Request → Type 0} (plan : Plan) (v index : ℕ) (code : RunState) (t : Table)
+    (old now : Contents) (before after_ : Faults) (command : NumberedCommand)
+    → IsNext plan.commands index command → (so_far : SoFar asks plan v index code old now)
+    → Step plan.input so_far.state command.command Unmoved
+    → RunsToEnd asks plan t (Err (NotMovable command.line)) old now before after_
+goes_to_unmoved plan v index code t old now before after_ command next so_far refused = record {
+  end = StaysPut command.line;
+  at = record { status = refl; text = refl; stopped = λ e. cc };
+  effects = so_far.effects;
+  ends = (
+    so_far.state,
+    command,
+    reaches_next plan so_far.state index so_far.effects command next so_far.steps,
+    refl,
+    refused,
+  );
+  asked = so_far.asked;
+  full_at = tt;
+  leaves = so_far.is;
+  cause = tt;
+}
+
 -- a command is not done
 pub goes_to_stop : {asks : List Request → Type 0} (plan : Plan) (v index : ℕ) (code new : RunState)
     (old now : Contents) (before after_ : Faults) (command : NumberedCommand) (error : CommandError) (stop : Stop)
@@ -237,6 +262,8 @@ goes_to_stop {asks = asks} plan v index code new old now before after_ command e
         → RunsToEnd asks plan new.manager (Err (stop_of command.line e)) old now before after_
     go (errors.OverLimit group size limit) stops =
         goes_to_over plan v index code new.manager old now before after_ command group size limit next so_far stops
+    go errors.NotMovable stops =
+        goes_to_unmoved plan v index code new.manager old now before after_ command next so_far stops
     go (errors.ArenaFull n) stops =
         goes_to_full plan v index code new.manager old now before after_ command n next so_far stops.0 stops.1
         (holds_state new so_far.state same)

@@ -49,7 +49,7 @@ use Rattle.sd_tool.specs.Headline.{IsCourse}
 use Rattle.sd_tool.specs.Written.{HasFormula, IsFormulaOf, IsInput, IsStartTree, IsWritten, HasWritten, HasEqualTexts}
 use Rattle.sd_tool.specs.Written.{with_output, with_announcement}
 use Rattle.sd_tool.proofs.ByStatus.{effects_at}
-use Rattle.sd_tool.proofs.OneCourse.{one_tree, whole_plan}
+use Rattle.sd_tool.proofs.OneCourse.{steps_valid, whole_plan}
 use Rattle.sd_tool.proofs.NotOutOfMemory.{valid_start}
 
 -- a plan is that of an input and its tree, with the stated commands
@@ -440,6 +440,7 @@ equal_to tree f g a b valid p q =
 pub equal_texts : (words : List (List ℕ)) (told : Option Files) → HasEqualTexts words told
 equal_texts words told = λ plan f g tree a b led first second.
     let reached = first.at.reaches in
-    let same = first.tree_is
-    ∙ one_tree plan.input plan.start first.state reached.done first.effects reached.steps in
-    equal_to tree f g a b (subst IsVtree (sym same) (valid_start told words plan led)) first.text_is second.text_is
+    let valid =
+    steps_valid plan.input plan.start first.state reached.done first.effects (valid_start told words plan led)
+    reached.steps in
+    equal_to tree f g a b (subst IsVtree (sym first.tree_is) valid) first.text_is second.text_is

@@ -5,6 +5,7 @@ use Rattle.sd_base.specs.Files.{Files}
 use Rattle.sd_commands.specs.Effects.{Effect, Write, Print}
 use Rattle.sd_tool.specs.Readings.{Plan, Reading, Refuses, Begins, Reads, Text, IsText, reading_of}
 use Rattle.sd_tool.specs.Ends.{End, Finished, Refused, Unreadable, Unwritable, OutOfMemory, ArenaFull, OverLimit}
+use Rattle.sd_tool.specs.Ends.{NotMovable}
 use Rattle.sd_tool.specs.Course.{EndsAmong}
 
 -- no request at all
@@ -62,6 +63,7 @@ EndsAsking asks files reading (Unwritable effect) = ⊥
 EndsAsking asks files reading OutOfMemory = BreaksOff asks files reading
 EndsAsking asks files reading (ArenaFull elements) = ⊥
 EndsAsking asks files reading (OverLimit line group size limit) = ⊥
+EndsAsking asks files reading (NotMovable line) = ⊥
 
 -- After these effects, a run with these words over these files comes to this end, and it asks of the shelf what its
 -- readings ask, and then the writings of the effects that are begun.
@@ -72,10 +74,10 @@ GoesTo asks words files effects end =
     × ComesTo (λ readings. asks (readings ++ writings (begun effects end))) files (reading_of words) (Begins plan)
     × EndsAmong plan effects end)
 
--- What is asked of the shelf at each status: where the words are refused, nothing; where the run ends before its
--- commands, only readings; and never is a file read after one is written.
+-- What is asked of the shelf at each status: where the words are refused, nothing; at 1, 2, 5 and 9, which come before
+-- the commands alone, only readings; and never is a file read after one is written.
 pub record HasAsked (status : ℕ) (asks : List Request → Type 0) : Type 0 where
   pub nothing : status ≡ 1 → asks []
-  pub readings : (status ≡ 1) ⊎ (status ≡ 2) ⊎ (status ≡ 3) ⊎ (status ≡ 5) ⊎ (status ≡ 9)
+  pub readings : (status ≡ 1) ⊎ (status ≡ 2) ⊎ (status ≡ 5) ⊎ (status ≡ 9)
       → (names : List (List ℕ)) × asks (map ToRead names)
   pub order : (names files : List (List ℕ)) × asks (map ToRead names ++ map ToWrite files)

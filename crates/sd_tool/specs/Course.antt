@@ -2,11 +2,13 @@
 use Rattle.std.specs.Prelude.{◌≡◌, ◌⊎◌, ℕ, List, [], ◌∷◌, ◌++◌, Option}
 use Rattle.sd_base.specs.Files.{Files}
 use Rattle.sd_commands.specs.Effects.{Effect}
-use Rattle.sd_commands.specs.Commands.{State, Done, OverLimit as PassesLimit, Step, Steps, MayFill}
+use Rattle.sd_commands.specs.Commands.{State, Done, OverLimit as PassesLimit, NotMovable as Unmoved, Step, Steps}
+use Rattle.sd_commands.specs.Commands.{MayFill}
 use Rattle.sd_commands.specs.declared.command.NumberedCommand.{NumberedCommand}
 use Rattle.sd_tool.specs.Effects.{Contents, after, DoesPart}
 use Rattle.sd_tool.specs.Readings.{Plan, Reading, Refuses, Begins, Reads, reading_of, ReadsTo}
 use Rattle.sd_tool.specs.Ends.{End, Finished, Refused, Unreadable, Unwritable, OutOfMemory, ArenaFull, OverLimit}
+use Rattle.sd_tool.specs.Ends.{NotMovable}
 
 -- The run ends at its readings, before any command: refused, at a file that it asks for, or out of memory.
 abbrev pub EndsReading : Option Files → Reading → End → Type 0
@@ -17,6 +19,7 @@ EndsReading files reading (Unwritable effect) = ⊥
 EndsReading files reading OutOfMemory = Unit {0}
 EndsReading files reading (ArenaFull elements) = ⊥
 EndsReading files reading (OverLimit line group size limit) = ⊥
+EndsReading files reading (NotMovable line) = ⊥
 
 -- The first commands of a plan are done with these effects, and the others are left.
 pub record Reaches (plan : Plan) (effects : List Effect) (state : State) (left : List NumberedCommand) : Type 0 where
@@ -30,7 +33,8 @@ pub record IsAtCommand (plan : Plan) (effects : List Effect) (state : State) (ne
   pub reaches : Reaches plan effects state (next ∷ left)
 
 -- The run ends among its commands, after these effects: all are done, the effect of the next fails, for want of
--- memory, at a full arena, which the next may need, or where the next is refused since the total size passes the limit.
+-- memory, at a full arena, which the next may need, or where the next is refused since the total size passes the limit
+-- or its place is not movable.
 abbrev pub EndsAmong : Plan → List Effect → End → Type 0
 EndsAmong plan effects Finished = (state : State) × Reaches plan effects state []
 EndsAmong plan effects (Refused refusal) = ⊥
@@ -44,6 +48,9 @@ EndsAmong plan effects (ArenaFull elements) =
 EndsAmong plan effects (OverLimit line group size limit) =
     (state : State) × (next : NumberedCommand) × IsAtCommand plan effects state next × (next.line ≡ line)
     × Step plan.input state next.command (PassesLimit group size limit)
+EndsAmong plan effects (NotMovable line) =
+    (state : State) × (next : NumberedCommand) × IsAtCommand plan effects state next × (next.line ≡ line)
+    × Step plan.input state next.command Unmoved
 
 -- After these effects, a run with these words over these files may come to this end.
 abbrev pub MayEnd : List (List ℕ) → Option Files → List Effect → End → Type 0

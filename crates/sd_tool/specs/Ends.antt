@@ -18,6 +18,8 @@ pub data End : Type 0 where
   OutOfMemory : End
   -- the arena of the diagrams would have to hold so many elements
   ArenaFull : (elements : ℕ) → End
+  -- the vtree cannot be moved as the command of a line says
+  NotMovable : (line : ℕ) → End
   -- the total size passes the limit, at the command of a line, or there at a group of the input
   OverLimit : (line : ℕ) (group : Option ℕ) (size limit : ℕ) → End
 
@@ -28,6 +30,7 @@ status_of (Unreadable file) = 5
 status_of (Unwritable effect) = 6
 status_of OutOfMemory = 7
 status_of (ArenaFull elements) = 8
+status_of (NotMovable line) = 3
 status_of (OverLimit line group size limit) = 4
 
 -- a group of the input, if it is told
@@ -44,6 +47,7 @@ text_of (Unwritable (Write file bytes)) = file ++ codes ": write fault"
 text_of (Unwritable (Print line)) = codes "output: write fault"
 text_of OutOfMemory = codes "out of memory"
 text_of (ArenaFull elements) = codes "arena full: " ++ number_text elements
+text_of (NotMovable line) = codes "line " ++ number_text line ++ codes ": not movable"
 text_of (OverLimit line group size limit) =
     codes "line " ++ number_text line ++ group_text group ++ codes ": size " ++ number_text size
     ++ codes " passes limit " ++ number_text limit

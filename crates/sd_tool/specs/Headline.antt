@@ -13,7 +13,7 @@ use Rattle.sd_tool.specs.Readings.{Plan, Refuses, Begins, Reads, reading_of, Rea
 use Rattle.sd_tool.specs.Refusals.{IsOfText, refusal_status}
 use Rattle.sd_tool.specs.declared.refusal.Refusal.{Refusal}
 use Rattle.sd_tool.specs.Ends.{End, Finished, Refused, Unreadable, Unwritable, OutOfMemory, ArenaFull, OverLimit}
-use Rattle.sd_tool.specs.Ends.{status_of}
+use Rattle.sd_tool.specs.Ends.{NotMovable, status_of}
 use Rattle.sd_tool.specs.Devices.{Moment, NoneRose, HasDeviceCause, WritesEndLine}
 use Rattle.sd_tool.specs.Asks.{GoesTo}
 use Rattle.sd_tool.specs.Course.{MayEnd, Leaves}
@@ -33,12 +33,17 @@ pub record IsCourse (asks : List Request → Type 0) (words : List (List ℕ)) (
   pub keeps : KeepsManager words old.contents.files effects end kept
   pub line : WritesEndLine end old new
 
--- What was done outside: at status 0 all effects of the run, at 1, 2, 3, 5 and 9 none, at 4, 7 and 8 those of the first
--- commands, at 6 those before the effect in hand, and a part of that one.
+-- What was done outside: at status 0 all effects of the run, at 1, 2, 5 and 9 none, at 4, 7 and 8 those of the first
+-- commands, at 3 none or those of the first commands, at 6 those before the effect in hand, and a part of that one.
 pub record HasEffects (words : List (List ℕ)) (status : ℕ) (old new : Moment) : Type 0 where
   pub all : status ≡ 0 → (effects : List Effect)
       × MayEnd words old.contents.files effects Finished × (new.contents ≡ after effects old.contents)
-  pub none : (status ≡ 1) ⊎ (status ≡ 2) ⊎ (status ≡ 3) ⊎ (status ≡ 5) ⊎ (status ≡ 9) → new.contents ≡ old.contents
+  pub none : (status ≡ 1) ⊎ (status ≡ 2) ⊎ (status ≡ 5) ⊎ (status ≡ 9) → new.contents ≡ old.contents
+  pub script : status ≡ 3 →
+      ((refusal : Refusal) × ReadsTo old.contents.files (reading_of words) (Refuses refusal)
+      × (new.contents ≡ old.contents))
+      ⊎ ((effects : List Effect) × (line : ℕ) × MayEnd words old.contents.files effects (NotMovable line)
+      × (new.contents ≡ after effects old.contents))
   pub first : status ≡ 7 → (effects : List Effect)
       × MayEnd words old.contents.files effects OutOfMemory × (new.contents ≡ after effects old.contents)
   pub full : status ≡ 8 → (effects : List Effect) × (elements : ℕ)
@@ -103,12 +108,21 @@ pub record PassedLimit (words : List (List ℕ)) (old new : Moment) : Type 0 whe
   pub in_hand : MayEnd words old.contents.files effects (OverLimit at_line group size limit)
   pub line : WritesEndLine (OverLimit at_line group size limit) old new
 
+-- A place was not movable: all readings were accepted, and the next command has this line and cannot be done in the
+-- state after those before it. The line tells it.
+pub record WasNotMovable (words : List (List ℕ)) (old new : Moment) : Type 0 where
+  pub at_line : ℕ
+  pub effects : List Effect
+  pub in_hand : MayEnd words old.contents.files effects (NotMovable at_line)
+  pub line : WritesEndLine (NotMovable at_line) old new
+
 -- When each status comes, and that a manager is kept at 8 alone. That a refusal comes wherever it may is the other
 -- half, in `IsComplete` and `IsCourse`.
 pub record HasEnd (words : List (List ℕ)) (status : ℕ) (kept : Option Table) (old new : Moment) : Type 0 where
   pub one_of : (status ≡ 0) ⊎ (status ≡ 1) ⊎ (status ≡ 2) ⊎ (status ≡ 3) ⊎ (status ≡ 4) ⊎ (status ≡ 5)
       ⊎ (status ≡ 6) ⊎ (status ≡ 7) ⊎ (status ≡ 8) ⊎ (status ≡ 9)
-  pub refused : (status ≡ 1) ⊎ (status ≡ 2) ⊎ (status ≡ 3) ⊎ (status ≡ 9) → IsRefused words status old new
+  pub refused : (status ≡ 1) ⊎ (status ≡ 2) ⊎ (status ≡ 9) → IsRefused words status old new
+  pub script : status ≡ 3 → IsRefused words status old new ⊎ WasNotMovable words old new
   pub over_limit : status ≡ 4 → PassedLimit words old new
   pub read_fault : status ≡ 5 → CouldNotRead words old new
   pub write_fault : status ≡ 6 → CouldNotWrite words old new
@@ -120,6 +134,7 @@ abbrev pub IsOwn : End → Type 0
 IsOwn Finished = Unit {0}
 IsOwn (Refused refusal) = Unit {0}
 IsOwn (OverLimit line group size limit) = Unit {0}
+IsOwn (NotMovable line) = Unit {0}
 IsOwn end = ⊥
 
 -- Over told files, where neither the shelf nor `out` fails: an input with a start tree is written, or it passes the

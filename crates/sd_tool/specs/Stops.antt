@@ -12,7 +12,7 @@ use Rattle.sd_commands.specs.declared.error.CommandError.TheVariants as errors
 use Rattle.sd_tool.specs.Effects.{Contents, DoesPart}
 use Rattle.sd_tool.specs.Readings.{Plan, Reading, Refuses, Text, Whole, TooLong}
 use Rattle.sd_tool.specs.Ends.{End, Finished, Refused, Unreadable, Unwritable, OutOfMemory as NoMemory}
-use Rattle.sd_tool.specs.Ends.{ArenaFull as NoRoom, OverLimit, status_of, text_of}
+use Rattle.sd_tool.specs.Ends.{ArenaFull as NoRoom, OverLimit, NotMovable, status_of, text_of}
 use Rattle.sd_tool.specs.KeptManager.{HoldsAt, KeepsOf, KeepsManager}
 use Rattle.sd_tool.specs.Devices.{HasDeviceCause, Faults}
 use Rattle.sd_tool.specs.Asks.{ComesTo, AsksLast, BreaksOff, GoesTo, begun, writings}
@@ -29,6 +29,7 @@ end_of (stops.WriteFault file) = Unwritable (Write file [])
 end_of stops.OutputFault = Unwritable (Print [])
 end_of stops.OutOfMemory = NoMemory
 end_of (stops.ArenaFull elements) = NoRoom elements
+end_of (stops.NotMovable line) = NotMovable line
 end_of (stops.OverLimit line group size limit) = OverLimit line group size limit
 
 abbrev pub stop_status : Stop → ℕ
@@ -41,6 +42,7 @@ stop_text stop = text_of (end_of stop)
 -- the stop at a command of this line that is not done
 abbrev pub stop_of : ℕ → CommandError → Stop
 stop_of line (errors.OverLimit group size limit) = stops.OverLimit line group size limit
+stop_of line errors.NotMovable = stops.NotMovable line
 stop_of line (errors.ArenaFull elements) = stops.ArenaFull elements
 stop_of line errors.OutOfMemory = stops.OutOfMemory
 

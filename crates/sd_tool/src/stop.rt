@@ -22,6 +22,8 @@ pub enum Stop {
     OutOfMemory,
     /// The arena of the diagrams would have to hold so many elements.
     ArenaFull(u64),
+    /// The vtree cannot be moved as the command of this line says.
+    NotMovable(u32),
     /// The total size passes the limit, at the command of a line, or there at a group of the input.
     OverLimit {
         line: u32,
@@ -38,6 +40,7 @@ impl Stop {
     {
         match self {
             Stop::Refused(refusal) => refusal.status(),
+            Stop::NotMovable(_) => 3,
             Stop::ReadFault(_) => 5,
             Stop::WriteFault(_) | Stop::OutputFault => 6,
             Stop::OutOfMemory => 7,
@@ -64,6 +67,12 @@ impl Stop {
             Stop::OutputFault => alone(plain(b"output", b": write fault")),
             Stop::OutOfMemory => alone(plain(b"out of memory", b"")),
             Stop::ArenaFull(elements) => alone(numbered(b"arena full: ", b"", *elements, b"")),
+            Stop::NotMovable(line) => alone(numbered(
+                b"line ",
+                b"",
+                u64::from(*line),
+                b": not movable",
+            )),
             Stop::OverLimit {
                 line,
                 group,

@@ -12,6 +12,7 @@ mod formulas;
 mod generated;
 mod hostile;
 mod limit;
+mod moves;
 mod scripts;
 mod vtrees;
 mod words;

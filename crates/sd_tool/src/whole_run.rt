@@ -217,6 +217,7 @@ fn stop_at(line: u32, error: CommandError) -> Stop
             size,
             limit,
         },
+        CommandError::NotMovable => Stop::NotMovable(line),
         CommandError::ArenaFull { elements } => Stop::ArenaFull(elements),
         CommandError::OutOfMemory => Stop::OutOfMemory,
     }

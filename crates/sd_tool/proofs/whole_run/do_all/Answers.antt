@@ -1,6 +1,4 @@
-use Rattle.std.proofs.Common.{[], refl, ap, ◌∙◌, arith}
-use Rattle.sd_model.specs.Tree.{leaves}
-use Rattle.sd_vtree.specs.Numbered.{plain_tree}
+use Rattle.std.proofs.Common.{[], refl, ◌∙◌, arith}
 use Rattle.sd_tool.specs.PlanViews.{plan_with}
 use Rattle.sd_tool.proofs.StepLemmas.{so_far_more, goes_to_stop}
 use Rattle.sd_tool.proofs.StepLemmas.{goes_to_fault, goes_to_end, no_fewer}
@@ -20,7 +18,7 @@ loop-command-init g c = record {
     is = refl;
     asked = asks_none g.F.Shelf.asked c.args.shelf.now;
   };
-  vtree = refl;
+  variables = refl;
   roots = omega (arith, c.requires.ready.roots);
   fewer = record { read = omega arith; write = omega arith; print = omega arith };
 }
@@ -38,7 +36,7 @@ step-requires-clause-represents g c =
 
 pub step-requires-clause-variables : goal.step-requires-clause-variables
 step-requires-clause-variables g c =
-    ap (λ t. leaves (plain_tree t)) c.loop-command.invariant.vtree ∙ c.requires.ready.variables
+    c.loop-command.invariant.variables ∙ c.requires.ready.variables
 
 pub step-requires-clause-room : goal.step-requires-clause-room
 step-requires-clause-room g c = omega (arith, c.loop-command.invariant.roots, c.requires.ready.within_limit)
@@ -74,7 +72,7 @@ loop-command-preserved g c =
           (record { within = omega arith; is = c.command-item.is }) was.so_far
           (c.in-Ok.ensures.done was.so_far.state was.so_far.represents) c.in-Ok-perform_any.ensures.ok
           c.in-Ok-perform_any.ensures.asked;
-      vtree = c.in-Ok.ensures.vtree ∙ was.vtree;
+      variables = c.in-Ok.ensures.variables ∙ was.variables;
       roots = omega (arith, was.roots, c.in-Ok.ensures.roots);
       fewer = no_fewer _ _ _ was.fewer c.in-Ok-perform_any.ensures.fewer;
     }

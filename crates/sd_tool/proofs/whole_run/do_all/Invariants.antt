@@ -1,6 +1,8 @@
 use Rattle.std.proofs.Common.{◌≡◌, ◌≤◌}
 use Rattle.sd_base.specs.Asked.{Adds}
 use Rattle.sd_base.specs.Shelf.{NoFile}
+use Rattle.sd_model.specs.Tree.{leaves}
+use Rattle.sd_vtree.specs.Numbered.{plain_tree}
 use Rattle.sd_commands.specs.Standing.{root_count}
 use Rattle.sd_tool.specs.Devices.{contents, faults, NotFewer}
 use Rattle.sd_tool.specs.PlanViews.{plan_with}
@@ -15,7 +17,7 @@ invariant-loop-command g l = record {
       l.command-index l.state
       (contents g.F.Shelf.files g.O.Sink.written l.fn.shelf l.fn.out)
       (contents g.F.Shelf.files g.O.Sink.written l.shelf l.out);
-  vtree : l.state.manager.vtree ≡ l.fn.state.manager.vtree;
+  variables : leaves (plain_tree l.state.manager.vtree) ≡ leaves (plain_tree l.fn.state.manager.vtree);
   roots : root_count l.state ≤ l.command-index;
   fewer : NotFewer
       (faults g.F.Shelf.read_faults g.F.Shelf.write_faults g.O.Sink.faults l.fn.shelf l.fn.out)
