@@ -46,7 +46,6 @@ pub mod RewrittenOne
 pub mod RewrittenAll
 pub mod RewritingStep
 pub mod Refused
-pub mod SwapRecorded
 pub mod SwapWaits
 pub mod SwapEnd
 pub mod ServesLater

@@ -1,8 +1,8 @@
 -- A move on its way ends, where no node is detached, or goes back.
-use Rattle.std.proofs.Common.{◌≡◌, ◌⊎◌, inl, inr, ℕ, ◌+◌, ◌≤◌, ◌<◌, List, Option, Some, None}
-use Rattle.std.proofs.Common.{refl, sym, ◌∙◌, ap, subst}
+use Rattle.std.proofs.Common.{◌≡◌, ◌⊎◌, inl, inr, ℕ, ◌+◌, ◌≤◌, ◌<◌, List, Option, Some, None, refl, sym, ◌∙◌, ap}
+use Rattle.std.proofs.Common.{subst, Bool, true, false, [], ◌∷◌, arith, map}
 use Rattle.std.specs.Option.{IsSome}
-use Rattle.std.specs.FinMap.{get, empty}
+use Rattle.std.specs.FinMap.{get, empty, get-empty}
 use Rattle.sd_model.specs.declared.trees.Move.{Move}
 use Rattle.sd_model.specs.Moves.{inverse_move}
 use Rattle.sd_runs.specs.declared.error.TakeError.{TakeError}
@@ -10,10 +10,10 @@ use Rattle.sd_laws.specs.Turned.{lower_of}
 use Rattle.sd_manager.specs.Table.{Table, key_at}
 use Rattle.sd_manager.specs.Shown.{IsNodeOf}
 use Rattle.sd_manager.specs.Valid.{IsTable}
-use Rattle.sd_manager.specs.Making.{KeepsRule}
+use Rattle.sd_manager.specs.Making.{KeepsRule, IsPastBound}
 use Rattle.sd_manager.specs.Marking.{AreUnmarked}
-use Rattle.sd_manager.specs.Moving.{at_rest, IsLater}
-use Rattle.sd_sweep.specs.Reached.{KeepsReached}
+use Rattle.sd_manager.specs.Moving.{at_rest, IsLater, moving_at, next_epoch}
+use Rattle.sd_sweep.specs.Reached.{KeepsReached, IsReached}
 use Rattle.sd_move.specs.GoingBack.{ToTable, WayBack, CanGoBack, HasGoneBack}
 use Rattle.sd_move.specs.Journal.{Named, Journal}
 use Rattle.sd_move.specs.Moves.{IsMoved}
@@ -23,12 +23,63 @@ use Rattle.sd_move.proofs.KnownAtEnd.{may_end}
 use Rattle.sd_move.proofs.Linking.{linked_key}
 use Rattle.sd_move.proofs.Recorded.{is_moved}
 use Rattle.sd_move.proofs.Refused.{way_to, can_refuse, refused_keeps, refused_past}
-use Rattle.sd_move.proofs.SwapEnd.{next_later, next_last, rule_over}
+use Rattle.std.specs.Prelude.{nat_lt, if◌then◌else◌}
+use Rattle.std.proofs.lemmas.Bool.{ltb-true, ltb-false}
+use Rattle.std.specs.List.{AllByRecursion}
+use Rattle.std.specs.Ordering.{nat_cmp}
+use Rattle.std.proofs.lemmas.Option.{same_Some}
+use Rattle.sd_model.specs.declared.trees.Move.TheVariants.{Swap}
+use Rattle.sd_vtree.specs.NumberedMoves.{moved_number}
+use Rattle.sd_runs.specs.Arena.{IsMember, HasNoCopies}
+use Rattle.sd_runs.specs.declared.error.TakeError.TheVariants.{ArenaFull, OutOfMemory}
+use Rattle.sd_runs.proofs.Maps.{same_at_each}
+use Rattle.sd_laws.proofs.Evaluated.{value_of}
+use Rattle.sd_move.specs.Moving.{no_progress, Progress, HasBegun}
+use Rattle.sd_move.specs.Rewriting.{CanRewriteAll, HasRewritten, GoesOn, numbers_of}
+use Rattle.sd_model.specs.Tree.{AreDistinct}
+use Rattle.sd_vtree.specs.Numbered.{Numbered}
+use Rattle.sd_laws.specs.Values.{Valuation}
+use Rattle.sd_move.specs.declared.sorting.Side.{Side}
+use Rattle.sd_move.specs.Sorting.{rotation_of, place_entry, CanRotate, HasRotated}
 
--- how it goes back
-abbrev pub way_of : (m0 m : Table) (kind : Move) (x : ℕ) (lower : Option ℕ) (named : List Named) →
-    IsOnTheWay m0 m kind x lower named → WayBack
-way_of m0 m kind x lower named o = way_to m0 o.progress o.values
+-- what holds of each element holds of each member
+pub member_of : (P : ℕ → Type 0) (ns : List ℕ) (n : ℕ) → AllByRecursion P ns → IsMember n ns → P n
+member_of P [] n h m = absurd m
+member_of P (i ∷ ns) n h (inl e) = subst P e h.0
+member_of P (i ∷ ns) n h (inr m) = member_of P ns n h.1 m
+
+-- the next epoch is a later one
+pub next_later : (e : ℕ) → e ≤ 18446744073709551615 → (e < next_epoch e) ⊎ (next_epoch e ≡ 18446744073709551615)
+next_later e last = go (nat_lt e 18446744073709551615) refl
+  where
+    go : (b : Bool) → nat_lt e 18446744073709551615 ≡ b →
+        (e < (if b then e + 1 else e)) ⊎ ((if b then e + 1 else e) ≡ 18446744073709551615)
+    go true below = inl (omega arith)
+    go false over = inr (omega (arith, last, ltb-false e 18446744073709551615 over))
+
+-- and at most the last one
+pub next_last : (d : ℕ) → d ≤ 18446744073709551615 → next_epoch d ≤ 18446744073709551615
+next_last d last = go (nat_lt d 18446744073709551615) refl
+  where
+    go : (b : Bool) → nat_lt d 18446744073709551615 ≡ b → (if b then d + 1 else d) ≤ 18446744073709551615
+    go true below = omega (arith, ltb-true d 18446744073709551615 below)
+    go false over = last
+
+-- a refusal by the arena's rule is one where what is past the bound is so
+pub rule_over : (t u : Table) (e : TakeError) → ((elements : ℕ) → IsPastBound t elements → IsPastBound u elements) →
+    KeepsRule t e → KeepsRule u e
+rule_over t u (ArenaFull elements) f h = f elements h
+rule_over t u OutOfMemory f h = h
+
+-- where none waits still, nothing is detached
+pub none_waits : (old new last : Table) (x : ℕ) (h : Progress) (v : Valuation) → GoesOn old new last x h v [] →
+    last.detached ≡ empty
+none_waits old new last x h v on =
+    same_at_each last.detached empty (λ n. gone n (get last.detached n) refl ∙ sym (get-empty nat_cmp n))
+  where
+    gone : (n : ℕ) (o : Option (ℕ × List (ℕ × ℕ))) → get last.detached n ≡ o → get last.detached n ≡ None
+    gone n None e = e
+    gone n (Some k) e = absurd (on.can.only n (subst IsSome (sym e) refl))
 
 module _ (m0 m : Table) (kind : Move) (x : ℕ) (lower : Option ℕ) (named : List Named)
     (o : IsOnTheWay m0 m kind x lower named) where

@@ -3,12 +3,13 @@ use Rattle.std.proofs.Common.{◌≡◌, ◌≢◌, ◌⊎◌, inl, inr, ℕ, Li
 use Rattle.std.proofs.Common.{length, refl, sym, ◌∙◌, ap, subst, eq-eqb, ne_eqb, if◌then◌else◌}
 use Rattle.std.specs.List.{AllByRecursion}
 use Rattle.std.specs.Option.{IsSome, option_map}
-use Rattle.std.specs.FinMap.{get}
+use Rattle.std.specs.Ordering.{nat_cmp}
+use Rattle.std.specs.FinMap.{FinMap, get, remove}
 use Rattle.std.proofs.lemmas.Bool.{cases_eq}
 use Rattle.std.proofs.lemmas.Option.{none-some, some_pair_parts}
 use Rattle.sd_model.specs.Tree.{AreDistinct}
-use Rattle.sd_runs.specs.Arena.{IsMember}
-use Rattle.sd_runs.proofs.Maps.{same_at_each}
+use Rattle.sd_runs.specs.Arena.{IsMember, HasNoCopies}
+use Rattle.sd_runs.proofs.Maps.{same_at_each, get_remove_same}
 use Rattle.sd_manager.specs.Table.{Table, key_at}
 use Rattle.sd_manager.specs.Valid.{IsTable}
 use Rattle.sd_move.specs.Journal.{Named, journal_entry, key_before, with_start, starts_of, without_runs}
@@ -18,10 +19,46 @@ use Rattle.sd_move.proofs.LinkedAgain.{has_or_not}
 use Rattle.sd_move.proofs.Linking.{linked_key, detached_key}
 use Rattle.sd_move.proofs.Recorded.{own_entry, member_own, without_other}
 use Rattle.sd_move.proofs.Returning.{linked_or_detached}
-use Rattle.sd_move.proofs.SwapRecorded.{unnamed_apart, without_member}
 use Rattle.sd_move.proofs.ThereAndBack.{own_start}
 
 -- lists of entries
+
+-- a number that is not named is none of the entries'
+pub unnamed_apart : (es : List Named) (n : ℕ) → journal_entry es n ≡ None → ¬ IsMember n (numbers_of es)
+unnamed_apart [] n none h = h
+unnamed_apart (e ∷ es) n none h = elim (cases_eq e.number n) [
+  | inl k ↦ absurd
+      (none-some e (sym none ∙ ap (λ b. if b then Some e else journal_entry es n) (eq-eqb e.number n k)))
+  | inr d ↦ later d h
+      (unnamed_apart es n
+      (sym (ap (λ b. if b then Some e else journal_entry es n) (ne_eqb e.number n d)) ∙ none))
+]
+  where
+    later : (e.number ≡ n → ⊥) → IsMember n (numbers_of (e ∷ es)) → ¬ IsMember n (numbers_of es) → ⊥
+    later d (inl k) out = d k
+    later d (inr k) out = out k
+
+-- the first of numbers that are all different are so
+pub first_distinct : (xs ys : List ℕ) → HasNoCopies (xs ++ ys) → AreDistinct xs
+first_distinct [] ys once = tt
+first_distinct (x ∷ xs) ys once = (apart xs (λ m. once.0 m), first_distinct xs ys once.1)
+  where
+    apart : (zs : List ℕ) → ¬ IsMember x (zs ++ ys) → AllByRecursion (λ y. x ≢ y) zs
+    apart [] out = tt
+    apart (z ∷ zs) out = (λ e. out (inl (sym e)), apart zs (λ m. out (inr m)))
+
+-- no run begins at one of the starts that are taken away
+pub without_member : (loose : FinMap nat_cmp (List (ℕ × ℕ))) (starts : List ℕ) (s : ℕ) → IsMember s starts →
+    get (without_runs loose starts) s ≡ None
+without_member loose [] s h = absurd h
+without_member loose (m ∷ ms) s h = go (λ k. without_member (remove loose m) ms s k) (has_or_not s ms) h
+  where
+    go : (IsMember s ms → get (without_runs (remove loose m) ms) s ≡ None) → IsMember s ms ⊎ (¬ IsMember s ms) →
+        IsMember s (m ∷ ms) → get (without_runs (remove loose m) ms) s ≡ None
+    go on (inl k) h = on k
+    go on (inr out) (inr k) = absurd (out k)
+    go on (inr out) (inl k) =
+        without_other (remove loose m) ms s out ∙ ap (get (remove loose m)) (sym k) ∙ get_remove_same loose m
 
 -- the entries have no runs
 abbrev pub KeepLists : List Named → Type 0

@@ -23,11 +23,10 @@ use Rattle.sd_move.specs.OnTheWay.{IsOnTheWay}
 use Rattle.sd_move.specs.Recorded.{AreRecorded}
 use Rattle.sd_move.specs.Rewriting.{CanRewriteAll, HasRewritten, GoesOn, numbers_of}
 use Rattle.sd_move.specs.Sorting.{rotation_of, place_entry, CanRotate, HasRotated}
-use Rattle.sd_move.proofs.RewrittenRecorded.{KeepLists, rewritten_recorded}
+use Rattle.sd_move.proofs.RewrittenRecorded.{KeepLists, rewritten_recorded, first_distinct}
 use Rattle.sd_move.proofs.RotatedSort.{rotated_only}
 use Rattle.sd_move.proofs.RotationRecorded.{detached_first, was_there, rotation_recorded, rotation_keeps}
-use Rattle.sd_move.proofs.SwapEnd.{member_of, next_later}
-use Rattle.sd_move.proofs.SwapRecorded.{first_distinct}
+use Rattle.sd_move.proofs.MoveEnd.{member_of, next_later}
 
 module _ (old m new : Table) (side : Side) (x w : ℕ) (upper lower left : List ℕ) (u : Numbered) (b : List Named)
     (p q : List ℕ) (c : CanRotate old m side x w upper lower u)
@@ -156,16 +155,6 @@ module _ (old m new : Table) (side : Side) (x w : ℕ) (upper lower left : List 
           records = subst (λ e. e ≤ last.records) records_same h.done.records;
           marks = then_marks;
         }
-
--- where none waits still, nothing is detached
-pub none_waits : (old new last : Table) (x : ℕ) (h : Progress) (v : Valuation) → GoesOn old new last x h v [] →
-    last.detached ≡ empty
-none_waits old new last x h v on =
-    same_at_each last.detached empty (λ n. gone n (get last.detached n) refl ∙ sym (get-empty nat_cmp n))
-  where
-    gone : (n : ℕ) (o : Option (ℕ × List (ℕ × ℕ))) → get last.detached n ≡ o → get last.detached n ≡ None
-    gone n None e = e
-    gone n (Some k) e = absurd (on.can.only n (subst IsSome (sym e) refl))
 
 -- at the begin the epoch was the same
 pub epoch_begun : (old m : Table) (side : Side) (x w : ℕ) (upper lower : List ℕ) (u : Numbered) →

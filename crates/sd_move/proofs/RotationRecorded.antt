@@ -22,8 +22,7 @@ use Rattle.sd_move.specs.Sorting.{place_entry, AreSorted, CanRotate, HasRotated}
 use Rattle.sd_move.proofs.KnownAtEnd.{key_linked}
 use Rattle.sd_move.proofs.LinkedAgain.{has_or_not}
 use Rattle.sd_move.proofs.Linking.{linked_key, detached_key}
-use Rattle.sd_move.proofs.RewrittenRecorded.{KeepLists, none_started, distinct_both}
-use Rattle.sd_move.proofs.SwapRecorded.{unnamed_apart, first_distinct}
+use Rattle.sd_move.proofs.RewrittenRecorded.{KeepLists, none_started, distinct_both, unnamed_apart, first_distinct}
 use Rattle.sd_move.proofs.Waiting.{times_permuted, member_times, times_member, once_times, times_once}
 
 -- the entries of nodes that keep their lists

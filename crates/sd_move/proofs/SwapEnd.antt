@@ -1,6 +1,6 @@
--- A swap whose waiting nodes were rewritten, all of them or the first ones: it ends, or it goes back.
-use Rattle.std.proofs.Common.{◌≡◌, ◌⊎◌, inl, inr, ℕ, ◌+◌, ◌≤◌, ◌<◌, Bool, true, false, List, [], ◌∷◌}
-use Rattle.std.proofs.Common.{Option, Some, None, refl, sym, ◌∙◌, ap, subst, arith}
+-- A swap whose waiting nodes were rewritten, all of them or the first ones, is on its way.
+use Rattle.std.proofs.Common.{◌≡◌, ◌⊎◌, inl, inr, ℕ, ◌+◌, ◌≤◌, ◌<◌, Bool, true, false, List, [], ◌∷◌, Option, Some}
+use Rattle.std.proofs.Common.{None, refl, sym, ◌∙◌, ap, subst, arith}
 use Rattle.std.specs.Prelude.{nat_lt, if◌then◌else◌}
 use Rattle.std.proofs.lemmas.Bool.{ltb-true, ltb-false}
 use Rattle.std.specs.List.{AllByRecursion}
@@ -31,39 +31,10 @@ use Rattle.sd_move.specs.Rewriting.{CanRewriteAll, HasRewritten, GoesOn, numbers
 use Rattle.sd_move.specs.Swapping.{HasSwapped}
 use Rattle.sd_move.proofs.KnownAtEnd.{may_end, key_linked}
 use Rattle.sd_move.proofs.Linking.{linked_key}
-use Rattle.sd_move.proofs.Recorded.{is_moved}
-use Rattle.sd_move.proofs.Refused.{way_to, can_refuse, refused_keeps, refused_past}
-use Rattle.sd_move.proofs.SwapRecorded.{first_distinct, swap_recorded}
 use Rattle.sd_move.proofs.SwapWaits.{was_linked, may_rewrite}
-
--- what holds of each element holds of each member
-pub member_of : (P : ℕ → Type 0) (ns : List ℕ) (n : ℕ) → AllByRecursion P ns → IsMember n ns → P n
-member_of P [] n h m = absurd m
-member_of P (i ∷ ns) n h (inl e) = subst P e h.0
-member_of P (i ∷ ns) n h (inr m) = member_of P ns n h.1 m
-
--- the next epoch is a later one
-pub next_later : (e : ℕ) → e ≤ 18446744073709551615 → (e < next_epoch e) ⊎ (next_epoch e ≡ 18446744073709551615)
-next_later e last = go (nat_lt e 18446744073709551615) refl
-  where
-    go : (b : Bool) → nat_lt e 18446744073709551615 ≡ b →
-        (e < (if b then e + 1 else e)) ⊎ ((if b then e + 1 else e) ≡ 18446744073709551615)
-    go true below = inl (omega arith)
-    go false over = inr (omega (arith, last, ltb-false e 18446744073709551615 over))
-
--- and at most the last one
-pub next_last : (d : ℕ) → d ≤ 18446744073709551615 → next_epoch d ≤ 18446744073709551615
-next_last d last = go (nat_lt d 18446744073709551615) refl
-  where
-    go : (b : Bool) → nat_lt d 18446744073709551615 ≡ b → (if b then d + 1 else d) ≤ 18446744073709551615
-    go true below = omega (arith, ltb-true d 18446744073709551615 below)
-    go false over = last
-
--- a refusal by the arena's rule is one where what is past the bound is so
-pub rule_over : (t u : Table) (e : TakeError) → ((elements : ℕ) → IsPastBound t elements → IsPastBound u elements) →
-    KeepsRule t e → KeepsRule u e
-rule_over t u (ArenaFull elements) f h = f elements h
-rule_over t u OutOfMemory f h = h
+use Rattle.sd_move.specs.OnTheWay.{IsOnTheWay}
+use Rattle.sd_move.proofs.MoveEnd.{member_of, next_later}
+use Rattle.sd_move.proofs.RewrittenRecorded.{first_distinct, rewritten_recorded}
 
 module _ (m0 m1 : Table) (x : ℕ) (numbers : List ℕ) (t0 : IsTable m0) (still : m0.moving ≡ None)
     (s : HasSwapped m0 m1 x numbers) where
@@ -104,126 +75,65 @@ module _ (m0 m1 : Table) (x : ℕ) (numbers : List ℕ) (t0 : IsTable m0) (still
     (s : HasSwapped m0 m1 x numbers) (t1 : IsTable m1) (m2 : Table) (t2 : IsTable m2) (named : List Named)
     (rest : List ℕ) (r : HasRewritten m1 m2 x numbers [] named rest)
     (on : GoesOn m0 m1 m2 x no_progress (value_of (get m0.linked)) rest) where
+  -- before the nodes were rewritten no entry was needed
+  none_needed : AreRecorded m0 m1 x None []
+  none_needed =
+      record {
+        entries = tt;
+        numbers_once = tt;
+        runs_once = tt;
+        unnamed = λ n k none e. keys m0 m1 x numbers t0 still s n k e;
+        loose = ap (λ (t : Table). t.loose) s.turned ∙ ap (λ (t : Table). t.loose) s.detached.same;
+      }
+
   -- the entries tell what was changed
-  pub recorded : AreRecorded m0 m2 x None named
+  recorded : AreRecorded m0 m2 x None named
   recorded =
       subst (λ es. AreRecorded m0 m2 x None es) (sym r.added)
-      (swap_recorded m0 m1 m2 x r.entries t1 t2 (keys m0 m1 x numbers t0 still s) (was m0 m1 x numbers t0 still s)
-      (ap (λ (t : Table). t.loose) s.turned ∙ ap (λ (t : Table). t.loose) s.detached.same) r.done
+      (rewritten_recorded m0 m1 m2 x None [] r.entries t1 t2 (was m0 m1 x numbers t0 still s) none_needed tt r.done
       (first_distinct (numbers_of r.entries) rest (subst HasNoCopies (sym r.first) s.detached.once)))
 
-  -- nothing was discarded
-  pub kept_all : (n : ℕ) → ¬ IsMember n on.progress.discarded
-  kept_all n m = subst (IsMember n) on.discarded m
-
-  -- the vtree is the swapped one
-  pub moved_now : moved_number Swap m0.vtree x ≡ Some m2.vtree
-  moved_now = s.moved ∙ ap Some (sym (r.done.vtree ∙ ap (λ (t : Table). t.vtree) s.turned))
-
-  -- and the epoch a later one
-  epoch_now : m2.epoch ≡ next_epoch m0.epoch
-  epoch_now = r.done.epoch ∙ epoch_turned m0 m1 x numbers t0 still s
-
-  pub later_now : m0.epoch ≤ 18446744073709551615 → IsLater m0 m2
-  later_now last =
-      subst (λ e. (m0.epoch < e) ⊎ (e ≡ 18446744073709551615)) (sym epoch_now) (next_later m0.epoch last)
-
-  pub last_now : m0.epoch ≤ 18446744073709551615 → m2.epoch ≤ 18446744073709551615
-  last_now last = subst (λ e. e ≤ 18446744073709551615) (sym epoch_now) (next_last m0.epoch last)
-
-  -- no mark is on that was off
-  pub off_now : AreUnmarked m0 → (n m : ℕ) → IsSome (key_at m2 n) → get m2.marks n ≡ Some m → m ≡ 0
-  off_now off n m some e = go (r.done.marks n m some e)
+  -- a node has the mark that it had, and a new one the mark 0
+  marks_now : (n q : ℕ) → IsSome (key_at m2 n) → get m2.marks n ≡ Some q →
+      (IsSome (get m0.linked n) × (get m0.marks n ≡ Some q)) ⊎ (q ≡ 0)
+  marks_now n q some e = go (r.done.marks n q some e)
     where
-      go : (IsSome (key_at m1 n) × (get m1.marks n ≡ Some m)) ⊎ (m ≡ 0) → m ≡ 0
-      go (inr z) = z
+      go : (IsSome (key_at m1 n) × (get m1.marks n ≡ Some q)) ⊎ (q ≡ 0) →
+          (IsSome (get m0.linked n) × (get m0.marks n ≡ Some q)) ⊎ (q ≡ 0)
+      go (inr z) = inr z
       go (inl k) =
           let is : m1.marks ≡ m0.marks =
           ap (λ (t : Table). t.marks) s.turned ∙ ap (λ (t : Table). t.marks) s.detached.same in
-          same_Some m 0
-          (sym k.1 ∙ ap (λ z. get z n) is ∙ off n (key_first m0 m1 x numbers t0 still s n k.0))
+          inl (key_first m0 m1 x numbers t0 still s n k.0, ap (λ z. get z n) (sym is) ∙ k.1)
 
   -- the nodes that are detached still wait at x
-  pub waiting_there : (n : ℕ) (k : ℕ × List (ℕ × ℕ)) → get m2.detached n ≡ Some k → k.0 ≡ x
+  waiting_there : (n : ℕ) (k : ℕ × List (ℕ × ℕ)) → get m2.detached n ≡ Some k → k.0 ≡ x
   waiting_there n k e =
       let w = member_of _ rest n on.can.each (on.can.only n (subst IsSome (sym e) refl)) in
       ap (λ (p : ℕ × List (ℕ × ℕ)). p.0) (same_Some k (x, w.list) (sym e ∙ w.was))
 
-  -- So it can go back.
-  pub swap_refused : CanGoBack (way_to m0 on.progress on.values) m2 Swap x None named
-  swap_refused =
-      can_refuse m0 m2 Swap x named on.progress on.values t0 still on.can.going kept_all moved_now recorded
-      waiting_there
-
-  -- Where none waits still, nothing is detached.
-  module _ (done : rest ≡ []) where
-    pub none_detached : m2.detached ≡ empty
-    none_detached =
-        same_at_each m2.detached empty (λ n. gone n (get m2.detached n) refl ∙ sym (get-empty nat_cmp n))
-      where
-        gone : (n : ℕ) (o : Option (ℕ × List (ℕ × ℕ))) → get m2.detached n ≡ o → get m2.detached n ≡ None
-        gone n None e = e
-        gone n (Some k) e = absurd (subst (IsMember n) done (on.can.only n (subst IsSome (sym e) refl)))
-
-    -- each node shows a canonical diagram
-    pub known_there : (n : ℕ) → IsSome (get m2.linked n) → IsNodeOf m2 (2050 + n)
-    known_there = may_end m0 m2 x on.progress on.values t2 on.can.going none_detached
-
-    -- whose marks are off
-    pub moved_unmarked : AreUnmarked m0 → AreUnmarked (at_rest m2)
-    moved_unmarked off n some = go (get m2.linked n) refl some
-      where
-        mark : (o : Option ℕ) → get m2.marks n ≡ o → IsSome o → IsSome (key_at m2 n) → get m2.marks n ≡ Some 0
-        mark None e known key = absurd (cc (known))
-        mark (Some m) e known key = e ∙ ap Some (off_now off n m key e)
-
-        go : (o : Option (ℕ × List (ℕ × ℕ))) → get m2.linked n ≡ o → IsSome o → get m2.marks n ≡ Some 0
-        go None e known = absurd (cc (known))
-        go (Some k) e known =
-            let key = linked_key m2 n k e in
-            mark (get m2.marks n) refl (t2.marked n k key) (subst IsSome (sym key) refl)
-
-    -- and the vtree was moved
-    pub swap_moved : ((n : ℕ) → IsSome (get m0.linked n) → IsReached m0 n) → m0.epoch ≤ 18446744073709551615 →
-        (j : Journal) → j.kind ≡ Swap → j.upper ≡ x → j.lower ≡ None → j.named ≡ named →
-        IsMoved m0 (at_rest m2) Swap x j
-    swap_moved all last j made upper lower is =
-        is_moved m0 m2 Swap x named on.progress on.values t0 still t2 on.can.going kept_all none_detached moved_now
-        recorded j is made upper lower all
-        (r.done.bound ∙ ap (λ (t : Table). t.bound) s.turned ∙ ap (λ (t : Table). t.bound) s.detached.same)
-        (subst (λ e. e ≤ m2.extent)
-        (ap (λ (t : Table). t.extent) s.turned ∙ ap (λ (t : Table). t.extent) s.detached.same)
-        r.done.extent)
-        (subst (λ e. e ≤ m2.records)
-        (ap (λ (t : Table). t.records) s.turned ∙ ap (λ (t : Table). t.records) s.detached.same)
-        r.done.records) (later_now last)
-
-  -- Where it went back, each node is as before, and the arena as full as it was.
-  module _ (new : Table) (b : HasGoneBack (ToTable m0) m2 new Swap x None named) where
-    pub swap_back : KeepsReached m0 new
-    swap_back =
-        refused_keeps m0 m2 Swap x named on.progress on.values t0 still on.can.going kept_all moved_now recorded new b
-
-    pub rule_back : (e : TakeError) → KeepsRule m2 e → KeepsRule new e
-    rule_back e h =
-        rule_over m2 new e
-        (refused_past m0 m2 Swap x named on.progress on.values t0 still on.can.going kept_all moved_now recorded new b)
-        h
-
-    -- and so are the marks off
-    pub back_unmarked : IsTable new → AreUnmarked m0 → AreUnmarked new
-    back_unmarked valid off n some = go (get new.linked n) refl some
-      where
-        key : (k : ℕ × List (ℕ × ℕ)) → get new.linked n ≡ Some k → IsSome (key_at m2 n)
-        key k e = elim (b.only n k e) [
-          | inl w ↦ on.can.going.kept n w.0 (kept_all n)
-          | inr w ↦ subst IsSome (sym (linked_key m2 n k w.0)) refl
-        ]
-
-        mark : (o : Option ℕ) → get new.marks n ≡ o → IsSome o → IsSome (key_at m2 n) → get new.marks n ≡ Some 0
-        mark None e known there = absurd (cc (known))
-        mark (Some m) e known there = e ∙ ap Some (off_now off n m there (b.marks n m e))
-
-        go : (o : Option (ℕ × List (ℕ × ℕ))) → get new.linked n ≡ o → IsSome o → get new.marks n ≡ Some 0
-        go None e known = absurd (cc (known))
-        go (Some k) e known = mark (get new.marks n) refl (valid.marked n k (linked_key new n k e)) (key k e)
+  -- So the swap is on its way.
+  pub swap_on_way : IsOnTheWay m0 m2 Swap x None named
+  swap_on_way =
+      record {
+        first = t0;
+        no_move = still;
+        progress = on.progress;
+        values = on.values;
+        going = on.can.going;
+        kept_all = λ n z. subst (IsMember n) on.discarded z;
+        moved = s.moved ∙ ap Some (sym (r.done.vtree ∙ ap (λ (t : Table). t.vtree) s.turned));
+        lower_is = refl;
+        recorded = recorded;
+        waiting = waiting_there;
+        epoch = r.done.epoch ∙ epoch_turned m0 m1 x numbers t0 still s;
+        bound =
+            r.done.bound ∙ ap (λ (t : Table). t.bound) s.turned ∙ ap (λ (t : Table). t.bound) s.detached.same;
+        extent =
+            subst (λ e. e ≤ m2.extent)
+            (ap (λ (t : Table). t.extent) s.turned ∙ ap (λ (t : Table). t.extent) s.detached.same) r.done.extent;
+        records =
+            subst (λ e. e ≤ m2.records)
+            (ap (λ (t : Table). t.records) s.turned ∙ ap (λ (t : Table). t.records) s.detached.same) r.done.records;
+        marks = marks_now;
+      }

@@ -7,6 +7,7 @@
 mod beginning;
 mod bounding;
 mod detaching;
+mod ending;
 mod error;
 mod going_back;
 mod journal;

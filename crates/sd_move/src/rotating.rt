@@ -1,11 +1,10 @@
 // The rotations of the vtree at a node.
-ghost use Rattle.std.specs.Prelude.{◌≡◌, ◌⊎◌, ℕ, ◌<◌, ◌≤◌, List, [], length, map, Some, None, IfOk, IfErr, OnOk, OnErr};
+ghost use Rattle.std.specs.Prelude.{◌≡◌, ℕ, ◌<◌, ◌≤◌, List, length, map, Some, None, IfOk, IfErr, OnOk, OnErr};
 ghost use Rattle.std.specs.FinMap.{empty};
 ghost use Rattle.sd_vtree.specs.Numbered.{Numbered, numbers};
 ghost use Rattle.sd_manager.specs.Table.{Table};
 ghost use Rattle.sd_manager.specs.Making.{KeepsRule};
 ghost use Rattle.sd_manager.specs.Marking.{AreUnmarked};
-ghost use Rattle.sd_manager.specs.Moving.{at_rest, IsLater};
 ghost use Rattle.sd_manager.specs.Valid.{IsTable};
 ghost use Rattle.sd_apply.specs.Serving.{Serves};
 ghost use Rattle.sd_sweep.specs.Reached.{KeepsReached};
@@ -16,16 +15,13 @@ ghost use Rattle.sd_move.specs.Sorting.{rotation_of, place_entry, CanRotate};
 
 use crate::beginning::begin_at_both;
 use crate::bounding::within;
+use crate::ending::end_or_go_back;
 use crate::error::MoveError;
-use crate::going_back::go_back;
 use crate::journal::{Entry, Journal, Moved};
 use crate::rewriting::rewrite_all;
 use crate::sorting::{Side, child_on, rotate_and_sort, rotation_of};
-use crate::swapping::refusal;
-use crate::undone::inverse_of;
 use sd_cache::Cache;
 use sd_manager::Manager;
-use sd_model::Move;
 use sd_runs::TakeError;
 use sd_sweep::sweep;
 use sd_vtree::VNode;
@@ -75,47 +71,6 @@ fn rotate_and_rewrite(
     }
 }
 
-// Ends a move where all its steps were made, and else goes back and answers why one was refused.
-fn end_or_go_back(
-    m: &mut Manager,
-    kind: Move,
-    upper: VNode,
-    lower: Option<VNode>,
-    named: Vec<Entry>,
-    done: Result<(), TakeError>,
-) -> Result<Journal, MoveError>
-    requires way { (m0 : Table) × IsOnTheWay m0 m.old kind upper lower named.items }
-    requires all { OnOk done (m.old.detached ≡ empty) }
-    requires rule { IfErr done (λ e. KeepsRule m.old e) }
-    requires table { IsTable m.old }
-    ensures moved { (m0 : Table) → IsOnTheWay m0 m.old kind upper lower named.items
-        → AreAllReached m0 → m0.epoch ≤ 18446744073709551615
-        → IfOk result (λ j. IsMoved m0 m.new kind upper j) }
-    ensures back { (m0 : Table) → IsOnTheWay m0 m.old kind upper lower named.items
-        → OnErr result (KeepsReached m0 m.new × (m.new.moving ≡ None)) }
-    ensures refused { IfErr result (λ e. IsRefusedOnTheWay m.new e) }
-    ensures unmarked { (m0 : Table) → IsOnTheWay m0 m.old kind upper lower named.items
-        → AreUnmarked m0 → AreUnmarked m.new }
-    ensures later { (m.new ≡ at_rest m.old) ⊎ IsLater m.old m.new }
-    ensures table { IsTable m.new }
-{
-    match done {
-        Ok(()) => {
-            m.end_move();
-            Ok(Journal {
-                kind,
-                upper,
-                lower,
-                named,
-            })
-        }
-        Err(error) => {
-            go_back(m, inverse_of(kind), upper, lower, &named);
-            Err(refusal(error))
-        }
-    }
-}
-
 // The lower node of the rotation that divides the nodes of a side, where that rotation can be made.
 fn lower_on(m: &Manager, side: Side, place: VNode) -> Option<VNode>
     requires place { place < length (numbers m.now.vtree) }
@@ -150,6 +105,7 @@ fn rotate_nodes(
     requires table { IsTable m.old }
     ensures moved { IfOk result (λ j. IsMoved m.old m.new (rotation_of side) upper j) }
     ensures back { OnErr result (KeepsReached m.old m.new × (m.new.moving ≡ None)) }
+    ensures bound { m.new.bound ≡ m.old.bound }
     ensures refused { IfErr result (λ e. IsRefusedOnTheWay m.new e) }
     ensures unmarked { AreUnmarked m.old → AreUnmarked m.new }
     ensures serves { Serves c.new m.new }
@@ -187,6 +143,7 @@ fn rotate(
     ensures within { IfOk result (λ r. r.size ≤ most) }
     ensures refused { IfErr result (λ e. IsMoveRefusal m.old m.new (rotation_of side) place most e) }
     ensures back { OnErr result (KeepsReached m.old m.new × (m.new.moving ≡ None)) }
+    ensures bound { m.new.bound ≡ m.old.bound }
     ensures unmarked { AreUnmarked m.new }
     ensures serves { Serves c.new m.new }
     ensures table { IsTable m.new }
@@ -229,6 +186,7 @@ pub fn rotate_right(
     ensures within { IfOk result (λ r. r.size ≤ most) }
     ensures refused { IfErr result (λ e. IsMoveRefusal m.old m.new RotateRight place most e) }
     ensures back { OnErr result (KeepsReached m.old m.new × (m.new.moving ≡ None)) }
+    ensures bound { m.new.bound ≡ m.old.bound }
     ensures unmarked { AreUnmarked m.new }
     ensures serves { Serves c.new m.new }
     ensures table { IsTable m.new }
@@ -259,6 +217,7 @@ pub fn rotate_left(
     ensures within { IfOk result (λ r. r.size ≤ most) }
     ensures refused { IfErr result (λ e. IsMoveRefusal m.old m.new RotateLeft place most e) }
     ensures back { OnErr result (KeepsReached m.old m.new × (m.new.moving ≡ None)) }
+    ensures bound { m.new.bound ≡ m.old.bound }
     ensures unmarked { AreUnmarked m.new }
     ensures serves { Serves c.new m.new }
     ensures table { IsTable m.new }

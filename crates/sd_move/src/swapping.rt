@@ -4,8 +4,6 @@ ghost use Rattle.std.specs.Option.{IsSome};
 ghost use Rattle.std.specs.FinMap.{get};
 ghost use Rattle.sd_model.specs.declared.trees.Move.TheVariants.{Swap};
 ghost use Rattle.sd_vtree.specs.Numbered.{numbers};
-ghost use Rattle.sd_manager.specs.Table.{Table};
-ghost use Rattle.sd_manager.specs.Making.{KeepsRule};
 ghost use Rattle.sd_manager.specs.Marking.{AreUnmarked};
 ghost use Rattle.sd_manager.specs.Valid.{IsTable};
 ghost use Rattle.sd_apply.specs.Serving.{Serves};
@@ -15,14 +13,13 @@ ghost use Rattle.sd_move.specs.Swapping.{HasSwapped};
 
 use crate::beginning::begin_at;
 use crate::bounding::within;
+use crate::ending::end_or_go_back;
 use crate::error::MoveError;
-use crate::going_back::go_back;
 use crate::journal::{Journal, Moved};
 use crate::rewriting::rewrite_all;
 use sd_cache::Cache;
 use sd_manager::Manager;
 use sd_model::Move;
-use sd_runs::TakeError;
 use sd_sweep::sweep;
 use sd_vtree::VNode;
 use std::alloc::{AllocError, Global};
@@ -109,34 +106,12 @@ fn swap_nodes(
 {
     // That the epoch is a `u64` tells that it is the last one where it no longer rises.
     let _ = m.epoch();
-    let numbers = match begin_swap(alloc, m, place) {
-        Ok(numbers) => numbers,
-        Err(_) => return Err(MoveError::OutOfMemory),
-    };
-    let mut named = Vec::new(alloc);
-    match rewrite_all(alloc, m, c, place, &numbers, &mut named) {
-        Ok(()) => {
-            m.end_move();
-            Ok(Journal {
-                kind: Move::Swap,
-                upper: place,
-                lower: None,
-                named,
-            })
+    match begin_swap(alloc, m, place) {
+        Ok(numbers) => {
+            let mut named = Vec::new(alloc);
+            let done = rewrite_all(alloc, m, c, place, &numbers, &mut named);
+            end_or_go_back(m, Move::Swap, place, None, named, done)
         }
-        Err(error) => {
-            go_back(m, Move::Swap, place, None, &named);
-            Err(refusal(error))
-        }
-    }
-}
-
-// The refusal of a move for one of the arena.
-pub(crate) fn refusal(error: TakeError) -> MoveError
-    ensures refusal { (t : Table) → KeepsRule t error → IsRefusedOnTheWay t result }
-{
-    match error {
-        TakeError::ArenaFull { elements } => MoveError::ArenaFull { elements },
-        TakeError::OutOfMemory => MoveError::OutOfMemory,
+        Err(_) => Err(MoveError::OutOfMemory),
     }
 }

@@ -1,4 +1,4 @@
-use Rattle.std.proofs.Common.{◌≤◌, inl, inr, sym, subst, arith}
+use Rattle.std.proofs.Common.{◌≤◌, inl, inr, sym, subst, arith, ◌∙◌}
 use Rattle.sd_apply.specs.Serving.{Serves}
 use Rattle.sd_sweep.proofs.Keeping.{unmarked_swept}
 use Rattle.sd_move.specs.Sorting.{rotation_of}
@@ -74,3 +74,10 @@ pub returns-in-Err-clause-refused : goal.returns-in-Err-clause-refused
 returns-in-Err-clause-refused c =
     refusal_on_way c.args.m.now c.rotate_nodes.new.m (rotation_of c.args.side) c.args.place c.args.most _
     c.in-Some.ensures.found.0 c.in-Err.ensures.refused
+
+pub returns-in-Ok-clause-bound : goal.returns-in-Ok-clause-bound
+returns-in-Ok-clause-bound c =
+    c.within.ensures.bound ∙ c.rotate_nodes.ensures.bound ∙ c.sweep.ensures.swept.bound
+
+pub returns-in-Err-clause-bound : goal.returns-in-Err-clause-bound
+returns-in-Err-clause-bound c = c.rotate_nodes.ensures.bound ∙ c.sweep.ensures.swept.bound

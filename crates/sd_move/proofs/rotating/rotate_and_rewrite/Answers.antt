@@ -5,7 +5,8 @@ use Rattle.sd_laws.proofs.Evaluated.{value_of}
 use Rattle.sd_move.specs.Moving.{no_progress}
 use Rattle.sd_move.specs.Rewriting.{CanRewriteAll, HasRewritten}
 use Rattle.sd_move.specs.Sorting.{HasRotated, place_entry}
-use Rattle.sd_move.proofs.RotationOnTheWay.{later_turned, sorted_on_way, rewritten_on_way, none_waits, epoch_begun}
+use Rattle.sd_move.proofs.MoveEnd.{none_waits}
+use Rattle.sd_move.proofs.RotationOnTheWay.{later_turned, sorted_on_way, rewritten_on_way, epoch_begun}
 use Rattle.sd_move.proofs.ServesLater.{serves_later}
 use Rattle.sd_move.proofs.SortedRewrite.{rotated_can_rewrite}
 use Rattle.sd_move.proofs.rotating.rotate_and_rewrite.Goals as goal

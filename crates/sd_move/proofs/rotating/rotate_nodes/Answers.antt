@@ -94,6 +94,25 @@ returns-in-Ok-clause-back c =
     (sym c.rotation_of.ensures) way in
     c.end_or_go_back.ensures.back m0 kind
 
+pub returns-in-Ok-clause-bound : goal.returns-in-Ok-clause-bound
+returns-in-Ok-clause-bound c =
+    let m0 = c.args.m.now in
+    let m1 = c.begin_at_both.new.m in
+    let side = c.args.side in
+    let x = c.args.upper in
+    let w = c.args.lower in
+    let f = c.requires.lower in
+    let us = c.in-Ok.nodes.0.items in
+    let ls = c.in-Ok.nodes.1.items in
+    let can = can_rotate m0 m1 side x w us ls c.requires.table c.requires.no_move f c.in-Ok.ensures.ok in
+    let may = subst (λ l. CanRotate m0 m1 side x w l c.deref-in-Ok.result.now f.0.0) (sym c.deref.ensures.value)
+    (subst (λ l. CanRotate m0 m1 side x w us l f.0.0) (sym c.deref-in-Ok.ensures.value) can) in
+    let way = c.rotate_and_rewrite-done.ensures.way m0 f.0.0 may in
+    let kind = subst
+    (λ k. IsOnTheWay m0 c.rotate_and_rewrite-done.new.m k x (Some w) c.rotate_and_rewrite-done.new.named.items)
+    (sym c.rotation_of.ensures) way in
+    c.end_or_go_back.ensures.bound m0 kind
+
 pub returns-in-Ok-clause-unmarked : goal.returns-in-Ok-clause-unmarked
 returns-in-Ok-clause-unmarked c =
     let m0 = c.args.m.now in

@@ -1,4 +1,4 @@
-use Rattle.std.proofs.Common.{◌≡◌, inr, refl, sym, subst}
+use Rattle.std.proofs.Common.{◌≡◌, inr, refl, sym, ap, subst, ◌∙◌}
 use Rattle.std.specs.Prelude.{OnOk, IfErr}
 use Rattle.std.specs.FinMap.{empty}
 use Rattle.sd_model.specs.Moves.{inverse_move}
@@ -11,7 +11,7 @@ use Rattle.sd_move.specs.Moves.{IsMoved}
 use Rattle.sd_move.proofs.MoveEnd.{can_go_back, known_end, unmarked_end, moved_end, keeps_back, rule_again}
 use Rattle.sd_move.proofs.MoveEnd.{unmarked_again}
 use Rattle.sd_move.proofs.Refused.{way_to}
-use Rattle.sd_move.proofs.rotating.end_or_go_back.Goals as goal
+use Rattle.sd_move.proofs.ending.end_or_go_back.Goals as goal
 
 pub end_move-requires-clause-known : goal.end_move-requires-clause-known
 end_move-requires-clause-known c =
@@ -48,6 +48,9 @@ go_back-requires-clause-can c =
     (subst (λ n. CanGoBack way m (inverse_move kind) x l n) (sym c.deref.ensures.value) can) in
     (way, may)
 
+pub returns-in-Ok-clause-bound : goal.returns-in-Ok-clause-bound
+returns-in-Ok-clause-bound c m0 o = ap (λ (t : Table). t.bound) c.end_move.ensures.ended ∙ o.bound
+
 pub returns-in-Err-clause-back : goal.returns-in-Err-clause-back
 returns-in-Err-clause-back c m0 o =
     let m = c.args.m.now in
@@ -66,6 +69,25 @@ returns-in-Err-clause-back c m0 o =
     (subst (λ i. HasGoneBack (ToTable m0) m new i x l c.deref.result.now) c.inverse_of.ensures.inverse
     (c.go_back.ensures.back way may)) in
     (keeps_back m0 m kind x l es o new b, b.moving)
+
+pub returns-in-Err-clause-bound : goal.returns-in-Err-clause-bound
+returns-in-Err-clause-bound c m0 o =
+    let m = c.args.m.now in
+    let kind = c.args.kind in
+    let x = c.args.upper in
+    let l = c.args.lower in
+    let es = c.args.named.items in
+    let new = c.go_back.new.m in
+    let way = way_to m0 o.progress o.values in
+    let can = can_go_back m0 m kind x l es o in
+    let may : CanGoBack way m c.inverse_of.result x l c.deref.result.now =
+    subst (λ i. CanGoBack way m i x l c.deref.result.now) (sym c.inverse_of.ensures.inverse)
+    (subst (λ n. CanGoBack way m (inverse_move kind) x l n) (sym c.deref.ensures.value) can) in
+    let b : HasGoneBack (ToTable m0) m new (inverse_move kind) x l es =
+    subst (λ n. HasGoneBack (ToTable m0) m new (inverse_move kind) x l n) c.deref.ensures.value
+    (subst (λ i. HasGoneBack (ToTable m0) m new i x l c.deref.result.now) c.inverse_of.ensures.inverse
+    (c.go_back.ensures.back way may)) in
+    b.bound ∙ o.bound
 
 pub returns-in-Err-clause-refused : goal.returns-in-Err-clause-refused
 returns-in-Err-clause-refused c =
