@@ -1,14 +1,14 @@
 -- The test of a swap and back: what each step asks, over the vtree of the variables 1 and 2 with one node.
 use Rattle.std.proofs.Common.{◌≡◌, ◌⊎◌, inl, inr, ℕ, ◌+◌, ◌^◌, ◌<◌, ◌≤◌, true, false, List, [], ◌∷◌, length}
-use Rattle.std.proofs.Common.{Option, Some, None, unwrap_or, refl, sym, ap, subst, ◌∙◌, arith}
+use Rattle.std.proofs.Common.{◌==◌, if◌then◌else◌, Option, Some, None, unwrap_or, refl, sym, ap, subst, ◌∙◌, arith}
 use Rattle.std.proofs.lemmas.Bool.{cases_eq}
 use Rattle.std.proofs.lemmas.List.Sorted.{length_permutation}
-use Rattle.std.specs.List.{AllByRecursion}
+use Rattle.std.specs.List.{AllByRecursion, sum_by}
 use Rattle.std.specs.List.Sorted.{IsPermutation}
 use Rattle.std.specs.Option.{IsSome}
 use Rattle.std.specs.Prelude.{IfSome}
 use Rattle.std.specs.Ordering.{nat_cmp}
-use Rattle.std.specs.FinMap.{FinMap, empty, get, get-empty, insert, remove}
+use Rattle.std.specs.FinMap.{FinMap, empty, get, get-empty, insert, remove, values}
 use Rattle.sd_runs.proofs.Maps.{get_insert_same, get_insert_other}
 use Rattle.sd_runs.proofs.Places.{by_cases, eqb_same}
 use Rattle.sd_model.specs.declared.trees.Move.TheVariants.{Swap}
@@ -18,7 +18,7 @@ use Rattle.sd_vtree.specs.Numbered.{Numbered, NumberedLeaf, NumberedNode, number
 use Rattle.sd_vtree.specs.NumberedMoves.{moved_number}
 use Rattle.sd_laws.specs.Values.{StandsIn}
 use Rattle.sd_laws.proofs.Lists.{all_permuted}
-use Rattle.sd_manager.specs.Table.{Table, key_at}
+use Rattle.sd_manager.specs.Table.{Table, key_at, uses_of, uses_in}
 use Rattle.sd_manager.specs.Shown.{IsNodeOf}
 use Rattle.sd_manager.specs.Valid.{IsTable}
 use Rattle.sd_manager.specs.Making.{HasNewNode, with_root}
@@ -121,6 +121,36 @@ module _ (t : Table) (root n a b : ℕ) (elements : List (ℕ × ℕ)) (h : IsAl
 
       out_linked : out.linked ≡ empty
       out_linked = ap (λ t. t.linked) out_is ∙ one_out t.linked n (root, h.list) h.linked
+
+      out_detached : out.detached ≡ insert empty n (root, h.list)
+      out_detached = ap (λ t. t.detached) out_is ∙ ap (λ m. insert m n (root, h.list)) (h.table.at_rest h.no_move)
+
+      -- the node waits under the vtree as it was
+      pub out_waiting : IsTable out → IsWaiting out root n a b h.list
+      out_waiting table = record {
+        vtree = ap (λ t. plain_tree t.vtree) out_is ∙ h.vtree;
+        root_is = h.root_is ∙ sym (ap (λ t. number_of t.vtree) out_is);
+        moves = out_moves;
+        linked = out_linked;
+        detached = out_detached;
+        table = table;
+      }
+
+      -- and each code is used as often as before
+      pub out_uses : (c : ℕ) → uses_of out c ≡ uses_of t c
+      out_uses c =
+          let f : ℕ × List (ℕ × ℕ) → ℕ = λ k. uses_in c k.1 in
+          let total : FinMap nat_cmp (ℕ × List (ℕ × ℕ)) → ℕ = λ m. sum_by f (values m) in
+          let one_linked : total t.linked ≡ total (insert empty n (root, h.list)) = ap total h.linked in
+          let none_detached : total t.detached ≡ total empty = ap total (h.table.at_rest h.no_move) in
+          let none_linked : total out.linked ≡ total empty = ap total out_linked in
+          let one_detached : total out.detached ≡ total (insert empty n (root, h.list)) = ap total out_detached in
+          let runs : sum_by (uses_in c) (values out.loose) ≡ sum_by (uses_in c) (values t.loose) =
+          ap (λ t. sum_by (uses_in c) (values t.loose)) out_is in
+          let held : sum_by (λ held. if held == c then 1 else 0) (values out.roots)
+          ≡ sum_by (λ held. if held == c then 1 else 0) (values t.roots) =
+          ap (λ t. sum_by (λ held. if held == c then 1 else 0) (values t.roots)) out_is in
+          omega (arith, one_linked, none_detached, none_linked, one_detached, runs, held)
 
       -- the vtree is swapped at its root
       swapped : (u : Numbered) × (moved_number Swap out.vtree root ≡ Some u)
@@ -226,7 +256,7 @@ pub pairs_are : (w x y z p q r s : ℕ) → w ≡ p → x ≡ q → y ≡ r → 
 pairs_are w x y z p q r s a b c d = rw (a, b, c, d) refl
 
 -- the codes of `1 or 2` are those of literals and constants
-low_clause : (l : List (ℕ × ℕ)) → IsPermutation (clause_over 1 2) l →
+pub low_clause : (l : List (ℕ × ℕ)) → IsPermutation (clause_over 1 2) l →
     AllByRecursion (λ (e : ℕ × ℕ). (e.0 < 2050) × (e.1 < 2050)) l
 low_clause l order =
     all_permuted (λ (e : ℕ × ℕ). (e.0 < 2050) × (e.1 < 2050)) (clause_over 1 2) l order
@@ -317,6 +347,16 @@ module _ (t : Table) (root n : ℕ) (former : List (ℕ × ℕ)) (w : IsWaiting 
         up = up;
       }
 
+-- the elements of `1 or 2` fit at the root
+pub straight_fits : (t : Table) (root n : ℕ) (former : List (ℕ × ℕ)) → IsWaiting t root n 1 2 former →
+    FitsNode t root (clause_over 1 2)
+straight_fits t root n former w = record {
+  diagrams = (Literal 0 1 false, Literal 2 2 true) ∷ (Literal 0 1 true, Top) ∷ [];
+  partition = over_partition t root 1 2 (λ e. cc) w.vtree w.root_is;
+  differ = ((λ e. cc, tt), (tt, tt));
+  untrimmed = refl;
+}
+
 module _ (t : Table) (root n : ℕ) (former : List (ℕ × ℕ)) (w : IsWaiting t root n 1 2 former) (start count : ℕ)
     (run : HasRun t start count (clause_over 1 2)) where
   -- the list of the run
@@ -325,21 +365,13 @@ module _ (t : Table) (root n : ℕ) (former : List (ℕ × ℕ)) (w : IsWaiting 
       let both : Some run.list ≡ Some l = sym run.is ∙ at in
       ap (λ o. unwrap_or o l) both
 
-  straight_fits : FitsNode t root (clause_over 1 2)
-  straight_fits = record {
-    diagrams = (Literal 0 1 false, Literal 2 2 true) ∷ (Literal 0 1 true, Top) ∷ [];
-    partition = over_partition t root 1 2 (λ e. cc) w.vtree w.root_is;
-    differ = ((λ e. cc, tt), (tt, tt));
-    untrimmed = refl;
-  }
-
   pub putting_run : (l : List (ℕ × ℕ)) × (get t.loose start ≡ Some l) × (length l ≡ count)
   putting_run = (run.list, run.is, run.counted)
 
   pub putting_fits : (l : List (ℕ × ℕ)) → get t.loose start ≡ Some l → FitsNode t root l × IsAscending l
   putting_fits l at =
       subst (λ l. FitsNode t root l × IsAscending l) (same_list l at)
-      (fits_permuted t w.table root (clause_over 1 2) run.list straight_fits run.order, run.up)
+      (fits_permuted t w.table root (clause_over 1 2) run.list (straight_fits t root n former w) run.order, run.up)
 
   module _ (u : Table) (r : IsPutBack t u n root start) (table : IsTable u) where
     put_order : IsPermutation (clause_over 1 2) r.list
@@ -373,31 +405,34 @@ pub found_at : (t : Table) (place : ℕ) (o : Option ℕ) (n : ℕ) → o ≡ So
     IsLinkedAt t place n
 found_at t place o n is found = subst (λ o. IfSome o (λ n. IsLinkedAt t place n)) is found
 
-pub alone_first : (old made t : Table) (root n c r d : ℕ) → old.linked ≡ empty → IsOverTwo made root →
-    (made ≡ old) ⊎ HasNewNode old made root (clause_over 1 2) c → t ≡ with_root made r d → IsTable t →
-    IsLinkedAt t root n → IsAlone t root n 1 2 (clause_over 1 2)
-alone_first old made t root n c r d none over grown held table at = go grown
+pub alone_same : (old made t : Table) (root n c : ℕ) (k : ℕ × List (ℕ × ℕ)) → old.linked ≡ empty → IsOverTwo made root →
+    (made ≡ old) ⊎ HasNewNode old made root (clause_over 1 2) c → t.linked ≡ made.linked → t.vtree ≡ made.vtree →
+    t.moving ≡ made.moving → IsTable t → get t.linked n ≡ Some k → IsAlone t root n 1 2 (clause_over 1 2)
+alone_same old made t root n c k none over grown linked vtree moving table at = go grown
   where
-    linked : t.linked ≡ made.linked
-    linked = ap (λ t. t.linked) held
-
     go : (made ≡ old) ⊎ HasNewNode old made root (clause_over 1 2) c → IsAlone t root n 1 2 (clause_over 1 2)
-    go (inl same) =
-        absurd (none_there t.linked (linked ∙ ap (λ t. t.linked) same ∙ none) n (root, at.list) at.is)
+    go (inl same) = absurd (none_there t.linked (linked ∙ ap (λ t. t.linked) same ∙ none) n k at)
     go (inr new) =
         let is : t.linked ≡ insert empty new.number (root, new.list) =
         linked ∙ new.linked ∙ ap (λ m. insert m new.number (root, new.list)) none in
-        let only = one_alone t.linked new.number (root, new.list) is n (root, at.list) at.is in
+        let only = one_alone t.linked new.number (root, new.list) is n k at in
         record {
-          vtree = ap (λ t. plain_tree t.vtree) held ∙ over.vtree;
-          root_is = over.root_is ∙ sym (ap (λ t. number_of t.vtree) held);
-          no_move = ap (λ t. t.moving) held ∙ over.no_move;
+          vtree = ap plain_tree vtree ∙ over.vtree;
+          root_is = over.root_is ∙ sym (ap number_of vtree);
+          no_move = moving ∙ over.no_move;
           list = new.list;
           order = new.order;
           low = low_clause new.list new.order;
           linked = is ∙ ap (λ q. insert empty q (root, new.list)) (sym only.0);
           table = table;
         }
+
+pub alone_first : (old made t : Table) (root n c r d : ℕ) → old.linked ≡ empty → IsOverTwo made root →
+    (made ≡ old) ⊎ HasNewNode old made root (clause_over 1 2) c → t ≡ with_root made r d → IsTable t →
+    IsLinkedAt t root n → IsAlone t root n 1 2 (clause_over 1 2)
+alone_first old made t root n c r d none over grown held table at =
+    alone_same old made t root n c (root, at.list) none over grown (ap (λ t. t.linked) held) (ap (λ t. t.vtree) held)
+    (ap (λ t. t.moving) held) table at.is
 
 -- the elements are read
 

@@ -1,8 +1,10 @@
-ghost use Rattle.std.specs.Prelude.{◌≡◌, ◌⊎◌, ◌^◌, ◌<◌, ℕ, List, [], ◌∷◌, IfOk, OnOk, OnErr, None};
+ghost use Rattle.std.specs.Prelude.{◌≡◌, ◌⊎◌, ◌+◌, ◌^◌, ◌<◌, ℕ, List, [], ◌∷◌, IfOk, OnOk, OnErr, None};
 ghost use Rattle.std.specs.FinMap.{empty};
 ghost use Rattle.sd_manager.specs.Shown.{IsNodeOf};
 ghost use Rattle.sd_manager.specs.Making.{Extends, HasNewNode};
 ghost use Rattle.sd_manager.specs.OverTwo.{IsOverTwo, IsAlone, IsWaiting, HasRun, clause_over};
+ghost use Rattle.sd_manager.specs.Retiring.{IsIdle};
+ghost use Rattle.sd_manager.specs.Table.{uses_of};
 
 use super::*;
 use sd_model::Move;
@@ -218,5 +220,67 @@ fn a_swap_and_back(rt: HostRuntime) -> Result<(), Fail> {
     let again = swap_there(&mut m, root, number)?;
     m.give_run(again);
     assert_eq!(rt; m.used(), 2);
+    Ok(())
+}
+
+// Begins a move at the root, and detaches the only node.
+fn set_aside(m: &mut Manager, root: VNode, number: u32)
+    requires { (a b : ℕ) × (elements : List (ℕ × ℕ)) × IsAlone m.old root number a b elements }
+    ensures waiting { (a b : ℕ) (elements : List (ℕ × ℕ))
+        (h : IsAlone m.old root number a b elements) → IsWaiting m.new root number a b h.list }
+    ensures uses { uses_of m.new (2050 + number) ≡ uses_of m.old (2050 + number) }
+{
+    let place = m.vtree().root();
+    m.begin_move(place);
+    m.detach(number);
+}
+
+// Detaches the only node and links it at its place again. Answers which node was detached, and where it stood.
+fn detach_and_link(m: &mut Manager, root: VNode, number: u32) -> (Option<u32>, VNode)
+    requires { IsAlone m.old root number 1 2 (clause_over 1 2) }
+    ensures alone { IsAlone m.new root number 1 2 (clause_over 1 2) }
+{
+    set_aside(m, root, number);
+    let found = (m.first_detached(), m.place_at(number));
+    m.retag(number, root);
+    m.end_move();
+    found
+}
+
+// Discards the only node, which nothing uses. Answers where it was linked before, and where it is afterwards.
+fn discard_one(m: &mut Manager, root: VNode, number: u32) -> (Option<VNode>, Option<VNode>)
+    requires alone { IsAlone m.old root number 1 2 (clause_over 1 2) }
+    requires idle { IsIdle m.old number }
+    ensures none { m.new.linked ≡ empty }
+{
+    let before = m.linked_at(number);
+    set_aside(m, root, number);
+    m.discard(number);
+    m.end_move();
+    (before, m.linked_at(number))
+}
+
+/// A detached node keeps its place, and is linked there again with its list.
+#[test]
+fn a_detached_node(rt: HostRuntime) -> Result<(), Fail> {
+    let (mut m, root) = over_two(rt.alloc(), 3)?;
+    let _clause = one_or_two(&mut m, root)?;
+    let number = m.idle().expect(&rt, "nothing uses the node");
+    let found = detach_and_link(&mut m, root, number);
+    assert_eq!(rt; found, (Some(number), root));
+    assert_eq!(rt; m.first_at(root), Some(number));
+    assert_eq!(rt; m.first_detached(), None);
+    Ok(())
+}
+
+/// A detached node that nothing uses is discarded: no node has its number, and its elements are free.
+#[test]
+fn a_discarded_node(rt: HostRuntime) -> Result<(), Fail> {
+    let (mut m, root) = over_two(rt.alloc(), 3)?;
+    let _clause = one_or_two(&mut m, root)?;
+    let number = m.idle().expect(&rt, "nothing uses the node");
+    assert_eq!(rt; discard_one(&mut m, root, number), (Some(root), None));
+    assert_eq!(rt; m.records(), 1);
+    assert_eq!(rt; m.used(), 0);
     Ok(())
 }
