@@ -11,6 +11,10 @@ use sd_runs::{Runs, TakeError};
 use std::alloc::{AllocError, Global};
 use std::marker::Model;
 
+// So many records have room from the start. That takes addresses, and memory as they are made; in
+// exchange no record of a smaller table is ever copied.
+const FIRST_RECORDS: usize = 65_536;
+
 /// Nodes with a number, a place and a list, in one arena.
 #[derive(Drop)]
 pub struct Nodes {
@@ -69,8 +73,8 @@ impl Nodes {
         Ok(Nodes {
             alloc,
             runs: Runs::new(alloc, bound),
-            records: Vec::new(alloc),
-            links: Vec::new(alloc),
+            records: Vec::with_capacity(alloc, FIRST_RECORDS)?,
+            links: Vec::with_capacity(alloc, FIRST_RECORDS)?,
             heads: empty_heads(alloc, 17)?,
             places: empty_heads(alloc, 2049)?,
             candidates: NO_RECORD,

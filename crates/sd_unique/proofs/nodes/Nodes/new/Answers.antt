@@ -5,14 +5,15 @@ use Rattle.sd_unique.proofs.nodes.Nodes.new.Goals as goal
 
 pub invariant_of-result : goal.invariant_of-result
 invariant_of-result c =
-    kept_new c.new.result c.args.bound c.new-2.result.items c.new.ensures.empty c.new-2.ensures.items
-    c.new-3.result.items c.in_ok-empty_heads.field-0.items c.in_ok-empty_heads-2.field-0.items 17
-    c.new.ensures.arena c.requires c.new-3.ensures.items c.in_ok-empty_heads.ensures c.in_ok-empty_heads-2.ensures
-    (omega arith)
+    kept_new c.new.result c.args.bound c.in_ok-with_capacity.field-0.items c.new.ensures.empty
+    c.in_ok-with_capacity.ensures.items c.in_ok-with_capacity-2.field-0.items c.in_ok-empty_heads.field-0.items
+    c.in_ok-empty_heads-2.field-0.items 17 c.new.ensures.arena c.requires c.in_ok-with_capacity-2.ensures.items
+    c.in_ok-empty_heads.ensures c.in_ok-empty_heads-2.ensures (omega arith)
 
 pub returns-clause-empty : goal.returns-clause-empty
 returns-clause-empty c =
-    nodes_new c.new.result c.args.bound c.new-2.result.items c.new.ensures.empty c.new-2.ensures.items
+    nodes_new c.new.result c.args.bound c.in_ok-with_capacity.field-0.items c.new.ensures.empty
+    c.in_ok-with_capacity.ensures.items
 
 pub returns-clause-nodes : goal.returns-clause-nodes
 returns-clause-nodes c = is_nodes (invariant_of-result c).stored
