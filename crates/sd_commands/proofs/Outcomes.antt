@@ -7,10 +7,10 @@ use Rattle.std.proofs.lemmas.Bool.{cases_eq, cases_order, eq-eqb, ne_eqb}
 use Rattle.sd_model.specs.Tree.{Tree, IsVtree}
 use Rattle.sd_model.specs.Moves.{moved_at}
 use Rattle.sd_model.specs.declared.trees.Move.TheVariants.{Swap}
-use Rattle.sd_model.specs.Text.{sdd_text}
+use Rattle.sd_model.specs.Text.{roots_text}
 use Rattle.sd_model.specs.Expression.{Expression, Constant, Atom, Combined, Negated, Conditioned, Forgotten}
 use Rattle.sd_model.specs.Size.{HasSize}
-use Rattle.sd_model.proofs.Determined.{diagram_determined, size_determined}
+use Rattle.sd_model.proofs.Determined.{diagrams_determined, size_determined}
 use Rattle.sd_formula.specs.Dimacs.{Groups}
 use Rattle.sd_formula.specs.Formulas.{expression_of}
 use Rattle.sd_file.specs.Reads.{expression_of_file}
@@ -27,10 +27,11 @@ use Rattle.sd_commands.proofs.Moved.{IsReordered, vtree_reordered, swap_reordere
 
 -- ---- one outcome
 
--- a formula has one text
-one_text : (tree : Tree) (f : Expression) (a b : List ℕ) → IsVtree tree → IsTextOf tree f a → IsTextOf tree f b → a ≡ b
-one_text tree f a b valid p q =
-    p.is ∙ ap sdd_text (diagram_determined tree f p.diagram q.diagram valid p.of_value q.of_value) ∙ sym q.is
+-- formulas have one text
+one_text : (tree : Tree) (fs : List Expression) (a b : List ℕ) → IsVtree tree → IsTextOf tree fs a → IsTextOf tree fs b
+    → a ≡ b
+one_text tree fs a b valid p q =
+    p.is ∙ ap roots_text (diagrams_determined tree fs p.diagrams q.diagrams valid p.of_values q.of_values) ∙ sym q.is
 
 -- a comparison has one answer
 one_answer : (tree : Tree) (f g : Expression) (a b : Bool) → Compares tree f g a → Compares tree f g b → a ≡ b
@@ -132,9 +133,9 @@ one_outcome input state (commands.Size x) a b valid p q =
     (size_determined state.tree (formula_named state x ∷ []) p.0 q.0 valid p.1 q.1)
     ∙ sym q.2
 one_outcome input state (commands.Value x bits) a b valid p q = p ∙ sym q
-one_outcome input state (commands.Write x file) a b valid p q =
+one_outcome input state (commands.Write names file) a b valid p q =
     p.2 ∙ ap (λ text. Done state (Write file text ∷ []))
-    (one_text state.tree (formula_named state x) p.0 q.0 valid p.1 q.1)
+    (one_text state.tree (map (formula_named state) names) p.0 q.0 valid p.1 q.1)
     ∙ sym q.2
 one_outcome input state (commands.WriteVtree file) a b valid p q = p ∙ sym q
 
@@ -231,7 +232,7 @@ same_tree input state next (commands.Limit limit) effects keeps p =
 same_tree input state next (commands.Same x y) effects keeps p = kept_tree state next effects _ p.2
 same_tree input state next (commands.Size x) effects keeps p = kept_tree state next effects _ p.2
 same_tree input state next (commands.Value x bits) effects keeps p = kept_tree state next effects _ p
-same_tree input state next (commands.Write x file) effects keeps p = kept_tree state next effects _ p.2
+same_tree input state next (commands.Write names file) effects keeps p = kept_tree state next effects _ p.2
 same_tree input state next (commands.WriteVtree file) effects keeps p = kept_tree state next effects _ p
 same_tree input state next (commands.Swap position) effects keeps p = absurd keeps
 
@@ -268,8 +269,8 @@ tree_reordered input state next (commands.Size x) effects p =
     kept_order state next (same_tree input state next (commands.Size x) effects tt p)
 tree_reordered input state next (commands.Value x bits) effects p =
     kept_order state next (same_tree input state next (commands.Value x bits) effects tt p)
-tree_reordered input state next (commands.Write x file) effects p =
-    kept_order state next (same_tree input state next (commands.Write x file) effects tt p)
+tree_reordered input state next (commands.Write names file) effects p =
+    kept_order state next (same_tree input state next (commands.Write names file) effects tt p)
 tree_reordered input state next (commands.WriteVtree file) effects p =
     kept_order state next (same_tree input state next (commands.WriteVtree file) effects tt p)
 
@@ -300,7 +301,7 @@ names_after input state next (commands.Limit limit) effects p =
 names_after input state next (commands.Same x y) effects p = kept_names state next effects _ p.2
 names_after input state next (commands.Size x) effects p = kept_names state next effects _ p.2
 names_after input state next (commands.Value x bits) effects p = kept_names state next effects _ p
-names_after input state next (commands.Write x file) effects p = kept_names state next effects _ p.2
+names_after input state next (commands.Write names file) effects p = kept_names state next effects _ p.2
 names_after input state next (commands.WriteVtree file) effects p = kept_names state next effects _ p
 
 -- ---- commands one after another

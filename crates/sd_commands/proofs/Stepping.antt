@@ -1,13 +1,14 @@
 -- What a command comes to, from what was bound or handed out.
 use Rattle.std.proofs.Common.{◌≡◌, ℕ, Bool, true, false, ◌||◌, eqb, List, [], ◌∷◌, map}
 use Rattle.std.proofs.Common.{Option, Some, None, Result, Ok, Err, IfOk, IfErr, refl, sym, ap, subst, ◌∙◌}
-use Rattle.std.proofs.Common.{inl, inr, ◌<◌, ◌+◌, length, get_or, drop}
+use Rattle.std.proofs.Common.{inl, inr, ◌<◌, ◌≤◌, ◌+◌, length, get_or, drop, arith}
 use Rattle.std.proofs.Math.ListN.{get_or-map}
 use Rattle.std.proofs.lemmas.List.{length-map}
-use Rattle.std.specs.List.{list_all, list_any}
+use Rattle.std.specs.List.{list_all, list_any, AllByRecursion}
 use Rattle.std.specs.Option.{IsSome}
 use Rattle.std.specs.declared.alloc.AllocError.{AllocError}
 use Rattle.std.proofs.lemmas.Bool.{cases_Bool, and_parts}
+use Rattle.std.specs.Prelude.{nat_le}
 use Rattle.sd_runs.specs.declared.error.TakeError.{TakeError}
 use Rattle.sd_runs.specs.declared.error.TakeError.TheVariants as taking
 use Rattle.sd_model.specs.Expression.{Expression}
@@ -16,10 +17,11 @@ use Rattle.sd_manager.specs.Table.{Table}
 use Rattle.sd_manager.specs.Making.{KeepsRule}
 use Rattle.sd_commands.specs.Effects.{Write, Print}
 use Rattle.sd_commands.specs.Commands.{State, Outcome, Done, OverLimit, Step, Settles, MayFill, named}
-use Rattle.sd_commands.specs.Fits.{Fits, AllFit, has, uses, binds, bound_after, of_no_line, unnumbered}
+use Rattle.sd_commands.specs.Fits.{Fits, AllFit, has, uses, binds, in_range, bound_after, of_no_line, unnumbered}
 use Rattle.sd_commands.specs.Standing.{Represents, HoldsName, HasRoot, IsFree, SettlesAt, IsNotSettled, HandsOut}
 use Rattle.sd_commands.specs.Standing.{StepsTo, StopsAt, names_of, effects_of, error_of_operation}
 use Rattle.sd_commands.specs.declared.command.RunCommand.{RunCommand}
+use Rattle.sd_commands.specs.declared.command.RunCommand.TheVariants as commands
 use Rattle.sd_commands.specs.declared.command.Effect.{Effect as CodeEffect}
 use Rattle.sd_commands.specs.declared.command.Effect.TheVariants.{WriteFile, PrintLine}
 use Rattle.sd_commands.specs.declared.error.CommandError.{CommandError}
@@ -145,6 +147,27 @@ second_used code seen v command a b others was fits is =
     let all : list_all (has (names_of seen)) (a ∷ b ∷ others) ≡ true =
     ap (list_all (has (names_of seen))) (sym is) ∙ fits.used_bound in
     has_root code seen b was (and_parts _ _ (and_parts _ _ all).1).0
+
+-- all names that a command uses
+pub all_used : (code : RunState) (seen : State) (v : ℕ) (command : RunCommand) (names : List ℕ)
+    → Represents code seen → Fits v (names_of seen) command → uses command ≡ names
+    → AllByRecursion (HasRoot code) names
+all_used code seen v command names was fits is =
+    go names (ap (list_all (has (names_of seen))) (sym is) ∙ fits.used_bound)
+  where
+    go : (ns : List ℕ) → list_all (has (names_of seen)) ns ≡ true → AllByRecursion (HasRoot code) ns
+    go [] h = tt
+    go (n ∷ ns) h =
+        let both = and_parts _ _ h in (has_root code seen n was both.0, go ns both.1)
+
+-- a write has a name
+pub some_named : (v : ℕ) (names : List ℕ) (command : RunCommand) (file bound : List ℕ)
+    → Fits v bound command → command ≡ commands.Write names file → 1 ≤ length names
+some_named v names command file bound fits is = go names (ap (in_range v) (sym is) ∙ fits.ranges)
+  where
+    go : (ns : List ℕ) → nat_le 1 (length ns) ≡ true → 1 ≤ length ns
+    go [] h = cc
+    go (n ∷ ns) h = omega arith
 
 -- the name that a command binds is free
 pub binds_free : (code : RunState) (seen : State) (v : ℕ) (command : RunCommand) (name : ℕ)

@@ -1,6 +1,9 @@
 -- What a node shows after an operation, and what a root answers.
 use Rattle.std.proofs.Common.{◌≡◌, ◌↔◌, ℕ, zero, suc, ◌≤◌, ◌<◌, Bool, true, false, not, ◌||◌, IsTrue}
-use Rattle.std.proofs.Common.{List, [], ◌∷◌, length, ℤ, pos, negsuc, refl, sym, ap, subst, ◌∙◌, arith}
+use Rattle.std.specs.List.{AllByRecursion, AllZip}
+use Rattle.std.proofs.lemmas.List.{take_more}
+use Rattle.std.proofs.lemmas.List.Elements.{AllZip-push}
+use Rattle.std.proofs.Common.{List, [], ◌∷◌, ◌++◌, ◌+◌, map, take, get_or, length, ℤ, pos, negsuc, refl, sym, ap, subst, ◌∙◌, arith}
 use Rattle.sd_model.specs.declared.trees.Operation.{Operation}
 use Rattle.sd_model.specs.Tree.{Tree, leaves}
 use Rattle.sd_model.specs.Assignment.{literal_holds, with_entry, with_value, with_literal}
@@ -8,7 +11,7 @@ use Rattle.sd_model.specs.Diagram.{Diagram, meaning}
 use Rattle.sd_model.specs.Expression.{Expression, Constant, Atom, Combined, Negated, Conditioned, Forgotten}
 use Rattle.sd_model.specs.Expression.{combine, expression_value}
 use Rattle.sd_model.specs.Size.{IsDiagramOf, HasSize, size_of}
-use Rattle.sd_model.specs.Text.{sdd_text}
+use Rattle.sd_model.specs.Text.{roots_text}
 use Rattle.sd_vtree.specs.Numbered.{plain_tree}
 use Rattle.sd_manager.specs.Literals.{IsLiteralTo}
 use Rattle.sd_manager.specs.Table.{Table}
@@ -16,8 +19,8 @@ use Rattle.sd_manager.specs.Shown.{ShowsCanonical, IsNodeOf, HoldsDiagram, const
 use Rattle.sd_manager.specs.Making.{Extends}
 use Rattle.sd_apply.specs.Answers.{HasAnswer, Combines, Negates}
 use Rattle.sd_cond.specs.Answers.{Conditions, Forgets}
-use Rattle.sd_commands.specs.Commands.{Compares, IsTextOf}
-use Rattle.sd_commands.specs.Standing.{HoldsValue, ShowsFormula}
+use Rattle.sd_commands.specs.Commands.{State, Compares, IsTextOf, formula_named}
+use Rattle.sd_commands.specs.Standing.{HoldsValue, ShowsFormula, ShowsNamed}
 
 -- a node that shows a formula is a node of the manager
 pub value_node : (t : Table) (c : ℕ) (f : Expression) → ShowsFormula t c f → IsNodeOf t c
@@ -177,8 +180,42 @@ sized t tree root f n same h is = record {
   size = sym (is h.diagram h.is);
 }
 
--- the text of a root
-pub worded : (t : Table) (tree : Tree) (root : ℕ) (f : Expression) (text : List ℕ) → tree ≡ plain_tree t.vtree
-    → HoldsValue t root f → ((d : Diagram) → HoldsDiagram t root d → text ≡ sdd_text d) → IsTextOf tree f text
-worded t tree root f text same h is =
-    record { diagram = h.diagram; of_value = of_tree t tree root f same h; is = is h.diagram h.is }
+-- the nodes of names show the diagrams of their formulas, for an equal tree
+shown_each : (t : Table) (seen : State) (names nodes : List ℕ) → seen.tree ≡ plain_tree t.vtree
+    → AllZip (ShowsNamed t seen) names nodes
+    → (ds : List Diagram) × AllZip (ShowsCanonical t) nodes ds
+    × AllZip (IsDiagramOf seen.tree) (map (formula_named seen) names) ds
+shown_each t seen [] [] same h = ([], tt, tt)
+shown_each t seen [] (node ∷ nodes) same h = absurd h
+shown_each t seen (name ∷ names) [] same h = absurd h
+shown_each t seen (name ∷ names) (node ∷ nodes) same h =
+    let rest = shown_each t seen names nodes same h.1 in (
+      h.0.diagram ∷ rest.0,
+      (h.0.is, rest.1),
+      (subst (λ u. IsDiagramOf u (formula_named seen name) h.0.diagram) (sym same) h.0.of_value, rest.2),
+    )
+
+-- so the text of the nodes is that of the formulas
+pub worded : (t : Table) (seen : State) (names nodes : List ℕ) (text : List ℕ) → seen.tree ≡ plain_tree t.vtree
+    → AllZip (ShowsNamed t seen) names nodes
+    → ((ds : List Diagram) → AllZip (ShowsCanonical t) nodes ds → text ≡ roots_text ds)
+    → IsTextOf seen.tree (map (formula_named seen) names) text
+worded t seen names nodes text same h is =
+    let shown = shown_each t seen names nodes same h in
+    record { diagrams = shown.0; of_values = shown.2; is = is shown.0 shown.1 }
+
+-- each of them shows a canonical diagram
+pub nodes_shown : (t : Table) (seen : State) (names nodes : List ℕ) → AllZip (ShowsNamed t seen) names nodes
+    → AllByRecursion (IsNodeOf t) nodes
+nodes_shown t seen [] [] h = tt
+nodes_shown t seen [] (node ∷ nodes) h = absurd h
+nodes_shown t seen (name ∷ names) [] h = absurd h
+nodes_shown t seen (name ∷ names) (node ∷ nodes) h =
+    (record { diagram = h.0.diagram; is = h.0.is }, nodes_shown t seen names nodes h.1)
+
+-- one name more, with its node
+pub named_more : (R : ℕ → ℕ → Type 0) (names nodes : List ℕ) (i d node : ℕ) → i < length names
+    → AllZip R (take i names) nodes → R (get_or names i d) node → AllZip R (take (i + 1) names) (nodes ++ node ∷ [])
+named_more R names nodes i d node lt h r =
+    subst (λ l. AllZip R l (nodes ++ node ∷ [])) (sym (take_more names i d lt))
+    (AllZip-push R (take i names) nodes (get_or names i d) node h r)

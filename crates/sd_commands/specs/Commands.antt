@@ -8,7 +8,8 @@ use Rattle.sd_model.specs.Moves.{moved_at}
 use Rattle.sd_model.specs.declared.trees.Move.TheVariants.{Swap}
 use Rattle.sd_model.specs.Diagram.{Diagram}
 use Rattle.sd_model.specs.Size.{IsDiagramOf, HasSize}
-use Rattle.sd_model.specs.Text.{number_text, sdd_text, vtree_text}
+use Rattle.sd_model.specs.Text.{number_text, roots_text, vtree_text}
+use Rattle.std.specs.List.{AllZip}
 use Rattle.sd_formula.specs.Dimacs.{Groups}
 use Rattle.sd_formula.specs.Formulas.{expression_of}
 use Rattle.sd_file.specs.Reads.{expression_of_file}
@@ -105,11 +106,11 @@ BindsInput input state name outcome =
 abbrev pub Does : State → Effect → Outcome → Type 0
 Does state effect outcome = outcome ≡ Done state (effect ∷ [])
 
--- the text of the canonical diagram of a formula
-pub record IsTextOf (tree : Tree) (f : Expression) (text : List ℕ) : Type 0 where
-  pub diagram : Diagram
-  pub of_value : IsDiagramOf tree f diagram
-  pub is : text ≡ sdd_text diagram
+-- the text of the canonical diagrams of formulas, in their order
+pub record IsTextOf (tree : Tree) (fs : List Expression) (text : List ℕ) : Type 0 where
+  pub diagrams : List Diagram
+  pub of_values : AllZip (IsDiagramOf tree) fs diagrams
+  pub is : text ≡ roots_text diagrams
 
 -- the answer says whether two formulas are one function over the variables of the tree
 abbrev pub Compares : Tree → Expression → Expression → Bool → Type 0
@@ -164,8 +165,9 @@ Step input state (commands.Size a) outcome =
     (n : ℕ) × HasSize (formula_named state a ∷ []) state.tree n × Does state (Print (size_line n)) outcome
 Step input state (commands.Value a bits) outcome =
     Does state (Print (value_line (expression_value (formula_named state a) bits))) outcome
-Step input state (commands.Write a file) outcome =
-    (text : List ℕ) × IsTextOf state.tree (formula_named state a) text × Does state (Write file text) outcome
+Step input state (commands.Write names file) outcome =
+    (text : List ℕ) × IsTextOf state.tree (map (formula_named state) names) text
+    × Does state (Write file text) outcome
 Step input state (commands.WriteVtree file) outcome = Does state (Write file (vtree_text state.tree)) outcome
 
 -- the command may need the arena of the diagrams

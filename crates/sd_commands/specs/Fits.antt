@@ -20,7 +20,7 @@ uses (commands.Drop a) = a ∷ []
 uses (commands.Same a b) = a ∷ b ∷ []
 uses (commands.Size a) = a ∷ []
 uses (commands.Value a bits) = a ∷ []
-uses (commands.Write a file) = a ∷ []
+uses (commands.Write names file) = names
 uses command = []
 
 -- the name that must be free, and is bound then
@@ -44,14 +44,15 @@ frees command = []
 abbrev pub bound_after : List ℕ → RunCommand → List ℕ
 bound_after names c = binds c ++ filter (λ n. not (has (frees c) n)) names
 
--- a literal is of a variable of 1 to v, so is a variable that is forgotten, a file is over v variables, and a value
--- has v bits
+-- a literal is of a variable of 1 to v, so is a variable that is forgotten, a file is over v variables, a value has v
+-- bits, and a write has a name
 abbrev pub in_range : ℕ → RunCommand → Bool
 in_range v (commands.Load n file) = file.variables == v
 in_range v (commands.Literal n literal) = nat_le 1 (unsigned_abs literal) && nat_le (unsigned_abs literal) v
 in_range v (commands.Given n a literal) = nat_le 1 (unsigned_abs literal) && nat_le (unsigned_abs literal) v
 in_range v (commands.Forget n a x) = nat_le 1 x && nat_le x v
 in_range v (commands.Value a bits) = length bits == v
+in_range v (commands.Write names file) = nat_le 1 (length names)
 in_range v command = true
 
 -- the command can be done over v variables, where these names are bound: it uses bound names alone, and binds none

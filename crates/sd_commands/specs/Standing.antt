@@ -26,7 +26,7 @@ use Rattle.sd_move.specs.declared.error.MoveError.TheVariants as moving
 use Rattle.sd_runs.specs.declared.error.TakeError.{TakeError}
 use Rattle.sd_runs.specs.declared.error.TakeError.TheVariants as taking
 use Rattle.sd_commands.specs.Commands.{State, Done, OverLimit, NotMovable, Step, MayFill, named, formulas_of}
-use Rattle.sd_commands.specs.Commands.{AreWithin, PassLimit}
+use Rattle.sd_commands.specs.Commands.{formula_named, AreWithin, PassLimit}
 use Rattle.sd_commands.specs.declared.command.RunCommand.{RunCommand}
 use Rattle.sd_commands.specs.declared.command.Effect.{Effect as CodeEffect}
 use Rattle.sd_commands.specs.declared.command.Effect.TheVariants.{WriteFile, PrintLine}
@@ -47,6 +47,10 @@ pub record ShowsFormula (t : Table) (node : ℕ) (value : Expression) : Type 0 w
   pub diagram : Diagram
   pub is : ShowsCanonical t node diagram
   pub of_value : IsDiagramOf (plain_tree t.vtree) value diagram
+
+-- the node shows the canonical diagram of a bound name's formula
+abbrev pub ShowsNamed : Table → State → ℕ → ℕ → Type 0
+ShowsNamed t state name node = ShowsFormula t node (formula_named state name)
 
 -- the root holds the canonical diagram of a formula
 pub record HoldsValue (t : Table) (root : ℕ) (value : Expression) : Type 0 where

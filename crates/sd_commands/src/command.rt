@@ -3,6 +3,7 @@
 use sd_base::{Bits, Bytes, Name};
 use sd_file::SddFile;
 use sd_model::Operation;
+use sd_script::Indices;
 
 /// A command of a run. Names are numbers; each name that a command uses has to be bound by an earlier one.
 #[derive(Drop)]
@@ -37,8 +38,8 @@ pub enum RunCommand {
     Size(u32),
     /// Prints the value of a name's formula under truth values for the variables 1 to V.
     Value(u32, Bits),
-    /// Writes the text of a name's diagram to a file.
-    Write(u32, Name),
+    /// Writes the text of the diagrams of one or more names, in their order, to a file.
+    Write(Indices, Name),
     /// Writes the text of the vtree to a file.
     WriteVtree(Name),
 }

@@ -1,5 +1,6 @@
 //! The commands that write a file or print a line.
-ghost use Rattle.std.specs.Prelude.{◌≡◌, Some, length, IfOk};
+ghost use Rattle.std.specs.Prelude.{◌≡◌, ◌≤◌, Some, length, IfOk};
+ghost use Rattle.std.specs.List.{AllByRecursion};
 ghost use Rattle.sd_model.specs.Tree.{leaves};
 ghost use Rattle.sd_formula.specs.Dimacs.{Groups};
 ghost use Rattle.sd_vtree.specs.Numbered.{plain_tree};
@@ -11,7 +12,7 @@ use crate::command::{Effect, RunCommand};
 use crate::state::RunState;
 use itoa::Buffer;
 use sd_base::{Bits, Bytes, Name};
-use sd_file::write_sdd;
+use sd_file::write_nodes;
 use sd_manager::value_of;
 use sd_vfile::write_vtree;
 use std::alloc::{AllocError, Global};
@@ -84,21 +85,23 @@ pub(crate) fn print_value(
     Ok(Effect::PrintLine(line))
 }
 
-/// The file with the text of a name's diagram.
-pub(crate) fn write_diagram(
+/// The file with the text of the diagrams of names, in their order.
+pub(crate) fn write_diagrams(
     alloc: Global,
     state: &RunState,
-    name: u32,
+    names: &[u32],
     file: &Name,
 ) -> Result<Effect, AllocError>
     requires represents { (seen : State) × Represents state.now seen }
-    requires bound { HasRoot state.now name }
+    requires some { 1 ≤ length names.now }
+    requires bound { AllByRecursion (HasRoot state.now) names.now }
     ensures { (input : Groups) (seen : State) → Represents state.now seen →
-        IfOk result (λ effect. StepsTo input seen (RunCommand.Write name file.now) state.now
+        IfOk result (λ effect. StepsTo input seen (RunCommand.Write names.now file.now) state.now
         (Some effect)) }
 {
     let copy = Name::copy_of(alloc, file.as_str())?;
-    let text = write_sdd(alloc, &state.manager, state.root(name))?;
+    let nodes = state.nodes(alloc, names)?;
+    let text = write_nodes(alloc, &state.manager, &nodes)?;
     Ok(Effect::WriteFile(copy, text))
 }
 

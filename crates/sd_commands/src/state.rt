@@ -1,6 +1,7 @@
 //! What a run holds between two commands.
 ghost use Rattle.std.specs.Prelude.{◌≡◌, ℕ, [], ◌∷◌, ◌<◌, ◌≤◌, ◌+◌, ◌-◌, ◌^◌, Some, None, IfSome, IfOk, IfErr};
 ghost use Rattle.std.specs.Prelude.{OnOk, OnErr};
+ghost use Rattle.std.specs.List.{AllByRecursion, AllZip};
 ghost use Rattle.std.specs.Option.{IsSome};
 ghost use Rattle.std.specs.FinMap.{get};
 ghost use Rattle.std.specs.BTreeMap as maps;
@@ -9,8 +10,8 @@ ghost use Rattle.sd_model.specs.Expression.{Expression};
 ghost use Rattle.sd_model.specs.Size.{HasSize};
 ghost use Rattle.sd_vtree.specs.Numbered.{plain_tree};
 ghost use Rattle.sd_commands.specs.Commands.{State, with_name, dropped, formula_named, formulas_of, AreWithin};
-ghost use Rattle.sd_commands.specs.Standing.{Represents, HoldsValue, ShowsFormula, HasRoot, IsFree, IsNotSettled};
-ghost use Rattle.sd_commands.specs.Standing.{start, root_count, removed, without, IsAsBefore};
+ghost use Rattle.sd_commands.specs.Standing.{Represents, HoldsValue, ShowsFormula, ShowsNamed, HasRoot, IsFree};
+ghost use Rattle.sd_commands.specs.Standing.{start, root_count, removed, without, IsAsBefore, IsNotSettled};
 
 use crate::error::{CommandError, holding_error};
 use sd_cache::Cache;
@@ -76,6 +77,20 @@ impl RunState {
             ShowsFormula self.now.manager result (formula_named seen name) }
     {
         self.manager.node_of(self.root(name))
+    }
+
+    /// The nodes of bound names, in their order.
+    pub(crate) fn nodes(&self, alloc: Global, names: &[u32]) -> Result<Vec<NodeId>, AllocError>
+        requires represents { (seen : State) × Represents self.now seen }
+        requires bound { AllByRecursion (HasRoot self.now) names.now }
+        ensures { (seen : State) → Represents self.now seen →
+            IfOk result (λ nodes. AllZip (ShowsNamed self.now.manager seen) names.now nodes.items) }
+    {
+        let mut nodes = Vec::with_capacity(alloc, names.len())?;
+        for name in names {
+            nodes.push(self.node(*name))?;
+        }
+        Ok(nodes)
     }
 
     /// The size of the diagram of a bound name.

@@ -13,7 +13,7 @@ use crate::bind::{
 };
 use crate::command::{Effect, RunCommand};
 use crate::effects::{
-    print_generated, print_same, print_size, print_value, write_diagram, write_vtree_text,
+    print_generated, print_same, print_size, print_value, write_diagrams, write_vtree_text,
 };
 use crate::error::CommandError;
 use crate::moving::swap_at;
@@ -68,7 +68,12 @@ pub fn step(
         RunCommand::Same(a, b) => or_out_of_memory(print_same(alloc, state, *a, *b)),
         RunCommand::Size(name) => or_out_of_memory(print_size(alloc, state, *name)),
         RunCommand::Value(name, bits) => or_out_of_memory(print_value(alloc, state, *name, bits)),
-        RunCommand::Write(name, file) => or_out_of_memory(write_diagram(alloc, state, *name, file)),
+        RunCommand::Write(names, file) => or_out_of_memory(write_diagrams(
+            alloc,
+            state,
+            names.as_slice(),
+            file,
+        )),
         RunCommand::WriteVtree(file) => or_out_of_memory(write_vtree_text(alloc, state, file)),
     }
 }

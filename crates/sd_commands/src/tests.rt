@@ -6,6 +6,7 @@ use super::*;
 use sd_base::{Bits, Name};
 use sd_formula::{Formula, Kind, read_dimacs};
 use sd_model::Operation;
+use sd_script::Indices;
 use sd_vtree::Vtree;
 use std::alloc::{AllocError, Global};
 use std::test::Fail;
@@ -120,7 +121,10 @@ fn size_and_text(rt: HostRuntime) -> Result<(), Fail> {
         RunCommand::Literal(2, 2),
         RunCommand::Combine(Operation::And, 3, 1, 2),
         RunCommand::Size(3),
-        RunCommand::Write(3, Name::copy_of(rt.alloc(), "d")?),
+        RunCommand::Write(
+            Indices::new(vec![in rt.alloc(); 3]?),
+            Name::copy_of(rt.alloc(), "d")?,
+        ),
     ];
     let text = said(rt.alloc(), &input, 2, 1000, &commands)?;
     let want =

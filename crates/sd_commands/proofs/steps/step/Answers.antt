@@ -1,11 +1,12 @@
-use Rattle.std.proofs.Common.{ℤ, None, IfOk, IfErr, OnErr, refl, sym, ap, subst, rules, w32}
+use Rattle.std.proofs.Common.{ℤ, ◌≤◌, length, None, IfOk, IfErr, OnErr, refl, sym, ap, subst, rules, w32}
+use Rattle.std.specs.List.{AllByRecursion}
 use Rattle.std.proofs.lemmas.Int.{to_z-of_z}
 use mir.Val.{SFits}
 use Rattle.sd_commands.specs.Commands.{dropped}
 use Rattle.sd_commands.specs.Fits.{uses, binds}
-use Rattle.sd_commands.specs.Standing.{StepsTo, StopsAt, IsAsBefore}
-use Rattle.sd_commands.specs.declared.command.RunCommand.TheVariants.{Literal, Given}
-use Rattle.sd_commands.proofs.Stepping.{first_used, second_used, binds_free, handed_steps}
+use Rattle.sd_commands.specs.Standing.{StepsTo, StopsAt, IsAsBefore, HasRoot}
+use Rattle.sd_commands.specs.declared.command.RunCommand.TheVariants.{Literal, Given, Write}
+use Rattle.sd_commands.proofs.Stepping.{first_used, second_used, all_used, some_named, binds_free, handed_steps}
 use Rattle.sd_commands.proofs.Standing.{as_before_self}
 use Rattle.sd_commands.proofs.steps.step.Goals as goal
 
@@ -56,10 +57,16 @@ print_value-requires-clause-bound c =
     first_used c.args.state.now c.requires.represents.0 _ _ _ _ c.requires.represents.1 c.requires.represents.2
     (ap uses c.in-Value.is)
 
-pub write_diagram-requires-clause-bound : goal.write_diagram-requires-clause-bound
-write_diagram-requires-clause-bound c =
-    first_used c.args.state.now c.requires.represents.0 _ _ _ _ c.requires.represents.1 c.requires.represents.2
-    (ap uses c.in-Write.is)
+pub write_diagrams-requires-clause-bound : goal.write_diagrams-requires-clause-bound
+write_diagrams-requires-clause-bound c =
+    subst (AllByRecursion (HasRoot c.args.state.now)) (sym c.as_slice.ensures)
+    (all_used c.args.state.now c.requires.represents.0 _ _ _ c.requires.represents.1 c.requires.represents.2
+    (ap uses c.in-Write.is))
+
+pub write_diagrams-requires-clause-some : goal.write_diagrams-requires-clause-some
+write_diagrams-requires-clause-some c =
+    subst (λ names. 1 ≤ length names) (sym c.as_slice.ensures)
+    (some_named c.args.input.now.variables _ c.args.command.now _ _ c.requires.represents.2 c.in-Write.is)
 
 -- ---- the name that a command binds is free
 
@@ -169,7 +176,10 @@ returns-in-Write-clause-done c = λ seen was.
     let code = c.args.state.now in
     subst (λ command. IfOk c.or_out_of_memory-in-Write.result (λ effect. StepsTo input seen command code effect))
     (sym c.in-Write.is)
-    (handed_steps input seen _ code _ _ (c.write_diagram.ensures input seen was) c.or_out_of_memory-in-Write.ensures)
+    (subst (λ names. IfOk c.or_out_of_memory-in-Write.result
+    (λ effect. StepsTo input seen (Write names c.in-Write.file) code effect)) c.as_slice.ensures
+    (handed_steps input seen _ code _ _ (c.write_diagrams.ensures input seen was)
+    c.or_out_of_memory-in-Write.ensures))
 
 pub returns-in-WriteVtree-clause-done : goal.returns-in-WriteVtree-clause-done
 returns-in-WriteVtree-clause-done c = λ seen was.
