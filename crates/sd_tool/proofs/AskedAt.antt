@@ -44,7 +44,6 @@ use Rattle.sd_tool.specs.Readings.{reading_of, with_job, with_input, with_input_
 use Rattle.sd_tool.specs.Readings.{with_tree, with_vtree_text, with_vtree_reading, with_commands, script_reading}
 use Rattle.sd_tool.specs.Readings.{with_script_text, with_script_reading, with_lines, with_action, with_sdd}
 use Rattle.sd_tool.specs.Readings.{with_sdd_reading, in_line, is_served, is_plain, file_name, plan_for}
-use Rattle.sd_tool.specs.Readings.{only_name, with_only_name}
 use Rattle.sd_tool.specs.Refusals.{refusal_status}
 use Rattle.sd_tool.specs.declared.refusal.Refusal.{Refusal}
 use Rattle.sd_tool.specs.declared.refusal.Refusal.TheVariants.{NotYet}
@@ -97,11 +96,7 @@ accepted_action v s next (actions.Limit limit) accepted = accepted (commands.Lim
 accepted_action v s next (actions.Same a b) accepted = accepted (commands.Same a b)
 accepted_action v s next (actions.Size a) accepted = accepted (commands.Size a)
 accepted_action v s next (actions.Value a bits) accepted = accepted (commands.Value a bits)
-accepted_action v s next (actions.Write names file) accepted = go (only_name names)
-  where
-    go : (name : Option ℕ) → AreAccepted (with_only_name (λ n. next (commands.Write n (file_name s file))) name)
-    go None = λ e. cc
-    go (Some n) = accepted (commands.Write n (file_name s file))
+accepted_action v s next (actions.Write names file) accepted = accepted (commands.Write names (file_name s file))
 accepted_action v s next (actions.Vtree file) accepted = accepted (commands.WriteVtree (file_name s file))
 
 accepted_lines : (v : ℕ) (s : Script) (begin : List NumberedCommand → Reading) (done : List NumberedCommand) (lines : List Line)

@@ -48,6 +48,7 @@ use Rattle.sd_tool.proofs.OnePoint.{one_point}
 use Rattle.sd_tool.proofs.OneRun.{done_or_none}
 use Rattle.sd_tool.proofs.StillCommands.{is_move, AreStill}
 use Rattle.sd_tool.proofs.ReadingLemmas.{reads_on, reads_same, file_asked}
+use Rattle.sd_tool.proofs.WrittenLemmas.{single_text}
 
 -- ---- the lines as commands
 
@@ -145,7 +146,7 @@ module _ (input : Groups) (script : Script) (joined : Expression) (file : List �
       in_line two.first (own_line input two.first.action two.f two.left two.binds_f).command
       ∷ in_line two.second (own_line input two.second.action two.g two.right two.binds_g).command
       ∷ in_line two.third (commands.Combine two.operation two.h two.f two.g)
-      ∷ in_line two.last (commands.Write two.h (file_name script two.number)) ∷ []
+      ∷ in_line two.last (commands.Write (two.h ∷ []) (file_name script two.number)) ∷ []
 
   -- none of them moves the vtree
   four_still : AreStill four_commands
@@ -167,7 +168,7 @@ module _ (input : Groups) (script : Script) (joined : Expression) (file : List �
       (all_four (is_served two.first.action) (is_served two.second.action) (is_served two.third.action)
       (is_served two.last.action) one.served other.served (ap is_served two.joins) (ap is_served two.writes))
       ∙ four_lines v script begin two.first two.second two.third two.last one.command other.command
-      (commands.Combine two.operation two.h two.f two.g) (commands.Write two.h (file_name script two.number))
+      (commands.Combine two.operation two.h two.f two.g) (commands.Write (two.h ∷ []) (file_name script two.number))
       (one.acts v script) (other.acts v script) (λ next. ap (with_action v script next) two.joins)
       (λ next. ap (with_action v script next) two.writes)
 
@@ -248,8 +249,8 @@ bind_done input state last name f command rest effects binds (mid, first, others
 
 -- a last command that writes a diagram
 write_done : (input : Groups) (state last : State) (name : ℕ) (file : List ℕ) (line : Line) (effects : List Effect)
-    → Steps input state (in_line line (commands.Write name file) ∷ []) effects last
-    → (text : List ℕ) × IsTextOf state.tree (formula_named state name) text × (effects ≡ Write file text ∷ [])
+    → Steps input state (in_line line (commands.Write (name ∷ []) file) ∷ []) effects last
+    → (text : List ℕ) × IsTextOf state.tree (formula_named state name ∷ []) text × (effects ≡ Write file text ∷ [])
 write_done input state last name file line effects (mid, first, others, step, steps, is) =
     let wrote : first ≡ Write file step.0 ∷ [] = let e = step.2 in cc in
     (step.0, step.1, is ∙ ap (λ (l : List Effect). l ++ others) wrote ∙ ap (λ l. Write file step.0 ∷ l) steps.0)
@@ -281,13 +282,13 @@ joined_formula state f g h left right operation differ =
 four_done : (input : Groups) (script : Script) (joined : Expression) (file : List ℕ)
     (two : JoinsTwo (expression_of input) script joined file) (state last : State) (effects : List Effect)
     → Steps input state (four_commands input script joined file two) effects last
-    → (text : List ℕ) × IsTextOf state.tree joined text × (effects ≡ Write file text ∷ [])
+    → (text : List ℕ) × IsTextOf state.tree (joined ∷ []) text × (effects ≡ Write file text ∷ [])
 four_done input script joined file two state last effects steps =
     let one = own_line input two.first.action two.f two.left two.binds_f in
     let other = own_line input two.second.action two.g two.right two.binds_g in
     let second = in_line two.second other.command in
     let combine = in_line two.third (commands.Combine two.operation two.h two.f two.g) in
-    let write = in_line two.last (commands.Write two.h (file_name script two.number)) in
+    let write = in_line two.last (commands.Write (two.h ∷ []) (file_name script two.number)) in
     let a = with_name state two.f two.left in
     let b = with_name a two.g two.right in
     let value = Combined two.operation (formula_named b two.f) (formula_named b two.g) in
@@ -300,7 +301,7 @@ four_done input script joined file two state last effects steps =
     (λ next done step. settled_done (with_name b two.h value) next done step) after_second in
     let done = write_done input c last two.h (file_name script two.number) two.last effects after_third in (
       done.0,
-      subst (λ f. IsTextOf state.tree f done.0)
+      subst (λ f. IsTextOf state.tree (f ∷ []) done.0)
           (joined_formula state two.f two.g two.h two.left two.right two.operation two.two ∙ sym two.is) done.1,
       done.2 ∙ ap (λ name. Write name done.0 ∷ []) (sym two.file_is),
     )
@@ -318,14 +319,15 @@ one_plan words files a b p q =
 
 -- what this effect leaves
 leaves_text : (files : Files) (tree : Tree) (f : Expression) (file text : List ℕ) (effects : List Effect)
-    (old new : Contents) → old.files ≡ Some files → effects ≡ Write file text ∷ [] → IsTextOf tree f text
+    (old new : Contents) → old.files ≡ Some files → effects ≡ Write file text ∷ [] → IsTextOf tree (f ∷ []) text
     → new ≡ after effects old → WritesDiagram files tree f file old new
 leaves_text files tree f file text effects old new told are is_text is =
-    let now : new ≡ after (Write file text ∷ []) old = is ∙ ap (λ l. after l old) are in record {
-      diagram = is_text.diagram;
-      of_formula = is_text.of_value;
+    let now : new ≡ after (Write file text ∷ []) old = is ∙ ap (λ l. after l old) are in
+    let one = single_text tree f text is_text in record {
+      diagram = one.0;
+      of_formula = one.1;
       files_are = ap (λ (o : Contents). o.files) now ∙ ap (λ t. told_with t file text) told
-          ∙ ap (λ b. Some (with_file files file b)) is_text.is;
+          ∙ ap (λ b. Some (with_file files file b)) one.2;
       printed_is = ap (λ (o : Contents). o.printed) now;
     }
 

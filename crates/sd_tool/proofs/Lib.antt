@@ -12,6 +12,7 @@ pub mod OneRun
 pub mod PartLemmas
 pub mod PlanLemmas
 pub mod ReadingLemmas
+pub mod RootsTexts
 pub mod ScriptFaults
 pub mod ScriptLemmas
 pub mod SddFaults

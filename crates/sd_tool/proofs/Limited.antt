@@ -52,7 +52,8 @@ quiet_at input state (c ∷ cs) (d ∷ done) left next group size limit same qui
 -- the commands after the input
 abbrev pub after_input : Job → List NumberedCommand
 after_input job = in_lines 2
-    (for_file commands.WriteVtree job.out_vtree ++ for_file (commands.Write 0) job.out_sdd ++ commands.Size 0 ∷ [])
+    (for_file commands.WriteVtree job.out_vtree ++ for_file (commands.Write (0 ∷ [])) job.out_sdd
+    ++ commands.Size 0 ∷ [])
 
 quiet_after : (input : Groups) (job : Job) → AreQuiet input (after_input job)
 quiet_after input job = go job.out_vtree job.out_sdd
@@ -62,7 +63,7 @@ quiet_after input job = go job.out_vtree job.out_sdd
     vtree file state group size limit p = cc
 
     diagram : (file : List ℕ) (state : State) (group : Option ℕ) (size limit : ℕ)
-        → Step input state (commands.Write 0 file) (PassesLimit group size limit) → ⊥
+        → Step input state (commands.Write (0 ∷ []) file) (PassesLimit group size limit) → ⊥
     diagram file state group size limit p = let e = p.2 in cc
 
     printed : (state : State) (group : Option ℕ) (size limit : ℕ)
@@ -70,7 +71,7 @@ quiet_after input job = go job.out_vtree job.out_sdd
     printed state group size limit p = let e = p.2 in cc
 
     go : (t d : Option (List ℕ)) → AreQuiet input (in_lines 2
-        (for_file commands.WriteVtree t ++ for_file (commands.Write 0) d ++ commands.Size 0 ∷ []))
+        (for_file commands.WriteVtree t ++ for_file (commands.Write (0 ∷ [])) d ++ commands.Size 0 ∷ []))
     go None None = (printed, tt)
     go None (Some d) = (diagram d, (printed, tt))
     go (Some t) None = (vtree t, (printed, tt))

@@ -42,7 +42,6 @@ use Rattle.sd_tool.specs.Readings.{reading_of, with_job, with_input, with_input_
 use Rattle.sd_tool.specs.Readings.{with_tree, with_vtree_text, with_vtree_reading, with_commands, script_reading}
 use Rattle.sd_tool.specs.Readings.{with_script_text, with_script_reading, with_lines, with_action, with_sdd}
 use Rattle.sd_tool.specs.Readings.{with_sdd_reading, in_line, is_served, is_plain, file_name, plan_for, default_of}
-use Rattle.sd_tool.specs.Readings.{only_name, with_only_name}
 use Rattle.sd_tool.specs.Refusals.{IsOfText}
 use Rattle.sd_tool.specs.declared.refusal.Refusal.{Refusal}
 use Rattle.sd_tool.specs.declared.refusal.Refusal.TheVariants.{NotYet, BadWords, BadFormula, BadVtree, BadSdd}
@@ -134,11 +133,7 @@ sound_action v s next (actions.Limit limit) sound = sound (commands.Limit limit)
 sound_action v s next (actions.Same a b) sound = sound (commands.Same a b)
 sound_action v s next (actions.Size a) sound = sound (commands.Size a)
 sound_action v s next (actions.Value a bits) sound = sound (commands.Value a bits)
-sound_action v s next (actions.Write names file) sound = go (only_name names)
-  where
-    go : (name : Option ℕ) → AreSound (with_only_name (λ n. next (commands.Write n (file_name s file))) name)
-    go None = tt
-    go (Some n) = sound (commands.Write n (file_name s file))
+sound_action v s next (actions.Write names file) sound = sound (commands.Write names (file_name s file))
 sound_action v s next (actions.Vtree file) sound = sound (commands.WriteVtree (file_name s file))
 
 sound_lines : (v : ℕ) (s : Script) (begin : List NumberedCommand → Reading) (done : List NumberedCommand) (lines : List Line)

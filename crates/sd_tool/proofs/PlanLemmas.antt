@@ -69,19 +69,19 @@ ready_made formula vtree limit state commands represents same roots variables fi
 -- the commands are in the lines that they have in its script
 pub stated_lines : (tree diagram : Option (List ℕ)) (a b c d : List NumberedCommand)
     → a ≡ behind [] (commands.Input 0 ∷ []) → b ≡ behind a (for_file commands.WriteVtree tree)
-    → c ≡ behind b (for_file (commands.Write 0) diagram) → d ≡ behind c (commands.Size 0 ∷ [])
-    → d ≡ in_lines 1 (commands.Input 0 ∷ for_file commands.WriteVtree tree ++ for_file (commands.Write 0) diagram
-    ++ commands.Size 0 ∷ [])
+    → c ≡ behind b (for_file (commands.Write (0 ∷ [])) diagram) → d ≡ behind c (commands.Size 0 ∷ [])
+    → d ≡ in_lines 1 (commands.Input 0 ∷ for_file commands.WriteVtree tree
+    ++ for_file (commands.Write (0 ∷ [])) diagram ++ commands.Size 0 ∷ [])
 stated_lines tree diagram a b c d p q r s =
     s ∙ ap (λ (l : List NumberedCommand). behind l (commands.Size 0 ∷ []))
-    (r ∙ ap (λ (l : List NumberedCommand). behind l (for_file (commands.Write 0) diagram))
+    (r ∙ ap (λ (l : List NumberedCommand). behind l (for_file (commands.Write (0 ∷ [])) diagram))
     (q ∙ ap (λ (l : List NumberedCommand). behind l (for_file commands.WriteVtree tree)) p))
     ∙ go tree diagram
   where
     go : (t e : Option (List ℕ))
         → behind (behind (behind (behind [] (commands.Input 0 ∷ [])) (for_file commands.WriteVtree t))
-        (for_file (commands.Write 0) e)) (commands.Size 0 ∷ [])
-        ≡ in_lines 1 (commands.Input 0 ∷ for_file commands.WriteVtree t ++ for_file (commands.Write 0) e
+        (for_file (commands.Write (0 ∷ [])) e)) (commands.Size 0 ∷ [])
+        ≡ in_lines 1 (commands.Input 0 ∷ for_file commands.WriteVtree t ++ for_file (commands.Write (0 ∷ [])) e
         ++ commands.Size 0 ∷ [])
     go None None = refl
     go None (Some e) = refl

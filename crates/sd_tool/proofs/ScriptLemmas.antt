@@ -2,8 +2,9 @@
 use Rattle.std.proofs.Common.{◌≡◌, ℕ, zero, suc, ◌+◌, ◌<◌, ◌≤◌, not, List, [], ◌∷◌, ◌++◌, length, fold}
 use Rattle.std.proofs.Common.{take, drop, filter, get_or, Option, Some, None, Result, refl, sym, ap, subst, ◌∙◌}
 use Rattle.std.proofs.Common.{arith, length-append}
-use Rattle.std.specs.Prelude.{slice_get, slice_index_or}
+use Rattle.std.specs.Prelude.{slice_get, slice_index_or, nat_le}
 use Rattle.std.specs.List.{list_all, list_any}
+use Rattle.std.proofs.lemmas.Bool.{and_parts}
 use Rattle.std.proofs.lemmas.List.{take_more}
 use Rattle.std.proofs.Math.Seq.{drop-cons}
 use Rattle.sd_base.specs.Asked.{Request}
@@ -23,8 +24,7 @@ use Rattle.sd_commands.specs.declared.command.RunCommand.TheVariants as commands
 use Rattle.sd_tool.specs.Actions.{plain_of, bound_by, IsCommandOf, AreCommandsOf}
 use Rattle.sd_file.specs.Reads.{File}
 use Rattle.sd_tool.specs.Readings.{Reading, Reads, with_action, with_lines, with_sdd, file_name, default_of}
-use Rattle.sd_tool.specs.Readings.{for_file, in_line, in_lines, only_name, with_only_name, Refuses}
-use Rattle.sd_tool.specs.declared.refusal.Refusal.TheVariants.{NotYet}
+use Rattle.sd_tool.specs.Readings.{for_file, in_line, in_lines}
 use Rattle.sd_tool.specs.Asks.{ComesTo}
 use Rattle.sd_tool.specs.Stops.{LeadsTo}
 use Rattle.sd_tool.specs.declared.stop.Stop.{Stop}
@@ -177,7 +177,7 @@ stated_fit v job = (record { used_bound = refl; free = refl; ranges = refl }, go
   where
     go : (tree diagram : Option (List ℕ))
         → AllFit v (0 ∷ []) (in_lines 2
-        (for_file commands.WriteVtree tree ++ for_file (commands.Write 0) diagram ++ commands.Size 0 ∷ []))
+        (for_file commands.WriteVtree tree ++ for_file (commands.Write (0 ∷ [])) diagram ++ commands.Size 0 ∷ []))
     go None None = (record { used_bound = refl; free = refl; ranges = refl }, tt)
     go None (Some d) = (
       record { used_bound = refl; free = refl; ranges = refl },
@@ -200,7 +200,8 @@ pub stated_few : (job : Job) → length (default_of job) ≤ 100000
 stated_few job = go job.out_vtree job.out_sdd
   where
     go : (tree diagram : Option (List ℕ)) → length (in_lines 1 (commands.Input 0
-        ∷ for_file commands.WriteVtree tree ++ for_file (commands.Write 0) diagram ++ commands.Size 0 ∷ [])) ≤ 100000
+        ∷ for_file commands.WriteVtree tree ++ for_file (commands.Write (0 ∷ [])) diagram
+        ++ commands.Size 0 ∷ [])) ≤ 100000
     go None None = omega arith
     go None (Some d) = omega arith
     go (Some t) None = omega arith
@@ -223,43 +224,26 @@ load_leads asks told v script action n file name result before now is there lead
     (λ read. next (commands.Load n read)) result before now) (sym (file_named script file name there))
     (leads (λ read. next (commands.Load n read))))
 
--- a command that writes a diagram
+-- a command that writes diagrams
 pub write_leads : (asks : List Request → Type 0) (told : Option Files) (v : ℕ) (script : Script) (action : Action)
-    (names : List ℕ) (n file : ℕ)
-    (name copy : List ℕ) → action ≡ actions.Write names file → Some n ≡ only_name names
-    → slice_get script.files file ≡ Some name → copy ≡ name
-    → asks []
+    (names : List ℕ) (file : ℕ) (name : List ℕ) (command : RunCommand) → action ≡ actions.Write names file
+    → slice_get script.files file ≡ Some name → command ≡ commands.Write names name → asks []
     → (next : RunCommand → Reading)
-    → ComesTo asks told (with_action v script next action) (next (commands.Write n copy))
-write_leads asks told v script action names n file name copy is only there same none next =
+    → ComesTo asks told (with_action v script next action) (next command)
+write_leads asks told v script action names file name command is there same none next =
     comes_same asks told _ _ none (ap (with_action v script next) is
-    ∙ ap (with_only_name (λ m. next (commands.Write m (file_name script file)))) (sym only)
-    ∙ ap (λ (f : List ℕ). next (commands.Write n f)) (file_named script file name there ∙ sym same))
-
--- a command that writes the text of several roots
-pub several_lead : (asks : List Request → Type 0) (told : Option Files) (v : ℕ) (script : Script) (action : Action)
-    (names : List ℕ) (file : ℕ) → action ≡ actions.Write names file → None ≡ only_name names → asks []
-    → (next : RunCommand → Reading)
-    → ComesTo asks told (with_action v script next action) (Refuses NotYet)
-several_lead asks told v script action names file is only none next =
-    comes_same asks told _ _ none (ap (with_action v script next) is
-    ∙ ap (with_only_name (λ m. next (commands.Write m (file_name script file)))) (sym only))
-
--- the names of a list of one
-one_name : (names : List ℕ) (n : ℕ) → Some n ≡ only_name names → n ∷ [] ≡ names
-one_name [] n is = cc
-one_name (m ∷ []) n is = let same : n ≡ m = cc in ap (λ k. k ∷ []) same
-one_name (m ∷ k ∷ names) n is = cc
+    ∙ ap (λ (f : List ℕ). next (commands.Write names f)) (file_named script file name there) ∙ ap next (sym same))
 
 -- the command of such an action
-pub write_same : (v : ℕ) (action : Action) (names : List ℕ) (n file : ℕ) (copy : List ℕ)
-    → action ≡ actions.Write names file → Some n ≡ only_name names → IsCommandOf v action (commands.Write n copy)
-write_same v action names n file copy is only = record {
-  uses = one_name names n only ∙ ap lines.uses (sym is);
-  binds = ap lines.binds (sym is);
-  frees = ap lines.frees (sym is);
-  in_range = λ h. refl;
-}
+pub write_same : (v : ℕ) (action : Action) (names : List ℕ) (file : ℕ) (name : List ℕ) (command : RunCommand)
+    → action ≡ actions.Write names file → command ≡ commands.Write names name → IsCommandOf v action command
+write_same v action names file name command is same =
+    subst (IsCommandOf v action) (sym same) (subst (λ a. IsCommandOf v a (commands.Write names name)) (sym is) (record {
+      uses = refl;
+      binds = refl;
+      frees = refl;
+      in_range = λ h. (and_parts (nat_le 1 (length names)) (nat_le (length names) 1024) h).0;
+    }))
 
 -- a command that writes the vtree
 pub vtree_leads : (asks : List Request → Type 0) (told : Option Files) (v : ℕ) (script : Script) (action : Action)

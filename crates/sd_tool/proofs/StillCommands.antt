@@ -48,7 +48,7 @@ not_unmoved input state (commands.Limit limit) still p = not_settled _ p
 not_unmoved input state (commands.Same a b) still p = let e = p.2 in cc
 not_unmoved input state (commands.Size a) still p = let e = p.2 in cc
 not_unmoved input state (commands.Value a bits) still step = cc
-not_unmoved input state (commands.Write a file) still p = let e = p.2 in cc
+not_unmoved input state (commands.Write names file) still p = let e = p.2 in cc
 not_unmoved input state (commands.WriteVtree file) still step = cc
 
 -- each of them does not
@@ -69,8 +69,8 @@ pub default_still : (job : Job) (f : Groups) → AreStill (announcement job.inpu
 default_still job f = first job.input
   where
     all_still : (vtree sdd : Option (List ℕ))
-        → AreStill (in_lines 1 (commands.Input 0 ∷ for_file commands.WriteVtree vtree ++ for_file (commands.Write 0) sdd
-        ++ commands.Size 0 ∷ []))
+        → AreStill (in_lines 1 (commands.Input 0 ∷ for_file commands.WriteVtree vtree
+        ++ for_file (commands.Write (0 ∷ [])) sdd ++ commands.Size 0 ∷ []))
     all_still None None = (refl, (refl, tt))
     all_still (Some vtree) None = (refl, (refl, (refl, tt)))
     all_still None (Some sdd) = (refl, (refl, (refl, tt)))

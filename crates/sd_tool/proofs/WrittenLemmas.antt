@@ -12,8 +12,8 @@ use Rattle.sd_model.specs.StartTrees.{balanced_tree, right_tree, left_tree}
 use Rattle.sd_model.specs.Tree.{Tree, IsVtree, leaves}
 use Rattle.sd_model.specs.Diagram.{Diagram}
 use Rattle.sd_model.specs.Size.{IsDiagramOf, size_of}
-use Rattle.sd_model.specs.Text.{sdd_text, vtree_text}
-use Rattle.sd_model.proofs.Determined.{diagram_determined, texts_equal}
+use Rattle.sd_model.specs.Text.{sdd_text, roots_text, vtree_text}
+use Rattle.sd_model.proofs.Determined.{diagram_determined}
 use Rattle.sd_formula.specs.declared.error.FormulaError.{FormulaError}
 use Rattle.sd_formula.specs.Dimacs.{Groups, dimacs}
 use Rattle.sd_formula.specs.Formulas.{expression_of}
@@ -51,6 +51,7 @@ use Rattle.sd_tool.specs.Written.{with_output, with_announcement}
 use Rattle.sd_tool.proofs.ByStatus.{effects_at}
 use Rattle.sd_tool.proofs.OneCourse.{steps_valid, whole_plan}
 use Rattle.sd_tool.proofs.NotOutOfMemory.{valid_start}
+use Rattle.sd_tool.proofs.RootsTexts.{texts_of_roots}
 
 -- a plan is that of an input and its tree, with the stated commands
 record FromInput (words : List (List ℕ)) (files : Files) (job : Job) (plan : Plan) : Type 0 where
@@ -210,8 +211,8 @@ vtree_done input state last line file rest effects (mid, first, others, step, st
 
 diagram_done : (input : Groups) (state last : State) (line : ℕ) (file : List ℕ) (rest : List NumberedCommand)
     (effects : List Effect)
-    → Steps input state (record { line = line; command = commands.Write 0 file } ∷ rest) effects last
-    → (text : List ℕ) × IsTextOf state.tree (formula_named state 0) text
+    → Steps input state (record { line = line; command = commands.Write (0 ∷ []) file } ∷ rest) effects last
+    → (text : List ℕ) × IsTextOf state.tree (formula_named state 0 ∷ []) text
     × Before input state last rest (Write file text) effects
 diagram_done input state last line file rest effects (mid, first, others, step, steps, is) =
     (step.0, step.1, first_done input state mid last rest _ first others effects step.2 steps is)
@@ -238,15 +239,24 @@ size_done input state last line effects (mid, first, others, step, steps, is) =
           ∙ ap (λ n. Print (size_line n) ∷ []) size,
     )
 
+-- the text of one root is that of its diagram
+pub single_text : (tree : Tree) (f : Expression) (text : List ℕ) → IsTextOf tree (f ∷ []) text
+    → (d : Diagram) × IsDiagramOf tree f d × (text ≡ sdd_text d)
+unfolding sdd_text
+single_text tree f text is =
+    let one = one_diagram tree f is.diagrams is.of_values in
+    (one.0, one.1, is.is ∙ ap roots_text one.2)
+
 -- the written text is that of the diagram whose size was printed
-same_text : (tree : Tree) (f : Expression) (d : Diagram) (text : List ℕ) → IsVtree tree → IsTextOf tree f text
+same_text : (tree : Tree) (f : Expression) (d : Diagram) (text : List ℕ) → IsVtree tree → IsTextOf tree (f ∷ []) text
     → IsDiagramOf tree f d → text ≡ sdd_text d
 same_text tree f d text valid is of_value =
-    is.is ∙ ap sdd_text (diagram_determined tree f is.diagram d valid is.of_value of_value)
+    let one = single_text tree f text is in
+    one.2 ∙ ap sdd_text (diagram_determined tree f one.0 d valid one.1 of_value)
 
 diagram_and_size : (input : Groups) (state last : State) (line : ℕ) (file : List ℕ) (effects : List Effect)
     → IsVtree state.tree
-    → Steps input state (in_lines line (commands.Write 0 file ∷ commands.Size 0 ∷ [])) effects last
+    → Steps input state (in_lines line (commands.Write (0 ∷ []) file ∷ commands.Size 0 ∷ [])) effects last
     → AllDone state None (Some file) effects
 diagram_and_size input state last line file effects valid p =
     let one = diagram_done input state last line file (in_lines (line + 1) (commands.Size 0 ∷ [])) effects p in
@@ -269,7 +279,7 @@ all_done : (input : Groups) (state last : State) (line : ℕ) (out_vtree out_sdd
     (effects : List Effect) → IsVtree state.tree
     → Steps input state
     (in_lines line
-    (for_file commands.WriteVtree out_vtree ++ for_file (commands.Write 0) out_sdd ++ commands.Size 0 ∷ []))
+    (for_file commands.WriteVtree out_vtree ++ for_file (commands.Write (0 ∷ [])) out_sdd ++ commands.Size 0 ∷ []))
     effects last
     → AllDone state out_vtree out_sdd effects
 all_done input state last line None None effects valid p = size_alone input state last line effects p
@@ -284,7 +294,7 @@ all_done input state last line (Some file) None effects valid p =
     }
 all_done input state last line (Some file) (Some other) effects valid p =
     let one = vtree_done input state last line file
-    (in_lines (line + 1) (commands.Write 0 other ∷ commands.Size 0 ∷ [])) effects p in
+    (in_lines (line + 1) (commands.Write (0 ∷ []) other ∷ commands.Size 0 ∷ [])) effects p in
     let rest = diagram_and_size input state last (line + 1) other one.others valid one.steps in record {
       diagram = rest.diagram;
       of_value = rest.of_value;
@@ -395,7 +405,8 @@ plan_writes words files job plan last effects old new told from valid steps is =
     let told_of = announced_done own.input own.start last job.input from.formula (default_of job) effects own_steps in
     let bound = after_input own.input own.start last 1
     (in_lines 2
-    (for_file commands.WriteVtree job.out_vtree ++ for_file (commands.Write 0) job.out_sdd ++ commands.Size 0 ∷ []))
+    (for_file commands.WriteVtree job.out_vtree ++ for_file (commands.Write (0 ∷ [])) job.out_sdd
+    ++ commands.Size 0 ∷ []))
     told_of.others told_of.steps in
     writes files job from.formula from.tree told_of.others old new told
     (all_done own.input (compiled job from.formula from.tree) last 2 job.out_vtree job.out_sdd told_of.others own_valid
@@ -428,19 +439,19 @@ written_at words status kept old new went = λ files job zero_ told named alone.
 
 -- ---- equal texts
 
--- two texts for a vtree are equal exactly if their formulas are one function
-equal_to : (tree : Tree) (f g : Expression) (a b : List ℕ) → IsVtree tree → IsTextOf tree f a → IsTextOf tree g b
-    → (a ≡ b) ↔ AreOneFunction (leaves tree) f g
-equal_to tree f g a b valid p q =
-    subst (λ x. (x ≡ b) ↔ AreOneFunction (leaves tree) f g) (sym p.is)
-    (subst (λ y. (sdd_text p.diagram ≡ y) ↔ AreOneFunction (leaves tree) f g) (sym q.is)
-    (texts_equal tree f g p.diagram q.diagram valid p.of_value q.of_value))
+-- two texts for a vtree are equal exactly if their formulas are as many, and one function at each place
+equal_to : (tree : Tree) (fs gs : List Expression) (a b : List ℕ) → IsVtree tree → IsTextOf tree fs a
+    → IsTextOf tree gs b → (a ≡ b) ↔ AllZip (AreOneFunction (leaves tree)) fs gs
+equal_to tree fs gs a b valid p q =
+    subst (λ x. (x ≡ b) ↔ AllZip (AreOneFunction (leaves tree)) fs gs) (sym p.is)
+    (subst (λ y. (roots_text p.diagrams ≡ y) ↔ AllZip (AreOneFunction (leaves tree)) fs gs) (sym q.is)
+    (texts_of_roots tree fs gs p.diagrams q.diagrams valid p.of_values q.of_values))
 
 -- and so for two writes of a run
 pub equal_texts : (words : List (List ℕ)) (told : Option Files) → HasEqualTexts words told
-equal_texts words told = λ plan f g tree a b led first second.
+equal_texts words told = λ plan fs gs tree a b led first second.
     let reached = first.at.reaches in
     let valid =
     steps_valid plan.input plan.start first.state reached.done first.effects (valid_start told words plan led)
     reached.steps in
-    equal_to tree f g a b (subst IsVtree (sym first.tree_is) valid) first.text_is second.text_is
+    equal_to tree fs gs a b (subst IsVtree (sym first.tree_is) valid) first.text_is second.text_is

@@ -3,7 +3,6 @@ use Rattle.std.specs.Prelude.{◌≡◌, ◌⊎◌, ℕ, ◌+◌, ◌<◌, ◌�
 use Rattle.std.specs.Prelude.{List, [], ◌∷◌, ◌++◌, length, slice_index_or, if◌then◌else◌}
 use Rattle.std.specs.Prelude.{Option, Some, None, Result, Ok, Err}
 use Rattle.std.specs.List.{list_all}
-use Rattle.std.specs.Option.{is_some}
 use Rattle.sd_base.specs.Files.{Files, bytes_at}
 use Rattle.sd_model.specs.Tree.{Tree}
 use Rattle.sd_model.specs.declared.trees.Move.TheVariants.{Swap}
@@ -87,20 +86,14 @@ in_lines line (command ∷ commands) = record { line = line; command = command }
 abbrev pub default_of : Job → List NumberedCommand
 default_of job =
     in_lines 1
-    (commands.Input 0 ∷ for_file commands.WriteVtree job.out_vtree ++ for_file (commands.Write 0) job.out_sdd
+    (commands.Input 0 ∷ for_file commands.WriteVtree job.out_vtree ++ for_file (commands.Write (0 ∷ [])) job.out_sdd
     ++ commands.Size 0 ∷ [])
-
--- the name of a list of one; texts of several roots are read in scripts, and runs do not write them yet
-abbrev pub only_name : List ℕ → Option ℕ
-only_name (name ∷ []) = Some name
-only_name names = None
 
 -- a command of a script that runs have yet
 abbrev pub is_served : Action → Bool
 is_served (actions.Turn Swap p) = true
 is_served (actions.Turn kind p) = false
 is_served (actions.Minimise rounds) = false
-is_served (actions.Write names file) = is_some (only_name names)
 is_served action = true
 
 -- the name of a file of a script
@@ -116,11 +109,6 @@ with_sdd_reading file next (Ok read) = next read
 abbrev pub with_sdd : ℕ → List ℕ → (File → Reading) → Text → Reading
 with_sdd v file next TooLong = Refuses (LongFile file)
 with_sdd v file next (Whole bytes) = with_sdd_reading file next (sdd_file v bytes)
-
--- what follows, where there is only one name
-abbrev pub with_only_name : (ℕ → Reading) → Option ℕ → Reading
-with_only_name next None = Refuses NotYet
-with_only_name next (Some name) = next name
 
 -- a command of a script as one of the run; a file that it loads is read
 abbrev pub with_action : ℕ → Script → (RunCommand → Reading) → Action → Reading
@@ -139,8 +127,7 @@ with_action v script next (actions.Limit limit) = next (commands.Limit limit)
 with_action v script next (actions.Same a b) = next (commands.Same a b)
 with_action v script next (actions.Size a) = next (commands.Size a)
 with_action v script next (actions.Value a bits) = next (commands.Value a bits)
-with_action v script next (actions.Write names file) =
-    with_only_name (λ name. next (commands.Write name (file_name script file))) (only_name names)
+with_action v script next (actions.Write names file) = next (commands.Write names (file_name script file))
 with_action v script next (actions.Vtree file) = next (commands.WriteVtree (file_name script file))
 with_action v script next action = Refuses NotYet
 

@@ -1,5 +1,6 @@
 -- What the written files are, said without the course of the run.
-use Rattle.std.specs.Prelude.{◌≡◌, ◌↔◌, ℕ, ◌≤◌, true, List, [], ◌∷◌, length, Option, Some, None, Ok}
+use Rattle.std.specs.Prelude.{◌≡◌, ◌↔◌, ℕ, ◌≤◌, true, List, [], ◌∷◌, map, length, Option, Some, None, Ok}
+use Rattle.std.specs.List.{AllZip}
 use Rattle.sd_base.specs.Files.{Files, bytes_at, with_file}
 use Rattle.sd_base.specs.Sink.{told_then}
 use Rattle.sd_model.specs.Expression.{Expression, AreOneFunction}
@@ -85,23 +86,23 @@ HasWritten words status old new = (files : Files) (job : Job) → status ≡ 0 �
     → (formula : Groups) × (tree : Tree) × IsInput words files job formula
     × IsStartTree files job.tree formula.variables tree × IsWritten files job formula tree old.contents new.contents
 
--- A command of the plan that writes a diagram is reached: the formula of its name and the tree there, and the text that
--- it writes.
-pub record Writes (plan : Plan) (f : Expression) (tree : Tree) (text : List ℕ) : Type 0 where
-  pub name : ℕ
+-- A command of the plan that writes diagrams is reached: the formulas of its names and the tree there, and the text
+-- that it writes.
+pub record Writes (plan : Plan) (fs : List Expression) (tree : Tree) (text : List ℕ) : Type 0 where
+  pub names : List ℕ
   pub file : List ℕ
   pub effects : List Effect
   pub state : State
   pub next : NumberedCommand
   pub at : IsAtCommand plan effects state next
-  pub writes : next.command ≡ commands.Write name file
-  pub formula : f ≡ formula_named state name
+  pub writes : next.command ≡ commands.Write names file
+  pub formulas : fs ≡ map (formula_named state) names
   pub tree_is : tree ≡ state.tree
-  pub text_is : IsTextOf tree f text
+  pub text_is : IsTextOf tree fs text
 
--- Two writes of a run at one tree have equal texts exactly if their formulas are one function. The command `same`
--- prints that answer.
+-- Two writes of a run at one tree have equal texts exactly if both name as many roots and the formulas at each place
+-- are one function. The command `same` prints that answer for single names.
 abbrev pub HasEqualTexts : List (List ℕ) → Option Files → Type 0
-HasEqualTexts words files = (plan : Plan) (f g : Expression) (tree : Tree) (a b : List ℕ)
-    → ReadsTo files (reading_of words) (Begins plan) → Writes plan f tree a → Writes plan g tree b
-    → (a ≡ b) ↔ AreOneFunction (leaves tree) f g
+HasEqualTexts words files = (plan : Plan) (fs gs : List Expression) (tree : Tree) (a b : List ℕ)
+    → ReadsTo files (reading_of words) (Begins plan) → Writes plan fs tree a → Writes plan gs tree b
+    → (a ≡ b) ↔ AllZip (AreOneFunction (leaves tree)) fs gs

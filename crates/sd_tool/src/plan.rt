@@ -8,6 +8,7 @@ ghost use Rattle.sd_tool.specs.Readings.{for_file, default_of, announcement};
 use sd_base::Name;
 use sd_commands::{NumberedCommand, RunCommand, RunState};
 use sd_formula::Formula;
+use sd_script::Indices;
 use sd_words::{InputWord, Job};
 use std::alloc::{AllocError, Global};
 
@@ -84,14 +85,14 @@ fn push_diagram(
 ) -> Result<(), AllocError>
     requires few { length commands.old.items ≤ 3 }
     ensures lines { OnOk result (commands.new.items
-        ≡ behind commands.old.items (for_file (Write 0) file.now)) }
+        ≡ behind commands.old.items (for_file (Write (0 ∷ [])) file.now)) }
     ensures count { OnOk result (length commands.new.items ≤ length commands.old.items + 1) }
 {
     if let Some(file) = file {
-        push_line(
-            commands,
-            RunCommand::Write(0, Name::copy_of(alloc, file.as_str())?),
-        )?;
+        let mut names = Vec::new(alloc);
+        names.push(0)?;
+        let name = Name::copy_of(alloc, file.as_str())?;
+        push_line(commands, RunCommand::Write(Indices::new(names), name))?;
     }
     Ok(())
 }

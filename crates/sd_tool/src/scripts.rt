@@ -10,8 +10,9 @@ ghost use Rattle.sd_script.specs.Scripts.{script_of};
 ghost use Rattle.sd_commands.specs.Fits.{AllFit};
 ghost use Rattle.sd_commands.specs.declared.command.NumberedCommand.{NumberedCommand as SeenLine};
 ghost use Rattle.sd_commands.specs.declared.command.RunCommand.{RunCommand as Seen};
+ghost use Rattle.sd_commands.specs.declared.command.RunCommand.TheVariants.{Write};
 ghost use Rattle.sd_tool.specs.Readings.{Reading, Reads, with_commands, with_script_text, script_reading};
-ghost use Rattle.sd_tool.specs.Readings.{with_lines, with_action, with_sdd, is_served, only_name};
+ghost use Rattle.sd_tool.specs.Readings.{with_lines, with_action, with_sdd, is_served};
 ghost use Rattle.sd_tool.specs.Actions.{IsCommandOf, plain_of};
 ghost use Rattle.sd_tool.specs.Stops.{LeadsTo, GivesText, StopsFor};
 ghost use Rattle.sd_tool.specs.declared.refusal.Refusal.TheVariants as refusals;
@@ -24,7 +25,7 @@ use sd_base::{Bits, Name, Shelf};
 use sd_commands::{NumberedCommand, RunCommand};
 use sd_file::{SddFault, SddFile, read_sdd};
 use sd_model::Move;
-use sd_script::{Action, Command as Line, Script, ScriptFault, read_script};
+use sd_script::{Action, Command as Line, Indices, Script, ScriptFault, read_script};
 use sd_words::Job;
 use std::alloc::{AllocError, Global};
 
@@ -164,7 +165,6 @@ fn is_served(action: &Action) -> bool
     match action {
         Action::Turn(Move::Swap, _) => true,
         Action::Turn(..) | Action::Minimise(_) => false,
-        Action::Write(names, _) => only_name(names.as_slice()).is_some(),
         _ => true,
     }
 }
@@ -309,12 +309,9 @@ fn file_command<F: Shelf>(
             Ok(read) => Ok(RunCommand::Load(*name, read)),
             Err(stop) => Err(stop),
         },
-        Action::Write(names, file) => match only_name(names.as_slice()) {
-            Some(name) => match Name::copy_of(alloc, script.file(*file)) {
-                Ok(file) => Ok(RunCommand::Write(name, file)),
-                Err(_) => Err(Stop::OutOfMemory),
-            },
-            None => Err(Stop::Refused(Refusal::NotYet)),
+        Action::Write(names, file) => match write_command(alloc, names, script.file(*file)) {
+            Ok(command) => Ok(command),
+            Err(_) => Err(Stop::OutOfMemory),
         },
         Action::Vtree(file) => match Name::copy_of(alloc, script.file(*file)) {
             Ok(file) => Ok(RunCommand::WriteVtree(file)),
@@ -324,15 +321,12 @@ fn file_command<F: Shelf>(
     }
 }
 
-// The name of a list of one.
-fn only_name(names: &[u32]) -> Option<u32>
-    ensures { result ≡ only_name names.now }
+// The command that writes the diagrams of names to a file.
+fn write_command(alloc: Global, names: &Indices, file: &str) -> Result<RunCommand, AllocError>
+    ensures { IfOk result (λ command. command ≡ Write names.now file.now) }
 {
-    match names {
-        [] => None,
-        [name] => Some(*name),
-        [_, _, ..] => None,
-    }
+    let names = Indices::new(names.as_slice().to_vec(alloc)?);
+    Ok(RunCommand::Write(names, Name::copy_of(alloc, file)?))
 }
 
 // The SDD file of this name, over so many variables.

@@ -68,6 +68,51 @@ fn an_input_file_may_be_written(rt: HostRuntime) -> Result<(), Fail> {
     Ok(())
 }
 
+// `1 and 2` and `1 or 2`, with the literals.
+const AND_AND_OR: &str = "lit a 1\nlit b 2\nand g a b\nor h a b\n";
+
+/// Several roots stand in one file, in the order of their names. A load of it gives the diagram that is complete last.
+#[test]
+fn several_roots_are_written(rt: HostRuntime) -> Result<(), Fail> {
+    let alloc = rt.alloc();
+    let table = [
+        (
+            "g h",
+            "sdd 7\nL 0 0 -1\nF 1\nL 2 0 1\nL 3 2 2\nD 4 1 2 0 1 2 3\nT 5\n\
+D 6 1 2 0 3 2 5\nc root 0 4\nc root 1 6\n",
+            "differ\nsame\n",
+        ),
+        (
+            "a g",
+            "sdd 5\nL 0 0 1\nL 1 0 -1\nF 2\nL 3 2 2\nD 4 1 2 1 2 0 3\nc root 0 0\nc root 1 4\n",
+            "same\ndiffer\n",
+        ),
+        (
+            "g a",
+            "sdd 5\nL 0 0 -1\nF 1\nL 2 0 1\nL 3 2 2\nD 4 1 2 0 1 2 3\nc root 0 4\nc root 1 2\n",
+            "same\ndiffer\n",
+        ),
+        (
+            "a a",
+            "sdd 1\nL 0 0 1\nc root 0 0\nc root 1 0\n",
+            "differ\ndiffer\n",
+        ),
+    ];
+    for (names, text, printed) in table {
+        let script = format!(in alloc; "{}write {names} out\n", AND_AND_OR)?;
+        let files = two_files(alloc, NO_CLAUSES, "s", &script)?;
+        let end = ran(&rt, alloc, "--cnf in --script s", files)?;
+        assert!(rt; end.ended(0, "", ""), "{names}");
+        assert!(rt; end.holds("out", text), "{names}");
+        let script = format!(in alloc; "{}load x part\nsame x g\nsame x h\n", AND_AND_OR)?;
+        let mut files = two_files(alloc, NO_CLAUSES, "s", &script)?;
+        files.push(file(alloc, "part", text.as_bytes())?)?;
+        let end = ran(&rt, alloc, "--cnf in --script s", files)?;
+        assert!(rt; end.ended(0, printed, ""), "{names}");
+    }
+    Ok(())
+}
+
 // A diagram that is not compressed, with the vtree ids of another vtree.
 const NOT_COMPRESSED: &str =
     "c made elsewhere\nsdd 4\nL 0 9 1\nL 1 9 -1\nL 3 7 2\nD 2 8 2 0 3 1 3\n";
