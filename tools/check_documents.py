@@ -138,6 +138,26 @@ def stored_runs():
     return runs
 
 
+def sizes_in(text):
+    """The size of each root of an SDD file: of those that its lines name, or else of its last node."""
+    below, roots = {}, []
+    for words in map(str.split, text.splitlines()[1:]):
+        if words[0] != "c":
+            below[words[1]] = words[4:] if words[0] == "D" else []
+        elif words[1] == "root":
+            roots.append(words[3])
+    sizes = []
+    for root in roots or list(below)[-1:]:
+        seen, left = set(), [root]
+        while left:
+            node = left.pop()
+            if node not in seen:
+                seen.add(node)
+                left += below[node]
+        sizes.append(sum(len(below[node]) // 2 for node in seen))
+    return sizes
+
+
 def check_commands(program):
     runs = stored_runs()
     stored = set(words for words, _, _ in runs)
@@ -147,8 +167,9 @@ def check_commands(program):
         for name, same in files:
             expect(os.path.exists(os.path.join(TOP, same)), "examples/expected.txt: there is no %s" % same)
             expect(name in words.split() or ".script" in words, "examples/expected.txt: %s is not written" % name)
-            size = sum(int(line.split()[3]) for line in text_of(same).splitlines() if line.startswith("D "))
-            expect(printed == ["size %d" % size], "examples/expected.txt: %s has the size %d" % (same, size))
+            sizes = ["size %d" % size for size in sizes_in(text_of(same))]
+            expect([line for line in printed if line.startswith("size ")] == sizes,
+                   "examples/expected.txt: %s has %s" % (same, ", ".join(sizes)))
     if program:
         for words, printed, files in runs:
             run_stored(program, words, printed, files)
@@ -163,7 +184,8 @@ def run_stored(program, words, printed, files):
         run = subprocess.run([os.path.abspath(program)] + moved, cwd=folder, stdout=subprocess.PIPE, text=True)
         expect(run.returncode == 0 and run.stdout.splitlines() == printed, "./sddc %s: printed %r" % (words, run.stdout))
         for name, same in files:
-            path = os.path.join(folder, os.path.basename(name))
+            # A file that a script names is written where the script says.
+            path = os.path.join(folder, os.path.basename(name)) if name in words.split() else name
             written = open(path, encoding="utf-8").read() if os.path.exists(path) else None
             expect(written == text_of(same), "./sddc %s: %s differs from %s" % (words, name, same))
 
