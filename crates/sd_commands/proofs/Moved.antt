@@ -1,12 +1,13 @@
--- Swaps of plain vtrees: they have the same variables, and none is made past the last position.
+-- Moves of plain vtrees: they keep the variables, and none is made past the last position.
 use Rattle.std.proofs.Common.{◌≡◌, ℕ, zero, suc, ◌+◌, ◌*◌, ◌≤◌, false, List, [], ◌∷◌, ◌++◌, length, slice_get}
-use Rattle.std.proofs.Common.{Option, Some, None, refl, sym, ap, subst, ◌∙◌, arith, length-append, eqb, ltb}
+use Rattle.std.proofs.Common.{Option, Some, None, refl, sym, ap, subst, ◌∙◌, arith, eqb, ltb}
+use Rattle.std.proofs.Common.{length-append, append_assoc}
 use Rattle.std.specs.Option.{option_map, option_and_then}
 use Rattle.std.proofs.lemmas.Bool.{ne_eqb, le-ltb}
 use Rattle.sd_model.specs.declared.trees.Side.{Side}
 use Rattle.sd_model.specs.declared.trees.Side.TheVariants.{Left, Right}
 use Rattle.sd_model.specs.declared.trees.Move.{Move}
-use Rattle.sd_model.specs.declared.trees.Move.TheVariants.{Swap}
+use Rattle.sd_model.specs.declared.trees.Move.TheVariants.{RotateLeft, RotateRight, Swap}
 use Rattle.sd_model.specs.Tree.{Tree, Leaf, Node, variables, leaves, position, right_base, IsVtree}
 use Rattle.sd_model.specs.Moves.{moved, moved_root, moved_at, path_to}
 use Rattle.sd_vtree.specs.Numbered.{Numbered, plain_tree, numbers, times}
@@ -64,41 +65,64 @@ sides_reordered l r = record {
   count = omega (arith, length-append (variables l) (variables r), length-append (variables r) (variables l));
 }
 
--- a swap of the root
-root_reordered : (t u : Tree) → moved_root Swap t ≡ Some u → IsReordered t u
-root_reordered (Leaf x) u is = absurd cc
-root_reordered (Node l r) u is = let same : Node r l ≡ u = cc in subst (IsReordered (Node l r)) same (sides_reordered l r)
+-- and three parts in other brackets
+brackets_reordered : (a b c : Tree) → IsReordered (Node (Node a b) c) (Node a (Node b c))
+brackets_reordered a b c = record {
+  often = λ k. ap (times k) (sym (append_assoc (variables a) (variables b) (variables c)));
+  count = ap length (sym (append_assoc (variables a) (variables b) (variables c)));
+}
 
--- a swap at the end of a path
-path_reordered : (t u : Tree) (path : List Side) → moved Swap t path ≡ Some u → IsReordered t u
-path_reordered t u [] is = root_reordered t u is
-path_reordered (Leaf x) u (side ∷ path) is = absurd cc
-path_reordered (Node l r) u (Left ∷ path) is =
-    go (λ m at. path_reordered l m path at) (moved Swap l path) refl is
+-- the other way round
+reordered_back : (t u : Tree) → IsReordered t u → IsReordered u t
+reordered_back t u h = record { often = λ k. sym (h.often k); count = sym h.count }
+
+-- a move of the root
+root_reordered : (kind : Move) (t u : Tree) → moved_root kind t ≡ Some u → IsReordered t u
+root_reordered Swap (Leaf x) u is = absurd cc
+root_reordered Swap (Node l r) u is =
+    let same : Node r l ≡ u = cc in subst (IsReordered (Node l r)) same (sides_reordered l r)
+root_reordered RotateRight (Leaf x) u is = absurd cc
+root_reordered RotateRight (Node (Leaf x) c) u is = absurd cc
+root_reordered RotateRight (Node (Node a b) c) u is =
+    let same : Node a (Node b c) ≡ u = cc in
+    subst (IsReordered (Node (Node a b) c)) same (brackets_reordered a b c)
+root_reordered RotateLeft (Leaf x) u is = absurd cc
+root_reordered RotateLeft (Node a (Leaf x)) u is = absurd cc
+root_reordered RotateLeft (Node a (Node b c)) u is =
+    let same : Node (Node a b) c ≡ u = cc in
+    subst (IsReordered (Node a (Node b c))) same
+    (reordered_back (Node (Node a b) c) (Node a (Node b c)) (brackets_reordered a b c))
+
+-- a move at the end of a path
+path_reordered : (kind : Move) (t u : Tree) (path : List Side) → moved kind t path ≡ Some u → IsReordered t u
+path_reordered kind t u [] is = root_reordered kind t u is
+path_reordered kind (Leaf x) u (side ∷ path) is = absurd cc
+path_reordered kind (Node l r) u (Left ∷ path) is =
+    go (λ m at. path_reordered kind l m path at) (moved kind l path) refl is
   where
-    go : ((m : Tree) → moved Swap l path ≡ Some m → IsReordered l m) → (o : Option Tree) → moved Swap l path ≡ o
+    go : ((m : Tree) → moved kind l path ≡ Some m → IsReordered l m) → (o : Option Tree) → moved kind l path ≡ o
         → option_map (λ m. Node m r) o ≡ Some u → IsReordered (Node l r) u
     go below None at e = absurd cc
     go below (Some m) at e =
         let same : Node m r ≡ u = cc in
         subst (IsReordered (Node l r)) same (left_reordered l r m (below m at))
-path_reordered (Node l r) u (Right ∷ path) is =
-    go (λ m at. path_reordered r m path at) (moved Swap r path) refl is
+path_reordered kind (Node l r) u (Right ∷ path) is =
+    go (λ m at. path_reordered kind r m path at) (moved kind r path) refl is
   where
-    go : ((m : Tree) → moved Swap r path ≡ Some m → IsReordered r m) → (o : Option Tree) → moved Swap r path ≡ o
+    go : ((m : Tree) → moved kind r path ≡ Some m → IsReordered r m) → (o : Option Tree) → moved kind r path ≡ o
         → option_map (λ m. Node l m) o ≡ Some u → IsReordered (Node l r) u
     go below None at e = absurd cc
     go below (Some m) at e =
         let same : Node l m ≡ u = cc in
         subst (IsReordered (Node l r)) same (right_reordered l r m (below m at))
 
--- a swap at a position
-pub swap_reordered : (t u : Tree) (p : ℕ) → moved_at Swap t p ≡ Some u → IsReordered t u
-swap_reordered t u p is = go (path_to t 0 p) is
+-- a move at a position
+pub move_reordered : (kind : Move) (t u : Tree) (p : ℕ) → moved_at kind t p ≡ Some u → IsReordered t u
+move_reordered kind t u p is = go (path_to t 0 p) is
   where
-    go : (o : Option (List Side)) → option_and_then (λ path. moved Swap t path) o ≡ Some u → IsReordered t u
+    go : (o : Option (List Side)) → option_and_then (λ path. moved kind t path) o ≡ Some u → IsReordered t u
     go None e = absurd cc
-    go (Some path) e = path_reordered t u path e
+    go (Some path) e = path_reordered kind t u path e
 
 -- ---- positions past the last
 

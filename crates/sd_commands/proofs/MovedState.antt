@@ -6,7 +6,6 @@ use Rattle.std.specs.List.{AllZip}
 use Rattle.std.specs.FinMap.{FinMap, get}
 use Rattle.std.specs.Ordering.{nat_cmp}
 use Rattle.sd_model.specs.declared.trees.Move.{Move}
-use Rattle.sd_model.specs.declared.trees.Move.TheVariants.{Swap}
 use Rattle.sd_model.specs.Tree.{Tree, leaves, IsVtree}
 use Rattle.sd_model.specs.Moves.{moved_at}
 use Rattle.sd_model.specs.Diagram.{Diagram}
@@ -38,7 +37,7 @@ use Rattle.sd_commands.specs.Standing.{error_of_move}
 use Rattle.sd_commands.specs.declared.command.RunCommand.TheVariants as commands
 use Rattle.sd_commands.specs.declared.state.RunState.{RunState}
 use Rattle.sd_commands.proofs.Limits.{held_formulas}
-use Rattle.sd_commands.proofs.Moved.{IsReordered, vtree_reordered, swap_reordered}
+use Rattle.sd_commands.proofs.Moved.{IsReordered, vtree_reordered, move_reordered}
 use Rattle.sd_commands.proofs.Standing.{as_before_kept}
 
 -- ---- the size of formulas whose diagrams are those of a list
@@ -135,8 +134,8 @@ serves_runs cache t new loose free is serves = subst (Serves cache) (sym is) (re
       };
 })
 
-module _ (code : RunState) (mid new : Table) (place : ℕ) (j : Journal) (t : IsTable code.manager) (u : IsTable mid)
-    (m : IsMoved code.manager mid Swap place j) (settled : IsSettledBy mid new j)
+module _ (code : RunState) (mid new : Table) (kind : Move) (place : ℕ) (j : Journal) (t : IsTable code.manager)
+    (u : IsTable mid) (m : IsMoved code.manager mid kind place j) (settled : IsSettledBy mid new j)
     (count : leaves (plain_tree mid.vtree) ≡ leaves (plain_tree code.manager.vtree)) where
   -- a root holds its formula still
   value_moved : (root : ℕ) (f : Expression) → HoldsValue code.manager root f → HoldsValue new root f
@@ -151,7 +150,7 @@ module _ (code : RunState) (mid new : Table) (place : ℕ) (j : Journal) (t : Is
           canonical = shown.is.canonical;
           same_value = λ a fits.
               value_of_shown mid.vtree (get mid.linked) u.numbered h.is.code shown.diagram shown.is a
-              ∙ value_then code.manager mid Swap place j t u m h.is.code
+              ∙ value_then code.manager mid kind place j t u m h.is.code
               (λ n is. reached_first (inl (root, h.is.held ∙ ap Some is))) h.diagram h.is.is a
               ∙ h.of_value.same_value a (fits ∙ count);
         };
@@ -189,37 +188,39 @@ module _ (code : RunState) (mid new : Table) (place : ℕ) (j : Journal) (t : Is
 -- ---- the command
 
 -- the moved tree, where a move of the numbered one is that of the plain one
-abbrev pub IsPlainMove : Numbered → ℕ → ℕ → Type 0
-IsPlainMove tree p place = moved_at Swap (plain_tree tree) p ≡ option_map plain_tree (moved_number Swap tree place)
+abbrev pub IsPlainMove : Move → Numbered → ℕ → ℕ → Type 0
+IsPlainMove kind tree p place = moved_at kind (plain_tree tree) p ≡ option_map plain_tree (moved_number kind tree place)
 
 -- it is, where this holds of the vtree that is lent out
-pub plain_law : (tree lent : Numbered) (p place : ℕ) → lent ≡ tree → slice_get (numbers lent) p ≡ Some place
-    → ((q : ℕ) → slice_get (numbers lent) q ≡ Some place → IsPlainMove lent q place) → IsPlainMove tree p place
-plain_law tree lent p place same at law = subst (λ v. IsPlainMove v p place) same (law p at)
+pub plain_law : (kind : Move) (tree lent : Numbered) (p place : ℕ) → lent ≡ tree
+    → slice_get (numbers lent) p ≡ Some place
+    → ((q : ℕ) → slice_get (numbers lent) q ≡ Some place → IsPlainMove kind lent q place)
+    → IsPlainMove kind tree p place
+plain_law kind tree lent p place same at law = subst (λ v. IsPlainMove kind v p place) same (law p at)
 
 -- it has the same variables
-pub plain_reordered : (tree u : Numbered) (p place : ℕ) → IsPlainMove tree p place → moved_number Swap tree place ≡ Some u
-    → IsReordered (plain_tree tree) (plain_tree u)
-plain_reordered tree u p place law is =
-    swap_reordered (plain_tree tree) (plain_tree u) p (law ∙ ap (option_map plain_tree) is)
+pub plain_reordered : (kind : Move) (tree u : Numbered) (p place : ℕ) → IsPlainMove kind tree p place
+    → moved_number kind tree place ≡ Some u → IsReordered (plain_tree tree) (plain_tree u)
+plain_reordered kind tree u p place law is =
+    move_reordered kind (plain_tree tree) (plain_tree u) p (law ∙ ap (option_map plain_tree) is)
 
-module _ (input : Groups) (code : RunState) (seen : State) (p place : ℕ) (was : Represents code seen)
-    (law : IsPlainMove code.manager.vtree p place) where
+module _ (input : Groups) (code : RunState) (seen : State) (kind : Move) (p place : ℕ) (was : Represents code seen)
+    (law : IsPlainMove kind code.manager.vtree p place) where
   -- what the tree of the state becomes
-  state_tree : (o : Option Numbered) → moved_number Swap code.manager.vtree place ≡ o
-      → moved_at Swap seen.tree p ≡ option_map plain_tree o
-  state_tree o is = ap (λ t. moved_at Swap t p) was.tree ∙ law ∙ ap (option_map plain_tree) is
+  state_tree : (o : Option Numbered) → moved_number kind code.manager.vtree place ≡ o
+      → moved_at kind seen.tree p ≡ option_map plain_tree o
+  state_tree o is = ap (λ t. moved_at kind t p) was.tree ∙ law ∙ ap (option_map plain_tree) is
 
-  -- the swap is done
-  pub swap_done : (mid : Table) (new : RunState) (size : ℕ) → IsNumbered code.manager.vtree
-      → moved_number Swap code.manager.vtree place ≡ Some mid.vtree → HasSizeAfter code.manager Swap place size
+  -- the move is done
+  pub turn_done : (mid : Table) (new : RunState) (size : ℕ) → IsNumbered code.manager.vtree
+      → moved_number kind code.manager.vtree place ≡ Some mid.vtree → HasSizeAfter code.manager kind place size
       → size ≤ code.limit → Represents new (record seen { tree = plain_tree mid.vtree })
-      → StepsTo input seen (commands.Swap p) new None
-  swap_done mid new size numbered moved h within represents =
+      → StepsTo input seen (commands.Turn kind p) new None
+  turn_done mid new size numbered moved h within represents =
       let one : ◌≡◌ {A = Option Numbered} (Some h.tree) (Some mid.vtree) = sym h.turned ∙ moved in
       let same : h.tree ≡ mid.vtree = cc in
-      let total = size_moved code seen Swap place size numbered was h
-      (plain_reordered code.manager.vtree h.tree p place law h.turned) in
+      let total = size_moved code seen kind place size numbered was h
+      (plain_reordered kind code.manager.vtree h.tree p place law h.turned) in
       let in_ : AreWithin (formulas_of seen) (plain_tree mid.vtree) seen.limit = record {
         size = size;
         total = subst (λ (v : Numbered). HasSize (formulas_of seen) (plain_tree v) size) same total;
@@ -233,24 +234,24 @@ module _ (input : Groups) (code : RunState) (seen : State) (p place : ℕ) (was 
       }
 
   -- or it stops
-  pub swap_stops : (new : Table) (e : MoveError) → IsNumbered code.manager.vtree → new.bound ≡ 2147483647
-      → IsMoveRefusal code.manager new Swap place code.limit e
-      → StopsAt input seen (commands.Swap p) new (error_of_move e)
-  swap_stops new refusals.NotMovable numbered bound h =
+  pub turn_stops : (new : Table) (e : MoveError) → IsNumbered code.manager.vtree → new.bound ≡ 2147483647
+      → IsMoveRefusal code.manager new kind place code.limit e
+      → StopsAt input seen (commands.Turn kind p) new (error_of_move e)
+  turn_stops new refusals.NotMovable numbered bound h =
       subst (λ o. Moves seen o NotMovable) (sym (state_tree None h)) refl
-  swap_stops new (refusals.OverMost size limit) numbered bound h =
+  turn_stops new (refusals.OverMost size limit) numbered bound h =
       subst (λ o. Moves seen o (OverLimit None size limit)) (sym (state_tree (Some h.2.tree) h.2.turned))
       (inr (
         size,
         record {
-          total = size_moved code seen Swap place size numbered was h.2
-              (plain_reordered code.manager.vtree h.2.tree p place law h.2.turned);
+          total = size_moved code seen kind place size numbered was h.2
+              (plain_reordered kind code.manager.vtree h.2.tree p place law h.2.turned);
           passes = subst (λ l. l < size) (sym was.limit) h.1;
         },
         ap (λ l. OverLimit None size l) (h.0 ∙ sym was.limit),
       ))
-  swap_stops new (refusals.ArenaFull elements) numbered bound h = (tt, record { whole = bound; rule = h.1 })
-  swap_stops new refusals.OutOfMemory numbered bound h = tt
+  turn_stops new (refusals.ArenaFull elements) numbered bound h = (tt, record { whole = bound; rule = h.1 })
+  turn_stops new refusals.OutOfMemory numbered bound h = tt
 
 -- all is as before a move that was refused
 pub as_before_refused : (code : RunState) (t : Table) (cache : Entries) → KeepsReached code.manager t

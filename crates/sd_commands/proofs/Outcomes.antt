@@ -6,7 +6,7 @@ use Rattle.std.proofs.Math.Seq.{drop-cons}
 use Rattle.std.proofs.lemmas.Bool.{cases_eq, cases_order, eq-eqb, ne_eqb}
 use Rattle.sd_model.specs.Tree.{Tree, IsVtree}
 use Rattle.sd_model.specs.Moves.{moved_at}
-use Rattle.sd_model.specs.declared.trees.Move.TheVariants.{Swap}
+use Rattle.sd_model.specs.declared.trees.Move.{Move}
 use Rattle.sd_model.specs.Text.{roots_text}
 use Rattle.sd_model.specs.Expression.{Expression, Constant, Atom, Combined, Negated, Conditioned, Forgotten}
 use Rattle.sd_model.specs.Size.{HasSize}
@@ -23,7 +23,7 @@ use Rattle.sd_commands.specs.Standing.{names_of}
 use Rattle.sd_commands.specs.declared.command.NumberedCommand.{NumberedCommand}
 use Rattle.sd_commands.specs.declared.command.RunCommand.{RunCommand}
 use Rattle.sd_commands.specs.declared.command.RunCommand.TheVariants as commands
-use Rattle.sd_commands.proofs.Moved.{IsReordered, vtree_reordered, swap_reordered}
+use Rattle.sd_commands.proofs.Moved.{IsReordered, vtree_reordered, move_reordered}
 
 -- ---- one outcome
 
@@ -94,12 +94,12 @@ one_input input state name a b valid (inr p) (inr q) =
     ∙ sym q.3
 
 -- a move has one outcome
-one_moved : (state : State) (position : ℕ) (o : Option Tree) (a b : Outcome) → moved_at Swap state.tree position ≡ o
-    → IsVtree state.tree → Moves state o a → Moves state o b → a ≡ b
-one_moved state position None a b at valid p q = p ∙ sym q
-one_moved state position (Some tree) a b at valid p q =
+one_moved : (kind : Move) (state : State) (position : ℕ) (o : Option Tree) (a b : Outcome)
+    → moved_at kind state.tree position ≡ o → IsVtree state.tree → Moves state o a → Moves state o b → a ≡ b
+one_moved kind state position None a b at valid p q = p ∙ sym q
+one_moved kind state position (Some tree) a b at valid p q =
     one_settled (record state { tree = tree }) a b
-    (vtree_reordered state.tree tree (swap_reordered state.tree tree position at) valid) p q
+    (vtree_reordered state.tree tree (move_reordered kind state.tree tree position at) valid) p q
 
 pub one_outcome : (input : Groups) (state : State) (command : RunCommand) (a b : Outcome) → IsVtree state.tree
     → Step input state command a → Step input state command b → a ≡ b
@@ -120,8 +120,8 @@ one_outcome input state (commands.Given n x literal) a b valid p q =
 one_outcome input state (commands.Forget n x variable) a b valid p q =
     one_settled (with_name state n (Forgotten (formula_named state x) variable)) a b valid p q
 one_outcome input state (commands.Drop x) a b valid p q = p ∙ sym q
-one_outcome input state (commands.Swap position) a b valid p q =
-    one_moved state position (moved_at Swap state.tree position) a b refl valid p q
+one_outcome input state (commands.Turn kind position) a b valid p q =
+    one_moved kind state position (moved_at kind state.tree position) a b refl valid p q
 one_outcome input state (commands.Limit limit) a b valid p q =
     one_settled (record state { limit = limit }) a b valid p q
 one_outcome input state (commands.Same x y) a b valid p q =
@@ -193,19 +193,19 @@ module _ (state next : State) (effects : List Effect) where
   kept_names effect e = ap names_of (same_next _ _ _ _ e) ∙ sym (all_stay (names_of state))
 
 -- a move that is done leads to the state with a tree of the same variables
-moved_done : (state next : State) (effects : List Effect) (position : ℕ) (o : Option Tree)
-    → moved_at Swap state.tree position ≡ o → Moves state o (Done next effects)
+moved_done : (kind : Move) (state next : State) (effects : List Effect) (position : ℕ) (o : Option Tree)
+    → moved_at kind state.tree position ≡ o → Moves state o (Done next effects)
     → IsReordered state.tree next.tree × (names_of next ≡ names_of state)
-moved_done state next effects position None at p = let bad : ⊥ = cc in absurd bad
-moved_done state next effects position (Some tree) at p =
+moved_done kind state next effects position None at p = let bad : ⊥ = cc in absurd bad
+moved_done kind state next effects position (Some tree) at p =
     let same = (settled_done (record state { tree = tree }) next effects p).0 in (
-      subst (λ (s : State). IsReordered state.tree s.tree) (sym same) (swap_reordered state.tree tree position at),
+      subst (λ (s : State). IsReordered state.tree s.tree) (sym same) (move_reordered kind state.tree tree position at),
       ap names_of same,
     )
 
--- a command other than a swap
+-- a command that moves nothing
 abbrev pub KeepsTree : RunCommand → Type 0
-KeepsTree (commands.Swap position) = ⊥
+KeepsTree (commands.Turn kind position) = ⊥
 KeepsTree command = Unit {0}
 
 -- the same tree has the same variables
@@ -234,13 +234,13 @@ same_tree input state next (commands.Size x) effects keeps p = kept_tree state n
 same_tree input state next (commands.Value x bits) effects keeps p = kept_tree state next effects _ p
 same_tree input state next (commands.Write names file) effects keeps p = kept_tree state next effects _ p.2
 same_tree input state next (commands.WriteVtree file) effects keeps p = kept_tree state next effects _ p
-same_tree input state next (commands.Swap position) effects keeps p = absurd keeps
+same_tree input state next (commands.Turn kind position) effects keeps p = absurd keeps
 
 -- so each command leaves a vtree of the same variables
 pub tree_reordered : (input : Groups) (state next : State) (command : RunCommand) (effects : List Effect)
     → Step input state command (Done next effects) → IsReordered state.tree next.tree
-tree_reordered input state next (commands.Swap position) effects p =
-    (moved_done state next effects position (moved_at Swap state.tree position) refl p).0
+tree_reordered input state next (commands.Turn kind position) effects p =
+    (moved_done kind state next effects position (moved_at kind state.tree position) refl p).0
 tree_reordered input state next (commands.Generated v g) effects p =
     kept_order state next (same_tree input state next (commands.Generated v g) effects tt p)
 tree_reordered input state next (commands.Input n) effects p =
@@ -293,8 +293,8 @@ names_after input state next (commands.Given n x literal) effects p = bound_name
 names_after input state next (commands.Forget n x variable) effects p = bound_names state next effects n _ p
 names_after input state next (commands.Drop x) effects p =
     ap names_of (same_next _ _ _ _ p) ∙ names_left state.names x
-names_after input state next (commands.Swap position) effects p =
-    (moved_done state next effects position (moved_at Swap state.tree position) refl p).1
+names_after input state next (commands.Turn kind position) effects p =
+    (moved_done kind state next effects position (moved_at kind state.tree position) refl p).1
     ∙ sym (all_stay (names_of state))
 names_after input state next (commands.Limit limit) effects p =
     ap names_of (settled_done (record state { limit = limit }) next effects p).0 ∙ sym (all_stay (names_of state))

@@ -5,7 +5,6 @@ use Rattle.sd_model.specs.Expression.{Expression, Constant, Atom, Combined, Nega
 use Rattle.sd_model.specs.Expression.{expression_value, AreOneFunction}
 use Rattle.sd_model.specs.Tree.{Tree, leaves}
 use Rattle.sd_model.specs.Moves.{moved_at}
-use Rattle.sd_model.specs.declared.trees.Move.TheVariants.{Swap}
 use Rattle.sd_model.specs.Diagram.{Diagram}
 use Rattle.sd_model.specs.Size.{IsDiagramOf, HasSize}
 use Rattle.sd_model.specs.Text.{number_text, roots_text, vtree_text}
@@ -156,7 +155,7 @@ Step input state (commands.Given n a literal) outcome =
     Binds state n (Conditioned (formula_named state a) literal) outcome
 Step input state (commands.Forget n a x) outcome = Binds state n (Forgotten (formula_named state a) x) outcome
 Step input state (commands.Drop a) outcome = outcome ≡ Done (dropped state a) []
-Step input state (commands.Swap p) outcome = Moves state (moved_at Swap state.tree p) outcome
+Step input state (commands.Turn kind p) outcome = Moves state (moved_at kind state.tree p) outcome
 Step input state (commands.Limit limit) outcome = Settles (record state { limit = limit }) outcome
 Step input state (commands.Same a b) outcome =
     (answer : Bool) × Compares state.tree (formula_named state a) (formula_named state b) answer
@@ -178,7 +177,7 @@ MayFill (commands.Combine operation n a b) = Unit {0}
 MayFill (commands.Negate n a) = Unit {0}
 MayFill (commands.Given n a literal) = Unit {0}
 MayFill (commands.Forget n a x) = Unit {0}
-MayFill (commands.Swap p) = Unit {0}
+MayFill (commands.Turn kind p) = Unit {0}
 MayFill command = ⊥
 
 -- these commands are all done, one after another, with these effects

@@ -2,7 +2,7 @@
 
 use sd_base::{Bits, Bytes, Name};
 use sd_file::SddFile;
-use sd_model::Operation;
+use sd_model::{Move, Operation};
 use sd_script::Indices;
 
 /// A command of a run. Names are numbers; each name that a command uses has to be bound by an earlier one.
@@ -28,8 +28,8 @@ pub enum RunCommand {
     Forget(u32, u32, u32),
     /// Frees a name.
     Drop(u32),
-    /// Exchanges the two sides of the vtree at a position.
-    Swap(u32),
+    /// Moves the vtree at a position.
+    Turn(Move, u32),
     /// Sets the limit of the total size.
     Limit(u32),
     /// Prints whether the formulas of two names are one function.

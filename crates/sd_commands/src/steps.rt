@@ -16,7 +16,7 @@ use crate::effects::{
     print_generated, print_same, print_size, print_value, write_diagrams, write_vtree_text,
 };
 use crate::error::CommandError;
-use crate::moving::swap_at;
+use crate::moving::turn_at;
 use crate::state::RunState;
 use sd_formula::Formula;
 use std::alloc::{AllocError, Global};
@@ -63,7 +63,7 @@ pub fn step(
             state.free(*name);
             Ok(None)
         }
-        RunCommand::Swap(position) => swap_at(alloc, state, *position),
+        RunCommand::Turn(kind, position) => turn_at(alloc, state, *kind, *position),
         RunCommand::Limit(limit) => set_limit(state, *limit),
         RunCommand::Same(a, b) => or_out_of_memory(print_same(alloc, state, *a, *b)),
         RunCommand::Size(name) => or_out_of_memory(print_size(alloc, state, *name)),

@@ -19,7 +19,6 @@ use Rattle.sd_file.specs.declared.fault.SddFault.{SddFault}
 use Rattle.sd_script.specs.Scripts.{Script, script_of}
 use Rattle.sd_script.specs.declared.command.Action.{Action}
 use Rattle.sd_script.specs.declared.command.Action.TheVariants as actions
-use Rattle.sd_model.specs.declared.trees.Move.TheVariants as moves
 use Rattle.sd_script.specs.declared.command.Command.{Command as Line}
 use Rattle.sd_script.specs.declared.fault.ScriptFault.{ScriptFault}
 use Rattle.sd_words.specs.JobOf.{job_of}
@@ -88,9 +87,7 @@ accepted_action v s next (actions.Not n a) accepted = accepted (commands.Negate 
 accepted_action v s next (actions.Given n a literal) accepted = accepted (commands.Given n a literal)
 accepted_action v s next (actions.Forget n a x) accepted = accepted (commands.Forget n a x)
 accepted_action v s next (actions.Drop a) accepted = accepted (commands.Drop a)
-accepted_action v s next (actions.Turn moves.Swap p) accepted = accepted (commands.Swap p)
-accepted_action v s next (actions.Turn moves.RotateLeft p) accepted = λ e. cc
-accepted_action v s next (actions.Turn moves.RotateRight p) accepted = λ e. cc
+accepted_action v s next (actions.Turn kind p) accepted = accepted (commands.Turn kind p)
 accepted_action v s next (actions.Minimise rounds) accepted = λ e. cc
 accepted_action v s next (actions.Limit limit) accepted = accepted (commands.Limit limit)
 accepted_action v s next (actions.Same a b) accepted = accepted (commands.Same a b)

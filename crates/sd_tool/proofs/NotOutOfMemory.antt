@@ -22,7 +22,6 @@ use Rattle.sd_file.specs.declared.fault.SddFault.TheVariants as sdd
 use Rattle.sd_script.specs.Scripts.{Script, script_of}
 use Rattle.sd_script.specs.declared.command.Action.{Action}
 use Rattle.sd_script.specs.declared.command.Action.TheVariants as actions
-use Rattle.sd_model.specs.declared.trees.Move.TheVariants as moves
 use Rattle.sd_script.specs.declared.command.Command.{Command as Line}
 use Rattle.sd_script.specs.declared.fault.ScriptFault.{ScriptFault}
 use Rattle.sd_script.specs.declared.fault.ScriptFault.TheVariants as script
@@ -125,9 +124,7 @@ sound_action v s next (actions.Not n a) sound = sound (commands.Negate n a)
 sound_action v s next (actions.Given n a literal) sound = sound (commands.Given n a literal)
 sound_action v s next (actions.Forget n a x) sound = sound (commands.Forget n a x)
 sound_action v s next (actions.Drop a) sound = sound (commands.Drop a)
-sound_action v s next (actions.Turn moves.Swap p) sound = sound (commands.Swap p)
-sound_action v s next (actions.Turn moves.RotateLeft p) sound = tt
-sound_action v s next (actions.Turn moves.RotateRight p) sound = tt
+sound_action v s next (actions.Turn kind p) sound = sound (commands.Turn kind p)
 sound_action v s next (actions.Minimise rounds) sound = tt
 sound_action v s next (actions.Limit limit) sound = sound (commands.Limit limit)
 sound_action v s next (actions.Same a b) sound = sound (commands.Same a b)

@@ -14,7 +14,6 @@ use Rattle.sd_script.specs.Read.{IsScript, IsAllowed}
 use Rattle.sd_script.specs.Scripts.{Script}
 use Rattle.sd_script.specs.declared.command.Action.{Action}
 use Rattle.sd_script.specs.declared.command.Action.TheVariants as actions
-use Rattle.sd_model.specs.declared.trees.Move.TheVariants as moves
 use Rattle.sd_script.specs.declared.command.Command.{Command as Line}
 use Rattle.sd_words.specs.declared.jobs.Job.{Job}
 use Rattle.sd_commands.specs.Fits.{Fits, AllFit, frees, has, bound_after}
@@ -62,7 +61,7 @@ plain v script next (actions.Forget n a x) =
     record { same = record { uses = refl; binds = refl; frees = refl; in_range = λ h. h }; leads = refl }
 plain v script next (actions.Drop a) =
     record { same = record { uses = refl; binds = refl; frees = refl; in_range = λ h. h }; leads = refl }
-plain v script next (actions.Turn moves.Swap p) =
+plain v script next (actions.Turn kind p) =
     record { same = record { uses = refl; binds = refl; frees = refl; in_range = λ h. refl }; leads = refl }
 plain v script next (actions.Limit limit) =
     record { same = record { uses = refl; binds = refl; frees = refl; in_range = λ h. refl }; leads = refl }

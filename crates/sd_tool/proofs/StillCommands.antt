@@ -16,7 +16,7 @@ use Rattle.sd_tool.specs.Course.{EndsAmong}
 
 -- a command moves the vtree
 abbrev pub is_move : RunCommand → Bool
-is_move (commands.Swap p) = true
+is_move (commands.Turn kind p) = true
 is_move command = false
 
 -- none of these commands does
@@ -32,7 +32,7 @@ not_settled next (inr p) = let e = p.2 in cc
 -- a command that does not is no place that is not movable
 not_unmoved : (input : Groups) (state : State) (command : RunCommand) → is_move command ≡ false
     → Step input state command Unmoved → ⊥
-not_unmoved input state (commands.Swap p) still step = cc
+not_unmoved input state (commands.Turn kind p) still step = cc
 not_unmoved input state (commands.Generated v g) still step = cc
 not_unmoved input state (commands.Input n) still (inl p) = let e = p.1 in cc
 not_unmoved input state (commands.Input n) still (inr p) = let e = p.3 in cc

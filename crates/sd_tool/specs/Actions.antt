@@ -4,7 +4,6 @@ use Rattle.sd_script.specs.Commands as script
 use Rattle.sd_script.specs.Read as reads
 use Rattle.sd_script.specs.declared.command.Action.{Action}
 use Rattle.sd_script.specs.declared.command.Action.TheVariants as actions
-use Rattle.sd_model.specs.declared.trees.Move.TheVariants.{Swap}
 use Rattle.sd_script.specs.declared.command.Command.{Command as Line}
 use Rattle.sd_commands.specs.Fits.{AllFit, uses, binds, frees, in_range, bound_after}
 use Rattle.sd_commands.specs.declared.command.NumberedCommand.{NumberedCommand}
@@ -21,7 +20,7 @@ plain_of (actions.Not n a) = Some (commands.Negate n a)
 plain_of (actions.Given n a literal) = Some (commands.Given n a literal)
 plain_of (actions.Forget n a x) = Some (commands.Forget n a x)
 plain_of (actions.Drop a) = Some (commands.Drop a)
-plain_of (actions.Turn Swap p) = Some (commands.Swap p)
+plain_of (actions.Turn kind p) = Some (commands.Turn kind p)
 plain_of (actions.Limit limit) = Some (commands.Limit limit)
 plain_of (actions.Same a b) = Some (commands.Same a b)
 plain_of (actions.Size a) = Some (commands.Size a)

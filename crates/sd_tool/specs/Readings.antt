@@ -5,7 +5,6 @@ use Rattle.std.specs.Prelude.{Option, Some, None, Result, Ok, Err}
 use Rattle.std.specs.List.{list_all}
 use Rattle.sd_base.specs.Files.{Files, bytes_at}
 use Rattle.sd_model.specs.Tree.{Tree}
-use Rattle.sd_model.specs.declared.trees.Move.TheVariants.{Swap}
 use Rattle.sd_model.specs.StartTrees.{balanced_tree, right_tree, left_tree}
 use Rattle.sd_formula.specs.declared.error.FormulaError.{FormulaError}
 use Rattle.sd_formula.specs.declared.formula.Kind.{Kind}
@@ -91,8 +90,6 @@ default_of job =
 
 -- a command of a script that runs have yet
 abbrev pub is_served : Action → Bool
-is_served (actions.Turn Swap p) = true
-is_served (actions.Turn kind p) = false
 is_served (actions.Minimise rounds) = false
 is_served action = true
 
@@ -122,7 +119,7 @@ with_action v script next (actions.Not n a) = next (commands.Negate n a)
 with_action v script next (actions.Given n a literal) = next (commands.Given n a literal)
 with_action v script next (actions.Forget n a x) = next (commands.Forget n a x)
 with_action v script next (actions.Drop a) = next (commands.Drop a)
-with_action v script next (actions.Turn Swap p) = next (commands.Swap p)
+with_action v script next (actions.Turn kind p) = next (commands.Turn kind p)
 with_action v script next (actions.Limit limit) = next (commands.Limit limit)
 with_action v script next (actions.Same a b) = next (commands.Same a b)
 with_action v script next (actions.Size a) = next (commands.Size a)

@@ -24,7 +24,6 @@ use crate::texts::{read_text, too_long};
 use sd_base::{Bits, Name, Shelf};
 use sd_commands::{NumberedCommand, RunCommand};
 use sd_file::{SddFault, SddFile, read_sdd};
-use sd_model::Move;
 use sd_script::{Action, Command as Line, Indices, Script, ScriptFault, read_script};
 use sd_words::Job;
 use std::alloc::{AllocError, Global};
@@ -163,8 +162,7 @@ fn is_served(action: &Action) -> bool
     ensures { result ≡ is_served action.now }
 {
     match action {
-        Action::Turn(Move::Swap, _) => true,
-        Action::Turn(..) | Action::Minimise(_) => false,
+        Action::Minimise(_) => false,
         _ => true,
     }
 }
@@ -264,7 +262,7 @@ fn plain_command(alloc: Global, action: &Action) -> Result<Option<RunCommand>, A
         Action::Given(name, a, literal) => Ok(Some(RunCommand::Given(*name, *a, *literal))),
         Action::Forget(name, a, variable) => Ok(Some(RunCommand::Forget(*name, *a, *variable))),
         Action::Drop(name) => Ok(Some(RunCommand::Drop(*name))),
-        Action::Turn(Move::Swap, position) => Ok(Some(RunCommand::Swap(*position))),
+        Action::Turn(kind, position) => Ok(Some(RunCommand::Turn(*kind, *position))),
         Action::Limit(limit) => Ok(Some(RunCommand::Limit(*limit))),
         Action::Same(a, b) => Ok(Some(RunCommand::Same(*a, *b))),
         Action::Size(name) => Ok(Some(RunCommand::Size(*name))),

@@ -246,12 +246,12 @@ returns-in-Forget-clause-stops c = λ seen was.
     subst (λ command. IfErr c.bind_forgotten.result (λ e. StopsAt input seen command table e)) (sym c.in-Forget.is)
     (c.bind_forgotten.ensures.stops input seen was)
 
-pub returns-in-Swap-clause-stops : goal.returns-in-Swap-clause-stops
-returns-in-Swap-clause-stops c = λ seen was.
+pub returns-in-Turn-clause-stops : goal.returns-in-Turn-clause-stops
+returns-in-Turn-clause-stops c = λ seen was.
     let input = c.args.input.now in
-    let table = c.swap_at.new.state.manager in
-    subst (λ command. IfErr c.swap_at.result (λ e. StopsAt input seen command table e)) (sym c.in-Swap.is)
-    (c.swap_at.ensures.stops input seen was)
+    let table = c.turn_at.new.state.manager in
+    subst (λ command. IfErr c.turn_at.result (λ e. StopsAt input seen command table e)) (sym c.in-Turn.is)
+    (c.turn_at.ensures.stops input seen was)
 
 pub returns-in-Limit-clause-stops : goal.returns-in-Limit-clause-stops
 returns-in-Limit-clause-stops c = λ seen was.
