@@ -1,25 +1,22 @@
 -- What is collected so far: the codes with ranks and those in groups.
 use Rattle.std.proofs.Common.{◌≡◌, ◌⊎◌, inl, inr, ℕ, ◌+◌, ◌==◌, true, false, take}
-use Rattle.std.proofs.Common.{Some, slice_get, sym, ap, subst, if◌then◌else◌}
+use Rattle.std.proofs.Common.{Some, None, [], slice_get, sym, ap, subst, if◌then◌else◌}
 use Rattle.std.proofs.Common.{Result, Ok, Err}
 use Rattle.std.specs.Prelude.{OnOk}
-use Rattle.std.specs.List.{AllByRecursion, list_any}
+use Rattle.std.specs.List.{AllByRecursion}
 use Rattle.std.specs.BTreeMap as tree
-use Rattle.std.specs.BTreeMap.{is_at}
-use Rattle.std.specs.BTreeSet as set
-use Rattle.std.specs.Ordering.{nat_cmp}
 use Rattle.sd_model.specs.Diagram.{Diagram, Decomposition}
 use Rattle.sd_vtree.specs.Numbered.{IsNumbered, numbers}
 use Rattle.sd_manager.specs.Table.{Table}
 use Rattle.sd_manager.specs.Shown.{Shows, ShowsCanonical}
 use Rattle.sd_manager.specs.declared.view.View.TheVariants.{Decomposition as DecompositionView}
 use Rattle.sd_manager.specs.Views.{IsViewOf, pairs_at}
-use Rattle.sd_file.specs.declared.order.Ordered.{Ordered}
+use Rattle.sd_file.specs.declared.known.Ordered.{Ordered}
 use Rattle.sd_file.specs.declared.order.Found.{Found}
 use Rattle.sd_file.specs.Ordered.{Rank, rank_of}
 use Rattle.sd_file.specs.Ranks.{IsLeft, HasRankOrGroup, BothHaveRankOrGroup, KeepRankOrGroup}
 use Rattle.sd_file.specs.Ranks.{AreCollected, KeepCollected, IsFoundAlso}
-use Rattle.sd_file.specs.Ranks.{AreFound, FitsPlain, HasCollectedTo, IsNodeAt, was_seen}
+use Rattle.sd_file.specs.Ranks.{AreFound, FitsPlain, HasCollectedTo, IsNodeAt, was_seen, seen_at}
 use Rattle.sd_file.proofs.Collecting.{plain_given, same_position}
 use Rattle.sd_file.proofs.Finding.{nothing}
 use Rattle.sd_file.proofs.Giving.{all_pushed}
@@ -33,18 +30,16 @@ pub record IsCollected (t : Table) (old new : Ordered) (f g : Found) (c : ℕ) :
   pub stands : HasRankOrGroup new g.groups c
 
 -- at the start there is nothing
-pub nothing_collected : (t : Table) (o : Ordered) (f : Found) → tree.IsEmpty o.ranks → tree.IsEmpty f.groups →
-    set.IsEmpty f.seen → AreCollected t o f
-unfolding rank_of
+pub nothing_collected : (t : Table) (o : Ordered) (f : Found) → ((c : ℕ) → rank_of o c ≡ None) →
+    tree.IsEmpty f.groups → f.seen.items ≡ [] → AreCollected t o f
 nothing_collected t o f ranks groups seen =
     record {
-      plain = λ b r d is shows. absurd (cc (is, nothing o.ranks ranks b));
+      plain = λ b r d is shows. absurd (cc (is, ranks b));
       found =
           record {
             each = λ p v e. absurd (cc (e, nothing f.groups groups p));
             seen = λ p v e. absurd (cc (e, nothing f.groups groups p));
-            among = λ c s.
-                let none : was_seen f c ≡ false = ap (list_any (is_at (nat_cmp c))) seen in absurd (cc (s, none));
+            among = λ c s. let none : was_seen f c ≡ false = ap (λ l. seen_at l c) seen in absurd (cc (s, none));
           };
       closed = λ c l. absurd (cc (l.is, nothing f.groups groups l.position));
     }

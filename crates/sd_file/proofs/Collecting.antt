@@ -33,7 +33,7 @@ use Rattle.sd_manager.specs.declared.view.View.TheVariants.{Literal as LiteralVi
 use Rattle.sd_manager.specs.Literals.{literal_of}
 use Rattle.sd_manager.specs.Views.{IsViewOf}
 use Rattle.sd_manager.specs.Valid.{IsTable}
-use Rattle.sd_file.specs.declared.order.Ordered.{Ordered}
+use Rattle.sd_file.specs.declared.known.Ordered.{Ordered}
 use Rattle.sd_file.specs.Ordered.{Rank, rank_of, list_of, IsOrdered, AreOrdered}
 use Rattle.sd_file.specs.Ranks.{rank_cmp, FitsRank, HasRanks, AreRanks, FitsPlain, ArePlain, AreLeft, AreCollected}
 use Rattle.sd_file.specs.declared.order.Found.{Found}

@@ -27,7 +27,7 @@ use Rattle.sd_laws.proofs.Lists.{all_permuted, all_weaker}
 use Rattle.sd_manager.specs.Table.{Table}
 use Rattle.sd_manager.specs.Views.{pairs_at}
 use Rattle.sd_manager.specs.Valid.{IsTable}
-use Rattle.sd_file.specs.declared.order.Ordered.{Ordered}
+use Rattle.sd_file.specs.declared.known.Ordered.{Ordered}
 use Rattle.sd_file.specs.declared.order.Found.{Found}
 use Rattle.sd_file.specs.Ordered.{rank_of}
 use Rattle.sd_file.specs.Ranks.{Ranked, RankedNode, ranked_cmp, entry_cmp, codes_of}

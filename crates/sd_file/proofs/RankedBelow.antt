@@ -32,7 +32,7 @@ use Rattle.sd_manager.specs.Shown.{Shows, ShowsElement}
 use Rattle.sd_manager.specs.Views.{pairs_at}
 use Rattle.sd_manager.specs.Valid.{IsTable}
 use Rattle.sd_manager.proofs.Reading.{linked_key, pairs_node}
-use Rattle.sd_file.specs.declared.order.Ordered.{Ordered}
+use Rattle.sd_file.specs.declared.known.Ordered.{Ordered}
 use Rattle.sd_file.specs.Ordered.{rank_of}
 use Rattle.sd_file.specs.Ranks.{AreRanks, IsFresh, IsNodeAt, HasRanks, HasRankedPairs, IsLeft, HasRankOrGroup}
 use Rattle.sd_file.specs.Ranks.{KeepRankOrGroup, KeepRanks}

@@ -31,7 +31,7 @@ use Rattle.sd_manager.specs.Shown.{Shows}
 use Rattle.sd_manager.specs.Views.{pairs_at}
 use Rattle.sd_manager.specs.Valid.{IsTable}
 use Rattle.sd_manager.proofs.Reading.{linked_key, pairs_node, pairs_count}
-use Rattle.sd_file.specs.declared.order.Ordered.{Ordered}
+use Rattle.sd_file.specs.declared.known.Ordered.{Ordered}
 use Rattle.sd_file.specs.Ordered.{Rank, rank_of, list_of}
 use Rattle.sd_file.specs.Ranks.{Ranked, RankedNode, rank_cmp, ranked_cmp}
 use Rattle.sd_file.specs.Ranks.{entry_cmp, codes_of, FitsRank, HasRanks, IsRanked}

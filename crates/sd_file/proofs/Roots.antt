@@ -22,7 +22,7 @@ use Rattle.sd_manager.specs.Shown.{Shows, ShowsCanonical, IsNodeOf}
 use Rattle.sd_manager.specs.Valid.{IsTable}
 use Rattle.sd_file.specs.declared.lines.Listing.{Listing}
 use Rattle.sd_file.specs.declared.numbers.Numbers.{Numbers}
-use Rattle.sd_file.specs.declared.order.Ordered.{Ordered}
+use Rattle.sd_file.specs.declared.known.Ordered.{Ordered}
 use Rattle.sd_file.specs.declared.order.Found.{Found}
 use Rattle.sd_file.specs.Lines.{AreNumbered, HasNodeLines, CanBeWalked}
 use Rattle.sd_file.specs.Numbers.{mark_at, HasNumber, root_words, naming_words}
@@ -130,9 +130,10 @@ roots_none t codes listing some =
     }
 
 -- what is left after one root more
-root_left : (t : Table) (c : ℕ) (codes : List ℕ) (a b : Listing) (whole : List Diagram) → RootsLeft t (c ∷ codes) a whole
-    → ((d : Diagram) (ds : List Diagram) → Shows t c d → HasNodeLines t a ds → HasNodeLines t b (add ds (walk d)))
-    → RootsLeft t codes b whole
+root_left : (t : Table) (c : ℕ) (codes : List ℕ) (a b : Listing) (whole : List Diagram) →
+    RootsLeft t (c ∷ codes) a whole →
+    ((d : Diagram) (ds : List Diagram) → Shows t c d → HasNodeLines t a ds → HasNodeLines t b (add ds (walk d))) →
+    RootsLeft t codes b whole
 root_left t c codes a b whole w step = go w.rest w.shown w.is
   where
     go : (rest : List Diagram) → AllZip (ShowsCanonical t) (c ∷ codes) rest → add w.now (flat_map walk rest) ≡ whole

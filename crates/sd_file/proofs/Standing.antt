@@ -13,7 +13,7 @@ use Rattle.std.proofs.Math.Dec.{eqb}
 use Rattle.std.proofs.lemmas.Bool.Decides.{eqb_tells}
 use Rattle.std.proofs.lemmas.Option.{same_Some}
 use Rattle.sd_laws.proofs.Lists.{IsAmong, all_weaker}
-use Rattle.sd_file.specs.declared.order.Ordered.{Ordered}
+use Rattle.sd_file.specs.declared.known.Ordered.{Ordered}
 use Rattle.sd_file.specs.declared.order.Found.{Found}
 use Rattle.sd_file.specs.Ordered.{Rank, rank_of}
 use Rattle.sd_file.specs.Ranks.{IsLeft, BothHaveRankOrGroup, KeepRankOrGroup, KeepRanks, IsAdded, IsFoundAlso, items_of}

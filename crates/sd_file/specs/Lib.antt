@@ -1,5 +1,6 @@
 pub mod Built
 pub mod Files
+pub mod Known
 pub mod Lines
 pub mod Numbers
 pub mod Ordered

@@ -1,22 +1,26 @@
 -- The elements of the decompositions in a diagram, by the codes of the nodes that show them, in the structural order.
 use Rattle.std.specs.Prelude.{◌≡◌, ℕ, List, Option, Some}
 use Rattle.std.specs.Option.{option_map}
-use Rattle.std.specs.BTreeMap as tree
 use Rattle.std.specs.FinMap.{get}
-use Rattle.std.specs.Ordering.{nat_cmp}
 use Rattle.sd_model.specs.Diagram.{Diagram, Decomposition, Elements, End, Pair}
 use Rattle.sd_laws.specs.Shown.{ShowElements}
 use Rattle.sd_manager.specs.Table.{Table}
 use Rattle.sd_manager.specs.Shown.{Shows, ShowsCanonical}
-use Rattle.sd_file.specs.declared.order.Ordered.{Ordered}
+use Rattle.sd_file.specs.declared.known.Known.{Known}
+use Rattle.sd_file.specs.declared.known.Ordered.{Ordered}
+use Rattle.sd_file.specs.Known.{place_at, known_at}
 
 -- a list of pairs of codes for some codes
 abbrev pub Lists : Type 0
 Lists = ℕ → Option (List (ℕ × ℕ))
 
+-- what is known of a code
+abbrev pub known_of : Ordered → ℕ → Option Known
+known_of o c = known_at o.known.items (place_at o.places.items c)
+
 -- the elements that are kept of a decomposition, by its code
 unfoldable pub list_of : Ordered → Lists
-list_of o c = option_map (λ pairs. pairs.items) (tree.get nat_cmp o.lists c)
+list_of o c = option_map (λ k. k.list.items) (known_of o c)
 
 -- where a diagram stands in the structural order: its kind, its position, and its place among those of one position
 abbrev pub Rank : Type 0
@@ -24,7 +28,7 @@ Rank = ℕ × ℕ × ℕ
 
 -- the rank that is kept of a code
 unfoldable pub rank_of : Ordered → ℕ → Option Rank
-rank_of o c = tree.get nat_cmp o.ranks c
+rank_of o c = option_map (λ k. k.rank) (known_of o c)
 
 -- the code has a list, which shows these elements one by one
 pub record HasElements (t : Table) (lists : Lists) (c : ℕ) (es : Elements) : Type 0 where

@@ -1,12 +1,11 @@
 -- Ranks of codes, which are compared as the diagrams that the codes show, and how they are given.
-use Rattle.std.specs.Prelude.{◌≡◌, ◌⊎◌, ℕ, ◌+◌, ◌<◌, ◌≤◌, ◌==◌, Bool, true, cond, [], ◌∷◌}
+use Rattle.std.specs.Prelude.{◌≡◌, ◌⊎◌, ℕ, ◌+◌, ◌<◌, ◌≤◌, ◌==◌, Bool, true, false, slice_index_or, cond, [], ◌∷◌}
 use Rattle.std.specs.Prelude.{◌++◌, List, length, map, take, drop, Option, Some, None, if◌then◌else◌}
 use Rattle.std.specs.List.{AllByRecursion, IsDistinct}
 use Rattle.std.specs.List.Sorted.{IsStrictlySortedBy}
 use Rattle.std.specs.Option.{IsSome}
 use Rattle.std.proofs.Math.Dec.{eqb}
 use Rattle.std.specs.BTreeMap as tree
-use Rattle.std.specs.BTreeSet as set
 use Rattle.std.specs.BTreeMap.{BTreeMap}
 use Rattle.std.specs.FinMap.{get}
 use Rattle.std.specs.Cmp.Lexicographic.{slice_cmp}
@@ -26,7 +25,7 @@ use Rattle.sd_manager.specs.Table.{Table}
 use Rattle.sd_manager.specs.Shown.{Shows, ShowsCanonical}
 use Rattle.sd_manager.specs.Views.{pairs_at}
 use Rattle.sd_manager.specs.Valid.{IsTable}
-use Rattle.sd_file.specs.declared.order.Ordered.{Ordered}
+use Rattle.sd_file.specs.declared.known.Ordered.{Ordered}
 use Rattle.sd_file.specs.declared.order.Found.{Found}
 use Rattle.sd_file.specs.Ordered.{Rank, rank_of, list_of}
 
@@ -204,8 +203,12 @@ abbrev pub ArePlain : Table → Ordered → Type 0
 ArePlain t o = (c : ℕ) (r : Rank) (d : Diagram) → rank_of o c ≡ Some r → Shows t c d → FitsPlain d r
 
 -- a code was seen
+abbrev pub seen_at : List Bool → ℕ → Bool
+seen_at seen c = slice_index_or seen c false
+
+-- and in what was found
 abbrev pub was_seen : Found → ℕ → Bool
-was_seen f c = set.contains nat_cmp f.seen c
+was_seen f c = seen_at f.seen.items c
 
 -- the codes in the groups are those that were seen, and each group is one of its position
 pub record AreFound (t : Table) (f : Found) : Type 0 where

@@ -9,6 +9,7 @@ mod fault;
 mod file;
 mod form;
 mod id_table;
+mod known;
 mod lines;
 mod numbers;
 mod order;

@@ -1,12 +1,12 @@
 //! The elements of the decompositions below some nodes, in the structural order.
 //!
-//! A list in the table ascends by codes, which depend on what was made before. A text must not, so it goes by the order
-//! of the diagrams themselves: constants, then literals, then decompositions by position, count and elements. To compare
-//! two diagrams by descent would cost their size, at each comparison. So each node gets a rank, vtree node by vtree node
-//! from the leaves up: where a place is reached, all that stands below it has ranks, and elements are compared by two
-//! numbers.
+//! A list in the table ascends by codes, which depend on what was made before. A text must not, so it goes by the
+//! order of the diagrams themselves: constants, then literals, then decompositions by position, count and elements. To
+//! compare two diagrams by descent would cost their size, at each comparison. So each node gets a rank, vtree node by
+//! vtree node from the leaves up: where a place is reached, all that stands below it has ranks, and elements are
+//! compared by two numbers.
 
-ghost use Rattle.std.specs.Prelude.{◌≡◌, ◌≤◌, ◌<◌, ◌+◌, ◌==◌, ℕ, Some};
+ghost use Rattle.std.specs.Prelude.{◌≡◌, ◌≤◌, ◌<◌, ◌+◌, ◌==◌, ℕ, Some, true};
 ghost use Rattle.std.specs.Prelude.{None, List, [], length, map, IfOk, OnOk, if◌then◌else◌};
 ghost use Rattle.std.specs.BTreeMap as tree;
 ghost use Rattle.std.specs.Ordering.{nat_cmp};
@@ -22,93 +22,25 @@ ghost use Rattle.sd_manager.specs.Table.{Table};
 ghost use Rattle.sd_manager.specs.Shown.{Shows, ShowsCanonical, IsNodeOf, constant_diagram};
 ghost use Rattle.sd_manager.specs.Views.{pairs_at};
 ghost use Rattle.sd_manager.specs.Valid.{IsTable};
-ghost use Rattle.sd_file.specs.Ordered.{HasOrder, list_of, rank_of, Rank};
-ghost use Rattle.sd_file.specs.Ranks.{IsRanked, AreRanks, IsEntry, HasNewRank};
+ghost use Rattle.sd_file.specs.Ordered.{HasOrder, list_of, rank_of};
+ghost use Rattle.sd_file.specs.Ranks.{IsRanked, AreRanks, IsEntry};
 ghost use Rattle.sd_file.specs.Ranks.{IsGiving, codes_of, ranked_cmp, entry_cmp};
 ghost use Rattle.sd_file.specs.Ranks.{IsNodeAt, IsGroup, IsFresh, NoneAt};
-ghost use Rattle.sd_file.specs.Ranks.{AreLeft, FitsPlain, AreFound, IsAdded, was_seen, items_of};
+ghost use Rattle.sd_file.specs.Ranks.{AreLeft, FitsPlain, AreFound, IsAdded, was_seen, seen_at, items_of};
 ghost use Rattle.sd_file.specs.Ranks.{KeepRanks, HasRankedPairs, HasRanks, AreRankedBelow, AreCollected};
 ghost use Rattle.sd_file.specs.Ranks.{BothHaveRankOrGroup, KeepCollected, IsFoundAlso, HasRankOrGroup, IsShownWithin};
 
+use crate::known::{Ordered, Rank};
 use sd_manager::{Manager, NodeId, View};
 use sd_vtree::VNode;
 use std::alloc::{AllocError, Global};
-use std::collections::{BTreeMap, BTreeSet};
-
-// Where a diagram stands in the structural order: its kind, its position, and its place among those of one position.
-type Rank = (u8, u32, usize);
+use std::collections::BTreeMap;
 
 // A prime and a sub, by their ranks and by their codes.
 type Ranked = (Rank, Rank, u32, u32);
 
 // A decomposition: the number of its elements, these, and its code.
 type Entry = (usize, Vec<Ranked>, u32);
-
-/// The elements of the distinct decompositions at and below some nodes, each list in the structural order of primes.
-#[derive(Drop)]
-pub(crate) struct Ordered {
-    lists: BTreeMap<u32, Vec<(NodeId, NodeId)>>,
-    ranks: BTreeMap<u32, Rank>,
-}
-
-impl Ordered {
-    /// The elements of a decomposition, in the structural order.
-    #[tactic(auto, unfolding(crate::specs::Ordered::list_of))]
-    pub(crate) fn elements(&self, node: NodeId) -> &[(NodeId, NodeId)]
-        requires { IsSome (list_of self.now node) }
-        ensures { list_of self.now node ≡ Some result.now }
-    {
-        self.lists.get(&node.0).unwrap()
-    }
-
-    // The rank of a node.
-    #[tactic(auto, unfolding(crate::specs::Ordered::rank_of))]
-    fn rank(&self, node: NodeId) -> Option<Rank>
-        ensures { result ≡ rank_of self.now node }
-    {
-        self.ranks.get(&node.0).copied()
-    }
-
-    // Gives a constant or a literal its rank.
-    #[tactic(auto, unfolding(crate::specs::Ordered::rank_of))]
-    fn give_plain(&mut self, code: u32, rank: Rank) -> Result<(), AllocError>
-        ensures { OnOk result ((b : ℕ)
-            → rank_of self.new b ≡ (if b == code then Some rank else rank_of self.old b)) }
-    {
-        self.ranks.insert(code, rank)?;
-        Ok(())
-    }
-
-    // Gives the decompositions at a position, which are in the structural order, their ranks and lists.
-    fn give_all(
-        &mut self,
-        alloc: Global,
-        position: u32,
-        entries: &[Entry],
-    ) -> Result<(), AllocError>
-        ensures giving { OnOk result ((t : Table) (groups : _) → IsTable t →
-            IsGiving t self.old groups position 0 entries.now →
-            IsGiving t self.new groups position (length entries.now) []) }
-        ensures kept { OnOk result (KeepRanks self.old self.new) }
-        ensures given { OnOk result
-            (AllByRecursion (λ e. IsSome (rank_of self.new e.2)) entries.now) }
-    {
-        for (index, entry) in entries.iter().enumerate() {
-            let list = pairs_of(alloc, &entry.1)?;
-            self.give(entry.2, (2, position, index), list)?;
-        }
-        Ok(())
-    }
-
-    // Gives a node its rank and its list.
-    fn give(&mut self, code: u32, rank: Rank, list: Vec<(NodeId, NodeId)>) -> Result<(), AllocError>
-        ensures { OnOk result (HasNewRank self.old self.new code rank list.items) }
-    {
-        self.ranks.insert(code, rank)?;
-        self.lists.insert(code, list)?;
-        Ok(())
-    }
-}
 
 // The elements of a node with their ranks, by ascending ranks.
 fn sort_elements(elements: &mut Vec<Ranked>)
@@ -210,6 +142,27 @@ fn entries_of(
     Ok(entries)
 }
 
+// Gives the decompositions at a position, which are in the structural order, their ranks and lists.
+fn give_all(
+    alloc: Global,
+    o: &mut Ordered,
+    position: u32,
+    entries: &[Entry],
+) -> Result<(), AllocError>
+    ensures giving { OnOk result ((t : Table) (groups : _) → IsTable t →
+        IsGiving t o.old groups position 0 entries.now →
+        IsGiving t o.new groups position (length entries.now) []) }
+    ensures kept { OnOk result (KeepRanks o.old o.new) }
+    ensures given { OnOk result
+        (AllByRecursion (λ e. IsSome (rank_of o.new e.2)) entries.now) }
+{
+    for (index, entry) in entries.iter().enumerate() {
+        let list = pairs_of(alloc, &entry.1)?;
+        o.give(entry.2, (2, position, index), list)?;
+    }
+    Ok(())
+}
+
 // Gives a group of decompositions at a position their ranks and lists.
 fn rank_group(
     alloc: Global,
@@ -231,7 +184,7 @@ fn rank_group(
 {
     let mut entries = entries_of(alloc, m, o, group)?;
     sort_entries(&mut entries);
-    o.give_all(alloc, position, &entries)
+    give_all(alloc, o, position, &entries)
 }
 
 // Takes the group of a position out.
@@ -286,7 +239,8 @@ fn taken_or_new(alloc: Global, groups: &mut BTreeMap<u32, Vec<u32>>, position: u
 #[derive(Drop)]
 struct Found {
     groups: BTreeMap<u32, Vec<u32>>,
-    seen: BTreeSet<u32>,
+    // Whether each code stands in a group.
+    seen: Vec<bool>,
 }
 
 impl Found {
@@ -294,7 +248,8 @@ impl Found {
     fn has(&self, code: u32) -> bool
         ensures { result ≡ was_seen self.now code }
     {
-        self.seen.contains(&code)
+        let index = code as usize;
+        index < self.seen.len() && self.seen[index]
     }
 
     // Adds a decomposition at a position where it was not found yet.
@@ -318,9 +273,22 @@ impl Found {
         let mut group = taken_or_new(alloc, &mut self.groups, position);
         group.push(code)?;
         self.groups.insert(position, group)?;
-        self.seen.insert(code)?;
+        see(&mut self.seen, code)?;
         Ok(())
     }
+}
+
+// Notes that a code was seen.
+fn see(seen: &mut Vec<bool>, code: u32) -> Result<(), AllocError>
+    ensures { OnOk result ((b : ℕ) → seen_at seen.new.items b
+        ≡ (if b == code then true else seen_at seen.old.items b)) }
+{
+    let index = code as usize;
+    if index >= seen.len() {
+        seen.resize(index + 1, false)?;
+    }
+    seen[index] = true;
+    Ok(())
 }
 
 // The rank of a constant.
@@ -365,8 +333,8 @@ fn collect(
     ensures stands { OnOk result (HasRankOrGroup o.new found.new.groups node) }
 {
     match m.view(node) {
-        View::Constant(value) => o.give_plain(node.0, constant_rank(value)),
-        View::Literal(literal) => o.give_plain(node.0, literal_rank(m, literal)),
+        View::Constant(value) => o.give_plain(alloc, node.0, constant_rank(value)),
+        View::Literal(literal) => o.give_plain(alloc, node.0, literal_rank(m, literal)),
         View::Decomposition { place, count } => {
             if found.has(node.0) {
                 return Ok(());
@@ -433,13 +401,10 @@ pub(crate) fn in_order(alloc: Global, m: &Manager, nodes: &[NodeId]) -> Result<O
     requires { AllByRecursion (IsNodeOf m.now) nodes.now }
     ensures { IfOk result (λ o. AllByRecursion (HasOrder m.now (list_of o)) nodes.now) }
 {
-    let mut o = Ordered {
-        lists: BTreeMap::new(alloc),
-        ranks: BTreeMap::new(alloc),
-    };
+    let mut o = Ordered::new(alloc);
     let mut found = Found {
         groups: BTreeMap::new(alloc),
-        seen: BTreeSet::new(alloc),
+        seen: Vec::new(alloc),
     };
     let levels = m.vtree().variables();
     collect_all(alloc, m, &mut o, &mut found, nodes, levels)?;

@@ -18,8 +18,9 @@ ghost use Rattle.sd_file.specs.Lines.{HasNodeLines, CanBeWalked, BothCanBeWalked
 ghost use Rattle.sd_file.specs.Ordered.{list_of};
 ghost use Rattle.sd_file.specs.RoundTrip.{ReadsBack, IsLastOf};
 
+use crate::known::Ordered;
 use crate::lines::{Leaf, Listing, push_feed, push_naming, push_number};
-use crate::order::{Ordered, in_order};
+use crate::order::in_order;
 use sd_base::Bytes;
 use sd_manager::{Manager, NodeId, Root, View};
 use std::alloc::{AllocError, Global};

@@ -34,8 +34,8 @@ fn negative_prime_first(rt: HostRuntime) -> Result<(), Fail> {
     let (mut m, root) = over_two(alloc)?;
     let clause = one_or_two(&mut m, root)?;
     let o = in_order(alloc, &m, &[clause])?;
-    let list = o.lists.get(&clause.0).ok_or("no list")?;
+    let list = o.list(clause).ok_or("no list")?;
     let expected = [(NodeId(3), NodeId(4)), (NodeId(2), NodeId(1))];
-    assert_eq!(rt; list.as_slice(), expected.as_slice());
+    assert_eq!(rt; list, expected.as_slice());
     Ok(())
 }

@@ -10,9 +10,8 @@ use Rattle.sd_file.proofs.order.in_order.Goals as goal
 
 pub collect_all-requires-clause-collected : goal.collect_all-requires-clause-collected
 collect_all-requires-clause-collected c =
-    nothing_collected c.args.m.now (record { lists = c.new.result; ranks = c.new-2.result })
-    (record { groups = c.new-3.result; seen = c.new-4.result }) c.new-2.ensures.empty c.new-3.ensures.empty
-    c.new-4.ensures.empty
+    nothing_collected c.args.m.now c.new-o.result (record { groups = c.new.result; seen = c.new-2.result })
+    c.new-o.ensures c.new.ensures.empty c.new-2.ensures.items
 
 pub collect_all-requires-clause-shown : goal.collect_all-requires-clause-shown
 collect_all-requires-clause-shown c =

@@ -23,7 +23,7 @@ pub returns-clause-given : goal.returns-clause-given
 returns-clause-given c =
     on_ok c.give_all.result
     (λ h.
-    ranks_codes c.give_all.new.self c.args.group.now c.in_ok-entries.entries.items c.sort_entries.new.entries.items
+    ranks_codes c.give_all.new.o c.args.group.now c.in_ok-entries.entries.items c.sort_entries.new.entries.items
     c.in_ok-entries.ensures.codes c.sort_entries.ensures.permutation
-    (subst (AllByRecursion (λ (e : RankedNode). IsSome (rank_of c.give_all.new.self e.2))) c.deref.ensures.value h))
+    (subst (AllByRecursion (λ (e : RankedNode). IsSome (rank_of c.give_all.new.o e.2))) c.deref.ensures.value h))
     c.give_all.ensures.given

@@ -1,5 +1,5 @@
 use Rattle.std.proofs.Common.{ap, ◌∙◌, ◌++◌, ◌∷◌, []}
-use Rattle.sd_file.proofs.Giving.{updated_here, updated_other, updated_set}
+use Rattle.sd_file.proofs.Giving.{updated_here, updated_other}
 use Rattle.sd_file.proofs.order.Found.put.Goals as goal
 
 pub returns : goal.returns
@@ -11,5 +11,5 @@ returns c =
       others = λ q differ.
           updated_other c.args.position q _ _ _ (c.in_ok-insert.ensures.updates.0 q) differ
           ∙ c.taken_or_new-group.ensures.others q differ;
-      seen = λ b. updated_set c.args.code b _ _ (c.in_ok-insert-2.ensures.updates.0 b);
+      seen = c.in_ok-see.ensures;
     }
