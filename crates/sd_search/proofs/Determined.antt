@@ -1,16 +1,16 @@
 -- A walk, a round and a search have one result each, and it is a vtree.
-use Rattle.std.proofs.Common.{◌≡◌, ℕ, zero, suc, ◌*◌, ◌/◌, ◌<◌, ◌≤◌, nat_le, List, [], ◌∷◌, ◌++◌, map}
-use Rattle.std.proofs.Common.{refl, sym, ◌∙◌, ap, subst}
+use Rattle.std.proofs.Common.{◌≡◌, ℕ, zero, suc, ◌*◌, ◌/◌, ◌<◌, ◌≤◌, List, [], ◌∷◌, ◌++◌}
+use Rattle.std.proofs.Common.{Some, refl, sym, ◌∙◌, ap, subst}
 use native.Mathlib.Omega.{arith}
-use Rattle.std.specs.Prelude.{take}
-use Rattle.std.specs.List.{AllByRecursion, prefix_len}
+use Rattle.std.specs.List.{AllByRecursion}
 use Rattle.sd_model.specs.Expression.{Expression}
 use Rattle.sd_model.specs.Tree.{Tree, IsVtree}
 use Rattle.sd_model.specs.Size.{HasSize}
+use Rattle.sd_model.specs.Moves.{moved}
 use Rattle.sd_model.specs.declared.trees.Side.{Side}
 use Rattle.sd_model.specs.declared.trees.Side.TheVariants.{Left, Right}
 use Rattle.sd_model.proofs.Determined.{size_determined}
-use Rattle.sd_search.specs.Search.{WalkMove, walk_moves, LeadThrough, State, IsFirstLeast, within, IsWalk}
+use Rattle.sd_search.specs.Search.{WalkMove, walk_moves, LeadWithin, State, IsFirstLeast, IsWalk}
 use Rattle.sd_search.specs.Search.{IsRound, round_at_leaf, round_at_node}
 use Rattle.sd_search.specs.Search.{Found, IsSearch, no_round, last_round, further_round}
 use Rattle.sd_search.proofs.Moved.{moved_vtree}
@@ -18,15 +18,9 @@ use Rattle.sd_search.proofs.Moved.{moved_vtree}
 -- ---- lists
 
 -- what holds of all holds of one in the middle
-all_middle : {A : Type 0} (P : A → Type 0) (xs ys : List A) (a : A) → AllByRecursion P (xs ++ a ∷ ys) → P a
+pub all_middle : {A : Type 0} (P : A → Type 0) (xs ys : List A) (a : A) → AllByRecursion P (xs ++ a ∷ ys) → P a
 all_middle P [] ys a h = h.0
 all_middle P (x ∷ xs) ys a h = all_middle P xs ys a h.1
-
--- and of one of the first
-all_take : {A : Type 0} (P : A → Type 0) (n : ℕ) (xs : List A) → AllByRecursion P xs → AllByRecursion P (take n xs)
-all_take P zero xs h = tt
-all_take P (suc n) [] h = tt
-all_take P (suc n) (x ∷ xs) h = (h.0, all_take P n xs h.1)
 
 -- ---- a walk
 
@@ -57,14 +51,14 @@ least_determined states a b p q =
     p.larger p.not_smaller q.larger q.not_smaller
 
 -- the trees that moves lead through are vtrees
-through_valid : (t : Tree) (path : List Side) (ms : List WalkMove) (states : List State) → IsVtree t →
-    LeadThrough t path ms (map (λ s. s.tree) states) → AllByRecursion (λ s. IsVtree s.tree) states
-through_valid t path [] [] v h = tt
-through_valid t path [] (s ∷ states) v h = cc
-through_valid t path (m ∷ ms) [] v h = tt
-through_valid t path (m ∷ ms) (s ∷ states) v h =
+through_valid : (fs : List Expression) (bound : ℕ) (t : Tree) (path : List Side) (ms : List WalkMove)
+    (states : List State) → IsVtree t → LeadWithin fs bound t path ms states →
+    AllByRecursion (λ s. IsVtree s.tree) states
+through_valid fs bound t path ms [] v h = tt
+through_valid fs bound t path [] (s ∷ states) v h = cc
+through_valid fs bound t path (m ∷ ms) (s ∷ states) v h =
     let next = moved_vtree m.kind t (path ++ m.below) s.tree h.0 v in
-    (next, through_valid s.tree path ms states next h.1)
+    (next, through_valid fs bound s.tree path ms states next h.3)
 
 -- a state with the tree and the size of another one is that one
 same_state : (a b : State) → a.tree ≡ b.tree → a.size ≡ b.size → a ≡ b
@@ -73,24 +67,35 @@ same_state a b e f =
     let with_size : ℕ → State = λ n. record { tree = b.tree; size = n } in
     ap with_tree e ∙ ap with_size f
 
--- moves lead through one list of trees, and each has one size
-states_determined : (fs : List Expression) (t : Tree) (path : List Side) (ms : List WalkMove) (us vs : List State) →
-    IsVtree t → LeadThrough t path ms (map (λ s. s.tree) us) → AllByRecursion (λ s. HasSize fs s.tree s.size) us →
-    LeadThrough t path ms (map (λ s. s.tree) vs) → AllByRecursion (λ s. HasSize fs s.tree s.size) vs → us ≡ vs
-states_determined fs t path [] [] [] v p q r s = refl
-states_determined fs t path [] [] (b ∷ vs) v p q r s = cc
-states_determined fs t path [] (a ∷ us) vs v p q r s = cc
-states_determined fs t path (m ∷ ms) [] vs v p q r s = absurd p
-states_determined fs t path (m ∷ ms) (a ∷ us) [] v p q r s = absurd r
-states_determined fs t path (m ∷ ms) (a ∷ us) (b ∷ vs) v p q r s =
+-- a moved tree is one, and has one size
+one_size : (fs : List Expression) (t : Tree) (path : List Side) (m : WalkMove) (u v : Tree) (n k : ℕ) → IsVtree t →
+    moved m.kind t (path ++ m.below) ≡ Some u → HasSize fs u n →
+    moved m.kind t (path ++ m.below) ≡ Some v → HasSize fs v k → (u ≡ v) × (n ≡ k)
+one_size fs t path m u v n k valid p q r s =
+    let tree : u ≡ v = (let e = sym p ∙ r in cc) in (
+      tree,
+      size_determined u fs n k (moved_vtree m.kind t (path ++ m.below) u p valid) q
+          (subst (λ w. HasSize fs w k) (sym tree) s),
+    )
+
+-- moves lead through one list of states within a bound
+states_determined : (fs : List Expression) (bound : ℕ) (t : Tree) (path : List Side) (ms : List WalkMove)
+    (us vs : List State) → IsVtree t → LeadWithin fs bound t path ms us → LeadWithin fs bound t path ms vs → us ≡ vs
+states_determined fs bound t path [] us vs v p q = p ∙ sym q
+states_determined fs bound t path (m ∷ ms) [] [] v p q = refl
+states_determined fs bound t path (m ∷ ms) [] (b ∷ vs) v p q =
+    let one = one_size fs t path m p.0 b.tree p.1 b.size v p.2 p.3 q.0 q.1 in
+    absurd (omega (arith, one.1, p.4, q.2))
+states_determined fs bound t path (m ∷ ms) (a ∷ us) [] v p q =
+    let one = one_size fs t path m a.tree q.0 a.size q.1 v p.0 p.1 q.2 q.3 in
+    absurd (omega (arith, one.1, q.4, p.2))
+states_determined fs bound t path (m ∷ ms) (a ∷ us) (b ∷ vs) v p q =
+    let one = one_size fs t path m a.tree b.tree a.size b.size v p.0 p.1 q.0 q.1 in
     let next = moved_vtree m.kind t (path ++ m.below) a.tree p.0 v in
-    let tree : a.tree ≡ b.tree = (let e = sym p.0 ∙ r.0 in cc) in
-    let size : a.size ≡ b.size =
-    size_determined a.tree fs a.size b.size next q.0 (subst (λ t. HasSize fs t b.size) (sym tree) s.0) in
     let rest : us ≡ vs =
-    states_determined fs a.tree path ms us vs next p.1 q.1
-    (subst (λ t. LeadThrough t path ms (map (λ s. s.tree) vs)) (sym tree) r.1) s.1 in
-    let head = same_state a b tree size in
+    states_determined fs bound a.tree path ms us vs next p.3
+    (subst (λ t. LeadWithin fs bound t path ms vs) (sym one.0) q.3) in
+    let head = same_state a b one.0 one.1 in
     cc
 
 pub walk_determined : (fs : List Expression) (slack : ℕ) (t : Tree) (path : List Side) (u v : Tree) → IsVtree t →
@@ -99,25 +104,22 @@ walk_determined fs slack t path u v valid p q =
     let here : p.here ≡ q.here = (let e = sym p.at ∙ q.at in cc) in
     let size : p.size ≡ q.size = size_determined t fs p.size q.size valid p.start q.start in
     let states : p.states ≡ q.states =
-    states_determined fs t path (walk_moves p.here) p.states q.states valid p.through p.sizes
-    (subst (λ h. LeadThrough t path (walk_moves h) (map (λ s. s.tree) q.states)) (sym here) q.through) q.sizes in
-    let by_size : ℕ → List State → Type 0 = λ n ss.
-    IsFirstLeast (record { tree = t; size = n } ∷ within (n * slack / 100) ss) p.least in
+    states_determined fs (p.size * slack / 100) t path (walk_moves p.here) p.states q.states valid p.through
+    (subst (λ n. LeadWithin fs (n * slack / 100) t path (walk_moves p.here) q.states) (sym size)
+    (subst (λ h. LeadWithin fs (q.size * slack / 100) t path (walk_moves h) q.states) (sym here) q.through)) in
+    let by_size : ℕ → List State → Type 0 = λ n ss. IsFirstLeast (record { tree = t; size = n } ∷ ss) p.least in
     let first = subst (by_size q.size) states (subst (λ n. by_size n p.states) size p.first) in
-    let least = least_determined (record { tree = t; size = q.size } ∷ within (q.size * slack / 100) q.states)
-    p.least q.least first q.first in
+    let least = least_determined (record { tree = t; size = q.size } ∷ q.states) p.least q.least first q.first in
     sym p.end ∙ ap (λ s. s.tree) least ∙ q.end
 
 pub walk_valid : (fs : List Expression) (slack : ℕ) (t : Tree) (path : List Side) (u : Tree) → IsVtree t →
     IsWalk fs slack t path u → IsVtree u
 walk_valid fs slack t path u valid p =
-    let bound = p.size * slack / 100 in
-    let all = through_valid t path (walk_moves p.here) p.states valid p.through in
-    let within_all : AllByRecursion (λ s. IsVtree s.tree) (record { tree = t; size = p.size } ∷ within bound p.states) =
-    (valid, all_take (λ s. IsVtree s.tree) (prefix_len (λ s. nat_le s.size bound) p.states) p.states all) in
+    let all = through_valid fs (p.size * slack / 100) t path (walk_moves p.here) p.states valid p.through in
+    let each : AllByRecursion (λ s. IsVtree s.tree) (record { tree = t; size = p.size } ∷ p.states) = (valid, all) in
     subst IsVtree p.end
     (all_middle (λ s. IsVtree s.tree) p.first.before p.first.behind p.least
-    (subst (AllByRecursion (λ s. IsVtree s.tree)) p.first.parts within_all))
+    (subst (AllByRecursion (λ s. IsVtree s.tree)) p.first.parts each))
 
 -- ---- rounds and searches
 

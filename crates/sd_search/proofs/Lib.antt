@@ -1,3 +1,12 @@
 pub mod Moved
 pub mod Determined
 pub mod WorkedSearch
+pub mod AlongPaths
+pub mod KeptRoots
+pub mod OneStep
+pub mod StepsAhead
+pub mod Journals
+pub mod AfterStep
+pub mod Rounds
+pub mod Walks
+pub mod SearchOn

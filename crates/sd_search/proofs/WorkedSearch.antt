@@ -4,7 +4,7 @@ use Rattle.std.proofs.Common.{refl}
 use native.Mathlib.Omega.{arith}
 use Rattle.sd_model.specs.Tree.{Tree, Leaf, Node}
 use Rattle.sd_model.specs.declared.trees.Side.TheVariants.{Right}
-use Rattle.sd_search.specs.Search.{walk_moves, LeadThrough, State, IsFirstLeast, within}
+use Rattle.sd_search.specs.Search.{walk_moves, LeadThrough, State, IsFirstLeast}
 
 -- from two subtrees on the left, a walk leads through the eleven other arrangements of the three
 pub from_left : (a b c : Tree) → LeadThrough (Node (Node a b) c) [] (walk_moves (Node (Node a b) c))
@@ -38,18 +38,11 @@ abbrev numbered : ℕ → ℕ → State
 numbered number size = record { tree = Leaf number; size = size }
 
 -- The sizes of (1 and 3) or (2 and 4) in a walk at the root of ((1 2) (3 4)): the fifth state is the first of the two
--- least ones, and none passes 28, which is twice the first size.
+-- least ones.
 abbrev first_walk : List State
 first_walk =
     numbered 1 14 ∷ numbered 2 19 ∷ numbered 3 11 ∷ numbered 4 13 ∷ numbered 5 8 ∷ numbered 6 11 ∷ numbered 7 13
     ∷ numbered 8 8 ∷ numbered 9 14 ∷ numbered 10 14 ∷ numbered 11 19 ∷ []
-
-none_passes : within 28 first_walk ≡ first_walk
-none_passes = refl
-
--- with 14 in place of 28 the walk stops before the second state
-stops_early : within 14 first_walk ≡ numbered 1 14 ∷ []
-stops_early = refl
 
 keeps_the_fifth : IsFirstLeast (numbered 0 14 ∷ first_walk) (numbered 5 8)
 keeps_the_fifth = record {

@@ -1,1 +1,4 @@
 pub mod Search
+pub mod Kept
+pub mod Paths
+pub mod Walking

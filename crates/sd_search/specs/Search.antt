@@ -1,8 +1,8 @@
 -- The search for a vtree under which formulas have a smaller size: a walk over the arrangements of the subtrees at a
 -- node, a round of walks over all nodes, and rounds until one gains nothing.
-use Rattle.std.specs.Prelude.{◌≡◌, ℕ, zero, suc, ◌*◌, ◌/◌, ◌<◌, ◌≤◌, nat_le}
-use Rattle.std.specs.Prelude.{List, [], ◌∷◌, ◌++◌, map, Option, Some, None}
-use Rattle.std.specs.List.{AllByRecursion, take_while}
+use Rattle.std.specs.Prelude.{◌≡◌, ℕ, zero, suc, ◌*◌, ◌/◌, ◌<◌, ◌≤◌}
+use Rattle.std.specs.Prelude.{List, [], ◌∷◌, ◌++◌, Option, Some, None}
+use Rattle.std.specs.List.{AllByRecursion}
 use Rattle.sd_model.specs.Expression.{Expression}
 use Rattle.sd_model.specs.Tree.{Tree, Leaf, Node}
 use Rattle.sd_model.specs.Size.{HasSize}
@@ -67,9 +67,15 @@ pub record IsFirstLeast (states : List State) (least : State) : Type 0 where
   pub larger : AllByRecursion (λ s. least.size < s.size) before
   pub not_smaller : AllByRecursion (λ s. least.size ≤ s.size) behind
 
--- the states from the first on whose size is within a bound
-abbrev pub within : ℕ → List State → List State
-within bound states = take_while (λ s. nat_le s.size bound) states
+-- From a tree the moves at the node at the end of a path lead through these states, which end before the first whose
+-- size passes a bound.
+abbrev pub LeadWithin : List Expression → ℕ → Tree → List Side → List WalkMove → List State → Type 0
+LeadWithin fs bound t path [] states = states ≡ []
+LeadWithin fs bound t path (m ∷ ms) [] =
+    (u : Tree) × (n : ℕ) × (moved m.kind t (path ++ m.below) ≡ Some u) × HasSize fs u n × (bound < n)
+LeadWithin fs bound t path (m ∷ ms) (s ∷ states) =
+    (moved m.kind t (path ++ m.below) ≡ Some s.tree) × HasSize fs s.tree s.size × (s.size ≤ bound)
+    × LeadWithin fs bound s.tree path ms states
 
 -- A walk at the node at the end of a path: it stops before the first state whose size passes so many hundredths of the
 -- size at its start, and goes back to the first state of least size, the start included.
@@ -79,10 +85,9 @@ pub record IsWalk (fs : List Expression) (slack : ℕ) (t : Tree) (path : List S
   pub size : ℕ
   pub start : HasSize fs t size
   pub states : List State
-  pub through : LeadThrough t path (walk_moves here) (map (λ s. s.tree) states)
-  pub sizes : AllByRecursion (λ s. HasSize fs s.tree s.size) states
+  pub through : LeadWithin fs (size * slack / 100) t path (walk_moves here) states
   pub least : State
-  pub first : IsFirstLeast (record { tree = t; size = size } ∷ within (size * slack / 100) states) least
+  pub first : IsFirstLeast (record { tree = t; size = size } ∷ states) least
   pub end : least.tree ≡ u
 
 -- ---- rounds and searches
@@ -113,3 +118,20 @@ pub data IsSearch (fs : List Expression) (slack : ℕ) : ℕ → Tree → Found 
       found.before < n → IsSearch fs slack rounds u found →
       IsSearch fs slack (suc rounds) t
       (record { tree = found.tree; before = n; after = found.after; rounds = suc found.rounds })
+
+-- ---- broken off
+
+-- A round that was broken off: walks were done up to some point of it, and none is done in part.
+pub data IsRoundBegun (fs : List Expression) (slack : ℕ) : Tree → List Side → Tree → Type 0 where
+  nothing_done : {t : Tree} {path : List Side} → IsRoundBegun fs slack t path t
+  begun_on_left : {t u v : Tree} {path : List Side} (l r : Tree) → subtree_at t path ≡ Some (Node l r) →
+      IsWalk fs slack t path u → IsRoundBegun fs slack u (path ++ Left ∷ []) v → IsRoundBegun fs slack t path v
+  begun_on_right : {t u v w : Tree} {path : List Side} (l r : Tree) → subtree_at t path ≡ Some (Node l r) →
+      IsWalk fs slack t path u → IsRound fs slack u (path ++ Left ∷ []) v →
+      IsRoundBegun fs slack v (path ++ Right ∷ []) w → IsRoundBegun fs slack t path w
+
+-- A search that was broken off: rounds that lessened the size were done, and then a part of one.
+pub data IsSearchBegun (fs : List Expression) (slack : ℕ) : ℕ → Tree → Tree → Type 0 where
+  in_round : {t u : Tree} {rounds : ℕ} → IsRoundBegun fs slack t [] u → IsSearchBegun fs slack (suc rounds) t u
+  after_round : {t u v : Tree} {rounds n k : ℕ} → HasSize fs t n → IsRound fs slack t [] u → HasSize fs u k →
+      k < n → IsSearchBegun fs slack rounds u v → IsSearchBegun fs slack (suc rounds) t v

@@ -1,0 +1,61 @@
+use Rattle.std.proofs.Common.{◌∙◌, ◌<◌, length, sym, ap, subst, arith}
+use Rattle.sd_vtree.specs.Numbered.{number_of, numbers}
+use Rattle.sd_apply.specs.Serving.{Serves}
+use Rattle.sd_search.proofs.SearchOn.{IsSearching, searching_first, kept_on, searching_more, searching_last}
+use Rattle.sd_search.proofs.SearchOn.{searching_broken, searching_end}
+use Rattle.sd_search.proofs.searching.minimise.Goals as goal
+
+pub loop-done-init : goal.loop-done-init
+loop-done-init c =
+    let t = c.args.m.now in
+    let same = sym c.size-before.ensures.same in
+    let root = c.root-root.result in
+    let before = c.size-before.result in
+    record {
+      searching = subst (λ u. IsSearching t u c.args.rounds c.args.slack root before 0 before) same
+          (searching_first t c.args.rounds c.args.slack root before c.vtree.ensures.table c.requires.no_move
+          (c.root-root.ensures.root ∙ ap number_of c.vtree.ensures.vtree)
+          (subst (λ v. root < length (numbers v)) c.vtree.ensures.vtree c.root-root.ensures.node)
+          c.size-before.ensures.size c.requires.unmarked);
+      serves = subst (Serves c.args.c.now) same c.requires.serves;
+    }
+
+pub returns-in-Err-clause-begun : goal.returns-in-Err-clause-begun
+returns-in-Err-clause-begun c =
+    searching_broken c.args.m.now c.loop-done.m c.round.new.m c.args.rounds c.args.slack c.root-root.result
+    c.size-before.result c.loop-done.done c.loop-done.after c.loop-done.invariant.searching c.round.ensures.table
+    c.round.ensures.kept (omega (arith, c.loop-done-test.true)) c.in-Err.ensures.begun
+
+pub returns-in-Err-clause-kept : goal.returns-in-Err-clause-kept
+returns-in-Err-clause-kept c =
+    kept_on c.args.m.now c.loop-done.m c.round.new.m c.args.rounds c.args.slack c.root-root.result
+    c.size-before.result c.loop-done.done c.loop-done.after c.loop-done.invariant.searching c.round.ensures.table
+    c.round.ensures.kept
+
+pub returns-then-next-after-clause-search : goal.returns-then-next-after-clause-search
+returns-then-next-after-clause-search c =
+    searching_last c.args.m.now c.loop-done.m c.round.new.m c.args.rounds c.args.slack c.root-root.result
+    c.size-before.result c.loop-done.done c.loop-done.after c.loop-done.invariant.searching c.round.ensures.table
+    c.round.ensures.kept c.in-Ok.next c.in-Ok.ensures.size c.in-Ok.ensures.round
+    (omega (arith, c.loop-done-test.true)) (omega (arith, c.if-next-after.true))
+
+pub returns-then-next-after-clause-kept : goal.returns-then-next-after-clause-kept
+returns-then-next-after-clause-kept c =
+    kept_on c.args.m.now c.loop-done.m c.round.new.m c.args.rounds c.args.slack c.root-root.result
+    c.size-before.result c.loop-done.done c.loop-done.after c.loop-done.invariant.searching c.round.ensures.table
+    c.round.ensures.kept
+
+pub loop-done-preserved : goal.loop-done-preserved
+loop-done-preserved c = record {
+  searching = searching_more c.args.m.now c.loop-done.m c.round.new.m c.args.rounds c.args.slack c.root-root.result
+      c.size-before.result c.loop-done.done c.loop-done.after c.loop-done.invariant.searching c.round.ensures.table
+      c.round.ensures.kept c.in-Ok.next c.in-Ok.ensures.size c.in-Ok.ensures.round
+      (omega (arith, c.if-next-after.false)) c.round.ensures.along c.round.ensures.unmarked;
+  serves = c.round.ensures.serves;
+}
+
+pub returns-clause-search : goal.returns-clause-search
+returns-clause-search c =
+    searching_end c.args.m.now c.loop-done.m c.args.rounds c.args.slack c.root-root.result c.size-before.result
+    c.loop-done.done c.loop-done.after c.loop-done.invariant.searching
+    (omega (arith, c.loop-done-test.false, c.loop-done.auto.done-end))

@@ -1,0 +1,125 @@
+// Rounds of walks over all nodes, and a search of several rounds.
+ghost use Rattle.std.specs.Prelude.{◌≡◌, ℕ, ◌<◌, List, [], length, None, IfOk, IfErr, OnErr};
+ghost use Rattle.sd_model.specs.declared.trees.Side.{Side as TheSide};
+ghost use Rattle.sd_model.specs.Expression.{Expression};
+ghost use Rattle.sd_vtree.specs.Numbered.{numbers, plain_tree};
+ghost use Rattle.sd_manager.specs.Marking.{AreUnmarked};
+ghost use Rattle.sd_manager.specs.Valid.{IsTable};
+ghost use Rattle.sd_apply.specs.Serving.{Serves};
+ghost use Rattle.sd_compile.specs.Total.{AreHeldFormulas};
+ghost use Rattle.sd_search.specs.Search.{IsRound, IsRoundBegun, IsSearch, IsSearchBegun};
+ghost use Rattle.sd_search.specs.Kept.{KeepsRoots, IsSizeOfHeld, IsSearchRefusal};
+ghost use Rattle.sd_search.specs.Paths.{IsAtPath, KeepsAlong};
+
+use crate::error::SearchError;
+use crate::walking::walk;
+use sd_cache::Cache;
+use sd_manager::Manager;
+use sd_sweep::size;
+use sd_vtree::VNode;
+use std::alloc::Global;
+
+/// The total size at the start of a search and at its end, and how many rounds were done.
+#[derive(Clone, Copy, Debug, PartialEq, Eq)]
+pub struct Outcome {
+    pub before: u32,
+    pub after: u32,
+    pub rounds: u32,
+}
+
+/// Searches for a vtree under which all held diagrams together are smaller: rounds of walks over all nodes, until
+/// `rounds` are done or one did not lessen the size. A walk passes `slack` hundredths of the size at its start in no
+/// state. Each held root keeps its node and its function.
+///
+/// ArenaFull by the arena's rule, and OutOfMemory. Then the walk in hand is gone back, so that the vtree is the one
+/// after the walks that were finished.
+pub fn minimise(
+    alloc: Global,
+    m: &mut Manager,
+    c: &mut Cache,
+    rounds: u32,
+    slack: u32,
+) -> Result<Outcome, SearchError>
+    requires no_move { m.old.moving ≡ None }
+    requires unmarked { AreUnmarked m.old }
+    requires serves { Serves c.old m.old }
+    ensures search { (fs : List Expression) → AreHeldFormulas m.old fs →
+        IfOk result (λ r. IsSearch fs slack rounds (plain_tree m.old.vtree)
+        (record { tree = plain_tree m.new.vtree; before = r.before; after = r.after; rounds = r.rounds })) }
+    ensures begun { (fs : List Expression) → AreHeldFormulas m.old fs →
+        OnErr result (IsSearchBegun fs slack rounds (plain_tree m.old.vtree) (plain_tree m.new.vtree)) }
+    ensures kept { KeepsRoots m.old m.new }
+    ensures refused { IfErr result (λ e. IsSearchRefusal m.new e) }
+    ensures unmarked { AreUnmarked m.new }
+    ensures serves { Serves c.new m.new }
+    ensures table { IsTable m.new }
+{
+    let root = m.vtree().root();
+    let before = size(m);
+    let mut after = before;
+    for done in 0..rounds {
+        let next = match round(alloc, m, c, root, slack, after) {
+            Ok(next) => next,
+            Err(error) => return Err(error),
+        };
+        if next >= after {
+            return Ok(Outcome {
+                before,
+                after: next,
+                rounds: done + 1,
+            });
+        }
+        after = next;
+    }
+    Ok(Outcome {
+        before,
+        after,
+        rounds,
+    })
+}
+
+// A round at a node, from a state of this size: a walk there, then a round at its left child, and then one at its right
+// child, in the vtree as it then is. Answers the size of the state that it leads to.
+fn round(
+    alloc: Global,
+    m: &mut Manager,
+    c: &mut Cache,
+    place: VNode,
+    slack: u32,
+    size: u32,
+) -> Result<u32, SearchError>
+    requires no_move { m.old.moving ≡ None }
+    requires place { place < length (numbers m.old.vtree) }
+    requires size { IsSizeOfHeld m.old size }
+    requires unmarked { AreUnmarked m.old }
+    requires serves { Serves c.old m.old }
+    ensures round { (fs : List Expression) (path : List TheSide) → AreHeldFormulas m.old fs
+        → IsAtPath m.old.vtree path place
+        → IfOk result (λ after. IsRound fs slack (plain_tree m.old.vtree) path (plain_tree m.new.vtree)) }
+    ensures begun { (fs : List Expression) (path : List TheSide) → AreHeldFormulas m.old fs
+        → IsAtPath m.old.vtree path place
+        → OnErr result (IsRoundBegun fs slack (plain_tree m.old.vtree) path (plain_tree m.new.vtree)) }
+    ensures size { IfOk result (λ after. IsSizeOfHeld m.new after) }
+    ensures along { (path : List TheSide) → IsAtPath m.old.vtree path place
+        → KeepsAlong m.old.vtree m.new.vtree path }
+    ensures kept { KeepsRoots m.old m.new }
+    ensures refused { IfErr result (λ e. IsSearchRefusal m.new e) }
+    ensures unmarked { AreUnmarked m.new }
+    ensures serves { Serves c.new m.new }
+    ensures table { IsTable m.new }
+{
+    let Some(_) = m.vtree().children(place) else {
+        return Ok(size);
+    };
+    let walked = match walk(alloc, m, c, place, slack, size) {
+        Ok(walked) => walked,
+        Err(error) => return Err(error),
+    };
+    let first = m.vtree().children(place).unwrap();
+    let left = match round(alloc, m, c, first.0, slack, walked) {
+        Ok(left) => left,
+        Err(error) => return Err(error),
+    };
+    let second = m.vtree().children(place).unwrap();
+    round(alloc, m, c, second.1, slack, left)
+}
