@@ -3,6 +3,7 @@ pub mod Moved
 pub mod MovedState
 pub mod Names
 pub mod Outcomes
+pub mod Searched
 pub mod Standing
 pub mod Stepping
 pub mod Values

@@ -173,6 +173,7 @@ module _ (code : RunState) (mid new : Table) (kind : Move) (place : ℕ) (j : Jo
   stands_moved cache seen serves unmarked was = record {
     tree = ap (λ s. plain_tree s.vtree) (sym settled);
     limit = was.limit;
+    slack = was.slack;
     once = was.once;
     holds = λ name. name_moved _ _ (was.holds name);
     apart = was.apart;

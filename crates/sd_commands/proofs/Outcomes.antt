@@ -1,4 +1,4 @@
--- A command has one outcome; where it is done the tree stays, and the bound names are those that are expected.
+-- A command has one outcome; where it is done the tree is a vtree, and the bound names are those that are expected.
 use Rattle.std.proofs.Common.{◌≡◌, ℕ, Bool, true, false, not, eqb, List, [], ◌∷◌, filter, map}
 use Rattle.std.proofs.Common.{suc, ◌+◌, ◌<◌, length, get_or, drop, add-one, refl, sym, ap, subst, ◌∙◌, inl, inr}
 use Rattle.std.proofs.Common.{Option, Some, None, arith}
@@ -14,15 +14,17 @@ use Rattle.sd_model.proofs.Determined.{diagrams_determined, size_determined}
 use Rattle.sd_formula.specs.Dimacs.{Groups}
 use Rattle.sd_formula.specs.Formulas.{expression_of}
 use Rattle.sd_file.specs.Reads.{expression_of_file}
+use Rattle.sd_search.proofs.Determined.{search_determined}
 use Rattle.sd_commands.specs.Effects.{Effect, Write, Print}
 use Rattle.sd_commands.specs.Commands.{State, Outcome, Done, OverLimit, Step, Settles, Binds, BindsInput, Compares}
 use Rattle.sd_commands.specs.Commands.{Moves, AreWithin, PassLimit, PassesAtGroup, IsTextOf, formulas_of, with_groups}
-use Rattle.sd_commands.specs.Commands.{with_name, formula_named, size_line, same_line}
+use Rattle.sd_commands.specs.Commands.{with_name, formula_named, size_line, same_line, search_line}
 use Rattle.sd_commands.specs.Fits.{Fits, AllFit, has, bound_after}
 use Rattle.sd_commands.specs.Standing.{names_of}
 use Rattle.sd_commands.specs.declared.command.NumberedCommand.{NumberedCommand}
 use Rattle.sd_commands.specs.declared.command.RunCommand.{RunCommand}
 use Rattle.sd_commands.specs.declared.command.RunCommand.TheVariants as commands
+use Rattle.sd_commands.proofs.Searched.{search_valid}
 use Rattle.sd_commands.proofs.Moved.{IsReordered, vtree_reordered, move_reordered}
 
 -- ---- one outcome
@@ -122,6 +124,11 @@ one_outcome input state (commands.Forget n x variable) a b valid p q =
 one_outcome input state (commands.Drop x) a b valid p q = p ∙ sym q
 one_outcome input state (commands.Turn kind position) a b valid p q =
     one_moved kind state position (moved_at kind state.tree position) a b refl valid p q
+one_outcome input state (commands.Minimise rounds) a b valid p q =
+    p.2 ∙ ap (λ found. Done (record state { tree = found.tree })
+    (Print (search_line found.before found.after found.rounds) ∷ []))
+    (search_determined valid p.1 q.1)
+    ∙ sym q.2
 one_outcome input state (commands.Limit limit) a b valid p q =
     one_settled (record state { limit = limit }) a b valid p q
 one_outcome input state (commands.Same x y) a b valid p q =
@@ -203,15 +210,11 @@ moved_done kind state next effects position (Some tree) at p =
       ap names_of same,
     )
 
--- a command that moves nothing
+-- a command that neither moves the vtree nor searches
 abbrev pub KeepsTree : RunCommand → Type 0
 KeepsTree (commands.Turn kind position) = ⊥
+KeepsTree (commands.Minimise rounds) = ⊥
 KeepsTree command = Unit {0}
-
--- the same tree has the same variables
-kept_order : (state next : State) → next.tree ≡ state.tree → IsReordered state.tree next.tree
-kept_order state next same =
-    subst (λ t. IsReordered state.tree t) (sym same) (record { often = λ k. refl; count = refl })
 
 -- leaves the tree
 pub same_tree : (input : Groups) (state next : State) (command : RunCommand) (effects : List Effect) → KeepsTree command
@@ -235,49 +238,52 @@ same_tree input state next (commands.Value x bits) effects keeps p = kept_tree s
 same_tree input state next (commands.Write names file) effects keeps p = kept_tree state next effects _ p.2
 same_tree input state next (commands.WriteVtree file) effects keeps p = kept_tree state next effects _ p
 same_tree input state next (commands.Turn kind position) effects keeps p = absurd keeps
+same_tree input state next (commands.Minimise rounds) effects keeps p = absurd keeps
 
--- so each command leaves a vtree of the same variables
-pub tree_reordered : (input : Groups) (state next : State) (command : RunCommand) (effects : List Effect)
-    → Step input state command (Done next effects) → IsReordered state.tree next.tree
-tree_reordered input state next (commands.Turn kind position) effects p =
-    (moved_done kind state next effects position (moved_at kind state.tree position) refl p).0
-tree_reordered input state next (commands.Generated v g) effects p =
-    kept_order state next (same_tree input state next (commands.Generated v g) effects tt p)
-tree_reordered input state next (commands.Input n) effects p =
-    kept_order state next (same_tree input state next (commands.Input n) effects tt p)
-tree_reordered input state next (commands.Load n file) effects p =
-    kept_order state next (same_tree input state next (commands.Load n file) effects tt p)
-tree_reordered input state next (commands.Literal n literal) effects p =
-    kept_order state next (same_tree input state next (commands.Literal n literal) effects tt p)
-tree_reordered input state next (commands.Constant n value) effects p =
-    kept_order state next (same_tree input state next (commands.Constant n value) effects tt p)
-tree_reordered input state next (commands.Combine operation n x y) effects p =
-    kept_order state next (same_tree input state next (commands.Combine operation n x y) effects tt p)
-tree_reordered input state next (commands.Negate n x) effects p =
-    kept_order state next (same_tree input state next (commands.Negate n x) effects tt p)
-tree_reordered input state next (commands.Given n x literal) effects p =
-    kept_order state next (same_tree input state next (commands.Given n x literal) effects tt p)
-tree_reordered input state next (commands.Forget n x variable) effects p =
-    kept_order state next (same_tree input state next (commands.Forget n x variable) effects tt p)
-tree_reordered input state next (commands.Drop x) effects p =
-    kept_order state next (same_tree input state next (commands.Drop x) effects tt p)
-tree_reordered input state next (commands.Limit limit) effects p =
-    kept_order state next (same_tree input state next (commands.Limit limit) effects tt p)
-tree_reordered input state next (commands.Same x y) effects p =
-    kept_order state next (same_tree input state next (commands.Same x y) effects tt p)
-tree_reordered input state next (commands.Size x) effects p =
-    kept_order state next (same_tree input state next (commands.Size x) effects tt p)
-tree_reordered input state next (commands.Value x bits) effects p =
-    kept_order state next (same_tree input state next (commands.Value x bits) effects tt p)
-tree_reordered input state next (commands.Write names file) effects p =
-    kept_order state next (same_tree input state next (commands.Write names file) effects tt p)
-tree_reordered input state next (commands.WriteVtree file) effects p =
-    kept_order state next (same_tree input state next (commands.WriteVtree file) effects tt p)
+-- the same tree is a vtree
+kept_vtree : (state next : State) → next.tree ≡ state.tree → IsVtree state.tree → IsVtree next.tree
+kept_vtree state next same valid = subst IsVtree (sym same) valid
 
+-- so each command leaves a vtree
 pub valid_after : (input : Groups) (state next : State) (command : RunCommand) (effects : List Effect)
     → IsVtree state.tree → Step input state command (Done next effects) → IsVtree next.tree
-valid_after input state next command effects valid p =
-    vtree_reordered state.tree next.tree (tree_reordered input state next command effects p) valid
+valid_after input state next (commands.Turn kind position) effects valid p =
+    vtree_reordered state.tree next.tree
+    (moved_done kind state next effects position (moved_at kind state.tree position) refl p).0 valid
+valid_after input state next (commands.Minimise rounds) effects valid p =
+    subst (λ (s : State). IsVtree s.tree) (sym (same_next _ _ _ _ p.2)) (search_valid valid p.1)
+valid_after input state next (commands.Generated v g) effects valid p =
+    kept_vtree state next (same_tree input state next (commands.Generated v g) effects tt p) valid
+valid_after input state next (commands.Input n) effects valid p =
+    kept_vtree state next (same_tree input state next (commands.Input n) effects tt p) valid
+valid_after input state next (commands.Load n file) effects valid p =
+    kept_vtree state next (same_tree input state next (commands.Load n file) effects tt p) valid
+valid_after input state next (commands.Literal n literal) effects valid p =
+    kept_vtree state next (same_tree input state next (commands.Literal n literal) effects tt p) valid
+valid_after input state next (commands.Constant n value) effects valid p =
+    kept_vtree state next (same_tree input state next (commands.Constant n value) effects tt p) valid
+valid_after input state next (commands.Combine operation n x y) effects valid p =
+    kept_vtree state next (same_tree input state next (commands.Combine operation n x y) effects tt p) valid
+valid_after input state next (commands.Negate n x) effects valid p =
+    kept_vtree state next (same_tree input state next (commands.Negate n x) effects tt p) valid
+valid_after input state next (commands.Given n x literal) effects valid p =
+    kept_vtree state next (same_tree input state next (commands.Given n x literal) effects tt p) valid
+valid_after input state next (commands.Forget n x variable) effects valid p =
+    kept_vtree state next (same_tree input state next (commands.Forget n x variable) effects tt p) valid
+valid_after input state next (commands.Drop x) effects valid p =
+    kept_vtree state next (same_tree input state next (commands.Drop x) effects tt p) valid
+valid_after input state next (commands.Limit limit) effects valid p =
+    kept_vtree state next (same_tree input state next (commands.Limit limit) effects tt p) valid
+valid_after input state next (commands.Same x y) effects valid p =
+    kept_vtree state next (same_tree input state next (commands.Same x y) effects tt p) valid
+valid_after input state next (commands.Size x) effects valid p =
+    kept_vtree state next (same_tree input state next (commands.Size x) effects tt p) valid
+valid_after input state next (commands.Value x bits) effects valid p =
+    kept_vtree state next (same_tree input state next (commands.Value x bits) effects tt p) valid
+valid_after input state next (commands.Write x file) effects valid p =
+    kept_vtree state next (same_tree input state next (commands.Write x file) effects tt p) valid
+valid_after input state next (commands.WriteVtree file) effects valid p =
+    kept_vtree state next (same_tree input state next (commands.WriteVtree file) effects tt p) valid
 
 pub names_after : (input : Groups) (state next : State) (command : RunCommand) (effects : List Effect)
     → Step input state command (Done next effects) → names_of next ≡ bound_after (names_of state) command
@@ -296,6 +302,8 @@ names_after input state next (commands.Drop x) effects p =
 names_after input state next (commands.Turn kind position) effects p =
     (moved_done kind state next effects position (moved_at kind state.tree position) refl p).1
     ∙ sym (all_stay (names_of state))
+names_after input state next (commands.Minimise rounds) effects p =
+    ap names_of (same_next _ _ _ _ p.2) ∙ sym (all_stay (names_of state))
 names_after input state next (commands.Limit limit) effects p =
     ap names_of (settled_done (record state { limit = limit }) next effects p).0 ∙ sym (all_stay (names_of state))
 names_after input state next (commands.Same x y) effects p = kept_names state next effects _ p.2

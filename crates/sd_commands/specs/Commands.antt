@@ -13,17 +13,19 @@ use Rattle.sd_formula.specs.Dimacs.{Groups}
 use Rattle.sd_formula.specs.Formulas.{expression_of}
 use Rattle.sd_file.specs.Reads.{expression_of_file}
 use Rattle.sd_compile.specs.Compiling.{prefix_of}
+use Rattle.sd_search.specs.Search.{Found, IsSearch}
 use Rattle.sd_commands.specs.Effects.{Effect, Write, Print}
 use Rattle.sd_commands.specs.declared.command.RunCommand.{RunCommand}
 use Rattle.sd_commands.specs.declared.command.RunCommand.TheVariants as commands
 use Rattle.sd_commands.specs.declared.command.NumberedCommand.{NumberedCommand}
 
--- what a run holds between two commands: the bound names with their formulas, the last one first, the tree, and the
--- limit of the total size
+-- what a run holds between two commands: the bound names with their formulas, the last one first, the tree, the limit
+-- of the total size, and how many hundredths of the size at its start a walk of a search may reach
 pub record State : Type 0 where
   pub names : List (ℕ × Expression)
   pub tree : Tree
   pub limit : ℕ
+  pub slack : ℕ
 
 -- a command is done, with a new state and at most one effect; its place is not movable; or the total size passes the
 -- limit, at a group of the input or after the command
@@ -140,6 +142,19 @@ abbrev pub Moves : State → Option Tree → Outcome → Type 0
 Moves state None outcome = outcome ≡ NotMovable
 Moves state (Some tree) outcome = Settles (record state { tree = tree }) outcome
 
+-- the line of a search: the total size at its start and at its end, and the number of rounds
+abbrev pub search_line : (before after rounds : ℕ) → List ℕ
+search_line before after rounds =
+    codes "minimise " ++ number_text before ++ 32 ∷ number_text after ++ 32 ∷ number_text rounds ++ 10 ∷ []
+
+-- The names keep their formulas over the tree that a search over all of them finds, of at most so many rounds; its
+-- sizes and rounds are printed.
+abbrev pub Searches : State → ℕ → Outcome → Type 0
+Searches state rounds outcome =
+    (found : Found) × IsSearch (formulas_of state) state.slack rounds state.tree found
+    × (outcome ≡ Done (record state { tree = found.tree })
+    (Print (search_line found.before found.after found.rounds) ∷ []))
+
 -- what a command comes to in a state, where this formula is the input
 abbrev pub Step : Groups → State → RunCommand → Outcome → Type 0
 Step input state (commands.Generated variables groups) outcome =
@@ -156,6 +171,7 @@ Step input state (commands.Given n a literal) outcome =
 Step input state (commands.Forget n a x) outcome = Binds state n (Forgotten (formula_named state a) x) outcome
 Step input state (commands.Drop a) outcome = outcome ≡ Done (dropped state a) []
 Step input state (commands.Turn kind p) outcome = Moves state (moved_at kind state.tree p) outcome
+Step input state (commands.Minimise rounds) outcome = Searches state rounds outcome
 Step input state (commands.Limit limit) outcome = Settles (record state { limit = limit }) outcome
 Step input state (commands.Same a b) outcome =
     (answer : Bool) × Compares state.tree (formula_named state a) (formula_named state b) answer
@@ -178,6 +194,7 @@ MayFill (commands.Negate n a) = Unit {0}
 MayFill (commands.Given n a literal) = Unit {0}
 MayFill (commands.Forget n a x) = Unit {0}
 MayFill (commands.Turn kind p) = Unit {0}
+MayFill (commands.Minimise rounds) = Unit {0}
 MayFill command = ⊥
 
 -- these commands are all done, one after another, with these effects

@@ -1,5 +1,5 @@
 -- How the code represents a state of a run, and what a command leaves.
-use Rattle.std.specs.Prelude.{◌≡◌, ℕ, List, [], ◌∷◌, map, Option, Some, None, Result, Ok, Err}
+use Rattle.std.specs.Prelude.{◌≡◌, ◌⊎◌, ℕ, List, [], ◌∷◌, map, Option, Some, None, Result, Ok, Err}
 use Rattle.std.specs.Option.{IsSome}
 use Rattle.std.specs.declared.alloc.AllocError.{AllocError}
 use Rattle.std.specs.BTreeMap as maps
@@ -25,9 +25,13 @@ use Rattle.sd_move.specs.declared.error.MoveError.{MoveError}
 use Rattle.sd_move.specs.declared.error.MoveError.TheVariants as moving
 use Rattle.sd_runs.specs.declared.error.TakeError.{TakeError}
 use Rattle.sd_runs.specs.declared.error.TakeError.TheVariants as taking
+use Rattle.sd_search.specs.Search.{Found, IsSearch, IsSearchBegun}
+use Rattle.sd_search.specs.declared.error.SearchError.{SearchError}
+use Rattle.sd_search.specs.declared.error.SearchError.TheVariants as searching
 use Rattle.sd_commands.specs.Commands.{State, Done, OverLimit, NotMovable, Step, MayFill, named, formulas_of}
 use Rattle.sd_commands.specs.Commands.{formula_named, AreWithin, PassLimit}
 use Rattle.sd_commands.specs.declared.command.RunCommand.{RunCommand}
+use Rattle.sd_commands.specs.declared.command.RunCommand.TheVariants as commands
 use Rattle.sd_commands.specs.declared.command.Effect.{Effect as CodeEffect}
 use Rattle.sd_commands.specs.declared.command.Effect.TheVariants.{WriteFile, PrintLine}
 use Rattle.sd_commands.specs.declared.error.CommandError.{CommandError}
@@ -35,8 +39,8 @@ use Rattle.sd_commands.specs.declared.error.CommandError.TheVariants as errors
 use Rattle.sd_commands.specs.declared.state.RunState.{RunState}
 
 -- no name is bound
-abbrev pub start : Tree → ℕ → State
-start tree limit = record { names = []; tree = tree; limit = limit }
+abbrev pub start : Tree → ℕ → ℕ → State
+start tree limit slack = record { names = []; tree = tree; limit = limit; slack = slack }
 
 -- the bound names
 abbrev pub names_of : State → List ℕ
@@ -74,6 +78,7 @@ pub record IsOfName (code : RunState) (root : ℕ) : Type 0 where
 pub record Represents (code : RunState) (state : State) : Type 0 where
   pub tree : state.tree ≡ plain_tree code.manager.vtree
   pub limit : state.limit ≡ code.limit
+  pub slack : state.slack ≡ code.slack
   pub once : AreDistinct (names_of state)
   pub holds : (name : ℕ) → HoldsName code.manager (maps.get nat_cmp code.names name) (named state.names name)
   pub apart : (a b root : ℕ) → maps.get nat_cmp code.names a ≡ Some root → maps.get nat_cmp code.names b ≡ Some root
@@ -90,6 +95,30 @@ pub record IsAsBefore (old new : RunState) : Type 0 where
   pub represents : (seen : State) → Represents old seen → Represents new seen
   pub holds : (root : ℕ) (d : Diagram) → HoldsDiagram old.manager root d → HoldsDiagram new.manager root d
   pub roots : new.manager.roots ≡ old.manager.roots
+
+-- the tree after a search, or after the walks that were finished of one that was broken off
+abbrev pub IsSearched : State → ℕ → Tree → Type 0
+IsSearched state rounds tree =
+    IsSearchBegun (formulas_of state) state.slack rounds state.tree tree
+    ⊎ ((found : Found) × IsSearch (formulas_of state) state.slack rounds state.tree found × (tree ≡ found.tree))
+
+-- the tree that a command leaves where it stops: that of the state, but for a search
+abbrev pub IsTreeLeft : State → RunCommand → Tree → Type 0
+IsTreeLeft state (commands.Minimise rounds) tree = IsSearched state rounds tree
+IsTreeLeft state command tree = tree ≡ state.tree
+
+-- What a search that stops leaves: the code represents each state that it did over the tree after the walks that were
+-- finished, and each root keeps its node.
+pub record IsLeftBySearch (rounds : ℕ) (old new : RunState) : Type 0 where
+  pub represents : (seen : State) → Represents old seen
+      → Represents new (record seen { tree = plain_tree new.manager.vtree })
+  pub searched : (seen : State) → Represents old seen → IsSearched seen rounds (plain_tree new.manager.vtree)
+  pub roots : new.manager.roots ≡ old.manager.roots
+
+-- what a command that stops leaves: all as before, but for the tree of a search
+abbrev pub IsLeft : RunCommand → RunState → RunState → Type 0
+IsLeft (commands.Minimise rounds) old new = IsLeftBySearch rounds old new
+IsLeft command old new = IsAsBefore old new
 
 -- The manager holds what the names of the state stand for: its vtree is the state's tree, for each bound name a root
 -- holds its formula, and each root that is held holds that of a bound name.
@@ -179,6 +208,11 @@ error_of_move moving.NotMovable = errors.NotMovable
 error_of_move (moving.OverMost size most) = errors.OverLimit None size most
 error_of_move (moving.ArenaFull elements) = errors.ArenaFull elements
 error_of_move moving.OutOfMemory = errors.OutOfMemory
+
+-- why a search is broken off, as an answer of a command
+abbrev pub error_of_search : SearchError → CommandError
+error_of_search (searching.ArenaFull elements) = errors.ArenaFull elements
+error_of_search searching.OutOfMemory = errors.OutOfMemory
 
 -- the effect is handed out, or there was no memory for it
 abbrev pub HandsOut : Result CodeEffect AllocError → Result (Option CodeEffect) CommandError → Type 0

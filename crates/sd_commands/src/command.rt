@@ -30,6 +30,8 @@ pub enum RunCommand {
     Drop(u32),
     /// Moves the vtree at a position.
     Turn(Move, u32),
+    /// Searches, in at most so many rounds, for a vtree under which all diagrams together are smaller.
+    Minimise(u32),
     /// Sets the limit of the total size.
     Limit(u32),
     /// Prints whether the formulas of two names are one function.

@@ -1,11 +1,12 @@
 //! Why a command is not done.
 ghost use Rattle.std.specs.Prelude.{◌≡◌};
 ghost use Rattle.sd_commands.specs.Standing.{error_of_operation, error_of_compiling, error_of_holding};
-ghost use Rattle.sd_commands.specs.Standing.{error_of_move};
+ghost use Rattle.sd_commands.specs.Standing.{error_of_move, error_of_search};
 
 use sd_compile::{CompileError, HoldError};
 use sd_move::MoveError;
 use sd_runs::TakeError;
+use sd_search::SearchError;
 use thiserror::Error;
 
 /// Why a command is not done.
@@ -84,5 +85,15 @@ pub(crate) fn move_error(error: MoveError) -> CommandError
         },
         MoveError::ArenaFull { elements } => CommandError::ArenaFull { elements },
         MoveError::OutOfMemory => CommandError::OutOfMemory,
+    }
+}
+
+// Why a search is broken off, as an answer of a command.
+pub(crate) fn search_error(error: SearchError) -> CommandError
+    ensures { result ≡ error_of_search error }
+{
+    match error {
+        SearchError::ArenaFull { elements } => CommandError::ArenaFull { elements },
+        SearchError::OutOfMemory => CommandError::OutOfMemory,
     }
 }

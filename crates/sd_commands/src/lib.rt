@@ -7,6 +7,7 @@ mod command;
 mod effects;
 mod error;
 mod moving;
+mod searching;
 mod state;
 mod steps;
 #[cfg(test)]

@@ -4,7 +4,7 @@ ghost use Rattle.sd_model.specs.Tree.{leaves};
 ghost use Rattle.sd_vtree.specs.Numbered.{plain_tree};
 ghost use Rattle.sd_commands.specs.Commands.{State};
 ghost use Rattle.sd_commands.specs.Fits.{Fits};
-ghost use Rattle.sd_commands.specs.Standing.{Represents, StepsTo, StopsAt, HandsOut, IsAsBefore};
+ghost use Rattle.sd_commands.specs.Standing.{Represents, StepsTo, StopsAt, HandsOut, IsLeft};
 ghost use Rattle.sd_commands.specs.Standing.{names_of, root_count};
 
 use crate::bind::{
@@ -17,6 +17,7 @@ use crate::effects::{
 };
 use crate::error::CommandError;
 use crate::moving::turn_at;
+use crate::searching::search;
 use crate::state::RunState;
 use sd_formula::Formula;
 use std::alloc::{AllocError, Global};
@@ -24,7 +25,8 @@ use std::alloc::{AllocError, Global};
 /// Does one command, up to its effect, which is handed out. NotMovable where the vtree cannot be moved so; OverLimit
 /// where the total size passes the limit after a command that binds a name, moves the vtree or sets the limit, or after
 /// a group of the input; ArenaFull where the elements of a node find no room in the arena; and OutOfMemory where memory
-/// runs out. Then the names, the tree, the limit and what each root holds are as before.
+/// runs out. Then the names, the tree, the limit and what each root holds are as before; but a search leaves the vtree
+/// after the walks that were finished, where each root holds what it held.
 pub fn step(
     alloc: Global,
     input: &Formula,
@@ -40,7 +42,7 @@ pub fn step(
         (λ effect. StepsTo input.now seen command.now state.new effect) }
     ensures stops { (seen : State) → Represents state.old seen →
         IfErr result (λ e. StopsAt input.now seen command.now state.new.manager e) }
-    ensures err { OnErr result (IsAsBefore state.old state.new) }
+    ensures err { OnErr result (IsLeft command.now state.old state.new) }
     ensures variables { leaves (plain_tree state.new.manager.vtree) ≡ leaves (plain_tree
         state.old.manager.vtree) }
     ensures roots { root_count state.new ≤ root_count state.old + 1 }
@@ -64,6 +66,7 @@ pub fn step(
             Ok(None)
         }
         RunCommand::Turn(kind, position) => turn_at(alloc, state, *kind, *position),
+        RunCommand::Minimise(rounds) => search(alloc, state, *rounds),
         RunCommand::Limit(limit) => set_limit(state, *limit),
         RunCommand::Same(a, b) => or_out_of_memory(print_same(alloc, state, *a, *b)),
         RunCommand::Size(name) => or_out_of_memory(print_size(alloc, state, *name)),

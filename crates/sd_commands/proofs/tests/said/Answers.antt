@@ -26,7 +26,7 @@ step-requires c =
 
 pub loop-command-init : goal.loop-command-init
 loop-command-init c = record {
-  fit = (start (plain_tree c.in-Ok.vtree) c.args.limit, c.in-Ok-new.ensures.represents, c.requires.fit);
+  fit = (start (plain_tree c.in-Ok.vtree) c.args.limit 200, c.in-Ok-new.ensures.represents, c.requires.fit);
   tree =
       ap (λ v. leaves (plain_tree v)) c.in-Ok-new.ensures.vtree ∙ ap leaves c.in-Ok.ensures.tree
       ∙ (vtree_in_order (balanced_tree c.args.variables) c.args.variables
