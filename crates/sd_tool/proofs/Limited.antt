@@ -21,6 +21,7 @@ use Rattle.sd_tool.specs.Ends.{OverLimit}
 use Rattle.sd_tool.specs.Headline.{IsCourse, PassedLimit}
 use Rattle.sd_tool.specs.Limited.{HasLimit}
 use Rattle.sd_tool.specs.Readings.{Plan, reading_of, plan_for, announcement, default_of, for_file, in_lines}
+use Rattle.sd_tool.specs.Readings.{search_of}
 use Rattle.sd_tool.specs.Written.{IsInput, IsStartTree}
 use Rattle.sd_tool.proofs.ByStatus.{end_at}
 use Rattle.sd_tool.proofs.OneRun.{completes, leads_to_plan, same_plan}
@@ -52,12 +53,16 @@ quiet_at input state (c ∷ cs) (d ∷ done) left next group size limit same qui
 -- the commands after the input
 abbrev pub after_input : Job → List NumberedCommand
 after_input job = in_lines 2
-    (for_file commands.WriteVtree job.out_vtree ++ for_file (commands.Write (0 ∷ [])) job.out_sdd
+    (search_of job.minimise ++ for_file commands.WriteVtree job.out_vtree ++ for_file (commands.Write (0 ∷ [])) job.out_sdd
     ++ commands.Size 0 ∷ [])
 
 quiet_after : (input : Groups) (job : Job) → AreQuiet input (after_input job)
-quiet_after input job = go job.out_vtree job.out_sdd
+quiet_after input job = go job.minimise job.out_vtree job.out_sdd
   where
+    search : (rounds : ℕ) (state : State) (group : Option ℕ) (size limit : ℕ)
+        → Step input state (commands.Minimise rounds) (PassesLimit group size limit) → ⊥
+    search rounds state group size limit p = let e = p.2 in cc
+
     vtree : (file : List ℕ) (state : State) (group : Option ℕ) (size limit : ℕ)
         → Step input state (commands.WriteVtree file) (PassesLimit group size limit) → ⊥
     vtree file state group size limit p = cc
@@ -70,12 +75,16 @@ quiet_after input job = go job.out_vtree job.out_sdd
         → Step input state (commands.Size 0) (PassesLimit group size limit) → ⊥
     printed state group size limit p = let e = p.2 in cc
 
-    go : (t d : Option (List ℕ)) → AreQuiet input (in_lines 2
-        (for_file commands.WriteVtree t ++ for_file (commands.Write (0 ∷ [])) d ++ commands.Size 0 ∷ []))
-    go None None = (printed, tt)
-    go None (Some d) = (diagram d, (printed, tt))
-    go (Some t) None = (vtree t, (printed, tt))
-    go (Some t) (Some d) = (vtree t, (diagram d, (printed, tt)))
+    go : (n : Option ℕ) (t d : Option (List ℕ)) → AreQuiet input (in_lines 2
+        (search_of n ++ for_file commands.WriteVtree t ++ for_file (commands.Write (0 ∷ [])) d ++ commands.Size 0 ∷ []))
+    go None None None = (printed, tt)
+    go None None (Some d) = (diagram d, (printed, tt))
+    go None (Some t) None = (vtree t, (printed, tt))
+    go None (Some t) (Some d) = (vtree t, (diagram d, (printed, tt)))
+    go (Some n) None None = (search n, (printed, tt))
+    go (Some n) None (Some d) = (search n, (diagram d, (printed, tt)))
+    go (Some n) (Some t) None = (search n, (vtree t, (printed, tt)))
+    go (Some n) (Some t) (Some d) = (search n, (vtree t, (diagram d, (printed, tt))))
 
 -- ---- the input is refused
 
@@ -144,10 +153,10 @@ plan_of_input job formula tree = plan_for job formula tree (default_of job)
 -- where its commands pass the limit, the input does
 passes_among : (job : Job) (formula : Groups) (tree : Tree) (effects : List Effect) (line : ℕ) (group : Option ℕ)
     (size limit : ℕ) → EndsAmong (plan_of_input job formula tree) effects (OverLimit line group size limit)
-    → (g : ℕ) × PassesAtGroup formula (start tree job.limit) g size
+    → (g : ℕ) × PassesAtGroup formula (start tree job.limit job.slack) g size
     × (OverLimit line group size limit ≡ OverLimit 1 (Some g) size job.limit)
 passes_among job formula tree effects line group size limit (state, next, at, is_line, refused) =
-    let first = start tree job.limit in
+    let first = start tree job.limit job.slack in
     let is = at_input formula formula first state job.input (after_input job) at.reaches.done at.left next effects
     group size limit (quiet_after formula job) at.reaches.in_order at.reaches.steps refused in
     let own = subst (λ s. Step formula s (commands.Input 0) (PassesLimit group size limit)) is.state_is
@@ -163,7 +172,7 @@ passes_input : (words : List (List ℕ)) (files : Files) (job : Job) (formula : 
     (effects : List Effect) (line : ℕ) (group : Option ℕ) (size limit : ℕ) → IsInput words files job formula
     → IsStartTree files job.tree formula.variables tree
     → MayEnd words (Some files) effects (OverLimit line group size limit)
-    → (g : ℕ) × PassesAtGroup formula (start tree job.limit) g size
+    → (g : ℕ) × PassesAtGroup formula (start tree job.limit job.slack) g size
     × (OverLimit line group size limit ≡ OverLimit 1 (Some g) size job.limit)
 passes_input words files job formula tree effects line group size limit input begins (inl p) = absurd p.0
 passes_input words files job formula tree effects line group size limit input begins (inr p) =
@@ -182,10 +191,10 @@ announced_steps formula state (inputs.Generate count seed) = (state, _, [], refl
 -- an input that passes the limit is where the words and files lead
 leads_to_limit : (words : List (List ℕ)) (files : Files) (job : Job) (formula : Groups) (tree : Tree) (group size : ℕ)
     → IsInput words files job formula → IsStartTree files job.tree formula.variables tree
-    → PassesAtGroup formula (start tree job.limit) group size
+    → PassesAtGroup formula (start tree job.limit job.slack) group size
     → MayEnd words (Some files) (announces job.input formula) (OverLimit 1 (Some group) size job.limit)
 leads_to_limit words files job formula tree group size input begins passes =
-    let first = start tree job.limit in
+    let first = start tree job.limit job.slack in
     inr (
       plan_of_input job formula tree,
       leads_to_plan words files job formula tree input begins,
@@ -222,7 +231,7 @@ limited_at words status kept old new went = λ files job formula tree told input
     only : (files : Files) (job : Job) (formula : Groups) (tree : Tree) → old.contents.files ≡ Some files
         → IsInput words files job formula → IsStartTree files job.tree formula.variables tree
         → PassedLimit words old new
-        → (group size : ℕ) × PassesAtGroup formula (start tree job.limit) group size
+        → (group size : ℕ) × PassesAtGroup formula (start tree job.limit job.slack) group size
         × WritesEndLine (OverLimit 1 (Some group) size job.limit) old new
     only files job formula tree told input begins passed =
         let found = passes_input words files job formula tree passed.effects passed.at_line passed.group passed.size

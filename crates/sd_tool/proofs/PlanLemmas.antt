@@ -13,20 +13,25 @@ use Rattle.sd_commands.specs.declared.command.NumberedCommand.{NumberedCommand}
 use Rattle.sd_commands.specs.declared.command.RunCommand.TheVariants as commands
 use Rattle.sd_commands.specs.declared.state.RunState.{RunState}
 use Rattle.sd_tool.specs.PlanViews.{IsReadyWith, plan_with, behind}
-use Rattle.sd_tool.specs.Readings.{Begins, announcement, plan_for, for_file, in_lines}
+use Rattle.sd_tool.specs.Readings.{Begins, announcement, plan_for, for_file, search_of, in_lines}
 
--- the plan of the state's vtree and limit
+-- the plan of the state's vtree, limit and slack
 pub plan_made : (job : Job) (formula : Groups) (vtree : Numbered) (state : RunState) (all commands : List NumberedCommand)
     → all ≡ announcement job.input formula ++ commands → state.manager.vtree ≡ vtree
-    → Represents state (start (plain_tree vtree) job.limit)
+    → Represents state (start (plain_tree vtree) job.limit job.slack)
     → Begins (plan_with formula state all) ≡ Begins (plan_for job formula (plain_tree vtree) commands)
 plan_made job formula vtree state all commands are same represents =
     ap (λ (l : List NumberedCommand). Begins (plan_with formula state l)) are
     ∙ ap (λ (k : ℕ). Begins (record {
       input = formula;
-      start = start (plain_tree state.manager.vtree) k;
+      start = start (plain_tree state.manager.vtree) k state.slack;
       commands = announcement job.input formula ++ commands;
     })) (sym represents.limit)
+    ∙ ap (λ (k : ℕ). Begins (record {
+      input = formula;
+      start = start (plain_tree state.manager.vtree) job.limit k;
+      commands = announcement job.input formula ++ commands;
+    })) (sym represents.slack)
     ∙ ap (λ (t : Numbered). Begins (plan_for job formula (plain_tree t) commands)) same
 
 -- the commands behind the line of a generated formula can be done where they can be without it
@@ -51,13 +56,16 @@ announced_few word formula all commands are few =
     go (inputs.Generate count seed) = omega arith
 
 -- it can be carried out
-pub ready_made : (formula : Groups) (vtree : Numbered) (limit : ℕ) (state : RunState) (commands : List NumberedCommand)
-    → Represents state (start (plain_tree vtree) limit) → state.manager.vtree ≡ vtree
+pub ready_made : (formula : Groups) (vtree : Numbered) (limit slack : ℕ) (state : RunState)
+    (commands : List NumberedCommand)
+    → Represents state (start (plain_tree vtree) limit slack) → state.manager.vtree ≡ vtree
     → root_count state ≡ 0 → leaves (plain_tree vtree) ≡ formula.variables → AllFit formula.variables [] commands
     → length commands ≤ 100001 → IsReadyWith formula state commands
-ready_made formula vtree limit state commands represents same roots variables fit within_limit = record {
-  represents = subst (λ (k : ℕ). Represents state (start (plain_tree state.manager.vtree) k)) represents.limit
-      (subst (λ (t : Numbered). Represents state (start (plain_tree t) limit)) (sym same) represents);
+ready_made formula vtree limit slack state commands represents same roots variables fit within_limit = record {
+  represents =
+      subst (λ (k : ℕ). Represents state (start (plain_tree state.manager.vtree) state.limit k)) represents.slack
+      (subst (λ (k : ℕ). Represents state (start (plain_tree state.manager.vtree) k slack)) represents.limit
+      (subst (λ (t : Numbered). Represents state (start (plain_tree t) limit slack)) (sym same) represents));
   variables = ap (λ (t : Numbered). leaves (plain_tree t)) same ∙ variables;
   fit = fit;
   within_limit = within_limit;
@@ -67,23 +75,29 @@ ready_made formula vtree limit state commands represents same roots variables fi
 -- ---- the lines of a run without a script
 
 -- the commands are in the lines that they have in its script
-pub stated_lines : (tree diagram : Option (List ℕ)) (a b c d : List NumberedCommand)
-    → a ≡ behind [] (commands.Input 0 ∷ []) → b ≡ behind a (for_file commands.WriteVtree tree)
-    → c ≡ behind b (for_file (commands.Write (0 ∷ [])) diagram) → d ≡ behind c (commands.Size 0 ∷ [])
-    → d ≡ in_lines 1 (commands.Input 0 ∷ for_file commands.WriteVtree tree
+pub stated_lines : (rounds : Option ℕ) (tree diagram : Option (List ℕ)) (a b c d e : List NumberedCommand)
+    → a ≡ behind [] (commands.Input 0 ∷ []) → b ≡ behind a (search_of rounds)
+    → c ≡ behind b (for_file commands.WriteVtree tree) → d ≡ behind c (for_file (commands.Write (0 ∷ [])) diagram)
+    → e ≡ behind d (commands.Size 0 ∷ [])
+    → e ≡ in_lines 1 (commands.Input 0 ∷ search_of rounds ++ for_file commands.WriteVtree tree
     ++ for_file (commands.Write (0 ∷ [])) diagram ++ commands.Size 0 ∷ [])
-stated_lines tree diagram a b c d p q r s =
+stated_lines rounds tree diagram a b c d e p o q r s =
     s ∙ ap (λ (l : List NumberedCommand). behind l (commands.Size 0 ∷ []))
     (r ∙ ap (λ (l : List NumberedCommand). behind l (for_file (commands.Write (0 ∷ [])) diagram))
-    (q ∙ ap (λ (l : List NumberedCommand). behind l (for_file commands.WriteVtree tree)) p))
-    ∙ go tree diagram
+    (q ∙ ap (λ (l : List NumberedCommand). behind l (for_file commands.WriteVtree tree))
+    (o ∙ ap (λ (l : List NumberedCommand). behind l (search_of rounds)) p)))
+    ∙ go rounds tree diagram
   where
-    go : (t e : Option (List ℕ))
-        → behind (behind (behind (behind [] (commands.Input 0 ∷ [])) (for_file commands.WriteVtree t))
-        (for_file (commands.Write (0 ∷ [])) e)) (commands.Size 0 ∷ [])
-        ≡ in_lines 1 (commands.Input 0 ∷ for_file commands.WriteVtree t ++ for_file (commands.Write (0 ∷ [])) e
+    go : (n : Option ℕ) (t e : Option (List ℕ))
+        → behind (behind (behind (behind (behind [] (commands.Input 0 ∷ [])) (search_of n))
+        (for_file commands.WriteVtree t)) (for_file (commands.Write (0 ∷ [])) e)) (commands.Size 0 ∷ [])
+        ≡ in_lines 1 (commands.Input 0 ∷ search_of n ++ for_file commands.WriteVtree t ++ for_file (commands.Write (0 ∷ [])) e
         ++ commands.Size 0 ∷ [])
-    go None None = refl
-    go None (Some e) = refl
-    go (Some t) None = refl
-    go (Some t) (Some e) = refl
+    go None None None = refl
+    go None None (Some e) = refl
+    go None (Some t) None = refl
+    go None (Some t) (Some e) = refl
+    go (Some n) None None = refl
+    go (Some n) None (Some e) = refl
+    go (Some n) (Some t) None = refl
+    go (Some n) (Some t) (Some e) = refl

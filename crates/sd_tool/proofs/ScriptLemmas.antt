@@ -23,7 +23,7 @@ use Rattle.sd_commands.specs.declared.command.RunCommand.TheVariants as commands
 use Rattle.sd_tool.specs.Actions.{plain_of, bound_by, IsCommandOf, AreCommandsOf}
 use Rattle.sd_file.specs.Reads.{File}
 use Rattle.sd_tool.specs.Readings.{Reading, Reads, with_action, with_lines, with_sdd, file_name, default_of}
-use Rattle.sd_tool.specs.Readings.{for_file, in_line, in_lines}
+use Rattle.sd_tool.specs.Readings.{search_of, for_file, in_line, in_lines}
 use Rattle.sd_tool.specs.Asks.{ComesTo}
 use Rattle.sd_tool.specs.Stops.{LeadsTo}
 use Rattle.sd_tool.specs.declared.stop.Stop.{Stop}
@@ -62,6 +62,8 @@ plain v script next (actions.Forget n a x) =
 plain v script next (actions.Drop a) =
     record { same = record { uses = refl; binds = refl; frees = refl; in_range = λ h. h }; leads = refl }
 plain v script next (actions.Turn kind p) =
+    record { same = record { uses = refl; binds = refl; frees = refl; in_range = λ h. refl }; leads = refl }
+plain v script next (actions.Minimise rounds) =
     record { same = record { uses = refl; binds = refl; frees = refl; in_range = λ h. refl }; leads = refl }
 plain v script next (actions.Limit limit) =
     record { same = record { uses = refl; binds = refl; frees = refl; in_range = λ h. refl }; leads = refl }
@@ -172,39 +174,46 @@ left_at xs index line next =
 
 -- its commands can be done
 pub stated_fit : (v : ℕ) (job : Job) → AllFit v [] (default_of job)
-stated_fit v job = (record { used_bound = refl; free = refl; ranges = refl }, go job.out_vtree job.out_sdd)
+stated_fit v job =
+    (record { used_bound = refl; free = refl; ranges = refl }, all job.minimise job.out_vtree job.out_sdd)
   where
-    go : (tree diagram : Option (List ℕ))
-        → AllFit v (0 ∷ []) (in_lines 2
+    size_fits : (line : ℕ) → AllFit v (0 ∷ []) (in_lines line (commands.Size 0 ∷ []))
+    size_fits line = (record { used_bound = refl; free = refl; ranges = refl }, tt)
+
+    diagram_fits : (line : ℕ) (diagram : Option (List ℕ))
+        → AllFit v (0 ∷ []) (in_lines line (for_file (commands.Write (0 ∷ [])) diagram ++ commands.Size 0 ∷ []))
+    diagram_fits line None = size_fits line
+    diagram_fits line (Some d) = (record { used_bound = refl; free = refl; ranges = refl }, size_fits (line + 1))
+
+    both_fit : (line : ℕ) (tree diagram : Option (List ℕ))
+        → AllFit v (0 ∷ []) (in_lines line
         (for_file commands.WriteVtree tree ++ for_file (commands.Write (0 ∷ [])) diagram ++ commands.Size 0 ∷ []))
-    go None None = (record { used_bound = refl; free = refl; ranges = refl }, tt)
-    go None (Some d) = (
-      record { used_bound = refl; free = refl; ranges = refl },
-      (record { used_bound = refl; free = refl; ranges = refl }, tt),
-    )
-    go (Some t) None = (
-      record { used_bound = refl; free = refl; ranges = refl },
-      (record { used_bound = refl; free = refl; ranges = refl }, tt),
-    )
-    go (Some t) (Some d) = (
-      record { used_bound = refl; free = refl; ranges = refl },
-      (
-        record { used_bound = refl; free = refl; ranges = refl },
-        (record { used_bound = refl; free = refl; ranges = refl }, tt),
-      ),
-    )
+    both_fit line None diagram = diagram_fits line diagram
+    both_fit line (Some t) diagram =
+        (record { used_bound = refl; free = refl; ranges = refl }, diagram_fits (line + 1) diagram)
+
+    all : (rounds : Option ℕ) (tree diagram : Option (List ℕ))
+        → AllFit v (0 ∷ []) (in_lines 2
+        (search_of rounds ++ for_file commands.WriteVtree tree ++ for_file (commands.Write (0 ∷ [])) diagram
+        ++ commands.Size 0 ∷ []))
+    all None tree diagram = both_fit 2 tree diagram
+    all (Some n) tree diagram = (record { used_bound = refl; free = refl; ranges = refl }, both_fit 3 tree diagram)
 
 -- and there are few of them
 pub stated_few : (job : Job) → length (default_of job) ≤ 100000
-stated_few job = go job.out_vtree job.out_sdd
+stated_few job = go job.minimise job.out_vtree job.out_sdd
   where
-    go : (tree diagram : Option (List ℕ)) → length (in_lines 1 (commands.Input 0
-        ∷ for_file commands.WriteVtree tree ++ for_file (commands.Write (0 ∷ [])) diagram
+    go : (rounds : Option ℕ) (tree diagram : Option (List ℕ)) → length (in_lines 1 (commands.Input 0
+        ∷ search_of rounds ++ for_file commands.WriteVtree tree ++ for_file (commands.Write (0 ∷ [])) diagram
         ++ commands.Size 0 ∷ [])) ≤ 100000
-    go None None = omega arith
-    go None (Some d) = omega arith
-    go (Some t) None = omega arith
-    go (Some t) (Some d) = omega arith
+    go None None None = omega arith
+    go None None (Some d) = omega arith
+    go None (Some t) None = omega arith
+    go None (Some t) (Some d) = omega arith
+    go (Some n) None None = omega arith
+    go (Some n) None (Some d) = omega arith
+    go (Some n) (Some t) None = omega arith
+    go (Some n) (Some t) (Some d) = omega arith
 
 -- ---- the commands with a file
 

@@ -12,7 +12,9 @@ use Rattle.sd_commands.specs.Effects.{Effect, Write, Print}
 use Rattle.sd_commands.specs.Commands.{State, Done, OverLimit as PassesLimit, NotMovable as Unmoved, Step, Steps}
 use Rattle.sd_commands.specs.Commands.{MayFill}
 use Rattle.sd_commands.specs.Fits.{AllFit}
-use Rattle.sd_commands.specs.Standing.{Represents, StepsTo, StopsAt, IsFilled, HoldsState, effects_of, names_of}
+use Rattle.sd_vtree.specs.Numbered.{plain_tree}
+use Rattle.sd_commands.specs.Standing.{Represents, StepsTo, StopsAt, IsFilled, HoldsState, IsTreeLeft}
+use Rattle.sd_commands.specs.Standing.{effects_of, names_of}
 use Rattle.sd_commands.specs.declared.command.Effect.{Effect as CodeEffect}
 use Rattle.sd_commands.specs.declared.command.NumberedCommand.{NumberedCommand}
 use Rattle.sd_commands.specs.declared.error.CommandError.{CommandError}
@@ -176,9 +178,11 @@ goes_to_out_of_memory plan v index code t old now before after_ command next so_
 goes_to_full : {asks : List Request → Type 0} (plan : Plan) (v index : ℕ) (code : RunState) (t : Table)
     (old now : Contents)
     (before after_ : Faults) (command : NumberedCommand) (n : ℕ) → IsNext plan.commands index command
-    → (so_far : SoFar asks plan v index code old now) → MayFill command.command → IsFilled n t → HoldsState t so_far.state
+    → (so_far : SoFar asks plan v index code old now) → MayFill command.command → IsFilled n t
+    → IsTreeLeft so_far.state command.command (plain_tree t.vtree)
+    → HoldsState t (record so_far.state { tree = plain_tree t.vtree })
     → RunsToEnd asks plan t (Err (ArenaFull n)) old now before after_
-goes_to_full plan v index code t old now before after_ command n next so_far needs filled holds = record {
+goes_to_full plan v index code t old now before after_ command n next so_far needs filled left holds = record {
   end = NoRoom n;
   at = record { status = refl; text = refl; stopped = λ e. cc };
   effects = so_far.effects;
@@ -196,6 +200,7 @@ goes_to_full plan v index code t old now before after_ command n next so_far nee
       next = command;
       at = reaches_next plan so_far.state index so_far.effects command next so_far.steps;
       needs = needs;
+      left = left;
       holds = holds;
     },
   );
@@ -253,7 +258,9 @@ goes_to_unmoved plan v index code t old now before after_ command next so_far re
 pub goes_to_stop : {asks : List Request → Type 0} (plan : Plan) (v index : ℕ) (code new : RunState)
     (old now : Contents) (before after_ : Faults) (command : NumberedCommand) (error : CommandError) (stop : Stop)
     → IsNext plan.commands index command → (so_far : SoFar asks plan v index code old now)
-    → StopsAt plan.input so_far.state command.command new.manager error → Represents new so_far.state
+    → StopsAt plan.input so_far.state command.command new.manager error
+    → Represents new (record so_far.state { tree = plain_tree new.manager.vtree })
+    × IsTreeLeft so_far.state command.command (plain_tree new.manager.vtree)
     → stop ≡ stop_of command.line error → RunsToEnd asks plan new.manager (Err stop) old now before after_
 goes_to_stop {asks = asks} plan v index code new old now before after_ command error stop next so_far stops same is =
     subst (λ s. RunsToEnd asks plan new.manager (Err s) old now before after_) (sym is) (go error stops)
@@ -266,7 +273,7 @@ goes_to_stop {asks = asks} plan v index code new old now before after_ command e
         goes_to_unmoved plan v index code new.manager old now before after_ command next so_far stops
     go (errors.ArenaFull n) stops =
         goes_to_full plan v index code new.manager old now before after_ command n next so_far stops.0 stops.1
-        (holds_state new so_far.state same)
+        same.1 (holds_state new (record so_far.state { tree = plain_tree new.manager.vtree }) same.0)
     go errors.OutOfMemory stops =
         goes_to_out_of_memory plan v index code new.manager old now before after_ command next so_far
 

@@ -10,7 +10,7 @@ use Rattle.sd_commands.specs.Commands.{State, NotMovable as Unmoved, Step, Settl
 use Rattle.sd_commands.specs.declared.command.NumberedCommand.{NumberedCommand}
 use Rattle.sd_commands.specs.declared.command.RunCommand.{RunCommand}
 use Rattle.sd_commands.specs.declared.command.RunCommand.TheVariants as commands
-use Rattle.sd_tool.specs.Readings.{Plan, announcement, default_of, in_lines, for_file}
+use Rattle.sd_tool.specs.Readings.{Plan, announcement, default_of, in_lines, for_file, search_of}
 use Rattle.sd_tool.specs.Ends.{NotMovable}
 use Rattle.sd_tool.specs.Course.{EndsAmong}
 
@@ -44,6 +44,7 @@ not_unmoved input state (commands.Negate n a) still p = not_settled _ p
 not_unmoved input state (commands.Given n a literal) still p = not_settled _ p
 not_unmoved input state (commands.Forget n a x) still p = not_settled _ p
 not_unmoved input state (commands.Drop a) still step = cc
+not_unmoved input state (commands.Minimise rounds) still p = let e = p.2 in cc
 not_unmoved input state (commands.Limit limit) still p = not_settled _ p
 not_unmoved input state (commands.Same a b) still p = let e = p.2 in cc
 not_unmoved input state (commands.Size a) still p = let e = p.2 in cc
@@ -68,15 +69,19 @@ never_unmoved plan effects line still (state, next, at, is_line, step) =
 pub default_still : (job : Job) (f : Groups) → AreStill (announcement job.input f ++ default_of job)
 default_still job f = first job.input
   where
-    all_still : (vtree sdd : Option (List ℕ))
-        → AreStill (in_lines 1 (commands.Input 0 ∷ for_file commands.WriteVtree vtree
+    all_still : (search : Option ℕ) (vtree sdd : Option (List ℕ))
+        → AreStill (in_lines 1 (commands.Input 0 ∷ search_of search ++ for_file commands.WriteVtree vtree
         ++ for_file (commands.Write (0 ∷ [])) sdd ++ commands.Size 0 ∷ []))
-    all_still None None = (refl, (refl, tt))
-    all_still (Some vtree) None = (refl, (refl, (refl, tt)))
-    all_still None (Some sdd) = (refl, (refl, (refl, tt)))
-    all_still (Some vtree) (Some sdd) = (refl, (refl, (refl, (refl, tt))))
+    all_still None None None = (refl, (refl, tt))
+    all_still None None (Some sdd) = (refl, (refl, (refl, tt)))
+    all_still None (Some vtree) None = (refl, (refl, (refl, tt)))
+    all_still None (Some vtree) (Some sdd) = (refl, (refl, (refl, (refl, tt))))
+    all_still (Some rounds) None None = (refl, (refl, (refl, tt)))
+    all_still (Some rounds) None (Some sdd) = (refl, (refl, (refl, (refl, tt))))
+    all_still (Some rounds) (Some vtree) None = (refl, (refl, (refl, (refl, tt))))
+    all_still (Some rounds) (Some vtree) (Some sdd) = (refl, (refl, (refl, (refl, (refl, tt)))))
 
     first : (word : InputWord) → AreStill (announcement word f ++ default_of job)
-    first (inputs.Cnf file) = all_still job.out_vtree job.out_sdd
-    first (inputs.Dnf file) = all_still job.out_vtree job.out_sdd
-    first (inputs.Generate count seed) = (refl, all_still job.out_vtree job.out_sdd)
+    first (inputs.Cnf file) = all_still job.minimise job.out_vtree job.out_sdd
+    first (inputs.Dnf file) = all_still job.minimise job.out_vtree job.out_sdd
+    first (inputs.Generate count seed) = (refl, all_still job.minimise job.out_vtree job.out_sdd)

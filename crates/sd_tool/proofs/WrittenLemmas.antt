@@ -30,24 +30,26 @@ use Rattle.sd_words.specs.declared.jobs.TreeWord.{TreeWord}
 use Rattle.sd_words.specs.declared.jobs.TreeWord.TheVariants as trees
 use Rattle.sd_commands.specs.Effects.{Effect, Write, Print}
 use Rattle.sd_commands.specs.Commands.{State, Done, Steps, IsTextOf, with_name, formula_named, size_line}
-use Rattle.sd_commands.specs.Commands.{generated_line}
+use Rattle.sd_commands.specs.Commands.{generated_line, search_line, formulas_of}
 use Rattle.sd_commands.specs.Standing.{start}
 use Rattle.sd_commands.specs.declared.command.NumberedCommand.{NumberedCommand}
 use Rattle.sd_commands.specs.declared.command.RunCommand.{RunCommand}
 use Rattle.sd_commands.specs.declared.command.RunCommand.TheVariants as commands
 use Rattle.sd_commands.proofs.Outcomes.{input_done}
+use Rattle.sd_commands.proofs.Searched.{search_valid}
+use Rattle.sd_search.specs.Search.{Found, IsSearch}
 use Rattle.sd_tool.specs.Effects.{Contents, after}
 use Rattle.sd_tool.specs.Readings.{Plan, Input, Begins, Refuses, Text, Whole, TooLong, ReadsTo, IsText}
 use Rattle.sd_tool.specs.Readings.{reading_of, with_job, with_input_word, with_input, with_formula, with_tree_word}
 use Rattle.sd_tool.specs.Readings.{with_tree, with_vtree_reading, with_commands, plan_for, for_file, default_of}
-use Rattle.sd_tool.specs.Readings.{is_plain, announcement, in_lines}
+use Rattle.sd_tool.specs.Readings.{is_plain, announcement, in_lines, search_of}
 use Rattle.sd_tool.specs.declared.refusal.Refusal.TheVariants as refusals
 use Rattle.sd_tool.specs.Ends.{Finished}
 use Rattle.sd_tool.specs.Devices.{Moment}
 use Rattle.sd_tool.specs.Course.{MayEnd}
 use Rattle.sd_tool.specs.Headline.{IsCourse}
 use Rattle.sd_tool.specs.Written.{HasFormula, IsFormulaOf, IsInput, IsStartTree, IsWritten, HasWritten, HasEqualTexts}
-use Rattle.sd_tool.specs.Written.{with_output, with_announcement}
+use Rattle.sd_tool.specs.Written.{with_output, with_announcement, IsFound}
 use Rattle.sd_tool.proofs.ByStatus.{effects_at}
 use Rattle.sd_tool.proofs.OneCourse.{steps_valid, whole_plan}
 use Rattle.sd_tool.proofs.NotOutOfMemory.{valid_start}
@@ -317,6 +319,91 @@ after_input input state last line rest effects (mid, first, others, step, steps,
           (subst (λ s. Steps input s rest others last) done.0 steps);
     }
 
+-- ---- the search of the words
+
+-- what it leaves and prints, where the words ask for one
+abbrev SearchDone : Option ℕ → State → Tree → List Effect → Type 0
+SearchDone None state tree effects = (tree ≡ state.tree) × (effects ≡ [])
+SearchDone (Some rounds) state tree effects =
+    (result : Found) × IsSearch (formulas_of state) state.slack rounds state.tree result × (tree ≡ result.tree)
+    × (effects ≡ Print (search_line result.before result.after result.rounds) ∷ [])
+
+-- it is done first, and the others after it
+record AfterSearch (input : Groups) (state last : State) (rounds : Option ℕ) (rest : List RunCommand)
+    (effects : List Effect)
+    : Type 0 where
+  tree : Tree
+  line : ℕ
+  before : List Effect
+  others : List Effect
+  search : SearchDone rounds state tree before
+  steps : Steps input (record state { tree = tree }) (in_lines line rest) others last
+  are : effects ≡ before ++ others
+
+after_search : (input : Groups) (state last : State) (rounds : Option ℕ) (rest : List RunCommand)
+    (effects : List Effect)
+    → Steps input state (in_lines 2 (search_of rounds ++ rest)) effects last
+    → AfterSearch input state last rounds rest effects
+after_search input state last None rest effects p = record {
+  tree = state.tree;
+  line = 2;
+  before = [];
+  others = effects;
+  search = (refl, refl);
+  steps = p;
+  are = refl;
+}
+after_search input state last (Some rounds) rest effects (mid, first, others, step, steps, is) =
+    let found = step.0 in
+    let e : Done mid first ≡ Done (record state { tree = found.tree })
+    (Print (search_line found.before found.after found.rounds) ∷ []) = step.2 in
+    let same : mid ≡ record state { tree = found.tree } = cc in
+    let printed : first ≡ Print (search_line found.before found.after found.rounds) ∷ [] = cc in
+    record {
+      tree = found.tree;
+      line = 3;
+      before = first;
+      others = others;
+      search = (found, step.1, refl, printed);
+      steps = subst (λ s. Steps input s (in_lines 3 rest) others last) same steps;
+      are = is;
+    }
+
+-- the tree that it leaves is a vtree
+searched_valid : (rounds : Option ℕ) (state : State) (tree : Tree) (effects : List Effect) → IsVtree state.tree
+    → SearchDone rounds state tree effects → IsVtree tree
+searched_valid None state tree effects valid done = subst IsVtree (sym done.0) valid
+searched_valid (Some rounds) state tree effects valid done = subst IsVtree (sym done.2) (search_valid valid done.1)
+
+-- what is printed with its line
+abbrev told_behind : List Effect → Option (List ℕ) → Option (List ℕ)
+told_behind [] printed = printed
+told_behind (Print line ∷ effects) printed = told_behind effects (told_then printed line)
+told_behind (Write file bytes ∷ effects) printed = told_behind effects printed
+
+-- what the others leave, they leave behind the line
+after_searched : (rounds : Option ℕ) (state : State) (tree : Tree) (before others : List Effect) (old : Contents)
+    → SearchDone rounds state tree before
+    → after (before ++ others) old ≡ after others (record old { printed = told_behind before old.printed })
+after_searched None state tree before others old done =
+    subst (λ l. after (l ++ others) old ≡ after others (record old { printed = told_behind l old.printed }))
+    (sym done.1) refl
+after_searched (Some rounds) state tree before others old done =
+    subst (λ l. after (l ++ others) old ≡ after others (record old { printed = told_behind l old.printed }))
+    (sym done.3) refl
+
+-- the search is that of the formula
+found_by : (rounds : Option ℕ) (state : State) (f : Expression) (tree : Tree) (before : List Effect)
+    (printed : Option (List ℕ)) → formulas_of state ≡ f ∷ [] → SearchDone rounds state tree before
+    → IsFound rounds state.slack f state.tree printed tree (told_behind before printed)
+found_by None state f tree before printed only done = (done.0, ap (λ l. told_behind l printed) done.1)
+found_by (Some rounds) state f tree before printed only done = (
+  done.0,
+  subst (λ fs. IsSearch fs state.slack rounds state.tree done.0) only done.1,
+  done.2,
+  ap (λ l. told_behind l printed) done.3,
+)
+
 -- the files after the commands
 files_after : (out_vtree out_sdd : Option (List ℕ)) (vtree diagram line : List ℕ) (old : Contents) (files : Files)
     → old.files ≡ Some files
@@ -375,22 +462,35 @@ after_announced (inputs.Generate count seed) formula effects old = refl
 
 -- the state of a plan once its formula is bound
 abbrev compiled : Job → Groups → Tree → State
-compiled job formula tree = with_name (start tree job.limit) 0 (expression_of formula)
+compiled job formula tree = with_name (start tree job.limit job.slack) 0 (expression_of formula)
+
+-- the commands behind the search
+grouped : (rounds : Option ℕ) (vtree sdd : Option (List ℕ))
+    → search_of rounds ++ for_file commands.WriteVtree vtree ++ for_file (commands.Write (0 ∷ [])) sdd ++ commands.Size 0 ∷ []
+    ≡ search_of rounds
+    ++ (for_file commands.WriteVtree vtree ++ for_file (commands.Write (0 ∷ [])) sdd ++ commands.Size 0 ∷ [])
+grouped None vtree sdd = refl
+grouped (Some rounds) vtree sdd = refl
 
 -- these effects write the formula's texts
-writes : (files : Files) (job : Job) (formula : Groups) (tree : Tree) (effects : List Effect) (old new : Contents)
-    → old.files ≡ Some files → AllDone (compiled job formula tree) job.out_vtree job.out_sdd effects
-    → new ≡ after effects (record old { printed = with_announcement job.input formula old.printed })
-    → IsWritten files job formula tree old new
-writes files job formula tree effects old new told done is =
-    let begun : Contents = record old { printed = with_announcement job.input formula old.printed } in
+writes : (files : Files) (job : Job) (formula : Groups) (tree found : Tree) (told : Option (List ℕ))
+    (effects : List Effect) (old new : Contents) → old.files ≡ Some files
+    → IsFound job.minimise job.slack (expression_of formula) tree (with_announcement job.input formula old.printed)
+    found told
+    → AllDone (record (compiled job formula tree) { tree = found }) job.out_vtree job.out_sdd effects
+    → new ≡ after effects (record old { printed = told }) → IsWritten files job formula tree old new
+writes files job formula tree found told effects old new there search done is =
+    let begun : Contents = record old { printed = told } in
     let now = is ∙ ap (λ l. after l begun) done.are in record {
+      found = found;
+      told = told;
+      search = search;
       diagram = done.diagram;
       of_formula = done.of_value;
       files_are = ap (λ (o : Contents). o.files) now
-          ∙ files_after job.out_vtree job.out_sdd (vtree_text tree) (sdd_text done.diagram) _ begun files told;
+          ∙ files_after job.out_vtree job.out_sdd (vtree_text found) (sdd_text done.diagram) _ begun files there;
       printed_is = ap (λ (o : Contents). o.printed) now
-          ∙ printed_after job.out_vtree job.out_sdd (vtree_text tree) (sdd_text done.diagram) _ begun;
+          ∙ printed_after job.out_vtree job.out_sdd (vtree_text found) (sdd_text done.diagram) _ begun;
     }
 
 -- what a plan of an input does
@@ -398,20 +498,34 @@ plan_writes : (words : List (List ℕ)) (files : Files) (job : Job) (plan : Plan
     (old new : Contents) → old.files ≡ Some files → (from : FromInput words files job plan) → IsVtree plan.start.tree
     → Steps plan.input plan.start plan.commands effects last → new ≡ after effects old
     → IsWritten files job from.formula from.tree old new
-plan_writes words files job plan last effects old new told from valid steps is =
+plan_writes words files job plan last effects old new there from valid steps is =
     let own = plan_for job from.formula from.tree (default_of job) in
     let own_steps = subst (λ (p : Plan). Steps p.input p.start p.commands effects last) from.is steps in
     let own_valid = subst (λ (p : Plan). IsVtree p.start.tree) from.is valid in
     let told_of = announced_done own.input own.start last job.input from.formula (default_of job) effects own_steps in
+    let written : List RunCommand =
+    for_file commands.WriteVtree job.out_vtree ++ for_file (commands.Write (0 ∷ [])) job.out_sdd ++ commands.Size 0 ∷ [] in
+    let state = compiled job from.formula from.tree in
     let bound = after_input own.input own.start last 1
     (in_lines 2
-    (for_file commands.WriteVtree job.out_vtree ++ for_file (commands.Write (0 ∷ [])) job.out_sdd
+    (search_of job.minimise ++ for_file commands.WriteVtree job.out_vtree ++ for_file (commands.Write (0 ∷ [])) job.out_sdd
     ++ commands.Size 0 ∷ []))
     told_of.others told_of.steps in
-    writes files job from.formula from.tree told_of.others old new told
-    (all_done own.input (compiled job from.formula from.tree) last 2 job.out_vtree job.out_sdd told_of.others own_valid
-    bound.steps)
-    (is ∙ ap (λ l. after l old) told_of.are ∙ after_announced job.input from.formula told_of.others old)
+    let searched = after_search own.input state last job.minimise written told_of.others
+    (subst (λ cs. Steps own.input state (in_lines 2 cs) told_of.others last)
+    (grouped job.minimise job.out_vtree job.out_sdd) bound.steps) in
+    let printed = with_announcement job.input from.formula old.printed in
+    writes files job from.formula from.tree searched.tree (told_behind searched.before printed) searched.others old new
+    there
+    (found_by job.minimise state (expression_of from.formula) searched.tree searched.before printed refl
+    searched.search)
+    (all_done own.input (record state { tree = searched.tree }) last searched.line job.out_vtree job.out_sdd
+    searched.others (searched_valid job.minimise state searched.tree searched.before own_valid searched.search)
+    searched.steps)
+    (is ∙ ap (λ l. after l old) told_of.are ∙ after_announced job.input from.formula told_of.others old
+    ∙ ap (λ l. after l (record old { printed = printed })) searched.are
+    ∙ after_searched job.minimise state searched.tree searched.before searched.others (record old { printed = printed })
+    searched.search)
 
 -- at status 0 the formula of the input was written
 pub written_at : {asks : List Request → Type 0} (words : List (List ℕ)) (status : ℕ) (kept : Option Table)

@@ -83,8 +83,9 @@ pub record CouldNotWrite (words : List (List ℕ)) (old new : Moment) : Type 0 w
   pub line : WritesEndLine (Unwritable effect) old new
 
 -- The arena was full: all readings were accepted, the command in hand is one that may need the arena, and the manager
--- that refused is kept, whose bound the number passes; its vtree is the run's tree at that command, and its roots hold
--- the diagrams of the names that are bound there. The line has the number.
+-- that refused is kept, whose bound the number passes; its vtree is the run's tree at that command, or at a search the
+-- one after the walks that were finished, and its roots hold the diagrams of the names that are bound there. The line
+-- has the number.
 pub record WasFull (words : List (List ℕ)) (kept : Option Table) (old new : Moment) : Type 0 where
   pub elements : ℕ
   pub effects : List Effect

@@ -64,9 +64,9 @@ input_file (inputs.Cnf file) = Some record { kind = kinds.Cnf; file = file }
 input_file (inputs.Dnf file) = Some record { kind = kinds.Dnf; file = file }
 input_file (inputs.Generate count seed) = None
 
--- a job without a search, with the slack of default
+-- a job without searches between the groups of its input
 abbrev pub is_plain : Job → Bool
-is_plain job = is_none job.minimise && (is_none job.every && job.slack == 200)
+is_plain job = is_none job.every
 
 -- ---- the commands
 
@@ -75,22 +75,26 @@ abbrev pub for_file : (List ℕ → RunCommand) → Option (List ℕ) → List R
 for_file command None = []
 for_file command (Some file) = command file ∷ []
 
+-- a search of so many rounds, where they are there
+abbrev pub search_of : Option ℕ → List RunCommand
+search_of None = []
+search_of (Some rounds) = commands.Minimise rounds ∷ []
+
 -- commands in lines that follow one another, from this one on
 abbrev pub in_lines : ℕ → List RunCommand → List NumberedCommand
 in_lines line [] = []
 in_lines line (command ∷ commands) = record { line = line; command = command } ∷ in_lines (line + 1) commands
 
--- Without a script the formula is compiled, its vtree and its diagram are written, and then its size is printed: a
--- script of two to four lines.
+-- Without a script the formula is compiled, a search is done where the words ask for one, the vtree and the diagram are
+-- written, and then its size is printed: a script of two to five lines.
 abbrev pub default_of : Job → List NumberedCommand
 default_of job =
     in_lines 1
-    (commands.Input 0 ∷ for_file commands.WriteVtree job.out_vtree ++ for_file (commands.Write (0 ∷ [])) job.out_sdd
-    ++ commands.Size 0 ∷ [])
+    (commands.Input 0 ∷ search_of job.minimise ++ for_file commands.WriteVtree job.out_vtree
+    ++ for_file (commands.Write (0 ∷ [])) job.out_sdd ++ commands.Size 0 ∷ [])
 
 -- a command of a script that runs have yet
 abbrev pub is_served : Action → Bool
-is_served (actions.Minimise rounds) = false
 is_served action = true
 
 -- the name of a file of a script
@@ -120,13 +124,13 @@ with_action v script next (actions.Given n a literal) = next (commands.Given n a
 with_action v script next (actions.Forget n a x) = next (commands.Forget n a x)
 with_action v script next (actions.Drop a) = next (commands.Drop a)
 with_action v script next (actions.Turn kind p) = next (commands.Turn kind p)
+with_action v script next (actions.Minimise rounds) = next (commands.Minimise rounds)
 with_action v script next (actions.Limit limit) = next (commands.Limit limit)
 with_action v script next (actions.Same a b) = next (commands.Same a b)
 with_action v script next (actions.Size a) = next (commands.Size a)
 with_action v script next (actions.Value a bits) = next (commands.Value a bits)
 with_action v script next (actions.Write names file) = next (commands.Write names (file_name script file))
 with_action v script next (actions.Vtree file) = next (commands.WriteVtree (file_name script file))
-with_action v script next action = Refuses NotYet
 
 -- a command with the number of its line
 abbrev pub in_line : Line → RunCommand → NumberedCommand
@@ -168,11 +172,11 @@ announcement (inputs.Generate count seed) formula =
     record { line = 0; command = commands.Generated formula.variables (length formula.groups) } ∷ []
 announcement word formula = []
 
--- what commands begin with: the formula, no name, the tree, and the job's limit
+-- what commands begin with: the formula, no name, the tree, and the job's limit and slack
 abbrev pub plan_for : Job → Groups → Tree → List NumberedCommand → Plan
 plan_for job formula tree commands = record {
   input = formula;
-  start = start tree job.limit;
+  start = start tree job.limit job.slack;
   commands = announcement job.input formula ++ commands;
 }
 

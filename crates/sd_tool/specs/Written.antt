@@ -15,6 +15,7 @@ use Rattle.sd_formula.specs.Generated.{generated_formula}
 use Rattle.sd_formula.specs.declared.formula.Kind.{Kind}
 use Rattle.sd_formula.specs.declared.formula.Kind.TheVariants as kinds
 use Rattle.sd_vfile.specs.Reads.{vtree_file}
+use Rattle.sd_search.specs.Search.{Found, IsSearch}
 use Rattle.sd_words.specs.JobOf.{job_of}
 use Rattle.sd_words.specs.declared.jobs.Job.{Job}
 use Rattle.sd_words.specs.declared.jobs.InputWord.{InputWord}
@@ -22,7 +23,7 @@ use Rattle.sd_words.specs.declared.jobs.InputWord.TheVariants as inputs
 use Rattle.sd_words.specs.declared.jobs.TreeWord.{TreeWord}
 use Rattle.sd_words.specs.declared.jobs.TreeWord.TheVariants as trees
 use Rattle.sd_commands.specs.Effects.{Effect}
-use Rattle.sd_commands.specs.Commands.{State, IsTextOf, formula_named, generated_line, size_line}
+use Rattle.sd_commands.specs.Commands.{State, IsTextOf, formula_named, generated_line, size_line, search_line}
 use Rattle.sd_commands.specs.declared.command.NumberedCommand.{NumberedCommand}
 use Rattle.sd_commands.specs.declared.command.RunCommand.TheVariants as commands
 use Rattle.sd_tool.specs.Readings.{Plan, Begins, is_plain, reading_of, ReadsTo}
@@ -69,15 +70,28 @@ with_announcement (inputs.Generate count seed) formula printed =
     told_then printed (generated_line formula.variables (length formula.groups))
 with_announcement word formula printed = printed
 
--- The vtree output is the text of the tree, the diagram output is the text of the formula's canonical diagram for the
--- tree, no other file changed, and the size of that diagram was printed, after the line of a generated formula.
+-- The tree and what is printed, where the words ask for a search of the formula from a tree: the tree that it finds,
+-- and its line behind. Else both stay.
+abbrev pub IsFound : Option ℕ → ℕ → Expression → Tree → Option (List ℕ) → Tree → Option (List ℕ) → Type 0
+IsFound None slack f tree printed found told = (found ≡ tree) × (told ≡ printed)
+IsFound (Some rounds) slack f tree printed found told =
+    (result : Found) × IsSearch (f ∷ []) slack rounds tree result × (found ≡ result.tree)
+    × (told ≡ told_then printed (search_line result.before result.after result.rounds))
+
+-- The vtree output is the text of the start tree, or of the one that the search of the words found from it, the diagram
+-- output is the text of the formula's canonical diagram for that tree, no other file changed, and the size of that
+-- diagram was printed, after the line of a generated formula and that of a search.
 pub record IsWritten (files : Files) (job : Job) (formula : Groups) (tree : Tree) (old new : Contents) : Type 0 where
+  pub found : Tree
+  pub told : Option (List ℕ)
+  pub search : IsFound job.minimise job.slack (expression_of formula) tree
+      (with_announcement job.input formula old.printed) found told
   pub diagram : Diagram
-  pub of_formula : IsDiagramOf tree (expression_of formula) diagram
+  pub of_formula : IsDiagramOf found (expression_of formula) diagram
   pub files_are : new.files
-      ≡ Some (with_output job.out_sdd (sdd_text diagram) (with_output job.out_vtree (vtree_text tree) files))
+      ≡ Some (with_output job.out_sdd (sdd_text diagram) (with_output job.out_vtree (vtree_text found) files))
   pub printed_is : new.printed
-      ≡ told_then (with_announcement job.input formula old.printed) (size_line (size_of (diagram ∷ [])))
+      ≡ told_then told (size_line (size_of (diagram ∷ [])))
 
 -- At status 0, over told files, a run without a script wrote the formula of its input.
 abbrev pub HasWritten : List (List ℕ) → ℕ → Moment → Moment → Type 0

@@ -3,7 +3,7 @@ ghost use Rattle.std.specs.Prelude.{◌≡◌, ◌≤◌, ◌+◌, [], ◌∷◌
 ghost use Rattle.std.specs.Prelude.{Option};
 ghost use Rattle.sd_commands.specs.declared.command.RunCommand.TheVariants.{Write, WriteVtree};
 ghost use Rattle.sd_tool.specs.PlanViews.{behind};
-ghost use Rattle.sd_tool.specs.Readings.{for_file, default_of, announcement};
+ghost use Rattle.sd_tool.specs.Readings.{for_file, search_of, default_of, announcement};
 
 use sd_base::Name;
 use sd_commands::{NumberedCommand, RunCommand, RunState};
@@ -26,6 +26,7 @@ pub fn default_commands(alloc: Global, job: &Job) -> Result<Vec<NumberedCommand>
 {
     let mut commands = Vec::new(alloc);
     push_line(&mut commands, RunCommand::Input(0))?;
+    push_search(&mut commands, job.minimise)?;
     push_vtree(alloc, &mut commands, &job.out_vtree)?;
     push_diagram(alloc, &mut commands, &job.out_sdd)?;
     push_line(&mut commands, RunCommand::Size(0))?;
@@ -50,12 +51,24 @@ pub fn announced(
 
 // Puts a command into the line behind these.
 fn push_line(commands: &mut Vec<NumberedCommand>, command: RunCommand) -> Result<(), AllocError>
-    requires few { length commands.old.items ≤ 3 }
+    requires few { length commands.old.items ≤ 4 }
     ensures lines { OnOk result (commands.new.items ≡ behind commands.old.items (command ∷ [])) }
     ensures count { OnOk result (length commands.new.items ≡ length commands.old.items + 1) }
 {
     let line = commands.len() as u32 + 1;
     commands.push(NumberedCommand { line, command })?;
+    Ok(())
+}
+
+fn push_search(commands: &mut Vec<NumberedCommand>, rounds: Option<u32>) -> Result<(), AllocError>
+    requires few { length commands.old.items ≤ 3 }
+    ensures lines { OnOk result (commands.new.items
+        ≡ behind commands.old.items (search_of rounds)) }
+    ensures count { OnOk result (length commands.new.items ≤ length commands.old.items + 1) }
+{
+    if let Some(rounds) = rounds {
+        push_line(commands, RunCommand::Minimise(rounds))?;
+    }
     Ok(())
 }
 

@@ -133,7 +133,7 @@ fn make_plan(
     ensures ready { IfOk result IsReady }
 {
     match announced(job, &formula, commands) {
-        Ok(commands) => match RunState::new(alloc, vtree, job.limit) {
+        Ok(commands) => match RunState::new(alloc, vtree, job.limit, job.slack) {
             Ok(state) => Ok(RunPlan {
                 formula,
                 state,
@@ -164,11 +164,11 @@ fn read_job(alloc: Global, words: &[String]) -> Result<Job, Stop>
     }
 }
 
-// Whether a job has no search, and the slack of default.
+// Whether a job has no searches between the groups of its input.
 fn is_plain(job: &Job) -> bool
     ensures { result ≡ is_plain job.now }
 {
-    job.minimise.is_none() && job.every.is_none() && job.slack == 200
+    job.every.is_none()
 }
 
 // The formula of the job's input.

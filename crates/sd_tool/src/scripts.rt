@@ -158,13 +158,10 @@ fn all_served(lines: &[Line]) -> bool
 }
 
 // Whether runs have the command yet.
-fn is_served(action: &Action) -> bool
-    ensures { result ≡ is_served action.now }
+fn is_served(_action: &Action) -> bool
+    ensures { result ≡ is_served _action.now }
 {
-    match action {
-        Action::Minimise(_) => false,
-        _ => true,
-    }
+    true
 }
 
 // The commands of the lines of a script, one after another.
@@ -263,6 +260,7 @@ fn plain_command(alloc: Global, action: &Action) -> Result<Option<RunCommand>, A
         Action::Forget(name, a, variable) => Ok(Some(RunCommand::Forget(*name, *a, *variable))),
         Action::Drop(name) => Ok(Some(RunCommand::Drop(*name))),
         Action::Turn(kind, position) => Ok(Some(RunCommand::Turn(*kind, *position))),
+        Action::Minimise(rounds) => Ok(Some(RunCommand::Minimise(*rounds))),
         Action::Limit(limit) => Ok(Some(RunCommand::Limit(*limit))),
         Action::Same(a, b) => Ok(Some(RunCommand::Same(*a, *b))),
         Action::Size(name) => Ok(Some(RunCommand::Size(*name))),

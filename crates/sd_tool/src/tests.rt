@@ -14,6 +14,7 @@ mod hostile;
 mod limit;
 mod moves;
 mod scripts;
+mod search;
 mod vtrees;
 mod words;
 

@@ -1,4 +1,5 @@
 use Rattle.std.proofs.Common.{[], refl, ◌∙◌, arith}
+use Rattle.sd_commands.proofs.Standing.{left_state}
 use Rattle.sd_tool.specs.PlanViews.{plan_with}
 use Rattle.sd_tool.proofs.StepLemmas.{so_far_more, goes_to_stop}
 use Rattle.sd_tool.proofs.StepLemmas.{goes_to_fault, goes_to_end, no_fewer}
@@ -48,7 +49,8 @@ returns-in-Err-clause-goes g c =
     c.loop-command.command-index _ c.step.new.state _ _ _ _ c.command-item.result c.in-Err.error _
     (record { within = omega arith; is = c.command-item.is }) so_far
     (c.in-Err.ensures.stops so_far.state so_far.represents)
-    (c.in-Err.ensures.err.represents so_far.state so_far.represents) c.stop_at.ensures
+    (left_state c.command-item.result.command _ c.step.new.state so_far.state so_far.represents c.in-Err.ensures.err)
+    c.stop_at.ensures
 
 pub returns-in-Err-perform_any-clause-goes : goal.returns-in-Err-perform_any-clause-goes
 returns-in-Err-perform_any-clause-goes g c =
