@@ -2,7 +2,6 @@
 use Rattle.std.proofs.Common.{◌≡◌, ◌⊎◌, ℕ, true, false, List, [], ◌∷◌, ◌++◌, map, Option, Some, None, Result, Ok, Err}
 use Rattle.std.proofs.Common.{inl, inr, refl, sym, ap, subst, ◌∙◌, Bool, if◌then◌else◌}
 use Rattle.std.proofs.lemmas.List.{append-nil}
-use Rattle.std.specs.List.{list_all}
 use Rattle.sd_base.specs.Asked.{Request, ToRead, ToWrite}
 use Rattle.sd_base.specs.Files.{Files}
 use Rattle.sd_model.specs.StartTrees.{balanced_tree, right_tree, left_tree}
@@ -42,7 +41,7 @@ use Rattle.sd_tool.specs.Readings.{Input, Reading, Refuses, Begins, Reads, Text,
 use Rattle.sd_tool.specs.Readings.{reading_of, with_job, with_input, with_input_word, with_formula, with_tree_word}
 use Rattle.sd_tool.specs.Readings.{with_tree, with_vtree_text, with_vtree_reading, with_commands, script_reading}
 use Rattle.sd_tool.specs.Readings.{with_script_text, with_script_reading, with_lines, with_action, with_sdd}
-use Rattle.sd_tool.specs.Readings.{with_sdd_reading, in_line, is_served, is_plain, file_name, plan_for}
+use Rattle.sd_tool.specs.Readings.{with_sdd_reading, in_line, is_plain, file_name, plan_for}
 use Rattle.sd_tool.specs.Refusals.{refusal_status}
 use Rattle.sd_tool.specs.declared.refusal.Refusal.{Refusal}
 use Rattle.sd_tool.specs.declared.refusal.Refusal.TheVariants.{NotYet}
@@ -105,12 +104,7 @@ accepted_lines v s begin done (line ∷ lines) accepted =
 
 accepted_script : (v : ℕ) (s : Script) (begin : List NumberedCommand → Reading)
     → ((cs : List NumberedCommand) → AreAccepted (begin cs)) → AreAccepted (script_reading v begin s)
-accepted_script v s begin accepted = go (list_all (λ (line : Line). is_served line.action) s.commands)
-  where
-    go : (served : Bool)
-        → AreAccepted (if served then with_lines v s begin [] s.commands else Refuses NotYet)
-    go true = accepted_lines v s begin [] s.commands accepted
-    go false = λ e. cc
+accepted_script v s begin accepted = accepted_lines v s begin [] s.commands accepted
 
 accepted_script_text : (file : List ℕ) (v : ℕ) (begin : List NumberedCommand → Reading) (text : Text)
     → ((cs : List NumberedCommand) → AreAccepted (begin cs)) → AreAccepted (with_script_text file v begin text)

@@ -2,7 +2,6 @@
 use Rattle.std.proofs.Common.{◌≡◌, ◌⊎◌, ℕ, Bool, true, false, ◌&&◌, List, [], ◌∷◌, ◌++◌, Option, Some}
 use Rattle.std.proofs.Common.{Ok, inl, inr, refl, sym, ap, subst, ◌∙◌, if◌then◌else◌, codes, pos}
 use Rattle.std.proofs.lemmas.Bool.{eq-eqb, ne_eqb}
-use Rattle.std.specs.List.{list_all}
 use Rattle.std.specs.Option.{unwrap_or}
 use Rattle.sd_base.specs.Asked.{Request}
 use Rattle.sd_base.specs.Files.{Files, told_with, with_file}
@@ -32,7 +31,7 @@ use Rattle.sd_tool.specs.Effects.{Contents, after}
 use Rattle.sd_tool.specs.Readings.{Plan, Reading, Refuses, Begins, Reads, Whole, ReadsTo, reading_of, with_job}
 use Rattle.sd_tool.specs.Readings.{with_input_word, with_input, with_formula, with_tree_word, with_tree}
 use Rattle.sd_tool.specs.Readings.{with_vtree_text, with_vtree_reading, with_commands, with_script_text}
-use Rattle.sd_tool.specs.Readings.{with_script_reading, script_reading, with_lines, with_action, is_served}
+use Rattle.sd_tool.specs.Readings.{with_script_reading, script_reading, with_lines, with_action}
 use Rattle.sd_tool.specs.Readings.{Input, announcement, plan_for, file_name, input_file, in_line}
 use Rattle.sd_tool.specs.declared.refusal.Refusal.TheVariants as refusals
 use Rattle.sd_tool.specs.Ends.{Finished}
@@ -60,7 +59,6 @@ BindsName input state command name f = (next : State) (effects : List Effect)
 -- a line that needs no other name is one command, which binds its name
 record OwnLine (input : Groups) (action : Action) (name : ℕ) (f : Expression) : Type 0 where
   command : RunCommand
-  served : is_served action ≡ true
   still : is_move command ≡ false
   acts : (v : ℕ) (script : Script) (next : RunCommand → Reading) → with_action v script next action ≡ next command
   binds : (state : State) → BindsName input state command name f
@@ -75,7 +73,6 @@ own_line : (input : Groups) (action : Action) (name : ℕ) (f : Expression)
     → own_formula (expression_of input) action ≡ Some (name, f) → OwnLine input action name f
 own_line input (actions.Input n) name f is = record {
   command = commands.Input n;
-  served = refl;
   still = refl;
   acts = λ v script next. refl;
   binds = λ state. binds_same input state (commands.Input n) (n, expression_of input) (name, f) is
@@ -83,7 +80,6 @@ own_line input (actions.Input n) name f is = record {
 }
 own_line input (actions.Lit n literal) name f is = record {
   command = commands.Literal n literal;
-  served = refl;
   still = refl;
   acts = λ v script next. refl;
   binds = λ state. binds_same input state (commands.Literal n literal) (n, Atom literal) (name, f) is
@@ -91,19 +87,12 @@ own_line input (actions.Lit n literal) name f is = record {
 }
 own_line input (actions.Constant n value) name f is = record {
   command = commands.Constant n value;
-  served = refl;
   still = refl;
   acts = λ v script next. refl;
   binds = λ state. binds_same input state (commands.Constant n value) (n, Constant value) (name, f) is
       (λ next effects step. settled_done (with_name state n (Constant value)) next effects step);
 }
 own_line input action name f is = let bad : ⊥ = cc in absurd bad
-
--- four tests that hold
-all_four : (a b c d : Bool) → a ≡ true → b ≡ true → c ≡ true → d ≡ true → (a && (b && (c && (d && true)))) ≡ true
-all_four a b c d p q r s =
-    ap (λ x. x && (b && (c && (d && true)))) p ∙ ap (λ x. x && (c && (d && true))) q ∙ ap (λ x. x && (d && true)) r
-    ∙ ap (λ x. x && true) s
 
 -- the formula of a file is not announced
 not_announced : (word : InputWord) (input : Input) (formula : Groups) → input_file word ≡ Some input
@@ -155,18 +144,13 @@ module _ (input : Groups) (script : Script) (joined : Expression) (file : List �
     ((own_line input two.second.action two.g two.right two.binds_g).still, (refl, (refl, tt))),
   )
 
-  -- all four lines are served, and they become these commands
+  -- the four lines become these commands
   script_leads : (v : ℕ) (begin : List NumberedCommand → Reading)
       → script_reading v begin script ≡ begin four_commands
   script_leads v begin =
       let one = own_line input two.first.action two.f two.left two.binds_f in
       let other = own_line input two.second.action two.g two.right two.binds_g in
-      ap (λ ls. if list_all (λ (line : Line). is_served line.action) ls then with_lines v script begin [] ls
-      else Refuses refusals.NotYet) two.lines
-      ∙ ap (λ b. if b then with_lines v script begin [] (two.first ∷ two.second ∷ two.third ∷ two.last ∷ [])
-      else Refuses refusals.NotYet)
-      (all_four (is_served two.first.action) (is_served two.second.action) (is_served two.third.action)
-      (is_served two.last.action) one.served other.served (ap is_served two.joins) (ap is_served two.writes))
+      ap (λ ls. with_lines v script begin [] ls) two.lines
       ∙ four_lines v script begin two.first two.second two.third two.last one.command other.command
       (commands.Combine two.operation two.h two.f two.g) (commands.Write (two.h ∷ []) (file_name script two.number))
       (one.acts v script) (other.acts v script) (λ next. ap (with_action v script next) two.joins)

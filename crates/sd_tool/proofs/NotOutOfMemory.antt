@@ -1,7 +1,6 @@
 -- Where the readings of a run are over, a refusal is never OutOfMemory, and a plan begins with a vtree.
 use Rattle.std.proofs.Common.{◌≡◌, ℕ, ◌≤◌, Bool, true, false, List, [], ◌∷◌, ◌++◌, Option, Some, None, Result, Ok, Err}
 use Rattle.std.proofs.Common.{inl, inr, refl, sym, ap, subst, if◌then◌else◌, arith}
-use Rattle.std.specs.List.{list_all}
 use Rattle.sd_base.specs.Files.{Files}
 use Rattle.sd_model.specs.Tree.{Tree, IsVtree}
 use Rattle.sd_model.specs.StartTrees.{balanced_tree, right_tree, left_tree}
@@ -40,7 +39,7 @@ use Rattle.sd_tool.specs.Readings.{Plan, Input, Reading, Refuses, Begins, Reads,
 use Rattle.sd_tool.specs.Readings.{reading_of, with_job, with_input, with_input_word, with_formula, with_tree_word}
 use Rattle.sd_tool.specs.Readings.{with_tree, with_vtree_text, with_vtree_reading, with_commands, script_reading}
 use Rattle.sd_tool.specs.Readings.{with_script_text, with_script_reading, with_lines, with_action, with_sdd}
-use Rattle.sd_tool.specs.Readings.{with_sdd_reading, in_line, is_served, is_plain, file_name, plan_for, default_of}
+use Rattle.sd_tool.specs.Readings.{with_sdd_reading, in_line, is_plain, file_name, plan_for, default_of}
 use Rattle.sd_tool.specs.Refusals.{IsOfText}
 use Rattle.sd_tool.specs.declared.refusal.Refusal.{Refusal}
 use Rattle.sd_tool.specs.declared.refusal.Refusal.TheVariants.{NotYet, BadWords, BadFormula, BadVtree, BadSdd}
@@ -142,12 +141,7 @@ sound_lines v s begin done (line ∷ lines) sound =
 
 sound_script : (v : ℕ) (s : Script) (begin : List NumberedCommand → Reading) → ((cs : List NumberedCommand) → AreSound (begin cs))
     → AreSound (script_reading v begin s)
-sound_script v s begin sound = go (list_all (λ (line : Line). is_served line.action) s.commands)
-  where
-    go : (served : Bool)
-        → AreSound (if served then with_lines v s begin [] s.commands else Refuses NotYet)
-    go true = sound_lines v s begin [] s.commands sound
-    go false = tt
+sound_script v s begin sound = sound_lines v s begin [] s.commands sound
 
 sound_script_text : (file : List ℕ) (v : ℕ) (begin : List NumberedCommand → Reading) (text : Text)
     → ((cs : List NumberedCommand) → AreSound (begin cs)) → AreSound (with_script_text file v begin text)

@@ -2,7 +2,6 @@
 use Rattle.std.specs.Prelude.{◌≡◌, ◌⊎◌, ℕ, ◌+◌, ◌<◌, ◌≤◌, Bool, true, false, ◌==◌, ◌&&◌, is_none}
 use Rattle.std.specs.Prelude.{List, [], ◌∷◌, ◌++◌, length, slice_index_or, if◌then◌else◌}
 use Rattle.std.specs.Prelude.{Option, Some, None, Result, Ok, Err}
-use Rattle.std.specs.List.{list_all}
 use Rattle.sd_base.specs.Files.{Files, bytes_at}
 use Rattle.sd_model.specs.Tree.{Tree}
 use Rattle.sd_model.specs.StartTrees.{balanced_tree, right_tree, left_tree}
@@ -93,10 +92,6 @@ default_of job =
     (commands.Input 0 ∷ search_of job.minimise ++ for_file commands.WriteVtree job.out_vtree
     ++ for_file (commands.Write (0 ∷ [])) job.out_sdd ++ commands.Size 0 ∷ [])
 
--- a command of a script that runs have yet
-abbrev pub is_served : Action → Bool
-is_served action = true
-
 -- the name of a file of a script
 abbrev pub file_name : Script → ℕ → List ℕ
 file_name script n = slice_index_or script.files n []
@@ -142,12 +137,9 @@ with_lines v script begin done [] = begin done
 with_lines v script begin done (line ∷ lines) =
     with_action v script (λ command. with_lines v script begin (done ++ in_line line command ∷ []) lines) line.action
 
--- a script, if runs have its commands yet; no file is read before that is known
+-- the commands of a script
 abbrev pub script_reading : ℕ → (List NumberedCommand → Reading) → Script → Reading
-script_reading v begin script =
-    if list_all (λ (line : Line). is_served line.action) script.commands
-    then with_lines v script begin [] script.commands
-    else Refuses NotYet
+script_reading v begin script = with_lines v script begin [] script.commands
 
 -- a script that was read, or the refusal of its text
 abbrev pub with_script_reading : List ℕ → ℕ → (List NumberedCommand → Reading) → Result Script ScriptFault → Reading

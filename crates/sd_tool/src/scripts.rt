@@ -1,6 +1,6 @@
 // The commands of a job, with the files that its script loads.
 ghost use Rattle.std.specs.Prelude.{◌≡◌, ◌≤◌, ◌<◌, ◌∷◌, ◌++◌, List, [], IfOk, OnOk, None, length};
-ghost use Rattle.std.specs.List.{list_all, AllByRecursion};
+ghost use Rattle.std.specs.List.{AllByRecursion};
 ghost use Rattle.sd_base.specs.Asked.{Adds};
 ghost use Rattle.sd_base.specs.Shelf.{NoFile};
 ghost use Rattle.sd_file.specs.Reads.{File, sdd_file};
@@ -12,7 +12,7 @@ ghost use Rattle.sd_commands.specs.declared.command.NumberedCommand.{NumberedCom
 ghost use Rattle.sd_commands.specs.declared.command.RunCommand.{RunCommand as Seen};
 ghost use Rattle.sd_commands.specs.declared.command.RunCommand.TheVariants.{Write};
 ghost use Rattle.sd_tool.specs.Readings.{Reading, Reads, with_commands, with_script_text, script_reading};
-ghost use Rattle.sd_tool.specs.Readings.{with_lines, with_action, with_sdd, is_served};
+ghost use Rattle.sd_tool.specs.Readings.{with_lines, with_action, with_sdd};
 ghost use Rattle.sd_tool.specs.Actions.{IsCommandOf, plain_of};
 ghost use Rattle.sd_tool.specs.Stops.{LeadsTo, GivesText, StopsFor};
 ghost use Rattle.sd_tool.specs.declared.refusal.Refusal.TheVariants as refusals;
@@ -24,7 +24,7 @@ use crate::texts::{read_text, too_long};
 use sd_base::{Bits, Name, Shelf};
 use sd_commands::{NumberedCommand, RunCommand};
 use sd_file::{SddFault, SddFile, read_sdd};
-use sd_script::{Action, Command as Line, Indices, Script, ScriptFault, read_script};
+use sd_script::{Action, Indices, Script, ScriptFault, read_script};
 use sd_words::Job;
 use std::alloc::{AllocError, Global};
 
@@ -120,52 +120,8 @@ fn script_in(alloc: Global, file: &str, bytes: &[u8], variables: u32) -> Result<
     }
 }
 
-// The commands of a script, if runs have them all yet.
-fn script_commands<F: Shelf>(
-    alloc: Global,
-    script: &Script,
-    variables: u32,
-    shelf: &mut F,
-) -> Result<Vec<NumberedCommand>, Stop>
-    requires hand { F.hand shelf.old ≡ NoFile }
-    requires at_least_one { 1 ≤ variables }
-    requires within_limit { variables ≤ 1024 }
-    requires script { IsScript variables script.now }
-    requires lines { length script.now.commands ≤ 100000 }
-    ensures hand { F.hand shelf.new ≡ NoFile }
-    ensures files { F.files shelf.new ≡ F.files shelf.old }
-    ensures read_faults { F.read_faults shelf.old ≤ F.read_faults shelf.new }
-    ensures write_faults { F.write_faults shelf.new ≡ F.write_faults shelf.old }
-    ensures leads { (begin : List SeenLine → Reading)
-        → LeadsTo (Adds F.asked shelf.old shelf.new) (F.files shelf.old)
-        (script_reading variables begin script.now) (λ commands. begin commands.items)
-        result (F.read_faults shelf.old) (F.read_faults shelf.new) }
-    ensures fit { IfOk result (λ commands. AllFit variables [] commands.items) }
-    ensures within_limit { IfOk result (λ commands. length commands.items ≤ 100000) }
-{
-    if all_served(script.commands()) {
-        served_commands(alloc, script, variables, shelf)
-    } else {
-        Err(Stop::Refused(Refusal::NotYet))
-    }
-}
-
-// Whether runs have the commands of these lines yet.
-fn all_served(lines: &[Line]) -> bool
-    ensures { result ≡ list_all (λ line. is_served line.action) lines.now }
-{
-    lines.iter().all(|line| is_served(&line.action))
-}
-
-// Whether runs have the command yet.
-fn is_served(_action: &Action) -> bool
-    ensures { result ≡ is_served _action.now }
-{
-    true
-}
-
 // The commands of the lines of a script, one after another.
-fn served_commands<F: Shelf>(
+fn script_commands<F: Shelf>(
     alloc: Global,
     script: &Script,
     variables: u32,

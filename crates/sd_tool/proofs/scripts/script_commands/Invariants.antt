@@ -5,7 +5,7 @@ use Rattle.sd_commands.specs.declared.command.NumberedCommand.{NumberedCommand}
 use Rattle.sd_tool.specs.Actions.{AreCommandsOf}
 use Rattle.sd_tool.specs.Asks.{ComesTo}
 use Rattle.sd_tool.specs.Readings.{Reading, with_lines}
-use Rattle.sd_tool.proofs.scripts.served_commands.Given as goal
+use Rattle.sd_tool.proofs.scripts.script_commands.Given as goal
 
 -- the lines so far have become the commands, and the readings have come to the lines that are left
 abbrev pub invariant-loop-line : goal.invariant-loop-line

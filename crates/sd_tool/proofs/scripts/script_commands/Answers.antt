@@ -8,7 +8,7 @@ use Rattle.sd_tool.specs.Readings.{with_lines}
 use Rattle.sd_tool.proofs.AskLemmas.{joined, comes_same, asks_none}
 use Rattle.sd_tool.proofs.ScriptLemmas.{IsNext, next_allowed, becomes_first, becomes_next, line_leads}
 use Rattle.std.proofs.Common.{inl}
-use Rattle.sd_tool.proofs.scripts.served_commands.Goals as goal
+use Rattle.sd_tool.proofs.scripts.script_commands.Goals as goal
 
 -- no line is done yet
 pub loop-line-init : goal.loop-line-init
