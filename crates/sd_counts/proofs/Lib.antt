@@ -1,0 +1,14 @@
+mod OnStack
+mod Queueing
+mod Adding
+mod Along
+mod Sums
+mod Bounds
+mod Risen
+mod TakenOff
+mod Steps
+mod Passes
+mod Whole
+mod Reached
+mod StaysRight
+mod Worked

@@ -1,0 +1,4 @@
+pub mod Counts
+pub mod Queued
+pub mod Right
+pub mod Uses
