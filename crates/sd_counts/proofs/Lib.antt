@@ -1,14 +1,14 @@
-mod OnStack
+pub mod OnStack
 mod Queueing
 mod Adding
 mod Along
-mod Sums
+pub mod Sums
 mod Bounds
 mod Risen
 mod TakenOff
 mod Steps
 mod Passes
 mod Whole
-mod Reached
-mod StaysRight
+pub mod Reached
+pub mod StaysRight
 mod Worked

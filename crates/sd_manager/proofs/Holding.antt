@@ -28,7 +28,7 @@ use Rattle.sd_manager.proofs.Reading.{shown_has_node, key_again}
 -- how often codes are used
 
 -- a truth value counts at most once
-at_most_one : (b : Bool) → cond b 1 0 ≤ 1
+pub at_most_one : (b : Bool) → cond b 1 0 ≤ 1
 at_most_one true = omega arith
 at_most_one false = omega arith
 
@@ -52,7 +52,7 @@ sum_twice f g (x ∷ xs) h =
     omega (arith, sum_by-cons f x xs, sum_by-cons g x xs, sum_twice f g xs h, h x)
 
 -- a sum of terms that are at most one is at most the length
-sum_ones : {X : Type 0} (f : X → ℕ) (xs : List X) → ((x : X) → f x ≤ 1) → sum_by f xs ≤ length xs
+pub sum_ones : {X : Type 0} (f : X → ℕ) (xs : List X) → ((x : X) → f x ≤ 1) → sum_by f xs ≤ length xs
 sum_ones f [] h = omega arith
 sum_ones f (x ∷ xs) h = omega (arith, sum_by-cons f x xs, sum_ones f xs h, h x)
 
@@ -153,12 +153,12 @@ contains_none : {X : Type 0} (m : FinMap nat_cmp X) (k : ℕ) → get m k ≡ No
 contains_none m k e = ap is_some e
 
 -- one more root
-len_more : (m : FinMap nat_cmp ℕ) (root c : ℕ) → get m root ≡ None → len (insert m root c) ≡ len m + 1
+pub len_more : (m : FinMap nat_cmp ℕ) (root c : ℕ) → get m root ≡ None → len (insert m root c) ≡ len m + 1
 len_more m root c none =
     len-insert nat_cmp_total m root c ∙ ap (λ b. cond b (len m) (len m + 1)) (contains_none m root none)
 
 -- a root that holds another node
-len_again : (m : FinMap nat_cmp ℕ) (root c d : ℕ) → get m root ≡ Some c → len (insert m root d) ≡ len m
+pub len_again : (m : FinMap nat_cmp ℕ) (root c d : ℕ) → get m root ≡ Some c → len (insert m root d) ≡ len m
 len_again m root c d some =
     len-insert nat_cmp_total m root d ∙ ap (λ b. cond b (len m) (len m + 1)) (contains_some m root c some)
 

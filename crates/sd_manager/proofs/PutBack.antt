@@ -18,6 +18,10 @@ use Rattle.sd_manager.specs.Shown.{AreThere}
 use Rattle.sd_manager.specs.Counting.{DropsUses, list_at}
 use Rattle.sd_manager.specs.Stored.{table_of, IsStored}
 use Rattle.sd_manager.specs.Moving.{FitsNode, IsAscending, IsAbsent, IsPutBack}
+use Rattle.sd_manager.specs.Recounting.{HasOtherList}
+use Rattle.sd_manager.proofs.CountsKept.{nodes_closed, nodes_few}
+use Rattle.sd_manager.proofs.CountsAfter.{counts_exchanged}
+use Rattle.sd_manager.proofs.GivenBack.{list_counted}
 use Rattle.sd_manager.proofs.DetachedList.{detached_drops}
 use Rattle.sd_manager.proofs.Holding.{some_value}
 use Rattle.sd_manager.proofs.LinkedUnder.{not_linked}
@@ -115,6 +119,16 @@ module _ (v : Numbered) (a : Nodes) (m : FinMap nat_cmp ℕ) (e : ℕ) (g : Opti
 
     pub putting_former : (l : List (ℕ × ℕ)) × IsLoose d old.0 old.1 l
     putting_former = (asks.former.1, former_loose)
+
+    -- it is the only node with another list
+    pub putting_other : IsNodes d → HasOtherList a d n old.0 old.1
+    putting_other after =
+        let is : d ≡ swapped (record a { uses = b.uses }) = exchange_is.1 ∙ ap swapped drops.rest in
+        counts_exchanged a d n asks.former.0 old.0 old.1 asks.former asks.list stored.valid
+        (nodes_closed v a m e g stored) (nodes_few v a m e g stored) asks.was
+        (list_counted v a m e g stored asks.list (stored.table.closed_runs start asks.list asks.run))
+        (ap (λ x. x.linked) is) (ap (λ x. x.detached) is) former_loose.is exchange_is.0 (ap (λ x. x.records) is)
+        (omega (arith, ap (λ x. x.bound) is, stored.table.bound_fits)) after
 
     module _ (f : Nodes) (given_back : (l : List (ℕ × ℕ)) → IsLoose d old.0 old.1 l → f ≡ without_loose d old.0 l) where
       -- the old run was given back

@@ -20,6 +20,9 @@ use Rattle.sd_manager.specs.Shown.{AreThere}
 use Rattle.sd_manager.specs.Counting.{AreCounted, AddsUses}
 use Rattle.sd_manager.specs.Stored.{table_of, IsStored}
 use Rattle.sd_manager.specs.Moving.{FitsNode, IsAscending, IsAbsent, IsRewritten}
+use Rattle.sd_manager.specs.Recounting.{HasOtherList}
+use Rattle.sd_manager.proofs.CountsKept.{nodes_closed, nodes_few}
+use Rattle.sd_manager.proofs.CountsAfter.{counts_exchanged}
 use Rattle.sd_manager.proofs.Fitting.{fits_permuted}
 use Rattle.sd_manager.proofs.Holding.{count_is, some_value, uses_in_le, uses_fit}
 use Rattle.sd_manager.proofs.LinkedUnder.{fitting_there, fitting_several, not_linked}
@@ -178,6 +181,19 @@ module _ (v : Numbered) (a : Nodes) (m : FinMap nat_cmp ℕ) (e : ℕ) (g : Opti
             (λ ne.
             sym (get_insert_other a.loose start list run.0 ne) ∙ sym (ap (λ x. get x.loose run.0) added) ∙ fresh)
             (cases_eq run.0 start)
+
+        -- it is the only node with another list
+        pub rewriting_other : IsNodes f → HasOtherList a f n run.0 run.1
+        rewriting_other after =
+            counts_exchanged a f n asks.former.0 run.0 run.1 asks.former list stored.valid
+            (nodes_closed v a m e g stored) (nodes_few v a m e g stored) asks.was
+            (list_counted v a m e g stored list (fitting_there (table_of v a m e g) stored.table asks.former.0 list
+            asks.fits))
+            (ap (λ x. x.linked) exchanged_is) (ap (λ x. x.detached) exchanged_is)
+            (ap (λ x. get x.loose run.0) exchanged_is
+            ∙ get_insert_same (remove (insert a.loose start list) start) run.0 asks.former.1) exchange_is.0
+            (ap (λ x. x.records) exchanged_is)
+            (omega (arith, ap (λ x. x.bound) exchanged_is, stored.table.bound_fits)) after
 
         module _ (h : Nodes) (link : (k : ℕ × List (ℕ × ℕ)) → get f.detached n ≡ Some k → h ≡ relinked f n k)
             (after : IsNodes h) where

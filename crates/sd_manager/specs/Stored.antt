@@ -1,9 +1,13 @@
 -- How a manager is kept: its nodes with their uses, and its roots in slots.
 use Rattle.std.specs.Prelude.{◌≡◌, ℕ, ◌+◌, ◌^◌, ◌<◌, ◌≤◌, List, [], ◌∷◌, length, Option, Some, None, slice_index_or}
+use Rattle.std.specs.Prelude.{◌==◌, if◌then◌else◌}
+use Rattle.std.specs.List.{sum_by}
 use Rattle.std.specs.Option.{IsSome}
 use Rattle.std.specs.Ordering.{nat_cmp}
-use Rattle.std.specs.FinMap.{FinMap, get, from_entries}
+use Rattle.std.specs.FinMap.{FinMap, get, values, from_entries}
 use Rattle.sd_unique.specs.Nodes.{Nodes, IsNodes}
+use Rattle.sd_counts.specs.Counts.{Counts}
+use Rattle.sd_counts.specs.Right.{AreOf}
 use Rattle.sd_vtree.specs.Numbered.{Numbered}
 use Rattle.sd_manager.specs.Table.{Table, key_at, uses_of}
 use Rattle.sd_manager.specs.Valid.{IsTable}
@@ -54,3 +58,12 @@ pub record IsStored (nodes : Nodes) (t : Table) : Type 0 where
   pub table : IsTable t
   pub valid : IsNodes nodes
   pub uses : (n : ℕ) (k : ℕ × List (ℕ × ℕ)) → key_at t n ≡ Some k → get nodes.uses n ≡ Some (uses_of t (2050 + n))
+
+-- how many roots hold the node of a number
+abbrev pub held_count : FinMap nat_cmp ℕ → ℕ → ℕ
+held_count roots n = sum_by (λ held. if held == 2050 + n then 1 else 0) (values roots)
+
+-- The parts are stored so, and the counts are right for the lists of the nodes and for what the roots hold.
+pub record IsKept (nodes : Nodes) (counts : Counts) (t : Table) : Type 0 where
+  pub stored : IsStored nodes t
+  pub counted : AreOf nodes (held_count t.roots) counts

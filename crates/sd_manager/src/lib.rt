@@ -8,6 +8,7 @@ mod manager;
 mod moving;
 mod node_id;
 mod pairs;
+mod recount;
 mod rewriting;
 mod roots;
 mod uses;

@@ -20,12 +20,15 @@ ghost use Rattle.sd_manager.specs.Making.{with_root, without_root};
 ghost use Rattle.sd_manager.specs.Marking.{with_mark, IsNextHeld};
 ghost use Rattle.sd_manager.specs.Moving.{next_epoch};
 ghost use Rattle.sd_manager.specs.Retiring.{IsIdle, IsRetired};
+ghost use Rattle.sd_manager.specs.Total.{IsTotal};
 
 use crate::node_id::NodeId;
 use crate::pairs::{sort_into, trimmed};
+use crate::recount::uncount;
 use crate::roots::{Root, Roots};
 use crate::uses::{add_use, add_uses, drop_use, drop_uses};
 use crate::view::{View, literal_code, literal_value};
+use sd_counts::LiveCounts;
 use sd_runs::TakeError;
 use sd_unique::{Found, Nodes};
 use sd_vtree::{VNode, Vtree};
@@ -45,11 +48,13 @@ pub struct Manager {
     pub(crate) moving: Option<VNode>,
     // Room for the list of a node that is made or rewritten.
     pub(crate) sorted: Vec<(u32, u32)>,
+    // Which nodes are under what roots hold, and how many elements these have.
+    pub(crate) counts: LiveCounts,
 }
 
 impl Model for Manager {
     ghost use Rattle.sd_manager.specs.Table.{Table, table_code};
-    ghost use Rattle.sd_manager.specs.Stored.{table_of, IsStored};
+    ghost use Rattle.sd_manager.specs.Stored.{table_of, IsKept};
 
     ghost Value = { Table };
 
@@ -57,7 +62,8 @@ impl Model for Manager {
 
     ghost view = { λ a. table_of a.vtree a.nodes a.roots a.epoch a.moving };
 
-    ghost invariant = { λ a. IsStored a.nodes (table_of a.vtree a.nodes a.roots a.epoch a.moving) };
+    ghost invariant = { λ a. IsKept a.nodes a.counts
+        (table_of a.vtree a.nodes a.roots a.epoch a.moving) };
 }
 
 impl Manager {
@@ -75,6 +81,7 @@ impl Manager {
             epoch: 0,
             moving: None,
             sorted: Vec::new(alloc),
+            counts: LiveCounts::new(alloc),
         })
     }
 
@@ -184,6 +191,7 @@ impl Manager {
     {
         let root = self.roots.hold(node.0)?;
         add_use(&mut self.nodes, node.0);
+        self.counts.hold(node.0);
         Ok(root)
     }
 
@@ -196,6 +204,7 @@ impl Manager {
     {
         let held = self.roots.release(&root);
         drop_use(&mut self.nodes, held);
+        self.counts.release(held);
     }
 
     /// Makes a root hold another node, and hands the old one back.
@@ -211,6 +220,8 @@ impl Manager {
         let former = self.roots.rebind(root, node.0);
         add_use(&mut self.nodes, node.0);
         drop_use(&mut self.nodes, former);
+        self.counts.release(former);
+        self.counts.hold(node.0);
         NodeId(former)
     }
 
@@ -302,6 +313,7 @@ impl Manager {
         if let Some(code) = trimmed(list) {
             return Ok(NodeId(code));
         }
+        self.counts.grow(self.nodes.records())?;
         let found = match self.nodes.find_or_insert(place.0, list) {
             Ok(found) => found,
             Err(error) => return Err(error),
@@ -379,10 +391,24 @@ impl Manager {
         ensures retired { IsRetired self.old self.new number }
         ensures table { IsTable self.new }
     {
+        uncount(&mut self.counts, &self.nodes, number);
         drop_uses(&mut self.nodes, number);
         self.nodes.unlink(number);
         self.nodes.remove(number);
         self.epoch = epoch_after(self.epoch);
+    }
+
+    /// The total size: how many elements the nodes under the held roots have together, each node once. It costs the
+    /// lists of the nodes that came under a root, or are under none any more, since it was last asked for. Takes no
+    /// memory.
+    pub fn total(&mut self) -> u32
+        requires no_move { self.old.moving ≡ None }
+        ensures total { IsTotal self.old result }
+        ensures same { self.new ≡ self.old }
+        ensures table { IsTable self.new }
+    {
+        self.counts.settle(&self.nodes);
+        self.counts.total()
     }
 }
 

@@ -14,6 +14,7 @@ ghost use Rattle.sd_manager.specs.Moving.{IsRewritten, IsPutBack, IsDiscarded, I
 use crate::manager::Manager;
 use crate::node_id::NodeId;
 use crate::pairs::sort_into;
+use crate::recount::{recount, uncount};
 use crate::uses::{add_uses, drop_run_uses, drop_uses};
 use sd_runs::TakeError;
 use sd_vtree::VNode;
@@ -38,6 +39,7 @@ impl Manager {
         ensures discarded { IsDiscarded self.old self.new number }
         ensures table { IsTable self.new }
     {
+        uncount(&mut self.counts, &self.nodes, number);
         drop_uses(&mut self.nodes, number);
         self.nodes.remove(number);
     }
@@ -74,6 +76,7 @@ impl Manager {
         };
         add_uses(&mut self.nodes, list);
         let former = self.nodes.replace_run(number, run);
+        recount(&mut self.counts, &self.nodes, number, former);
         self.nodes.relink(number);
         Ok(former)
     }
@@ -94,6 +97,7 @@ impl Manager {
     {
         drop_uses(&mut self.nodes, number);
         let former = self.nodes.replace_run(number, run);
+        recount(&mut self.counts, &self.nodes, number, former);
         self.nodes.give_run(former);
         self.nodes.retag(number, place.0);
         self.nodes.relink(number);

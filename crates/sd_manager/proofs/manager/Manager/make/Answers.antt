@@ -4,19 +4,21 @@ use Rattle.sd_unique.specs.Inserting.{inserted, IsNewNumber, IsFull}
 use Rattle.sd_manager.specs.Table.{uses_in}
 use Rattle.sd_manager.specs.Making.{Extends, IsMade, IsRefusal, KeepsRule, IsNeeded, HasNewNode}
 use Rattle.sd_manager.specs.Counting.{AreCounted}
-use Rattle.sd_manager.specs.Stored.{table_of, IsStored}
+use Rattle.sd_manager.specs.Stored.{table_of, held_count, IsStored, IsKept}
 use Rattle.sd_manager.proofs.Linking.{asked, partition_inside, made_trimmed, made_found, two_pairs, refused, kept_rule}
 use Rattle.sd_manager.proofs.Linking.{list_counted, list_room, new_short, at_new, stored_new, made_new, kept_new}
 use Rattle.sd_manager.proofs.Linking.{grown_new}
 use Rattle.sd_manager.proofs.Needed.{needed}
 use Rattle.sd_manager.proofs.Found.{if_present, if_new}
+use Rattle.sd_manager.proofs.CountsAfter.{counts_made, new_alone}
+use Rattle.sd_counts.proofs.StaysRight.{right_grown}
 use Rattle.sd_manager.proofs.manager.Manager.make.Goals as goal
 
 pub returns-in-Some-clause-ok : goal.returns-in-Some-clause-ok
 returns-in-Some-clause-ok c = λ ds partition.
     let s = c.self.inside in
     let h = asked s.vtree s.nodes s.roots s.epoch s.moving c.args.self.now c.args.place c.args.place c.args.elements.now
-    c.as_slice-list.result.now c.sort_into.new.list.items c.self.invariant c.self.view_is refl
+    c.as_slice-list.result.now c.sort_into.new.list.items c.self.invariant.stored c.self.view_is refl
     c.requires.partition c.requires.differ c.in_ok-sort_into.ensures.permutation c.in_ok-sort_into.ensures.sorted
     c.as_slice-list.ensures.value in
     made_trimmed s.vtree s.nodes s.roots s.epoch s.moving c.args.place c.args.elements.now c.as_slice-list.result.now h
@@ -29,7 +31,7 @@ returns-in-Present-clause-ok c = λ ds partition.
     let s = c.self.inside in
     let h = asked s.vtree s.nodes s.roots s.epoch s.moving c.args.self.now c.place.inside.0 c.args.place
     c.args.elements.now
-    c.as_slice-list.result.now c.sort_into.new.list.items c.self.invariant c.self.view_is c.place.view_is
+    c.as_slice-list.result.now c.sort_into.new.list.items c.self.invariant.stored c.self.view_is c.place.view_is
     c.requires.partition c.requires.differ c.in_ok-sort_into.ensures.permutation c.in_ok-sort_into.ensures.sorted
     c.as_slice-list.ensures.value in
     let none = sym c.trimmed.ensures ∙ c.in_default.is in
@@ -44,12 +46,16 @@ returns-in-Present-clause-ok c = λ ds partition.
     (partition_inside (table_of s.vtree s.nodes s.roots s.epoch s.moving) c.args.self.now c.place.inside.0 c.args.place
     c.args.elements.now ds c.self.view_is c.place.view_is partition))
 
+pub grow-requires : goal.grow-requires
+grow-requires c =
+    record { next = omega (arith, c.self.invariant.counted.room, c.records.ensures.records) }
+
 pub find_or_insert-requires : goal.find_or_insert-requires
 find_or_insert-requires c =
     let s = c.self.inside in
     let h = asked s.vtree s.nodes s.roots s.epoch s.moving c.args.self.now c.place.inside.0 c.args.place
     c.args.elements.now
-    c.as_slice-list.result.now c.sort_into.new.list.items c.self.invariant c.self.view_is c.place.view_is
+    c.as_slice-list.result.now c.sort_into.new.list.items c.self.invariant.stored c.self.view_is c.place.view_is
     c.requires.partition c.requires.differ c.in_ok-sort_into.ensures.permutation c.in_ok-sort_into.ensures.sorted
     c.as_slice-list.ensures.value in
     let none = sym c.trimmed.ensures ∙ c.in_default.is in
@@ -66,7 +72,7 @@ returns-in-Err-clause-full c =
     let s = c.self.inside in
     let h = asked s.vtree s.nodes s.roots s.epoch s.moving c.args.self.now c.place.inside.0 c.args.place
     c.args.elements.now
-    c.as_slice-list.result.now c.sort_into.new.list.items c.self.invariant c.self.view_is c.place.view_is
+    c.as_slice-list.result.now c.sort_into.new.list.items c.self.invariant.stored c.self.view_is c.place.view_is
     c.requires.partition c.requires.differ c.in_ok-sort_into.ensures.permutation c.in_ok-sort_into.ensures.sorted
     c.as_slice-list.ensures.value in
     let none = sym c.trimmed.ensures ∙ c.in_default.is in
@@ -80,7 +86,7 @@ returns-in-Err-clause-rule c =
     let s = c.self.inside in
     let h = asked s.vtree s.nodes s.roots s.epoch s.moving c.args.self.now c.place.inside.0 c.args.place
     c.args.elements.now
-    c.as_slice-list.result.now c.sort_into.new.list.items c.self.invariant c.self.view_is c.place.view_is
+    c.as_slice-list.result.now c.sort_into.new.list.items c.self.invariant.stored c.self.view_is c.place.view_is
     c.requires.partition c.requires.differ c.in_ok-sort_into.ensures.permutation c.in_ok-sort_into.ensures.sorted
     c.as_slice-list.ensures.value in
     let none = sym c.trimmed.ensures ∙ c.in_default.is in
@@ -94,7 +100,7 @@ returns-in-Err-clause-needed c =
     let s = c.self.inside in
     let h = asked s.vtree s.nodes s.roots s.epoch s.moving c.args.self.now c.place.inside.0 c.args.place
     c.args.elements.now
-    c.as_slice-list.result.now c.sort_into.new.list.items c.self.invariant c.self.view_is c.place.view_is
+    c.as_slice-list.result.now c.sort_into.new.list.items c.self.invariant.stored c.self.view_is c.place.view_is
     c.requires.partition c.requires.differ c.in_ok-sort_into.ensures.permutation c.in_ok-sort_into.ensures.sorted
     c.as_slice-list.ensures.value in
     let none = sym c.trimmed.ensures ∙ c.in_default.is in
@@ -110,7 +116,7 @@ add_uses-requires-clause-counted c =
     let s = c.self.inside in
     let h = asked s.vtree s.nodes s.roots s.epoch s.moving c.args.self.now c.place.inside.0 c.args.place
     c.args.elements.now
-    c.as_slice-list.result.now c.sort_into.new.list.items c.self.invariant c.self.view_is c.place.view_is
+    c.as_slice-list.result.now c.sort_into.new.list.items c.self.invariant.stored c.self.view_is c.place.view_is
     c.requires.partition c.requires.differ c.in_ok-sort_into.ensures.permutation c.in_ok-sort_into.ensures.sorted
     c.as_slice-list.ensures.value in
     let none = sym c.trimmed.ensures ∙ c.in_default.is in
@@ -129,7 +135,7 @@ add_uses-requires-clause-room c =
     let s = c.self.inside in
     let h = asked s.vtree s.nodes s.roots s.epoch s.moving c.args.self.now c.place.inside.0 c.args.place
     c.args.elements.now
-    c.as_slice-list.result.now c.sort_into.new.list.items c.self.invariant c.self.view_is c.place.view_is
+    c.as_slice-list.result.now c.sort_into.new.list.items c.self.invariant.stored c.self.view_is c.place.view_is
     c.requires.partition c.requires.differ c.in_ok-sort_into.ensures.permutation c.in_ok-sort_into.ensures.sorted
     c.as_slice-list.ensures.value in
     let none = sym c.trimmed.ensures ∙ c.in_default.is in
@@ -147,12 +153,34 @@ add_uses-requires-clause-room c =
     c.as_slice-list.result.now h none
     c.in-New.number number c.find_or_insert.new.self is c.in-Ok.ensures.nodes))
 
+pub invariant_of-self-in-Err : goal.invariant_of-self-in-Err
+invariant_of-self-in-Err c =
+    let s = c.self.inside in
+    subst (λ x. IsKept x c.grow.new.self (table_of s.vtree x s.roots s.epoch s.moving)) (sym c.in-Err.ensures.err)
+    (record {
+      stored = c.self.invariant.stored;
+      counted = right_grown s.nodes (held_count s.roots) s.counts c.grow.new.self c.self.invariant.counted
+          c.in_ok-grow.ensures.grown;
+    })
+
+pub invariant_of-self-in-Present : goal.invariant_of-self-in-Present
+invariant_of-self-in-Present c =
+    let s = c.self.inside in
+    let same = if_present c.in-Ok.found c.in-Present.number (λ n. c.find_or_insert.new.self ≡ s.nodes)
+    c.in-Present.is c.in-Ok.ensures.same in
+    subst (λ x. IsKept x c.grow.new.self (table_of s.vtree x s.roots s.epoch s.moving)) (sym same)
+    (record {
+      stored = c.self.invariant.stored;
+      counted = right_grown s.nodes (held_count s.roots) s.counts c.grow.new.self c.self.invariant.counted
+          c.in_ok-grow.ensures.grown;
+    })
+
 pub invariant_of-self-2 : goal.invariant_of-self-2
 invariant_of-self-2 c =
     let s = c.self.inside in
     let h = asked s.vtree s.nodes s.roots s.epoch s.moving c.args.self.now c.place.inside.0 c.args.place
     c.args.elements.now
-    c.as_slice-list.result.now c.sort_into.new.list.items c.self.invariant c.self.view_is c.place.view_is
+    c.as_slice-list.result.now c.sort_into.new.list.items c.self.invariant.stored c.self.view_is c.place.view_is
     c.requires.partition c.requires.differ c.in_ok-sort_into.ensures.permutation c.in_ok-sort_into.ensures.sorted
     c.as_slice-list.ensures.value in
     let none = sym c.trimmed.ensures ∙ c.in_default.is in
@@ -161,21 +189,28 @@ invariant_of-self-2 c =
     let is = if_new c.in-Ok.found c.in-New.number
     (λ n. c.find_or_insert.new.self ≡ inserted s.nodes n c.place.inside.0 c.as_slice-list.result.now) c.in-New.is
     c.in-Ok.ensures.ok in
-    at_new s.vtree s.nodes s.roots s.epoch s.moving c.place.inside.0 c.args.elements.now c.as_slice-list.result.now
-    h none
-    c.in-New.number number c.find_or_insert.new.self c.add_uses.new.nodes is
-    c.add_uses.ensures.uses c.add_uses.ensures.valid
-    (λ d. IsStored d (table_of s.vtree d s.roots s.epoch s.moving))
-    (λ w counts valid. stored_new s.vtree s.nodes s.roots s.epoch s.moving c.place.inside.0 c.args.elements.now
-    c.as_slice-list.result.now h none
-    c.in-New.number number w counts valid)
+    record {
+      stored = at_new s.vtree s.nodes s.roots s.epoch s.moving c.place.inside.0 c.args.elements.now c.as_slice-list.result.now
+          h none
+          c.in-New.number number c.find_or_insert.new.self c.add_uses.new.nodes is
+          c.add_uses.ensures.uses c.add_uses.ensures.valid
+          (λ d. IsStored d (table_of s.vtree d s.roots s.epoch s.moving))
+          (λ w counts valid. stored_new s.vtree s.nodes s.roots s.epoch s.moving c.place.inside.0 c.args.elements.now
+          c.as_slice-list.result.now h none
+          c.in-New.number number w counts valid);
+      counted = counts_made s.nodes c.find_or_insert.new.self c.add_uses.new.nodes (held_count s.roots) s.counts
+          c.grow.new.self c.self.invariant.counted c.in_ok-grow.ensures.grown
+          (omega (arith, c.in_ok-grow.ensures.room, c.records.ensures.records)) c.in-New.number c.place.inside.0
+          c.as_slice-list.result.now number
+          (new_alone s.nodes c.in-New.number c.self.invariant.stored.valid number) is c.add_uses.ensures.uses.rest;
+    }
 
 pub returns-clause-ok : goal.returns-clause-ok
 returns-clause-ok c = λ ds partition.
     let s = c.self.inside in
     let h = asked s.vtree s.nodes s.roots s.epoch s.moving c.args.self.now c.place.inside.0 c.args.place
     c.args.elements.now
-    c.as_slice-list.result.now c.sort_into.new.list.items c.self.invariant c.self.view_is c.place.view_is
+    c.as_slice-list.result.now c.sort_into.new.list.items c.self.invariant.stored c.self.view_is c.place.view_is
     c.requires.partition c.requires.differ c.in_ok-sort_into.ensures.permutation c.in_ok-sort_into.ensures.sorted
     c.as_slice-list.ensures.value in
     let none = sym c.trimmed.ensures ∙ c.in_default.is in
@@ -200,7 +235,7 @@ returns-clause-kept c =
     let s = c.self.inside in
     let h = asked s.vtree s.nodes s.roots s.epoch s.moving c.args.self.now c.place.inside.0 c.args.place
     c.args.elements.now
-    c.as_slice-list.result.now c.sort_into.new.list.items c.self.invariant c.self.view_is c.place.view_is
+    c.as_slice-list.result.now c.sort_into.new.list.items c.self.invariant.stored c.self.view_is c.place.view_is
     c.requires.partition c.requires.differ c.in_ok-sort_into.ensures.permutation c.in_ok-sort_into.ensures.sorted
     c.as_slice-list.ensures.value in
     let none = sym c.trimmed.ensures ∙ c.in_default.is in
@@ -224,7 +259,7 @@ returns-clause-grown c =
     let s = c.self.inside in
     let h = asked s.vtree s.nodes s.roots s.epoch s.moving c.args.self.now c.place.inside.0 c.args.place
     c.args.elements.now
-    c.as_slice-list.result.now c.sort_into.new.list.items c.self.invariant c.self.view_is c.place.view_is
+    c.as_slice-list.result.now c.sort_into.new.list.items c.self.invariant.stored c.self.view_is c.place.view_is
     c.requires.partition c.requires.differ c.in_ok-sort_into.ensures.permutation c.in_ok-sort_into.ensures.sorted
     c.as_slice-list.ensures.value in
     let none = sym c.trimmed.ensures ∙ c.in_default.is in
@@ -251,4 +286,4 @@ returns-clause-grown c =
     c.in-New.number number w counts valid room))))
 
 pub returns-clause-table : goal.returns-clause-table
-returns-clause-table c = (invariant_of-self-2 c).table
+returns-clause-table c = (invariant_of-self-2 c).stored.table

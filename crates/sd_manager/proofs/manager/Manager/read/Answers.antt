@@ -8,6 +8,6 @@ overflow_cast-result c =
     omega (
       arith,
       list_short s.vtree s.nodes s.roots s.epoch s.moving (c.node.inside.0 - 2050) c.list.result.now
-          c.self.invariant.table
+          c.self.invariant.stored.table
           c.list.ensures,
     )

@@ -1,0 +1,16 @@
+use Rattle.std.proofs.Common.{arith}
+use Rattle.std.specs.Prelude.{◌≡◌, false}
+use Rattle.sd_unique.specs.Nodes.{key_at}
+use Rattle.sd_manager.proofs.CountsKept.{unused_uncounted}
+use Rattle.sd_manager.proofs.Holding.{some_value}
+use Rattle.sd_manager.proofs.recount.uncount.Goals as goal
+
+pub is_counted-requires : goal.is_counted-requires
+is_counted-requires c =
+    let k = some_value (key_at c.args.nodes.now c.args.number) c.requires.node in
+    omega (arith, c.requires.valid.numbered c.args.number k.0 k.1, c.requires.right.1.room)
+
+pub returns-clause-uncounted : goal.returns-clause-uncounted
+returns-clause-uncounted c = λ held of unused.
+    unused_uncounted c.args.nodes.now held c.settle.new.self c.args.number (c.settle.ensures.right held of)
+    c.settle.ensures.settled unused
