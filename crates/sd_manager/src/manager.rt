@@ -9,7 +9,7 @@ ghost use Rattle.sd_model.specs.Assignment.{literal_holds};
 ghost use Rattle.sd_model.specs.Diagram.{Diagram, Elements, Decomposition, meaning};
 ghost use Rattle.sd_vtree.specs.Numbered.{IsNumbered, plain_tree};
 ghost use Rattle.sd_laws.specs.Depth.{depth};
-ghost use Rattle.sd_manager.specs.Table.{no_table, uses_of};
+ghost use Rattle.sd_manager.specs.Table.{no_table, uses_of, key_at};
 ghost use Rattle.sd_manager.specs.Literals.{IsLiteralTo, code_of_literal};
 ghost use Rattle.sd_manager.specs.Shown.{Shows, ShowsCanonical, IsNodeOf, HoldsDiagram, IsPartitionAt, HasNode};
 ghost use Rattle.sd_manager.specs.Shown.{ShowsElement, constant_diagram};
@@ -336,18 +336,18 @@ impl Manager {
         self.nodes.uses(node.0 - 2050)
     }
 
-    /// The mark of a node, by its number. The node has the code of the number and 2,050.
+    /// The mark of a node, linked or detached, by its number. The node has the code of the number and 2,050.
     pub fn mark(&self, number: u32) -> u32
-        requires { IsSome (get self.now.linked number) }
+        requires { IsSome (key_at self.now number) }
         ensures mark { get self.now.marks number ≡ Some result }
         ensures table { IsTable self.now }
     {
         self.nodes.mark(number)
     }
 
-    /// Gives a node a mark, by its number. Nothing else changes.
+    /// Gives a node a mark, linked or detached, by its number. Nothing else changes.
     pub fn set_mark(&mut self, number: u32, value: u32)
-        requires { IsSome (get self.old.linked number) }
+        requires { IsSome (key_at self.old number) }
         ensures mark { self.new ≡ with_mark self.old number value }
         ensures table { IsTable self.new }
     {

@@ -149,6 +149,20 @@ fn a_held_node(rt: HostRuntime) -> Result<(), Fail> {
     Ok(())
 }
 
+/// The total size is that of the nodes under held roots alone, after a root holds another node too.
+#[test]
+fn a_total_of_held_nodes(rt: HostRuntime) -> Result<(), Fail> {
+    let (mut m, root) = over_two(rt.alloc(), 3)?;
+    let clause = one_or_two(&mut m, root)?;
+    assert_eq!(rt; m.total(), 0);
+    let mut held = m.hold(clause)?;
+    assert_eq!(rt; m.total(), 2);
+    let two = m.literal(2);
+    assert_eq!(rt; m.rebind(&mut held, two), clause);
+    assert_eq!(rt; m.total(), 0);
+    Ok(())
+}
+
 // Begins a move at the root, detaches the only node, and swaps the children of the root.
 fn turn_over(m: &mut Manager, root: VNode, number: u32)
     requires alone { (a b : ℕ) × (elements : List (ℕ × ℕ))
