@@ -13,6 +13,3 @@ mod texts;
 mod whole_run;
 
 pub use whole_run::run;
-
-#[cfg(test)]
-mod tests;

@@ -1,5 +1,5 @@
 // Refusals of the commands that condition and forget.
-use super::{ran, two_files};
+use sd_trial::{ran, two_files};
 use std::test::Fail;
 
 const NO_CLAUSES: &str = "p cnf 2 0\n";

@@ -1,5 +1,5 @@
 // Runs whose words are refused or not served yet.
-use super::{A_CLAUSE, ran, two_files};
+use sd_trial::{A_CLAUSE, ran, two_files};
 use std::test::Fail;
 
 #[test]

@@ -1,5 +1,5 @@
 // Runs with a limit of the total size.
-use super::{file, ran, two_files};
+use sd_trial::{file, ran, two_files};
 use std::test::Fail;
 
 const NO_CLAUSES: &str = "p cnf 2 0\n";

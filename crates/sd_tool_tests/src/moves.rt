@@ -1,5 +1,5 @@
 // Runs that move the vtree.
-use super::{ran, two_files};
+use sd_trial::{ran, two_files};
 use std::test::Fail;
 
 const TWO_TERMS: &str = "p dnf 4 2\n1 2 0\n3 4 0\n";

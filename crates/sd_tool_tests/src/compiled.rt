@@ -1,5 +1,5 @@
 // Runs over balanced, left and other vtrees.
-use super::{file, ran, two_files};
+use sd_trial::{file, ran, two_files};
 use std::test::Fail;
 
 const BALANCED_SHAPE: &str = "vtree 7\nL 0 1\nL 2 2\nI 1 0 2\nL 4 3\nL 6 4\nI 5 4 6\nI 3 1 5\n";
@@ -12,7 +12,7 @@ D 7 1 2 0 5 2 6\nL 8 4 -3\nL 9 4 3\nL 10 6 4\nD 11 5 2 8 1 9 10\nD 12 3 2 4 5 7 
 
 const TWO_CLAUSES: &str = "p cnf 4 2\n1 2 -3 0\n-2 3 -4 0\n";
 
-pub(super) const TWO_CLAUSES_AS_SDD: &str =
+pub(crate) const TWO_CLAUSES_AS_SDD: &str =
     "sdd 13\nL 0 2 2\nL 1 4 -3\nL 2 6 -4\nL 3 4 3\nT 4\nD 5 5 2 1 2 3 4\nL 6 0 -1\nF 7\n\
 L 8 0 1\nL 9 2 -2\nD 10 1 2 6 7 8 9\nD 11 1 2 6 9 8 7\nD 12 3 3 0 5 10 4 11 1\n";
 

@@ -1,5 +1,5 @@
 // Runs of scripts.
-use super::{file, ran, two_files};
+use sd_trial::{file, ran, two_files};
 use std::alloc::{AllocError, Global};
 use std::test::Fail;
 

@@ -1,5 +1,5 @@
 // Runs over formula files in the format of DIMACS.
-use super::{A_CLAUSE, A_CLAUSE_AS_SDD, file, ran};
+use sd_trial::{A_CLAUSE, A_CLAUSE_AS_SDD, file, ran};
 use std::test::Fail;
 
 #[test]

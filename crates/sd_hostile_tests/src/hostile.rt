@@ -1,6 +1,6 @@
 // Runs over texts that are cut off, and over devices of which each call fails in turn.
-use super::{A_CLAUSE, A_CLAUSE_AS_SDD, Outcome, file, ran, ran_over, ran_with, two_files};
 use sd_base::{NamedBytes, PlannedFault, ShelfCall};
+use sd_trial::{A_CLAUSE, A_CLAUSE_AS_SDD, Outcome, file, ran, ran_over, ran_with, two_files};
 use std::alloc::{AllocError, Global};
 use std::test::Fail;
 use std::thread::Threads;

@@ -1,6 +1,6 @@
 // Runs with vtree files.
-use super::{ran, ran_with, two_files};
 use sd_base::{PlannedFault, ShelfCall};
+use sd_trial::{ran, ran_with, two_files};
 use std::test::Fail;
 
 const NO_CLAUSES: &str = "p cnf 2 0\n";

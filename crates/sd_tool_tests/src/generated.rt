@@ -1,6 +1,6 @@
 // Runs over a generated formula.
-use super::compiled::TWO_CLAUSES_AS_SDD;
-use super::{file, ran};
+use crate::compiled::TWO_CLAUSES_AS_SDD;
+use sd_trial::{file, ran};
 use std::str::from_utf8;
 use std::test::Fail;
 

@@ -1,7 +1,7 @@
 // Runs in which a device fails.
-use super::{A_CLAUSE, A_CLAUSE_AS_SDD, file, ran, ran_with, two_files, words_of};
-use crate::run;
 use sd_base::{MemoryShelf, MemorySink, PlannedFault, ShelfCall};
+use sd_tool::run;
+use sd_trial::{A_CLAUSE, A_CLAUSE_AS_SDD, file, ran, ran_with, two_files, words_of};
 use std::test::Fail;
 
 const RIGHT: &str = "--cnf in --start right --out-sdd out";

@@ -1,5 +1,5 @@
 // Runs that search for a smaller diagram.
-use super::{ran, two_files};
+use sd_trial::{ran, two_files};
 use std::test::Fail;
 
 const CROSSED_TERMS: &str = "p dnf 4 2\n1 3 0\n2 4 0\n";
