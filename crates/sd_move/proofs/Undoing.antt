@@ -21,10 +21,10 @@ use Rattle.sd_laws.proofs.Unturned.{IsShownNode, valued_orderly}
 use Rattle.sd_laws.proofs.GoneBack.{GoesBack, IsBaseOrNode, root_below}
 use Rattle.sd_manager.specs.Table.{Table}
 use Rattle.sd_manager.specs.Valid.{IsTable}
+use Rattle.sd_manager.proofs.AtRest.{all_shown, now_orderly, below_user}
 use Rattle.sd_sweep.specs.Reached.{reached_first, reached_below, IsInRun, IsReached}
 use Rattle.sd_move.specs.Journal.{Named, Journal, journal_entry, key_before, key_of_entry, back, IsOwnRun}
 use Rattle.sd_move.specs.Journal.{IsNeededBack, CanPutBack, CanUndo}
-use Rattle.sd_sweep.proofs.AtRest.{all_shown, now_orderly, below_user}
 use Rattle.sd_move.proofs.UndoKept.{entry_found}
 
 -- places

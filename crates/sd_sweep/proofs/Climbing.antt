@@ -1,63 +1,17 @@
 -- Where each node is used, each is reached: whoever uses a node stands higher, and the vtree ends at its root.
-use Rattle.std.proofs.Common.{◌≡◌, ◌≢◌, ◌⊎◌, inl, inr, ℕ, zero, suc, ◌+◌, ◌≤◌, ◌<◌, List, ◌∷◌, length, Option}
-use Rattle.std.proofs.Common.{Some, None, refl, sym, ◌∙◌, ap, subst, arith, length-append, eq-eqb, ne_eqb}
-use Rattle.std.proofs.Common.{if◌then◌else◌}
+use Rattle.std.proofs.Common.{◌≡◌, ◌≢◌, ◌⊎◌, inl, inr, ℕ, zero, suc, ◌+◌, ◌<◌, List, length, Option}
+use Rattle.std.proofs.Common.{Some, None, refl, sym, ◌∙◌, ap, subst, arith}
 use Rattle.std.specs.Option.{IsSome}
 use Rattle.std.specs.FinMap.{get}
-use Rattle.std.proofs.lemmas.Bool.{cases_eq}
-use Rattle.std.proofs.lemmas.Option.{same_Some, none-some}
-use Rattle.sd_vtree.specs.Numbered.{Numbered, NumberedLeaf, NumberedNode, number_of, numbers, subtree, IsUnder}
-use Rattle.sd_vtree.proofs.Subtrees.{AtMostOnce, once_numbered, Here, Left, Right, way, subtree_some, subtree_trans}
-use Rattle.sd_vtree.proofs.Subtrees.{subtree_number}
+use Rattle.std.proofs.lemmas.Option.{same_Some}
+use Rattle.sd_vtree.specs.Numbered.{Numbered, NumberedNode, numbers, subtree}
+use Rattle.sd_vtree.proofs.Subtrees.{once_numbered}
 use Rattle.sd_laws.specs.Values.{StandsIn}
 use Rattle.sd_manager.specs.Table.{Table}
 use Rattle.sd_manager.specs.Valid.{IsTable}
+use Rattle.sd_manager.proofs.AtRest.{all_shown, now_orderly, below_user}
+use Rattle.sd_manager.proofs.Ranks.{subtree_length, under_shorter}
 use Rattle.sd_sweep.specs.Reached.{IsReachedFrom, reached_first, reached_below, IsHeldBy, IsInRun, IsReached}
-use Rattle.sd_sweep.proofs.AtRest.{all_shown, now_orderly, below_user}
-
--- how large subtrees are
-
--- a subtree of a leaf is the leaf
-leaf_length : (m x n : ℕ) (z : Numbered) → subtree (NumberedLeaf m x) n ≡ Some z → length (numbers z) ≤ 1
-leaf_length m x n z e = elim (cases_eq m n) [
-  | inl h ↦
-      let k : NumberedLeaf m x ≡ z =
-      same_Some (NumberedLeaf m x) z (sym (ap (λ b. if b then Some (NumberedLeaf m x) else None) (eq-eqb m n h)) ∙ e) in
-      subst (λ s. length (numbers s) ≤ 1) k (omega arith)
-  | inr d ↦ absurd (none-some z (sym (ap (λ b. if b then Some (NumberedLeaf m x) else None) (ne_eqb m n d)) ∙ e))
-]
-
--- a subtree is no larger than the tree
-subtree_length : (t z : Numbered) (n : ℕ) → subtree t n ≡ Some z → length (numbers z) ≤ length (numbers t)
-subtree_length (NumberedLeaf m x) z n e = leaf_length m x n z e
-subtree_length (NumberedNode m l r) z n e = elim (way m l r n z e) [
-  | Here h f ↦ subst (λ s. length (numbers s) ≤ length (numbers (NumberedNode m l r))) f (omega arith)
-  | Left d f ↦ omega (arith, subtree_length l z n f, length-append (numbers l) (m ∷ numbers r))
-  | Right d k f ↦ omega (arith, subtree_length r z n f, length-append (numbers l) (m ∷ numbers r))
-]
-
--- and one that is not the whole is smaller
-subtree_shorter : (t z : Numbered) (n : ℕ) → subtree t n ≡ Some z → n ≢ number_of t →
-    length (numbers z) < length (numbers t)
-subtree_shorter (NumberedLeaf m x) z n e d = elim (cases_eq m n) [
-  | inl h ↦ absurd (d (sym h))
-  | inr h ↦ absurd (none-some z (sym (ap (λ b. if b then Some (NumberedLeaf m x) else None) (ne_eqb m n h)) ∙ e))
-]
-subtree_shorter (NumberedNode m l r) z n e d = elim (way m l r n z e) [
-  | Here h f ↦ absurd (d (sym h))
-  | Left k f ↦ omega (arith, subtree_length l z n f, length-append (numbers l) (m ∷ numbers r))
-  | Right k i f ↦ omega (arith, subtree_length r z n f, length-append (numbers l) (m ∷ numbers r))
-]
-
--- what stands strictly under a node has a smaller subtree
-under_shorter : (t : Numbered) → AtMostOnce t → (q p : ℕ) (u : IsUnder t q p) → p ≢ q →
-    (z : Numbered) × (subtree t q ≡ Some z) × (length (numbers z) < length (numbers u.part))
-under_shorter t once q p u d =
-    let z = subtree_some u.part q u.has in (
-      z.0,
-      subtree_trans t once p u.part u.is q z.0 z.1,
-      subtree_shorter u.part z.0 q z.1 (λ e. d (sym (subtree_number t p u.part u.is) ∙ sym e)),
-    )
 
 -- users
 
