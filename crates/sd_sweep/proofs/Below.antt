@@ -82,7 +82,7 @@ under_element x (Pair p s rest) m =
         let r = f k in record { prime = r.prime; sub = r.sub; member = later r.member; under = r.under }
 
 -- what is under one of two diagrams or under the rest
-three : (p s : Diagram) (rest : Elements) (x : Diagram) (P : Type 0) → (IsAmong x (walk p) → P) →
+pub three : (p s : Diagram) (rest : Elements) (x : Diagram) (P : Type 0) → (IsAmong x (walk p) → P) →
     (IsAmong x (walk s) → P) → (IsAmong x (walk_elements rest) → P) → IsAmong x (walk_elements (Pair p s rest)) → P
 three p s rest x P f g h m = outer (among_split x (walk p ++ walk s) (walk_elements rest) m)
   where

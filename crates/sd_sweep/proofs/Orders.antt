@@ -5,7 +5,7 @@ use Rattle.std.specs.List.{AllByRecursion, filter, flat_map}
 use Rattle.std.specs.List.Sorted.{IsPermutation}
 use Rattle.std.proofs.lemmas.List.Sorted.{IsPermutation-refl, IsPermutation-sym, IsPermutation-trans}
 use Rattle.std.proofs.lemmas.List.Sorted.{IsPermutation-cons, IsPermutation-middle}
-use Rattle.sd_model.specs.Diagram.{Diagram}
+use Rattle.sd_model.specs.Diagram.{Diagram, Decomposition}
 use Rattle.sd_model.specs.Canonical.{AreDifferent}
 use Rattle.sd_model.specs.Size.{is_same, first_occurrences, walk, completed}
 use Rattle.sd_model.proofs.Adding.{same_itself, equal_from_same}
@@ -130,3 +130,23 @@ unfolding completed
 completed_permutation ds xs h there back =
     same_permutation (first_occurrences (flat_map walk ds)) xs (occurs_different (flat_map walk ds)) h
     (λ x m. back x (occurs_within (flat_map walk ds) x m)) (λ x m. within_occurs (flat_map walk ds) x (there x m))
+
+-- decompositions alone
+
+abbrev pub is_decomposition : Diagram → Bool
+is_decomposition (Decomposition p es) = true
+is_decomposition _ = false
+
+-- a list of different decompositions that are all of those under some diagrams is what is left of their list when only
+-- decompositions are, in another order
+pub decompositions_permutation : (ds xs : List Diagram) → AreDifferent xs → IsWithin xs (flat_map walk ds) →
+    ((x : Diagram) → IsAmong x xs → is_decomposition x ≡ true) →
+    ((x : Diagram) → IsAmong x (flat_map walk ds) → is_decomposition x ≡ true → IsAmong x xs) →
+    IsPermutation (filter is_decomposition (completed ds)) xs
+unfolding completed
+decompositions_permutation ds xs h there each back =
+    let all = first_occurrences (flat_map walk ds) in
+    same_permutation (filter is_decomposition all) xs
+    (filter_different is_decomposition all (occurs_different (flat_map walk ds))) h
+    (λ x m. let k = among_filter is_decomposition all x m in back x (occurs_within (flat_map walk ds) x k.0) k.1)
+    (λ x m. filter_among is_decomposition all x (within_occurs (flat_map walk ds) x (there x m)) (each x m))

@@ -1,11 +1,12 @@
 -- Listed nodes show the distinct diagrams, and the sum of their element counts is the size.
-use Rattle.std.proofs.Common.{◌≡◌, ◌≢◌, inl, inr, ℕ, List, [], ◌∷◌, refl, sym, subst, ◌∙◌, append-nil}
+use Rattle.std.proofs.Common.{◌≡◌, ◌≢◌, inl, inr, ℕ, true, List, [], ◌∷◌, refl, sym, subst, ◌∙◌, arith}
 use Rattle.std.specs.FinMap.{get}
-use Rattle.std.specs.List.{AllZip, sum_by, flat_map}
+use Rattle.std.specs.List.{AllZip, filter, sum_by, flat_map}
 use Rattle.std.specs.List.Sorted.{IsPermutation}
 use Rattle.std.proofs.lemmas.List.Sorted.{sum_by-IsPermutation}
+use Rattle.std.proofs.lemmas.List.Sums.{sum_by-cons}
 use Rattle.sd_model.specs.Tree.{AreDistinct}
-use Rattle.sd_model.specs.Diagram.{Diagram}
+use Rattle.sd_model.specs.Diagram.{Diagram, Bottom, Top, Literal, Decomposition}
 use Rattle.sd_model.specs.Canonical.{AreDifferent}
 use Rattle.sd_model.specs.Size.{walk, completed, element_count, size_of}
 use Rattle.sd_laws.proofs.Codes.{one_diagram, one_code}
@@ -14,15 +15,15 @@ use Rattle.sd_manager.specs.Table.{Table}
 use Rattle.sd_manager.specs.Shown.{Shows, ShowsCanonical}
 use Rattle.sd_manager.specs.Valid.{IsTable}
 use Rattle.sd_sweep.specs.Listed.{AreListed}
-use Rattle.sd_sweep.proofs.Orders.{completed_permutation}
+use Rattle.sd_sweep.proofs.Orders.{is_decomposition, completed_permutation, decompositions_permutation}
 
 -- the diagrams that codes show, in the order of the codes
-record HasDiagrams (t : Table) (codes : List ℕ) (ds : List Diagram) : Type 0 where
+pub record HasDiagrams (t : Table) (codes : List ℕ) (ds : List Diagram) : Type 0 where
   pub diagrams : List Diagram
   pub shown : AllZip (ShowsCanonical t) codes diagrams
   pub within : IsWithin diagrams ds
 
-has_diagrams : (t : Table) (codes : List ℕ) (ds : List Diagram) →
+pub has_diagrams : (t : Table) (codes : List ℕ) (ds : List Diagram) →
     ((c : ℕ) → IsAmong c codes → (d : Diagram) × IsAmong d ds × ShowsCanonical t c d) → HasDiagrams t codes ds
 has_diagrams t [] ds h = record { diagrams = []; shown = tt; within = λ x m. absurd m }
 has_diagrams t (c ∷ codes) ds h =
@@ -35,7 +36,7 @@ has_diagrams t (c ∷ codes) ds h =
     within d xs m w x (inr n) = w x n
 
 -- different codes show different diagrams
-diagrams_differ : (t : Table) → IsTable t → (codes : List ℕ) (ds : List Diagram) → AllZip (ShowsCanonical t) codes ds →
+pub diagrams_differ : (t : Table) → IsTable t → (codes : List ℕ) (ds : List Diagram) → AllZip (ShowsCanonical t) codes ds →
     AreDistinct codes → AreDifferent ds
 diagrams_differ t table [] [] h k = tt
 diagrams_differ t table [] (d ∷ ds) h k = absurd h
@@ -81,8 +82,34 @@ listed_empty t = record {
   closed = λ d m. absurd m;
 }
 
+-- what is no decomposition has no elements
+elements_decomposed : (xs : List Diagram) →
+    sum_by element_count (filter is_decomposition xs) ≡ sum_by element_count xs
+elements_decomposed [] = refl
+elements_decomposed (Bottom ∷ xs) = omega (arith, elements_decomposed xs, sum_by-cons element_count Bottom xs)
+elements_decomposed (Top ∷ xs) = omega (arith, elements_decomposed xs, sum_by-cons element_count Top xs)
+elements_decomposed (Literal p v s ∷ xs) =
+    omega (arith, elements_decomposed xs, sum_by-cons element_count (Literal p v s) xs)
+elements_decomposed (Decomposition p es ∷ xs) =
+    omega (
+      arith,
+      elements_decomposed xs,
+      sum_by-cons element_count (Decomposition p es) xs,
+      sum_by-cons element_count (Decomposition p es) (filter is_decomposition xs),
+    )
+
 -- the sum of the element counts of the distinct diagrams is the size
 pub size_completed : (ds es : List Diagram) (n : ℕ) → IsPermutation (completed ds) es → n ≡ sum_by element_count es →
     n ≡ size_of ds
 unfolding size_of
 size_completed ds es n order e = e ∙ sum_by-IsPermutation element_count (completed ds) es order
+
+-- Different decompositions that are all of those under some diagrams have the elements of the size together.
+pub size_of_decompositions : (ds es : List Diagram) (n : ℕ) → AreDifferent es → IsWithin es (flat_map walk ds) →
+    ((x : Diagram) → IsAmong x es → is_decomposition x ≡ true) →
+    ((x : Diagram) → IsAmong x (flat_map walk ds) → is_decomposition x ≡ true → IsAmong x es) →
+    n ≡ sum_by element_count es → n ≡ size_of ds
+unfolding size_of
+size_of_decompositions ds es n h there each back e =
+    e ∙ sum_by-IsPermutation element_count (filter is_decomposition (completed ds)) es
+    (decompositions_permutation ds es h there each back) ∙ elements_decomposed (completed ds)

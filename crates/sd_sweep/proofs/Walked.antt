@@ -151,7 +151,7 @@ pairs_counted t table c (Decomposition p es) h =
     ∙ sym (length_permutation k.list h.0 k.order) ∙ pairs_count t.vtree (get t.linked) h.0 es h.2
 
 -- so are those of several
-elements_counted : (t : Table) → IsTable t → (codes : List ℕ) (ds : List Diagram) →
+pub elements_counted : (t : Table) → IsTable t → (codes : List ℕ) (ds : List Diagram) →
     AllZip (ShowsCanonical t) codes ds → elements_of t codes ≡ sum_by element_count ds
 elements_counted t table [] [] h = refl
 elements_counted t table [] (d ∷ ds) h = absurd h

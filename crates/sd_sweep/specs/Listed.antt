@@ -1,5 +1,5 @@
 -- Lists of nodes, each once, and the diagrams that they show.
-use Rattle.std.specs.Prelude.{ℕ, Bool, List, [], ◌∷◌, ◌++◌, ◌==◌}
+use Rattle.std.specs.Prelude.{ℕ, Bool, List, ◌++◌, ◌==◌}
 use Rattle.std.specs.List.{list_any}
 use Rattle.sd_model.specs.Tree.{AreDistinct}
 use Rattle.sd_model.specs.Diagram.{Diagram}

@@ -1,6 +1,6 @@
 -- Nodes that a walk marked, as a list of their codes.
 use Rattle.std.specs.Prelude.{◌≡◌, ◌≢◌, ℕ, ◌+◌, List, Some, length}
-use Rattle.std.specs.List.{sum_by, flat_map}
+use Rattle.std.specs.List.{sum_by}
 use Rattle.std.specs.FinMap.{get}
 use Rattle.sd_laws.proofs.Lists.{IsAmong}
 use Rattle.sd_model.specs.Diagram.{Diagram, Elements, Decomposition}
@@ -10,7 +10,6 @@ use Rattle.sd_manager.specs.Shown.{ShowsCanonical}
 use Rattle.sd_manager.specs.Valid.{IsTable}
 use Rattle.sd_manager.specs.Views.{pairs_at}
 use Rattle.sd_sweep.specs.Listed.{AreListed, Adds}
-use Rattle.sd_sweep.specs.Reached.{AreHeldDiagrams}
 
 -- the tables differ in marks alone
 abbrev pub DifferInMarks : Table → Table → Type 0
@@ -56,12 +55,6 @@ MarksElements old new value total c =
     (first : Table) (p : ℕ) (es : Elements) → IsTable first → DifferInMarks first old →
     ShowsCanonical first c (Decomposition p es) → LackMark first value (walk_elements es) →
     Walks first old new value total (walk_elements es)
-
--- what a walk under all held roots did
-abbrev pub MarksHeld : Table → Table → ℕ → ℕ → Type 0
-MarksHeld old new value total =
-    (first : Table) (ds : List Diagram) → IsTable first → DifferInMarks first old → AreHeldDiagrams first ds →
-    LackMark first value (flat_map walk ds) → Walks first old new value total (flat_map walk ds)
 
 -- A walk goes on that gives this mark: it began at a table in which nothing that shows these diagrams had it, and so
 -- far it gave it to the listed codes.

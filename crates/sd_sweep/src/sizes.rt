@@ -1,6 +1,6 @@
-// Sizes without memory: a walk marks each node that it sees first, and a second one takes the marks off.
+// Sizes without memory. That of one root is found by a walk that marks each node that it sees first, and a second one
+// that takes the marks off. That of all held roots is in the manager's live counts.
 ghost use Rattle.std.specs.Prelude.{◌≡◌, ◌≤◌, ◌<◌, ◌^◌, ℕ, [], ◌∷◌, List, length, None};
-ghost use Rattle.std.specs.List.{flat_map};
 ghost use Rattle.std.specs.Option.{IsSome};
 ghost use Rattle.std.specs.FinMap.{get};
 ghost use Rattle.sd_model.specs.Diagram.{Diagram, Elements, Decomposition};
@@ -10,7 +10,7 @@ ghost use Rattle.sd_manager.specs.Shown.{ShowsCanonical, HoldsDiagram};
 ghost use Rattle.sd_manager.specs.Valid.{IsTable};
 ghost use Rattle.sd_manager.specs.Views.{pairs_at};
 ghost use Rattle.sd_manager.specs.Marking.{AreUnmarked};
-ghost use Rattle.sd_sweep.specs.Marked.{DifferInMarks, MarksUnder, MarksElements, MarksHeld, IsWalking};
+ghost use Rattle.sd_sweep.specs.Marked.{DifferInMarks, MarksUnder, MarksElements, IsWalking};
 ghost use Rattle.sd_sweep.specs.Reached.{AreHeldDiagrams};
 
 use sd_manager::{Manager, NodeId, Root, View};
@@ -33,38 +33,14 @@ pub fn size_of(m: &mut Manager, root: &Root) -> u32
 }
 
 /// The total size: that of the diagrams which the held roots show, where each distinct decomposition counts once. It
-/// takes no memory, and visits each node below the held roots twice.
+/// takes no memory, and costs what came under a root, or is under none any more, since it was last asked for.
 pub fn size(m: &mut Manager) -> u32
     requires no_move { m.old.moving ≡ None }
-    requires unmarked { AreUnmarked m.old }
     ensures size { (ds : List Diagram) → AreHeldDiagrams m.old ds → result ≡ size_of ds }
     ensures same { m.new ≡ m.old }
     ensures table { IsTable m.new }
 {
-    // Its contract tells that the table is valid.
-    let _ = m.vtree();
-    let size = mark_held(m, 1);
-    mark_held(m, 0);
-    size
-}
-
-// Gives the nodes below all held roots this mark, where they lack it, and answers how many elements they have together.
-fn mark_held(m: &mut Manager, value: u32) -> u32
-    requires table { IsTable m.old }
-    requires shown { (ds : List Diagram) × AreHeldDiagrams m.old ds
-        × IsWalking m.old value (flat_map walk ds) }
-    ensures marks { MarksHeld m.old m.new value result }
-    ensures rest { DifferInMarks m.old m.new }
-    ensures table { IsTable m.new }
-{
-    let levels = m.vtree().variables();
-    let mut total = 0;
-    let mut from = 0;
-    while let Some(found) = m.next_held(from) {
-        total += mark_below(m, found.1, levels, value);
-        from = found.0;
-    }
-    total
+    m.total()
 }
 
 // Gives the nodes of decompositions below a node this mark, where they lack it, and answers how many elements they have

@@ -1,4 +1,5 @@
-ghost use Rattle.std.specs.Prelude.{◌≡◌, IfOk};
+ghost use Rattle.std.specs.Prelude.{◌≡◌, None, IfOk};
+ghost use Rattle.std.specs.FinMap.{len};
 ghost use Rattle.sd_model.specs.Tree.{leaves};
 ghost use Rattle.sd_vtree.specs.Numbered.{plain_tree};
 ghost use Rattle.sd_manager.specs.Shown.{IsNodeOf};
@@ -12,7 +13,7 @@ use sd_cache::Cache;
 use sd_manager::{Manager, NodeId};
 use sd_runs::TakeError;
 use sd_vtree::Vtree;
-use std::alloc::Global;
+use std::alloc::{AllocError, Global};
 use std::test::Fail;
 
 // The conjunction of two literals.
@@ -76,5 +77,34 @@ fn two_terms_have_size_eight(rt: HostRuntime) -> Result<(), Fail> {
     let node = two_terms(alloc, &mut m, &mut c)?;
     let root = m.hold(node)?;
     assert_eq!(rt; size_of(&mut m, &root), 8);
+    Ok(())
+}
+
+// The total sizes while a root holds the second node, while one holds the first too, and when the second is released.
+fn three_totals(m: &mut Manager, part: NodeId, whole: NodeId) -> Result<(u32, u32, u32), AllocError>
+    requires no_move { m.old.moving ≡ None }
+    requires part { IsNodeOf m.old part }
+    requires whole { IsNodeOf m.old whole }
+    requires none { len m.old.roots ≡ 0 }
+{
+    let root = m.hold(whole)?;
+    let alone = size(m);
+    let _ = m.hold(part)?;
+    let together = size(m);
+    m.release(root);
+    Ok((alone, together, size(m)))
+}
+
+/// A node that two roots share counts once, and what no root holds has no part in the total size: the conjunction of two
+/// literals is one of the four decompositions of the two terms.
+#[test]
+fn shared_nodes_count_once(rt: HostRuntime) -> Result<(), Fail> {
+    let alloc = rt.alloc();
+    let vtree = Vtree::balanced(alloc, 4)?;
+    let mut m = Manager::new(alloc, vtree, 1000)?;
+    let mut c = Cache::new(alloc)?;
+    let part = both(alloc, &mut m, &mut c, 1, 2)?;
+    let whole = two_terms(alloc, &mut m, &mut c)?;
+    assert_eq!(rt; three_totals(&mut m, part, whole)?, (8, 8, 2));
     Ok(())
 }
