@@ -1,6 +1,6 @@
 -- A move on its way ends, where no node is detached, or goes back.
 use Rattle.std.proofs.Common.{◌≡◌, ◌⊎◌, inl, inr, ℕ, ◌+◌, ◌≤◌, ◌<◌, List, Option, Some, None, refl, sym, ◌∙◌, ap}
-use Rattle.std.proofs.Common.{subst, Bool, true, false, [], ◌∷◌, arith, map}
+use Rattle.std.proofs.Common.{subst, Bool, true, false, [], ◌∷◌, arith}
 use Rattle.std.specs.Option.{IsSome}
 use Rattle.std.specs.FinMap.{get, empty, get-empty}
 use Rattle.sd_model.specs.declared.trees.Move.{Move}
@@ -12,9 +12,9 @@ use Rattle.sd_manager.specs.Shown.{IsNodeOf}
 use Rattle.sd_manager.specs.Valid.{IsTable}
 use Rattle.sd_manager.specs.Making.{KeepsRule, IsPastBound}
 use Rattle.sd_manager.specs.Marking.{AreUnmarked}
-use Rattle.sd_manager.specs.Moving.{at_rest, IsLater, moving_at, next_epoch}
-use Rattle.sd_sweep.specs.Reached.{KeepsReached, IsReached}
-use Rattle.sd_move.specs.GoingBack.{ToTable, WayBack, CanGoBack, HasGoneBack}
+use Rattle.sd_manager.specs.Moving.{at_rest, IsLater, next_epoch}
+use Rattle.sd_sweep.specs.Reached.{KeepsReached}
+use Rattle.sd_move.specs.GoingBack.{ToTable, CanGoBack, HasGoneBack}
 use Rattle.sd_move.specs.Journal.{Named, Journal}
 use Rattle.sd_move.specs.Moves.{IsMoved}
 use Rattle.sd_move.specs.OnTheWay.{IsOnTheWay, AreAllReached}
@@ -27,20 +27,12 @@ use Rattle.std.specs.Prelude.{nat_lt, if◌then◌else◌}
 use Rattle.std.proofs.lemmas.Bool.{ltb-true, ltb-false}
 use Rattle.std.specs.List.{AllByRecursion}
 use Rattle.std.specs.Ordering.{nat_cmp}
-use Rattle.std.proofs.lemmas.Option.{same_Some}
-use Rattle.sd_model.specs.declared.trees.Move.TheVariants.{Swap}
-use Rattle.sd_vtree.specs.NumberedMoves.{moved_number}
-use Rattle.sd_runs.specs.Arena.{IsMember, HasNoCopies}
+use Rattle.sd_runs.specs.Arena.{IsMember}
 use Rattle.sd_runs.specs.declared.error.TakeError.TheVariants.{ArenaFull, OutOfMemory}
 use Rattle.sd_runs.proofs.Maps.{same_at_each}
-use Rattle.sd_laws.proofs.Evaluated.{value_of}
-use Rattle.sd_move.specs.Moving.{no_progress, Progress, HasBegun}
-use Rattle.sd_move.specs.Rewriting.{CanRewriteAll, HasRewritten, GoesOn, numbers_of}
-use Rattle.sd_model.specs.Tree.{AreDistinct}
-use Rattle.sd_vtree.specs.Numbered.{Numbered}
+use Rattle.sd_move.specs.Moving.{Progress}
+use Rattle.sd_move.specs.Rewriting.{GoesOn}
 use Rattle.sd_laws.specs.Values.{Valuation}
-use Rattle.sd_move.specs.declared.sorting.Side.{Side}
-use Rattle.sd_move.specs.Sorting.{rotation_of, place_entry, CanRotate, HasRotated}
 
 -- what holds of each element holds of each member
 pub member_of : (P : ℕ → Type 0) (ns : List ℕ) (n : ℕ) → AllByRecursion P ns → IsMember n ns → P n

@@ -1,24 +1,21 @@
 -- A rotation is on its way once its first half was made, and while nodes that wait are rewritten.
-use Rattle.std.proofs.Common.{◌≡◌, ◌⊎◌, inl, inr, ℕ, ◌≤◌, ◌<◌, List, [], Option, Some, None, map}
+use Rattle.std.proofs.Common.{◌≡◌, ◌⊎◌, inl, inr, ℕ, ◌≤◌, ◌<◌, List, Some, map}
 use Rattle.std.proofs.Common.{refl, sym, ◌∙◌, ap, subst, arith}
 use Rattle.std.specs.Option.{IsSome}
-use Rattle.std.specs.Ordering.{nat_cmp}
-use Rattle.std.specs.FinMap.{get, empty, get-empty}
+use Rattle.std.specs.FinMap.{get}
 use Rattle.std.proofs.lemmas.Option.{same_Some}
 use Rattle.sd_model.specs.Tree.{AreDistinct}
 use Rattle.sd_vtree.specs.Numbered.{Numbered}
 use Rattle.sd_vtree.specs.NumberedMoves.{moved_number}
 use Rattle.sd_runs.specs.Arena.{IsMember, HasNoCopies}
-use Rattle.sd_runs.proofs.Maps.{same_at_each}
 use Rattle.sd_laws.specs.Turned.{lower_of}
-use Rattle.sd_laws.specs.Values.{Valuation}
 use Rattle.sd_laws.proofs.Evaluated.{value_of}
 use Rattle.sd_manager.specs.Table.{Table, key_at}
 use Rattle.sd_manager.specs.Valid.{IsTable}
 use Rattle.sd_manager.specs.Moving.{next_epoch, IsLater}
 use Rattle.sd_move.specs.declared.sorting.Side.{Side}
 use Rattle.sd_move.specs.Journal.{Named}
-use Rattle.sd_move.specs.Moving.{Progress, no_progress, HasBegun}
+use Rattle.sd_move.specs.Moving.{no_progress, HasBegun}
 use Rattle.sd_move.specs.OnTheWay.{IsOnTheWay}
 use Rattle.sd_move.specs.Recorded.{AreRecorded}
 use Rattle.sd_move.specs.Rewriting.{CanRewriteAll, HasRewritten, GoesOn, numbers_of}

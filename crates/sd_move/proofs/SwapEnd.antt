@@ -1,35 +1,21 @@
 -- A swap whose waiting nodes were rewritten, all of them or the first ones, is on its way.
-use Rattle.std.proofs.Common.{◌≡◌, ◌⊎◌, inl, inr, ℕ, ◌+◌, ◌≤◌, ◌<◌, Bool, true, false, List, [], ◌∷◌, Option, Some}
-use Rattle.std.proofs.Common.{None, refl, sym, ◌∙◌, ap, subst, arith}
-use Rattle.std.specs.Prelude.{nat_lt, if◌then◌else◌}
-use Rattle.std.proofs.lemmas.Bool.{ltb-true, ltb-false}
-use Rattle.std.specs.List.{AllByRecursion}
+use Rattle.std.proofs.Common.{◌≡◌, ◌⊎◌, inl, inr, ℕ, ◌≤◌, ◌<◌, List, [], Some}
+use Rattle.std.proofs.Common.{None, refl, sym, ◌∙◌, ap, subst}
 use Rattle.std.specs.Option.{IsSome}
-use Rattle.std.specs.Ordering.{nat_cmp}
-use Rattle.std.specs.FinMap.{get, empty, get-empty}
+use Rattle.std.specs.FinMap.{get}
 use Rattle.std.proofs.lemmas.Option.{same_Some}
 use Rattle.sd_model.specs.declared.trees.Move.TheVariants.{Swap}
-use Rattle.sd_vtree.specs.NumberedMoves.{moved_number}
 use Rattle.sd_runs.specs.Arena.{IsMember, HasNoCopies}
-use Rattle.sd_runs.specs.declared.error.TakeError.{TakeError}
-use Rattle.sd_runs.specs.declared.error.TakeError.TheVariants.{ArenaFull, OutOfMemory}
-use Rattle.sd_runs.proofs.Maps.{same_at_each}
 use Rattle.sd_laws.proofs.Evaluated.{value_of}
 use Rattle.sd_manager.specs.Table.{Table, key_at}
-use Rattle.sd_manager.specs.Shown.{IsNodeOf}
 use Rattle.sd_manager.specs.Valid.{IsTable}
-use Rattle.sd_manager.specs.Making.{IsPastBound, KeepsRule}
-use Rattle.sd_manager.specs.Marking.{AreUnmarked}
-use Rattle.sd_manager.specs.Moving.{moving_at, at_rest, next_epoch, IsLater}
-use Rattle.sd_sweep.specs.Reached.{IsReached, KeepsReached}
-use Rattle.sd_move.specs.GoingBack.{ToTable, CanGoBack, HasGoneBack}
-use Rattle.sd_move.specs.Journal.{Named, Journal}
-use Rattle.sd_move.specs.Moves.{IsMoved}
+use Rattle.sd_manager.specs.Moving.{moving_at, next_epoch, IsLater}
+use Rattle.sd_move.specs.Journal.{Named}
 use Rattle.sd_move.specs.Moving.{no_progress}
 use Rattle.sd_move.specs.Recorded.{AreRecorded}
 use Rattle.sd_move.specs.Rewriting.{CanRewriteAll, HasRewritten, GoesOn, numbers_of}
 use Rattle.sd_move.specs.Swapping.{HasSwapped}
-use Rattle.sd_move.proofs.KnownAtEnd.{may_end, key_linked}
+use Rattle.sd_move.proofs.KnownAtEnd.{key_linked}
 use Rattle.sd_move.proofs.Linking.{linked_key}
 use Rattle.sd_move.proofs.SwapWaits.{was_linked, may_rewrite}
 use Rattle.sd_move.specs.OnTheWay.{IsOnTheWay}
