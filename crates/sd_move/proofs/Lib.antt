@@ -59,3 +59,5 @@ pub mod MoveEnd
 pub mod RotationRecorded
 pub mod RotationOnTheWay
 pub mod RotationWhole
+pub mod NeverFalling
+pub mod SettledKept

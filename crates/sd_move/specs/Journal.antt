@@ -13,7 +13,7 @@ use Rattle.sd_vtree.specs.Numbered.{Numbered}
 use Rattle.sd_vtree.specs.NumberedMoves.{moved_number}
 use Rattle.sd_laws.specs.Shown.{Lookup, ShowsCanonical as ShowsCanonicalBy}
 use Rattle.sd_laws.specs.Values.{StandsIn}
-use Rattle.sd_manager.specs.Table.{Table}
+use Rattle.sd_manager.specs.Table.{Table, free_count}
 use Rattle.sd_manager.specs.Shown.{ShowsCanonical}
 use Rattle.sd_laws.specs.Turned.{lower_of}
 use Rattle.sd_manager.specs.Moving.{IsAscending, IsLater, IsGivenBack}
@@ -147,15 +147,34 @@ pub record CanSettle (j : Journal) (t : Table) : Type 0 where
   pub runs : AllByRecursion (HasLooseRun t) j.named
   pub once : AreDistinct (starts_of j.named)
 
+-- no run is one of both journals
+abbrev pub HaveOtherRuns : Journal → Journal → Type 0
+HaveOtherRuns j k = (start : ℕ) → IsOwnRun j.named start → ¬ IsOwnRun k.named start
+
+-- each node that the journal names is under a held root or a loose run
+abbrev pub AreNamedReached : Journal → Table → Type 0
+AreNamedReached j t = AllByRecursion (λ (e : Named). IsReached t e.number) j.named
+
 -- the run, where there is one, was given back; nothing else changed
 abbrev pub MayGiveBack : Table → Table → Option (ℕ × ℕ) → Type 0
 MayGiveBack old new None = new ≡ old
 MayGiveBack old new (Some run) = IsGivenBack old new run.0 run.1
 
--- The journal was settled: its runs are loose no more, and nothing else changed but the free runs.
-abbrev pub IsSettledBy : Table → Table → Journal → Type 0
-IsSettledBy old new j =
-    new ≡ record old { loose = without_runs old.loose (starts_of j.named); free = new.free }
+-- how many runs of a length n there are where there may be one: one or none
+abbrev pub runs_of : ℕ → Option (ℕ × ℕ) → ℕ
+runs_of n None = 0
+runs_of n (Some run) = if run.1 == n then 1 else 0
+
+-- how many of the entries have a run of the length n
+abbrev pub entries_with : ℕ → List Named → ℕ
+entries_with n [] = 0
+entries_with n (e ∷ es) = runs_of n e.run + entries_with n es
+
+-- The journal was settled: its runs are loose no more and free, so that of each length there are as many more free runs
+-- as entries have one. Nothing else changed.
+pub record IsSettledBy (old new : Table) (j : Journal) : Type 0 where
+  pub same : new ≡ record old { loose = without_runs old.loose (starts_of j.named); free = new.free }
+  pub freed : (n : ℕ) → free_count new n ≡ free_count old n + entries_with n j.named
 
 -- The journal was undone: the vtree is that of the inverse move; each node under a held root or another loose run has
 -- the place and the list of the state to which the journal goes back; its own runs are spent; the epoch is a later one.

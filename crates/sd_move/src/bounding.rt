@@ -7,7 +7,7 @@ ghost use Rattle.sd_manager.specs.Table.{Table};
 ghost use Rattle.sd_manager.specs.Moving.{IsLater};
 ghost use Rattle.sd_sweep.specs.Reached.{KeepsReached};
 ghost use Rattle.sd_move.specs.Journal.{CanUndo};
-ghost use Rattle.sd_move.specs.Moves.{IsMoved, IsMoveRefusal, HasSizeAfter};
+ghost use Rattle.sd_move.specs.Moves.{IsMoved, IsMoveRefusal, HasSizeAfter, NeverFalls};
 
 use crate::error::MoveError;
 use crate::journal::{Journal, Moved};
@@ -31,6 +31,8 @@ pub(crate) fn within(m: &mut Manager, journal: Journal, most: u32) -> Result<Mov
     ensures back { (old : Table) (kind : Move) (place : ℕ) → IsTable old
         → IsMoved old m.old kind place journal
         → OnErr result (KeepsReached old m.new × (m.new.moving ≡ None)) }
+    ensures never_falls { (old : Table) (kind : Move) (place : ℕ) → old.epoch ≤ 18446744073709551615
+        → IsMoved old m.old kind place journal → OnErr result (NeverFalls old m.new) }
     ensures bound { m.new.bound ≡ m.old.bound }
     ensures later { (m.new ≡ m.old) ⊎ IsLater m.old m.new }
     ensures unmarked { AreUnmarked m.new }

@@ -7,7 +7,7 @@ ghost use Rattle.sd_manager.specs.Marking.{AreUnmarked};
 ghost use Rattle.sd_manager.specs.Moving.{at_rest, IsLater};
 ghost use Rattle.sd_manager.specs.Valid.{IsTable};
 ghost use Rattle.sd_sweep.specs.Reached.{KeepsReached};
-ghost use Rattle.sd_move.specs.Moves.{IsMoved, IsRefusedOnTheWay};
+ghost use Rattle.sd_move.specs.Moves.{IsMoved, IsRefusedOnTheWay, NeverFalls};
 ghost use Rattle.sd_move.specs.OnTheWay.{IsOnTheWay, AreAllReached};
 
 use crate::error::MoveError;
@@ -37,6 +37,8 @@ pub(crate) fn end_or_go_back(
         → IfOk result (λ j. IsMoved m0 m.new kind upper j) }
     ensures back { (m0 : Table) → IsOnTheWay m0 m.old kind upper lower named.items
         → OnErr result (KeepsReached m0 m.new × (m.new.moving ≡ None)) }
+    ensures never_falls { (m0 : Table) → IsOnTheWay m0 m.old kind upper lower named.items
+        → m0.epoch ≤ 18446744073709551615 → OnErr result (NeverFalls m0 m.new) }
     ensures bound { (m0 : Table) → IsOnTheWay m0 m.old kind upper lower named.items
         → m.new.bound ≡ m0.bound }
     ensures refused { IfErr result (λ e. IsRefusedOnTheWay m.new e) }

@@ -23,8 +23,7 @@ impl Model for Entry {
 }
 
 /// What a move changed, by which it is undone or settled. Its runs stay in the arena until then, and keep the nodes
-/// that they name from a sweep.
-#[derive(Drop)]
+/// that they name from a sweep. So it cannot be dropped: it is spent by `undo` or by `settle`.
 pub struct Journal {
     pub(crate) kind: Move,
     pub(crate) upper: VNode,
@@ -41,7 +40,6 @@ impl Model for Journal {
 }
 
 /// The size after a move, which is that of all held diagrams together, and the move's journal.
-#[derive(Drop)]
 pub struct Moved {
     pub size: u32,
     pub journal: Journal,

@@ -7,6 +7,7 @@ ghost use Rattle.sd_manager.specs.Table.{Table};
 ghost use Rattle.sd_manager.specs.Valid.{IsTable};
 ghost use Rattle.sd_sweep.specs.Reached.{IsSwept, KeepsReached};
 ghost use Rattle.sd_move.specs.Journal.{Journal as TheJournal, CanUndo, Rollback, IsKeptBack};
+ghost use Rattle.sd_move.specs.Journal.{CanSettle, IsSettledBy, HaveOtherRuns, AreNamedReached};
 ghost use Rattle.sd_move.specs.Moves.{IsMoved, StaysFunction};
 
 /// What keeps each node under a held root or a loose run: operations and sweeps, one after the other, and a move that
@@ -24,6 +25,27 @@ pub fn keeps_reached()
 pub fn stays_undoable()
     ensures { (j : TheJournal) (t u : Table) → IsTable t → CanUndo j t → KeepsReached t u
         → u.moving ≡ None → CanUndo j u }
+{}
+
+/// A journal that can be undone stays one where another one is settled that has none of its runs, if each node that it
+/// names is under a held root or a loose run without the runs of that one.
+pub fn stays_undoable_when_settled()
+    ensures { (j k : TheJournal) (t u : Table) → CanUndo j t → IsSettledBy t u k
+        → HaveOtherRuns j k → AreNamedReached j u → CanUndo j u }
+{}
+
+/// What can be undone can be settled, and a journal that can be settled stays one: through all that keeps each node
+/// under a held root or a loose run, through a later move, whose journal has other runs, and where such a one is
+/// settled.
+pub fn stays_settleable()
+    ensures undoable { (j : TheJournal) (t : Table) → CanUndo j t → CanSettle j t }
+    ensures kept { (j : TheJournal) (t u : Table) → CanSettle j t → KeepsReached t u → CanSettle j u }
+    ensures moved { (j k : TheJournal) (t u : Table) (kind : Move) (place : ℕ) → CanSettle j t
+        → IsMoved t u kind place k → CanSettle j u }
+    ensures others { (j k : TheJournal) (t u : Table) (kind : Move) (place : ℕ) → CanSettle j t
+        → IsMoved t u kind place k → HaveOtherRuns k j }
+    ensures settled { (j k : TheJournal) (t u : Table) → CanSettle j t → IsSettledBy t u k
+        → HaveOtherRuns j k → CanSettle j u }
 {}
 
 /// Undoing a journal keeps the function of each node under a held root or under a loose run that is none of its own.

@@ -8,7 +8,7 @@ ghost use Rattle.sd_manager.specs.Marking.{AreUnmarked};
 ghost use Rattle.sd_manager.specs.Valid.{IsTable};
 ghost use Rattle.sd_apply.specs.Serving.{Serves};
 ghost use Rattle.sd_sweep.specs.Reached.{KeepsReached};
-ghost use Rattle.sd_move.specs.Moves.{IsMoved, IsMoveRefusal, IsRefusedOnTheWay, HasSizeAfter};
+ghost use Rattle.sd_move.specs.Moves.{IsMoved, IsMoveRefusal, IsRefusedOnTheWay, HasSizeAfter, NeverFalls};
 ghost use Rattle.sd_model.specs.declared.trees.Move.TheVariants.{RotateLeft, RotateRight};
 ghost use Rattle.sd_move.specs.OnTheWay.{IsOnTheWay, AreAllReached, IsLowerFound};
 ghost use Rattle.sd_move.specs.Sorting.{rotation_of, place_entry, CanRotate};
@@ -105,6 +105,7 @@ fn rotate_nodes(
     requires table { IsTable m.old }
     ensures moved { IfOk result (λ j. IsMoved m.old m.new (rotation_of side) upper j) }
     ensures back { OnErr result (KeepsReached m.old m.new × (m.new.moving ≡ None)) }
+    ensures never_falls { OnErr result (NeverFalls m.old m.new) }
     ensures bound { m.new.bound ≡ m.old.bound }
     ensures refused { IfErr result (λ e. IsRefusedOnTheWay m.new e) }
     ensures unmarked { AreUnmarked m.old → AreUnmarked m.new }
@@ -143,6 +144,7 @@ fn rotate(
     ensures within { IfOk result (λ r. r.size ≤ most) }
     ensures refused { IfErr result (λ e. IsMoveRefusal m.old m.new (rotation_of side) place most e) }
     ensures back { OnErr result (KeepsReached m.old m.new × (m.new.moving ≡ None)) }
+    ensures never_falls { OnErr result (NeverFalls m.old m.new) }
     ensures bound { m.new.bound ≡ m.old.bound }
     ensures unmarked { AreUnmarked m.new }
     ensures serves { Serves c.new m.new }
@@ -186,6 +188,7 @@ pub fn rotate_right(
     ensures within { IfOk result (λ r. r.size ≤ most) }
     ensures refused { IfErr result (λ e. IsMoveRefusal m.old m.new RotateRight place most e) }
     ensures back { OnErr result (KeepsReached m.old m.new × (m.new.moving ≡ None)) }
+    ensures never_falls { OnErr result (NeverFalls m.old m.new) }
     ensures bound { m.new.bound ≡ m.old.bound }
     ensures unmarked { AreUnmarked m.new }
     ensures serves { Serves c.new m.new }
@@ -217,6 +220,7 @@ pub fn rotate_left(
     ensures within { IfOk result (λ r. r.size ≤ most) }
     ensures refused { IfErr result (λ e. IsMoveRefusal m.old m.new RotateLeft place most e) }
     ensures back { OnErr result (KeepsReached m.old m.new × (m.new.moving ≡ None)) }
+    ensures never_falls { OnErr result (NeverFalls m.old m.new) }
     ensures bound { m.new.bound ≡ m.old.bound }
     ensures unmarked { AreUnmarked m.new }
     ensures serves { Serves c.new m.new }

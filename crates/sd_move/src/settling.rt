@@ -14,8 +14,14 @@ pub fn settle(m: &mut Manager, journal: Journal)
 {
     // Its contract tells that the table is valid.
     let _ = m.vtree();
-    for index in 0..journal.named.len() {
-        give_back(m, journal.named[index].run);
+    let Journal {
+        kind: _,
+        upper: _,
+        lower: _,
+        named,
+    } = journal;
+    for index in 0..named.len() {
+        give_back(m, named[index].run);
     }
 }
 

@@ -9,6 +9,7 @@ ghost use Rattle.sd_manager.specs.Valid.{IsTable};
 ghost use Rattle.sd_apply.specs.Serving.{Serves};
 ghost use Rattle.sd_sweep.specs.Reached.{IsReached, KeepsReached};
 ghost use Rattle.sd_move.specs.Moves.{IsMovable, IsMoved, IsMoveRefusal, IsRefusedOnTheWay, HasSizeAfter};
+ghost use Rattle.sd_move.specs.Moves.{NeverFalls};
 ghost use Rattle.sd_move.specs.Swapping.{HasSwapped};
 
 use crate::beginning::begin_at;
@@ -46,6 +47,7 @@ pub fn swap(
     ensures within { IfOk result (λ r. r.size ≤ most) }
     ensures refused { IfErr result (λ e. IsMoveRefusal m.old m.new Swap place most e) }
     ensures back { OnErr result (KeepsReached m.old m.new × (m.new.moving ≡ None)) }
+    ensures never_falls { OnErr result (NeverFalls m.old m.new) }
     ensures bound { m.new.bound ≡ m.old.bound }
     ensures unmarked { AreUnmarked m.new }
     ensures serves { Serves c.new m.new }
@@ -98,6 +100,7 @@ fn swap_nodes(
     requires table { IsTable m.old }
     ensures moved { IfOk result (λ j. IsMoved m.old m.new Swap place j) }
     ensures back { OnErr result (KeepsReached m.old m.new × (m.new.moving ≡ None)) }
+    ensures never_falls { OnErr result (NeverFalls m.old m.new) }
     ensures bound { m.new.bound ≡ m.old.bound }
     ensures refused { IfErr result (λ e. IsRefusedOnTheWay m.new e) }
     ensures unmarked { AreUnmarked m.old → AreUnmarked m.new }

@@ -36,7 +36,12 @@ pub fn undo(m: &mut Manager, journal: Journal)
     // That the epoch is a `u64` tells that it is the last one where it no longer rises.
     let _ = m.epoch();
     sweep(m);
-    m.begin_move(journal.upper);
-    let kind = inverse_of(journal.kind);
-    go_back(m, kind, journal.upper, journal.lower, &journal.named);
+    let Journal {
+        kind,
+        upper,
+        lower,
+        named,
+    } = journal;
+    m.begin_move(upper);
+    go_back(m, inverse_of(kind), upper, lower, &named);
 }

@@ -11,6 +11,7 @@ use Rattle.sd_move.specs.Moves.{IsMoved}
 use Rattle.sd_move.proofs.MoveEnd.{can_go_back, known_end, unmarked_end, moved_end, keeps_back, rule_again}
 use Rattle.sd_move.proofs.MoveEnd.{unmarked_again}
 use Rattle.sd_move.proofs.Refused.{way_to}
+use Rattle.sd_move.proofs.NeverFalling.{never_back}
 use Rattle.sd_move.proofs.ending.end_or_go_back.Goals as goal
 
 pub end_move-requires-clause-known : goal.end_move-requires-clause-known
@@ -148,3 +149,22 @@ returns-in-Err-clause-later c =
     (subst (λ i. HasGoneBack (ToTable k.0) m new i x l c.deref.result.now) c.inverse_of.ensures.inverse
     (c.go_back.ensures.back way may)) in
     inr b.later
+
+pub returns-in-Err-clause-never_falls : goal.returns-in-Err-clause-never_falls
+returns-in-Err-clause-never_falls c m0 o last =
+    let m = c.args.m.now in
+    let kind = c.args.kind in
+    let x = c.args.upper in
+    let l = c.args.lower in
+    let es = c.args.named.items in
+    let new = c.go_back.new.m in
+    let way = way_to m0 o.progress o.values in
+    let can = can_go_back m0 m kind x l es o in
+    let may : CanGoBack way m c.inverse_of.result x l c.deref.result.now =
+    subst (λ i. CanGoBack way m i x l c.deref.result.now) (sym c.inverse_of.ensures.inverse)
+    (subst (λ n. CanGoBack way m (inverse_move kind) x l n) (sym c.deref.ensures.value) can) in
+    let b : HasGoneBack (ToTable m0) m new (inverse_move kind) x l es =
+    subst (λ n. HasGoneBack (ToTable m0) m new (inverse_move kind) x l n) c.deref.ensures.value
+    (subst (λ i. HasGoneBack (ToTable m0) m new i x l c.deref.result.now) c.inverse_of.ensures.inverse
+    (c.go_back.ensures.back way may)) in
+    never_back m0 m new kind (inverse_move kind) x l es last o b

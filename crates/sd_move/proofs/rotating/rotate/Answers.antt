@@ -6,6 +6,7 @@ use Rattle.sd_move.proofs.AfterSweep.{moved_swept}
 use Rattle.sd_move.proofs.RotationWhole.{lower_same}
 use Rattle.sd_move.proofs.ServesLater.{serves_later, serves_swept}
 use Rattle.sd_move.proofs.SwapWhole.{refusal_on_way}
+use Rattle.sd_move.proofs.NeverFalling.{never_both, never_swept}
 use Rattle.sd_move.proofs.rotating.rotate.Goals as goal
 
 pub rotate_nodes-requires-clause-lower : goal.rotate_nodes-requires-clause-lower
@@ -81,3 +82,18 @@ returns-in-Ok-clause-bound c =
 
 pub returns-in-Err-clause-bound : goal.returns-in-Err-clause-bound
 returns-in-Err-clause-bound c = c.rotate_nodes.ensures.bound ∙ c.sweep.ensures.swept.bound
+
+pub returns-in-Ok-clause-never_falls : goal.returns-in-Ok-clause-never_falls
+returns-in-Ok-clause-never_falls c =
+    let old = c.args.m.now in
+    let last : old.epoch ≤ 18446744073709551615 = omega (arith, c.epoch.type_inv, c.epoch.ensures.epoch) in
+    let m = moved_swept old c.sweep.new.m c.rotate_nodes.new.m (rotation_of c.args.side) c.args.place _ last c.sweep.ensures.swept
+    c.in-Ok.ensures.moved in
+    c.within.ensures.never_falls old (rotation_of c.args.side) c.args.place last m
+
+pub returns-in-Err-clause-never_falls : goal.returns-in-Err-clause-never_falls
+returns-in-Err-clause-never_falls c =
+    let old = c.args.m.now in
+    let last : old.epoch ≤ 18446744073709551615 = omega (arith, c.epoch.type_inv, c.epoch.ensures.epoch) in
+    never_both old c.sweep.new.m c.rotate_nodes.new.m (never_swept old c.sweep.new.m last c.sweep.ensures.swept)
+    c.in-Err.ensures.never_falls

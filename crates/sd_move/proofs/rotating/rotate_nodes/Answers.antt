@@ -7,6 +7,7 @@ use Rattle.sd_move.specs.Sorting.{rotation_of, place_entry, CanRotate}
 use Rattle.sd_move.proofs.MoveEnd.{last_way}
 use Rattle.sd_move.proofs.RotationWhole.{lower_child, can_rotate}
 use Rattle.sd_move.proofs.ServesLater.{serves_later, serves_rest}
+use Rattle.sd_move.proofs.NeverFalling.{never_same}
 use Rattle.sd_move.proofs.rotating.rotate_nodes.Goals as goal
 
 pub begin_at_both-requires-clause-child : goal.begin_at_both-requires-clause-child
@@ -154,3 +155,26 @@ returns-in-Ok-clause-serves c =
           (serves_rest _ m2 c.rotate_and_rewrite-done.ensures.serves)
       | inr later ↦ serves_later _ m2 c.end_or_go_back.new.m e later c.rotate_and_rewrite-done.ensures.serves
     ]
+
+pub returns-in-Ok-clause-never_falls : goal.returns-in-Ok-clause-never_falls
+returns-in-Ok-clause-never_falls c =
+    let m0 = c.args.m.now in
+    let m1 = c.begin_at_both.new.m in
+    let side = c.args.side in
+    let x = c.args.upper in
+    let w = c.args.lower in
+    let f = c.requires.lower in
+    let us = c.in-Ok.nodes.0.items in
+    let ls = c.in-Ok.nodes.1.items in
+    let can = can_rotate m0 m1 side x w us ls c.requires.table c.requires.no_move f c.in-Ok.ensures.ok in
+    let may = subst (λ l. CanRotate m0 m1 side x w l c.deref-in-Ok.result.now f.0.0) (sym c.deref.ensures.value)
+    (subst (λ l. CanRotate m0 m1 side x w us l f.0.0) (sym c.deref-in-Ok.ensures.value) can) in
+    let way = c.rotate_and_rewrite-done.ensures.way m0 f.0.0 may in
+    let kind = subst
+    (λ k. IsOnTheWay m0 c.rotate_and_rewrite-done.new.m k x (Some w) c.rotate_and_rewrite-done.new.named.items)
+    (sym c.rotation_of.ensures) way in
+    let last : m0.epoch ≤ 18446744073709551615 = omega (arith, c.epoch.type_inv, c.epoch.ensures.epoch) in
+    c.end_or_go_back.ensures.never_falls m0 kind last
+
+pub returns-in-Err-clause-never_falls : goal.returns-in-Err-clause-never_falls
+returns-in-Err-clause-never_falls c = never_same c.args.m.now c.begin_at_both.new.m c.in-Err.ensures.err

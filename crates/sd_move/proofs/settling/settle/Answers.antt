@@ -14,5 +14,5 @@ loop-index-preserved c =
     let next = at_drop_more (λ l. l) named i entry (omega (arith, c.loop-index-test.true))
     ∙ ap (λ e. e ∷ drop (i + 1) named) (sym c.index.ensures) in
     settling_on old now c.give_back.new.m named _ entry (subst (IsSettling old now named) next c.loop-index.invariant)
-    (subst (λ (e : Named). MayGiveBack now c.give_back.new.m e.run) c.behind-journal.view_is c.give_back.ensures.given)
+    (subst (λ (e : Named). MayGiveBack now c.give_back.new.m e.run) c.behind-named.view_is c.give_back.ensures.given)
     c.give_back.ensures.table

@@ -8,6 +8,7 @@ use Rattle.sd_apply.specs.Serving.{Serves}
 use Rattle.sd_move.proofs.AfterSweep.{moved_swept}
 use Rattle.sd_move.proofs.ServesLater.{serves_later, serves_swept}
 use Rattle.sd_move.proofs.SwapWhole.{swap_movable, refusal_on_way}
+use Rattle.sd_move.proofs.NeverFalling.{never_both, never_swept}
 use Rattle.sd_move.proofs.swapping.swap.Goals as goal
 
 pub returns-in_default-clause-refused : goal.returns-in_default-clause-refused
@@ -91,3 +92,18 @@ returns-in-Err-clause-refused c =
     (subst IsSome c.in-Some.ensures.children refl) in
     let can = swap_movable c.args.m.now c.args.place c.epoch.ensures.table.numbered some in
     refusal_on_way c.args.m.now c.swap_nodes.new.m Swap c.args.place c.args.most _ can c.in-Err.ensures.refused
+
+pub returns-in-Ok-clause-never_falls : goal.returns-in-Ok-clause-never_falls
+returns-in-Ok-clause-never_falls c =
+    let old = c.args.m.now in
+    let last : old.epoch ≤ 18446744073709551615 = omega (arith, c.epoch.type_inv, c.epoch.ensures.epoch) in
+    let m = moved_swept old c.sweep.new.m c.swap_nodes.new.m Swap c.args.place _ last c.sweep.ensures.swept
+    c.in-Ok.ensures.moved in
+    c.within.ensures.never_falls old Swap c.args.place last m
+
+pub returns-in-Err-clause-never_falls : goal.returns-in-Err-clause-never_falls
+returns-in-Err-clause-never_falls c =
+    let old = c.args.m.now in
+    let last : old.epoch ≤ 18446744073709551615 = omega (arith, c.epoch.type_inv, c.epoch.ensures.epoch) in
+    never_both old c.sweep.new.m c.swap_nodes.new.m (never_swept old c.sweep.new.m last c.sweep.ensures.swept)
+    c.in-Err.ensures.never_falls

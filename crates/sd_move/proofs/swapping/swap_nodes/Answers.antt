@@ -9,6 +9,7 @@ use Rattle.sd_move.specs.Rewriting.{CanRewriteAll, HasRewritten}
 use Rattle.sd_move.proofs.MoveEnd.{last_way, none_waits}
 use Rattle.sd_move.proofs.ServesLater.{serves_later, serves_rest}
 use Rattle.sd_move.proofs.SwapEnd.{swap_may, later_turned, swap_on_way}
+use Rattle.sd_move.proofs.NeverFalling.{never_same}
 use Rattle.sd_move.proofs.swapping.swap_nodes.Goals as goal
 
 pub rewrite_all-done-requires-clause-may : goal.rewrite_all-done-requires-clause-may
@@ -191,3 +192,29 @@ returns-in-Ok-clause-serves c =
           (serves_rest _ m2 c.rewrite_all-done.ensures.serves)
       | inr later ↦ serves_later _ m2 c.end_or_go_back.new.m e later c.rewrite_all-done.ensures.serves
     ]
+
+pub returns-in-Ok-clause-never_falls : goal.returns-in-Ok-clause-never_falls
+returns-in-Ok-clause-never_falls c =
+    let m0 = c.args.m.now in
+    let m1 = c.begin_swap.new.m in
+    let x = c.args.place in
+    let ns = c.in-Ok.numbers.items in
+    let t0 = c.requires.table in
+    let still = c.requires.no_move in
+    let s = c.in-Ok.ensures.swapped in
+    let v = value_of (get m0.linked) in
+    let can = subst (CanRewriteAll m0 m1 x no_progress v) (sym c.deref.ensures.value)
+    (swap_may m0 m1 x ns t0 still s) in
+    let m2 = c.rewrite_all-done.new.m in
+    let es = c.rewrite_all-done.new.named.items in
+    let w = c.rewrite_all-done.ensures.rewritten in
+    let r : HasRewritten m1 m2 x ns [] es w.0 =
+    subst (λ b. HasRewritten m1 m2 x ns b es w.0) c.new-named.ensures.items
+    (subst (λ l. HasRewritten m1 m2 x l c.new-named.result.items es w.0) c.deref.ensures.value w.1) in
+    let way = swap_on_way m0 m1 x ns t0 still s c.begin_swap.ensures.table m2 c.rewrite_all-done.ensures.table es w.0 r
+    (w.2 m0 no_progress v can) in
+    let last : m0.epoch ≤ 18446744073709551615 = omega (arith, c.epoch.type_inv, c.epoch.ensures.epoch) in
+    c.end_or_go_back.ensures.never_falls m0 way last
+
+pub returns-in-Err-clause-never_falls : goal.returns-in-Err-clause-never_falls
+returns-in-Err-clause-never_falls c = never_same c.args.m.now c.begin_swap.new.m c.in-Err.ensures.err

@@ -20,9 +20,9 @@ go_back-requires-clause-can c =
     let j : Journal = record { kind = k.kind; upper = k.upper; lower = k.lower; named = k.named.items } in
     let can : CanUndo j t = subst (λ (j : Journal). CanUndo j t) (sym c.journal.view_is) c.requires.can_undo in (
       way_of j s,
-      may_go_back j t s c.begin_move.new.self c.inverse_of-kind.result c.deref.result.now c.epoch.ensures.table
+      may_go_back j t s c.begin_move.new.self c.inverse_of.result c.deref.result.now c.epoch.ensures.table
           c.sweep.ensures.table can c.sweep.ensures.swept c.sweep.ensures.unused c.begin_move.ensures.begun
-          c.inverse_of-kind.ensures.inverse c.deref.ensures.value,
+          c.inverse_of.ensures.inverse c.deref.ensures.value,
     )
 
 pub returns-clause-undone : goal.returns-clause-undone
@@ -34,13 +34,13 @@ returns-clause-undone c =
     let can : CanUndo j t = subst (λ (j : Journal). CanUndo j t) (sym c.journal.view_is) c.requires.can_undo in
     let most : t.epoch ≤ 18446744073709551615 = omega (arith, c.epoch.type_inv, c.epoch.ensures.epoch) in
     subst (λ (j : Journal). Rollback j t c.go_back.new.m) c.journal.view_is
-    (undone_so j t s c.begin_move.new.self c.inverse_of-kind.result c.deref.result.now c.epoch.ensures.table
+    (undone_so j t s c.begin_move.new.self c.inverse_of.result c.deref.result.now c.epoch.ensures.table
     c.sweep.ensures.table can c.sweep.ensures.swept c.sweep.ensures.unused c.begin_move.ensures.begun
-    c.inverse_of-kind.ensures.inverse c.deref.ensures.value c.go_back.new.m most
+    c.inverse_of.ensures.inverse c.deref.ensures.value c.go_back.new.m most
     (c.go_back.ensures.back (way_of j s)
-    (may_go_back j t s c.begin_move.new.self c.inverse_of-kind.result c.deref.result.now c.epoch.ensures.table
+    (may_go_back j t s c.begin_move.new.self c.inverse_of.result c.deref.result.now c.epoch.ensures.table
     c.sweep.ensures.table can c.sweep.ensures.swept c.sweep.ensures.unused c.begin_move.ensures.begun
-    c.inverse_of-kind.ensures.inverse c.deref.ensures.value)))
+    c.inverse_of.ensures.inverse c.deref.ensures.value)))
 
 pub returns-clause-functions : goal.returns-clause-functions
 returns-clause-functions c n h =
@@ -53,10 +53,10 @@ returns-clause-unmarked c =
     let k = c.journal.inside in
     let j : Journal = record { kind = k.kind; upper = k.upper; lower = k.lower; named = k.named.items } in
     let can : CanUndo j t = subst (λ (j : Journal). CanUndo j t) (sym c.journal.view_is) c.requires.can_undo in
-    undone_unmarked j t s c.begin_move.new.self c.inverse_of-kind.result c.deref.result.now c.epoch.ensures.table
+    undone_unmarked j t s c.begin_move.new.self c.inverse_of.result c.deref.result.now c.epoch.ensures.table
     c.sweep.ensures.table can c.sweep.ensures.swept c.sweep.ensures.unused c.begin_move.ensures.begun
-    c.inverse_of-kind.ensures.inverse c.deref.ensures.value c.go_back.new.m c.go_back.ensures.table
+    c.inverse_of.ensures.inverse c.deref.ensures.value c.go_back.new.m c.go_back.ensures.table
     (c.go_back.ensures.back (way_of j s)
-    (may_go_back j t s c.begin_move.new.self c.inverse_of-kind.result c.deref.result.now c.epoch.ensures.table
+    (may_go_back j t s c.begin_move.new.self c.inverse_of.result c.deref.result.now c.epoch.ensures.table
     c.sweep.ensures.table can c.sweep.ensures.swept c.sweep.ensures.unused c.begin_move.ensures.begun
-    c.inverse_of-kind.ensures.inverse c.deref.ensures.value))
+    c.inverse_of.ensures.inverse c.deref.ensures.value))
