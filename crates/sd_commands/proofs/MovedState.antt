@@ -142,7 +142,7 @@ module _ (code : RunState) (mid new : Table) (kind : Move) (place : ℕ) (j : Jo
   value_moved root f h =
       let held : get mid.roots root ≡ Some h.is.code = ap (λ r. get r root) m.roots ∙ h.is.held in
       let shown = u.held m.no_move root h.is.code held in
-      subst (λ s. HoldsValue s root f) (sym settled)
+      subst (λ s. HoldsValue s root f) (sym settled.same)
       (record {
         diagram = shown.diagram;
         is = record { code = h.is.code; held = held; is = shown.is };
@@ -165,13 +165,13 @@ module _ (code : RunState) (mid new : Table) (kind : Move) (place : ℕ) (j : Jo
 
   -- the roots are those from before
   roots_moved : new.roots ≡ code.manager.roots
-  roots_moved = ap (λ s. s.roots) settled ∙ m.roots
+  roots_moved = ap (λ s. s.roots) settled.same ∙ m.roots
 
   -- the code represents the state with the moved tree
   pub stands_moved : (cache : Entries) (seen : State) → Serves cache mid → AreUnmarked mid → Represents code seen
       → Represents (record code { manager = new; cache = cache }) (record seen { tree = plain_tree mid.vtree })
   stands_moved cache seen serves unmarked was = record {
-    tree = ap (λ s. plain_tree s.vtree) (sym settled);
+    tree = ap (λ s. plain_tree s.vtree) (sym settled.same);
     limit = was.limit;
     slack = was.slack;
     once = was.once;
@@ -180,10 +180,10 @@ module _ (code : RunState) (mid new : Table) (kind : Move) (place : ℕ) (j : Jo
     only = λ root held.
         let had = was.only root (subst (λ o. IsSome o) (ap (λ r. get r root) roots_moved) held) in
         record { name = had.name; is = had.is };
-    serves = serves_runs cache mid new _ _ settled serves;
-    bound = ap (λ s. s.bound) settled ∙ m.bound ∙ was.bound;
-    no_move = ap (λ s. s.moving) settled ∙ m.no_move;
-    unmarked = subst AreUnmarked (sym settled) unmarked;
+    serves = serves_runs cache mid new _ _ settled.same serves;
+    bound = ap (λ s. s.bound) settled.same ∙ m.bound ∙ was.bound;
+    no_move = ap (λ s. s.moving) settled.same ∙ m.no_move;
+    unmarked = subst AreUnmarked (sym settled.same) unmarked;
   }
 
 -- ---- the command

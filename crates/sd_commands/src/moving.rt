@@ -55,7 +55,8 @@ pub(crate) fn turn_at(
         limit,
     ) {
         Ok(moved) => {
-            settle(&mut state.manager, moved.journal);
+            let Moved { size: _, journal } = moved;
+            settle(&mut state.manager, journal);
             Ok(None)
         }
         Err(error) => Err(move_error(error)),

@@ -44,7 +44,7 @@ returns-in-Ok-clause-variables c =
     (c.vtree-2.ensures.vtree ∙ sym c.vtree.ensures.vtree) ∙ sym c.in-Some.ensures.at in
     let law = plain_law c.args.kind code.manager.vtree c.vtree-2.result.now c.args.position c.in-Some.place
     c.vtree-2.ensures.vtree at c.plain_move.ensures in
-    ap (λ s. leaves (plain_tree s.vtree)) c.settle.ensures.settled
+    ap (λ s. leaves (plain_tree s.vtree)) c.settle.ensures.settled.same
     ∙ (plain_reordered c.args.kind code.manager.vtree c.turn.new.m.vtree c.args.position c.in-Some.place law
     c.in-Ok.ensures.moved.vtree).count
 
