@@ -27,11 +27,11 @@ use Rattle.sd_search.proofs.StepsAhead.{best_some, best_none, none_later}
 pub along_settled : (a b c d : Table) (path : List Side) (j : Journal) → IsSettledBy c d j
     → KeepsAlong a.vtree b.vtree path → KeepsAlong b.vtree c.vtree path → KeepsAlong a.vtree d.vtree path
 along_settled a b c d path j settled h k =
-    subst (λ (x : Table). KeepsAlong a.vtree x.vtree path) (sym settled)
+    subst (λ (x : Table). KeepsAlong a.vtree x.vtree path) (sym settled.same)
     (along_both a.vtree b.vtree c.vtree path h k)
 
 pub unmarked_settled : (c d : Table) (j : Journal) → IsSettledBy c d j → AreUnmarked c → AreUnmarked d
-unmarked_settled c d j settled h = subst AreUnmarked (sym settled) h
+unmarked_settled c d j settled h = subst AreUnmarked (sym settled.same) h
 
 -- the arena's rule after a step that was undone
 pub rule_back : (a b c d : Table) (m : WalkMove) (place : ℕ) (j : Journal) (e : SearchError) → IsTable a → IsTable b
@@ -69,7 +69,7 @@ module _ (a b c d : Table) (step : Step) (place most least here less : ℕ) (j :
       → IsAhead fs bound (plain_tree a.vtree) path ms least (Some size) (plain_tree d.vtree)
   found_some size e settled fs path bound held at capped =
       subst (λ (x : Table). IsAhead fs bound (plain_tree a.vtree) path ms least (Some size) (plain_tree x.vtree))
-      (sym settled)
+      (sym settled.same)
       (best_some fs bound (plain_tree a.vtree) (plain_tree b.vtree) (plain_tree c.vtree) path (move_of step) ms rest
       least here less is (s.led path at) (sized fs held) (let most_is = capped.0 in omega (arith, within, most_is))
       below_here below_least one later size (sym e) same_tree

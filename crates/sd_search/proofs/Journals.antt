@@ -77,15 +77,15 @@ module _ (a b c d : Table) (m : WalkMove) (place : ℕ) (j : Journal) (t : IsTab
 
   pub settled_kept : KeepsRoots b c → IsSettledBy c d j → KeepsRoots a d
   settled_kept k settled =
-      let shows = shows_runs a c d (without_runs c.loose (starts_of j.named)) d.free settled
+      let shows = shows_runs a c d (without_runs c.loose (starts_of j.named)) d.free settled.same
       (shows_both a b c u shows_step (shows_kept b c k)) in
       record {
         variables = shows.variables;
         roots = shows.roots;
         functions = shows.functions;
-        loose = ap (λ (x : Table). x.loose) settled ∙ ap (λ l. without_runs l (starts_of j.named)) k.loose ∙ s.is.loose;
-        bound = ap (λ (x : Table). x.bound) settled ∙ k.bound ∙ s.is.bound;
-        no_move = ap (λ (x : Table). x.moving) settled ∙ k.no_move;
+        loose = ap (λ (x : Table). x.loose) settled.same ∙ ap (λ l. without_runs l (starts_of j.named)) k.loose ∙ s.is.loose;
+        bound = ap (λ (x : Table). x.bound) settled.same ∙ k.bound ∙ s.is.bound;
+        no_move = ap (λ (x : Table). x.moving) settled.same ∙ k.no_move;
       }
 
   -- ---- or it is undone, where all that b needs was kept

@@ -18,7 +18,7 @@ use crate::error::SearchError;
 use crate::steps::{Step, make, steps_at};
 use sd_cache::Cache;
 use sd_manager::Manager;
-use sd_move::{MoveError, settle, undo};
+use sd_move::{MoveError, Moved, settle, undo};
 use sd_vtree::VNode;
 use std::alloc::Global;
 
@@ -85,16 +85,19 @@ fn ahead(
     match found {
         Ok(later) => match best(later, here, least) {
             Some(size) => {
-                settle(m, moved.journal);
+                let Moved { size: _, journal } = moved;
+                settle(m, journal);
                 Ok(Some(size))
             }
             None => {
-                undo(m, moved.journal);
+                let Moved { size: _, journal } = moved;
+                undo(m, journal);
                 Ok(None)
             }
         },
         Err(error) => {
-            undo(m, moved.journal);
+            let Moved { size: _, journal } = moved;
+            undo(m, journal);
             Err(error)
         }
     }

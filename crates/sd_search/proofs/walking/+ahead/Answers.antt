@@ -160,7 +160,7 @@ returns-in-Some-best-clause-unmarked t c =
 
 pub returns-in-Some-best-clause-serves : goal.returns-in-Some-best-clause-serves
 returns-in-Some-best-clause-serves t c =
-    serves_runs c.ahead-found.new.c c.ahead-found.new.m c.settle.new.m _ _ c.settle.ensures.settled
+    serves_runs c.ahead-found.new.c c.ahead-found.new.m c.settle.new.m _ _ c.settle.ensures.settled.same
     c.ahead-found.ensures.serves
 
 pub returns-in-None-best-clause-ahead : goal.returns-in-None-best-clause-ahead
