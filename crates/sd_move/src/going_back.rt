@@ -81,7 +81,7 @@ fn put_all_back(m: &mut Manager, named: &[Entry])
     }
 }
 
-// Links a detached node that is not named at the moved node, if it stood there, and else discards it.
+// Discards a detached node that is not named, where it did not stand at the moved node, and else links it there.
 fn link_or_discard(m: &mut Manager, upper: VNode, number: u32)
     requires returning { (r : Return) × (r.upper ≡ upper) × IsReturning r m.old [] [] }
     requires node { IsSome (get m.old.detached number) }
@@ -92,10 +92,10 @@ fn link_or_discard(m: &mut Manager, upper: VNode, number: u32)
     ensures table { IsTable m.new }
 {
     let own = m.place_at(number);
-    if own.0 == upper.0 {
-        m.retag(number, upper);
-    } else {
+    if own.0 != upper.0 {
         m.discard(number);
+    } else {
+        m.retag(number, upper);
     }
 }
 
