@@ -83,7 +83,10 @@ module _ (a b c d : Table) (m : WalkMove) (place : ℕ) (j : Journal) (t : IsTab
         variables = shows.variables;
         roots = shows.roots;
         functions = shows.functions;
-        loose = ap (λ (x : Table). x.loose) settled.same ∙ ap (λ l. without_runs l (starts_of j.named)) k.loose ∙ s.is.loose;
+        loose =
+            ap (λ (x : Table). x.loose) settled.same
+            ∙ ap (λ l. without_runs l (starts_of j.named)) k.loose
+            ∙ s.is.loose;
         bound = ap (λ (x : Table). x.bound) settled.same ∙ k.bound ∙ s.is.bound;
         no_move = ap (λ (x : Table). x.moving) settled.same ∙ k.no_move;
       }
