@@ -78,6 +78,7 @@ moved_swept old mid new kind place j most s m =
       lower = m.lower ∙ ap (λ t. lower_of kind t place) s.vtree;
       can_undo = m.can_undo;
       before = λ n k e r. m.before n k (s.kept n k e r) (reached_kept old mid (keeps_swept old mid s) r);
+      turns_back = m.turns_back ∙ ap Some s.vtree;
     }
 
 -- What a root shows after the move has the value of what it showed before it.

@@ -246,6 +246,13 @@ module _ (m0 m : Table) (kind : Move) (x : ℕ) (named : List Named) (h : Progre
                 let k = entry_found named (IsRecorded m0 m x (lower_of kind m0.vtree x)) r.entries n e f in
                 subst (λ i. IsSome (get m0.linked i)) k.1 (subst IsSome (sym k.0.was) refl)
 
+    -- its inverse move gives the vtree of m0
+    turned_back : j.kind ≡ kind → j.upper ≡ x → moved_number (inverse_move j.kind) m.vtree j.upper ≡ Some m0.vtree
+    turned_back made upper =
+        ap (λ k. moved_number (inverse_move k) m.vtree j.upper) made
+        ∙ ap (moved_number (inverse_move kind) m.vtree) upper
+        ∙ inverse_numbered kind m0.vtree m.vtree x t0.numbered moved
+
     -- and can be undone, where each node of m0 was reached
     pub can_undo : j.kind ≡ kind → j.upper ≡ x → j.lower ≡ lower_of kind m0.vtree x →
         ((n : ℕ) → IsSome (get m0.linked n) → IsReached m0 n) → CanUndo j (at_rest m)
@@ -253,10 +260,7 @@ module _ (m0 m : Table) (kind : Move) (x : ℕ) (named : List Named) (h : Progre
         record {
           no_move = refl;
           tree = m0.vtree;
-          turned =
-              ap (λ k. moved_number (inverse_move k) m.vtree j.upper) made
-              ∙ ap (moved_number (inverse_move kind) m.vtree) upper
-              ∙ inverse_numbered kind m0.vtree m.vtree x t0.numbered moved;
+          turned = turned_back made upper;
           lower =
               ap (λ k. lower_of (inverse_move k) m.vtree j.upper) made
               ∙ ap (lower_of (inverse_move kind) m.vtree) upper
@@ -313,6 +317,7 @@ module _ (m0 m : Table) (kind : Move) (x : ℕ) (named : List Named) (h : Progre
           lower = lower;
           can_undo = can_undo made upper lower all;
           before = λ n k e reached. leads_back.nodes n k e;
+          turns_back = turned_back made upper;
         }
       where
         outside : (n : ℕ) (k : ℕ × List (ℕ × ℕ)) → get m0.linked n ≡ Some k → k.0 ≢ x →

@@ -3,6 +3,7 @@ use Rattle.std.specs.Prelude.{◌≡◌, ◌≢◌, ℕ, ◌+◌, ◌≤◌, ◌
 use Rattle.std.specs.List.{AllZip}
 use Rattle.std.specs.FinMap.{get}
 use Rattle.sd_model.specs.declared.trees.Move.{Move}
+use Rattle.sd_model.specs.Moves.{inverse_move}
 use Rattle.sd_model.specs.Size.{size_of}
 use Rattle.sd_model.specs.Diagram.{Diagram, meaning}
 use Rattle.sd_model.specs.Canonical.{IsCanonical}
@@ -65,6 +66,8 @@ pub record IsMoved (old new : Table) (kind : Move) (place : ℕ) (j : Journal) :
   pub lower : j.lower ≡ lower_of kind old.vtree place
   pub can_undo : CanUndo j new
   pub before : (n : ℕ) (k : ℕ × List (ℕ × ℕ)) → get old.linked n ≡ Some k → IsReached old n → back j new n ≡ Some k
+  -- the inverse move gives the vtree from before
+  pub turns_back : moved_number (inverse_move j.kind) new.vtree j.upper ≡ Some old.vtree
 
 -- Why a move was refused: the vtree cannot be moved so at the place; the size of all held diagrams after the whole move
 -- passes the limit; or, where it can be moved, the arena was full by its rule, or memory ran out.
