@@ -1,3 +1,4 @@
+pub mod Growing
 pub mod Limits
 pub mod Moved
 pub mod MovedState

@@ -1,5 +1,5 @@
 -- The total size of the formulas of bound names, from what the manager's roots hold.
-use Rattle.std.proofs.Common.{◌≡◌, ℕ, ◌+◌, ◌<◌, ◌≤◌, ◌∷◌, List, Some}
+use Rattle.std.proofs.Common.{◌≡◌, ℕ, zero, suc, ◌<◌, ◌≤◌, ◌∷◌, List, Some, None}
 use Rattle.std.proofs.Common.{refl, sym, subst, ◌∙◌, arith, inr}
 use Rattle.std.specs.Option.{IsSome}
 use Rattle.std.specs.FinMap.{get}
@@ -20,8 +20,8 @@ use Rattle.sd_compile.specs.declared.error.CompileError.{CompileError}
 use Rattle.sd_compile.specs.declared.error.CompileError.TheVariants as compiling
 use Rattle.sd_compile.specs.declared.error.HoldError.{HoldError}
 use Rattle.sd_compile.specs.declared.error.HoldError.TheVariants as holding
-use Rattle.sd_commands.specs.Commands.{State, formulas_of, with_name, AreWithin, PassLimit, AreWithinBelow}
-use Rattle.sd_commands.specs.Commands.{PassesAtGroup, OverLimit}
+use Rattle.sd_commands.specs.Commands.{State, formulas_of, with_name, AreWithin, PassLimit, Grows, Follows, is_due}
+use Rattle.sd_commands.specs.Commands.{PassesAtGroup, OverLimit, with_groups}
 use Rattle.sd_commands.specs.Commands.{Step}
 use Rattle.sd_commands.specs.Standing.{Represents, HoldsValue, IsNotSettled, StopsAt, error_of_holding}
 use Rattle.sd_commands.specs.Standing.{error_of_compiling}
@@ -102,33 +102,42 @@ module _ (code : RunState) (seen : State) (numbered : IsNumbered code.manager.vt
       (refl, passes_with f code.limit size refl h.0 h.1, sym was.limit)
   not_held name f holding.OutOfMemory h = tt
 
-  -- the groups of the input are within the limit
-  pub groups_within : (input : Groups) (limit last end : ℕ) → limit ≡ code.limit → end ≡ last + 1
-      → AreWithinLimit code.manager input limit 0 last → AreWithinBelow input seen end
-  groups_within input limit last end same next h count low high =
-      within_with (prefix_of input count) limit same (h count (omega (arith, low)) (omega (arith, high, next)))
+  -- where no search follows a group, the groups of the input lead to the tree of the state
+  pub groups_within : (input : Groups) (limit last : ℕ) → limit ≡ code.limit → seen.every ≡ None
+      → AreWithinLimit code.manager input limit 0 last → (n : ℕ) → n ≤ last → Grows input seen n seen.tree
+  groups_within input limit last same none h zero low = refl
+  groups_within input limit last same none h (suc n) low = (
+    seen.tree,
+    groups_within input limit last same none h n (omega (arith, low)),
+    within_with (prefix_of input (suc n)) limit same (h (suc n) (omega arith) low),
+    subst (λ e. Follows (is_due e (suc n)) (with_groups input seen (suc n)) seen.slack seen.tree seen.tree) (sym none)
+        refl,
+  )
 
-  -- or some group is the first with which the size passes it
+  -- or some group is the first with which the size passes the limit
   pub group_passes : (input : Groups) (new : Table) (limit group size most : ℕ) → limit ≡ code.limit
-      → IsFormulaRefused code.manager new input limit 0 (compiling.OverLimit group size most)
+      → seen.every ≡ None → IsFormulaRefused code.manager new input limit 0 (compiling.OverLimit group size most)
       → PassesAtGroup input seen group size
-  group_passes input new limit group size most same h = record {
-    least = let low = h.0 in omega (arith, low);
+  group_passes input new limit zero size most same none h = let low = h.0 in absurd (omega (arith, low))
+  group_passes input new limit (suc done) size most same none h = record {
+    done = done;
+    next = refl;
     most = h.1;
-    before = λ count low high.
-        within_with (prefix_of input count) limit same (h.3 count (omega (arith, low)) high);
-    passes = passes_with (prefix_of input group) limit size same h.2.total h.2.passes;
+    tree = seen.tree;
+    before =
+        groups_within input limit done same none (λ n low high. h.3 n low (omega (arith, high))) done (omega arith);
+    passes = passes_with (prefix_of input (suc done)) limit size same h.2.total h.2.passes;
   }
 
   -- so the command stops
   pub input_stops : (input : Groups) (name : ℕ) (new : Table) (e : CompileError) → new.bound ≡ 2147483647
-      → IsFormulaRefused code.manager new input code.limit 0 e
+      → seen.every ≡ None → IsFormulaRefused code.manager new input code.limit 0 e
       → StopsAt input seen (Input name) new (error_of_compiling e)
-  input_stops input name new (compiling.OverLimit group size most) bound h =
+  input_stops input name new (compiling.OverLimit group size most) bound none h =
       subst (λ l. Step input seen (Input name) (OverLimit (Some group) size l)) (was.limit ∙ sym h.2.most_is)
-      (inr (group, size, group_passes input new code.limit group size most refl h, refl))
-  input_stops input name new (compiling.ArenaFull elements) bound h = (tt, record { whole = bound; rule = h })
-  input_stops input name new compiling.OutOfMemory bound h = tt
+      (inr (group, size, group_passes input new code.limit group size most refl none h, refl))
+  input_stops input name new (compiling.ArenaFull elements) bound none h = (tt, record { whole = bound; rule = h })
+  input_stops input name new compiling.OutOfMemory bound none h = tt
 
 -- ---- the formulas of all names
 

@@ -174,6 +174,7 @@ module _ (code : RunState) (mid new : Table) (kind : Move) (place : ℕ) (j : Jo
     tree = ap (λ s. plain_tree s.vtree) (sym settled.same);
     limit = was.limit;
     slack = was.slack;
+    every = was.every;
     once = was.once;
     holds = λ name. name_moved _ _ (was.holds name);
     apart = was.apart;

@@ -1,6 +1,6 @@
 -- A command has one outcome; where it is done the tree is a vtree, and the bound names are those that are expected.
 use Rattle.std.proofs.Common.{◌≡◌, ℕ, Bool, true, false, not, eqb, List, [], ◌∷◌, filter, map}
-use Rattle.std.proofs.Common.{suc, ◌+◌, ◌<◌, length, get_or, drop, add-one, refl, sym, ap, subst, ◌∙◌, inl, inr}
+use Rattle.std.proofs.Common.{zero, suc, ◌≤◌, ◌+◌, ◌<◌, length, get_or, drop, add-one, refl, sym, ap, subst, ◌∙◌, inl, inr}
 use Rattle.std.proofs.Common.{Option, Some, None, arith}
 use Rattle.std.proofs.Math.Seq.{drop-cons}
 use Rattle.std.proofs.lemmas.Bool.{cases_eq, cases_order, eq-eqb, ne_eqb}
@@ -18,6 +18,7 @@ use Rattle.sd_search.proofs.Determined.{search_determined}
 use Rattle.sd_commands.specs.Effects.{Effect, Write, Print}
 use Rattle.sd_commands.specs.Commands.{State, Outcome, Done, OverLimit, Step, Settles, Binds, BindsInput, Compares}
 use Rattle.sd_commands.specs.Commands.{Moves, AreWithin, PassLimit, PassesAtGroup, IsTextOf, formulas_of, with_groups}
+use Rattle.sd_commands.specs.Commands.{Grows, Follows, is_due}
 use Rattle.sd_commands.specs.Commands.{with_name, formula_named, size_line, same_line, search_line}
 use Rattle.sd_commands.specs.Fits.{Fits, AllFit, has, bound_after}
 use Rattle.sd_commands.specs.Standing.{names_of}
@@ -61,21 +62,78 @@ one_settled next a b valid (inr p) (inr q) =
     (size_determined next.tree (formulas_of next) p.0 q.0 valid p.1.total q.1.total)
     ∙ sym q.2
 
+-- a tree after groups of the input is a vtree
+follows_valid : (due : Bool) (fs : List Expression) (slack : ℕ) (before after : Tree) → IsVtree before
+    → Follows due fs slack before after → IsVtree after
+follows_valid true fs slack before after valid p = subst IsVtree (sym p.2) (search_valid valid p.1)
+follows_valid false fs slack before after valid p = subst IsVtree (sym p) valid
+
+pub grows_valid : (input : Groups) (state : State) (n : ℕ) (tree : Tree) → IsVtree state.tree → Grows input state n tree
+    → IsVtree tree
+grows_valid input state zero tree valid p = subst IsVtree (sym p) valid
+grows_valid input state (suc n) tree valid p =
+    follows_valid _ (with_groups input state (suc n)) state.slack p.0 tree
+    (grows_valid input state n p.0 valid p.1) p.3
+
+-- there is one such tree
+one_follows : (due : Bool) (fs : List Expression) (slack : ℕ) (before a b : Tree) → IsVtree before
+    → Follows due fs slack before a → Follows due fs slack before b → a ≡ b
+one_follows true fs slack before a b valid p q = p.2 ∙ ap (λ f. f.tree) (search_determined valid p.1 q.1) ∙ sym q.2
+one_follows false fs slack before a b valid p q = p ∙ sym q
+
+pub one_growth : (input : Groups) (state : State) (n : ℕ) (a b : Tree) → IsVtree state.tree → Grows input state n a
+    → Grows input state n b → a ≡ b
+one_growth input state zero a b valid p q = p ∙ sym q
+one_growth input state (suc n) a b valid p q =
+    let same = one_growth input state n p.0 q.0 valid p.1 q.1 in
+    one_follows _ (with_groups input state (suc n)) state.slack q.0 a b (grows_valid input state n q.0 valid q.1)
+    (subst (λ t. Follows (is_due state.every (suc n)) (with_groups input state (suc n)) state.slack t a) same p.3) q.3
+
+-- where no search follows a group it is the tree of the state
+pub plain_growth : (input : Groups) (state : State) (n : ℕ) (tree : Tree) → state.every ≡ None → Grows input state n tree
+    → tree ≡ state.tree
+plain_growth input state zero tree none p = p
+plain_growth input state (suc n) tree none p =
+    subst (λ e. Follows (is_due e (suc n)) (with_groups input state (suc n)) state.slack p.0 tree) none p.3
+    ∙ plain_growth input state n p.0 none p.1
+
+-- a group that passes the limit is not among groups that lead to a tree
+not_grown : (input : Groups) (state : State) (g m n : ℕ) (tree : Tree) → IsVtree state.tree
+    → PassesAtGroup input state g m → Grows input state n tree → g ≤ n → ⊥
+not_grown input state g m zero tree valid p grows low = let e = p.next in omega (arith, low, e)
+not_grown input state g m (suc n) tree valid p grows low = elim (cases_order g (suc n)) [
+  | inl same ↦
+      let done : p.done ≡ n = let e = p.next in omega (arith, e, same) in
+      let one : p.tree ≡ grows.0 =
+      one_growth input state n p.tree grows.0 valid (subst (λ k. Grows input state k p.tree) done p.before) grows.1 in
+      not_both (with_groups input state (suc n)) grows.0 state.limit m (grows_valid input state n grows.0 valid grows.1)
+      grows.2
+      (subst (λ t. PassLimit (with_groups input state (suc n)) t state.limit m) one
+      (subst (λ k. PassLimit (with_groups input state k) p.tree state.limit m) same p.passes))
+  | inr (inl less) ↦ not_grown input state g m n grows.0 valid p grows.1 (omega (arith, less))
+  | inr (inr more) ↦ omega (arith, low, more)
+]
+
 -- no group after the first that passes the limit is the first
 no_later : (input : Groups) (state : State) (g h m n : ℕ) → IsVtree state.tree → PassesAtGroup input state g m
     → PassesAtGroup input state h n → g < h → ⊥
 no_later input state g h m n valid p q less =
-    not_both (with_groups input state g) state.tree state.limit m valid (q.before g p.least less) p.passes
+    not_grown input state g m q.done q.tree valid p q.before (let e = q.next in omega (arith, less, e))
 
 -- so there is one
 pub one_group : (input : Groups) (state : State) (g h m n : ℕ) → IsVtree state.tree → PassesAtGroup input state g m
     → PassesAtGroup input state h n → (g ≡ h) × (m ≡ n)
 one_group input state g h m n valid p q = elim (cases_order g h) [
-  | inl same ↦ (
-    same,
-    size_determined state.tree (with_groups input state h) m n valid
-        (subst (λ k. HasSize (with_groups input state k) state.tree m) same p.passes.total) q.passes.total,
-  )
+  | inl same ↦
+      let done : p.done ≡ q.done = let e = p.next in let f = q.next in omega (arith, e, f, same) in
+      let one : p.tree ≡ q.tree =
+      one_growth input state q.done p.tree q.tree valid (subst (λ k. Grows input state k p.tree) done p.before)
+      q.before in (
+        same,
+        size_determined q.tree (with_groups input state h) m n (grows_valid input state q.done q.tree valid q.before)
+            (subst (λ t. HasSize (with_groups input state h) t m) one
+            (subst (λ k. HasSize (with_groups input state k) p.tree m) same p.passes.total)) q.passes.total,
+      )
   | inr (inl less) ↦ absurd (no_later input state g h m n valid p q less)
   | inr (inr more) ↦ absurd (no_later input state h g n m valid q p more)
 ]
@@ -83,13 +141,14 @@ one_group input state g h m n valid p q = elim (cases_order g h) [
 -- the input is bound, or refused at one group
 one_input : (input : Groups) (state : State) (name : ℕ) (a b : Outcome) → IsVtree state.tree
     → BindsInput input state name a → BindsInput input state name b → a ≡ b
-one_input input state name a b valid (inl p) (inl q) = p.1 ∙ sym q.1
+one_input input state name a b valid (inl p) (inl q) =
+    p.2 ∙ ap (λ t. Done (with_name (record state { tree = t }) name (expression_of input)) [])
+    (one_growth input state (length input.groups) p.0 q.0 valid p.1 q.1)
+    ∙ sym q.2
 one_input input state name a b valid (inl p) (inr q) =
-    absurd (not_both (with_groups input state q.0) state.tree state.limit q.1 valid
-    (p.0 q.0 q.2.least (omega (arith, q.2.most))) q.2.passes)
+    absurd (not_grown input state q.0 q.1 (length input.groups) p.0 valid q.2 p.1 q.2.most)
 one_input input state name a b valid (inr p) (inl q) =
-    absurd (not_both (with_groups input state p.0) state.tree state.limit p.1 valid
-    (q.0 p.0 p.2.least (omega (arith, p.2.most))) p.2.passes)
+    absurd (not_grown input state p.0 p.1 (length input.groups) q.0 valid p.2 q.1 p.2.most)
 one_input input state name a b valid (inr p) (inr q) =
     let same = one_group input state p.0 q.0 p.1 q.1 valid p.2 q.2 in
     p.3 ∙ ap (λ g. OverLimit (Some g) p.1 state.limit) same.0 ∙ ap (λ n. OverLimit (Some q.0) n state.limit) same.1
@@ -173,12 +232,19 @@ pub settled_done : (state next : State) (effects : List Effect) → Settles stat
 settled_done state next effects (inl p) = let e = p.1 in let same : next ≡ state = cc in (same, cc)
 settled_done state next effects (inr p) = let e = p.2 in let bad : ⊥ = cc in absurd bad
 
--- and so does the input
+-- and so does the input, over the tree to which its groups lead
+pub record IsInputDone (input : Groups) (state next : State) (name : ℕ) (effects : List Effect) : Type 0 where
+  pub tree : Tree
+  pub course : Grows input state (length input.groups) tree
+  pub next_is : next ≡ with_name (record state { tree = tree }) name (expression_of input)
+  pub quiet : effects ≡ []
+
 pub input_done : (input : Groups) (state next : State) (name : ℕ) (effects : List Effect)
-    → BindsInput input state name (Done next effects)
-    → (next ≡ with_name state name (expression_of input)) × (effects ≡ [])
+    → BindsInput input state name (Done next effects) → IsInputDone input state next name effects
 input_done input state next name effects (inl p) =
-    let e = p.1 in let same : next ≡ with_name state name (expression_of input) = cc in (same, cc)
+    let e = p.2 in
+    let same : next ≡ with_name (record state { tree = p.0 }) name (expression_of input) = cc in
+    record { tree = p.0; course = p.1; next_is = same; quiet = cc }
 input_done input state next name effects (inr p) = let e = p.3 in let bad : ⊥ = cc in absurd bad
 
 -- what a state is after a name was bound, or after nothing
@@ -210,8 +276,9 @@ moved_done kind state next effects position (Some tree) at p =
       ap names_of same,
     )
 
--- a command that neither moves the vtree nor searches
+-- a command that neither moves the vtree nor searches, also behind groups
 abbrev pub KeepsTree : RunCommand → Type 0
+KeepsTree (commands.Input name) = ⊥
 KeepsTree (commands.Turn kind position) = ⊥
 KeepsTree (commands.Minimise rounds) = ⊥
 KeepsTree command = Unit {0}
@@ -220,8 +287,7 @@ KeepsTree command = Unit {0}
 pub same_tree : (input : Groups) (state next : State) (command : RunCommand) (effects : List Effect) → KeepsTree command
     → Step input state command (Done next effects) → next.tree ≡ state.tree
 same_tree input state next (commands.Generated v g) effects keeps p = kept_tree state next effects _ p
-same_tree input state next (commands.Input n) effects keeps p =
-    ap (λ s. s.tree) (input_done input state next n effects p).0
+same_tree input state next (commands.Input n) effects keeps p = absurd keeps
 same_tree input state next (commands.Load n file) effects keeps p = bound_tree state next effects n _ p
 same_tree input state next (commands.Literal n literal) effects keeps p = bound_tree state next effects n _ p
 same_tree input state next (commands.Constant n value) effects keeps p = bound_tree state next effects n _ p
@@ -255,7 +321,9 @@ valid_after input state next (commands.Minimise rounds) effects valid p =
 valid_after input state next (commands.Generated v g) effects valid p =
     kept_vtree state next (same_tree input state next (commands.Generated v g) effects tt p) valid
 valid_after input state next (commands.Input n) effects valid p =
-    kept_vtree state next (same_tree input state next (commands.Input n) effects tt p) valid
+    let done = input_done input state next n effects p in
+    kept_vtree (record state { tree = done.tree }) next (ap (λ s. s.tree) done.next_is)
+    (grows_valid input state (length input.groups) done.tree valid done.course)
 valid_after input state next (commands.Load n file) effects valid p =
     kept_vtree state next (same_tree input state next (commands.Load n file) effects tt p) valid
 valid_after input state next (commands.Literal n literal) effects valid p =
@@ -289,7 +357,7 @@ pub names_after : (input : Groups) (state next : State) (command : RunCommand) (
     → Step input state command (Done next effects) → names_of next ≡ bound_after (names_of state) command
 names_after input state next (commands.Generated v g) effects p = kept_names state next effects _ p
 names_after input state next (commands.Input n) effects p =
-    ap names_of (input_done input state next n effects p).0 ∙ ap (λ l. n ∷ l) (sym (all_stay (names_of state)))
+    ap names_of (input_done input state next n effects p).next_is ∙ ap (λ l. n ∷ l) (sym (all_stay (names_of state)))
 names_after input state next (commands.Load n file) effects p = bound_names state next effects n _ p
 names_after input state next (commands.Literal n literal) effects p = bound_names state next effects n _ p
 names_after input state next (commands.Constant n value) effects p = bound_names state next effects n _ p

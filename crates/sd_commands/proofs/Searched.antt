@@ -70,6 +70,7 @@ module _ (code : RunState) (t : Table) (cache : Entries) (numbered : IsNumbered 
     tree = refl;
     limit = was.limit;
     slack = was.slack;
+    every = was.every;
     once = was.once;
     holds = λ name. name_searched _ _ (was.holds name);
     apart = was.apart;

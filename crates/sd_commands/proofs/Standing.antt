@@ -23,7 +23,9 @@ use Rattle.sd_manager.specs.Making.{Extends, with_root, without_root}
 use Rattle.sd_apply.specs.Serving.{Serves}
 use Rattle.sd_commands.specs.Commands.{State, named, with_name, dropped, formula_named}
 use Rattle.sd_commands.specs.Standing.{Represents, IsOfName, HoldsName, HoldsValue, ShowsFormula, start, names_of}
+use Rattle.sd_formula.specs.Dimacs.{Groups}
 use Rattle.sd_commands.specs.Standing.{IsAsBefore, HoldsState, IsFree, IsLeft, IsTreeLeft, without, removed}
+use Rattle.sd_commands.specs.Standing.{IsLeftByInput, IsGrown, IsGrowthBroken}
 use Rattle.sd_commands.specs.declared.command.RunCommand.{RunCommand}
 use Rattle.sd_commands.specs.declared.command.RunCommand.TheVariants as commands
 use Rattle.sd_commands.proofs.Names.{distinct_bound, distinct_dropped}
@@ -40,13 +42,14 @@ none : (e : Call × ℕ) → Contains [] e → ⊥
 none e c = omega (arith, c.1)
 
 -- a new manager and no names hold the start
-pub stands_first : (code : RunState) (vtree : Numbered) (limit slack : ℕ)
+pub stands_first : (code : RunState) (vtree : Numbered) (limit slack : ℕ) (every : Option ℕ)
     → code.manager ≡ no_table vtree 2147483647 → code.cache ≡ [] → code.names.entries ≡ [] → code.limit ≡ limit
-    → code.slack ≡ slack → Represents code (start (plain_tree vtree) limit slack)
-stands_first code vtree limit slack is empty_ no_names same_limit same_slack = record {
+    → code.slack ≡ slack → code.every ≡ every → Represents code (start (plain_tree vtree) limit slack every)
+stands_first code vtree limit slack every is empty_ no_names same_limit same_slack same_every = record {
   tree = ap (λ t. plain_tree t.vtree) (sym is);
   limit = sym same_limit;
   slack = sym same_slack;
+  every = sym same_every;
   once = tt;
   holds = λ name. subst (λ r. HoldsName code.manager r None) (sym (no_root name)) tt;
   apart = λ a b root first second. let bad : ◌≡◌ {A = Option ℕ} None (Some root) = sym (no_root a) ∙ first in absurd cc;
@@ -191,6 +194,7 @@ pub record ChangesName (code new : RunState) (name : ℕ) (root : Option ℕ) (r
   pub cache : new.cache ≡ code.cache
   pub limit : new.limit ≡ code.limit
   pub slack : new.slack ≡ code.slack
+  pub every : new.every ≡ code.every
   pub fresh : (r : ℕ) → root ≡ Some r → get code.manager.roots r ≡ None
   pub released : (r : ℕ) → maps.get nat_cmp code.names name ≡ Some r → get roots r ≡ None
   pub others : (r : ℕ) → ¬ (root ≡ Some r) → ¬ (maps.get nat_cmp code.names name ≡ Some r)
@@ -277,13 +281,14 @@ module _ (code new : RunState) (seen : State) (name : ℕ) (root : Option ℕ) (
 
   -- the code represents the state that is the same at each other name
   stands_changed : (next : State) (value : Option Expression) → next.tree ≡ seen.tree → next.limit ≡ seen.limit
-      → next.slack ≡ seen.slack → AreDistinct (names_of next)
+      → next.slack ≡ seen.slack → next.every ≡ seen.every → AreDistinct (names_of next)
       → ((q : ℕ) → named next.names q ≡ cond (eqb name q) value (named seen.names q))
       → HoldsName (record code.manager { roots = roots }) root value → Represents new next
-  stands_changed next value same_tree same_limit same_slack distinct names here = record {
+  stands_changed next value same_tree same_limit same_slack same_every distinct names here = record {
     tree = same_tree ∙ was.tree ∙ ap (λ t. plain_tree t.vtree) (sym changes.manager);
     limit = same_limit ∙ was.limit ∙ sym changes.limit;
     slack = same_slack ∙ was.slack ∙ sym changes.slack;
+    every = same_every ∙ was.every ∙ sym changes.every;
     once = distinct;
     holds = λ q.
         subst (λ t. HoldsName t (maps.get nat_cmp new.names q) (named next.names q)) (sym changes.manager)
@@ -305,13 +310,13 @@ module _ (code new : RunState) (seen : State) (name : ℕ) (root : Option ℕ) (
 pub stands_bound : (code new : RunState) (seen : State) (name node root : ℕ) (f : Expression)
     → Represents code seen → ShowsFormula code.manager node f → get code.manager.roots root ≡ None → IsFree code name
     → new.manager ≡ with_root code.manager root node → new.cache ≡ code.cache → new.limit ≡ code.limit
-    → new.slack ≡ code.slack
+    → new.slack ≡ code.slack → new.every ≡ code.every
     → ((q : ℕ) → maps.get nat_cmp new.names q
     ≡ cond (is_at (nat_cmp name) q) (Some root) (maps.get nat_cmp code.names q))
     → Represents new (with_name seen name f)
-stands_bound code new seen name node root f was shows absent free is same_cache same_limit same_slack names =
+stands_bound code new seen name node root f was shows absent free is same_cache same_limit same_slack same_every names =
     stands_changed code new seen name (Some root) (insert code.manager.roots root node) was changes
-    (with_name seen name f) (Some f) refl refl refl
+    (with_name seen name f) (Some f) refl refl refl refl
     (distinct_bound seen.names name (not_named code seen name was free) was.once)
     (λ q. refl) held
   where
@@ -322,6 +327,7 @@ stands_bound code new seen name node root f was shows absent free is same_cache 
       cache = same_cache;
       limit = same_limit;
       slack = same_slack;
+      every = same_every;
       fresh = λ r e. let same : root ≡ r = cc in subst (λ k. get code.manager.roots k ≡ None) same absent;
       released = λ r at. let bad : ◌≡◌ {A = Option ℕ} None (Some r) = sym free ∙ at in absurd cc;
       others = λ r other differ.
@@ -397,10 +403,10 @@ one_root_more old new root node is =
 pub stands_named : (code new : RunState) (seen : State) (name root : ℕ) (f : Expression)
     → Represents (without code root) seen → HoldsValue code.manager root f → IsFree code name
     → new.manager ≡ code.manager → new.cache ≡ code.cache → new.limit ≡ code.limit → new.slack ≡ code.slack
-    → ((q : ℕ) → maps.get nat_cmp new.names q
+    → new.every ≡ code.every → ((q : ℕ) → maps.get nat_cmp new.names q
     ≡ cond (is_at (nat_cmp name) q) (Some root) (maps.get nat_cmp code.names q))
     → Represents new (with_name seen name f)
-stands_named code new seen name root f was holds free is same_cache same_limit same_slack names =
+stands_named code new seen name root f was holds free is same_cache same_limit same_slack same_every names =
     stands_bound (without code root) new seen name holds.is.code root f was
     (record {
       diagram = holds.diagram;
@@ -408,7 +414,7 @@ stands_named code new seen name root f was holds free is same_cache same_limit s
       of_value = holds.of_value;
     })
     (get_remove_same code.manager.roots root) free (is ∙ restored code.manager root holds.is.code holds.is.held)
-    same_cache same_limit same_slack names
+    same_cache same_limit same_slack same_every names
 
 -- no root more
 pub no_root_more : (old new : Table) (root : Option ℕ) → new ≡ record old { roots = removed old.roots root }
@@ -450,11 +456,11 @@ pub stands_released : (code new : RunState) (seen : State) (name : ℕ) (former 
     → former ≡ maps.get nat_cmp code.names name
     → new.manager ≡ record code.manager { roots = removed code.manager.roots former } → new.cache ≡ code.cache
     → new.limit ≡ code.limit → new.slack ≡ code.slack
-    → ((q : ℕ) → maps.get nat_cmp new.names q ≡ cond (is_at (nat_cmp name) q) None (maps.get nat_cmp code.names q))
+    → new.every ≡ code.every → ((q : ℕ) → maps.get nat_cmp new.names q ≡ cond (is_at (nat_cmp name) q) None (maps.get nat_cmp code.names q))
     → Represents new (dropped seen name)
-stands_released code new seen name former was had is same_cache same_limit same_slack names =
+stands_released code new seen name former was had is same_cache same_limit same_slack same_every names =
     stands_changed code new seen name None (removed code.manager.roots former) was changes (dropped seen name) None refl
-    refl refl (distinct_dropped seen.names name was.once) (named_dropped seen.names name) tt
+    refl refl refl (distinct_dropped seen.names name was.once) (named_dropped seen.names name) tt
   where
     changes : ChangesName code new name None (removed code.manager.roots former)
     changes = record {
@@ -463,6 +469,7 @@ stands_released code new seen name former was had is same_cache same_limit same_
       cache = same_cache;
       limit = same_limit;
       slack = same_slack;
+      every = same_every;
       fresh = λ r e. absurd cc;
       released = λ r at. removed_at code.manager.roots former r (had ∙ at);
       others = λ r other differ. removed_else code.manager.roots former r (λ e. differ (sym had ∙ e));
@@ -496,6 +503,7 @@ stands_swept code t cache most seen was kept serves unmarked = record {
   tree = was.tree ∙ ap plain_tree (sym kept.reached.vtree);
   limit = was.limit;
   slack = was.slack;
+  every = was.every;
   once = was.once;
   holds = λ q. holds_kept code.manager t _ _ kept (was.holds q);
   apart = was.apart;
@@ -531,6 +539,7 @@ stands_limited code limit seen was = record {
   tree = was.tree;
   limit = refl;
   slack = was.slack;
+  every = was.every;
   once = was.once;
   holds = was.holds;
   apart = was.apart;
@@ -545,13 +554,14 @@ stands_limited code limit seen was = record {
 
 -- where nothing changed, all is as before
 pub as_before : (code new : RunState) → new.manager ≡ code.manager → new.cache ≡ code.cache → new.limit ≡ code.limit
-    → new.slack ≡ code.slack → ((q : ℕ) → maps.get nat_cmp new.names q ≡ maps.get nat_cmp code.names q)
+    → new.slack ≡ code.slack → new.every ≡ code.every → ((q : ℕ) → maps.get nat_cmp new.names q ≡ maps.get nat_cmp code.names q)
     → IsAsBefore code new
-as_before code new is same_cache same_limit same_slack names = record {
+as_before code new is same_cache same_limit same_slack same_every names = record {
   represents = λ seen was. record {
     tree = was.tree ∙ ap (λ t. plain_tree t.vtree) (sym is);
     limit = was.limit ∙ sym same_limit;
     slack = was.slack ∙ sym same_slack;
+    every = was.every ∙ sym same_every;
     once = was.once;
     holds = λ q.
         subst (λ t. HoldsName t (maps.get nat_cmp new.names q) (named seen.names q)) (sym is)
@@ -572,7 +582,7 @@ as_before code new is same_cache same_limit same_slack names = record {
 -- a command that reads the state leaves it, whatever it answers
 pub as_before_self : {X E : Type 0} (code : RunState) (result : Result X E) → OnErr result (IsAsBefore code code)
 as_before_self code (Ok x) = tt
-as_before_self code (Err e) = as_before code code refl refl refl refl (λ q. refl)
+as_before_self code (Err e) = as_before code code refl refl refl refl refl (λ q. refl)
 
 -- a later table leaves all as before
 pub as_before_kept : (code : RunState) (t : Table) (cache : Entries) → KeepsAll code.manager t → Serves cache t
@@ -681,26 +691,36 @@ as_it_was old new seen was left =
     let now = left.represents seen was in
     (subst (λ t. Represents new (record seen { tree = t })) now.tree now, sym now.tree)
 
--- what a command that stops leaves is told by its tree
-pub left_state : (command : RunCommand) (old new : RunState) (seen : State) → Represents old seen
-    → IsLeft command old new
+-- and so is what an input leaves
+input_left : (input : Groups) (every : Option ℕ) (old new : RunState) (seen : State) → Represents old seen
+    → IsLeftByInput every input old new
     → Represents new (record seen { tree = plain_tree new.manager.vtree })
-    × IsTreeLeft seen command (plain_tree new.manager.vtree)
-left_state (commands.Minimise rounds) old new seen was left = (left.represents seen was, left.searched seen was)
-left_state (commands.Generated v g) old new seen was left = as_it_was old new seen was left
-left_state (commands.Input n) old new seen was left = as_it_was old new seen was left
-left_state (commands.Load n file) old new seen was left = as_it_was old new seen was left
-left_state (commands.Literal n literal) old new seen was left = as_it_was old new seen was left
-left_state (commands.Constant n value) old new seen was left = as_it_was old new seen was left
-left_state (commands.Combine operation n a b) old new seen was left = as_it_was old new seen was left
-left_state (commands.Negate n a) old new seen was left = as_it_was old new seen was left
-left_state (commands.Given n a literal) old new seen was left = as_it_was old new seen was left
-left_state (commands.Forget n a x) old new seen was left = as_it_was old new seen was left
-left_state (commands.Drop a) old new seen was left = as_it_was old new seen was left
-left_state (commands.Turn kind p) old new seen was left = as_it_was old new seen was left
-left_state (commands.Limit limit) old new seen was left = as_it_was old new seen was left
-left_state (commands.Same a b) old new seen was left = as_it_was old new seen was left
-left_state (commands.Size a) old new seen was left = as_it_was old new seen was left
-left_state (commands.Value a bits) old new seen was left = as_it_was old new seen was left
-left_state (commands.Write a file) old new seen was left = as_it_was old new seen was left
-left_state (commands.WriteVtree file) old new seen was left = as_it_was old new seen was left
+    × (IsGrown input seen (plain_tree new.manager.vtree) ⊎ IsGrowthBroken input seen (plain_tree new.manager.vtree))
+input_left input None old new seen was left =
+    let same = as_it_was old new seen was left in
+    (same.0, inl (record { done = 0; most = omega arith; course = same.1 }))
+input_left input (Some every) old new seen was left = (left.represents seen was, left.grown seen was)
+
+-- what a command that stops leaves is told by its tree
+pub left_state : (input : Groups) (command : RunCommand) (old new : RunState) (seen : State) → Represents old seen
+    → IsLeft input command old new
+    → Represents new (record seen { tree = plain_tree new.manager.vtree })
+    × IsTreeLeft input seen command (plain_tree new.manager.vtree)
+left_state input (commands.Minimise rounds) old new seen was left = (left.represents seen was, left.searched seen was)
+left_state input (commands.Generated v g) old new seen was left = as_it_was old new seen was left
+left_state input (commands.Input n) old new seen was left = input_left input old.every old new seen was left
+left_state input (commands.Load n file) old new seen was left = as_it_was old new seen was left
+left_state input (commands.Literal n literal) old new seen was left = as_it_was old new seen was left
+left_state input (commands.Constant n value) old new seen was left = as_it_was old new seen was left
+left_state input (commands.Combine operation n a b) old new seen was left = as_it_was old new seen was left
+left_state input (commands.Negate n a) old new seen was left = as_it_was old new seen was left
+left_state input (commands.Given n a literal) old new seen was left = as_it_was old new seen was left
+left_state input (commands.Forget n a x) old new seen was left = as_it_was old new seen was left
+left_state input (commands.Drop a) old new seen was left = as_it_was old new seen was left
+left_state input (commands.Turn kind p) old new seen was left = as_it_was old new seen was left
+left_state input (commands.Limit limit) old new seen was left = as_it_was old new seen was left
+left_state input (commands.Same a b) old new seen was left = as_it_was old new seen was left
+left_state input (commands.Size a) old new seen was left = as_it_was old new seen was left
+left_state input (commands.Value a bits) old new seen was left = as_it_was old new seen was left
+left_state input (commands.Write a file) old new seen was left = as_it_was old new seen was left
+left_state input (commands.WriteVtree file) old new seen was left = as_it_was old new seen was left

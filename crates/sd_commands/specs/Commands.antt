@@ -1,5 +1,5 @@
 -- The commands of a run, and what each comes to. A later command is a case more of `RunCommand` and of `Step`.
-use Rattle.std.specs.Prelude.{◌≡◌, ◌⊎◌, ℕ, ◌+◌, ◌<◌, ◌≤◌, Bool, true, false, not, ◌==◌, List, [], ◌∷◌, ◌++◌}
+use Rattle.std.specs.Prelude.{◌≡◌, ◌⊎◌, ℕ, zero, suc, ◌%◌, ◌<◌, ◌≤◌, Bool, true, false, not, ◌==◌, List, [], ◌∷◌, ◌++◌}
 use Rattle.std.specs.Prelude.{map, filter, length, codes, Option, Some, None, unwrap_or, if◌then◌else◌}
 use Rattle.sd_model.specs.Expression.{Expression, Constant, Atom, Combined, Negated, Conditioned, Forgotten}
 use Rattle.sd_model.specs.Expression.{expression_value, AreOneFunction}
@@ -20,12 +20,14 @@ use Rattle.sd_commands.specs.declared.command.RunCommand.TheVariants as commands
 use Rattle.sd_commands.specs.declared.command.NumberedCommand.{NumberedCommand}
 
 -- what a run holds between two commands: the bound names with their formulas, the last one first, the tree, the limit
--- of the total size, and how many hundredths of the size at its start a walk of a search may reach
+-- of the total size, how many hundredths of the size at its start a walk of a search may reach, and of which number a
+-- group's is to be a multiple, so that a search follows it
 pub record State : Type 0 where
   pub names : List (ℕ × Expression)
   pub tree : Tree
   pub limit : ℕ
   pub slack : ℕ
+  pub every : Option ℕ
 
 -- a command is done, with a new state and at most one effect; its place is not movable; or the total size passes the
 -- limit, at a group of the input or after the command
@@ -82,24 +84,40 @@ Binds state name f outcome = Settles (with_name state name f) outcome
 abbrev pub with_groups : Groups → State → ℕ → List Expression
 with_groups input state count = prefix_of input count ∷ formulas_of state
 
--- with so many groups, from 1 up to below this number, the total size is within the limit
-abbrev pub AreWithinBelow : Groups → State → ℕ → Type 0
-AreWithinBelow input state end = (count : ℕ) → 1 ≤ count → count < end
-    → AreWithin (with_groups input state count) state.tree state.limit
+-- a search follows the group of this number, counted from 1
+abbrev pub is_due : Option ℕ → ℕ → Bool
+is_due None group = false
+is_due (Some every) group = group % every == 0
 
--- this group is the first with which the total size passes the limit
+-- the tree after a group: where a search is due, one of one round finds it, and else it stays
+abbrev pub Follows : Bool → List Expression → ℕ → Tree → Tree → Type 0
+Follows true fs slack before after = (found : Found) × IsSearch fs slack 1 before found × (after ≡ found.tree)
+Follows false fs slack before after = after ≡ before
+
+-- So many groups of the input lead to this tree: with each of them the total size is within the limit, under the tree
+-- that is there then, and behind it a search over the same formulas follows where it is due.
+abbrev pub Grows : Groups → State → ℕ → Tree → Type 0
+Grows input state zero tree = tree ≡ state.tree
+Grows input state (suc done) tree =
+    (before : Tree) × Grows input state done before
+    × AreWithin (with_groups input state (suc done)) before state.limit
+    × Follows (is_due state.every (suc done)) (with_groups input state (suc done)) state.slack before tree
+
+-- this group is the first with which the total size passes the limit, under the tree to which those before it lead
 pub record PassesAtGroup (input : Groups) (state : State) (group size : ℕ) : Type 0 where
-  pub least : 1 ≤ group
+  pub done : ℕ
+  pub next : group ≡ suc done
   pub most : group ≤ length input.groups
-  pub before : AreWithinBelow input state group
-  pub passes : PassLimit (with_groups input state group) state.tree state.limit size
+  pub tree : Tree
+  pub before : Grows input state done tree
+  pub passes : PassLimit (with_groups input state group) tree state.limit size
 
--- The name is bound to the input if after each of its groups the total size is within the limit. Else the command is
--- refused at the first group after which it is not.
+-- The name is bound to the input, over the tree to which all groups lead, if with each of them the total size is within
+-- the limit. Else the command is refused at the first group with which it is not.
 abbrev pub BindsInput : Groups → State → ℕ → Outcome → Type 0
 BindsInput input state name outcome =
-    (AreWithinBelow input state (length input.groups + 1)
-    × (outcome ≡ Done (with_name state name (expression_of input)) []))
+    ((tree : Tree) × Grows input state (length input.groups) tree
+    × (outcome ≡ Done (with_name (record state { tree = tree }) name (expression_of input)) []))
     ⊎ ((group size : ℕ) × PassesAtGroup input state group size
     × (outcome ≡ OverLimit (Some group) size state.limit))
 

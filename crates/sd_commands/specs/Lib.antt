@@ -1,4 +1,5 @@
 pub mod Commands
 pub mod Effects
 pub mod Fits
+pub mod Growing
 pub mod Standing

@@ -1,5 +1,5 @@
 -- How the code represents a state of a run, and what a command leaves.
-use Rattle.std.specs.Prelude.{◌≡◌, ◌⊎◌, ℕ, List, [], ◌∷◌, map, Option, Some, None, Result, Ok, Err}
+use Rattle.std.specs.Prelude.{◌≡◌, ◌⊎◌, ℕ, suc, ◌≤◌, true, List, [], ◌∷◌, map, length, Option, Some, None, Result, Ok, Err}
 use Rattle.std.specs.Option.{IsSome}
 use Rattle.std.specs.declared.alloc.AllocError.{AllocError}
 use Rattle.std.specs.BTreeMap as maps
@@ -29,7 +29,7 @@ use Rattle.sd_search.specs.Search.{Found, IsSearch, IsSearchBegun}
 use Rattle.sd_search.specs.declared.error.SearchError.{SearchError}
 use Rattle.sd_search.specs.declared.error.SearchError.TheVariants as searching
 use Rattle.sd_commands.specs.Commands.{State, Done, OverLimit, NotMovable, Step, MayFill, named, formulas_of}
-use Rattle.sd_commands.specs.Commands.{formula_named, AreWithin, PassLimit}
+use Rattle.sd_commands.specs.Commands.{formula_named, AreWithin, PassLimit, with_groups, is_due, Grows}
 use Rattle.sd_commands.specs.declared.command.RunCommand.{RunCommand}
 use Rattle.sd_commands.specs.declared.command.RunCommand.TheVariants as commands
 use Rattle.sd_commands.specs.declared.command.Effect.{Effect as CodeEffect}
@@ -39,8 +39,8 @@ use Rattle.sd_commands.specs.declared.error.CommandError.TheVariants as errors
 use Rattle.sd_commands.specs.declared.state.RunState.{RunState}
 
 -- no name is bound
-abbrev pub start : Tree → ℕ → ℕ → State
-start tree limit slack = record { names = []; tree = tree; limit = limit; slack = slack }
+abbrev pub start : Tree → ℕ → ℕ → Option ℕ → State
+start tree limit slack every = record { names = []; tree = tree; limit = limit; slack = slack; every = every }
 
 -- the bound names
 abbrev pub names_of : State → List ℕ
@@ -79,6 +79,7 @@ pub record Represents (code : RunState) (state : State) : Type 0 where
   pub tree : state.tree ≡ plain_tree code.manager.vtree
   pub limit : state.limit ≡ code.limit
   pub slack : state.slack ≡ code.slack
+  pub every : state.every ≡ code.every
   pub once : AreDistinct (names_of state)
   pub holds : (name : ℕ) → HoldsName code.manager (maps.get nat_cmp code.names name) (named state.names name)
   pub apart : (a b root : ℕ) → maps.get nat_cmp code.names a ≡ Some root → maps.get nat_cmp code.names b ≡ Some root
@@ -102,10 +103,29 @@ IsSearched state rounds tree =
     IsSearchBegun (formulas_of state) state.slack rounds state.tree tree
     ⊎ ((found : Found) × IsSearch (formulas_of state) state.slack rounds state.tree found × (tree ≡ found.tree))
 
--- the tree that a command leaves where it stops: that of the state, but for a search
-abbrev pub IsTreeLeft : State → RunCommand → Tree → Type 0
-IsTreeLeft state (commands.Minimise rounds) tree = IsSearched state rounds tree
-IsTreeLeft state command tree = tree ≡ state.tree
+-- some groups of the input lead to this tree
+pub record IsGrown (input : Groups) (state : State) (tree : Tree) : Type 0 where
+  pub done : ℕ
+  pub most : done ≤ length input.groups
+  pub course : Grows input state done tree
+
+-- Some groups of the input, and one more that was within the limit, lead to the tree at which the search behind it was
+-- broken off.
+pub record IsGrowthBroken (input : Groups) (state : State) (tree : Tree) : Type 0 where
+  pub done : ℕ
+  pub most : suc done ≤ length input.groups
+  pub before : Tree
+  pub course : Grows input state done before
+  pub within : AreWithin (with_groups input state (suc done)) before state.limit
+  pub due : is_due state.every (suc done) ≡ true
+  pub begun : IsSearchBegun (with_groups input state (suc done)) state.slack 1 before tree
+
+-- The tree that a command leaves where it stops: that of the state, but for a search, and for the searches behind
+-- groups of the input.
+abbrev pub IsTreeLeft : Groups → State → RunCommand → Tree → Type 0
+IsTreeLeft input state (commands.Minimise rounds) tree = IsSearched state rounds tree
+IsTreeLeft input state (commands.Input name) tree = IsGrown input state tree ⊎ IsGrowthBroken input state tree
+IsTreeLeft input state command tree = tree ≡ state.tree
 
 -- What a search that stops leaves: the code represents each state that it did over the tree after the walks that were
 -- finished, and each root keeps its node.
@@ -115,10 +135,25 @@ pub record IsLeftBySearch (rounds : ℕ) (old new : RunState) : Type 0 where
   pub searched : (seen : State) → Represents old seen → IsSearched seen rounds (plain_tree new.manager.vtree)
   pub roots : new.manager.roots ≡ old.manager.roots
 
--- what a command that stops leaves: all as before, but for the tree of a search
-abbrev pub IsLeft : RunCommand → RunState → RunState → Type 0
-IsLeft (commands.Minimise rounds) old new = IsLeftBySearch rounds old new
-IsLeft command old new = IsAsBefore old new
+-- What an input with searches behind its groups leaves where it stops: the code represents each state that it did over
+-- the tree after the walks that were finished, and each root of a name keeps its node.
+pub record IsLeftByGroups (input : Groups) (old new : RunState) : Type 0 where
+  pub represents : (seen : State) → Represents old seen
+      → Represents new (record seen { tree = plain_tree new.manager.vtree })
+  pub grown : (seen : State) → Represents old seen → IsGrown input seen (plain_tree new.manager.vtree)
+      ⊎ IsGrowthBroken input seen (plain_tree new.manager.vtree)
+  pub roots : new.manager.roots ≡ old.manager.roots
+
+-- without such searches all is as before
+abbrev pub IsLeftByInput : Option ℕ → Groups → RunState → RunState → Type 0
+IsLeftByInput None input old new = IsAsBefore old new
+IsLeftByInput (Some every) input old new = IsLeftByGroups input old new
+
+-- what a command that stops leaves: all as before, but for the tree of searches
+abbrev pub IsLeft : Groups → RunCommand → RunState → RunState → Type 0
+IsLeft input (commands.Minimise rounds) old new = IsLeftBySearch rounds old new
+IsLeft input (commands.Input name) old new = IsLeftByInput old.every input old new
+IsLeft input command old new = IsAsBefore old new
 
 -- The manager holds what the names of the state stand for: its vtree is the state's tree, for each bound name a root
 -- holds its formula, and each root that is held holds that of a bound name.

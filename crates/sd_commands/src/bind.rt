@@ -1,5 +1,5 @@
 //! The commands that bind a name or set the limit.
-ghost use Rattle.std.specs.Prelude.{◌≡◌, ◌<◌, ◌≤◌, ◌+◌, ◌-◌, ◌^◌, IfOk, IfErr, OnErr};
+ghost use Rattle.std.specs.Prelude.{◌≡◌, ◌<◌, ◌≤◌, ◌+◌, ◌-◌, ◌^◌, Some, None, IfOk, IfErr, OnErr};
 ghost use Rattle.sd_model.specs.Tree.{leaves};
 ghost use Rattle.sd_model.specs.Expression.{Expression};
 ghost use Rattle.sd_vtree.specs.Numbered.{plain_tree};
@@ -7,10 +7,11 @@ ghost use Rattle.sd_formula.specs.Dimacs.{Groups};
 ghost use Rattle.sd_manager.specs.Literals.{IsLiteralTo};
 ghost use Rattle.sd_commands.specs.Commands.{State, with_name};
 ghost use Rattle.sd_commands.specs.Standing.{Represents, ShowsFormula, HasRoot, IsFree, SettlesAt, IsNotSettled};
-ghost use Rattle.sd_commands.specs.Standing.{StepsTo, StopsAt, IsAsBefore, root_count};
+ghost use Rattle.sd_commands.specs.Standing.{StepsTo, StopsAt, IsAsBefore, IsLeftByInput, IsLeftByGroups, root_count};
 
 use crate::command::{Effect, RunCommand};
 use crate::error::{CommandError, compiling_error, operation_error};
+use crate::growth::grow;
 use crate::state::RunState;
 use sd_apply::negate;
 use sd_compile::laws::total_of_formulas;
@@ -60,6 +61,34 @@ pub(crate) fn bind_input(
         (λ effect. StepsTo input.now seen (RunCommand.Input name) state.new effect) }
     ensures stops { (seen : State) → Represents state.old seen →
         IfErr result (λ e. StopsAt input.now seen (RunCommand.Input name) state.new.manager e) }
+    ensures err { OnErr result (IsLeftByInput state.old.every input.now state.old state.new) }
+    ensures variables { leaves (plain_tree state.new.manager.vtree) ≡ leaves (plain_tree
+        state.old.manager.vtree) }
+    ensures roots { root_count state.new ≤ root_count state.old + 1 }
+{
+    match state.every {
+        None => bind_compiled(alloc, input, state, name),
+        Some(every) => bind_grown(alloc, input, state, name, every),
+    }
+}
+
+// The same where no search follows a group.
+fn bind_compiled(
+    alloc: Global,
+    input: &Formula,
+    state: &mut RunState,
+    name: u32,
+) -> Result<Option<Effect>, CommandError>
+    requires represents { (seen : State) × Represents state.old seen }
+    requires variables { leaves (plain_tree state.old.manager.vtree) ≡ input.now.variables }
+    requires free { IsFree state.old name }
+    requires room { root_count state.old < 2 ^ 32 - 1 }
+    requires every { state.old.every ≡ None }
+    ensures done { (seen : State) → Represents state.old seen →
+        IfOk result
+        (λ effect. StepsTo input.now seen (RunCommand.Input name) state.new effect) }
+    ensures stops { (seen : State) → Represents state.old seen →
+        IfErr result (λ e. StopsAt input.now seen (RunCommand.Input name) state.new.manager e) }
     ensures err { OnErr result (IsAsBefore state.old state.new) }
     ensures vtree { state.new.manager.vtree ≡ state.old.manager.vtree }
     ensures roots { root_count state.new ≤ root_count state.old + 1 }
@@ -69,6 +98,39 @@ pub(crate) fn bind_input(
     let root = match compile(alloc, &mut state.manager, &mut state.cache, input, limit) {
         Ok(root) => root,
         Err(error) => return Err(compiling_error(error)),
+    };
+    match state.name_root(name, root) {
+        Ok(()) => Ok(None),
+        Err(_) => Err(CommandError::OutOfMemory),
+    }
+}
+
+// The same where a search follows each group whose number is a multiple of `every`.
+fn bind_grown(
+    alloc: Global,
+    input: &Formula,
+    state: &mut RunState,
+    name: u32,
+    every: u32,
+) -> Result<Option<Effect>, CommandError>
+    requires represents { (seen : State) × Represents state.old seen }
+    requires variables { leaves (plain_tree state.old.manager.vtree) ≡ input.now.variables }
+    requires free { IsFree state.old name }
+    requires room { root_count state.old < 2 ^ 32 - 1 }
+    requires every { state.old.every ≡ Some every }
+    ensures done { (seen : State) → Represents state.old seen →
+        IfOk result
+        (λ effect. StepsTo input.now seen (RunCommand.Input name) state.new effect) }
+    ensures stops { (seen : State) → Represents state.old seen →
+        IfErr result (λ e. StopsAt input.now seen (RunCommand.Input name) state.new.manager e) }
+    ensures err { OnErr result (IsLeftByGroups input.now state.old state.new) }
+    ensures variables { leaves (plain_tree state.new.manager.vtree) ≡ leaves (plain_tree
+        state.old.manager.vtree) }
+    ensures roots { root_count state.new ≤ root_count state.old + 1 }
+{
+    let root = match grow(alloc, input, state, every) {
+        Ok(root) => root,
+        Err(error) => return Err(error),
     };
     match state.name_root(name, root) {
         Ok(()) => Ok(None),

@@ -6,6 +6,7 @@ mod bind;
 mod command;
 mod effects;
 mod error;
+mod growth;
 mod moving;
 mod searching;
 mod state;

@@ -4,7 +4,7 @@ ghost use Rattle.sd_model.specs.Tree.{leaves};
 ghost use Rattle.sd_vtree.specs.Numbered.{plain_tree};
 ghost use Rattle.sd_formula.specs.Dimacs.{Groups};
 ghost use Rattle.sd_commands.specs.Commands.{State, search_line};
-ghost use Rattle.sd_commands.specs.Standing.{Represents, StepsTo, StopsAt, IsLeft, root_count};
+ghost use Rattle.sd_commands.specs.Standing.{Represents, StepsTo, StopsAt, IsLeftBySearch, root_count};
 
 use crate::command::{Effect, RunCommand};
 use crate::error::{CommandError, search_error};
@@ -27,7 +27,7 @@ pub(crate) fn search(
         IfOk result (λ effect. StepsTo input seen (RunCommand.Minimise rounds) state.new effect) }
     ensures stops { (input : Groups) (seen : State) → Represents state.old seen →
         IfErr result (λ e. StopsAt input seen (RunCommand.Minimise rounds) state.new.manager e) }
-    ensures err { OnErr result (IsLeft (RunCommand.Minimise rounds) state.old state.new) }
+    ensures err { OnErr result (IsLeftBySearch rounds state.old state.new) }
     ensures variables { leaves (plain_tree state.new.manager.vtree) ≡ leaves (plain_tree
         state.old.manager.vtree) }
     ensures roots { root_count state.new ≤ root_count state.old + 1 }

@@ -26,7 +26,8 @@ use std::collections::BTreeMap;
 /// The most elements that the arena of the diagrams may hold.
 const BOUND: u32 = 2_147_483_647;
 
-/// The diagrams of a run, a root for each bound name, the limit of the total size, and the slack of its searches.
+/// The diagrams of a run, a root for each bound name, the limit of the total size, the slack of its searches, and of
+/// which number a group's is to be a multiple, so that a search follows it.
 #[derive(Drop)]
 pub struct RunState {
     pub manager: Manager,
@@ -34,15 +35,22 @@ pub struct RunState {
     pub(crate) names: BTreeMap<u32, Root>,
     pub(crate) limit: u32,
     pub(crate) slack: u32,
+    pub(crate) every: Option<u32>,
     // the number of elements in use from which on a sweep pays
     pub(crate) most: u32,
 }
 
 impl RunState {
     /// No name is bound. The only error: out of memory.
-    pub fn new(alloc: Global, vtree: Vtree, limit: u32, slack: u32) -> Result<RunState, AllocError>
+    pub fn new(
+        alloc: Global,
+        vtree: Vtree,
+        limit: u32,
+        slack: u32,
+        every: Option<u32>,
+    ) -> Result<RunState, AllocError>
         ensures represents { IfOk result (λ state.
-            Represents state (start (plain_tree vtree) limit slack)) }
+            Represents state (start (plain_tree vtree) limit slack every)) }
         ensures vtree { IfOk result (λ state. state.manager.vtree ≡ vtree) }
         ensures roots { IfOk result (λ state. root_count state ≡ 0) }
     {
@@ -54,6 +62,7 @@ impl RunState {
             names: BTreeMap::new(alloc),
             limit,
             slack,
+            every,
             most: LEAST_GARBAGE,
         })
     }

@@ -26,7 +26,7 @@ use std::alloc::{AllocError, Global};
 /// where the total size passes the limit after a command that binds a name, moves the vtree or sets the limit, or after
 /// a group of the input; ArenaFull where the elements of a node find no room in the arena; and OutOfMemory where memory
 /// runs out. Then the names, the tree, the limit and what each root holds are as before; but a search leaves the vtree
-/// after the walks that were finished, where each root holds what it held.
+/// after the walks that were finished, where each root holds what it held, and so do those behind groups of the input.
 pub fn step(
     alloc: Global,
     input: &Formula,
@@ -42,7 +42,7 @@ pub fn step(
         (λ effect. StepsTo input.now seen command.now state.new effect) }
     ensures stops { (seen : State) → Represents state.old seen →
         IfErr result (λ e. StopsAt input.now seen command.now state.new.manager e) }
-    ensures err { OnErr result (IsLeft command.now state.old state.new) }
+    ensures err { OnErr result (IsLeft input.now command.now state.old state.new) }
     ensures variables { leaves (plain_tree state.new.manager.vtree) ≡ leaves (plain_tree
         state.old.manager.vtree) }
     ensures roots { root_count state.new ≤ root_count state.old + 1 }

@@ -58,7 +58,7 @@ fn said(
     let Ok(vtree) = Vtree::balanced(alloc, variables) else {
         return Err(CommandError::OutOfMemory);
     };
-    let Ok(mut state) = RunState::new(alloc, vtree, limit, 200) else {
+    let Ok(mut state) = RunState::new(alloc, vtree, limit, 200, None) else {
         return Err(CommandError::OutOfMemory);
     };
     let mut text = Vec::new(alloc);

@@ -1,4 +1,4 @@
-use Rattle.std.proofs.Common.{◌+◌, drop, sym, ap, subst, ◌∙◌, arith}
+use Rattle.std.proofs.Common.{◌+◌, drop, sym, ap, subst, ◌∙◌, arith, None}
 use Rattle.sd_model.specs.Tree.{leaves}
 use Rattle.sd_model.specs.StartTrees.{balanced_tree}
 use Rattle.sd_vtree.specs.Numbered.{plain_tree}
@@ -26,7 +26,7 @@ step-requires c =
 
 pub loop-command-init : goal.loop-command-init
 loop-command-init c = record {
-  fit = (start (plain_tree c.in-Ok.vtree) c.args.limit 200, c.in-Ok-new.ensures.represents, c.requires.fit);
+  fit = (start (plain_tree c.in-Ok.vtree) c.args.limit 200 None, c.in-Ok-new.ensures.represents, c.requires.fit);
   tree =
       ap (λ v. leaves (plain_tree v)) c.in-Ok-new.ensures.vtree ∙ ap leaves c.in-Ok.ensures.tree
       ∙ (vtree_in_order (balanced_tree c.args.variables) c.args.variables

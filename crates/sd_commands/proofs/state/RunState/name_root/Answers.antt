@@ -15,7 +15,7 @@ sweep-requires c = record {
   represents = (
     with_name c.requires.represents.0 c.args.name c.requires.holds.0,
     stands_named c.args.self.now _ c.requires.represents.0 c.args.name c.args.root c.requires.holds.0
-        c.requires.represents.1 c.requires.holds.1 c.requires.free refl refl refl refl
+        c.requires.represents.1 c.requires.holds.1 c.requires.free refl refl refl refl refl
         (λ q. c.in-Ok.ensures.updates.0 q),
   );
 }
@@ -31,7 +31,7 @@ release-requires c = record {
 pub returns-in-Ok-clause-represents : goal.returns-in-Ok-clause-represents
 returns-in-Ok-clause-represents c = λ seen f was holds.
     c.sweep.ensures.represents (with_name seen c.args.name f)
-    (stands_named c.args.self.now _ seen c.args.name c.args.root f was holds c.requires.free refl refl refl refl
+    (stands_named c.args.self.now _ seen c.args.name c.args.root f was holds c.requires.free refl refl refl refl refl
     (λ q. c.in-Ok.ensures.updates.0 q))
 
 pub returns-in-Err-clause-err : goal.returns-in-Err-clause-err
@@ -39,7 +39,7 @@ returns-in-Err-clause-err c =
     as_before (without c.args.self.now c.args.root) _
     (c.release.ensures.released
     ∙ ap (without_root c.args.self.now.manager) (ap (λ p. p.1) c.in-Err.ensures.value_returned))
-    refl refl refl (λ q. ap (lookup (is_at (nat_cmp q))) c.in-Err.ensures.err)
+    refl refl refl refl (λ q. ap (lookup (is_at (nat_cmp q))) c.in-Err.ensures.err)
 
 pub returns-in-Err-clause-roots : goal.returns-in-Err-clause-roots
 returns-in-Err-clause-roots c = no_root_more c.args.self.now.manager _ (Some _) c.release.ensures.released

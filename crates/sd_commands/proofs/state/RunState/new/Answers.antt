@@ -6,8 +6,8 @@ use Rattle.sd_commands.proofs.state.RunState.new.Goals as goal
 
 pub returns-clause-represents : goal.returns-clause-represents
 returns-clause-represents c =
-    stands_first _ c.args.vtree c.args.limit c.args.slack c.in_ok-manager.ensures.ok c.in_ok-cache.ensures
-    c.new-3.ensures.empty refl refl
+    stands_first _ c.args.vtree c.args.limit c.args.slack c.args.every c.in_ok-manager.ensures.ok c.in_ok-cache.ensures
+    c.new-3.ensures.empty refl refl refl
 
 pub returns-clause-roots : goal.returns-clause-roots
 returns-clause-roots c = ap (λ t. len t.roots) c.in_ok-manager.ensures.ok ∙ len-empty nat_cmp ℕ
