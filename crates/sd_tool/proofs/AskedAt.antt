@@ -1,6 +1,6 @@
 -- What a run asks of the shelf, status by status.
-use Rattle.std.proofs.Common.{◌≡◌, ◌⊎◌, ℕ, true, false, List, [], ◌∷◌, ◌++◌, map, Option, Some, None, Result, Ok, Err}
-use Rattle.std.proofs.Common.{inl, inr, refl, sym, ap, subst, ◌∙◌, Bool, if◌then◌else◌}
+use Rattle.std.proofs.Common.{◌≡◌, ◌⊎◌, ℕ, List, [], ◌∷◌, ◌++◌, map, Option, Some, None, Result, Ok, Err}
+use Rattle.std.proofs.Common.{inl, inr, refl, sym, ap, subst, ◌∙◌}
 use Rattle.std.proofs.lemmas.List.{append-nil}
 use Rattle.sd_base.specs.Asked.{Request, ToRead, ToWrite}
 use Rattle.sd_base.specs.Files.{Files}
@@ -41,10 +41,9 @@ use Rattle.sd_tool.specs.Readings.{Input, Reading, Refuses, Begins, Reads, Text,
 use Rattle.sd_tool.specs.Readings.{reading_of, with_job, with_input, with_input_word, with_formula, with_tree_word}
 use Rattle.sd_tool.specs.Readings.{with_tree, with_vtree_text, with_vtree_reading, with_commands, script_reading}
 use Rattle.sd_tool.specs.Readings.{with_script_text, with_script_reading, with_lines, with_action, with_sdd}
-use Rattle.sd_tool.specs.Readings.{with_sdd_reading, in_line, is_plain, file_name, plan_for}
+use Rattle.sd_tool.specs.Readings.{with_sdd_reading, in_line, file_name, plan_for}
 use Rattle.sd_tool.specs.Refusals.{refusal_status}
 use Rattle.sd_tool.specs.declared.refusal.Refusal.{Refusal}
-use Rattle.sd_tool.specs.declared.refusal.Refusal.TheVariants.{NotYet}
 use Rattle.sd_tool.proofs.ByStatus.{no_idle}
 
 -- ---- the words are refused before any reading
@@ -159,16 +158,11 @@ none_read : (files : Option Files) (words : List (List ℕ)) (names : List (List
     → ReadsBy files (reading_of words) names (Refuses refusal) → refusal_status refusal ≡ 1 → names ≡ []
 none_read files words names refusal = go (job_of words) names
   where
-    by : (job : Job) (b : Bool)
-        → AreAccepted (if b then with_input_word job job.input else Refuses NotYet)
-    by job true = accepted_input_word job job.input
-    by job false = λ e. cc
-
     go : (job : Result Job WordsFault) (names : List (List ℕ)) → ReadsBy files (with_job job) names (Refuses refusal)
         → refusal_status refusal ≡ 1 → names ≡ []
     go (Err fault) [] a e = refl
     go (Err fault) (x ∷ xs) a e = absurd a
-    go (Ok job) names a e = absurd (accepted_on files (with_job (Ok job)) names refusal (by job (is_plain job)) a e)
+    go (Ok job) names a e = absurd (accepted_on files (with_job (Ok job)) names refusal (accepted_input_word job job.input) a e)
 
 -- ---- the order
 
@@ -230,7 +224,7 @@ asked_at {asks = asks} words status kept old new went = record {
     none (NotMovable l) goes is s = cc
 
     alone : (end : End) → GoesTo asks words old.contents.files went.effects end → status ≡ status_of end
-        → (status ≡ 1) ⊎ (status ≡ 2) ⊎ (status ≡ 5) ⊎ (status ≡ 9)
+        → (status ≡ 1) ⊎ (status ≡ 2) ⊎ (status ≡ 5)
         → (names : List (List ℕ)) × asks (map ToRead names)
     alone Finished goes is s = no_idle status 0 refl is s
     alone (Refused refusal) (inl p) is s = (p.0.names, p.0.asked)

@@ -23,25 +23,24 @@ use Rattle.sd_tool.proofs.NotOutOfMemory.{refused_of_text}
 -- the statuses of refusals, those of them that come before the commands alone, and with these that of a file that was
 -- not read
 abbrev pub is_refused : ℕ → Bool
-is_refused n = n == 1 || (n == 2 || (n == 3 || n == 9))
+is_refused n = n == 1 || (n == 2 || n == 3)
 
 abbrev pub is_early : ℕ → Bool
-is_early n = n == 1 || (n == 2 || n == 9)
+is_early n = n == 1 || n == 2
 
 abbrev pub is_idle : ℕ → Bool
 is_idle n = n == 5 || is_early n
 
 -- a refusal has one of its statuses
-one_of_four : (refusal : Refusal) (status : ℕ) → status ≡ refusal_status refusal
-    → (status ≡ 1) ⊎ (status ≡ 2) ⊎ (status ≡ 3) ⊎ (status ≡ 9)
-one_of_four refusals.NotYet status is = inr (inr (inr is))
-one_of_four (refusals.BadWords fault) status is = inl is
-one_of_four (refusals.TooLong file) status is = inr (inl is)
-one_of_four (refusals.BadFormula file fault) status is = inr (inl is)
-one_of_four (refusals.BadVtree file fault) status is = inr (inl is)
-one_of_four (refusals.BadSdd file fault) status is = inr (inl is)
-one_of_four (refusals.LongScript file) status is = inr (inr (inl is))
-one_of_four (refusals.BadScript file fault) status is = inr (inr (inl is))
+one_of_three : (refusal : Refusal) (status : ℕ) → status ≡ refusal_status refusal
+    → (status ≡ 1) ⊎ (status ≡ 2) ⊎ (status ≡ 3)
+one_of_three (refusals.BadWords fault) status is = inl is
+one_of_three (refusals.TooLong file) status is = inr (inl is)
+one_of_three (refusals.BadFormula file fault) status is = inr (inl is)
+one_of_three (refusals.BadVtree file fault) status is = inr (inl is)
+one_of_three (refusals.BadSdd file fault) status is = inr (inl is)
+one_of_three (refusals.LongScript file) status is = inr (inr is)
+one_of_three (refusals.BadScript file fault) status is = inr (inr is)
 
 -- a test tells two statuses apart
 apart : {A : Type 0} (test : ℕ → Bool) (status a b : ℕ) → status ≡ a → status ≡ b → test a ≡ false → test b ≡ true → A
@@ -52,31 +51,28 @@ apart test status a b is other no_ yes_ = absurd (differ (sym no_ ∙ ap test (s
 
 -- a status that is none of a refusal
 no_refused : {A : Type 0} (status a : ℕ) → is_refused a ≡ false → status ≡ a
-    → (status ≡ 1) ⊎ (status ≡ 2) ⊎ (status ≡ 3) ⊎ (status ≡ 9) → A
+    → (status ≡ 1) ⊎ (status ≡ 2) ⊎ (status ≡ 3) → A
 no_refused status a other is (inl s) = apart is_refused status a 1 is s other refl
 no_refused status a other is (inr (inl s)) = apart is_refused status a 2 is s other refl
-no_refused status a other is (inr (inr (inl s))) = apart is_refused status a 3 is s other refl
-no_refused status a other is (inr (inr (inr s))) = apart is_refused status a 9 is s other refl
+no_refused status a other is (inr (inr s)) = apart is_refused status a 3 is s other refl
 
 -- nor one that comes before the commands alone
 no_early : {A : Type 0} (status a : ℕ) → is_early a ≡ false → status ≡ a
-    → (status ≡ 1) ⊎ (status ≡ 2) ⊎ (status ≡ 9) → A
+    → (status ≡ 1) ⊎ (status ≡ 2) → A
 no_early status a other is (inl s) = apart is_early status a 1 is s other refl
-no_early status a other is (inr (inl s)) = apart is_early status a 2 is s other refl
-no_early status a other is (inr (inr s)) = apart is_early status a 9 is s other refl
+no_early status a other is (inr s) = apart is_early status a 2 is s other refl
 
 -- nor that of a file that was not read
 pub no_idle : {A : Type 0} (status a : ℕ) → is_idle a ≡ false → status ≡ a
-    → (status ≡ 1) ⊎ (status ≡ 2) ⊎ (status ≡ 5) ⊎ (status ≡ 9) → A
+    → (status ≡ 1) ⊎ (status ≡ 2) ⊎ (status ≡ 5) → A
 no_idle status a other is (inl s) = apart is_idle status a 1 is s other refl
 no_idle status a other is (inr (inl s)) = apart is_idle status a 2 is s other refl
-no_idle status a other is (inr (inr (inl s))) = apart is_idle status a 5 is s other refl
-no_idle status a other is (inr (inr (inr s))) = apart is_idle status a 9 is s other refl
+no_idle status a other is (inr (inr s)) = apart is_idle status a 5 is s other refl
 
 -- a refusal has no other status
 pub other_status : {A : Type 0} (refusal : Refusal) (status a : ℕ) → status ≡ refusal_status refusal
     → is_refused a ≡ false → status ≡ a → A
-other_status refusal status a is other same = no_refused status a other same (one_of_four refusal status is)
+other_status refusal status a is other same = no_refused status a other same (one_of_three refusal status is)
 
 -- another number
 no_same : {A : Type 0} (status a b : ℕ) → status ≡ a → (a == b) ≡ false → (b == b) ≡ true → status ≡ b → A
@@ -232,19 +228,17 @@ end_finished words status kept old new is keeps = record {
 }
 
 -- a refusal has one of the statuses
-among_all : (status : ℕ) → (status ≡ 1) ⊎ (status ≡ 2) ⊎ (status ≡ 3) ⊎ (status ≡ 9) → (status ≡ 0) ⊎ (status ≡ 1)
+among_all : (status : ℕ) → (status ≡ 1) ⊎ (status ≡ 2) ⊎ (status ≡ 3) → (status ≡ 0) ⊎ (status ≡ 1)
     ⊎ (status ≡ 2) ⊎ (status ≡ 3) ⊎ (status ≡ 4) ⊎ (status ≡ 5) ⊎ (status ≡ 6) ⊎ (status ≡ 7) ⊎ (status ≡ 8)
-    ⊎ (status ≡ 9)
 among_all status (inl s) = inr (inl s)
 among_all status (inr (inl s)) = inr (inr (inl s))
-among_all status (inr (inr (inl s))) = inr (inr (inr (inl s)))
-among_all status (inr (inr (inr s))) = inr (inr (inr (inr (inr (inr (inr (inr (inr s))))))))
+among_all status (inr (inr s)) = inr (inr (inr (inl s)))
 
 -- where the words or a text were refused
 end_refused : (words : List (List ℕ)) (status : ℕ) (kept : Option Table) (old new : Moment) (refusal : Refusal)
     → status ≡ refusal_status refusal → kept ≡ None → IsRefused words status old new → HasEnd words status kept old new
 end_refused words status kept old new refusal is keeps refused = record {
-  one_of = among_all status (one_of_four refusal status is);
+  one_of = among_all status (one_of_three refusal status is);
   refused = λ s. refused;
   script = λ s. inl refused;
   over_limit = λ s. other_status refusal status 4 is refl s;
@@ -328,7 +322,7 @@ end_no_memory words status kept old new is keeps = record {
 end_full : (words : List (List ℕ)) (status : ℕ) (kept : Option Table) (old new : Moment) → status ≡ 8
     → WasFull words kept old new → HasEnd words status kept old new
 end_full words status kept old new is full = record {
-  one_of = inr (inr (inr (inr (inr (inr (inr (inr (inl is))))))));
+  one_of = inr (inr (inr (inr (inr (inr (inr (inr is)))))));
   refused = λ s. no_early status 8 refl is s;
   script = λ s. no_same status 8 3 is refl refl s;
   over_limit = λ s. no_same status 8 4 is refl refl s;

@@ -85,7 +85,6 @@ cause_from plan effects (Unmoved l) files others first mid last ends fewer cause
 
 -- a refusal has not the status of a full arena
 pub no_refusal : (refusal : Refusal) → refusal_status refusal ≡ 8 → ⊥
-no_refusal refusals.NotYet e = let bad : ⊥ = cc in bad
 no_refusal (refusals.BadWords fault) e = let bad : ⊥ = cc in bad
 no_refusal (refusals.TooLong file) e = let bad : ⊥ = cc in bad
 no_refusal (refusals.BadFormula file fault) e = let bad : ⊥ = cc in bad

@@ -1,6 +1,6 @@
 -- A run with a script of four lines writes the text of two formulas, joined.
-use Rattle.std.proofs.Common.{◌≡◌, ◌⊎◌, ℕ, Bool, true, false, ◌&&◌, List, [], ◌∷◌, ◌++◌, Option, Some}
-use Rattle.std.proofs.Common.{Ok, inl, inr, refl, sym, ap, subst, ◌∙◌, if◌then◌else◌, codes, pos}
+use Rattle.std.proofs.Common.{◌≡◌, ◌⊎◌, ℕ, Bool, true, false, ◌&&◌, List, [], ◌∷◌, ◌++◌, Option, Some, None, length}
+use Rattle.std.proofs.Common.{Ok, inl, inr, refl, sym, ap, subst, ◌∙◌, codes, pos}
 use Rattle.std.proofs.lemmas.Bool.{eq-eqb, ne_eqb}
 use Rattle.std.specs.Option.{unwrap_or}
 use Rattle.sd_base.specs.Asked.{Request}
@@ -26,14 +26,13 @@ use Rattle.sd_commands.specs.Commands.{State, Done, Step, Steps, IsTextOf, named
 use Rattle.sd_commands.specs.declared.command.NumberedCommand.{NumberedCommand}
 use Rattle.sd_commands.specs.declared.command.RunCommand.{RunCommand}
 use Rattle.sd_commands.specs.declared.command.RunCommand.TheVariants as commands
-use Rattle.sd_commands.proofs.Outcomes.{settled_done, input_done}
+use Rattle.sd_commands.proofs.Outcomes.{settled_done, input_done, plain_growth}
 use Rattle.sd_tool.specs.Effects.{Contents, after}
 use Rattle.sd_tool.specs.Readings.{Plan, Reading, Refuses, Begins, Reads, Whole, ReadsTo, reading_of, with_job}
 use Rattle.sd_tool.specs.Readings.{with_input_word, with_input, with_formula, with_tree_word, with_tree}
 use Rattle.sd_tool.specs.Readings.{with_vtree_text, with_vtree_reading, with_commands, with_script_text}
 use Rattle.sd_tool.specs.Readings.{with_script_reading, script_reading, with_lines, with_action}
 use Rattle.sd_tool.specs.Readings.{Input, announcement, plan_for, file_name, input_file, in_line}
-use Rattle.sd_tool.specs.declared.refusal.Refusal.TheVariants as refusals
 use Rattle.sd_tool.specs.Ends.{Finished}
 use Rattle.sd_tool.specs.Devices.{Moment, NoneRose, HasDeviceCause}
 use Rattle.sd_tool.specs.Course.{MayEnd}
@@ -61,7 +60,7 @@ record OwnLine (input : Groups) (action : Action) (name : ℕ) (f : Expression) 
   command : RunCommand
   still : is_move command ≡ false
   acts : (v : ℕ) (script : Script) (next : RunCommand → Reading) → with_action v script next action ≡ next command
-  binds : (state : State) → BindsName input state command name f
+  binds : (state : State) → state.every ≡ None → BindsName input state command name f
 
 -- an equal name is bound to an equal formula
 binds_same : (input : Groups) (state : State) (command : RunCommand) (a b : ℕ × Expression) → Some a ≡ Some b
@@ -75,21 +74,26 @@ own_line input (actions.Input n) name f is = record {
   command = commands.Input n;
   still = refl;
   acts = λ v script next. refl;
-  binds = λ state. binds_same input state (commands.Input n) (n, expression_of input) (name, f) is
-      (λ next effects step. input_done input state next n effects step);
+  binds = λ state none. binds_same input state (commands.Input n) (n, expression_of input) (name, f) is
+      (λ next effects step.
+      let done = input_done input state next n effects step in
+      let tree = plain_growth input state (length input.groups) done.tree none done.course in (
+        done.next_is ∙ ap (λ t. with_name (record state { tree = t }) n (expression_of input)) tree,
+        done.quiet,
+      ));
 }
 own_line input (actions.Lit n literal) name f is = record {
   command = commands.Literal n literal;
   still = refl;
   acts = λ v script next. refl;
-  binds = λ state. binds_same input state (commands.Literal n literal) (n, Atom literal) (name, f) is
+  binds = λ state none. binds_same input state (commands.Literal n literal) (n, Atom literal) (name, f) is
       (λ next effects step. settled_done (with_name state n (Atom literal)) next effects step);
 }
 own_line input (actions.Constant n value) name f is = record {
   command = commands.Constant n value;
   still = refl;
   acts = λ v script next. refl;
-  binds = λ state. binds_same input state (commands.Constant n value) (n, Constant value) (name, f) is
+  binds = λ state none. binds_same input state (commands.Constant n value) (n, Constant value) (name, f) is
       (λ next effects step. settled_done (with_name state n (Constant value)) next effects step);
 }
 own_line input action name f is = let bad : ⊥ = cc in absurd bad
@@ -207,7 +211,6 @@ module _ (words : List (List ℕ)) (files : Files) (job : Job) (formula : Groups
       let named : ReadsTo told (reading_of words) asks =
       reads_same told _ _
       (ap with_job has.named
-      ∙ ap (λ b. if b then with_input_word job job.input else Refuses refusals.NotYet) has.plain
       ∙ file_asked job job.input has.input has.is_input) in
       let read : ReadsTo told asks (with_tree_word job formula job.tree) =
       inr (
@@ -265,9 +268,9 @@ joined_formula state f g h left right operation differ =
 -- four commands that are all done write the joined formula
 four_done : (input : Groups) (script : Script) (joined : Expression) (file : List ℕ)
     (two : JoinsTwo (expression_of input) script joined file) (state last : State) (effects : List Effect)
-    → Steps input state (four_commands input script joined file two) effects last
+    → state.every ≡ None → Steps input state (four_commands input script joined file two) effects last
     → (text : List ℕ) × IsTextOf state.tree (joined ∷ []) text × (effects ≡ Write file text ∷ [])
-four_done input script joined file two state last effects steps =
+four_done input script joined file two state last effects none steps =
     let one = own_line input two.first.action two.f two.left two.binds_f in
     let other = own_line input two.second.action two.g two.right two.binds_g in
     let second = in_line two.second other.command in
@@ -278,9 +281,9 @@ four_done input script joined file two state last effects steps =
     let value = Combined two.operation (formula_named b two.f) (formula_named b two.g) in
     let c = with_name b two.h value in
     let after_first = bind_done input state last two.f two.left (in_line two.first one.command)
-    (second ∷ combine ∷ write ∷ []) effects (one.binds state) steps in
+    (second ∷ combine ∷ write ∷ []) effects (one.binds state none) steps in
     let after_second = bind_done input a last two.g two.right second (combine ∷ write ∷ []) effects
-    (other.binds a) after_first in
+    (other.binds a none) after_first in
     let after_third = bind_done input b last two.h value combine (write ∷ []) effects
     (λ next done step. settled_done (with_name b two.h value) next done step) after_second in
     let done = write_done input c last two.h (file_name script two.number) two.last effects after_third in (
@@ -329,7 +332,7 @@ joined_at {asks = asks} words status kept old new went = λ files job formula tr
       λ zero_.
           let all = (effects_at words status kept old new went).all zero_ in
           writes files job formula tree script joined file two told
-          (not_announced job.input has.input formula has.is_input) led all.0
+          (not_announced job.input has.input formula has.is_input) has.plain led all.0
           (subst (λ f. MayEnd words f all.0 Finished) told all.1) all.2,
     )
   where
@@ -350,20 +353,20 @@ joined_at {asks = asks} words status kept old new went = λ files job formula tr
 
     writes : (files : Files) (job : Job) (formula : Groups) (tree : Tree) (script : Script) (joined : Expression)
         (file : List ℕ) (two : JoinsTwo (expression_of formula) script joined file) → old.contents.files ≡ Some files
-        → announcement job.input formula ≡ [] → ReadsTo (Some files) (reading_of words)
+        → announcement job.input formula ≡ [] → job.every ≡ None → ReadsTo (Some files) (reading_of words)
         (Begins (plan_for job formula tree (four_commands formula script joined file two)))
         → (effects : List Effect) → MayEnd words (Some files) effects Finished
         → new.contents ≡ after effects old.contents
         → WritesDiagram files tree joined file old.contents new.contents
-    writes files job formula tree script joined file two told none led effects (inl p) is = absurd p.0
-    writes files job formula tree script joined file two told none led effects (inr p) is =
+    writes files job formula tree script joined file two told none plain led effects (inl p) is = absurd p.0
+    writes files job formula tree script joined file two told none plain led effects (inr p) is =
         let cs = four_commands formula script joined file two in
         let plan = plan_for job formula tree cs in
         let same = one_plan words files plan p.0 led p.1 in
         let all = subst (λ (q : Plan). Steps q.input q.start q.commands effects p.2.0) same
         (whole_plan p.0 p.2.0 effects p.2.1) in
         let steps = subst (λ (l : List NumberedCommand). Steps plan.input plan.start (l ++ cs) effects p.2.0) none all in
-        let done = four_done formula script joined file two plan.start p.2.0 effects steps in
+        let done = four_done formula script joined file two plan.start p.2.0 effects plain steps in
         leaves_text files tree joined file done.0 effects old.contents new.contents told done.2 done.1 is
 
 -- ---- a script of this form

@@ -138,7 +138,7 @@ at_input input formula first state (inputs.Generate count seed) rest (d ∷ e �
 refused_group : (input : Groups) (state : State) (name : ℕ) (group : Option ℕ) (size limit : ℕ)
     → BindsInput input state name (PassesLimit group size limit)
     → (g : ℕ) × PassesAtGroup input state g size × (group ≡ Some g) × (limit ≡ state.limit)
-refused_group input state name group size limit (inl p) = let e = p.1 in let bad : ⊥ = cc in absurd bad
+refused_group input state name group size limit (inl p) = let e = p.2 in let bad : ⊥ = cc in absurd bad
 refused_group input state name group size limit (inr p) =
     let e = p.3 in
     let same : p.1 ≡ size = cc in
@@ -153,10 +153,10 @@ plan_of_input job formula tree = plan_for job formula tree (default_of job)
 -- where its commands pass the limit, the input does
 passes_among : (job : Job) (formula : Groups) (tree : Tree) (effects : List Effect) (line : ℕ) (group : Option ℕ)
     (size limit : ℕ) → EndsAmong (plan_of_input job formula tree) effects (OverLimit line group size limit)
-    → (g : ℕ) × PassesAtGroup formula (start tree job.limit job.slack) g size
+    → (g : ℕ) × PassesAtGroup formula (start tree job.limit job.slack job.every) g size
     × (OverLimit line group size limit ≡ OverLimit 1 (Some g) size job.limit)
 passes_among job formula tree effects line group size limit (state, next, at, is_line, refused) =
-    let first = start tree job.limit job.slack in
+    let first = start tree job.limit job.slack job.every in
     let is = at_input formula formula first state job.input (after_input job) at.reaches.done at.left next effects
     group size limit (quiet_after formula job) at.reaches.in_order at.reaches.steps refused in
     let own = subst (λ s. Step formula s (commands.Input 0) (PassesLimit group size limit)) is.state_is
@@ -172,7 +172,7 @@ passes_input : (words : List (List ℕ)) (files : Files) (job : Job) (formula : 
     (effects : List Effect) (line : ℕ) (group : Option ℕ) (size limit : ℕ) → IsInput words files job formula
     → IsStartTree files job.tree formula.variables tree
     → MayEnd words (Some files) effects (OverLimit line group size limit)
-    → (g : ℕ) × PassesAtGroup formula (start tree job.limit job.slack) g size
+    → (g : ℕ) × PassesAtGroup formula (start tree job.limit job.slack job.every) g size
     × (OverLimit line group size limit ≡ OverLimit 1 (Some g) size job.limit)
 passes_input words files job formula tree effects line group size limit input begins (inl p) = absurd p.0
 passes_input words files job formula tree effects line group size limit input begins (inr p) =
@@ -191,10 +191,10 @@ announced_steps formula state (inputs.Generate count seed) = (state, _, [], refl
 -- an input that passes the limit is where the words and files lead
 leads_to_limit : (words : List (List ℕ)) (files : Files) (job : Job) (formula : Groups) (tree : Tree) (group size : ℕ)
     → IsInput words files job formula → IsStartTree files job.tree formula.variables tree
-    → PassesAtGroup formula (start tree job.limit job.slack) group size
+    → PassesAtGroup formula (start tree job.limit job.slack job.every) group size
     → MayEnd words (Some files) (announces job.input formula) (OverLimit 1 (Some group) size job.limit)
 leads_to_limit words files job formula tree group size input begins passes =
-    let first = start tree job.limit job.slack in
+    let first = start tree job.limit job.slack job.every in
     inr (
       plan_of_input job formula tree,
       leads_to_plan words files job formula tree input begins,
@@ -231,7 +231,7 @@ limited_at words status kept old new went = λ files job formula tree told input
     only : (files : Files) (job : Job) (formula : Groups) (tree : Tree) → old.contents.files ≡ Some files
         → IsInput words files job formula → IsStartTree files job.tree formula.variables tree
         → PassedLimit words old new
-        → (group size : ℕ) × PassesAtGroup formula (start tree job.limit job.slack) group size
+        → (group size : ℕ) × PassesAtGroup formula (start tree job.limit job.slack job.every) group size
         × WritesEndLine (OverLimit 1 (Some group) size job.limit) old new
     only files job formula tree told input begins passed =
         let found = passes_input words files job formula tree passed.effects passed.at_line passed.group passed.size

@@ -1,6 +1,6 @@
 -- Where the readings of a run are over, a refusal is never OutOfMemory, and a plan begins with a vtree.
-use Rattle.std.proofs.Common.{◌≡◌, ℕ, ◌≤◌, Bool, true, false, List, [], ◌∷◌, ◌++◌, Option, Some, None, Result, Ok, Err}
-use Rattle.std.proofs.Common.{inl, inr, refl, sym, ap, subst, if◌then◌else◌, arith}
+use Rattle.std.proofs.Common.{◌≡◌, ℕ, ◌≤◌, List, [], ◌∷◌, ◌++◌, Option, Some, None, Result, Ok, Err}
+use Rattle.std.proofs.Common.{inl, inr, refl, sym, ap, subst, arith}
 use Rattle.sd_base.specs.Files.{Files}
 use Rattle.sd_model.specs.Tree.{Tree, IsVtree}
 use Rattle.sd_model.specs.StartTrees.{balanced_tree, right_tree, left_tree}
@@ -39,10 +39,10 @@ use Rattle.sd_tool.specs.Readings.{Plan, Input, Reading, Refuses, Begins, Reads,
 use Rattle.sd_tool.specs.Readings.{reading_of, with_job, with_input, with_input_word, with_formula, with_tree_word}
 use Rattle.sd_tool.specs.Readings.{with_tree, with_vtree_text, with_vtree_reading, with_commands, script_reading}
 use Rattle.sd_tool.specs.Readings.{with_script_text, with_script_reading, with_lines, with_action, with_sdd}
-use Rattle.sd_tool.specs.Readings.{with_sdd_reading, in_line, is_plain, file_name, plan_for, default_of}
+use Rattle.sd_tool.specs.Readings.{with_sdd_reading, in_line, file_name, plan_for, default_of}
 use Rattle.sd_tool.specs.Refusals.{IsOfText}
 use Rattle.sd_tool.specs.declared.refusal.Refusal.{Refusal}
-use Rattle.sd_tool.specs.declared.refusal.Refusal.TheVariants.{NotYet, BadWords, BadFormula, BadVtree, BadSdd}
+use Rattle.sd_tool.specs.declared.refusal.Refusal.TheVariants.{BadWords, BadFormula, BadVtree, BadSdd}
 use Rattle.sd_tool.specs.declared.refusal.Refusal.TheVariants.{BadScript}
 use Rattle.sd_tool.proofs.FormulaFaults.{not_out_of_memory_dimacs}
 use Rattle.sd_tool.proofs.ScriptFaults.{not_out_of_memory_script}
@@ -204,13 +204,8 @@ sound_input_word job (inputs.Generate count seed) fits =
 sound_words : (ws : List (List ℕ)) → AreSound (reading_of ws)
 sound_words ws = go (job_of ws) refl (not_out_of_memory_words ws)
   where
-    by : (job : Job) (b : Bool) → IsInRange job.input
-        → AreSound (if b then with_input_word job job.input else Refuses NotYet)
-    by job true fits = sound_input_word job job.input fits
-    by job false fits = tt
-
     go : (job : Result Job WordsFault) → job_of ws ≡ job → Never words.OutOfMemory job → AreSound (with_job job)
-    go (Ok job) is never = by job (is_plain job) (in_range ws job is)
+    go (Ok job) is never = sound_input_word job job.input (in_range ws job is)
     go (Err fault) is never = other_words_fault fault (λ same. never (ap Err same))
 
 -- what a run is refused for is not that memory ran out

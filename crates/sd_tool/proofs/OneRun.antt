@@ -1,7 +1,7 @@
 -- Over told files there is one course: where the words and the files lead to an end of their own, a run in which no
 -- device fails comes to that end, or memory ran out.
 use Rattle.std.proofs.Common.{◌≡◌, ◌⊎◌, ℕ, List, Option, Some, None, inl, inr, refl, sym}
-use Rattle.std.proofs.Common.{ap, subst, ◌∙◌, if◌then◌else◌}
+use Rattle.std.proofs.Common.{ap, subst, ◌∙◌}
 use Rattle.sd_base.specs.Asked.{Request}
 use Rattle.sd_base.specs.Files.{Files, Lacks}
 use Rattle.sd_model.specs.StartTrees.{balanced_tree, right_tree, left_tree}
@@ -19,7 +19,6 @@ use Rattle.sd_tool.specs.Readings.{Plan, Reading, Refuses, Begins, Reads, Text, 
 use Rattle.sd_tool.specs.Readings.{with_job, with_input_word, with_formula, with_tree_word, with_tree}
 use Rattle.sd_tool.specs.Readings.{with_vtree_text, with_vtree_reading, with_commands, plan_for, default_of}
 use Rattle.sd_tool.specs.declared.refusal.Refusal.{Refusal}
-use Rattle.sd_tool.specs.declared.refusal.Refusal.TheVariants as refusals
 use Rattle.sd_tool.specs.Ends.{End, Finished, Refused, Unreadable, Unwritable, OutOfMemory, ArenaFull, OverLimit}
 use Rattle.sd_tool.specs.Ends.{NotMovable}
 use Rattle.sd_tool.specs.Ends.{status_of}
@@ -211,9 +210,7 @@ leads_with_tree files job f tree (trees.File file) alone (bytes, there, short, r
 job_follows : (words : List (List ℕ)) (files : Files) (job : Job) (f : Groups) (input : IsInput words files job f)
     → ReadsTo (Some files) (reading_of words) (with_input_word job job.input)
 job_follows words files job f input =
-    reads_same (Some files) _ _
-    (ap with_job input.named
-    ∙ ap (λ b. if b then with_input_word job job.input else Refuses refusals.NotYet) input.plain)
+    reads_same (Some files) _ _ (ap with_job input.named)
 
 -- and to its formula
 formula_follows : (files : Files) (job : Job) (f : Groups) (word : InputWord) → IsFormulaOf files word f

@@ -15,23 +15,28 @@ use Rattle.sd_commands.specs.declared.state.RunState.{RunState}
 use Rattle.sd_tool.specs.PlanViews.{IsReadyWith, plan_with, behind}
 use Rattle.sd_tool.specs.Readings.{Begins, announcement, plan_for, for_file, search_of, in_lines}
 
--- the plan of the state's vtree, limit and slack
+-- the plan of the state's vtree, limit, slack and number for searches
 pub plan_made : (job : Job) (formula : Groups) (vtree : Numbered) (state : RunState) (all commands : List NumberedCommand)
     → all ≡ announcement job.input formula ++ commands → state.manager.vtree ≡ vtree
-    → Represents state (start (plain_tree vtree) job.limit job.slack)
+    → Represents state (start (plain_tree vtree) job.limit job.slack job.every)
     → Begins (plan_with formula state all) ≡ Begins (plan_for job formula (plain_tree vtree) commands)
 plan_made job formula vtree state all commands are same represents =
     ap (λ (l : List NumberedCommand). Begins (plan_with formula state l)) are
     ∙ ap (λ (k : ℕ). Begins (record {
       input = formula;
-      start = start (plain_tree state.manager.vtree) k state.slack;
+      start = start (plain_tree state.manager.vtree) k state.slack state.every;
       commands = announcement job.input formula ++ commands;
     })) (sym represents.limit)
     ∙ ap (λ (k : ℕ). Begins (record {
       input = formula;
-      start = start (plain_tree state.manager.vtree) job.limit k;
+      start = start (plain_tree state.manager.vtree) job.limit k state.every;
       commands = announcement job.input formula ++ commands;
     })) (sym represents.slack)
+    ∙ ap (λ (k : Option ℕ). Begins (record {
+      input = formula;
+      start = start (plain_tree state.manager.vtree) job.limit job.slack k;
+      commands = announcement job.input formula ++ commands;
+    })) (sym represents.every)
     ∙ ap (λ (t : Numbered). Begins (plan_for job formula (plain_tree t) commands)) same
 
 -- the commands behind the line of a generated formula can be done where they can be without it
@@ -56,16 +61,18 @@ announced_few word formula all commands are few =
     go (inputs.Generate count seed) = omega arith
 
 -- it can be carried out
-pub ready_made : (formula : Groups) (vtree : Numbered) (limit slack : ℕ) (state : RunState)
+pub ready_made : (formula : Groups) (vtree : Numbered) (limit slack : ℕ) (every : Option ℕ) (state : RunState)
     (commands : List NumberedCommand)
-    → Represents state (start (plain_tree vtree) limit slack) → state.manager.vtree ≡ vtree
+    → Represents state (start (plain_tree vtree) limit slack every) → state.manager.vtree ≡ vtree
     → root_count state ≡ 0 → leaves (plain_tree vtree) ≡ formula.variables → AllFit formula.variables [] commands
     → length commands ≤ 100001 → IsReadyWith formula state commands
-ready_made formula vtree limit slack state commands represents same roots variables fit within_limit = record {
+ready_made formula vtree limit slack every state commands represents same roots variables fit within_limit = record {
   represents =
-      subst (λ (k : ℕ). Represents state (start (plain_tree state.manager.vtree) state.limit k)) represents.slack
-      (subst (λ (k : ℕ). Represents state (start (plain_tree state.manager.vtree) k slack)) represents.limit
-      (subst (λ (t : Numbered). Represents state (start (plain_tree t) limit slack)) (sym same) represents));
+      subst (λ (k : Option ℕ). Represents state (start (plain_tree state.manager.vtree) state.limit state.slack k))
+          represents.every
+      (subst (λ (k : ℕ). Represents state (start (plain_tree state.manager.vtree) state.limit k every)) represents.slack
+      (subst (λ (k : ℕ). Represents state (start (plain_tree state.manager.vtree) k slack every)) represents.limit
+      (subst (λ (t : Numbered). Represents state (start (plain_tree t) limit slack every)) (sym same) represents)));
   variables = ap (λ (t : Numbered). leaves (plain_tree t)) same ∙ variables;
   fit = fit;
   within_limit = within_limit;

@@ -179,7 +179,7 @@ goes_to_full : {asks : List Request → Type 0} (plan : Plan) (v index : ℕ) (c
     (old now : Contents)
     (before after_ : Faults) (command : NumberedCommand) (n : ℕ) → IsNext plan.commands index command
     → (so_far : SoFar asks plan v index code old now) → MayFill command.command → IsFilled n t
-    → IsTreeLeft so_far.state command.command (plain_tree t.vtree)
+    → IsTreeLeft plan.input so_far.state command.command (plain_tree t.vtree)
     → HoldsState t (record so_far.state { tree = plain_tree t.vtree })
     → RunsToEnd asks plan t (Err (ArenaFull n)) old now before after_
 goes_to_full plan v index code t old now before after_ command n next so_far needs filled left holds = record {
@@ -260,7 +260,7 @@ pub goes_to_stop : {asks : List Request → Type 0} (plan : Plan) (v index : ℕ
     → IsNext plan.commands index command → (so_far : SoFar asks plan v index code old now)
     → StopsAt plan.input so_far.state command.command new.manager error
     → Represents new (record so_far.state { tree = plain_tree new.manager.vtree })
-    × IsTreeLeft so_far.state command.command (plain_tree new.manager.vtree)
+    × IsTreeLeft plan.input so_far.state command.command (plain_tree new.manager.vtree)
     → stop ≡ stop_of command.line error → RunsToEnd asks plan new.manager (Err stop) old now before after_
 goes_to_stop {asks = asks} plan v index code new old now before after_ command error stop next so_far stops same is =
     subst (λ s. RunsToEnd asks plan new.manager (Err s) old now before after_) (sym is) (go error stops)

@@ -34,7 +34,7 @@ not_unmoved : (input : Groups) (state : State) (command : RunCommand) → is_mov
     → Step input state command Unmoved → ⊥
 not_unmoved input state (commands.Turn kind p) still step = cc
 not_unmoved input state (commands.Generated v g) still step = cc
-not_unmoved input state (commands.Input n) still (inl p) = let e = p.1 in cc
+not_unmoved input state (commands.Input n) still (inl p) = let e = p.2 in cc
 not_unmoved input state (commands.Input n) still (inr p) = let e = p.3 in cc
 not_unmoved input state (commands.Load n file) still p = not_settled _ p
 not_unmoved input state (commands.Literal n literal) still p = not_settled _ p

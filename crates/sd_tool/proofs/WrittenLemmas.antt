@@ -1,8 +1,8 @@
 -- At status 0 a run without a script writes the texts of the input's diagram and of its vtree.
 -- Equal texts of diagrams are one function.
-use Rattle.std.proofs.Common.{◌≡◌, ◌↔◌, ℕ, ◌+◌, Bool, true, false, List, [], ◌∷◌, ◌++◌, length, Option, Some, None}
+use Rattle.std.proofs.Common.{◌≡◌, ◌↔◌, ℕ, ◌+◌, List, [], ◌∷◌, ◌++◌, length, Option, Some, None}
 use Rattle.std.proofs.Common.{Result, Ok, Err}
-use Rattle.std.proofs.Common.{inl, inr, refl, sym, ap, subst, ◌∙◌, if◌then◌else◌}
+use Rattle.std.proofs.Common.{inl, inr, refl, sym, ap, subst, ◌∙◌}
 use Rattle.std.specs.List.{AllZip}
 use Rattle.sd_base.specs.Asked.{Request}
 use Rattle.sd_base.specs.Files.{Files, told_with}
@@ -29,21 +29,20 @@ use Rattle.sd_words.specs.declared.jobs.InputWord.TheVariants as inputs
 use Rattle.sd_words.specs.declared.jobs.TreeWord.{TreeWord}
 use Rattle.sd_words.specs.declared.jobs.TreeWord.TheVariants as trees
 use Rattle.sd_commands.specs.Effects.{Effect, Write, Print}
-use Rattle.sd_commands.specs.Commands.{State, Done, Steps, IsTextOf, with_name, formula_named, size_line}
+use Rattle.sd_commands.specs.Commands.{Grows, State, Done, Steps, IsTextOf, with_name, formula_named, size_line}
 use Rattle.sd_commands.specs.Commands.{generated_line, search_line, formulas_of}
 use Rattle.sd_commands.specs.Standing.{start}
 use Rattle.sd_commands.specs.declared.command.NumberedCommand.{NumberedCommand}
 use Rattle.sd_commands.specs.declared.command.RunCommand.{RunCommand}
 use Rattle.sd_commands.specs.declared.command.RunCommand.TheVariants as commands
-use Rattle.sd_commands.proofs.Outcomes.{input_done}
+use Rattle.sd_commands.proofs.Outcomes.{input_done, grows_valid}
 use Rattle.sd_commands.proofs.Searched.{search_valid}
 use Rattle.sd_search.specs.Search.{Found, IsSearch}
 use Rattle.sd_tool.specs.Effects.{Contents, after}
 use Rattle.sd_tool.specs.Readings.{Plan, Input, Begins, Refuses, Text, Whole, TooLong, ReadsTo, IsText}
 use Rattle.sd_tool.specs.Readings.{reading_of, with_job, with_input_word, with_input, with_formula, with_tree_word}
 use Rattle.sd_tool.specs.Readings.{with_tree, with_vtree_reading, with_commands, plan_for, for_file, default_of}
-use Rattle.sd_tool.specs.Readings.{is_plain, announcement, in_lines, search_of}
-use Rattle.sd_tool.specs.declared.refusal.Refusal.TheVariants as refusals
+use Rattle.sd_tool.specs.Readings.{announcement, in_lines, search_of}
 use Rattle.sd_tool.specs.Ends.{Finished}
 use Rattle.sd_tool.specs.Devices.{Moment}
 use Rattle.sd_tool.specs.Course.{MayEnd}
@@ -154,21 +153,15 @@ from_job files job plan (inputs.Generate count seed) alone p = record {
 from_input : (words : List (List ℕ)) (files : Files) (job : Job) (plan : Plan) → job_of words ≡ Ok job
     → job.script ≡ None → ReadsTo (Some files) (reading_of words) (Begins plan) → FromInput words files job plan
 from_input words files job plan named alone p =
-    go (is_plain job) refl (subst (λ j. ReadsTo (Some files) (with_job j) (Begins plan)) named p)
-  where
-    go : (plain : Bool) → is_plain job ≡ plain
-        → ReadsTo (Some files)
-        (if plain then with_input_word job job.input else Refuses refusals.NotYet) (Begins plan)
-        → FromInput words files job plan
-    go false is p = let bad : ⊥ = cc in absurd bad
-    go true is p =
-        let found = from_job files job plan job.input alone p in record {
-          formula = found.formula;
-          tree = found.from.tree;
-          input = record { named = named; plain = is; alone = alone; input = found.of_word };
-          start = found.from.start;
-          is = found.from.is;
-        }
+    let found = from_job files job plan job.input alone
+    (subst (λ j. ReadsTo (Some files) (with_job j) (Begins plan)) named p) in
+    record {
+      formula = found.formula;
+      tree = found.from.tree;
+      input = record { named = named; alone = alone; input = found.of_word };
+      start = found.from.start;
+      is = found.from.is;
+    }
 
 -- ---- all commands done
 
@@ -303,20 +296,25 @@ all_done input state last line (Some file) (Some other) effects valid p =
       are = one.are ∙ ap (λ (l : List Effect). Write file (vtree_text state.tree) ∷ l) rest.are;
     }
 
--- name 0 is bound to the input first, without an effect
+-- name 0 is bound to the input first, without an effect, over the tree to which its groups lead
 record AfterInput (input : Groups) (state last : State) (rest : List NumberedCommand) (effects : List Effect)
     : Type 0 where
-  steps : Steps input (with_name state 0 (expression_of input)) rest effects last
+  grown : Tree
+  course : Grows input state (length input.groups) grown
+  steps : Steps input (with_name (record state { tree = grown }) 0 (expression_of input)) rest effects last
 
 after_input : (input : Groups) (state last : State) (line : ℕ) (rest : List NumberedCommand) (effects : List Effect)
     → Steps input state (record { line = line; command = commands.Input 0 } ∷ rest) effects last
     → AfterInput input state last rest effects
 after_input input state last line rest effects (mid, first, others, step, steps, is) =
     let done = input_done input state mid 0 first step in
-    let all : effects ≡ others = is ∙ ap (λ (l : List Effect). l ++ others) done.1 in
+    let all : effects ≡ others = is ∙ ap (λ (l : List Effect). l ++ others) done.quiet in
+    let bound = with_name (record state { tree = done.tree }) 0 (expression_of input) in
     record {
-      steps = subst (λ l. Steps input (with_name state 0 (expression_of input)) rest l last) (sym all)
-          (subst (λ s. Steps input s rest others last) done.0 steps);
+      grown = done.tree;
+      course = done.course;
+      steps = subst (λ l. Steps input bound rest l last) (sym all)
+          (subst (λ s. Steps input s rest others last) done.next_is steps);
     }
 
 -- ---- the search of the words
@@ -460,9 +458,9 @@ after_announced (inputs.Cnf file) formula effects old = refl
 after_announced (inputs.Dnf file) formula effects old = refl
 after_announced (inputs.Generate count seed) formula effects old = refl
 
--- the state of a plan once its formula is bound
+-- the state of a plan once its formula is bound, over this tree
 abbrev compiled : Job → Groups → Tree → State
-compiled job formula tree = with_name (start tree job.limit job.slack) 0 (expression_of formula)
+compiled job formula tree = with_name (start tree job.limit job.slack job.every) 0 (expression_of formula)
 
 -- the commands behind the search
 grouped : (rounds : Option ℕ) (vtree sdd : Option (List ℕ))
@@ -473,17 +471,20 @@ grouped None vtree sdd = refl
 grouped (Some rounds) vtree sdd = refl
 
 -- these effects write the formula's texts
-writes : (files : Files) (job : Job) (formula : Groups) (tree found : Tree) (told : Option (List ℕ))
+writes : (files : Files) (job : Job) (formula : Groups) (tree grown found : Tree) (told : Option (List ℕ))
     (effects : List Effect) (old new : Contents) → old.files ≡ Some files
-    → IsFound job.minimise job.slack (expression_of formula) tree (with_announcement job.input formula old.printed)
+    → Grows formula (start tree job.limit job.slack job.every) (length formula.groups) grown
+    → IsFound job.minimise job.slack (expression_of formula) grown (with_announcement job.input formula old.printed)
     found told
-    → AllDone (record (compiled job formula tree) { tree = found }) job.out_vtree job.out_sdd effects
+    → AllDone (record (compiled job formula grown) { tree = found }) job.out_vtree job.out_sdd effects
     → new ≡ after effects (record old { printed = told }) → IsWritten files job formula tree old new
-writes files job formula tree found told effects old new there search done is =
+writes files job formula tree grown found told effects old new there course search done is =
     let begun : Contents = record old { printed = told } in
     let now = is ∙ ap (λ l. after l begun) done.are in record {
       found = found;
       told = told;
+      grown = grown;
+      course = course;
       search = search;
       diagram = done.diagram;
       of_formula = done.of_value;
@@ -505,22 +506,23 @@ plan_writes words files job plan last effects old new there from valid steps is 
     let told_of = announced_done own.input own.start last job.input from.formula (default_of job) effects own_steps in
     let written : List RunCommand =
     for_file commands.WriteVtree job.out_vtree ++ for_file (commands.Write (0 ∷ [])) job.out_sdd ++ commands.Size 0 ∷ [] in
-    let state = compiled job from.formula from.tree in
     let bound = after_input own.input own.start last 1
     (in_lines 2
     (search_of job.minimise ++ for_file commands.WriteVtree job.out_vtree ++ for_file (commands.Write (0 ∷ [])) job.out_sdd
     ++ commands.Size 0 ∷ []))
     told_of.others told_of.steps in
+    let state = compiled job from.formula bound.grown in
+    let grown_valid = grows_valid own.input own.start (length own.input.groups) bound.grown own_valid bound.course in
     let searched = after_search own.input state last job.minimise written told_of.others
     (subst (λ cs. Steps own.input state (in_lines 2 cs) told_of.others last)
     (grouped job.minimise job.out_vtree job.out_sdd) bound.steps) in
     let printed = with_announcement job.input from.formula old.printed in
-    writes files job from.formula from.tree searched.tree (told_behind searched.before printed) searched.others old new
-    there
+    writes files job from.formula from.tree bound.grown searched.tree (told_behind searched.before printed)
+    searched.others old new there bound.course
     (found_by job.minimise state (expression_of from.formula) searched.tree searched.before printed refl
     searched.search)
     (all_done own.input (record state { tree = searched.tree }) last searched.line job.out_vtree job.out_sdd
-    searched.others (searched_valid job.minimise state searched.tree searched.before own_valid searched.search)
+    searched.others (searched_valid job.minimise state searched.tree searched.before grown_valid searched.search)
     searched.steps)
     (is ∙ ap (λ l. after l old) told_of.are ∙ after_announced job.input from.formula told_of.others old
     ∙ ap (λ l. after l (record old { printed = printed })) searched.are

@@ -74,10 +74,10 @@ GoesTo asks words files effects end =
     × ComesTo (λ readings. asks (readings ++ writings (begun effects end))) files (reading_of words) (Begins plan)
     × EndsAmong plan effects end)
 
--- What is asked of the shelf at each status: where the words are refused, nothing; at 1, 2, 5 and 9, which come before
+-- What is asked of the shelf at each status: where the words are refused, nothing; at 1, 2 and 5, which come before
 -- the commands alone, only readings; and never is a file read after one is written.
 pub record HasAsked (status : ℕ) (asks : List Request → Type 0) : Type 0 where
   pub nothing : status ≡ 1 → asks []
-  pub readings : (status ≡ 1) ⊎ (status ≡ 2) ⊎ (status ≡ 5) ⊎ (status ≡ 9)
+  pub readings : (status ≡ 1) ⊎ (status ≡ 2) ⊎ (status ≡ 5)
       → (names : List (List ℕ)) × asks (map ToRead names)
   pub order : (names files : List (List ℕ)) × asks (map ToRead names ++ map ToWrite files)

@@ -33,12 +33,12 @@ pub record IsCourse (asks : List Request → Type 0) (words : List (List ℕ)) (
   pub keeps : KeepsManager words old.contents.files effects end kept
   pub line : WritesEndLine end old new
 
--- What was done outside: at status 0 all effects of the run, at 1, 2, 5 and 9 none, at 4, 7 and 8 those of the first
+-- What was done outside: at status 0 all effects of the run, at 1, 2 and 5 none, at 4, 7 and 8 those of the first
 -- commands, at 3 none or those of the first commands, at 6 those before the effect in hand, and a part of that one.
 pub record HasEffects (words : List (List ℕ)) (status : ℕ) (old new : Moment) : Type 0 where
   pub all : status ≡ 0 → (effects : List Effect)
       × MayEnd words old.contents.files effects Finished × (new.contents ≡ after effects old.contents)
-  pub none : (status ≡ 1) ⊎ (status ≡ 2) ⊎ (status ≡ 5) ⊎ (status ≡ 9) → new.contents ≡ old.contents
+  pub none : (status ≡ 1) ⊎ (status ≡ 2) ⊎ (status ≡ 5) → new.contents ≡ old.contents
   pub script : status ≡ 3 →
       ((refusal : Refusal) × ReadsTo old.contents.files (reading_of words) (Refuses refusal)
       × (new.contents ≡ old.contents))
@@ -121,8 +121,8 @@ pub record WasNotMovable (words : List (List ℕ)) (old new : Moment) : Type 0 w
 -- half, in `IsComplete` and `IsCourse`.
 pub record HasEnd (words : List (List ℕ)) (status : ℕ) (kept : Option Table) (old new : Moment) : Type 0 where
   pub one_of : (status ≡ 0) ⊎ (status ≡ 1) ⊎ (status ≡ 2) ⊎ (status ≡ 3) ⊎ (status ≡ 4) ⊎ (status ≡ 5)
-      ⊎ (status ≡ 6) ⊎ (status ≡ 7) ⊎ (status ≡ 8) ⊎ (status ≡ 9)
-  pub refused : (status ≡ 1) ⊎ (status ≡ 2) ⊎ (status ≡ 9) → IsRefused words status old new
+      ⊎ (status ≡ 6) ⊎ (status ≡ 7) ⊎ (status ≡ 8)
+  pub refused : (status ≡ 1) ⊎ (status ≡ 2) → IsRefused words status old new
   pub script : status ≡ 3 → IsRefused words status old new ⊎ WasNotMovable words old new
   pub over_limit : status ≡ 4 → PassedLimit words old new
   pub read_fault : status ≡ 5 → CouldNotRead words old new

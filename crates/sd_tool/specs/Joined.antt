@@ -1,5 +1,5 @@
 -- What a script of four lines writes, said without the course of the run.
-use Rattle.std.specs.Prelude.{◌≡◌, ◌⊎◌, ℕ, ◌≤◌, true, List, [], ◌∷◌, length, Option, Some, None, Ok}
+use Rattle.std.specs.Prelude.{◌≡◌, ◌⊎◌, ℕ, ◌≤◌, List, [], ◌∷◌, length, Option, Some, None, Ok}
 use Rattle.sd_base.specs.Files.{Files, bytes_at, with_file}
 use Rattle.sd_model.specs.declared.trees.Operation.{Operation}
 use Rattle.sd_model.specs.Expression.{Expression, Constant, Atom, Combined}
@@ -15,7 +15,7 @@ use Rattle.sd_script.specs.declared.command.Action.TheVariants as actions
 use Rattle.sd_script.specs.declared.command.Command.{Command as Line}
 use Rattle.sd_words.specs.JobOf.{job_of}
 use Rattle.sd_words.specs.declared.jobs.Job.{Job}
-use Rattle.sd_tool.specs.Readings.{Input, input_file, is_plain, file_name}
+use Rattle.sd_tool.specs.Readings.{Input, input_file, file_name}
 use Rattle.sd_tool.specs.Effects.{Contents}
 use Rattle.sd_tool.specs.Devices.{Moment, NoneRose}
 use Rattle.sd_tool.specs.Written.{IsStartTree}
@@ -51,11 +51,11 @@ pub record JoinsTwo (input : Expression) (script : Script) (joined : Expression)
   pub file_is : file ≡ file_name script number
 
 -- The words name an input file and a script, neither of which is too long, and their bytes are the texts of this
--- formula and of this script.
+-- formula and of this script; they ask for no search behind a group.
 pub record HasScript (words : List (List ℕ)) (files : Files) (job : Job) (formula : Groups) (script : Script)
     : Type 0 where
   pub named : job_of words ≡ Ok job
-  pub plain : is_plain job ≡ true
+  pub plain : job.every ≡ None
   pub input : Input
   pub is_input : input_file job.input ≡ Some input
   pub bytes : List ℕ

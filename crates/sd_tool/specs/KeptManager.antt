@@ -12,14 +12,14 @@ use Rattle.sd_tool.specs.Ends.{End, ArenaFull}
 use Rattle.sd_tool.specs.Course.{IsAtCommand}
 
 -- The manager holds the run's formulas at the command in hand, which may need the arena: its vtree is the tree of the
--- state there, or at a search the tree after the walks that were finished, and its roots hold the diagrams of the names
--- that are bound there.
+-- state there, or at a search or an input the tree after the walks that were finished, and its roots hold the diagrams
+-- of the names that are bound there.
 pub record HoldsAt (plan : Plan) (effects : List Effect) (t : Table) : Type 0 where
   pub state : State
   pub next : NumberedCommand
   pub at : IsAtCommand plan effects state next
   pub needs : MayFill next.command
-  pub left : IsTreeLeft state next.command (plain_tree t.vtree)
+  pub left : IsTreeLeft plan.input state next.command (plain_tree t.vtree)
   pub holds : HoldsState t (record state { tree = plain_tree t.vtree })
 
 -- at a full arena the manager that refused is kept, as it was at the command in hand, and at each other end none

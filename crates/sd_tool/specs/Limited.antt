@@ -17,8 +17,8 @@ abbrev pub HasLimit : List (List ℕ) → ℕ → Moment → Moment → Type 0
 HasLimit words status old new = (files : Files) (job : Job) (formula : Groups) (tree : Tree)
     → old.contents.files ≡ Some files → IsInput words files job formula
     → IsStartTree files job.tree formula.variables tree
-    → (status ≡ 4 → (group size : ℕ) × PassesAtGroup formula (start tree job.limit job.slack) group size
+    → (status ≡ 4 → (group size : ℕ) × PassesAtGroup formula (start tree job.limit job.slack job.every) group size
     × WritesEndLine (OverLimit 1 (Some group) size job.limit) old new)
-    × ((group size : ℕ) → PassesAtGroup formula (start tree job.limit job.slack) group size
+    × ((group size : ℕ) → PassesAtGroup formula (start tree job.limit job.slack job.every) group size
     → NoneRose old.faults new.faults
     → (status ≡ 4) ⊎ (status ≡ 7) ⊎ (status ≡ 8))

@@ -15,11 +15,11 @@ use Rattle.sd_tool.specs.declared.plan.RunPlan.{RunPlan}
 abbrev pub behind : List NumberedCommand → List RunCommand → List NumberedCommand
 behind lines commands = lines ++ in_lines (length lines + 1) commands
 
--- the plan with this formula, the tree, the limit and the slack of the state, and these commands
+-- the plan with this formula, the tree, the limit, the slack and the number for searches of the state, and these commands
 abbrev pub plan_with : Groups → RunState → List NumberedCommand → Plan
 plan_with formula state commands = record {
   input = formula;
-  start = start (plain_tree state.manager.vtree) state.limit state.slack;
+  start = start (plain_tree state.manager.vtree) state.limit state.slack state.every;
   commands = commands;
 }
 
@@ -29,7 +29,7 @@ plan_of plan = plan_with plan.formula plan.state plan.commands.items
 -- These commands can be carried out: the code represents a state without names, over the formula's variables, each
 -- command can be done after those before it, and there are at most 100,001 of them.
 pub record IsReadyWith (formula : Groups) (state : RunState) (commands : List NumberedCommand) : Type 0 where
-  pub represents : Represents state (start (plain_tree state.manager.vtree) state.limit state.slack)
+  pub represents : Represents state (start (plain_tree state.manager.vtree) state.limit state.slack state.every)
   pub variables : leaves (plain_tree state.manager.vtree) ≡ formula.variables
   pub fit : AllFit formula.variables [] commands
   pub within_limit : length commands ≤ 100001

@@ -1,6 +1,6 @@
 -- What a run reads before its first command, and when that is refused. A later reading is one more `Reads`.
-use Rattle.std.specs.Prelude.{◌≡◌, ◌⊎◌, ℕ, ◌+◌, ◌<◌, ◌≤◌, Bool, true, false, ◌==◌, ◌&&◌, is_none}
-use Rattle.std.specs.Prelude.{List, [], ◌∷◌, ◌++◌, length, slice_index_or, if◌then◌else◌}
+use Rattle.std.specs.Prelude.{◌≡◌, ◌⊎◌, ℕ, ◌+◌, ◌<◌, ◌≤◌}
+use Rattle.std.specs.Prelude.{List, [], ◌∷◌, ◌++◌, length, slice_index_or}
 use Rattle.std.specs.Prelude.{Option, Some, None, Result, Ok, Err}
 use Rattle.sd_base.specs.Files.{Files, bytes_at}
 use Rattle.sd_model.specs.Tree.{Tree}
@@ -32,7 +32,7 @@ use Rattle.sd_commands.specs.declared.command.NumberedCommand.{NumberedCommand}
 use Rattle.sd_commands.specs.declared.command.RunCommand.{RunCommand}
 use Rattle.sd_commands.specs.declared.command.RunCommand.TheVariants as commands
 use Rattle.sd_tool.specs.declared.refusal.Refusal.{Refusal}
-use Rattle.sd_tool.specs.declared.refusal.Refusal.TheVariants.{NotYet, BadWords, BadFormula, BadVtree, BadSdd}
+use Rattle.sd_tool.specs.declared.refusal.Refusal.TheVariants.{BadWords, BadFormula, BadVtree, BadSdd}
 use Rattle.sd_tool.specs.declared.refusal.Refusal.TheVariants.{BadScript, LongScript, TooLong as LongFile}
 
 -- what the commands begin with
@@ -62,10 +62,6 @@ abbrev pub input_file : InputWord → Option Input
 input_file (inputs.Cnf file) = Some record { kind = kinds.Cnf; file = file }
 input_file (inputs.Dnf file) = Some record { kind = kinds.Dnf; file = file }
 input_file (inputs.Generate count seed) = None
-
--- a job without searches between the groups of its input
-abbrev pub is_plain : Job → Bool
-is_plain job = is_none job.every
 
 -- ---- the commands
 
@@ -164,11 +160,11 @@ announcement (inputs.Generate count seed) formula =
     record { line = 0; command = commands.Generated formula.variables (length formula.groups) } ∷ []
 announcement word formula = []
 
--- what commands begin with: the formula, no name, the tree, and the job's limit and slack
+-- what commands begin with: the formula, no name, the tree, and the job's limit, slack and number for searches
 abbrev pub plan_for : Job → Groups → Tree → List NumberedCommand → Plan
 plan_for job formula tree commands = record {
   input = formula;
-  start = start tree job.limit job.slack;
+  start = start tree job.limit job.slack job.every;
   commands = announcement job.input formula ++ commands;
 }
 
@@ -211,7 +207,7 @@ with_input_word job (inputs.Generate count seed) = with_tree_word job (generated
 
 abbrev pub with_job : Result Job WordsFault → Reading
 with_job (Err fault) = Refuses (BadWords fault)
-with_job (Ok job) = if is_plain job then with_input_word job job.input else Refuses NotYet
+with_job (Ok job) = with_input_word job job.input
 
 -- the readings of a run, in order
 abbrev pub reading_of : List (List ℕ) → Reading

@@ -13,11 +13,10 @@ use Rattle.sd_words.specs.Options.{word_of}
 use Rattle.sd_words.specs.declared.faults.WordsFault.{WordsFault}
 use Rattle.sd_words.specs.declared.faults.WordsFault.TheVariants as words
 use Rattle.sd_tool.specs.declared.refusal.Refusal.{Refusal}
-use Rattle.sd_tool.specs.declared.refusal.Refusal.TheVariants.{NotYet, BadWords, TooLong, BadFormula, BadVtree}
+use Rattle.sd_tool.specs.declared.refusal.Refusal.TheVariants.{BadWords, TooLong, BadFormula, BadVtree}
 use Rattle.sd_tool.specs.declared.refusal.Refusal.TheVariants.{LongScript, BadScript, BadSdd}
 
 abbrev pub refusal_status : Refusal → ℕ
-refusal_status NotYet = 9
 refusal_status (BadWords fault) = 1
 refusal_status (TooLong file) = 2
 refusal_status (BadFormula file fault) = 2
@@ -111,7 +110,6 @@ script_fault_text script.OutOfMemory = []
 
 -- the text of the line, after the name of the program
 abbrev pub refusal_text : Refusal → List ℕ
-refusal_text NotYet = codes "not yet"
 refusal_text (BadWords fault) = words_fault_text fault
 refusal_text (TooLong file) = file ++ codes ": too long"
 refusal_text (BadFormula file fault) = file ++ formula_fault_text fault

@@ -1,5 +1,5 @@
 -- What the written files are, said without the course of the run.
-use Rattle.std.specs.Prelude.{◌≡◌, ◌↔◌, ℕ, ◌≤◌, true, List, [], ◌∷◌, map, length, Option, Some, None, Ok}
+use Rattle.std.specs.Prelude.{◌≡◌, ◌↔◌, ℕ, ◌≤◌, List, [], ◌∷◌, map, length, Option, Some, None, Ok}
 use Rattle.std.specs.List.{AllZip}
 use Rattle.sd_base.specs.Files.{Files, bytes_at, with_file}
 use Rattle.sd_base.specs.Sink.{told_then}
@@ -23,10 +23,11 @@ use Rattle.sd_words.specs.declared.jobs.InputWord.TheVariants as inputs
 use Rattle.sd_words.specs.declared.jobs.TreeWord.{TreeWord}
 use Rattle.sd_words.specs.declared.jobs.TreeWord.TheVariants as trees
 use Rattle.sd_commands.specs.Effects.{Effect}
-use Rattle.sd_commands.specs.Commands.{State, IsTextOf, formula_named, generated_line, size_line, search_line}
+use Rattle.sd_commands.specs.Standing.{start}
+use Rattle.sd_commands.specs.Commands.{State, Grows, IsTextOf, formula_named, generated_line, size_line, search_line}
 use Rattle.sd_commands.specs.declared.command.NumberedCommand.{NumberedCommand}
 use Rattle.sd_commands.specs.declared.command.RunCommand.TheVariants as commands
-use Rattle.sd_tool.specs.Readings.{Plan, Begins, is_plain, reading_of, ReadsTo}
+use Rattle.sd_tool.specs.Readings.{Plan, Begins, reading_of, ReadsTo}
 use Rattle.sd_tool.specs.Course.{IsAtCommand}
 use Rattle.sd_tool.specs.Effects.{Contents}
 use Rattle.sd_tool.specs.Devices.{Moment}
@@ -47,7 +48,6 @@ IsFormulaOf files (inputs.Generate count seed) formula = formula ≡ generated_f
 -- the words, without a script, ask for this formula
 pub record IsInput (words : List (List ℕ)) (files : Files) (job : Job) (formula : Groups) : Type 0 where
   pub named : job_of words ≡ Ok job
-  pub plain : is_plain job ≡ true
   pub alone : job.script ≡ None
   pub input : IsFormulaOf files job.input formula
 
@@ -78,13 +78,16 @@ IsFound (Some rounds) slack f tree printed found told =
     (result : Found) × IsSearch (f ∷ []) slack rounds tree result × (found ≡ result.tree)
     × (told ≡ told_then printed (search_line result.before result.after result.rounds))
 
--- The vtree output is the text of the start tree, or of the one that the search of the words found from it, the diagram
--- output is the text of the formula's canonical diagram for that tree, no other file changed, and the size of that
--- diagram was printed, after the line of a generated formula and that of a search.
+-- The vtree output is the text of the tree to which the groups of the formula led from the start tree, which is that
+-- tree where no search follows a group, or of the one that the search of the words found from it. The diagram output is
+-- the text of the formula's canonical diagram for it, no other file changed, and the size of that diagram was printed,
+-- after the line of a generated formula and that of a search.
 pub record IsWritten (files : Files) (job : Job) (formula : Groups) (tree : Tree) (old new : Contents) : Type 0 where
   pub found : Tree
   pub told : Option (List ℕ)
-  pub search : IsFound job.minimise job.slack (expression_of formula) tree
+  pub grown : Tree
+  pub course : Grows formula (start tree job.limit job.slack job.every) (length formula.groups) grown
+  pub search : IsFound job.minimise job.slack (expression_of formula) grown
       (with_announcement job.input formula old.printed) found told
   pub diagram : Diagram
   pub of_formula : IsDiagramOf found (expression_of formula) diagram

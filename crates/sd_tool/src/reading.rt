@@ -12,7 +12,7 @@ ghost use Rattle.sd_words.specs.declared.jobs.Job.{Job as SeenJob};
 ghost use Rattle.sd_commands.specs.Fits.{AllFit};
 ghost use Rattle.sd_tool.specs.Asks.{IsNone};
 ghost use Rattle.sd_tool.specs.PlanViews.{plan_of, IsReady};
-ghost use Rattle.sd_tool.specs.Readings.{reading_of, Begins, Reads, is_plain, plan_for};
+ghost use Rattle.sd_tool.specs.Readings.{reading_of, Begins, Reads, plan_for};
 ghost use Rattle.sd_tool.specs.Readings.{with_input, with_input_word, with_tree_word, with_tree, with_vtree_text};
 ghost use Rattle.sd_tool.specs.Stops.{LeadsTo, GivesText};
 ghost use Rattle.sd_tool.specs.declared.refusal.Refusal.TheVariants as refusals;
@@ -133,7 +133,7 @@ fn make_plan(
     ensures ready { IfOk result IsReady }
 {
     match announced(job, &formula, commands) {
-        Ok(commands) => match RunState::new(alloc, vtree, job.limit, job.slack) {
+        Ok(commands) => match RunState::new(alloc, vtree, job.limit, job.slack, job.every) {
             Ok(state) => Ok(RunPlan {
                 formula,
                 state,
@@ -145,30 +145,17 @@ fn make_plan(
     }
 }
 
-// The job of the words, if runs have it yet.
+// The job of the words.
 fn read_job(alloc: Global, words: &[String]) -> Result<Job, Stop>
     ensures { (told : Option Files) (before now : ℕ)
         → LeadsTo IsNone told (reading_of (map string_bytes words.now))
         (λ job. with_input_word job job.input) result before now }
 {
     match read_words(alloc, words) {
-        Ok(job) => {
-            if is_plain(&job) {
-                Ok(job)
-            } else {
-                Err(Stop::Refused(Refusal::NotYet))
-            }
-        }
+        Ok(job) => Ok(job),
         Err(WordsFault::OutOfMemory) => Err(Stop::OutOfMemory),
         Err(fault) => Err(Stop::Refused(Refusal::BadWords(fault))),
     }
-}
-
-// Whether a job has no searches between the groups of its input.
-fn is_plain(job: &Job) -> bool
-    ensures { result ≡ is_plain job.now }
-{
-    job.every.is_none()
 }
 
 // The formula of the job's input.

@@ -15,8 +15,6 @@ use sd_words::WordsFault;
 /// What the words or a text of a run are refused for.
 #[derive(Drop)]
 pub enum Refusal {
-    /// What is asked for is not served yet.
-    NotYet,
     /// The words have this fault.
     BadWords(WordsFault),
     /// The named formula file, vtree file or SDD file is too long.
@@ -39,7 +37,6 @@ impl Refusal {
         ensures { result ≡ refusal_status self.now }
     {
         match self {
-            Refusal::NotYet => 9,
             Refusal::BadWords(_) => 1,
             Refusal::TooLong(_)
             | Refusal::BadFormula(_, _)
@@ -54,7 +51,6 @@ impl Refusal {
         ensures { parts_text result ≡ refusal_text self.now }
     {
         match self {
-            Refusal::NotYet => plain(b"not yet", b""),
             Refusal::BadWords(fault) => words_parts(fault),
             Refusal::TooLong(file) => plain(file.as_str().as_bytes(), b": too long"),
             Refusal::BadFormula(file, fault) => formula_parts(file.as_str().as_bytes(), *fault),

@@ -232,7 +232,7 @@ fn copy_of_bits(alloc: Global, bits: &Bits) -> Result<Bits, AllocError>
     Ok(Bits::new(bits.as_slice().to_vec(alloc)?))
 }
 
-// The command of an action with a file, if runs have it yet; a file that it loads is read.
+// The command of an action with a file; a file that it loads is read.
 fn file_command<F: Shelf>(
     alloc: Global,
     script: &Script,
@@ -269,7 +269,7 @@ fn file_command<F: Shelf>(
             Ok(file) => Ok(RunCommand::WriteVtree(file)),
             Err(_) => Err(Stop::OutOfMemory),
         },
-        _ => Err(Stop::Refused(Refusal::NotYet)),
+        _ => unreachable!(),
     }
 }
 

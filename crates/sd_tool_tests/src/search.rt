@@ -68,3 +68,20 @@ fn a_script_searches(rt: HostRuntime) -> Result<(), Fail> {
     assert!(rt; end.holds("out", FOUND_AS_SDD));
     Ok(())
 }
+
+/// A search follows each group: the second one is told to the limit before the search behind it, with size 14.
+#[test]
+fn a_search_follows_each_group(rt: HostRuntime) -> Result<(), Fail> {
+    let alloc = rt.alloc();
+    let words = "--dnf in --every 1 --limit 14 --out-sdd out --out-vtree shape";
+    let files = two_files(alloc, CROSSED_TERMS, "other", "")?;
+    let end = ran(&rt, alloc, words, files)?;
+    assert!(rt; end.ended(0, "size 6\n", ""));
+    assert!(rt; end.holds("shape", FOUND_SHAPE));
+    assert!(rt; end.holds("out", FOUND_AS_SDD));
+    let files = two_files(alloc, CROSSED_TERMS, "other", "")?;
+    let end = ran(&rt, alloc, "--dnf in --every 1 --limit 13 --out-sdd out", files)?;
+    assert!(rt; end.ended(4, "", "sddc: line 1: group 2: size 14 passes limit 13\n"));
+    assert!(rt; end.lacks("out"));
+    Ok(())
+}

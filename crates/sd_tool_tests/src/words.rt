@@ -1,4 +1,4 @@
-// Runs whose words are refused or not served yet.
+// Runs whose words are refused.
 use sd_trial::{A_CLAUSE, ran, two_files};
 use std::test::Fail;
 
@@ -29,15 +29,5 @@ fn words_are_refused(rt: HostRuntime) -> Result<(), Fail> {
         assert!(rt; end.ended(1, "", &line), "{words}");
         assert!(rt; end.lacks("out"), "{words}");
     }
-    Ok(())
-}
-
-#[test]
-fn other_jobs_are_not_served_yet(rt: HostRuntime) -> Result<(), Fail> {
-    let alloc = rt.alloc();
-    let files = two_files(alloc, A_CLAUSE, "s", "")?;
-    let end = ran(&rt, alloc, "--cnf gone --every 1 --out-sdd out", files)?;
-    assert!(rt; end.ended(9, "", "sddc: not yet\n"));
-    assert!(rt; end.lacks("out"));
     Ok(())
 }
