@@ -240,7 +240,7 @@ module _ (input : Groups) (seen : State) (code : RunState) (work : CompiledPrefi
 -- ---- the search behind it
 
 module _ (input : Groups) (seen : State) (code : RunState) (work : CompiledPrefix)
-    (numbered : IsNumbered code.manager.vtree) (was : IsAdded input seen code work) where
+    (was : IsAdded input seen code work) where
   -- none is due
   pub not_searched : is_due seen.every work.groups ≡ false → IsGrowing input seen code work
   not_searched none = record {
@@ -260,6 +260,8 @@ module _ (input : Groups) (seen : State) (code : RunState) (work : CompiledPrefi
       follows true is = absurd cc
       follows false is = refl
 
+module _ (input : Groups) (seen : State) (code : RunState) (work : CompiledPrefix)
+    (numbered : IsNumbered code.manager.vtree) (was : IsAdded input seen code work) where
   -- the formulas that are held
   held_here : AreHeldFormulas code.manager (with_groups input seen (suc was.done))
   held_here =

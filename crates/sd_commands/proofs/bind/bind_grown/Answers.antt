@@ -28,3 +28,6 @@ pub returns-in-Err-name_root-clause-err : goal.returns-in-Err-name_root-clause-e
 returns-in-Err-name_root-clause-err c =
     left_unnamed c.args.input.now c.args.state.now c.grow.new.state c.name_root.new.self c.in-Ok.root
     c.in-Ok.ensures.ok c.in-Err-name_root.ensures.err c.in-Ok.ensures.others
+
+pub returns-in-Err-clause-stops : goal.returns-in-Err-clause-stops
+returns-in-Err-clause-stops c = λ seen was. c.in-Err.ensures.stops seen was c.args.name

@@ -53,10 +53,10 @@ returns-clause-ok c = λ seen was. c.loop-index.invariant.growing seen was
 
 pub grow_next-requires-clause-left : goal.grow_next-requires-clause-left
 grow_next-requires-clause-left c =
-    let most = c.groups.ensures.value in omega (arith, most, c.loop-index-test.true)
+    let most = c.groups-index-end.ensures.value in omega (arith, most, c.loop-index-test.true)
 
 pub returns-clause-all : goal.returns-clause-all
 returns-clause-all c =
     let here = c.loop-index.invariant.groups in
-    let most = c.groups.ensures.value in
+    let most = c.groups-index-end.ensures.value in
     omega (arith, here, most, c.loop-index-test.false, c.loop-index.auto.index-end)
