@@ -224,16 +224,21 @@ module _ (input : Groups) (seen : State) (code : RunState) (work : CompiledPrefi
   growth_stops name t (compiling.OverLimit group size most) bound left h =
       let next : group ≡ suc work.groups = let e = h.0 in omega (arith, e) in
       subst (λ l. Step input seen (Input name) (OverLimit (Some group) size l)) (was.represents.limit ∙ sym h.1.most_is)
-      (inr (group, size, record {
-        done = work.groups;
-        next = next;
-        most = omega (arith, next, left);
-        tree = plain_tree code.manager.vtree;
-        before = was.course;
-        passes =
-            passes_with (without code work.root) here numbered was.represents law (prefix_of input group) code.limit size
-            refl h.1.total h.1.passes;
-      }, refl))
+      (inr (
+        group,
+        size,
+        record {
+          done = work.groups;
+          next = next;
+          most = omega (arith, next, left);
+          tree = plain_tree code.manager.vtree;
+          before = was.course;
+          passes =
+              passes_with (without code work.root) here numbered was.represents law (prefix_of input group) code.limit size
+              refl h.1.total h.1.passes;
+        },
+        refl,
+      ))
   growth_stops name t (compiling.ArenaFull elements) bound left h = (tt, record { whole = bound; rule = h })
   growth_stops name t compiling.OutOfMemory bound left h = tt
 
@@ -442,10 +447,13 @@ stops_released input seen name t m root e is h =
     go : (e : CommandError) → StopsAt input seen (Input name) t e
         → StopsAt input seen (Input name) (without_root t root) e
     go (errors.OverLimit group size limit) h = h
-    go (errors.ArenaFull elements) h = (h.0, record {
-      whole = h.1.whole;
-      rule = record { past = h.1.rule.past; least = h.1.rule.least; most = h.1.rule.most };
-    })
+    go (errors.ArenaFull elements) h = (
+      h.0,
+      record {
+        whole = h.1.whole;
+        rule = record { past = h.1.rule.past; least = h.1.rule.least; most = h.1.rule.most };
+      },
+    )
     go errors.NotMovable h = h
     go errors.OutOfMemory h = tt
 

@@ -69,7 +69,7 @@ pub ready_made : (formula : Groups) (vtree : Numbered) (limit slack : ℕ) (ever
 ready_made formula vtree limit slack every state commands represents same roots variables fit within_limit = record {
   represents =
       subst (λ (k : Option ℕ). Represents state (start (plain_tree state.manager.vtree) state.limit state.slack k))
-          represents.every
+      represents.every
       (subst (λ (k : ℕ). Represents state (start (plain_tree state.manager.vtree) state.limit k every)) represents.slack
       (subst (λ (k : ℕ). Represents state (start (plain_tree state.manager.vtree) k slack every)) represents.limit
       (subst (λ (t : Numbered). Represents state (start (plain_tree t) limit slack every)) (sym same) represents)));

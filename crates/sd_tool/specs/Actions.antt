@@ -10,7 +10,7 @@ use Rattle.sd_commands.specs.declared.command.NumberedCommand.{NumberedCommand}
 use Rattle.sd_commands.specs.declared.command.RunCommand.{RunCommand}
 use Rattle.sd_commands.specs.declared.command.RunCommand.TheVariants as commands
 
--- the command of an action without a file, if runs have it yet
+-- the command of an action, if it is one without a file
 abbrev pub plain_of : Action → Option RunCommand
 plain_of (actions.Input n) = Some (commands.Input n)
 plain_of (actions.Lit n literal) = Some (commands.Literal n literal)

@@ -11,8 +11,8 @@ use Rattle.sd_tool.specs.Ends.{OverLimit}
 use Rattle.sd_tool.specs.Written.{IsInput, IsStartTree}
 
 -- Over told files, a run without a script ends with 4 only where the first groups of its input pass the limit of the
--- words on the start tree, and its line has the first such group and the size there. Where they do and no device
--- failed, it ends so, or there was no memory or no room.
+-- words, on the tree to which the groups before lead from the start tree, and its line has the first such group and the
+-- size there. Where they do and no device failed, it ends so, or there was no memory or no room.
 abbrev pub HasLimit : List (List ℕ) → ℕ → Moment → Moment → Type 0
 HasLimit words status old new = (files : Files) (job : Job) (formula : Groups) (tree : Tree)
     → old.contents.files ≡ Some files → IsInput words files job formula

@@ -200,7 +200,7 @@ fn command_of<F: Shelf>(
     }
 }
 
-// The command of an action without a file, if runs have it yet.
+// The command of an action, if it is one without a file.
 fn plain_command(alloc: Global, action: &Action) -> Result<Option<RunCommand>, AllocError>
     ensures { IfOk result (λ command. command ≡ plain_of action.now) }
 {

@@ -80,7 +80,12 @@ fn a_search_follows_each_group(rt: HostRuntime) -> Result<(), Fail> {
     assert!(rt; end.holds("shape", FOUND_SHAPE));
     assert!(rt; end.holds("out", FOUND_AS_SDD));
     let files = two_files(alloc, CROSSED_TERMS, "other", "")?;
-    let end = ran(&rt, alloc, "--dnf in --every 1 --limit 13 --out-sdd out", files)?;
+    let end = ran(
+        &rt,
+        alloc,
+        "--dnf in --every 1 --limit 13 --out-sdd out",
+        files,
+    )?;
     assert!(rt; end.ended(4, "", "sddc: line 1: group 2: size 14 passes limit 13\n"));
     assert!(rt; end.lacks("out"));
     Ok(())
