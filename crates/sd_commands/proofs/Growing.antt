@@ -63,7 +63,8 @@ all_beside old new root kept = record {
 }
 
 -- a search keeps the roots without one
-roots_beside : (old new : Table) (root : ℕ) → KeepsRoots old new → KeepsRoots (without_root old root) (without_root new root)
+roots_beside : (old new : Table) (root : ℕ) → KeepsRoots old new
+    → KeepsRoots (without_root old root) (without_root new root)
 roots_beside old new root kept = record {
   variables = kept.variables;
   roots = ap (λ m. remove m root) kept.roots;
@@ -428,7 +429,8 @@ module _ (input : Groups) (code : RunState) (t : Table) (work : CompiledPrefix)
 
   -- what is left where it was broken off
   pub left_released : (m : Table) → m ≡ without_root new.manager work.root
-      → ((seen : State) → IsGrowing input seen (record code { manager = t }) work → IsBrokenOff input seen new work.root)
+      → ((seen : State) → IsGrowing input seen (record code { manager = t }) work
+      → IsBrokenOff input seen new work.root)
       → IsLeftByGroups input code (record new { manager = m })
   left_released m is broken =
       subst (λ u. IsLeftByGroups input code (record new { manager = u })) (sym is)

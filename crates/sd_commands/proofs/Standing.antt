@@ -456,7 +456,8 @@ pub stands_released : (code new : RunState) (seen : State) (name : ℕ) (former 
     → former ≡ maps.get nat_cmp code.names name
     → new.manager ≡ record code.manager { roots = removed code.manager.roots former } → new.cache ≡ code.cache
     → new.limit ≡ code.limit → new.slack ≡ code.slack
-    → new.every ≡ code.every → ((q : ℕ) → maps.get nat_cmp new.names q ≡ cond (is_at (nat_cmp name) q) None (maps.get nat_cmp code.names q))
+    → new.every ≡ code.every
+    → ((q : ℕ) → maps.get nat_cmp new.names q ≡ cond (is_at (nat_cmp name) q) None (maps.get nat_cmp code.names q))
     → Represents new (dropped seen name)
 stands_released code new seen name former was had is same_cache same_limit same_slack same_every names =
     stands_changed code new seen name None (removed code.manager.roots former) was changes (dropped seen name) None refl
@@ -554,7 +555,8 @@ stands_limited code limit seen was = record {
 
 -- where nothing changed, all is as before
 pub as_before : (code new : RunState) → new.manager ≡ code.manager → new.cache ≡ code.cache → new.limit ≡ code.limit
-    → new.slack ≡ code.slack → new.every ≡ code.every → ((q : ℕ) → maps.get nat_cmp new.names q ≡ maps.get nat_cmp code.names q)
+    → new.slack ≡ code.slack → new.every ≡ code.every
+    → ((q : ℕ) → maps.get nat_cmp new.names q ≡ maps.get nat_cmp code.names q)
     → IsAsBefore code new
 as_before code new is same_cache same_limit same_slack same_every names = record {
   represents = λ seen was. record {

@@ -162,7 +162,8 @@ none_read files words names refusal = go (job_of words) names
         → refusal_status refusal ≡ 1 → names ≡ []
     go (Err fault) [] a e = refl
     go (Err fault) (x ∷ xs) a e = absurd a
-    go (Ok job) names a e = absurd (accepted_on files (with_job (Ok job)) names refusal (accepted_input_word job job.input) a e)
+    go (Ok job) names a e =
+        absurd (accepted_on files (with_job (Ok job)) names refusal (accepted_input_word job job.input) a e)
 
 -- ---- the order
 

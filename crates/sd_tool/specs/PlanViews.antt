@@ -15,7 +15,8 @@ use Rattle.sd_tool.specs.declared.plan.RunPlan.{RunPlan}
 abbrev pub behind : List NumberedCommand → List RunCommand → List NumberedCommand
 behind lines commands = lines ++ in_lines (length lines + 1) commands
 
--- the plan with this formula, the tree, the limit, the slack and the number for searches of the state, and these commands
+-- the plan with this formula, the tree, the limit, the slack and the number for searches of the state, and these
+-- commands
 abbrev pub plan_with : Groups → RunState → List NumberedCommand → Plan
 plan_with formula state commands = record {
   input = formula;

@@ -50,7 +50,7 @@ pub fn prepare<F: Shelf>(alloc: Global, words: &[String], shelf: &mut F) -> Resu
     }
 }
 
-// The plan of a job that runs have.
+// The plan of a job.
 fn prepare_job<F: Shelf>(alloc: Global, job: &Job, shelf: &mut F) -> Result<RunPlan, Stop>
     requires { F.hand shelf.old ≡ NoFile }
     ensures hand { F.hand shelf.new ≡ NoFile }

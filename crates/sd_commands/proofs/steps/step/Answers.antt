@@ -271,7 +271,8 @@ returns-in-Minimise-clause-stops c = λ seen was.
 
 pub returns-in-Input-clause-err : goal.returns-in-Input-clause-err
 returns-in-Input-clause-err c =
-    subst (λ command. OnErr c.bind_input.result (IsLeft c.args.input.now command c.args.state.now c.bind_input.new.state))
+    subst (λ command. OnErr c.bind_input.result
+    (IsLeft c.args.input.now command c.args.state.now c.bind_input.new.state))
     (sym c.in-Input.is)
     c.bind_input.ensures.err
 
@@ -283,48 +284,56 @@ returns-in-Load-clause-err c =
 
 pub returns-in-Literal-clause-err : goal.returns-in-Literal-clause-err
 returns-in-Literal-clause-err c =
-    subst (λ command. OnErr c.bind_literal.result (IsLeft c.args.input.now command c.args.state.now c.bind_literal.new.state))
+    subst (λ command. OnErr c.bind_literal.result
+    (IsLeft c.args.input.now command c.args.state.now c.bind_literal.new.state))
     (sym c.in-Literal.is)
     c.bind_literal.ensures.err
 
 pub returns-in-Constant-clause-err : goal.returns-in-Constant-clause-err
 returns-in-Constant-clause-err c =
-    subst (λ command. OnErr c.bind_constant.result (IsLeft c.args.input.now command c.args.state.now c.bind_constant.new.state))
+    subst (λ command. OnErr c.bind_constant.result
+    (IsLeft c.args.input.now command c.args.state.now c.bind_constant.new.state))
     (sym c.in-Constant.is)
     c.bind_constant.ensures.err
 
 pub returns-in-Combine-clause-err : goal.returns-in-Combine-clause-err
 returns-in-Combine-clause-err c =
-    subst (λ command. OnErr c.bind_combination.result (IsLeft c.args.input.now command c.args.state.now c.bind_combination.new.state))
+    subst (λ command. OnErr c.bind_combination.result
+    (IsLeft c.args.input.now command c.args.state.now c.bind_combination.new.state))
     (sym c.in-Combine.is)
     c.bind_combination.ensures.err
 
 pub returns-in-Negate-clause-err : goal.returns-in-Negate-clause-err
 returns-in-Negate-clause-err c =
-    subst (λ command. OnErr c.bind_negation.result (IsLeft c.args.input.now command c.args.state.now c.bind_negation.new.state))
+    subst (λ command. OnErr c.bind_negation.result
+    (IsLeft c.args.input.now command c.args.state.now c.bind_negation.new.state))
     (sym c.in-Negate.is)
     c.bind_negation.ensures.err
 
 pub returns-in-Given-clause-err : goal.returns-in-Given-clause-err
 returns-in-Given-clause-err c =
-    subst (λ command. OnErr c.bind_condition.result (IsLeft c.args.input.now command c.args.state.now c.bind_condition.new.state))
+    subst (λ command. OnErr c.bind_condition.result
+    (IsLeft c.args.input.now command c.args.state.now c.bind_condition.new.state))
     (sym c.in-Given.is)
     c.bind_condition.ensures.err
 
 pub returns-in-Forget-clause-err : goal.returns-in-Forget-clause-err
 returns-in-Forget-clause-err c =
-    subst (λ command. OnErr c.bind_forgotten.result (IsLeft c.args.input.now command c.args.state.now c.bind_forgotten.new.state))
+    subst (λ command. OnErr c.bind_forgotten.result
+    (IsLeft c.args.input.now command c.args.state.now c.bind_forgotten.new.state))
     (sym c.in-Forget.is)
     c.bind_forgotten.ensures.err
 
 pub returns-in-Turn-clause-err : goal.returns-in-Turn-clause-err
 returns-in-Turn-clause-err c =
-    subst (λ command. OnErr c.turn_at.result (IsLeft c.args.input.now command c.args.state.now c.turn_at.new.state)) (sym c.in-Turn.is)
+    subst (λ command. OnErr c.turn_at.result
+    (IsLeft c.args.input.now command c.args.state.now c.turn_at.new.state)) (sym c.in-Turn.is)
     c.turn_at.ensures.err
 
 pub returns-in-Minimise-clause-err : goal.returns-in-Minimise-clause-err
 returns-in-Minimise-clause-err c =
-    subst (λ command. OnErr c.search.result (IsLeft c.args.input.now command c.args.state.now c.search.new.state)) (sym c.in-Minimise.is)
+    subst (λ command. OnErr c.search.result
+    (IsLeft c.args.input.now command c.args.state.now c.search.new.state)) (sym c.in-Minimise.is)
     c.search.ensures.err
 
 pub returns-in-Limit-clause-err : goal.returns-in-Limit-clause-err
@@ -337,37 +346,43 @@ returns-in-Limit-clause-err c =
 
 pub returns-in-Generated-clause-err : goal.returns-in-Generated-clause-err
 returns-in-Generated-clause-err c =
-    subst (λ command. OnErr c.or_out_of_memory.result (IsLeft c.args.input.now command c.args.state.now c.args.state.now))
+    subst (λ command. OnErr c.or_out_of_memory.result
+    (IsLeft c.args.input.now command c.args.state.now c.args.state.now))
     (sym c.in-Generated.is)
     (as_before_self c.args.state.now _)
 
 pub returns-in-Same-clause-err : goal.returns-in-Same-clause-err
 returns-in-Same-clause-err c =
-    subst (λ command. OnErr c.or_out_of_memory-in-Same.result (IsLeft c.args.input.now command c.args.state.now c.args.state.now))
+    subst (λ command. OnErr c.or_out_of_memory-in-Same.result
+    (IsLeft c.args.input.now command c.args.state.now c.args.state.now))
     (sym c.in-Same.is)
     (as_before_self c.args.state.now _)
 
 pub returns-in-Value-clause-err : goal.returns-in-Value-clause-err
 returns-in-Value-clause-err c =
-    subst (λ command. OnErr c.or_out_of_memory-in-Value.result (IsLeft c.args.input.now command c.args.state.now c.args.state.now))
+    subst (λ command. OnErr c.or_out_of_memory-in-Value.result
+    (IsLeft c.args.input.now command c.args.state.now c.args.state.now))
     (sym c.in-Value.is)
     (as_before_self c.args.state.now _)
 
 pub returns-in-Write-clause-err : goal.returns-in-Write-clause-err
 returns-in-Write-clause-err c =
-    subst (λ command. OnErr c.or_out_of_memory-in-Write.result (IsLeft c.args.input.now command c.args.state.now c.args.state.now))
+    subst (λ command. OnErr c.or_out_of_memory-in-Write.result
+    (IsLeft c.args.input.now command c.args.state.now c.args.state.now))
     (sym c.in-Write.is)
     (as_before_self c.args.state.now _)
 
 pub returns-in-WriteVtree-clause-err : goal.returns-in-WriteVtree-clause-err
 returns-in-WriteVtree-clause-err c =
-    subst (λ command. OnErr c.or_out_of_memory-in-WriteVtree.result (IsLeft c.args.input.now command c.args.state.now c.args.state.now))
+    subst (λ command. OnErr c.or_out_of_memory-in-WriteVtree.result
+    (IsLeft c.args.input.now command c.args.state.now c.args.state.now))
     (sym c.in-WriteVtree.is)
     (as_before_self c.args.state.now _)
 
 pub returns-in-Size-clause-err : goal.returns-in-Size-clause-err
 returns-in-Size-clause-err c =
-    subst (λ command. OnErr c.or_out_of_memory-in-Size.result (IsLeft c.args.input.now command c.args.state.now c.print_size.new.state))
+    subst (λ command. OnErr c.or_out_of_memory-in-Size.result
+    (IsLeft c.args.input.now command c.args.state.now c.print_size.new.state))
     (sym c.in-Size.is)
     (subst (λ code. OnErr c.or_out_of_memory-in-Size.result (IsAsBefore c.args.state.now code))
     (sym c.print_size.ensures.same) (as_before_self c.args.state.now _))

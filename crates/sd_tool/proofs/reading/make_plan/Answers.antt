@@ -20,7 +20,8 @@ pub returns-in-Ok-new-clause-ready : goal.returns-in-Ok-new-clause-ready
 returns-in-Ok-new-clause-ready c =
     let job = c.args.job.now in
     let all = c.in-Ok.commands.items in
-    ready_made c.args.formula c.args.vtree job.limit job.slack job.every c.in-Ok-new.state all c.in-Ok-new.ensures.represents
+    ready_made c.args.formula c.args.vtree job.limit job.slack job.every c.in-Ok-new.state all
+    c.in-Ok-new.ensures.represents
     c.in-Ok-new.ensures.vtree c.in-Ok-new.ensures.roots c.requires.variables
     (announced_fit c.args.formula.variables job.input c.args.formula all c.args.commands.items c.in-Ok.ensures
     c.requires.fit)

@@ -49,7 +49,8 @@ returns-in-Err-clause-goes g c =
     c.loop-command.command-index _ c.step.new.state _ _ _ _ c.command-item.result c.in-Err.error _
     (record { within = omega arith; is = c.command-item.is }) so_far
     (c.in-Err.ensures.stops so_far.state so_far.represents)
-    (left_state c.args.formula.now c.command-item.result.command _ c.step.new.state so_far.state so_far.represents c.in-Err.ensures.err)
+    (left_state c.args.formula.now c.command-item.result.command _ c.step.new.state so_far.state so_far.represents
+    c.in-Err.ensures.err)
     c.stop_at.ensures
 
 pub returns-in-Err-perform_any-clause-goes : goal.returns-in-Err-perform_any-clause-goes
