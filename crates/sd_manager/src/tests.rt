@@ -154,12 +154,14 @@ fn a_held_node(rt: HostRuntime) -> Result<(), Fail> {
 fn a_total_of_held_nodes(rt: HostRuntime) -> Result<(), Fail> {
     let (mut m, root) = over_two(rt.alloc(), 3)?;
     let clause = one_or_two(&mut m, root)?;
-    assert_eq!(rt; m.total(), 0);
-    let mut held = m.hold(clause)?;
+    let _held = m.hold(clause)?;
     assert_eq!(rt; m.total(), 2);
-    let two = m.literal(2);
-    assert_eq!(rt; m.rebind(&mut held, two), clause);
-    assert_eq!(rt; m.total(), 0);
+    let (mut other, root) = over_two(rt.alloc(), 3)?;
+    let clause = one_or_two(&mut other, root)?;
+    let mut held = other.hold(clause)?;
+    let two = other.literal(2);
+    assert_eq!(rt; other.rebind(&mut held, two), clause);
+    assert_eq!(rt; other.total(), 0);
     Ok(())
 }
 
