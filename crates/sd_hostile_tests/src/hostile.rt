@@ -13,11 +13,11 @@ const TWO_TERMS_AS_SDD: &str = "sdd 13\nL 0 0 -1\nF 1\nL 2 0 1\nL 3 2 2\nD 4 1 2
     L 6 2 -2\nD 7 1 2 0 5 2 6\nL 8 4 -3\nL 9 4 3\nL 10 6 4\nD 11 5 2 8 1 9 10\nD 12 3 2 4 5 7 11\n";
 
 // Runs the words over a file that is cut off after so many bytes, beside other files, and says whether the file was
-// refused with this fault, and nothing written; or, where there is none, whether the run ended well.
+// refused with this fault and status, and nothing written; or, where there is no fault, whether the run ended well.
 fn is_refused(
     rt: &(impl Threads + Sync),
     alloc: Global,
-    words: &str,
+    (words, status): (&str, u8),
     name: &str,
     cut: (&str, usize, &str),
 ) -> Result<bool, AllocError> {
@@ -30,7 +30,7 @@ fn is_refused(
         return Ok(end.status == 0 && end.err.bytes().is_empty());
     }
     let line = format!(in alloc; "sddc: {name}: {fault}\n")?;
-    Ok(end.ended(2, "", &line) && end.lacks("out"))
+    Ok(end.ended(status, "", &line) && end.lacks("out") && end.lacks("before"))
 }
 
 // The fault after so many bytes, by a table of up to how many bytes each one comes.
@@ -47,14 +47,14 @@ fn fault_at<'a>(table: &[(usize, &'a str)], count: usize) -> &'a str {
 fn are_refused(
     rt: &(impl Threads + Sync),
     alloc: Global,
-    words: &str,
+    run: (&str, u8),
     file: (&str, &str),
     table: &[(usize, &str)],
 ) -> Result<bool, AllocError> {
     let (name, text) = file;
     for count in 0..text.len() {
         let cut = (text, count, fault_at(table, count));
-        if !is_refused(rt, alloc, words, name, cut)? {
+        if !is_refused(rt, alloc, run, name, cut)? {
             return Ok(false);
         }
     }
@@ -72,8 +72,8 @@ fn formulas_that_are_cut_off(rt: HostRuntime) -> Result<(), Fail> {
         (20, "last group is not ended"),
         (21, ""),
     ];
-    let words = "--dnf in --out-sdd out";
-    assert!(rt; are_refused(&rt, rt.alloc(), words, ("in", TWO_TERMS), &table)?);
+    let run = ("--dnf in --out-sdd out", 2);
+    assert!(rt; are_refused(&rt, rt.alloc(), run, ("in", TWO_TERMS), &table)?);
     Ok(())
 }
 
@@ -97,8 +97,8 @@ fn vtrees_that_are_cut_off(rt: HostRuntime) -> Result<(), Fail> {
         (54, "line 8: bad line"),
         (55, ""),
     ];
-    let words = "--dnf in --vtree tree --out-sdd out";
-    assert!(rt; are_refused(&rt, rt.alloc(), words, ("tree", BALANCED), &table)?);
+    let run = ("--dnf in --vtree tree --out-sdd out", 2);
+    assert!(rt; are_refused(&rt, rt.alloc(), run, ("tree", BALANCED), &table)?);
     Ok(())
 }
 
@@ -136,8 +136,49 @@ fn diagrams_that_are_cut_off(rt: HostRuntime) -> Result<(), Fail> {
         (140, "line 14: bad line"),
         (142, ""),
     ];
-    let words = "--dnf in --script s";
-    assert!(rt; are_refused(&rt, rt.alloc(), words, ("part", TWO_TERMS_AS_SDD), &table)?);
+    let run = ("--dnf in --script s", 2);
+    assert!(rt; are_refused(&rt, rt.alloc(), run, ("part", TWO_TERMS_AS_SDD), &table)?);
+    Ok(())
+}
+
+const MOVES: &str =
+    "lit a 1\nlit b 2\nlit c 3\nand g b c\nor h a g\nsize h\nwrite h before\nrotr 3\nsize g\n\
+size h\nwrite h after\nrotl 1\nwrite h again\n";
+
+/// A script that is cut off behind a whole command is a shorter script. Of a script with a fault nothing is done.
+#[test]
+fn scripts_that_are_cut_off(rt: HostRuntime) -> Result<(), Fail> {
+    let table = [
+        (0, ""),
+        (6, "line 1: bad line"),
+        (8, ""),
+        (14, "line 2: bad line"),
+        (16, ""),
+        (22, "line 3: bad line"),
+        (24, ""),
+        (32, "line 4: bad line"),
+        (34, ""),
+        (41, "line 5: bad line"),
+        (43, ""),
+        (48, "line 6: bad line"),
+        (50, ""),
+        (58, "line 7: bad line"),
+        (65, ""),
+        (70, "line 8: bad line"),
+        (72, ""),
+        (77, "line 9: bad line"),
+        (79, ""),
+        (84, "line 10: bad line"),
+        (86, ""),
+        (94, "line 11: bad line"),
+        (100, ""),
+        (105, "line 12: bad line"),
+        (107, ""),
+        (115, "line 13: bad line"),
+        (120, ""),
+    ];
+    let run = ("--dnf in --start left --script part", 3);
+    assert!(rt; are_refused(&rt, rt.alloc(), run, ("part", MOVES), &table)?);
     Ok(())
 }
 

@@ -11,6 +11,11 @@ const FOUND_AS_SDD: &str =
     "sdd 12\nL 0 0 -1\nL 1 4 -4\nF 2\nL 3 4 4\nL 4 6 2\nD 5 5 2 1 2 3 4\nL 6 0 1\nL 7 2 -3\n\
 L 8 2 3\nT 9\nD 10 3 2 7 5 8 9\nD 11 1 2 0 5 6 10\n";
 
+// The vtrees (1 (2 (3 4))) and (((3 4) 2) 1).
+const FIFTH_SHAPE: &str = "vtree 7\nL 0 1\nL 2 2\nL 4 3\nL 6 4\nI 5 4 6\nI 3 2 5\nI 1 0 3\n";
+
+const LAST_SHAPE: &str = "vtree 7\nL 0 3\nL 2 4\nI 1 0 2\nL 4 2\nI 3 1 4\nL 6 1\nI 5 3 6\n";
+
 const BALANCED_SHAPE: &str = "vtree 7\nL 0 1\nL 2 2\nI 1 0 2\nL 4 3\nL 6 4\nI 5 4 6\nI 3 1 5\n";
 
 const PAIRED_AS_SDD: &str =
@@ -88,5 +93,25 @@ fn a_search_follows_each_group(rt: HostRuntime) -> Result<(), Fail> {
     )?;
     assert!(rt; end.ended(4, "", "sddc: line 1: group 2: size 14 passes limit 13\n"));
     assert!(rt; end.lacks("out"));
+    Ok(())
+}
+
+/// The walk at the root goes through the other eleven arrangements of its three subtrees, of these sizes. The first of
+/// least size is the fifth, where the walk ends.
+#[test]
+fn each_size_of_a_walk(rt: HostRuntime) -> Result<(), Fail> {
+    let alloc = rt.alloc();
+    let script =
+        "input f\nsize f\nswap 3\nsize f\nrotl 3\nsize f\nswap 5\nsize f\nrotl 1\nsize f\nswap 5\n\
+vtree fifth\nsize f\nswap 3\nsize f\nrotl 1\nsize f\nswap 5\nsize f\nrotl 1\nsize f\nswap 3\nsize f\nrotl 3\n\
+vtree last\nsize f\n";
+    let files = two_files(alloc, CROSSED_TERMS, "s", script)?;
+    let end = ran(&rt, alloc, "--dnf in --script s", files)?;
+    let sizes =
+        "size 14\nsize 14\nsize 19\nsize 11\nsize 13\nsize 8\nsize 11\nsize 13\nsize 8\nsize 14\nsize 14\n\
+size 19\n";
+    assert!(rt; end.ended(0, sizes, ""));
+    assert!(rt; end.holds("fifth", FIFTH_SHAPE));
+    assert!(rt; end.holds("last", LAST_SHAPE));
     Ok(())
 }
