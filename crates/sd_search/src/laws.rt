@@ -2,7 +2,7 @@
 
 ghost use Rattle.std.specs.Prelude.{◌≡◌, ℕ, List, ◌∷◌, [], map};
 ghost use Rattle.sd_model.specs.Expression.{Expression};
-ghost use Rattle.sd_model.specs.Tree.{Tree, Node, IsVtree};
+ghost use Rattle.sd_model.specs.Tree.{Tree, Leaf, Node, IsVtree};
 ghost use Rattle.sd_search.specs.Search.{IsSearch, Found, walk_moves, LeadThrough};
 
 /// A search from a vtree has one result: the tree, both sizes and the number of rounds are functions of the formulas,
@@ -20,4 +20,13 @@ pub fn eleven_arrangements()
         (Node c (Node a b) ∷ Node (Node c a) b ∷ Node b (Node c a) ∷ Node (Node b c) a
         ∷ Node a (Node b c) ∷ Node a (Node c b) ∷ Node (Node a c) b ∷ Node b (Node a c)
         ∷ Node (Node b a) c ∷ Node c (Node b a) ∷ Node (Node c b) a ∷ []) }
+{}
+
+/// So it does from two subtrees on the right of a leaf: these are all the nodes with three subtrees.
+#[tactic(auto, using(crate::proofs::WorkedSearch::from_right))]
+pub fn eleven_from_the_right()
+    ensures { (x : ℕ) (b c : Tree) → LeadThrough (Node (Leaf x) (Node b c)) [] (walk_moves (Node (Leaf x) (Node b c)))
+        (Node (Node (Leaf x) b) c ∷ Node c (Node (Leaf x) b) ∷ Node (Node c (Leaf x)) b ∷ Node b (Node c (Leaf x))
+        ∷ Node (Node b c) (Leaf x) ∷ Node (Node c b) (Leaf x) ∷ Node (Leaf x) (Node c b) ∷ Node (Node (Leaf x) c) b
+        ∷ Node b (Node (Leaf x) c) ∷ Node (Node b (Leaf x)) c ∷ Node c (Node b (Leaf x)) ∷ []) }
 {}
