@@ -1,5 +1,6 @@
 pub mod Moved
 pub mod Determined
+pub mod NeverLarger
 pub mod WorkedSearch
 pub mod AlongPaths
 pub mod KeptRoots

@@ -1,8 +1,9 @@
 //! Laws of the search: functions whose contracts state a fact, and that do nothing.
 
-ghost use Rattle.std.specs.Prelude.{◌≡◌, ℕ, List, ◌∷◌, [], map};
+ghost use Rattle.std.specs.Prelude.{◌≡◌, ◌≤◌, ℕ, List, ◌∷◌, [], map};
 ghost use Rattle.sd_model.specs.Expression.{Expression};
 ghost use Rattle.sd_model.specs.Tree.{Tree, Leaf, Node, IsVtree};
+ghost use Rattle.sd_model.specs.Size.{HasSize};
 ghost use Rattle.sd_search.specs.Search.{IsSearch, Found, walk_moves, LeadThrough};
 
 /// A search from a vtree has one result: the tree, both sizes and the number of rounds are functions of the formulas,
@@ -11,6 +12,13 @@ ghost use Rattle.sd_search.specs.Search.{IsSearch, Found, walk_moves, LeadThroug
 pub fn one_result()
     ensures { (fs : List Expression) (slack rounds : ℕ) (t : Tree) (a b : Found) → IsVtree t
         → IsSearch fs slack rounds t a → IsSearch fs slack rounds t b → a ≡ b }
+{}
+
+/// The result of a search is no larger than its start, and the size that the search tells is that of the formulas there.
+#[tactic(auto, using(crate::proofs::NeverLarger::search_within))]
+pub fn never_larger()
+    ensures { (fs : List Expression) (slack rounds : ℕ) (t : Tree) (a : Found) → IsVtree t
+        → IsSearch fs slack rounds t a → (a.after ≤ a.before) × HasSize fs a.tree a.after }
 {}
 
 /// From two subtrees on the left a walk leads through the other eleven arrangements of the three subtrees.
