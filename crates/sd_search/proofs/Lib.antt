@@ -1,5 +1,6 @@
 pub mod Moved
 pub mod Determined
+pub mod AnyFormulas
 pub mod NeverLarger
 pub mod WorkedSearch
 pub mod AlongPaths

@@ -1,9 +1,12 @@
 //! Laws of the search: functions whose contracts state a fact, and that do nothing.
 
-ghost use Rattle.std.specs.Prelude.{◌≡◌, ◌≤◌, ℕ, List, ◌∷◌, [], map};
+ghost use Rattle.std.specs.Prelude.{◌≡◌, ◌≤◌, ℕ, List, ◌∷◌, [], map, None};
 ghost use Rattle.sd_model.specs.Expression.{Expression};
 ghost use Rattle.sd_model.specs.Tree.{Tree, Leaf, Node, IsVtree};
 ghost use Rattle.sd_model.specs.Size.{HasSize};
+ghost use Rattle.sd_manager.specs.Table.{Table};
+ghost use Rattle.sd_manager.specs.Valid.{IsTable};
+ghost use Rattle.sd_compile.specs.Total.{AreHeldFormulas};
 ghost use Rattle.sd_search.specs.Search.{IsSearch, Found, walk_moves, LeadThrough};
 
 /// A search from a vtree has one result: the tree, both sizes and the number of rounds are functions of the formulas,
@@ -19,6 +22,12 @@ pub fn one_result()
 pub fn never_larger()
     ensures { (fs : List Expression) (slack rounds : ℕ) (t : Tree) (a : Found) → IsVtree t
         → IsSearch fs slack rounds t a → (a.after ≤ a.before) × HasSize fs a.tree a.after }
+{}
+
+/// Outside a move there are formulas that the held roots stand for, so what holds for all of these is said of some.
+#[tactic(auto, using(crate::proofs::AnyFormulas::any_formulas))]
+pub fn there_are_formulas()
+    ensures { (t : Table) → IsTable t → t.moving ≡ None → (fs : List Expression) × AreHeldFormulas t fs }
 {}
 
 /// From two subtrees on the left a walk leads through the other eleven arrangements of the three subtrees.
