@@ -1,5 +1,5 @@
 -- A walk, a round and a search never come to a larger size than that at their start.
-use Rattle.std.proofs.Common.{◌≡◌, ℕ, suc, ◌*◌, ◌/◌, ◌<◌, ◌≤◌, List, [], ◌∷◌, ◌++◌, ap, subst}
+use Rattle.std.proofs.Common.{◌≡◌, ℕ, ◌*◌, ◌/◌, ◌<◌, ◌≤◌, List, [], ◌∷◌, ◌++◌, ap, subst}
 use native.Mathlib.Omega.{arith}
 use Rattle.std.specs.List.{AllByRecursion}
 use Rattle.sd_model.specs.Expression.{Expression}
@@ -7,7 +7,7 @@ use Rattle.sd_model.specs.Tree.{Tree, IsVtree}
 use Rattle.sd_model.specs.Size.{HasSize}
 use Rattle.sd_model.specs.declared.trees.Side.{Side}
 use Rattle.sd_model.proofs.Determined.{size_determined}
-use Rattle.sd_search.specs.Search.{WalkMove, walk_moves, LeadWithin, State, IsFirstLeast, IsWalk}
+use Rattle.sd_search.specs.Search.{WalkMove, walk_moves, LeadWithin, State, IsWalk}
 use Rattle.sd_search.specs.Search.{IsRound, round_at_leaf, round_at_node}
 use Rattle.sd_search.specs.Search.{Found, IsSearch, no_round, last_round, further_round}
 use Rattle.sd_search.proofs.Determined.{all_middle, walk_valid, round_valid}
