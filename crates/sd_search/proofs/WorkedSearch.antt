@@ -1,5 +1,5 @@
 -- Worked cases of the search: the arrangements that walks go through, and the states that they keep.
-use Rattle.std.specs.Prelude.{◌≡◌, ℕ, [], ◌∷◌, List}
+use Rattle.std.specs.Prelude.{ℕ, [], ◌∷◌, List}
 use Rattle.std.proofs.Common.{refl}
 use native.Mathlib.Omega.{arith}
 use Rattle.sd_model.specs.Tree.{Tree, Leaf, Node}

@@ -39,7 +39,7 @@ pub fn eleven_arrangements()
         ∷ Node (Node b a) c ∷ Node c (Node b a) ∷ Node (Node c b) a ∷ []) }
 {}
 
-/// So it does from two subtrees on the right of a leaf: these are all the nodes with three subtrees.
+/// So it does from two subtrees on the right of a leaf. Any other node has two subtrees on the left, or two leaves.
 #[tactic(auto, using(crate::proofs::WorkedSearch::from_right))]
 pub fn eleven_from_the_right()
     ensures { (x : ℕ) (b c : Tree) → LeadThrough (Node (Leaf x) (Node b c)) [] (walk_moves (Node (Leaf x) (Node b c)))
