@@ -17,7 +17,7 @@ pub fn one_result()
         → IsSearch fs slack rounds t a → IsSearch fs slack rounds t b → a ≡ b }
 {}
 
-/// The result of a search is no larger than its start, and the size that the search tells is that of the formulas there.
+/// The result of a search is no larger than its start, and the size that is told is that of the formulas there.
 #[tactic(auto, using(crate::proofs::NeverLarger::search_within))]
 pub fn never_larger()
     ensures { (fs : List Expression) (slack rounds : ℕ) (t : Tree) (a : Found) → IsVtree t
