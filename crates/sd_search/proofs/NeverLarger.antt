@@ -28,7 +28,8 @@ through_sized fs bound t path (m ∷ ms) (s ∷ states) h = (h.1, through_sized 
 -- the first of least size is at most the first of all
 least_within : (before behind states : List State) (least first : State) → first ∷ states ≡ before ++ least ∷ behind →
     AllByRecursion (λ s. least.size < s.size) before → least.size ≤ first.size
-least_within [] behind states least first e larger = (let same : first ≡ least = cc in omega (arith, ap (λ s. s.size) same))
+least_within [] behind states least first e larger =
+    (let same : first ≡ least = cc in omega (arith, ap (λ s. s.size) same))
 least_within (s ∷ before) behind states least first e larger =
     (let same : first ≡ s = cc in omega (arith, ap (λ s. s.size) same, larger.0))
 
