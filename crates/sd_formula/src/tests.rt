@@ -50,6 +50,14 @@ fn exclusive_groups(rt: HostRuntime) -> Result<(), Fail> {
     Ok(())
 }
 
+fn literal_range(line: u32, literal: i64) -> FormulaError {
+    FormulaError::LiteralRange { line, literal }
+}
+
+fn count_differs(stated: u64, found: u64) -> FormulaError {
+    FormulaError::CountDiffers { stated, found }
+}
+
 /// The fault of each text, read as a CNF.
 #[test]
 fn texts_that_are_refused(rt: HostRuntime) {
@@ -73,13 +81,7 @@ fn texts_that_are_refused(rt: HostRuntime) {
         (b"p cnf 2 1\n1 x 2 0", FormulaError::BadWord { line: 2 }),
         (b"p cnf 2 1\nxx1 0", FormulaError::BadWord { line: 2 }),
         (b"p cnf 2 1\n1\nx9 0", FormulaError::BadWord { line: 3 }),
-        (
-            b"p cnf 2 1\nx9 0",
-            FormulaError::LiteralRange {
-                line: 2,
-                literal: 9,
-            },
-        ),
+        (b"p cnf 2 1\nx9 0", literal_range(2, 9)),
         (b"p cnf 2 1\nx", FormulaError::Unterminated),
         (b"p cnf 2 1\nx\n%\n0\n", FormulaError::Unterminated),
         (
@@ -88,33 +90,12 @@ fn texts_that_are_refused(rt: HostRuntime) {
         ),
         (
             b"p cnf 2 1\n\n999999999999999999 0\nx",
-            FormulaError::LiteralRange {
-                line: 3,
-                literal: 999_999_999_999_999_999,
-            },
+            literal_range(3, 999_999_999_999_999_999),
         ),
-        (
-            b"p cnf 2 9\n1 0 -3",
-            FormulaError::LiteralRange {
-                line: 2,
-                literal: -3,
-            },
-        ),
+        (b"p cnf 2 9\n1 0 -3", literal_range(2, -3)),
         (b"p cnf 2 3\n1 2 0 1\n%\n0\n", FormulaError::Unterminated),
-        (
-            b"p cnf 2 3\n1 2 0\n-1 0\n",
-            FormulaError::CountDiffers {
-                stated: 3,
-                found: 2,
-            },
-        ),
-        (
-            b"p cnf 2 0\n0 0",
-            FormulaError::CountDiffers {
-                stated: 0,
-                found: 2,
-            },
-        ),
+        (b"p cnf 2 3\n1 2 0\n-1 0\n", count_differs(3, 2)),
+        (b"p cnf 2 0\n0 0", count_differs(0, 2)),
     ];
     for (text, fault) in rows {
         let answer = read_dimacs(rt.alloc(), text, Kind::Cnf);

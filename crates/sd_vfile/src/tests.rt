@@ -28,6 +28,10 @@ fn texts_of_one_tree(rt: HostRuntime) -> Result<(), Fail> {
     Ok(())
 }
 
+fn differs(stated: u64, found: u64) -> VtreeFault {
+    VtreeFault::CountDiffers { stated, found }
+}
+
 #[test]
 fn each_fault(rt: HostRuntime) {
     let rows: [(&[u8], VtreeFault); 17] = [
@@ -57,20 +61,8 @@ fn each_fault(rt: HostRuntime) {
             b"vtree 3\nL 0 1\nL 1 1\nI 2 0 1\n",
             VtreeFault::VariableWrong { line: 3 },
         ),
-        (
-            b"vtree 3\n",
-            VtreeFault::CountDiffers {
-                stated: 3,
-                found: 0,
-            },
-        ),
-        (
-            b"vtree 2\nL 0 1\n",
-            VtreeFault::CountDiffers {
-                stated: 2,
-                found: 1,
-            },
-        ),
+        (b"vtree 3\n", differs(3, 0)),
+        (b"vtree 2\nL 0 1\n", differs(2, 1)),
         (b"vtree 0\n", VtreeFault::NotOneRoot { roots: 0 }),
         (
             b"vtree 2\nL 0 1\nL 2 2\n",
@@ -97,68 +89,19 @@ fn each_fault(rt: HostRuntime) {
 fn prefixes(rt: HostRuntime) -> Result<(), Fail> {
     let rows = [
         (0, 6, VtreeFault::NoHeader),
-        (
-            7,
-            8,
-            VtreeFault::CountDiffers {
-                stated: 7,
-                found: 0,
-            },
-        ),
+        (7, 8, differs(7, 0)),
         (9, 12, VtreeFault::BadLine { line: 2 }),
-        (
-            13,
-            14,
-            VtreeFault::CountDiffers {
-                stated: 7,
-                found: 1,
-            },
-        ),
+        (13, 14, differs(7, 1)),
         (15, 18, VtreeFault::BadLine { line: 3 }),
-        (
-            19,
-            20,
-            VtreeFault::CountDiffers {
-                stated: 7,
-                found: 2,
-            },
-        ),
+        (19, 20, differs(7, 2)),
         (21, 26, VtreeFault::BadLine { line: 4 }),
-        (
-            27,
-            28,
-            VtreeFault::CountDiffers {
-                stated: 7,
-                found: 3,
-            },
-        ),
+        (27, 28, differs(7, 3)),
         (29, 32, VtreeFault::BadLine { line: 5 }),
-        (
-            33,
-            34,
-            VtreeFault::CountDiffers {
-                stated: 7,
-                found: 4,
-            },
-        ),
+        (33, 34, differs(7, 4)),
         (35, 38, VtreeFault::BadLine { line: 6 }),
-        (
-            39,
-            40,
-            VtreeFault::CountDiffers {
-                stated: 7,
-                found: 5,
-            },
-        ),
+        (39, 40, differs(7, 5)),
         (41, 46, VtreeFault::BadLine { line: 7 }),
-        (
-            47,
-            48,
-            VtreeFault::CountDiffers {
-                stated: 7,
-                found: 6,
-            },
-        ),
+        (47, 48, differs(7, 6)),
         (49, 54, VtreeFault::BadLine { line: 8 }),
     ];
     let mut next = 0;
