@@ -478,6 +478,18 @@ impl Nodes {
         );
     }
 
+    /// Removes a linked node without uses, as `unlink` and then `remove` do: its number and its run are
+    /// free then.
+    pub fn retire(&mut self, node: u32)
+        requires node { IsIdle self.old node }
+        ensures retired { (k : ℕ × List (ℕ × ℕ)) → get self.old.linked node ≡ Some k
+            → self.new ≡ removed (unlinked self.old node k) node k.1 }
+        ensures nodes { IsNodes self.new }
+    {
+        self.unlink(node);
+        self.remove(node);
+    }
+
     /// A linked node without uses, where there is one: any of them.
     pub fn idle(&mut self) -> Option<u32>
         ensures some { IfSome result (λ n. IsIdle self.new n) }
