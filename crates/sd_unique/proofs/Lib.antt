@@ -22,6 +22,7 @@ mod Standing
 mod Detaching
 mod Attaching
 mod Freeing
+mod Retired
 mod Popped
 mod AtPlace
 mod Idle

@@ -5,8 +5,8 @@ use crate::found::Found;
 use crate::hash::{bucket_at, hash};
 use crate::lists::{at_place, put_first};
 use crate::record::{Links, NO_RECORD, Record, RecordState};
-use crate::stack::{pop_used, push, push_unused};
-use crate::states::{attach, detach, release};
+use crate::stack::{pop_top, pop_used, push, push_unused};
+use crate::states::{attach, detach, free, release};
 use sd_runs::{Runs, TakeError};
 use std::alloc::{AllocError, Global};
 use std::marker::Model;
@@ -486,8 +486,15 @@ impl Nodes {
             → self.new ≡ removed (unlinked self.old node k) node k.1 }
         ensures nodes { IsNodes self.new }
     {
-        self.unlink(node);
-        self.remove(node);
+        free(
+            &mut self.runs,
+            &mut self.records,
+            &mut self.links,
+            &mut self.heads,
+            &mut self.places,
+            node,
+        );
+        self.candidates = pop_top(&mut self.links, self.candidates, node);
     }
 
     /// A linked node without uses, where there is one: any of them.
