@@ -30,6 +30,7 @@ mod Whole
 mod Sought
 mod Occupied
 mod Pushed
+mod Appended
 mod Rechained
 mod Growing
 mod Nothing
