@@ -60,6 +60,7 @@ impl LiveCounts {
         requires next { number ≤ length self.old.live }
         ensures grown { OnOk result (IsGrown self.old self.new) }
         ensures room { OnOk result (number < length self.new.live) }
+        ensures same { number < length self.old.live → self.new ≡ self.old }
         ensures err { OnErr result (self.new ≡ self.old) }
     {
         if (number as usize) < self.counts.len() {

@@ -15,7 +15,8 @@ use Rattle.sd_runs.proofs.Maps.{shown, filled_set, get_filled, with_list_some}
 use Rattle.sd_runs.proofs.Places.{by_cases, placed, not_equal}
 use Rattle.sd_runs.proofs.Steps.{free_inside, stored_reuse}
 use Rattle.sd_runs.proofs.Told.{outside, list_other, stacks_are, lists_are, kept_from}
-use Rattle.sd_runs.proofs.Written.{put, put_length, put_other, put_part}
+use Rattle.sd_runs.specs.Written.{put}
+use Rattle.sd_runs.proofs.Written.{put_length, put_other, put_part}
 
 module _ (elements : List (ℕ × ℕ)) (lengths heads : List ℕ) (used bound s n : ℕ) (rest : List ℕ)
     (k : HoldsRuns elements lengths heads used bound)

@@ -8,6 +8,7 @@
 mod error;
 mod heads;
 mod runs;
+mod writing;
 
 pub use error::TakeError;
 pub use runs::Runs;

@@ -1,6 +1,7 @@
 // The runs of one arena.
 use crate::TakeError;
 use crate::heads::{NONE, make_heads};
+use crate::writing::write;
 use std::alloc::Global;
 use std::marker::Model;
 
@@ -72,6 +73,7 @@ impl Runs {
     /// Makes a run of this list, of one element or more, live and answers its start: that of the
     /// free run of its length that was given last, or else the extent, which grows. After an error
     /// nothing is changed.
+    #[inline(always)]
     pub fn take(&mut self, list: &[(u32, u32)]) -> Result<u32, TakeError>
         requires { 0 < length list.now }
         ensures start { IfOk result (λ start. start ≡ next_start self.old (length list.now)) }
@@ -102,6 +104,7 @@ impl Runs {
     }
 
     // The free run of this length that was given last.
+    #[inline(always)]
     fn newest(&self, length: usize) -> Option<u32>
         ensures { result ≡ first (free_of self.now length) }
     {
@@ -114,6 +117,7 @@ impl Runs {
     }
 
     // Makes the free run of its length that was given last live, with this list.
+    #[inline(always)]
     fn reuse(&mut self, start: u32, list: &[(u32, u32)])
         requires at_least_one { 0 < length list.now }
         requires kept { first (free_of self.old (length list.now)) ≡ Some start }
@@ -124,12 +128,13 @@ impl Runs {
         let length = list.len();
         let start = start as usize;
         self.heads[length] = self.elements[start].0;
-        self.elements[start..start + length].copy_from_slice(list);
+        write(&mut self.elements, start, list);
         self.used += length as u32;
     }
 
     // A new run at the end of the arena. What may be refused comes before the fields change that are
     // seen.
+    #[inline(never)]
     fn grow(&mut self, list: &[(u32, u32)]) -> Result<u32, TakeError>
         requires at_least_one { 0 < length list.now }
         requires kept { free_of self.old (length list.now) ≡ [] }

@@ -28,7 +28,7 @@ use Rattle.sd_unique.proofs.Standing.{unchained, listed_at, stacked_kept}
 module _ (arena : Arena) (rs mid : List Record) (n : ℕ) (m t : Record) (kept : KeepsRecords rs mid)
     (there : slice_get mid n ≡ Some m) (place : t.place ≡ m.place) (start : t.start ≡ m.start)
     (size : t.length ≡ m.length) (uses : t.uses ≡ m.uses) (mark : t.mark ≡ m.mark) (is : t.state ≡ Detached) where
-  was_linked : IsSome (get (nodes_of arena rs).linked n) → m.state ≡ Linked
+  pub was_linked : IsSome (get (nodes_of arena rs).linked n) → m.state ≡ Linked
   was_linked h =
       let w = kept.was n m there in
       let r = linked_there arena rs n h in

@@ -22,6 +22,7 @@ mod Standing
 mod Detaching
 mod Attaching
 mod Freeing
+mod Retired
 mod Popped
 mod AtPlace
 mod Idle
@@ -29,6 +30,7 @@ mod Whole
 mod Sought
 mod Occupied
 mod Pushed
+mod Appended
 mod Rechained
 mod Growing
 mod Nothing

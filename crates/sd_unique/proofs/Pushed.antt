@@ -77,7 +77,7 @@ link_before f [] x (suc i) h = refl
 link_before f (y ∷ xs) x zero h = refl
 link_before f (y ∷ xs) x (suc i) h = link_before f xs x i (λ e. h (omega arith))
 
-link_last : {X : Type 0} (f : X → ℕ) (xs : List X) (x : X) → get_or (map f (xs ++ x ∷ [])) (length xs) 0 ≡ f x
+pub link_last : {X : Type 0} (f : X → ℕ) (xs : List X) (x : X) → get_or (map f (xs ++ x ∷ [])) (length xs) 0 ≡ f x
 link_last f [] x = refl
 link_last f (y ∷ xs) x = link_last f xs x
 
@@ -351,18 +351,11 @@ module _ (arena new : Arena) (rs : List Record) (links : List Links) (heads plac
         (omega (arith, room, (kept_taken.stored).bound_fits, ((kept_taken.stored).well).bounded))
         (none_first ∙ sym next) kept_taken)))
 
-    pushed_view : nodes_of new ts ≡ with_records (with_loose a start list) (a.records + 1)
+    pub pushed_view : nodes_of new ts ≡ with_records (with_loose a start list) (a.records + 1)
     pushed_view =
         ap (nodes_of new) grown ∙ nodes_free new rs r free
         ∙ ap (λ b. with_records b (length rs + 1)) view_taken
         ∙ ap (λ m. with_records (with_loose a start list) (m + 1)) (ap (λ b. b.records) view)
-
-    pub pushed_run : (hash place : ℕ) → hash ≡ hash_of (place, list) → IsAbsent a (place, list)
-        → (x : List (ℕ × ℕ)) × IsLoose (nodes_of new ts) start (length list) x × (hash ≡ hash_of (place, x))
-        × IsAbsent (nodes_of new ts) (place, x)
-    pushed_run hash place hashed absent =
-        subst (λ b. (x : List (ℕ × ℕ)) × IsLoose b start (length list) x × (hash ≡ hash_of (place, x))
-        × IsAbsent b (place, x)) (sym pushed_view) (list, run_taken a (a.records + 1) start list, hashed, absent)
 
     pub pushed_number : (n : ℕ) × IsFreeNumber (nodes_of new ts) n
     pushed_number = (

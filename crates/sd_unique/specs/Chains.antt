@@ -2,6 +2,7 @@
 -- the stack of candidates.
 use Rattle.std.specs.Prelude.{◌≡◌, ℕ, suc, zero, ◌+◌, ◌*◌, ◌/◌, ◌%◌, ◌-◌, ◌<◌, ◌^◌, List, length, map, get_or}
 use Rattle.std.specs.Prelude.{Bool, not, ◌==◌, cond, Option, Some, None, slice_get, bit_and}
+use Rattle.std.specs.Int.{w64, rotate_left}
 use Rattle.std.specs.List.{fold, sum_by}
 use Rattle.std.specs.Option.{option_and_then}
 use Rattle.sd_runs.specs.Arena.{Arena}
@@ -12,13 +13,14 @@ use Rattle.sd_unique.specs.declared.record.Links.{Links}
 use Rattle.sd_unique.specs.declared.record.RecordState.{RecordState}
 use Rattle.sd_unique.specs.declared.record.RecordState.TheVariants.{Free, Linked, Detached}
 
--- a hash with one more word in it
-unfoldable pub mixed : ℕ → ℕ → ℕ
-mixed hash word = (hash + word) % 2 ^ 64 * 11400714819323198485 % 2 ^ 64
+-- a hash with one more pair in it: its halves change places, then the pair is added as one word, and a product mixes
+-- the bits
+unfoldable pub mixed : ℕ → ℕ × ℕ → ℕ
+mixed hash pair = (rotate_left w64 hash 32 + (pair.1 * 2 ^ 32 + pair.0)) % 2 ^ 64 * 11400714819323198485 % 2 ^ 64
 
--- the hash of a place and a list: the upper half of what all words give
+-- the hash of a place and a list: the upper half of what the place and all pairs give
 unfoldable pub hash_of : ℕ × List (ℕ × ℕ) → ℕ
-hash_of key = fold (λ hash pair. mixed (mixed hash pair.0) pair.1) (mixed 0 key.0) key.1 / 2 ^ 32
+hash_of key = fold mixed (mixed 0 (key.0, 0)) key.1 / 2 ^ 32
 
 -- the bucket of a key among so many
 unfoldable pub bucket_of : ℕ × List (ℕ × ℕ) → ℕ → ℕ

@@ -14,11 +14,12 @@
 //!
 //! A look-up reads a head, then the records of its bucket until one has the key, and of these the list
 //! where place and length agree: it takes the length of the list and of the chain. `insert`, `relink`
-//! and `take_run` take the length of the list, `unlink` that of the chain, and `first_at` goes along the
-//! list of the place's remainder. `idle` takes candidates off the stack until it finds one, each of
-//! them once for each time that it was put there. The other calls are a few loads and stores, but for
-//! `new`, which makes the heads. The buckets double where they are as few as the records. That takes
-//! a step for each record, and reads no list: the links keep the hash of each linked record.
+//! and `take_run` take the length of the list, `unlink` and `retire` that of the chain, and `first_at`
+//! goes along the list of the place's remainder. `idle` takes candidates off the stack until it finds
+//! one, each of them once for each time that it was put there; `retire` takes the node off that `idle`
+//! just answered. The other calls are a few loads and stores, but for `new`, which makes the heads. The
+//! buckets double where they are as few as the records. That takes a step for each record, and reads
+//! no list: the links keep the hash of each linked record.
 //!
 //! A node of two elements has a record of 32 bytes, links of 16, a run of 16 with its length of 4, and
 //! 4 to 8 of the buckets: 72 to 76 bytes, beside the room that vectors keep for growth.

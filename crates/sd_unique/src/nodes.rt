@@ -5,8 +5,8 @@ use crate::found::Found;
 use crate::hash::{bucket_at, hash};
 use crate::lists::{at_place, put_first};
 use crate::record::{Links, NO_RECORD, Record, RecordState};
-use crate::stack::{pop_used, push, push_unused};
-use crate::states::{attach, detach, release};
+use crate::stack::{pop_top, pop_used, push, push_unused};
+use crate::states::{attach, detach, free, release};
 use sd_runs::{Runs, TakeError};
 use std::alloc::{AllocError, Global};
 use std::marker::Model;
@@ -92,6 +92,7 @@ impl Nodes {
     }
 
     // Finds a node as `find` does, by the hash of its key too.
+    #[inline(always)]
     fn lookup(&self, hash: u32, place: u32, list: &[(u32, u32)]) -> Option<u32>
         requires hash { hash ≡ hash_of (place, list.now) }
         ensures some { IfSome result (λ n. get self.now.linked n ≡ Some (place, list.now)) }
@@ -119,6 +120,7 @@ impl Nodes {
     /// Makes a linked node with this place and list, with no uses and mark 0, and answers its number.
     /// No linked node may have them yet, and the list has one element or more. After an error nothing
     /// is changed.
+    #[inline(always)]
     pub fn insert(&mut self, place: u32, list: &[(u32, u32)]) -> Result<u32, TakeError>
         requires at_least_one { 0 < length list.now }
         requires absent { (n : ℕ) → get self.old.linked n ≢ Some (place, list.now) }
@@ -134,6 +136,7 @@ impl Nodes {
 
     /// Finds the linked node with this place and list, or makes it as `insert` does. The list has one
     /// element or more. After an error nothing is changed.
+    #[inline(always)]
     pub fn find_or_insert(&mut self, place: u32, list: &[(u32, u32)]) -> Result<Found, TakeError>
         requires at_least_one { 0 < length list.now }
         ensures present { IfOk result (λ found. IfPresent found
@@ -162,6 +165,7 @@ impl Nodes {
     }
 
     // Makes a linked node as `insert` does, by the hash of its key too.
+    #[inline(always)]
     fn insert_hashed(
         &mut self,
         hash: u32,
@@ -184,13 +188,21 @@ impl Nodes {
 
     // Doubles the buckets where they are not more than the records. Where there is no memory for
     // that, they stay.
+    #[inline(always)]
     fn grow_buckets(&mut self)
         ensures { self.new ≡ self.old }
     {
-        let buckets = self.heads.len() - 1;
-        if self.records.len() < buckets {
-            return;
+        if self.records.len() >= self.heads.len() - 1 {
+            self.double_buckets();
         }
+    }
+
+    // Doubles the buckets, where there is memory for that.
+    #[inline(never)]
+    fn double_buckets(&mut self)
+        ensures { self.new ≡ self.old }
+    {
+        let buckets = self.heads.len() - 1;
         if let Ok(mut heads) = empty_heads(self.alloc, 2 * buckets + 1) {
             heads[0] = self.heads[0];
             link_all(&self.runs, &self.links, &mut self.records, &mut heads);
@@ -199,6 +211,7 @@ impl Nodes {
     }
 
     // Makes a linked node as `insert_hashed` does, among the buckets that there are.
+    #[inline(always)]
     fn add(&mut self, hash: u32, place: u32, list: &[(u32, u32)]) -> Result<u32, TakeError>
         requires hash { hash ≡ hash_of (place, list.now) }
         requires at_least_one { 0 < length list.now }
@@ -210,21 +223,47 @@ impl Nodes {
         ensures err { OnErr result (self.new ≡ self.old) }
         ensures full { IfErr result (λ e. IsRefusal self.old (length list.now) e) }
     {
+        if self.heads[0] == NO_RECORD {
+            return self.add_record(hash, place, list);
+        }
+        let start = self.runs.take(list)?;
+        Ok(self.occupy(hash, place, (start, list.len() as u32)))
+    }
+
+    // The same where no number is free: a record is pushed as that of the node.
+    #[inline(never)]
+    fn add_record(&mut self, hash: u32, place: u32, list: &[(u32, u32)]) -> Result<u32, TakeError>
+        requires hash { hash ≡ hash_of (place, list.now) }
+        requires at_least_one { 0 < length list.now }
+        requires absent { (n : ℕ) → get self.old.linked n ≢ Some (place, list.now) }
+        requires all { (n : ℕ) → n < self.old.records → IsSome (key_at self.old n) }
+        ensures number { IfOk result (λ n. IsNewNumber self.old n) }
+        ensures ok { IfOk result (λ n. self.new ≡ inserted self.old n place list.now) }
+        ensures nodes { IsNodes self.new }
+        ensures room { OnOk result (¬ IsFull self.old (length list.now)) }
+        ensures err { OnErr result (self.new ≡ self.old) }
+        ensures full { IfErr result (λ e. IsRefusal self.old (length list.now) e) }
+    {
         self.records.reserve(1)?;
         self.links.reserve(1)?;
         let start = self.runs.take(list)?;
         let run = (start, list.len() as u32);
-        if self.heads[0] != NO_RECORD {
-            return Ok(self.occupy(hash, place, run));
-        }
-        self.heads[0] = self.records.len() as u32;
-        let _ = self.records.push(Record::free());
+        let number = self.records.len() as u32;
+        let head = bucket_at(hash, self.heads.len() - 1) + 1;
+        let _ = self
+            .records
+            .push(Record::linked(place, run, self.heads[head]));
         let _ = self.links.push(Links::new());
-        Ok(self.occupy(hash, place, run))
+        self.heads[head] = number;
+        let list = (place & 2047) as usize + 1;
+        put_first(&mut self.links, &mut self.places, list, number, hash);
+        self.candidates = push(&mut self.links, self.candidates, number);
+        Ok(number)
     }
 
     // Makes the first free record that of a linked node with this place and the list of a loose run,
     // with no uses and mark 0, and answers its number.
+    #[inline(always)]
     fn occupy(&mut self, hash: u32, place: u32, run: (u32, u32)) -> u32
         requires run { (list : List (ℕ × ℕ)) × IsLoose self.old run.0 run.1 list
             × (hash ≡ hash_of (place, list)) × IsAbsent self.old (place, list) }
@@ -476,6 +515,25 @@ impl Nodes {
             &mut self.places,
             node,
         );
+    }
+
+    /// Removes a linked node without uses, as `unlink` and then `remove` do: its number and its run are
+    /// free then.
+    pub fn retire(&mut self, node: u32)
+        requires node { IsIdle self.old node }
+        ensures retired { (k : ℕ × List (ℕ × ℕ)) → get self.old.linked node ≡ Some k
+            → self.new ≡ removed (unlinked self.old node k) node k.1 }
+        ensures nodes { IsNodes self.new }
+    {
+        free(
+            &mut self.runs,
+            &mut self.records,
+            &mut self.links,
+            &mut self.heads,
+            &mut self.places,
+            node,
+        );
+        self.candidates = pop_top(&mut self.links, self.candidates, node);
     }
 
     /// A linked node without uses, where there is one: any of them.

@@ -52,21 +52,27 @@ pub(crate) const NOT_WAITING: u32 = u32::MAX - 1;
 
 impl Record {
     ghost use Rattle.std.specs.Prelude.{◌≡◌};
-    ghost use Rattle.sd_unique.specs.Chains.{no_record};
 
-    // Of no node, the last of a chain.
-    pub(crate) fn free() -> Record
-        ensures next { result.next ≡ no_record }
-        ensures state { result.state ≡ RecordState.Free }
+    // Of a linked node that is not used yet.
+    pub(crate) fn linked(place: u32, run: (u32, u32), next: u32) -> Record
+        ensures { result ≡ record {
+          place = place;
+          start = run.0;
+          length = run.1;
+          next = next;
+          uses = 0;
+          mark = 0;
+          state = RecordState.Linked;
+        } }
     {
         Record {
-            place: 0,
-            start: 0,
-            length: 0,
-            next: NO_RECORD,
+            place,
+            start: run.0,
+            length: run.1,
+            next,
             uses: 0,
             mark: 0,
-            state: RecordState::Free,
+            state: RecordState::Linked,
         }
     }
 }

@@ -84,3 +84,15 @@ fn pop(links: &mut [Links], top: u32) -> u32
     links[top as usize].waiting = NOT_WAITING;
     next
 }
+
+// Takes a number off the stack where it is the top, and answers the top.
+pub(crate) fn pop_top(links: &mut [Links], top: u32, number: u32) -> u32
+    requires record { number ≢ no_record }
+    requires stacked { AreStacked links.old top }
+    ensures stacked { AreStacked links.new result }
+    ensures lists { KeepsLists links.old links.new }
+    ensures others { (n : ℕ) → n ≢ number → stack_under links.old n ≡ Some 0
+        → stack_under links.new n ≡ Some 0 }
+{
+    if top == number { pop(links, top) } else { top }
+}

@@ -1,5 +1,6 @@
 // A record comes to another state: it leaves its chain and its list for those of that state.
-ghost use Rattle.std.specs.Prelude.{◌≡◌, Some, ℕ, List};
+ghost use Rattle.std.specs.Prelude.{◌≡◌, slice_get, Some, ℕ, List};
+ghost use Rattle.sd_unique.specs.declared.record.Record.{Record};
 ghost use Rattle.std.specs.Option.{IsSome};
 ghost use Rattle.std.specs.FinMap.{get};
 ghost use Rattle.sd_unique.specs.Chains.{HoldsNodes, stack_under};
@@ -96,5 +97,38 @@ pub(crate) fn release(
     record.state = RecordState::Free;
     records[number as usize] = record;
     heads[0] = number;
+    runs.give(record.start, record.length);
+}
+
+// Makes a linked record a free one, and gives its run back.
+pub(crate) fn free(
+    runs: &mut Runs,
+    records: &mut [Record],
+    links: &mut [Links],
+    heads: &mut [u32],
+    places: &mut [u32],
+    node: u32,
+)
+    requires linked { IsSome (get (nodes_of runs.old records.old).linked node) }
+    requires kept { (top : ℕ) × HoldsNodes runs.old records.old links.old heads.old places.old top }
+    ensures kept { (top : ℕ) → HoldsNodes runs.old records.old links.old heads.old places.old top
+        → HoldsNodes runs.new records.new links.new heads.new places.new top }
+    ensures free { (r : Record) → slice_get records.new node ≡ Some r
+        → r.state ≡ RecordState.Free }
+    ensures nodes { (k : ℕ × List (ℕ × ℕ))
+        → get (nodes_of runs.old records.old).linked node ≡ Some k
+        → nodes_of runs.new records.new
+        ≡ removed (unlinked (nodes_of runs.old records.old) node k) node k.1 }
+{
+    let place = records[node as usize].place;
+    let hash = links[node as usize].hash;
+    let head = bucket_at(hash, heads.len() - 1) + 1;
+    cut(records, heads, head, node);
+    take_out(links, places, (place & 2047) as usize + 1, node);
+    let mut record = records[node as usize];
+    record.next = heads[0];
+    record.state = RecordState::Free;
+    records[node as usize] = record;
+    heads[0] = node;
     runs.give(record.start, record.length);
 }

@@ -141,6 +141,12 @@ fn idle_nodes(rt: HostRuntime) -> Result<(), Fail> {
         }
     }
     assert_eq!(rt; nodes.idle(), Some(2));
+    if let Some(node) = nodes.idle() {
+        nodes.retire(node);
+    }
+    assert_eq!(rt; nodes.idle().is_some(), true);
+    assert_eq!(rt; nodes.find(2, &[(1, 2), (3, 4)]), None);
+    assert_eq!(rt; nodes.find_or_insert(13, &[(5, 6), (7, 8)])?, Found::New(2));
     Ok(())
 }
 

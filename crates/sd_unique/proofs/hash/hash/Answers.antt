@@ -9,5 +9,5 @@ pub returns : goal.returns
 returns c =
     hash_is c.args.place c.args.list.now c.loop-pair.hash
     (c.loop-pair.invariant
-    ∙ ap (fold (λ hash pair. mixed (mixed hash pair.0) pair.1) (mixed 0 c.args.place))
+    ∙ ap (fold mixed (mixed 0 (c.args.place, 0)))
     (take_all c.loop-pair.pair-index c.args.list.now (omega arith)))

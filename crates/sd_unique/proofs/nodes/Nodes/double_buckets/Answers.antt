@@ -8,7 +8,7 @@ use Rattle.sd_unique.proofs.Growing.{linked_none}
 use Rattle.sd_unique.proofs.Rechained.{kept_rechained, kept_tables}
 use Rattle.sd_unique.proofs.Relinked.{nodes_kept}
 use Rattle.sd_unique.proofs.Stacked.{get_or_any, whole_slice}
-use Rattle.sd_unique.proofs.nodes.Nodes.grow_buckets.Goals as goal
+use Rattle.sd_unique.proofs.nodes.Nodes.double_buckets.Goals as goal
 
 pub link_all-requires-clause-linked : goal.link_all-requires-clause-linked
 link_all-requires-clause-linked c =

@@ -1,0 +1,180 @@
+use Rattle.std.proofs.Common.{◌≡◌, ◌+◌, bit_and, [], ◌∷◌, ◌++◌, length, take, drop, refl, sym, ap, subst, ◌∙◌, arith}
+use Rattle.std.proofs.lemmas.List.{nil_from_length}
+use Rattle.sd_runs.proofs.Places.{pushed}
+use Rattle.sd_unique.specs.Chains.{bucket_of, kept_hash, list_under, AreInLists, AreStacked, KeepsLists, KeepsStack}
+use Rattle.sd_unique.specs.Chains.{no_record, IsPushed}
+use Rattle.sd_unique.specs.Inserting.{IsFull, IsRefusal}
+use Rattle.sd_unique.specs.Record.{AreRecordsStored}
+use Rattle.sd_unique.proofs.Appended.{blank, appended_kept, appended_lists, appended_new, appended_nodes}
+use Rattle.sd_unique.proofs.Appended.{none_waits, appended_ready, appended_stacked, appended_unlisted}
+use Rattle.sd_unique.proofs.Counts.{count_is}
+use Rattle.sd_unique.proofs.Numbered.{is_nodes}
+use Rattle.sd_unique.proofs.Occupied.{kept_fields, stack_kept}
+use Rattle.sd_unique.proofs.Stacked.{whole_slice}
+use Rattle.sd_unique.proofs.Taken.{refusal_is, refused_by}
+use Rattle.sd_unique.proofs.nodes.Nodes.add_record.Goals as goal
+
+pub returns-in_err-reserve-clause-nodes : goal.returns-in_err-reserve-clause-nodes
+returns-in_err-reserve-clause-nodes c =
+    is_nodes (subst (AreRecordsStored c.self.inside.runs) (sym c.in_err-reserve.ensures.items) c.self.invariant.stored)
+
+pub returns-in_err-reserve-2-clause-nodes : goal.returns-in_err-reserve-2-clause-nodes
+returns-in_err-reserve-2-clause-nodes c =
+    is_nodes (subst (AreRecordsStored c.self.inside.runs) (sym c.in_ok-reserve.ensures.items) c.self.invariant.stored)
+
+pub returns-in_err-start-clause-nodes : goal.returns-in_err-start-clause-nodes
+returns-in_err-start-clause-nodes c =
+    is_nodes (subst (AreRecordsStored c.take.new.self) (sym c.in_ok-reserve.ensures.items)
+    (subst (λ a. AreRecordsStored a c.self.inside.records.items) (sym c.in_err-start.ensures.err)
+    c.self.invariant.stored))
+
+pub returns-in_err-start-clause-full : goal.returns-in_err-start-clause-full
+returns-in_err-start-clause-full c =
+    let refused = subst (λ a. IsRefusal a (length c.args.list.now) c.in_err-start.field-0.0) c.self.view_is
+    (refusal_is c.self.inside.runs c.self.inside.records.items
+    (length c.args.list.now) c.in_err-start.field-0.0 c.in_err-start.ensures.full) in
+    refused_by c.from_residual-in_err-start.result c.in_err-start.field-0.0
+    (λ e. IsRefusal c.args.self.now (length c.args.list.now) e) c.from_residual-in_err-start.ensures.1 refused
+
+pub put_first-requires-clause-listed : goal.put_first-requires-clause-listed
+put_first-requires-clause-listed c =
+    let linked : c.push-2.new.self.items ≡ c.self.inside.links.items ++ c.new.result ∷ [] =
+    pushed c.push-2.result _ _ _ (c.push-2.ensures.succeeds (omega (arith, c.in_ok-reserve-2.ensures.ok)))
+    c.push-2.ensures.items
+    ∙ ap (λ l. l ++ c.new.result ∷ []) c.in_ok-reserve-2.ensures.items in
+    appended_ready c.self.inside.runs c.take.new.self c.self.inside.records.items c.self.inside.links.items
+    c.self.inside.heads.items c.self.inside.places.items c.self.inside.candidates c.self.invariant
+    c.take.ensures.arena c.args.list.now c.in_ok-start.start c.in_ok-start.ensures.ok c.in_ok-start.ensures.start
+    c.in_ok-start.ensures.fresh c.in_ok-start.ensures.kept c.args.self.now c.self.view_is c.new.result c.new.ensures
+    no_record (none_waits c.self.inside.runs c.self.inside.records.items c.self.inside.links.items
+    c.self.inside.heads.items c.self.inside.places.items c.self.inside.candidates c.self.invariant c.args.self.now
+    c.self.view_is c.requires.all) refl c.requires.at_least_one c.len-number.result
+    (omega (arith, ap length c.in_ok-reserve.ensures.items))
+    c.deref_mut.result.now c.deref_mut-2.result.now (c.deref_mut.ensures.value ∙ linked) c.deref_mut-2.ensures.value
+
+pub push-self-inside-requires-clause-stacked : goal.push-self-inside-requires-clause-stacked
+push-self-inside-requires-clause-stacked c =
+    let linked : c.push-2.new.self.items ≡ c.self.inside.links.items ++ c.new.result ∷ [] =
+    pushed c.push-2.result _ _ _ (c.push-2.ensures.succeeds (omega (arith, c.in_ok-reserve-2.ensures.ok)))
+    c.push-2.ensures.items
+    ∙ ap (λ l. l ++ c.new.result ∷ []) c.in_ok-reserve-2.ensures.items in
+    let mid : c.deref_mut-3.result.now ≡ c.put_first.new.links = c.deref_mut-3.ensures.value
+    ∙ whole_slice c.put_first.new.links c.push-2.new.self.items c.push-2.new.self.len
+    (c.put_first.auto.links ∙ c.deref_mut.ensures.len) in
+    subst (λ l. AreStacked l c.self.inside.candidates) (sym mid)
+    (stack_kept c.deref_mut.result.now c.put_first.new.links c.self.inside.candidates c.put_first.ensures.stack
+    (subst (λ l. AreStacked l c.self.inside.candidates) (sym (c.deref_mut.ensures.value ∙ linked))
+    (appended_stacked c.self.inside.runs c.take.new.self c.self.inside.records.items c.self.inside.links.items
+    c.self.inside.heads.items c.self.inside.places.items c.self.inside.candidates c.self.invariant
+    c.take.ensures.arena c.args.list.now c.in_ok-start.start c.in_ok-start.ensures.ok c.in_ok-start.ensures.start
+    c.in_ok-start.ensures.fresh c.in_ok-start.ensures.kept c.args.self.now c.self.view_is c.new.result c.new.ensures
+    no_record (none_waits c.self.inside.runs c.self.inside.records.items c.self.inside.links.items
+    c.self.inside.heads.items c.self.inside.places.items c.self.inside.candidates c.self.invariant c.args.self.now
+    c.self.view_is c.requires.all) refl c.requires.at_least_one c.len-number.result
+    (omega (arith, ap length c.in_ok-reserve.ensures.items)))))
+
+pub invariant_of-self-2 : goal.invariant_of-self-2
+invariant_of-self-2 c =
+    let grown = pushed c.push.result _ _ _ (c.push.ensures.succeeds (omega (arith, c.in_ok-reserve.ensures.ok)))
+    c.push.ensures.items
+    ∙ ap (λ l. l ++ c.linked.result ∷ []) c.in_ok-reserve.ensures.items
+    ∙ ap (λ r. c.self.inside.records.items ++ r ∷ []) c.linked.ensures in
+    let linked : c.push-2.new.self.items ≡ c.self.inside.links.items ++ c.new.result ∷ [] =
+    pushed c.push-2.result _ _ _ (c.push-2.ensures.succeeds (omega (arith, c.in_ok-reserve-2.ensures.ok)))
+    c.push-2.ensures.items
+    ∙ ap (λ l. l ++ c.new.result ∷ []) c.in_ok-reserve-2.ensures.items in
+    let mid : c.deref_mut-3.result.now ≡ c.put_first.new.links = c.deref_mut-3.ensures.value
+    ∙ whole_slice c.put_first.new.links c.push-2.new.self.items c.push-2.new.self.len
+    (c.put_first.auto.links ∙ c.deref_mut.ensures.len) in
+    let places = whole_slice c.put_first.new.places c.self.inside.places.items c.self.inside.places.len
+    (c.put_first.auto.places ∙ c.deref_mut-2.ensures.len) in
+    let links = whole_slice c.push-self-inside.new.links
+    (take c.push-2.new.self.len (c.put_first.new.links
+    ++ drop (length c.put_first.new.links) c.push-2.new.self.items)) c.push-2.new.self.len
+    (c.push-self-inside.auto.links ∙ c.deref_mut-3.ensures.len) in
+    kept_fields c.take.new.self _ c.push-self-inside.new.links _ _ c.put_first.new.places _
+    c.push-self-inside.result links places
+    (appended_kept c.self.inside.runs c.take.new.self c.self.inside.records.items c.self.inside.links.items
+    c.self.inside.heads.items c.self.inside.places.items c.self.inside.candidates c.self.invariant
+    c.take.ensures.arena c.args.list.now c.in_ok-start.start c.in_ok-start.ensures.ok c.in_ok-start.ensures.start
+    c.in_ok-start.ensures.fresh c.in_ok-start.ensures.kept c.args.self.now c.self.view_is c.new.result c.new.ensures
+    no_record (none_waits c.self.inside.runs c.self.inside.records.items c.self.inside.links.items
+    c.self.inside.heads.items c.self.inside.places.items c.self.inside.candidates c.self.invariant c.args.self.now
+    c.self.view_is c.requires.all) refl c.requires.at_least_one c.len-number.result
+    (omega (arith, ap length c.in_ok-reserve.ensures.items))
+    c.args.hash c.args.place c.index.result.now c.requires.hash c.requires.absent c.push.new.self.items grown
+    c.bucket_at-head.result (c.bucket_at-head.result + 1)
+    (c.bucket_at-head.ensures.is (c.args.place, c.args.list.now) c.requires.hash
+    ∙ ap (bucket_of (c.args.place, c.args.list.now)) (omega arith))
+    (omega (arith, c.bucket_at-head.ensures.inside)) (omega arith) c.index.ensures
+    c.put_first.new.links c.push-self-inside.new.links c.put_first.new.places c.push-self-inside.result
+    (bit_and c.args.place 2047 + 1) (omega arith)
+    (c.put_first.ensures.listed (list_under (c.self.inside.records.items ++ blank ∷ []))
+    (appended_unlisted c.self.inside.runs c.take.new.self c.self.inside.records.items c.self.inside.links.items
+    c.self.inside.heads.items c.self.inside.places.items c.self.inside.candidates c.self.invariant
+    c.take.ensures.arena c.args.list.now c.in_ok-start.start c.in_ok-start.ensures.ok c.in_ok-start.ensures.start
+    c.in_ok-start.ensures.fresh c.in_ok-start.ensures.kept c.args.self.now c.self.view_is c.new.result c.new.ensures
+    no_record (none_waits c.self.inside.runs c.self.inside.records.items c.self.inside.links.items
+    c.self.inside.heads.items c.self.inside.places.items c.self.inside.candidates c.self.invariant c.args.self.now
+    c.self.view_is c.requires.all) refl c.requires.at_least_one c.len-number.result
+    (omega (arith, ap length c.in_ok-reserve.ensures.items)))
+    (subst (λ l. AreInLists l c.deref_mut-2.result.now (list_under (c.self.inside.records.items ++ blank ∷ [])))
+    (sym (c.deref_mut.ensures.value ∙ linked))
+    (subst (λ p. AreInLists (c.self.inside.links.items ++ c.new.result ∷ []) p
+    (list_under (c.self.inside.records.items ++ blank ∷ [])))
+    (sym c.deref_mut-2.ensures.value)
+    (appended_lists c.self.inside.runs c.take.new.self c.self.inside.records.items c.self.inside.links.items
+    c.self.inside.heads.items c.self.inside.places.items c.self.inside.candidates c.self.invariant
+    c.take.ensures.arena c.args.list.now c.in_ok-start.start c.in_ok-start.ensures.ok c.in_ok-start.ensures.start
+    c.in_ok-start.ensures.fresh c.in_ok-start.ensures.kept c.args.self.now c.self.view_is c.new.result c.new.ensures
+    no_record (none_waits c.self.inside.runs c.self.inside.records.items c.self.inside.links.items
+    c.self.inside.heads.items c.self.inside.places.items c.self.inside.candidates c.self.invariant c.args.self.now
+    c.self.view_is c.requires.all) refl c.requires.at_least_one c.len-number.result
+    (omega (arith, ap length c.in_ok-reserve.ensures.items))))))
+    (subst (λ l. KeepsStack l c.put_first.new.links) (c.deref_mut.ensures.value ∙ linked) c.put_first.ensures.stack)
+    (c.put_first.auto.places ∙ ap length c.deref_mut-2.ensures.value)
+    (subst (λ l. KeepsLists l c.push-self-inside.new.links) mid c.push-self-inside.ensures.lists)
+    c.push-self-inside.ensures.stacked
+    (subst (λ l. IsPushed l c.push-self-inside.new.links c.len-number.result) mid
+    c.push-self-inside.ensures.pushed)
+    c.put_first.ensures.hash
+    (λ m ne. c.put_first.ensures.hashes m ne ∙ ap (λ l. kept_hash l m) (c.deref_mut.ensures.value ∙ linked)))
+
+pub returns-clause-number : goal.returns-clause-number
+returns-clause-number c =
+    appended_new c.self.inside.runs c.take.new.self c.self.inside.records.items c.self.inside.links.items
+    c.self.inside.heads.items c.self.inside.places.items c.self.inside.candidates c.self.invariant
+    c.take.ensures.arena c.args.list.now c.in_ok-start.start c.in_ok-start.ensures.ok c.in_ok-start.ensures.start
+    c.in_ok-start.ensures.fresh c.in_ok-start.ensures.kept c.args.self.now c.self.view_is c.new.result c.new.ensures
+    no_record (none_waits c.self.inside.runs c.self.inside.records.items c.self.inside.links.items
+    c.self.inside.heads.items c.self.inside.places.items c.self.inside.candidates c.self.invariant c.args.self.now
+    c.self.view_is c.requires.all) refl c.requires.at_least_one c.len-number.result
+    (omega (arith, ap length c.in_ok-reserve.ensures.items))
+
+pub returns-clause-ok : goal.returns-clause-ok
+returns-clause-ok c =
+    let grown = pushed c.push.result _ _ _ (c.push.ensures.succeeds (omega (arith, c.in_ok-reserve.ensures.ok)))
+    c.push.ensures.items
+    ∙ ap (λ l. l ++ c.linked.result ∷ []) c.in_ok-reserve.ensures.items
+    ∙ ap (λ r. c.self.inside.records.items ++ r ∷ []) c.linked.ensures in
+    appended_nodes c.self.inside.runs c.take.new.self c.self.inside.records.items c.self.inside.links.items
+    c.self.inside.heads.items c.self.inside.places.items c.self.inside.candidates c.self.invariant
+    c.take.ensures.arena c.args.list.now c.in_ok-start.start c.in_ok-start.ensures.ok c.in_ok-start.ensures.start
+    c.in_ok-start.ensures.fresh c.in_ok-start.ensures.kept c.args.self.now c.self.view_is c.new.result c.new.ensures
+    no_record (none_waits c.self.inside.runs c.self.inside.records.items c.self.inside.links.items
+    c.self.inside.heads.items c.self.inside.places.items c.self.inside.candidates c.self.invariant c.args.self.now
+    c.self.view_is c.requires.all) refl c.requires.at_least_one c.len-number.result
+    (omega (arith, ap length c.in_ok-reserve.ensures.items))
+    c.args.hash c.args.place c.index.result.now c.requires.hash c.requires.absent c.push.new.self.items grown
+
+pub returns-clause-nodes : goal.returns-clause-nodes
+returns-clause-nodes c = is_nodes (invariant_of-self-2 c).stored
+
+pub returns-clause-room : goal.returns-clause-room
+returns-clause-room c =
+    subst (λ a. IsFull a (length c.args.list.now) → ⊥) c.self.view_is
+    (λ full. c.in_ok-start.ensures.room (
+      nil_from_length _ (sym (count_is c.self.inside.runs c.self.inside.records.items (length c.args.list.now))
+          ∙ full.0),
+      full.1,
+    ))
