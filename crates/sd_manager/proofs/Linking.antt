@@ -4,11 +4,13 @@ use Rattle.std.proofs.Common.{Bool, true, false, ◌||◌, List, [], ◌∷◌, 
 use Rattle.std.proofs.Common.{refl, sym, ap, subst, ◌∙◌, arith}
 use Rattle.std.proofs.lemmas.Bool.{cases_eq}
 use Rattle.std.proofs.lemmas.List.{length-map}
-use Rattle.std.proofs.lemmas.List.Sorted.{length_permutation}
+use Rattle.std.proofs.lemmas.List.Sorted.{length_permutation, IsPermutation-refl}
 use Rattle.std.specs.List.{list_any}
 use Rattle.std.specs.List.Sorted.{IsPermutation, IsSorted, IsStrictlySortedBy}
 use Rattle.std.specs.Option.{IsSome, option_map}
-use Rattle.std.specs.Ordering.{nat_cmp, eq_by_cmp}
+use Rattle.std.specs.Ordering.{nat_cmp, eq_by_cmp, is_lt, ordering_then}
+use Rattle.std.specs.declared.cmp.Ordering.TheVariants.{Greater}
+use Rattle.std.specs.Cmp.{nat_cmp_is}
 use Rattle.std.specs.FinMap.{FinMap, get, insert, len, len-entries, keys, entries, contains_key-keys}
 use Rattle.sd_runs.proofs.Maps.{apart, get_insert_same, get_insert_other}
 use Rattle.sd_runs.proofs.Places.{by_cases}
@@ -487,3 +489,18 @@ asked v a m e g t u place elements l items stored same at some differ order up l
   order = subst (λ x. IsPermutation elements x) (sym list) order;
   up = subst (λ x. IsSorted pair_cmp x) (sym list) up;
 }
+
+-- the same of two pairs that ascend
+pub asked_two : (v : Numbered) (a : Nodes) (m : FinMap nat_cmp ℕ) (e : ℕ) (g : Option ℕ) (t : Table) (u place : ℕ)
+    (first second : ℕ × ℕ) → IsStored a (table_of v a m e g) → table_of v a m e g ≡ t → u ≡ place →
+    (ds : List (Diagram × Diagram)) × IsPartitionAt t place (first ∷ second ∷ []) ds →
+    AreDistinct (map (λ e. e.1) (first ∷ second ∷ [])) → first.0 < second.0 →
+    IsAsked v a m e g u (first ∷ second ∷ []) (first ∷ second ∷ [])
+asked_two v a m e g t u place first second stored same at some differ up =
+    let two : List (ℕ × ℕ) = first ∷ second ∷ [] in
+    asked v a m e g t u place two two two stored same at some differ (IsPermutation-refl two) sorted refl
+  where
+    sorted : IsSorted pair_cmp (first ∷ second ∷ [])
+    sorted zero d least most =
+        ap (λ o. is_lt (ordering_then o (nat_cmp second.1 first.1))) (sym (nat_cmp_is second.0 first.0 Greater up))
+    sorted (suc k) d least most = absurd (omega (arith, most))

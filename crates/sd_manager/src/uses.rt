@@ -1,6 +1,6 @@
 //! The uses of nodes, counted by codes.
 
-ghost use Rattle.std.specs.Prelude.{◌≡◌, ◌+◌, ◌-◌, ◌<◌, ◌≤◌, ◌^◌, ℕ, List, Some};
+ghost use Rattle.std.specs.Prelude.{◌≡◌, ◌+◌, ◌-◌, ◌<◌, ◌≤◌, ◌^◌, ℕ, List, [], ◌∷◌, Some};
 ghost use Rattle.std.specs.Option.{IsSome};
 ghost use Rattle.std.specs.FinMap.{get};
 ghost use Rattle.sd_unique.specs.Nodes.{IsNodes, key_at, uses_at};
@@ -63,6 +63,19 @@ pub(crate) fn add_uses(nodes: &mut Nodes, list: &[(u32, u32)])
     for pair in list {
         add_pair(nodes, *pair);
     }
+}
+
+// Counts one use more of each code in two pairs.
+pub(crate) fn add_two(nodes: &mut Nodes, first: (u32, u32), second: (u32, u32))
+    requires valid { IsNodes nodes.old }
+    requires counted { AreCounted nodes.old (first ∷ second ∷ []) }
+    requires room { (n k : ℕ) → get nodes.old.uses n ≡ Some k
+        → k + uses_in (2050 + n) (first ∷ second ∷ []) < 2 ^ 64 }
+    ensures uses { AddsUses nodes.old nodes.new (λ c. uses_in c (first ∷ second ∷ [])) }
+    ensures valid { IsNodes nodes.new }
+{
+    add_pair(nodes, first);
+    add_pair(nodes, second);
 }
 
 // Counts one use less of both codes of a pair.
