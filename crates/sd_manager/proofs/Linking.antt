@@ -18,7 +18,7 @@ use Rattle.sd_runs.specs.declared.error.TakeError.{TakeError}
 use Rattle.sd_runs.specs.declared.error.TakeError.TheVariants.{ArenaFull, OutOfMemory}
 use Rattle.sd_model.specs.Tree.{leaves, AreDistinct}
 use Rattle.sd_model.specs.Diagram.{Diagram}
-use Rattle.sd_vtree.specs.Numbered.{Numbered, or_else, plain_tree}
+use Rattle.sd_vtree.specs.Numbered.{Numbered, IsNumbered, or_else, plain_tree}
 use Rattle.sd_unique.specs.Nodes.{Nodes, IsNodes, key_at as key_of_nodes, or_else as or_else_of_nodes, free_count}
 use Rattle.sd_unique.specs.Inserting.{inserted, extent_after, IsNewNumber, IsFull as IsFullOfNodes}
 use Rattle.sd_unique.specs.Inserting.{IsRefusal as IsRefusalOfNodes}
@@ -61,6 +61,16 @@ some_among m n h = any_among n (keys m) (sym (contains_key-keys m n) ∙ h)
 
 length_keys : {X : Type 0} (m : FinMap nat_cmp X) → length (keys m) ≡ len m
 length_keys {X} m = length-map (entries m) (λ (e : ℕ × X). e.0) ∙ sym (len-entries m)
+
+-- the codes of pairs that show diagrams are there
+pub pairs_there : (t : Table) → IsNumbered t.vtree → (l : List (ℕ × ℕ)) (ds : List (Diagram × Diagram)) →
+    ShowPairs t.vtree (get t.linked) l ds → AreThere t l
+pairs_there t numbered [] ds s = tt
+pairs_there t numbered (pair ∷ l) [] s = absurd s
+pairs_there t numbered (pair ∷ l) (d ∷ ds) s = (
+  (shown_has_node t numbered pair.0 d.0 s.0.0, shown_has_node t numbered pair.1 d.1 s.0.1),
+  pairs_there t numbered l ds s.1,
+)
 
 -- a list that is asked for
 pub record IsAsked (v : Numbered) (a : Nodes) (m : FinMap nat_cmp ℕ) (e : ℕ) (g : Option ℕ) (u : ℕ)
@@ -226,19 +236,7 @@ module _ (v : Numbered) (a : Nodes) (m : FinMap nat_cmp ℕ) (e : ℕ) (g : Opti
       pub list_there : AreThere grown l
       list_there =
           let f = partition_permuted v (get a.linked) u elements l h.one_partition.0 h.one_partition.1 h.order in
-          all_kept l (go l f.0 f.2.shown)
-        where
-          go : (k : List (ℕ × ℕ)) (ds : List (Diagram × Diagram)) → ShowPairs v (get a.linked) k ds →
-              AreThere (table_of v a m e g) k
-          go [] ds s = tt
-          go (pair ∷ k) [] s = absurd s
-          go (pair ∷ k) (d ∷ ds) s = (
-            (
-              shown_has_node (table_of v a m e g) h.stored.table.numbered pair.0 d.0 s.0.0,
-              shown_has_node (table_of v a m e g) h.stored.table.numbered pair.1 d.1 s.0.1,
-            ),
-            go k ds s.1,
-          )
+          all_kept l (pairs_there (table_of v a m e g) h.stored.table.numbered l f.0 f.2.shown)
 
       -- so they are counted
       pub list_counted : AreCounted (inserted a n u l) l

@@ -22,6 +22,7 @@ ghost use Rattle.sd_manager.specs.Moving.{next_epoch};
 ghost use Rattle.sd_manager.specs.Retiring.{IsIdle, IsRetired};
 ghost use Rattle.sd_manager.specs.Total.{IsTotal};
 
+use crate::finding::find_two;
 use crate::node_id::NodeId;
 use crate::pairs::{sort_into, trimmed, trimmed_pair};
 use crate::recount::uncount;
@@ -346,8 +347,7 @@ impl Manager {
             return Ok(NodeId(code));
         }
         self.counts.grow(self.nodes.records())?;
-        let list = [first, second];
-        let found = match self.nodes.find_or_insert(place.0, &list) {
+        let found = match find_two(&mut self.nodes, place.0, first, second) {
             Ok(found) => found,
             Err(error) => return Err(error),
         };

@@ -9,6 +9,7 @@ use Rattle.sd_manager.proofs.Linking.{asked_two, partition_inside, made_trimmed,
 use Rattle.sd_manager.proofs.Linking.{list_counted, list_room, new_short, at_new, stored_new, made_new, kept_new}
 use Rattle.sd_manager.proofs.Linking.{grown_new}
 use Rattle.sd_manager.proofs.Needed.{needed}
+use Rattle.sd_manager.proofs.Unlisted.{names_used, subs_counted}
 use Rattle.sd_manager.proofs.Found.{if_present, if_new}
 use Rattle.sd_manager.proofs.CountsAfter.{counts_made, new_alone}
 use Rattle.sd_counts.proofs.StaysRight.{right_grown}
@@ -35,7 +36,7 @@ returns-in-Present-clause-ok c = λ ds partition.
     c.args.second c.self.invariant.stored c.self.view_is c.place.view_is c.requires.partition c.requires.differ
     c.requires.ascend in
     let none = sym c.trimmed_pair.ensures ∙ c.in_default.is in
-    let same = if_present c.in-Ok.found c.in-Present.number (λ n. c.find_or_insert.new.self ≡ s.nodes)
+    let same = if_present c.in-Ok.found c.in-Present.number (λ n. c.find_two.new.nodes ≡ s.nodes)
     c.in-Present.is c.in-Ok.ensures.same in
     let there = if_present c.in-Ok.found c.in-Present.number
     (λ n. get s.nodes.linked n ≡ Some (c.place.inside.0, two)) c.in-Present.is
@@ -49,21 +50,27 @@ pub grow-requires : goal.grow-requires
 grow-requires c =
     record { next = omega (arith, c.self.invariant.counted.room, c.records.ensures.records) }
 
-pub find_or_insert-requires : goal.find_or_insert-requires
-find_or_insert-requires c =
+pub find_two-requires-clause-first : goal.find_two-requires-clause-first
+find_two-requires-clause-first c =
     let s = c.self.inside in
-    let two = c.args.first ∷ c.args.second ∷ [] in
     let h = asked_two s.vtree s.nodes s.roots s.epoch s.moving c.args.self.now c.place.inside.0 c.args.place c.args.first
     c.args.second c.self.invariant.stored c.self.view_is c.place.view_is c.requires.partition c.requires.differ
     c.requires.ascend in
-    let none = sym c.trimmed_pair.ensures ∙ c.in_default.is in
-    record {
-      at_least_one = omega (
-        arith,
-        two_pairs s.vtree s.nodes s.roots s.epoch s.moving c.place.inside.0 two
-            two h none,
-      );
-    }
+    (subs_counted s.vtree s.nodes s.roots s.epoch s.moving c.place.inside.0 c.args.first c.args.second
+    (c.args.first ∷ c.args.second ∷ []) h).0
+
+pub find_two-requires-clause-second : goal.find_two-requires-clause-second
+find_two-requires-clause-second c =
+    let s = c.self.inside in
+    let h = asked_two s.vtree s.nodes s.roots s.epoch s.moving c.args.self.now c.place.inside.0 c.args.place c.args.first
+    c.args.second c.self.invariant.stored c.self.view_is c.place.view_is c.requires.partition c.requires.differ
+    c.requires.ascend in
+    (subs_counted s.vtree s.nodes s.roots s.epoch s.moving c.place.inside.0 c.args.first c.args.second
+    (c.args.first ∷ c.args.second ∷ []) h).1
+
+pub find_two-requires-clause-used : goal.find_two-requires-clause-used
+find_two-requires-clause-used c =
+    let s = c.self.inside in names_used s.vtree s.nodes s.roots s.epoch s.moving c.self.invariant.stored
 
 pub returns-in-Err-clause-full : goal.returns-in-Err-clause-full
 returns-in-Err-clause-full c =
@@ -115,7 +122,7 @@ add_two-requires-clause-counted c =
     let number = if_new c.in-Ok.found c.in-New.number (λ n. IsNewNumber s.nodes n) c.in-New.is
     c.in-Ok.ensures.number in
     let is = if_new c.in-Ok.found c.in-New.number
-    (λ n. c.find_or_insert.new.self ≡ inserted s.nodes n c.place.inside.0 two) c.in-New.is
+    (λ n. c.find_two.new.nodes ≡ inserted s.nodes n c.place.inside.0 two) c.in-New.is
     c.in-Ok.ensures.ok in
     subst (λ x. AreCounted x two) (sym is)
     (list_counted s.vtree s.nodes s.roots s.epoch s.moving c.place.inside.0 two two h none
@@ -132,14 +139,14 @@ add_two-requires-clause-room c =
     let number = if_new c.in-Ok.found c.in-New.number (λ n. IsNewNumber s.nodes n) c.in-New.is
     c.in-Ok.ensures.number in
     let is = if_new c.in-Ok.found c.in-New.number
-    (λ n. c.find_or_insert.new.self ≡ inserted s.nodes n c.place.inside.0 two) c.in-New.is
+    (λ n. c.find_two.new.nodes ≡ inserted s.nodes n c.place.inside.0 two) c.in-New.is
     c.in-Ok.ensures.ok in
     subst (λ x. (q k : ℕ) → get x.uses q ≡ Some k → k + uses_in (2050 + q) two < 2 ^ 64)
     (sym is)
     (list_room s.vtree s.nodes s.roots s.epoch s.moving c.place.inside.0 two two h none
     c.in-New.number number
     (new_short s.vtree s.nodes s.roots s.epoch s.moving c.place.inside.0 two two h none
-    c.in-New.number number c.find_or_insert.new.self is c.in-Ok.ensures.nodes))
+    c.in-New.number number c.find_two.new.nodes is c.in-Ok.ensures.nodes))
 
 pub invariant_of-self-in-Err : goal.invariant_of-self-in-Err
 invariant_of-self-in-Err c =
@@ -154,7 +161,7 @@ invariant_of-self-in-Err c =
 pub invariant_of-self-in-Present : goal.invariant_of-self-in-Present
 invariant_of-self-in-Present c =
     let s = c.self.inside in
-    let same = if_present c.in-Ok.found c.in-Present.number (λ n. c.find_or_insert.new.self ≡ s.nodes)
+    let same = if_present c.in-Ok.found c.in-Present.number (λ n. c.find_two.new.nodes ≡ s.nodes)
     c.in-Present.is c.in-Ok.ensures.same in
     subst (λ x. IsKept x c.grow.new.self (table_of s.vtree x s.roots s.epoch s.moving)) (sym same)
     (record {
@@ -174,18 +181,18 @@ invariant_of-self-2 c =
     let number = if_new c.in-Ok.found c.in-New.number (λ n. IsNewNumber s.nodes n) c.in-New.is
     c.in-Ok.ensures.number in
     let is = if_new c.in-Ok.found c.in-New.number
-    (λ n. c.find_or_insert.new.self ≡ inserted s.nodes n c.place.inside.0 two) c.in-New.is
+    (λ n. c.find_two.new.nodes ≡ inserted s.nodes n c.place.inside.0 two) c.in-New.is
     c.in-Ok.ensures.ok in
     record {
       stored = at_new s.vtree s.nodes s.roots s.epoch s.moving c.place.inside.0 two two
           h none
-          c.in-New.number number c.find_or_insert.new.self c.add_two.new.nodes is
+          c.in-New.number number c.find_two.new.nodes c.add_two.new.nodes is
           c.add_two.ensures.uses c.add_two.ensures.valid
           (λ d. IsStored d (table_of s.vtree d s.roots s.epoch s.moving))
           (λ w counts valid. stored_new s.vtree s.nodes s.roots s.epoch s.moving c.place.inside.0 two
           two h none
           c.in-New.number number w counts valid);
-      counted = counts_made s.nodes c.find_or_insert.new.self c.add_two.new.nodes (held_count s.roots) s.counts
+      counted = counts_made s.nodes c.find_two.new.nodes c.add_two.new.nodes (held_count s.roots) s.counts
           c.grow.new.self c.self.invariant.counted c.in_ok-grow.ensures.grown
           (omega (arith, c.in_ok-grow.ensures.room, c.records.ensures.records)) c.in-New.number c.place.inside.0
           two number
@@ -203,11 +210,11 @@ returns-clause-ok c = λ ds partition.
     let number = if_new c.in-Ok.found c.in-New.number (λ n. IsNewNumber s.nodes n) c.in-New.is
     c.in-Ok.ensures.number in
     let is = if_new c.in-Ok.found c.in-New.number
-    (λ n. c.find_or_insert.new.self ≡ inserted s.nodes n c.place.inside.0 two) c.in-New.is
+    (λ n. c.find_two.new.nodes ≡ inserted s.nodes n c.place.inside.0 two) c.in-New.is
     c.in-Ok.ensures.ok in
     at_new s.vtree s.nodes s.roots s.epoch s.moving c.place.inside.0 two two
     h none
-    c.in-New.number number c.find_or_insert.new.self c.add_two.new.nodes is
+    c.in-New.number number c.find_two.new.nodes c.add_two.new.nodes is
     c.add_two.ensures.uses c.add_two.ensures.valid
     (λ d. IsMade (table_of s.vtree d s.roots s.epoch s.moving) (c.in-New.number + 2050) ds)
     (λ w counts valid. made_new s.vtree s.nodes s.roots s.epoch s.moving c.place.inside.0 two two h none
@@ -226,12 +233,12 @@ returns-clause-kept c =
     let number = if_new c.in-Ok.found c.in-New.number (λ n. IsNewNumber s.nodes n) c.in-New.is
     c.in-Ok.ensures.number in
     let is = if_new c.in-Ok.found c.in-New.number
-    (λ n. c.find_or_insert.new.self ≡ inserted s.nodes n c.place.inside.0 two) c.in-New.is
+    (λ n. c.find_two.new.nodes ≡ inserted s.nodes n c.place.inside.0 two) c.in-New.is
     c.in-Ok.ensures.ok in
     subst (λ t. Extends t (table_of s.vtree c.add_two.new.nodes s.roots s.epoch s.moving)) c.self.view_is
     (at_new s.vtree s.nodes s.roots s.epoch s.moving c.place.inside.0 two two
     h none
-    c.in-New.number number c.find_or_insert.new.self c.add_two.new.nodes is
+    c.in-New.number number c.find_two.new.nodes c.add_two.new.nodes is
     c.add_two.ensures.uses c.add_two.ensures.valid
     (λ d. Extends (table_of s.vtree s.nodes s.roots s.epoch s.moving) (table_of s.vtree d s.roots s.epoch s.moving))
     (λ w counts valid. kept_new s.vtree s.nodes s.roots s.epoch s.moving c.place.inside.0 two two h none
@@ -248,7 +255,7 @@ returns-clause-grown c =
     let number = if_new c.in-Ok.found c.in-New.number (λ n. IsNewNumber s.nodes n) c.in-New.is
     c.in-Ok.ensures.number in
     let is = if_new c.in-Ok.found c.in-New.number
-    (λ n. c.find_or_insert.new.self ≡ inserted s.nodes n c.place.inside.0 two) c.in-New.is
+    (λ n. c.find_two.new.nodes ≡ inserted s.nodes n c.place.inside.0 two) c.in-New.is
     c.in-Ok.ensures.ok in
     let room = if_new c.in-Ok.found c.in-New.number (λ n. ¬ IsFull s.nodes (length two))
     c.in-New.is c.in-Ok.ensures.room in
@@ -259,7 +266,7 @@ returns-clause-grown c =
     c.place.view_is
     (at_new s.vtree s.nodes s.roots s.epoch s.moving c.place.inside.0 two two
     h none
-    c.in-New.number number c.find_or_insert.new.self c.add_two.new.nodes is
+    c.in-New.number number c.find_two.new.nodes c.add_two.new.nodes is
     c.add_two.ensures.uses c.add_two.ensures.valid
     (λ d. HasNewNode (table_of s.vtree s.nodes s.roots s.epoch s.moving) (table_of s.vtree d s.roots s.epoch s.moving)
     c.place.inside.0 two (c.in-New.number + 2050))
