@@ -12,6 +12,7 @@ mod pairs;
 mod recount;
 mod rewriting;
 mod roots;
+mod taking;
 mod uses;
 mod values;
 mod view;

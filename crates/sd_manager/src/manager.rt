@@ -27,7 +27,8 @@ use crate::node_id::NodeId;
 use crate::pairs::{sort_into, trimmed, trimmed_pair};
 use crate::recount::uncount;
 use crate::roots::{Root, Roots};
-use crate::uses::{add_two, add_use, add_uses, drop_use, drop_uses};
+use crate::taking::take_away;
+use crate::uses::{add_two, add_use, add_uses, drop_use};
 use crate::view::{View, literal_code, literal_value};
 use sd_counts::LiveCounts;
 use sd_runs::TakeError;
@@ -464,9 +465,7 @@ impl Manager {
         ensures table { IsTable self.new }
     {
         uncount(&mut self.counts, &self.nodes, number);
-        drop_uses(&mut self.nodes, number);
-        self.nodes.unlink(number);
-        self.nodes.remove(number);
+        take_away(&mut self.nodes, number);
         self.epoch = epoch_after(self.epoch);
     }
 

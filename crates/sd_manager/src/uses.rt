@@ -91,6 +91,19 @@ fn drop_pair(nodes: &mut Nodes, pair: (u32, u32))
     drop_use(nodes, pair.1);
 }
 
+// Counts one use less of each code in two pairs.
+pub(crate) fn drop_two(nodes: &mut Nodes, first: (u32, u32), second: (u32, u32))
+    requires valid { IsNodes nodes.old }
+    requires counted { AreCounted nodes.old (first ∷ second ∷ []) }
+    requires used { (n k : ℕ) → get nodes.old.uses n ≡ Some k
+        → uses_in (2050 + n) (first ∷ second ∷ []) ≤ k }
+    ensures uses { DropsUses nodes.old nodes.new (λ c. uses_in c (first ∷ second ∷ [])) }
+    ensures valid { IsNodes nodes.new }
+{
+    drop_pair(nodes, first);
+    drop_pair(nodes, second);
+}
+
 // Counts one use less of each code in the list of a node, as often as it stands there.
 pub(crate) fn drop_uses(nodes: &mut Nodes, number: u32)
     requires valid { IsNodes nodes.old }
