@@ -201,6 +201,23 @@ unused_uncounted a held v n of settled unused = go (counted_at v n) refl
           none (sum_counted (λ m. uses_in (2050 + n) (list_at a m)) v.counted) refl,
         ))
 
+-- nothing is counted where the total is 0, since each node has an element
+pub none_counted : (a : Nodes) (held : ℕ → ℕ) (v : Counts) (n : ℕ) → IsNodes a → AreOf a held v → v.total ≡ 0 →
+    counted_at v n ≡ false
+none_counted a held v n valid of none = go (counted_at v n) refl
+  where
+    go : (b : Bool) → counted_at v n ≡ b → b ≡ false
+    go false e = refl
+    go true e =
+        let k = some_value (key_of_nodes a n) (of.nodes n e) in
+        absurd (omega (
+          arith,
+          none,
+          length_total a held v n of e,
+          ap (λ o. length (list_of o)) k.1,
+          valid.at_least_one n k.0 k.1,
+        ))
+
 module _ (v : Numbered) (a : Nodes) (m : FinMap nat_cmp ℕ) (e : ℕ) (g : Option ℕ)
     (stored : IsStored a (table_of v a m e g)) where
   -- the codes in the lists of nodes are there

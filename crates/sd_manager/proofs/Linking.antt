@@ -4,11 +4,13 @@ use Rattle.std.proofs.Common.{Bool, true, false, ◌||◌, List, [], ◌∷◌, 
 use Rattle.std.proofs.Common.{refl, sym, ap, subst, ◌∙◌, arith}
 use Rattle.std.proofs.lemmas.Bool.{cases_eq}
 use Rattle.std.proofs.lemmas.List.{length-map}
-use Rattle.std.proofs.lemmas.List.Sorted.{length_permutation}
+use Rattle.std.proofs.lemmas.List.Sorted.{length_permutation, IsPermutation-refl}
 use Rattle.std.specs.List.{list_any}
 use Rattle.std.specs.List.Sorted.{IsPermutation, IsSorted, IsStrictlySortedBy}
 use Rattle.std.specs.Option.{IsSome, option_map}
-use Rattle.std.specs.Ordering.{nat_cmp, eq_by_cmp}
+use Rattle.std.specs.Ordering.{nat_cmp, eq_by_cmp, is_lt, ordering_then}
+use Rattle.std.specs.declared.cmp.Ordering.TheVariants.{Greater}
+use Rattle.std.specs.Cmp.{nat_cmp_is}
 use Rattle.std.specs.FinMap.{FinMap, get, insert, len, len-entries, keys, entries, contains_key-keys}
 use Rattle.sd_runs.proofs.Maps.{apart, get_insert_same, get_insert_other}
 use Rattle.sd_runs.proofs.Places.{by_cases}
@@ -16,7 +18,7 @@ use Rattle.sd_runs.specs.declared.error.TakeError.{TakeError}
 use Rattle.sd_runs.specs.declared.error.TakeError.TheVariants.{ArenaFull, OutOfMemory}
 use Rattle.sd_model.specs.Tree.{leaves, AreDistinct}
 use Rattle.sd_model.specs.Diagram.{Diagram}
-use Rattle.sd_vtree.specs.Numbered.{Numbered, or_else, plain_tree}
+use Rattle.sd_vtree.specs.Numbered.{Numbered, IsNumbered, or_else, plain_tree}
 use Rattle.sd_unique.specs.Nodes.{Nodes, IsNodes, key_at as key_of_nodes, or_else as or_else_of_nodes, free_count}
 use Rattle.sd_unique.specs.Inserting.{inserted, extent_after, IsNewNumber, IsFull as IsFullOfNodes}
 use Rattle.sd_unique.specs.Inserting.{IsRefusal as IsRefusalOfNodes}
@@ -59,6 +61,16 @@ some_among m n h = any_among n (keys m) (sym (contains_key-keys m n) ∙ h)
 
 length_keys : {X : Type 0} (m : FinMap nat_cmp X) → length (keys m) ≡ len m
 length_keys {X} m = length-map (entries m) (λ (e : ℕ × X). e.0) ∙ sym (len-entries m)
+
+-- the codes of pairs that show diagrams are there
+pub pairs_there : (t : Table) → IsNumbered t.vtree → (l : List (ℕ × ℕ)) (ds : List (Diagram × Diagram)) →
+    ShowPairs t.vtree (get t.linked) l ds → AreThere t l
+pairs_there t numbered [] ds s = tt
+pairs_there t numbered (pair ∷ l) [] s = absurd s
+pairs_there t numbered (pair ∷ l) (d ∷ ds) s = (
+  (shown_has_node t numbered pair.0 d.0 s.0.0, shown_has_node t numbered pair.1 d.1 s.0.1),
+  pairs_there t numbered l ds s.1,
+)
 
 -- a list that is asked for
 pub record IsAsked (v : Numbered) (a : Nodes) (m : FinMap nat_cmp ℕ) (e : ℕ) (g : Option ℕ) (u : ℕ)
@@ -224,19 +236,7 @@ module _ (v : Numbered) (a : Nodes) (m : FinMap nat_cmp ℕ) (e : ℕ) (g : Opti
       pub list_there : AreThere grown l
       list_there =
           let f = partition_permuted v (get a.linked) u elements l h.one_partition.0 h.one_partition.1 h.order in
-          all_kept l (go l f.0 f.2.shown)
-        where
-          go : (k : List (ℕ × ℕ)) (ds : List (Diagram × Diagram)) → ShowPairs v (get a.linked) k ds →
-              AreThere (table_of v a m e g) k
-          go [] ds s = tt
-          go (pair ∷ k) [] s = absurd s
-          go (pair ∷ k) (d ∷ ds) s = (
-            (
-              shown_has_node (table_of v a m e g) h.stored.table.numbered pair.0 d.0 s.0.0,
-              shown_has_node (table_of v a m e g) h.stored.table.numbered pair.1 d.1 s.0.1,
-            ),
-            go k ds s.1,
-          )
+          all_kept l (pairs_there (table_of v a m e g) h.stored.table.numbered l f.0 f.2.shown)
 
       -- so they are counted
       pub list_counted : AreCounted (inserted a n u l) l
@@ -487,3 +487,18 @@ asked v a m e g t u place elements l items stored same at some differ order up l
   order = subst (λ x. IsPermutation elements x) (sym list) order;
   up = subst (λ x. IsSorted pair_cmp x) (sym list) up;
 }
+
+-- the same of two pairs that ascend
+pub asked_two : (v : Numbered) (a : Nodes) (m : FinMap nat_cmp ℕ) (e : ℕ) (g : Option ℕ) (t : Table) (u place : ℕ)
+    (first second : ℕ × ℕ) → IsStored a (table_of v a m e g) → table_of v a m e g ≡ t → u ≡ place →
+    (ds : List (Diagram × Diagram)) × IsPartitionAt t place (first ∷ second ∷ []) ds →
+    AreDistinct (map (λ e. e.1) (first ∷ second ∷ [])) → first.0 < second.0 →
+    IsAsked v a m e g u (first ∷ second ∷ []) (first ∷ second ∷ [])
+asked_two v a m e g t u place first second stored same at some differ up =
+    let two : List (ℕ × ℕ) = first ∷ second ∷ [] in
+    asked v a m e g t u place two two two stored same at some differ (IsPermutation-refl two) sorted refl
+  where
+    sorted : IsSorted pair_cmp (first ∷ second ∷ [])
+    sorted zero d least most =
+        ap (λ o. is_lt (ordering_then o (nat_cmp second.1 first.1))) (sym (nat_cmp_is second.0 first.0 Greater up))
+    sorted (suc k) d least most = absurd (omega (arith, most))

@@ -173,13 +173,6 @@ module _ (v : Numbered) (a : Nodes) (m : FinMap nat_cmp ℕ) (e : ℕ) (g : Opti
 
     module _ (unused : uses_of (table_of v a m e g) (2050 + n) ≡ 0) (b : Nodes)
         (drops : DropsUses a b (λ c. uses_in c l)) where
-      -- the uses of its list are dropped, and the node itself has none
-      pub none_left : get b.uses n ≡ Some 0
-      none_left =
-          drops.uses n ∙ ap (option_map (λ k. k - uses_in (2050 + n) l))
-          (stored.uses n (place, l) (linked_key (table_of v a m e g) n (place, l) was))
-          ∙ ap Some (omega (arith, unused))
-
       -- no number is both linked and detached
       same_detached : remove (insert a.detached n (place, l)) n ≡ a.detached
       same_detached =

@@ -1,8 +1,9 @@
 -- The uses of the nodes, as they are counted.
-use Rattle.std.specs.Prelude.{◌≡◌, ℕ, ◌+◌, ◌-◌, ◌≤◌, List, [], ◌==◌, if◌then◌else◌, unwrap_or}
+use Rattle.std.specs.Prelude.{◌≡◌, ℕ, ◌+◌, ◌-◌, ◌≤◌, List, [], Some, ◌==◌, if◌then◌else◌, unwrap_or}
 use Rattle.std.specs.List.{AllByRecursion}
 use Rattle.std.specs.Option.{IsSome, option_map}
 use Rattle.std.specs.FinMap.{get}
+use Rattle.sd_laws.specs.Values.{StandsIn}
 use Rattle.sd_unique.specs.Nodes.{Nodes, key_at}
 
 -- 1 where the codes are equal
@@ -39,3 +40,11 @@ pub record DropsUse (old new : Nodes) (code : ℕ) : Type 0 where
 pub record DropsUses (old new : Nodes) (less : ℕ → ℕ) : Type 0 where
   pub rest : new ≡ record old { uses = new.uses }
   pub uses : (n : ℕ) → get new.uses n ≡ option_map (λ k. k - less (2050 + n)) (get old.uses n)
+
+-- the code is that of a node without uses
+abbrev pub HasNoUses : Nodes → ℕ → Type 0
+HasNoUses a code = (2050 ≤ code) × (get a.uses (code - 2050) ≡ Some 0)
+
+-- such a code stands in the list of no linked node
+pub record AreNamesUsed (a : Nodes) : Type 0 where
+  pub each : (c : ℕ) → HasNoUses a c → (n : ℕ) (k : ℕ × List (ℕ × ℕ)) → get a.linked n ≡ Some k → ¬ StandsIn c k.1

@@ -4,6 +4,7 @@
 //! true, 2x is the literal x, 2x + 1 is the literal -x, and 2,050 + n is the decomposition with the number n.
 #![tactic(auto)]
 
+mod finding;
 mod manager;
 mod moving;
 mod node_id;
@@ -11,6 +12,7 @@ mod pairs;
 mod recount;
 mod rewriting;
 mod roots;
+mod taking;
 mod uses;
 mod values;
 mod view;

@@ -1,6 +1,6 @@
 //! Diagrams under one vtree.
 
-ghost use Rattle.std.specs.Prelude.{◌≡◌, ◌≢◌, ◌↔◌, ◌⊎◌, ℕ, ◌+◌, ◌-◌, ◌<◌, ◌≤◌, ◌^◌, Bool, List, length, map};
+ghost use Rattle.std.specs.Prelude.{◌≡◌, ◌≢◌, ◌↔◌, ◌⊎◌, ℕ, ◌+◌, ◌-◌, ◌<◌, ◌≤◌, ◌^◌, Bool, List, [], ◌∷◌, length, map};
 ghost use Rattle.std.specs.Prelude.{Some, None, IfOk, IfErr, IfSome, IfNone, OnOk, OnErr, IsTrue, slice_get, cond};
 ghost use Rattle.std.specs.Option.{IsSome};
 ghost use Rattle.std.specs.FinMap.{get, len};
@@ -22,11 +22,13 @@ ghost use Rattle.sd_manager.specs.Moving.{next_epoch};
 ghost use Rattle.sd_manager.specs.Retiring.{IsIdle, IsRetired};
 ghost use Rattle.sd_manager.specs.Total.{IsTotal};
 
+use crate::finding::find_two;
 use crate::node_id::NodeId;
-use crate::pairs::{sort_into, trimmed};
+use crate::pairs::{sort_into, trimmed, trimmed_pair};
 use crate::recount::uncount;
 use crate::roots::{Root, Roots};
-use crate::uses::{add_use, add_uses, drop_use, drop_uses};
+use crate::taking::take_away;
+use crate::uses::{add_two, add_use, add_uses, drop_use};
 use crate::view::{View, literal_code, literal_value};
 use sd_counts::LiveCounts;
 use sd_runs::TakeError;
@@ -293,7 +295,78 @@ impl Manager {
     ///
     /// ArenaFull where the elements find no room in the arena, and OutOfMemory where memory runs out; then nothing is
     /// changed.
+    #[inline(always)]
     pub fn make(&mut self, place: VNode, elements: &[(NodeId, NodeId)]) -> Result<NodeId, TakeError>
+        requires partition { (ds : List (Diagram × Diagram))
+            × IsPartitionAt self.old place elements.now ds }
+        requires differ { AreDistinct (map (λ e. e.1) elements.now) }
+        ensures ok { IfOk result (λ c. (ds : List (Diagram × Diagram)) →
+            IsPartitionAt self.old place elements.now ds → IsMade self.new c ds) }
+        ensures kept { Extends self.old self.new }
+        ensures grown { IfOk result (λ c. (self.new ≡ self.old)
+            ⊎ HasNewNode self.old self.new place elements.now c) }
+        ensures err { OnErr result (self.new ≡ self.old) }
+        ensures full { IfErr result (λ e. IsRefusal self.old (length elements.now) e) }
+        ensures rule { IfErr result (λ e. KeepsRule self.new e) }
+        ensures needed { IfErr result (λ e. IsNeeded self.old place elements.now e) }
+        ensures table { IsTable self.new }
+    {
+        if let [first, second] = elements {
+            if first.0.0 < second.0.0 {
+                let one = (first.0.0, first.1.0);
+                return self.make_two(place, one, (second.0.0, second.1.0));
+            }
+        }
+        self.make_list(place, elements)
+    }
+
+    // The same of two pairs that ascend, without the room for a list.
+    #[inline(never)]
+    fn make_two(
+        &mut self,
+        place: VNode,
+        first: (u32, u32),
+        second: (u32, u32),
+    ) -> Result<NodeId, TakeError>
+        requires ascend { first.0 < second.0 }
+        requires partition { (ds : List (Diagram × Diagram))
+            × IsPartitionAt self.old place (first ∷ second ∷ []) ds }
+        requires differ { AreDistinct (map (λ e. e.1) (first ∷ second ∷ [])) }
+        ensures ok { IfOk result (λ c. (ds : List (Diagram × Diagram)) →
+            IsPartitionAt self.old place (first ∷ second ∷ []) ds → IsMade self.new c ds) }
+        ensures kept { Extends self.old self.new }
+        ensures grown { IfOk result (λ c. (self.new ≡ self.old)
+            ⊎ HasNewNode self.old self.new place (first ∷ second ∷ []) c) }
+        ensures err { OnErr result (self.new ≡ self.old) }
+        ensures full { IfErr result (λ e. IsRefusal self.old 2 e) }
+        ensures rule { IfErr result (λ e. KeepsRule self.new e) }
+        ensures needed { IfErr result (λ e. IsNeeded self.old place (first ∷ second ∷ []) e) }
+        ensures table { IsTable self.new }
+    {
+        if let Some(code) = trimmed_pair(first, second) {
+            let _ = &self.epoch;
+            return Ok(NodeId(code));
+        }
+        self.counts.grow(self.nodes.records())?;
+        let found = match find_two(&mut self.nodes, place.0, first, second) {
+            Ok(found) => found,
+            Err(error) => return Err(error),
+        };
+        let number = match found {
+            Found::Present(number) => return Ok(NodeId(number + 2050)),
+            Found::New(number) => number,
+        };
+        add_two(&mut self.nodes, first, second);
+        Ok(NodeId(number + 2050))
+    }
+
+    // The same of any list.
+    #[inline(never)]
+    fn make_list(
+        &mut self,
+        place: VNode,
+        elements: &[(NodeId, NodeId)],
+    ) -> Result<NodeId, TakeError>
         requires partition { (ds : List (Diagram × Diagram))
             × IsPartitionAt self.old place elements.now ds }
         requires differ { AreDistinct (map (λ e. e.1) elements.now) }
@@ -392,9 +465,7 @@ impl Manager {
         ensures table { IsTable self.new }
     {
         uncount(&mut self.counts, &self.nodes, number);
-        drop_uses(&mut self.nodes, number);
-        self.nodes.unlink(number);
-        self.nodes.remove(number);
+        take_away(&mut self.nodes, number);
         self.epoch = epoch_after(self.epoch);
     }
 

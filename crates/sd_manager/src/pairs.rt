@@ -68,7 +68,7 @@ pub(crate) fn trimmed(list: &[(u32, u32)]) -> Option<u32>
 }
 
 // The same of a list of two pairs.
-fn trimmed_pair(first: (u32, u32), second: (u32, u32)) -> Option<u32>
+pub(crate) fn trimmed_pair(first: (u32, u32), second: (u32, u32)) -> Option<u32>
     ensures { result ≡ trim_two first second }
 {
     if first.1 == 1 && second.1 == 0 {

@@ -10,7 +10,7 @@ ghost use Rattle.sd_manager.specs.Recounting.{HasOtherList, IsUnused};
 use sd_counts::LiveCounts;
 use sd_unique::Nodes;
 
-// Sees to it that a node is not counted, which no root holds and no list of a node has.
+// Sees to it that a node is not counted, which no root holds and no list of a node has. Where the total is 0 none is.
 pub(crate) fn uncount(counts: &mut LiveCounts, nodes: &Nodes, number: u32)
     requires valid { IsNodes nodes.now }
     requires node { IsSome (key_at nodes.now number) }
@@ -20,7 +20,7 @@ pub(crate) fn uncount(counts: &mut LiveCounts, nodes: &Nodes, number: u32)
     ensures uncounted { (held : ℕ → ℕ) → AreOf nodes.now held counts.old → IsUnused nodes.now held number
         → counted_at counts.new number ≡ false }
 {
-    if !counts.is_counted(number) {
+    if counts.total() == 0 || !counts.is_counted(number) {
         return;
     }
     counts.settle(nodes);

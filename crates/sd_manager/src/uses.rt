@@ -1,6 +1,6 @@
 //! The uses of nodes, counted by codes.
 
-ghost use Rattle.std.specs.Prelude.{◌≡◌, ◌+◌, ◌-◌, ◌<◌, ◌≤◌, ◌^◌, ℕ, List, Some};
+ghost use Rattle.std.specs.Prelude.{◌≡◌, ◌+◌, ◌-◌, ◌<◌, ◌≤◌, ◌^◌, ℕ, List, [], ◌∷◌, Some};
 ghost use Rattle.std.specs.Option.{IsSome};
 ghost use Rattle.std.specs.FinMap.{get};
 ghost use Rattle.sd_unique.specs.Nodes.{IsNodes, key_at, uses_at};
@@ -65,6 +65,19 @@ pub(crate) fn add_uses(nodes: &mut Nodes, list: &[(u32, u32)])
     }
 }
 
+// Counts one use more of each code in two pairs.
+pub(crate) fn add_two(nodes: &mut Nodes, first: (u32, u32), second: (u32, u32))
+    requires valid { IsNodes nodes.old }
+    requires counted { AreCounted nodes.old (first ∷ second ∷ []) }
+    requires room { (n k : ℕ) → get nodes.old.uses n ≡ Some k
+        → k + uses_in (2050 + n) (first ∷ second ∷ []) < 2 ^ 64 }
+    ensures uses { AddsUses nodes.old nodes.new (λ c. uses_in c (first ∷ second ∷ [])) }
+    ensures valid { IsNodes nodes.new }
+{
+    add_pair(nodes, first);
+    add_pair(nodes, second);
+}
+
 // Counts one use less of both codes of a pair.
 fn drop_pair(nodes: &mut Nodes, pair: (u32, u32))
     requires valid { IsNodes nodes.old }
@@ -76,6 +89,19 @@ fn drop_pair(nodes: &mut Nodes, pair: (u32, u32))
 {
     drop_use(nodes, pair.0);
     drop_use(nodes, pair.1);
+}
+
+// Counts one use less of each code in two pairs.
+pub(crate) fn drop_two(nodes: &mut Nodes, first: (u32, u32), second: (u32, u32))
+    requires valid { IsNodes nodes.old }
+    requires counted { AreCounted nodes.old (first ∷ second ∷ []) }
+    requires used { (n k : ℕ) → get nodes.old.uses n ≡ Some k
+        → uses_in (2050 + n) (first ∷ second ∷ []) ≤ k }
+    ensures uses { DropsUses nodes.old nodes.new (λ c. uses_in c (first ∷ second ∷ [])) }
+    ensures valid { IsNodes nodes.new }
+{
+    drop_pair(nodes, first);
+    drop_pair(nodes, second);
 }
 
 // Counts one use less of each code in the list of a node, as often as it stands there.

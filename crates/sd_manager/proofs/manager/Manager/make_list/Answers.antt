@@ -12,7 +12,7 @@ use Rattle.sd_manager.proofs.Needed.{needed}
 use Rattle.sd_manager.proofs.Found.{if_present, if_new}
 use Rattle.sd_manager.proofs.CountsAfter.{counts_made, new_alone}
 use Rattle.sd_counts.proofs.StaysRight.{right_grown}
-use Rattle.sd_manager.proofs.manager.Manager.make.Goals as goal
+use Rattle.sd_manager.proofs.manager.Manager.make_list.Goals as goal
 
 pub returns-in-Some-clause-ok : goal.returns-in-Some-clause-ok
 returns-in-Some-clause-ok c = λ ds partition.
