@@ -115,6 +115,15 @@ two_values false x y = refl
 head_same : (x y : Bool) → x ∷ [] ≡ y ∷ [] → x ≡ y
 head_same x y e = cc
 
+first_same : (x y : Bool) (l : List Bool) → x ∷ l ≡ y ∷ [] → x ≡ y
+first_same x y l e = cc
+
+-- where one of two elements holds it is the second exactly where the first does not hold
+one_of_two : (v q y z w : Bool) → cond v (y ∷ cond q (z ∷ []) []) (cond q (z ∷ []) []) ≡ w ∷ [] → cond v y z ≡ w
+one_of_two true q y z w e = first_same y w (cond q (z ∷ []) []) e
+one_of_two false true y z w e = head_same z w e
+one_of_two false false y z w e = cc
+
 -- two pairs are the list
 two_pairs : (l : List (ℕ × ℕ)) (e f : ℕ × ℕ) → length l ≡ 2 → slice_get l 0 ≡ Some e → slice_get l 1 ≡ Some f →
     l ≡ e ∷ f ∷ []
@@ -143,12 +152,12 @@ count_pairs t c place n code e =
     go None e = cc
     go (Some k) e = cc
 
--- the subs of a decomposition whose primes are the literals of the variable are its halves
+-- the subs of a decomposition of two elements, of which the first has the variable as its prime, are its halves
 pub decomposed_halves : (t : Table) (at u w x c : ℕ) (e f : ℕ × ℕ) → IsTable t → IsFork t.vtree at u w x →
     ((d : Diagram) → ShowsCanonical t c d → HasPlace t.vtree at d) → 2050 ≤ c → length (pairs_at t c) ≡ 2 →
-    slice_get (pairs_at t c) 0 ≡ Some e → slice_get (pairs_at t c) 1 ≡ Some f → e.0 ≡ 2 * x + 0 →
-    f.0 ≡ 2 * x + 1 → Halves t at w x c (e.1, f.1)
-decomposed_halves t at u w x c e f i fork place code two one other prime next = record {
+    slice_get (pairs_at t c) 0 ≡ Some e → slice_get (pairs_at t c) 1 ≡ Some f → e.0 ≡ 2 * x →
+    Halves t at w x c (e.1, f.1)
+decomposed_halves t at u w x c e f i fork place code two one other prime = record {
   each = λ d k.
       let s = shown t at c d k in
       let list = own_list t i at u w c fork.children d s (place d s) code in
@@ -162,13 +171,9 @@ decomposed_halves t at u w x c e f i fork place code two one other prime next = 
     go (a ∷ []) lists h value = absurd lists.pairs.1
     go (a ∷ b ∷ []) lists h value =
         let p = fork_literal t i at u w x fork true in
-        let n = fork_literal t i at u w x fork false in
         let first : a.0 ≡ Literal p.0 x true = one_diagram t.vtree (get t.linked) i.numbered a.0 e.0
         (Literal p.0 x true) lists.pairs.0.prime_shows
         (subst (λ k. Shows t k (Literal p.0 x true)) (omega (arith, prime)) p.1.shows) in
-        let second : b.0 ≡ Literal n.0 x false = one_diagram t.vtree (get t.linked) i.numbered b.0 f.0
-        (Literal n.0 x false) lists.pairs.1.0.prime_shows
-        (subst (λ k. Shows t k (Literal n.0 x false)) (omega (arith, next)) n.1.shows) in
         record {
           first = a.1;
           second = b.1;
@@ -177,14 +182,9 @@ decomposed_halves t at u w x c e f i fork place code two one other prime next = 
           value = λ g.
               let y = meaning a.1 g in
               let z = meaning b.1 g in
-              let v = value_in g x in
-              head_same (cond v y z) (h g)
-              (sym (two_values v y z)
-              ∙ ap (λ q. cond q (y ∷ cond (not v) (z ∷ []) []) (cond (not v) (z ∷ []) [])) (sym (ap (λ q.
-              meaning q g) first))
-              ∙ ap (λ q. cond (meaning a.0 g) (y ∷ cond q (z ∷ []) []) (cond q (z ∷ []) [])) (sym (ap (λ q.
-              meaning q g) second))
-              ∙ value g);
+              let q = meaning b.0 g in
+              one_of_two (value_in g x) q y z (h g)
+              (sym (ap (λ d. cond (meaning d g) (y ∷ cond q (z ∷ []) []) (cond q (z ∷ []) [])) first) ∙ value g);
         }
     go (a ∷ b ∷ k ∷ ds) lists h value = absurd lists.pairs.1.1
 

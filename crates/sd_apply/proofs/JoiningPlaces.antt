@@ -3,6 +3,8 @@ use Rattle.std.proofs.Common.{◌≡◌, ℕ, zero, suc, ◌+◌, ◌≤◌, ◌
 use Rattle.std.proofs.Common.{List, [], ◌∷◌, length, drop, Option, Some, None, slice_get, refl, sym, ◌∙◌, ap, subst}
 use Rattle.std.proofs.Common.{arith, option_and_then, length-append, ◌||◌, ◌&&◌}
 use Rattle.std.specs.FinMap.{get}
+use Rattle.std.proofs.Common.{inl, inr}
+use Rattle.std.proofs.lemmas.Bool.{cases_lt}
 use Rattle.std.proofs.lemmas.Option.{same_Some, none-some}
 use Rattle.sd_model.specs.declared.trees.Operation.{Operation}
 use Rattle.sd_model.specs.declared.trees.Operation.TheVariants.{And, Or, Xor}
@@ -17,7 +19,7 @@ use Rattle.sd_vtree.specs.Numbered.{leaf_variable, variable_at, subtree}
 use Rattle.sd_vtree.specs.Numbered.{IsUnder as StandsUnder}
 use Rattle.sd_vtree.proofs.Times.{one_place}
 use Rattle.sd_vtree.proofs.Subtrees.{once_numbered, inner_part, subtree_in, node_within}
-use Rattle.sd_vtree.proofs.Under.{child_right}
+use Rattle.sd_vtree.proofs.Under.{child_right, under_trans}
 use Rattle.sd_laws.specs.Depends.{DependsOn}
 use Rattle.sd_laws.specs.Parts.{HasPosition}
 use Rattle.sd_laws.specs.Shown.{literal_code}
@@ -25,17 +27,20 @@ use Rattle.sd_laws.proofs.Codes.{leaf_range}
 use Rattle.sd_laws.proofs.Leaves.{leaf_number, literal_node}
 use Rattle.sd_laws.proofs.Places.{canonical_in, position_within, leaves_positive}
 use Rattle.sd_manager.specs.Table.{Table}
+use Rattle.sd_manager.specs.Shown.{ShowsCanonical}
 use Rattle.sd_manager.specs.Literals.{code_of_literal}
 use Rattle.sd_manager.specs.Making.{Extends}
 use Rattle.sd_manager.specs.Valid.{IsTable}
 use Rattle.sd_apply.specs.Answers.{HasAnswer}
 use Rattle.sd_apply.specs.Places.{plain, tree_at, width, IsCanonicalUnder, IsNodeUnder, IsBelow, IsThere, HasChildren}
+use Rattle.sd_apply.specs.Places.{HasPlace}
 use Rattle.sd_apply.specs.Group.{group_value}
 use Rattle.sd_apply.specs.GroupCalls.{IsLiteralBelow, AreLiteralsBelow, IsFork, joined_value}
+use Rattle.sd_apply.specs.GroupCalls.{StandsFrom, StandLower}
 use Rattle.sd_apply.proofs.Trees.{children_of, canonical_below, below_canonical, right_tree, right_part}
-use Rattle.sd_apply.proofs.Trees.{children_width, width_positive, there_inner, bottom_under, top_under}
+use Rattle.sd_apply.proofs.Trees.{children_width, width_positive, there_inner, right_there, bottom_under, top_under}
 use Rattle.sd_apply.proofs.Listed.{node_on}
-use Rattle.sd_apply.proofs.Standing.{stands_here}
+use Rattle.sd_apply.proofs.Standing.{stands_here, shown}
 
 -- a constant is below each vtree node
 pub constant_under : (t : Table) (u c : ℕ) → c < 2 → IsBelow t u c
@@ -173,6 +178,65 @@ right_stands t v p u w e = child_right t v p u w (inner_part t v p u w e)
 -- a vtree node that is there has a number
 pub there_within : (t : Numbered) → IsNumbered t → (u : ℕ) → IsThere t u → u < length (numbers t)
 there_within t v u h = node_within t v u (subtree_in t u h.part h.is)
+
+-- ---- down the right children
+
+-- a constant stands nowhere, and so from each position on
+pub constant_from : (t : Table) (c least : ℕ) → c < 2 → StandsFrom t c least
+constant_from t c least lt = record { each = λ d low s. absurd (omega (arith, lt, low)) }
+
+-- a node stands from the position of its place on
+pub place_from : (t : Table) → IsTable t → (c own po least : ℕ) →
+    ((d : Diagram) → ShowsCanonical t c d → HasPlace t.vtree own d) → slice_get (numbers t.vtree) po ≡ Some own →
+    least ≤ po → StandsFrom t c least
+place_from t i c own po least place at order = record {
+  each = λ d low s.
+      let k = place d s in
+      let same = one_place (numbers t.vtree) own po k.position (once_numbered t.vtree i.numbered own) at k.number in
+      (k.position, k.stands, omega (arith, same, order));
+}
+
+-- what stands behind a vtree node below which it is, is below the right child
+pub node_behind : (t : Table) → IsTable t → (p u w pp least c : ℕ) → HasChildren t.vtree p u w → IsBelow t p c →
+    StandsFrom t c least → slice_get (numbers t.vtree) pp ≡ Some p → pp < least → IsBelow t w c
+node_behind t i p u w pp least c e b from np lt = elim (cases_lt c 2) [
+  | inl low ↦ constant_under t w c low
+  | inr high ↦
+      let q = from.each b.diagram high (shown t p c b.diagram b.is) in
+      record {
+        diagram = b.diagram;
+        is = record {
+          shows = b.is.shows;
+          under = behind t i p u w pp q.0 e b.diagram b.is.under q.1 np (omega (arith, lt, q.2));
+        };
+      }
+]
+
+-- the vtree node itself
+pub lower_start : (t : Table) (at c from : ℕ) (l : List (ℕ × ℤ)) → IsThere t.vtree at → IsBelow t at c →
+    AreLiteralsBelow t at from l → StandLower t at c from l at
+lower_start t at c from l there node literals = record {
+  there = there;
+  under = stands_here t.vtree at there.part there.is;
+  narrow = omega arith;
+  node = node;
+  rest = literals;
+}
+
+-- and one right child further
+pub lower_next : (t : Table) → IsTable t → (at c from p u w pp least : ℕ) (l : List (ℕ × ℤ)) (e : ℕ × ℤ) →
+    StandLower t at c from l p → HasChildren t.vtree p u w → slice_get (numbers t.vtree) pp ≡ Some p → pp < least →
+    StandsFrom t c least → slice_get l from ≡ Some e → least ≤ e.0 → StandLower t at c from l w
+lower_next t i at c from p u w pp least l e h children np lt node first order =
+    let v = i.numbered in
+    record {
+      there = right_there t.vtree v p u w children;
+      under = under_trans t.vtree (once_numbered t.vtree v) w p at (right_stands t.vtree v p u w children) h.under;
+      narrow = omega (arith, right_narrower t.vtree v p u w children, h.narrow);
+      node = node_behind t i p u w pp least c children h.node node np lt;
+      rest = literals_behind t i p u w pp from from l e children h.rest (omega arith) first np
+          (omega (arith, lt, order));
+    }
 
 -- ---- what a group depends on
 

@@ -12,6 +12,7 @@ use Rattle.sd_model.specs.Assignment.{literal_holds, value_in}
 use Rattle.sd_model.specs.Diagram.{Diagram, meaning}
 use Rattle.sd_model.specs.Expression.{combine}
 use Rattle.sd_vtree.specs.Numbered.{IsNumbered}
+use Rattle.sd_vtree.specs.Numbered.{IsUnder as StandsUnder}
 use Rattle.sd_laws.proofs.Codes.{one_diagram}
 use Rattle.sd_manager.specs.Literals.{code_of_literal}
 use Rattle.sd_manager.specs.Table.{Table}
@@ -32,7 +33,7 @@ use Rattle.sd_apply.specs.GroupCalls.{between, IsFound, IsFoundBefore, Remembers
 use Rattle.sd_apply.proofs.Trees.{bottom_under, top_under, answer_under}
 use Rattle.sd_apply.proofs.Listed.{node_on, answer_on, shown_on, children_on}
 use Rattle.sd_apply.proofs.Standing.{shown}
-use Rattle.sd_apply.proofs.Growing.{grows_over, grows_right}
+use Rattle.sd_apply.proofs.Growing.{grows_over, grows_right, grows_wider}
 use Rattle.sd_apply.proofs.JoiningPlaces.{joined_under, literals_on}
 use Rattle.sd_apply.proofs.Joining.{from_more, from_none, decides, decides_first}
 
@@ -202,6 +203,12 @@ pub grows_up : (a b : Table) → Extends a b → IsNumbered a.vtree → (p u w :
     GrowsBelow a b w → GrowsBelow a b p
 grows_up a b x i p u w e g =
     grows_over a b (subst IsNumbered (sym x.vtree) i) p u w (children_on a b x p u w e) (grows_right a b u w g)
+
+-- what is new below a vtree node under another is new below the other
+pub grows_lower : (a b : Table) → Extends a b → IsNumbered a.vtree → (w p : ℕ) → StandsUnder a.vtree w p →
+    GrowsBelow a b w → GrowsBelow a b p
+grows_lower a b x i w p under g =
+    grows_wider a b (subst IsNumbered (sym x.vtree) i) w p (subst (λ t. StandsUnder t w p) (sym x.vtree) under) g
 
 -- ---- from halves
 

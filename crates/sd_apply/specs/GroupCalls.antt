@@ -8,6 +8,7 @@ use Rattle.sd_model.specs.Assignment.{literal_holds, value_in}
 use Rattle.sd_model.specs.Diagram.{Diagram, meaning}
 use Rattle.sd_model.specs.Expression.{combine}
 use Rattle.sd_vtree.specs.Numbered.{Numbered, plain_tree, variable_at}
+use Rattle.sd_vtree.specs.Numbered.{IsUnder as StandsUnder}
 use Rattle.sd_laws.specs.Parts.{HasPosition}
 use Rattle.sd_manager.specs.Literals.{IsLiteralTo, code_of_literal}
 use Rattle.sd_manager.specs.Table.{Table}
@@ -15,7 +16,7 @@ use Rattle.sd_manager.specs.Shown.{ShowsCanonical}
 use Rattle.sd_apply.specs.declared.node_answers.NodeEntry.{NodeEntry}
 use Rattle.sd_apply.specs.declared.node_answers.NodeAnswers.{NodeAnswers}
 use Rattle.sd_apply.specs.Answers.{HasAnswer}
-use Rattle.sd_apply.specs.Places.{IsNodeUnder, HasChildren}
+use Rattle.sd_apply.specs.Places.{width, IsNodeUnder, IsBelow, IsThere, HasChildren}
 use Rattle.sd_apply.specs.Group.{group_value}
 
 -- the constant that decides a connective, whatever the other operand
@@ -43,6 +44,19 @@ pub record AreLiteralsBelow (t : Table) (at from : ℕ) (literals : List (ℕ ×
   pub each : (i : ℕ) (e : ℕ × ℤ) → from ≤ i → slice_get literals i ≡ Some e → IsLiteralBelow t at e
   pub ascending : (i j : ℕ) (d e : ℕ × ℤ) → i ≤ j → slice_get literals i ≡ Some d →
       slice_get literals j ≡ Some e → d.0 ≤ e.0
+
+-- what the code shows is a constant, or stands at this position or behind it
+pub record StandsFrom (t : Table) (c least : ℕ) : Type 0 where
+  pub each : (d : Diagram) → 2 ≤ c → ShowsCanonical t c d → (p : ℕ) × HasPosition d p × (least ≤ p)
+
+-- the vtree node `lower` stands at `at` or under it, and so far down the node and the literals from an index on are
+-- below it
+pub record StandLower (t : Table) (at c from : ℕ) (literals : List (ℕ × ℤ)) (lower : ℕ) : Type 0 where
+  pub there : IsThere t.vtree lower
+  pub under : StandsUnder t.vtree lower at
+  pub narrow : width t.vtree lower ≤ width t.vtree at
+  pub node : IsBelow t lower c
+  pub rest : AreLiteralsBelow t lower from literals
 
 -- the value of a connective at a diagram and the literals from an index on
 abbrev pub joined_value : Operation → Diagram → ℕ → List (ℕ × ℤ) → List Bool → Bool

@@ -15,7 +15,7 @@ ghost use Rattle.sd_apply.specs.Serving.{Serves};
 ghost use Rattle.sd_apply.specs.Places.{width, IsBelow, IsThere, HasChildren, HasPlace};
 ghost use Rattle.sd_apply.specs.Group.{AreOrdered, JoinsGroup, GrowsBelowGroup};
 ghost use Rattle.sd_apply.specs.GroupCalls.{deciding, between, AreLiteralsBelow, JoinsFrom, IsGroupNode};
-ghost use Rattle.sd_apply.specs.GroupCalls.{IsFork, Halves, JoinsHalves, MakesHalves, Remembers};
+ghost use Rattle.sd_apply.specs.GroupCalls.{StandLower, StandsFrom, IsFork, Halves, JoinsHalves, MakesHalves, Remembers};
 
 use crate::calls::apply;
 use crate::node_answers::NodeAnswers;
@@ -172,19 +172,17 @@ fn join_below(
     ensures rule { IfErr result (λ e. KeepsRule m.new e) }
     ensures table { IsTable m.new }
 {
-    if let Some(right) = right_below(m, at, node, literals, from) {
-        return join_below(
-            alloc, m, recent, found, operation, right, node, literals, from,
-        );
-    }
+    let lower = lower_right(m, at, node, literals, from);
     let next = from + 1;
-    let shared = is_shared(m, at, node);
+    let shared = is_shared(m, lower, node);
     if shared {
         if let Some(code) = found.look(node.0, next) {
             return Ok(NodeId(code));
         }
     }
-    let code = join_at(alloc, m, recent, found, operation, at, node, literals, from)?;
+    let code = join_at(
+        alloc, m, recent, found, operation, lower, node, literals, from,
+    )?;
     if !shared {
         return Ok(code);
     }
@@ -193,6 +191,7 @@ fn join_below(
 }
 
 // Whether a pass along a node may come to this one again: not where one list alone names it.
+#[inline(always)]
 fn is_shared(m: &Manager, at: VNode, node: NodeId) -> bool
     requires node { IsBelow m.now at node }
     requires table { IsTable m.now }
@@ -424,6 +423,7 @@ fn between_literals(operation: Operation) -> Operation
 }
 
 // The children of a vtree node and the variable of the left one, where that is a leaf.
+#[inline(always)]
 fn fork_at(m: &Manager, at: VNode) -> Option<(VNode, VNode, u32)>
     requires { IsThere m.now.vtree at }
     ensures { IfSome result (λ f. IsFork m.now.vtree at f.0 f.1 f.2) }
@@ -439,6 +439,7 @@ fn fork_at(m: &Manager, at: VNode) -> Option<(VNode, VNode, u32)>
 }
 
 // The index of the first literal from an index on that is not of the variable, where it is this or the next one.
+#[inline(always)]
 fn next_right(literals: &[(u32, i32)], from: usize, variable: u32) -> usize
     requires { from < length literals.now }
     ensures least { from ≤ result }
@@ -455,6 +456,7 @@ fn next_right(literals: &[(u32, i32)], from: usize, variable: u32) -> usize
 }
 
 // Whether the literals from the next index on stand below the right child.
+#[inline(always)]
 fn are_right(
     m: &Manager,
     at: VNode,
@@ -492,37 +494,61 @@ fn is_right(m: &Manager, at: VNode, left: VNode, right: VNode, node: NodeId) -> 
     vtree.position(at) < vtree.position(own)
 }
 
-// The right child, where the node and the literals from an index on stand below it.
-fn right_below(
-    m: &Manager,
-    at: VNode,
-    node: NodeId,
-    literals: &[(u32, i32)],
-    from: usize,
-) -> Option<VNode>
+// The vtree node itself where the node stands there, and else the one that `skip_right` finds.
+#[inline(always)]
+fn lower_right(m: &Manager, at: VNode, node: NodeId, literals: &[(u32, i32)], from: usize) -> VNode
     requires at { IsThere m.now.vtree at }
     requires node { IsBelow m.now at node }
     requires literals { AreLiteralsBelow m.now at from literals.now }
+    requires some { from < length literals.now }
     requires table { IsTable m.now }
-    ensures there { IfSome result (λ w. IsThere m.now.vtree w) }
-    ensures under { IfSome result (λ w. StandsUnder m.now.vtree w at) }
-    ensures narrow { IfSome result (λ w. width m.now.vtree w < width m.now.vtree at) }
-    ensures node { IfSome result (λ w. IsBelow m.now w node) }
-    ensures literals { IfSome result (λ w. AreLiteralsBelow m.now w from literals.now) }
+    ensures { StandLower m.now at node from literals.now result }
 {
-    let Some(children) = m.vtree().children(at) else {
-        return None;
-    };
-    if are_right(m, at, children.0, children.1, literals, from, from)
-        && is_right(m, at, children.0, children.1, node)
-    {
-        Some(children.1)
-    } else {
-        None
+    if node.0 >= 2050 && place_of(m, node).0 == at.0 {
+        return at;
     }
+    skip_right(m, at, node, literals, from)
+}
+
+// The first of the right children, one below the other, at which the node's place or the literal at an index stands.
+#[inline(never)]
+fn skip_right(m: &Manager, at: VNode, node: NodeId, literals: &[(u32, i32)], from: usize) -> VNode
+    requires at { IsThere m.now.vtree at }
+    requires node { IsBelow m.now at node }
+    requires literals { AreLiteralsBelow m.now at from literals.now }
+    requires some { from < length literals.now }
+    requires table { IsTable m.now }
+    ensures { StandLower m.now at node from literals.now result }
+{
+    let (first, _) = literal_at(literals, from);
+    let least = least_position(m, at, node, first);
+    let vtree = m.vtree();
+    let mut lower = at;
+    while vtree.position(lower) < least {
+        let Some(children) = vtree.children(lower) else {
+            return lower;
+        };
+        lower = children.1;
+    }
+    lower
+}
+
+// The least of a position and that of a node that is no constant.
+fn least_position(m: &Manager, at: VNode, node: NodeId, first: u32) -> u32
+    requires node { IsBelow m.now at node }
+    requires table { IsTable m.now }
+    ensures first { result ≤ first }
+    ensures node { StandsFrom m.now node result }
+{
+    if node.0 < 2 {
+        return first;
+    }
+    let own = place_of(m, node);
+    first.min(m.vtree().position(own))
 }
 
 // What a node is where the variable of the left child is true, and where it is false.
+#[inline(always)]
 fn halves_of(
     m: &Manager,
     at: VNode,
@@ -580,14 +606,8 @@ fn is_same(a: NodeId, b: NodeId) -> bool
     a.0 == b.0
 }
 
-// Whether a node is the literal of a variable, with the sign 0 for the variable and 1 for its negation.
-fn is_literal_of(node: NodeId, variable: u32, sign: u32) -> bool
-    ensures { IsTrue result → (node ≡ 2 * variable + sign) }
-{
-    node.0 / 2 == variable && node.0 % 2 == sign
-}
-
-// The halves of a decomposition whose primes are the two literals of the variable.
+// The halves of a decomposition of two elements, of which the first has the variable as its prime.
+#[inline(always)]
 fn own_halves(
     m: &Manager,
     at: VNode,
@@ -612,9 +632,9 @@ fn own_halves(
         return None;
     }
     let (prime, sub) = m.element(node, 0);
-    let (other, other_sub) = m.element(node, 1);
-    if is_literal_of(prime, variable, 0) && is_literal_of(other, variable, 1) {
-        Some((sub, other_sub))
+    let (_, other) = m.element(node, 1);
+    if prime.0 == 2 * variable {
+        Some((sub, other))
     } else {
         None
     }

@@ -46,14 +46,13 @@ pub(crate) struct NodeAnswers {
     kept: usize,
 }
 
-// The index of a node's entry among so many, of which there are a power of two, at most 2^24.
+// The index of a node's entry among so many, of which there are a power of two: nodes with neighbouring codes stand
+// beside each other.
 fn entry_of(node: u32, next: usize, count: usize) -> usize
     requires { 0 < count }
     ensures { result < count }
 {
-    let word = (next as u64).wrapping_mul(0x2_0000_0000) ^ u64::from(node);
-    let mixed = word.wrapping_mul(0x9E37_79B9_7F4A_7C15);
-    (mixed >> 40) as usize & (count - 1)
+    (node as usize).wrapping_add(next.wrapping_mul(5)) & (count - 1)
 }
 
 // So many blank entries.

@@ -4,16 +4,15 @@ use Rattle.std.proofs.Common.{◌≡◌, ◌∙◌, sym, ap, subst, ◌+◌, ◌
 use Rattle.sd_model.specs.Assignment.{value_in}
 use Rattle.std.proofs.lemmas.Int.{to_z-of_z}
 use Rattle.std.proofs.lemmas.Result.{IfOk-weaker}
-use Rattle.sd_vtree.specs.Numbered.{IsUnder as StandsUnder}
 use Rattle.sd_apply.specs.Places.{width}
 use Rattle.sd_apply.specs.GroupCalls.{AreLiteralsBelow, JoinsFrom, MakesHalves, IsFoundBefore, deciding}
 use Rattle.sd_apply.proofs.Trees.{right_there}
 use Rattle.sd_apply.proofs.Listed.{below_on, there_on, width_on}
 use Rattle.sd_manager.proofs.Extending.{extends_on}
 use Rattle.sd_apply.proofs.RightEntries.{knows_on}
-use Rattle.sd_apply.proofs.Growing.{grows_both, grows_wider}
+use Rattle.sd_apply.proofs.Growing.{grows_both}
 use Rattle.sd_apply.proofs.JoiningPlaces.{literals_on, literals_after, right_narrower, fork_range}
-use Rattle.sd_apply.proofs.JoiningSteps.{remembers_on, grows_up, joins_decided, joins_over, joins_found, found_joined}
+use Rattle.sd_apply.proofs.JoiningSteps.{remembers_on, grows_up, grows_lower, joins_decided, joins_over, joins_found, found_joined}
 use Rattle.sd_apply.proofs.JoiningSteps.{first_half, second_half, first_joined, second_joined, joins_made, joins_same}
 use Rattle.sd_apply.proofs.JoiningSteps.{joins_both, joins_first, joins_second}
 use Rattle.sd_apply.proofs.JoiningSteps.{literal_sign, not_first, same_sign, other_sign}
@@ -170,31 +169,39 @@ join_from-returns-then-node-decided-clause-ok t c =
 pub join_below-returns-in-Some-clause-ok : goal.join_below-returns-in-Some-clause-ok
 join_below-returns-in-Some-clause-ok t c =
     let m = c.args.m.now in
-    let n = c.join_below.new.m in
-    IfOk-weaker c.join_below.result
-    (λ r. JoinsFrom m n c.args.operation c.in-Some.right c.args.node c.args.from c.args.literals.now r)
-    (λ r. JoinsFrom m n c.args.operation c.args.at c.args.node c.args.from c.args.literals.now r)
-    (λ r h. joins_over m n c.requires.table c.args.operation c.args.at c.in-Some.right c.args.node
-    c.args.from r c.args.literals.now c.in-Some.ensures.node h)
-    c.join_below.ensures.ok
-
-pub join_below-returns-in-Some-clause-grown : goal.join_below-returns-in-Some-clause-grown
-join_below-returns-in-Some-clause-grown t c =
-    let m = c.args.m.now in
-    let n = c.join_below.new.m in
-    grows_wider m n c.join_below.ensures.table.numbered c.in-Some.right c.args.at
-    (subst (λ t. StandsUnder t c.in-Some.right c.args.at) (sym c.join_below.ensures.kept.vtree) c.in-Some.ensures.under)
-    c.join_below.ensures.grown
-
-pub join_below-returns-in-Some-look-clause-ok : goal.join_below-returns-in-Some-look-clause-ok
-join_below-returns-in-Some-look-clause-ok t c =
-    let m = c.args.m.now in
     let o = c.args.operation in
     let l = c.args.literals.now in
     joins_found m c.requires.table o c.args.at c.args.node c.args.from (c.args.from + 1)
-    c.in-Some-look.code l refl
-    (subst (λ n. IsFoundBefore m o l n (c.args.from + 1) c.in-Some-look.code) c.node.view_is
-    (c.in-Some-look.ensures.right m o l c.requires.remembers))
+    c.in-Some.code l refl
+    (subst (λ n. IsFoundBefore m o l n (c.args.from + 1) c.in-Some.code) c.node.view_is
+    (c.in-Some.ensures.right m o l c.requires.remembers))
+
+pub join_below-returns-in_err-code-clause-grown : goal.join_below-returns-in_err-code-clause-grown
+join_below-returns-in_err-code-clause-grown t c =
+    grows_lower c.args.m.now c.join_at.new.m c.join_at.ensures.kept c.requires.table.numbered c.lower_right-lower.result
+    c.args.at c.lower_right-lower.ensures.under c.join_at.ensures.grown
+
+pub join_below-returns-then-not-shared-clause-ok : goal.join_below-returns-then-not-shared-clause-ok
+join_below-returns-then-not-shared-clause-ok t c =
+    joins_over c.args.m.now c.join_at.new.m c.requires.table c.args.operation c.args.at c.lower_right-lower.result
+    c.args.node c.args.from c.in_ok-code.code c.args.literals.now c.lower_right-lower.ensures.node
+    c.in_ok-code.ensures.ok
+
+pub join_below-returns-then-not-shared-clause-grown : goal.join_below-returns-then-not-shared-clause-grown
+join_below-returns-then-not-shared-clause-grown t c =
+    grows_lower c.args.m.now c.join_at.new.m c.join_at.ensures.kept c.requires.table.numbered c.lower_right-lower.result
+    c.args.at c.lower_right-lower.ensures.under c.join_at.ensures.grown
+
+pub join_below-returns-clause-ok : goal.join_below-returns-clause-ok
+join_below-returns-clause-ok t c =
+    joins_over c.args.m.now c.join_at.new.m c.requires.table c.args.operation c.args.at c.lower_right-lower.result
+    c.args.node c.args.from c.in_ok-code.code c.args.literals.now c.lower_right-lower.ensures.node
+    c.in_ok-code.ensures.ok
+
+pub join_below-returns-clause-grown : goal.join_below-returns-clause-grown
+join_below-returns-clause-grown t c =
+    grows_lower c.args.m.now c.join_at.new.m c.join_at.ensures.kept c.requires.table.numbered c.lower_right-lower.result
+    c.args.at c.lower_right-lower.ensures.under c.join_at.ensures.grown
 
 pub join_below-returns-clause-remembers : goal.join_below-returns-clause-remembers
 join_below-returns-clause-remembers t c =
@@ -202,8 +209,8 @@ join_below-returns-clause-remembers t c =
     let n = c.join_at.new.m in
     let o = c.args.operation in
     let l = c.args.literals.now in
-    let found = found_joined m n c.join_at.ensures.kept o c.args.at c.args.node c.args.from (c.args.from + 1)
-    c.in_ok-code.code l refl c.requires.node c.in_ok-code.ensures.ok in
+    let found = found_joined m n c.join_at.ensures.kept o c.lower_right-lower.result c.args.node c.args.from
+    (c.args.from + 1) c.in_ok-code.code l refl c.lower_right-lower.ensures.node c.in_ok-code.ensures.ok in
     c.keep.ensures.right n o l c.join_at.ensures.remembers
     (subst (λ k. IsFoundBefore n o l k (c.args.from + 1) c.code.inside.0) (sym c.node-2.view_is)
     (subst (λ k. IsFoundBefore n o l c.args.node (c.args.from + 1) k) (sym c.code.view_is) found))

@@ -1,15 +1,24 @@
-use Rattle.std.proofs.Common.{◌≡◌, ◌∙◌, sym, subst}
+use Rattle.std.proofs.Common.{◌≡◌, ◌∙◌, ◌*◌, ℕ, sym, subst, arith}
 use Rattle.sd_apply.specs.Places.{HasPlace}
 use Rattle.sd_apply.proofs.Standing.{has_node}
 use Rattle.sd_apply.proofs.Joining.{decomposed_halves, count_pairs}
+use Rattle.sd_apply.proofs.JoiningPlaces.{fork_range}
 use Rattle.sd_apply.proofs.join.own_halves.Goals as goal
 
 pub view-requires : goal.view-requires
 view-requires c =
     has_node c.args.m.now c.requires.table c.args.node c.requires.node.diagram c.requires.node.is.shows
 
-pub returns-then-is_literal_of-2 : goal.returns-then-is_literal_of-2
-returns-then-is_literal_of-2 c =
+pub overflow_mul-variable : goal.overflow_mul-variable
+overflow_mul-variable c =
+    omega (
+      arith,
+      fork_range c.args.m.now.vtree c.requires.table.numbered c.args.at c.args.left c.args.right c.args.variable
+          c.requires.fork,
+    )
+
+pub returns-then-prime-variable : goal.returns-then-prime-variable
+returns-then-prime-variable c =
     let m = c.args.m.now in
     let here : c.place_of.result ≡ c.args.at =
     sym c.place_of-2.view_is ∙ c.if-place_of-at.false ∙ c.at.view_is in
@@ -20,5 +29,4 @@ returns-then-is_literal_of-2 c =
     (count_pairs m c.args.node c.in-Decomposition.place c.in-Decomposition.count c.requires.code
     c.in-Decomposition.ensures.view ∙ c.if-count-ne2.false)
     c.element-prime.ensures.pair c.element-other.ensures.pair
-    (c.is_literal_of.ensures c.if-is_literal_of.true)
-    (c.is_literal_of-then-is_literal_of.ensures c.if-is_literal_of-2.true)
+    (subst (λ (n : ℕ). n ≡ 2 * c.args.variable) c.prime.view_is c.if-prime-variable.true)
