@@ -132,8 +132,8 @@ fn leaf_of(m: &Manager, literals: &[(u32, i32)], index: usize) -> VNode
     m.vtree().leaf(literal.unsigned_abs())
 }
 
-// The same at a node below a vtree node, with the literals from an index on. Most calls are decided at once, so that
-// much is told where the call stands.
+// The same at a node below a vtree node, with the literals from an index on. Most calls are decided at once or were
+// answered before, so that much is told where the call stands.
 #[cycle(join)]
 #[inline(always)]
 fn join_from(
@@ -168,10 +168,15 @@ fn join_from(
     if node.0 == decided.0 {
         return Ok(decided);
     }
+    if is_shared(m, at, node) {
+        if let Some(code) = found.look(node.0, from + 1) {
+            return Ok(NodeId(code));
+        }
+    }
     join_below(alloc, m, recent, found, operation, at, node, literals, from)
 }
 
-// The same where some literals are left.
+// The same where some literals are left, and where no answer is kept.
 #[cycle(join)]
 fn join_below(
     alloc: Global,
@@ -201,20 +206,14 @@ fn join_below(
     ensures table { IsTable m.new }
 {
     let lower = lower_right(m, at, node, literals, from);
-    let next = from + 1;
     let shared = is_shared(m, lower, node);
-    if shared {
-        if let Some(code) = found.look(node.0, next) {
-            return Ok(NodeId(code));
-        }
-    }
     let code = join_at(
         alloc, m, recent, found, operation, lower, node, literals, from,
     )?;
     if !shared {
         return Ok(code);
     }
-    found.keep(alloc, node.0, next, code.0);
+    found.keep(alloc, node.0, from + 1, code.0);
     Ok(code)
 }
 
