@@ -1,24 +1,27 @@
 -- The join of a group at the whole vtree.
 use Rattle.std.proofs.Common.{◌≡◌, ℕ, suc, ◌+◌, ◌≤◌, ◌<◌, ℤ, pos, negsuc, Bool, true, false}
 use Rattle.std.proofs.Common.{List, length, Some, slice_get, refl, sym}
-use Rattle.std.proofs.Common.{◌∙◌, ap, subst, arith, unsigned_abs, get_or, ◌-◌}
+use Rattle.std.proofs.Common.{◌∙◌, ap, subst, arith, unsigned_abs, get_or, ◌-◌, ◌++◌}
 use Rattle.std.specs.FinMap.{get}
 use Rattle.std.proofs.lemmas.Option.{same_Some, slice_get_within, slice_get-get_or}
 use Rattle.sd_model.specs.declared.trees.Operation.{Operation}
 use Rattle.sd_model.specs.Tree.{Tree, leaves}
 use Rattle.sd_model.specs.Assignment.{literal_holds}
-use Rattle.sd_model.specs.Diagram.{Diagram, Literal, meaning}
+use Rattle.sd_model.specs.Diagram.{Diagram, Bottom, Top, Literal, Decomposition, meaning}
 use Rattle.sd_model.specs.Canonical.{IsCanonical}
 use Rattle.sd_model.specs.Expression.{combine}
 use Rattle.sd_model.proofs.Blend.{depends}
-use Rattle.sd_vtree.specs.Numbered.{number_of, plain_tree, numbers, variable_at, IsNumbered}
+use Rattle.sd_vtree.specs.Numbered.{Numbered, number_of, plain_tree, numbers, variable_at, IsNumbered}
 use Rattle.sd_vtree.specs.Numbered.{IsUnder as StandsUnder}
+use Rattle.sd_vtree.proofs.Times.{one_place, slice_get_append, slice_get_left}
+use Rattle.sd_vtree.proofs.Subtrees.{once_numbered}
+use Rattle.sd_vtree.proofs.Under.{under_part}
 use Rattle.sd_laws.specs.Depends.{DependsOn}
 use Rattle.sd_laws.specs.Parts.{HasPosition, leaf_position}
 use Rattle.sd_laws.specs.Shown.{literal_code}
 use Rattle.sd_laws.proofs.Leaves.{literal_node, leaf_number}
 use Rattle.sd_laws.proofs.Codes.{one_diagram}
-use Rattle.sd_laws.proofs.Numbers.{literal_canonical, part_of_subtree}
+use Rattle.sd_laws.proofs.Numbers.{literal_canonical, part_of_subtree, part_within, length_numbers}
 use Rattle.sd_laws.proofs.Places.{narrowed, canonical_in, position_within}
 use Rattle.sd_manager.specs.Literals.{code_of_literal}
 use Rattle.sd_manager.specs.Table.{Table}
@@ -29,7 +32,7 @@ use Rattle.sd_apply.specs.Places.{plain, IsCanonicalUnder, IsNodeUnder, IsBelow,
 use Rattle.sd_apply.specs.Growing.{GrowsBelow}
 use Rattle.sd_apply.specs.Group.{group_value, IsPlaced, AreOrdered, JoinsGroup, GrowsBelowGroup}
 use Rattle.sd_apply.specs.GroupCalls.{AreLiteralsBelow, JoinsFrom}
-use Rattle.sd_apply.proofs.Trees.{apart, canonical_below, below_canonical, under_number}
+use Rattle.sd_apply.proofs.Trees.{apart, canonical_below, below_canonical, under_number, times_at}
 use Rattle.sd_apply.proofs.Standing.{place_under}
 use Rattle.sd_apply.proofs.Growing.{grows_wider}
 use Rattle.sd_apply.proofs.Whole.{root_under}
@@ -161,6 +164,63 @@ ordered_between t i v there l n d e h one count last first_under last_under = re
       };
   ascending = h.ascending;
 }
+
+-- a vtree node between two that stand under another stands under it
+pub between_stands : (t : Numbered) → IsNumbered t → (v a b c p q r : ℕ) → StandsUnder t a v → StandsUnder t c v →
+    slice_get (numbers t) p ≡ Some a → slice_get (numbers t) q ≡ Some b → slice_get (numbers t) r ≡ Some c →
+    p ≤ q → q ≤ r → StandsUnder t b v
+between_stands t n v a b c p q r x z at here there low high =
+    let s = x.part in
+    let k = part_of_subtree t v s 0 x.is in
+    let from = part_within t n v a s k p x.has at in
+    let to = part_within t n v c s k r (under_part t c v s x.is z) there in
+    let j = q - k.skip in
+    let same : q ≡ length k.front + j = omega (arith, from.0, low, k.starts) in
+    let small : j < length (numbers s) = omega (arith, from.0, low, to.1, high, length_numbers s) in
+    let found : slice_get (numbers s) j ≡ Some b =
+    sym (slice_get_left (numbers s) k.back j small)
+    ∙ sym (slice_get_append k.front (numbers s ++ k.back) j)
+    ∙ sym (ap (λ xs. slice_get xs (length k.front + j)) k.split)
+    ∙ sym (ap (slice_get (numbers t)) same) ∙ here in
+    record { part = s; is = x.is; has = times_at (numbers s) j b found }
+
+-- a diagram has one position
+one_position : (d : Diagram) (p q : ℕ) → HasPosition d p → HasPosition d q → p ≡ q
+one_position (Literal k x s) p q h j = sym h ∙ j
+one_position (Decomposition k es) p q h j = sym h ∙ j
+one_position Bottom p q h j = absurd h
+one_position Top p q h j = absurd h
+
+-- the leaf of the literal at an index stands at its position
+leaf_stands : (t : Table) → IsTable t → (u j p : ℕ) (l : List (ℕ × ℤ)) (e : ℕ × ℤ) → AreOrdered t.vtree l →
+    ((e : ℕ × ℤ) → slice_get l j ≡ Some e → (d : Diagram) → ShowsCanonical t (code_of_literal e.1) d →
+    HasPlace t.vtree u d) → slice_get l j ≡ Some e → slice_get (numbers t.vtree) p ≡ Some u → p ≡ e.0
+leaf_stands t i u j p l e h place at here =
+    let q = shows_literal t e.0 e.1 (h.placed j e at).position in
+    let k = place e at q.diagram q.is in
+    one_place (numbers t.vtree) u p k.position (once_numbered t.vtree i.numbered u) here k.number
+    ∙ one_position q.diagram k.position e.0 k.stands q.stands
+
+-- the leaves of the first and of the last literal stand in this order
+pub leaves_ordered : (t : Table) → IsTable t → (u w : ℕ) (l : List (ℕ × ℤ)) → AreOrdered t.vtree l → 1 ≤ length l →
+    ((e : ℕ × ℤ) → slice_get l 0 ≡ Some e → (d : Diagram) → ShowsCanonical t (code_of_literal e.1) d →
+    HasPlace t.vtree u d) →
+    ((e : ℕ × ℤ) → slice_get l (length l - 1) ≡ Some e → (d : Diagram) → ShowsCanonical t (code_of_literal e.1) d →
+    HasPlace t.vtree w d) →
+    (p q : ℕ) → slice_get (numbers t.vtree) p ≡ Some u → slice_get (numbers t.vtree) q ≡ Some w → p ≤ q
+leaves_ordered t i u w l h some one two p q here there =
+    let n = length l - 1 in
+    let d = get_or l 0 (0, pos 0) in
+    let e = get_or l n (0, pos 0) in
+    let at_first = slice_get-get_or l 0 (0, pos 0) (omega (arith, some)) in
+    let at_last = slice_get-get_or l n (0, pos 0) (omega (arith, some)) in
+    let order : d.0 ≤ e.0 = h.ascending 0 n d e (omega arith) at_first at_last in
+    omega (
+      arith,
+      order,
+      leaf_stands t i u 0 p l d h one at_first here,
+      leaf_stands t i w n q l e h two at_last there,
+    )
 
 -- new nodes below the lowest one are below each
 pub grows_group : (old new : Table) → Extends old new → IsNumbered old.vtree → (p a : ℕ) (l : List (ℕ × ℤ)) →

@@ -15,7 +15,8 @@ ghost use Rattle.sd_apply.specs.Serving.{Serves};
 ghost use Rattle.sd_apply.specs.Places.{width, IsBelow, IsThere, HasChildren, HasPlace};
 ghost use Rattle.sd_apply.specs.Group.{AreOrdered, JoinsGroup, GrowsBelowGroup};
 ghost use Rattle.sd_apply.specs.GroupCalls.{deciding, between, AreLiteralsBelow, JoinsFrom, IsGroupNode};
-ghost use Rattle.sd_apply.specs.GroupCalls.{StandLower, StandsFrom, IsFork, Halves, JoinsHalves, MakesHalves, Remembers};
+ghost use Rattle.sd_apply.specs.GroupCalls.{StandLower, StandsFrom, IsFork, Halves, JoinsHalves, MakesHalves};
+ghost use Rattle.sd_apply.specs.GroupCalls.{Remembers};
 
 use crate::calls::apply;
 use crate::node_answers::NodeAnswers;
@@ -25,7 +26,7 @@ use sd_cache::Cache;
 use sd_manager::{Manager, NodeId, View};
 use sd_model::Operation;
 use sd_runs::TakeError;
-use sd_vtree::VNode;
+use sd_vtree::{VNode, Vtree};
 use std::alloc::Global;
 
 /// A node joined with a group of literals, in one pass along the node: for And a clause, the disjunction of the
@@ -84,12 +85,39 @@ fn lowest_over(m: &Manager, node: NodeId, literals: &[(u32, i32)]) -> VNode
 {
     let first = leaf_of(m, literals, 0);
     let last = leaf_of(m, literals, literals.len() - 1);
-    let ends = m.vtree().lca(first, last);
+    let vtree = m.vtree();
     if node.0 < 2 {
-        return ends;
+        return vtree.lca(first, last);
     }
     let own = place_of(m, node);
-    m.vtree().lca(ends, own)
+    lca_of_three(vtree, first, last, own)
+}
+
+// The lowest vtree node at or below which three stand, of which the first stands before the last: it is that of the
+// two outer ones.
+fn lca_of_three(vtree: &Vtree, first: VNode, last: VNode, own: VNode) -> VNode
+    requires first { first < length (numbers vtree.now) }
+    requires last { last < length (numbers vtree.now) }
+    requires own { own < length (numbers vtree.now) }
+    requires order { (p q : ℕ) → slice_get (numbers vtree.now) p ≡ Some first →
+        slice_get (numbers vtree.now) q ≡ Some last → p ≤ q }
+    ensures node { result < length (numbers vtree.now) }
+    ensures first { StandsUnder vtree.now first result }
+    ensures last { StandsUnder vtree.now last result }
+    ensures own { StandsUnder vtree.now own result }
+    ensures lowest { (n : ℕ) → StandsUnder vtree.now first n → StandsUnder vtree.now last n →
+        StandsUnder vtree.now own n → StandsUnder vtree.now result n }
+{
+    let low = vtree.position(first);
+    let high = vtree.position(last);
+    let place = vtree.position(own);
+    if place < low {
+        return vtree.lca(own, last);
+    }
+    if high < place {
+        return vtree.lca(first, own);
+    }
+    vtree.lca(first, last)
 }
 
 // The leaf of the literal at an index.
@@ -104,8 +132,8 @@ fn leaf_of(m: &Manager, literals: &[(u32, i32)], index: usize) -> VNode
     m.vtree().leaf(literal.unsigned_abs())
 }
 
-// The same at a node below a vtree node, with the literals from an index on. Most calls are decided at once, so that
-// much is told where the call stands.
+// The same at a node below a vtree node, with the literals from an index on. Most calls are decided at once or were
+// answered before, so that much is told where the call stands.
 #[cycle(join)]
 #[inline(always)]
 fn join_from(
@@ -140,10 +168,15 @@ fn join_from(
     if node.0 == decided.0 {
         return Ok(decided);
     }
+    if is_shared(m, at, node) {
+        if let Some(code) = found.look(node.0, from + 1) {
+            return Ok(NodeId(code));
+        }
+    }
     join_below(alloc, m, recent, found, operation, at, node, literals, from)
 }
 
-// The same where some literals are left.
+// The same where some literals are left, and where no answer is kept.
 #[cycle(join)]
 fn join_below(
     alloc: Global,
@@ -173,20 +206,14 @@ fn join_below(
     ensures table { IsTable m.new }
 {
     let lower = lower_right(m, at, node, literals, from);
-    let next = from + 1;
     let shared = is_shared(m, lower, node);
-    if shared {
-        if let Some(code) = found.look(node.0, next) {
-            return Ok(NodeId(code));
-        }
-    }
     let code = join_at(
         alloc, m, recent, found, operation, lower, node, literals, from,
     )?;
     if !shared {
         return Ok(code);
     }
-    found.keep(alloc, node.0, next, code.0);
+    found.keep(alloc, node.0, from + 1, code.0);
     Ok(code)
 }
 

@@ -1,6 +1,7 @@
 use lib.Signed.{lt_z}
 use mir.Val.{SFits, to_z, of_z}
-use Rattle.std.proofs.Common.{◌≡◌, ◌∙◌, sym, ap, subst, ◌+◌, ◌*◌, ◌<◌, rules, arith, w32, refl, not, pos, unsigned_abs}
+use Rattle.std.proofs.Common.{◌≡◌, ◌∙◌, sym, ap, subst, ◌+◌, ◌*◌, ◌<◌, rules, arith, w32, refl, not, pos}
+use Rattle.std.proofs.Common.{unsigned_abs}
 use Rattle.sd_model.specs.Assignment.{value_in}
 use Rattle.std.proofs.lemmas.Int.{to_z-of_z}
 use Rattle.std.proofs.lemmas.Result.{IfOk-weaker}
@@ -166,14 +167,14 @@ join_from-returns-then-node-decided-clause-ok t c =
     c.deciding_value.ensures c.constant-decided.ensures.code
     (sym c.node.view_is ∙ c.if-node-decided.true ∙ c.decided.view_is)
 
-pub join_below-returns-in-Some-clause-ok : goal.join_below-returns-in-Some-clause-ok
-join_below-returns-in-Some-clause-ok t c =
+pub join_from-returns-in-Some-clause-ok : goal.join_from-returns-in-Some-clause-ok
+join_from-returns-in-Some-clause-ok t c =
     let m = c.args.m.now in
     let o = c.args.operation in
     let l = c.args.literals.now in
-    joins_found m c.requires.table o c.args.at c.args.node c.args.from (c.args.from + 1)
+    joins_found m c.constant-decided.ensures.table o c.args.at c.args.node c.args.from (c.args.from + 1)
     c.in-Some.code l refl
-    (subst (λ n. IsFoundBefore m o l n (c.args.from + 1) c.in-Some.code) c.node.view_is
+    (subst (λ n. IsFoundBefore m o l n (c.args.from + 1) c.in-Some.code) c.node-2.view_is
     (c.in-Some.ensures.right m o l c.requires.remembers))
 
 pub join_below-returns-in_err-code-clause-grown : goal.join_below-returns-in_err-code-clause-grown
@@ -212,7 +213,7 @@ join_below-returns-clause-remembers t c =
     let found = found_joined m n c.join_at.ensures.kept o c.lower_right-lower.result c.args.node c.args.from
     (c.args.from + 1) c.in_ok-code.code l refl c.lower_right-lower.ensures.node c.in_ok-code.ensures.ok in
     c.keep.ensures.right n o l c.join_at.ensures.remembers
-    (subst (λ k. IsFoundBefore n o l k (c.args.from + 1) c.code.inside.0) (sym c.node-2.view_is)
+    (subst (λ k. IsFoundBefore n o l k (c.args.from + 1) c.code.inside.0) (sym c.node.view_is)
     (subst (λ k. IsFoundBefore n o l c.args.node (c.args.from + 1) k) (sym c.code.view_is) found))
 
 -- ---- the halves

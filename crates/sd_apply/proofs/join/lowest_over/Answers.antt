@@ -1,34 +1,33 @@
-use Rattle.std.proofs.Common.{sym, subst, ℕ, ◌<◌, ◌-◌, length, arith}
+use Rattle.std.proofs.Common.{◌≡◌, Some, slice_get, sym, subst, ℕ, ◌<◌, ◌-◌, length, arith}
+use Rattle.sd_vtree.specs.Numbered.{numbers}
 use Rattle.sd_vtree.specs.Numbered.{IsUnder as StandsUnder}
-use Rattle.sd_vtree.proofs.Subtrees.{once_numbered}
-use Rattle.sd_vtree.proofs.Under.{under_trans}
 use Rattle.sd_apply.proofs.Trees.{under_number}
 use Rattle.sd_apply.proofs.Standing.{place_under}
 use Rattle.sd_apply.proofs.JoiningPlaces.{constant_under}
-use Rattle.sd_apply.proofs.JoiningWhole.{index_stands, ends_literals}
+use Rattle.sd_apply.proofs.JoiningWhole.{index_stands, ends_literals, leaves_ordered}
 use Rattle.sd_apply.proofs.join.lowest_over.Goals as goal
 
 pub returns-then-node-lt2-clause-node : goal.returns-then-node-lt2-clause-node
 returns-then-node-lt2-clause-node c =
-    constant_under c.args.m.now c.lca-ends.result c.args.node
+    constant_under c.args.m.now c.lca.result c.args.node
     (subst (λ (n : ℕ). n < 2) c.node.view_is c.if-node-lt2.true)
 
 pub returns-then-node-lt2-clause-literals : goal.returns-then-node-lt2-clause-literals
 returns-then-node-lt2-clause-literals c =
-    let e = c.vtree.ensures.vtree in
-    ends_literals c.args.m.now c.vtree.ensures.table c.lca-ends.result c.leaf_of-first.result c.leaf_of-last.result
+    let e = c.vtree-vtree.ensures.vtree in
+    ends_literals c.args.m.now c.vtree-vtree.ensures.table c.lca.result c.leaf_of-first.result c.leaf_of-last.result
     c.args.literals.now c.requires.literals c.requires.some c.leaf_of-first.ensures.place c.leaf_of-last.ensures.place
-    (subst (λ t. StandsUnder t c.leaf_of-first.result c.lca-ends.result) e c.lca-ends.ensures.over_first)
-    (subst (λ t. StandsUnder t c.leaf_of-last.result c.lca-ends.result) e c.lca-ends.ensures.over_second)
+    (subst (λ t. StandsUnder t c.leaf_of-first.result c.lca.result) e c.lca.ensures.over_first)
+    (subst (λ t. StandsUnder t c.leaf_of-last.result c.lca.result) e c.lca.ensures.over_second)
 
 pub returns-then-node-lt2-clause-lowest : goal.returns-then-node-lt2-clause-lowest
 returns-then-node-lt2-clause-lowest c = λ n there below literals.
     let m = c.args.m.now in
-    let i = c.vtree.ensures.table in
-    let e = c.vtree.ensures.vtree in
+    let i = c.vtree-vtree.ensures.table in
+    let e = c.vtree-vtree.ensures.vtree in
     let l = c.args.literals.now in
-    subst (λ t. StandsUnder t c.lca-ends.result n) e
-    (c.lca-ends.ensures.lowest n
+    subst (λ t. StandsUnder t c.lca.result n) e
+    (c.lca.ensures.lowest n
     (subst (λ t. StandsUnder t c.leaf_of-first.result n) (sym e)
     (index_stands m i n c.leaf_of-first.result 0 l c.leaf_of-first.ensures.place (omega (
       arith,
@@ -38,6 +37,14 @@ returns-then-node-lt2-clause-lowest c = λ n there below literals.
     (index_stands m i n c.leaf_of-last.result (length l - 1) l c.leaf_of-last.ensures.place
     (omega (arith, c.requires.some)) there literals)))
 
+pub lca_of_three-requires-clause-order : goal.lca_of_three-requires-clause-order
+lca_of_three-requires-clause-order c = λ p q here there.
+    let e = c.vtree-vtree.ensures.vtree in
+    leaves_ordered c.args.m.now c.vtree-vtree.ensures.table c.leaf_of-first.result c.leaf_of-last.result
+    c.args.literals.now c.requires.literals c.requires.some c.leaf_of-first.ensures.place c.leaf_of-last.ensures.place
+    p q (subst (λ t. slice_get (numbers t) p ≡ Some c.leaf_of-first.result) e here)
+    (subst (λ t. slice_get (numbers t) q ≡ Some c.leaf_of-last.result) e there)
+
 pub returns-clause-node : goal.returns-clause-node
 returns-clause-node c =
     let m = c.args.m.now in
@@ -46,46 +53,36 @@ returns-clause-node c =
       diagram = x.diagram;
       is = record {
         shows = x.is.shows;
-        under = under_number m.vtree c.vtree.ensures.table.numbered c.lca.result c.place_of-own.result x.diagram
-            (subst (λ t. StandsUnder t c.place_of-own.result c.lca.result) c.vtree-2.ensures.vtree
-            c.lca.ensures.over_second)
+        under = under_number m.vtree c.vtree-vtree.ensures.table.numbered c.lca_of_three.result c.place_of-own.result
+            x.diagram
+            (subst (λ t. StandsUnder t c.place_of-own.result c.lca_of_three.result) c.vtree-vtree.ensures.vtree
+            c.lca_of_three.ensures.own)
             x.is.canonical (c.place_of-own.ensures.place x.diagram x.is);
       };
     }
 
 pub returns-clause-literals : goal.returns-clause-literals
 returns-clause-literals c =
-    let m = c.args.m.now in
-    let i = c.vtree.ensures.table in
-    let e = c.vtree.ensures.vtree in
-    let once = once_numbered m.vtree i.numbered in
-    let up = subst (λ t. StandsUnder t c.lca-ends.result c.lca.result) c.vtree-2.ensures.vtree
-    c.lca.ensures.over_first in
-    ends_literals m i c.lca.result c.leaf_of-first.result c.leaf_of-last.result c.args.literals.now c.requires.literals
-    c.requires.some c.leaf_of-first.ensures.place c.leaf_of-last.ensures.place
-    (under_trans m.vtree once c.leaf_of-first.result c.lca-ends.result c.lca.result
-    (subst (λ t. StandsUnder t c.leaf_of-first.result c.lca-ends.result) e c.lca-ends.ensures.over_first) up)
-    (under_trans m.vtree once c.leaf_of-last.result c.lca-ends.result c.lca.result
-    (subst (λ t. StandsUnder t c.leaf_of-last.result c.lca-ends.result) e c.lca-ends.ensures.over_second) up)
+    let e = c.vtree-vtree.ensures.vtree in
+    ends_literals c.args.m.now c.vtree-vtree.ensures.table c.lca_of_three.result c.leaf_of-first.result
+    c.leaf_of-last.result c.args.literals.now c.requires.literals c.requires.some c.leaf_of-first.ensures.place
+    c.leaf_of-last.ensures.place
+    (subst (λ t. StandsUnder t c.leaf_of-first.result c.lca_of_three.result) e c.lca_of_three.ensures.first)
+    (subst (λ t. StandsUnder t c.leaf_of-last.result c.lca_of_three.result) e c.lca_of_three.ensures.last)
 
 pub returns-clause-lowest : goal.returns-clause-lowest
 returns-clause-lowest c = λ n there below literals.
     let m = c.args.m.now in
-    let i = c.vtree.ensures.table in
-    let e = c.vtree.ensures.vtree in
-    let k = c.vtree-2.ensures.vtree in
+    let i = c.vtree-vtree.ensures.table in
+    let e = c.vtree-vtree.ensures.vtree in
     let l = c.args.literals.now in
-    let ends = subst (λ t. StandsUnder t c.lca-ends.result n) e
-    (c.lca-ends.ensures.lowest n
+    subst (λ t. StandsUnder t c.lca_of_three.result n) e
+    (c.lca_of_three.ensures.lowest n
     (subst (λ t. StandsUnder t c.leaf_of-first.result n) (sym e)
-    (index_stands m i n c.leaf_of-first.result 0 l c.leaf_of-first.ensures.place (omega (
-      arith,
-      c.requires.some,
-    )) there literals))
+    (index_stands m i n c.leaf_of-first.result 0 l c.leaf_of-first.ensures.place
+    (omega (arith, c.requires.some)) there literals))
     (subst (λ t. StandsUnder t c.leaf_of-last.result n) (sym e)
     (index_stands m i n c.leaf_of-last.result (length l - 1) l c.leaf_of-last.ensures.place
-    (omega (arith, c.requires.some)) there literals))) in
-    subst (λ t. StandsUnder t c.lca.result n) k
-    (c.lca.ensures.lowest n (subst (λ t. StandsUnder t c.lca-ends.result n) (sym k) ends)
-    (subst (λ t. StandsUnder t c.place_of-own.result n) (sym k)
+    (omega (arith, c.requires.some)) there literals))
+    (subst (λ t. StandsUnder t c.place_of-own.result n) (sym e)
     (place_under m i n c.args.node c.place_of-own.result there below c.place_of-own.ensures.place)))

@@ -1,7 +1,7 @@
-use Rattle.std.proofs.Common.{◌≡◌, ◌∙◌, ◌<◌, ℕ, length, sym, subst, Some, slice_get, arith}
+use Rattle.std.proofs.Common.{◌≡◌, ◌∙◌, ◌<◌, length, sym, subst, Some, slice_get, arith}
 use Rattle.std.proofs.lemmas.Bool.Decides.{nat_tests}
 use Rattle.sd_vtree.specs.Numbered.{numbers}
-use Rattle.sd_apply.specs.Places.{width, HasChildren}
+use Rattle.sd_apply.specs.Places.{HasChildren}
 use Rattle.sd_apply.proofs.JoiningPlaces.{there_within, lower_start, lower_next, right_narrower}
 use Rattle.sd_apply.proofs.join.skip_right.Goals as goal
 
