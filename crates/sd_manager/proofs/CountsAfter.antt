@@ -1,21 +1,20 @@
 -- The counts of what roots hold after each step of the calls: roots come and go, and nodes are made, detached, linked,
 -- and removed.
-use Rattle.std.proofs.Common.{◌≡◌, ◌≢◌, ◌⊎◌, inl, inr, ℕ, ◌+◌, ◌-◌, ◌^◌, ◌<◌, ◌≤◌, cond, eqb, max, true, false, List, [], ◌∷◌, length}
-use Rattle.std.proofs.Common.{unwrap_or, Option, Some, None, refl, sym, ap, subst, ◌∙◌, arith}
+use Rattle.std.proofs.Common.{◌≡◌, ◌≢◌, inl, inr, ℕ, ◌+◌, ◌-◌, ◌^◌, ◌<◌, ◌≤◌, cond, eqb, max, true, false, List}
+use Rattle.std.proofs.Common.{[], ◌∷◌, length, unwrap_or, Option, Some, None, refl, sym, ap, subst, ◌∙◌, arith}
 use Rattle.std.proofs.lemmas.Bool.{cases_eq}
 use Rattle.std.specs.Option.{IsSome, option_map}
 use Rattle.std.specs.Ordering.{nat_cmp}
 use Rattle.std.specs.FinMap.{FinMap, get, insert, remove, len, empty}
 use Rattle.sd_runs.proofs.Maps.{get_insert_same, get_insert_other, get_remove_same, get_remove_other}
 use Rattle.sd_runs.proofs.Places.{by_cases}
-use Rattle.sd_vtree.specs.Numbered.{Numbered}
 use Rattle.sd_unique.specs.Nodes.{Nodes, IsNodes, key_at, or_else, total_length}
 use Rattle.sd_unique.specs.Inserting.{no_nodes, IsNewNumber, inserted}
-use Rattle.sd_unique.specs.Relinking.{IsLoose, unlinked, relinked, with_key, without_loose, exchanged, removed}
+use Rattle.sd_unique.specs.Relinking.{IsLoose, unlinked, relinked, with_key, without_loose, removed}
 use Rattle.sd_counts.specs.Counts.{Counts, Adds, IsGrown, counted_at, no_counts}
 use Rattle.sd_counts.specs.Right.{AreOf, AreClosed, IsThere}
 use Rattle.sd_counts.proofs.StaysRight.{right_held, right_released, right_grown}
-use Rattle.sd_manager.specs.Counting.{counts_one, AreCounted, IsCounted, DropsUses, AddsUses}
+use Rattle.sd_manager.specs.Counting.{counts_one, AreCounted}
 use Rattle.sd_manager.specs.Stored.{held_count}
 use Rattle.sd_manager.specs.Recounting.{HasOtherList}
 use Rattle.sd_manager.proofs.CountsKept.{held_few, held_more, held_less, held_again, counts_same_keys}
@@ -128,7 +127,8 @@ module _ (a b : Nodes) (held : ℕ → ℕ) (v : Counts) (of : AreOf a held v) (
       (ap (λ x. key_at x n) is
       ∙ ap (λ o. or_else o (get (insert a.detached n (place, k.0.1)) n)) (detached_alone a n k.0 valid k.1)
       ∙ get_insert_same a.detached n (place, k.0.1)) refl
-      (λ q ne. ap (λ x. key_at x q) is ∙ ap (or_else (get a.linked q)) (get_insert_other a.detached n (place, k.0.1) q ne))
+      (λ q ne. ap (λ x. key_at x q) is ∙ ap (or_else (get a.linked q)) (get_insert_other a.detached n
+      (place, k.0.1) q ne))
       (ap (λ x. x.records) is)
 
   -- a detached node is a linked one now
@@ -138,7 +138,8 @@ module _ (a b : Nodes) (held : ℕ → ℕ) (v : Counts) (of : AreOf a held v) (
       let k = some_value (get a.detached n) detached in
       let is = linked k.0 k.1 in
       counts_same_list a b held v n k.0 k.0 of (detached_key a n k.0 valid k.1)
-      (ap (λ x. key_at x n) is ∙ ap (λ o. or_else o (get (remove a.detached n) n)) (get_insert_same a.linked n k.0)) refl
+      (ap (λ x. key_at x n) is ∙ ap (λ o. or_else o (get (remove a.detached n) n))
+      (get_insert_same a.linked n k.0)) refl
       (λ q ne.
       ap (λ x. key_at x q) is
       ∙ ap (λ o. or_else o (get (remove a.detached n) q)) (get_insert_other a.linked n k.0 q ne)
@@ -180,7 +181,8 @@ counts_made a b d held v w of grown room n place l number none is rest =
     let before = right_grown a held v w of grown in
     counts_other_uses b d held w
     (counts_but_one a b held w n before (not_counted a held w n before none) (not_held a held w n before none)
-    (λ q ne. ap (λ x. key_at x q) is ∙ ap (λ o. or_else o (get a.detached q)) (get_insert_other a.linked n (place, l) q ne))
+    (λ q ne. ap (λ x. key_at x q) is ∙ ap (λ o. or_else o (get a.detached q)) (get_insert_other a.linked n
+    (place, l) q ne))
     (omega (arith, ap (λ x. x.records) is, bound number, room)))
     rest
   where

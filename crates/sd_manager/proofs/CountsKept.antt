@@ -1,38 +1,32 @@
 -- The counts of what roots hold stay right where roots come and go and where the nodes change.
-use Rattle.std.proofs.Common.{◌≡◌, ◌≢◌, ◌⊎◌, inl, inr, ℕ, zero, suc, ◌+◌, ◌-◌, ◌^◌, ◌<◌, ◌≤◌, cond, eqb, max, Bool, true, false}
+use Rattle.std.proofs.Common.{◌≡◌, ◌≢◌, ℕ, zero, suc, ◌+◌, ◌-◌, ◌^◌, ◌<◌, ◌≤◌, cond, eqb, Bool}
 use Rattle.std.proofs.Common.{List, [], ◌∷◌, length, Option, Some, None, unwrap_or, refl, sym, ap, subst, ◌∙◌, arith}
-use Rattle.std.proofs.Common.{get_or}
+use Rattle.std.proofs.Common.{true, false, get_or}
 use Rattle.std.proofs.lemmas.Bool.{cases_eq}
-use Rattle.std.specs.List.{AllByRecursion, sum_by}
 use Rattle.std.specs.Option.{IsSome, option_map}
 use Rattle.std.specs.Ordering.{nat_cmp}
-use Rattle.std.specs.FinMap.{FinMap, get, insert, remove, len, values, empty, get-empty}
-use Rattle.sd_runs.proofs.Maps.{get_insert_same, get_insert_other, get_remove_same, get_remove_other}
+use Rattle.std.specs.FinMap.{FinMap, get, insert, remove, len, values}
 use Rattle.sd_runs.proofs.Places.{by_cases}
 use Rattle.sd_vtree.specs.Numbered.{Numbered}
-use Rattle.sd_unique.specs.Nodes.{Nodes, IsNodes, key_at as key_of_nodes, or_else, total_length as length_of_nodes}
-use Rattle.sd_unique.specs.Inserting.{no_nodes, IsNewNumber, inserted}
-use Rattle.sd_unique.specs.Relinking.{IsLoose}
-use Rattle.sd_counts.specs.Counts.{Counts, Adds, IsGrown, IsRelisted, IsSettled, counted_at, live_at, no_counts}
+use Rattle.sd_unique.specs.Nodes.{Nodes, IsNodes, key_at as key_of_nodes, total_length as length_of_nodes}
+use Rattle.sd_counts.specs.Counts.{Counts, IsRelisted, IsSettled, counted_at, live_at}
 use Rattle.sd_counts.specs.Right.{AreClosed, AreOf, IsThere, list_at, sum_counted}
 use Rattle.sd_counts.specs.Uses.{IsWithin, AreWithin, uses_in}
 use Rattle.sd_counts.proofs.OnStack.{not_both}
-use Rattle.sd_counts.proofs.StaysRight.{right_among, right_held, right_released, right_grown, right_relisted}
+use Rattle.sd_counts.proofs.StaysRight.{right_among, right_relisted}
 use Rattle.sd_counts.proofs.StaysRight.{live_most, uses_live, length_total, relisted_fits}
 use Rattle.sd_counts.proofs.Sums.{sum_some}
-use Rattle.sd_manager.specs.Table.{Table, key_at, uses_of}
-use Rattle.sd_manager.specs.Counting.{counts_one, AreCounted, IsCounted}
-use Rattle.sd_manager.specs.Stored.{table_of, held_count, IsKept, IsStored}
+use Rattle.sd_manager.specs.Table.{uses_of}
+use Rattle.sd_manager.specs.Counting.{counts_one, AreCounted}
+use Rattle.sd_manager.specs.Stored.{table_of, held_count, IsStored}
 use Rattle.sd_manager.specs.Recounting.{HasOtherList, IsUnused}
 use Rattle.sd_manager.proofs.Counted.{counts_same}
 use Rattle.sd_manager.proofs.GivenBack.{list_counted}
 use Rattle.sd_manager.proofs.Holding.{some_value, length_values, sum_ones, at_most_one, uses_in_le}
 use Rattle.sd_manager.proofs.Reading.{key_again}
-use Rattle.sd_manager.proofs.LinkedUnder.{not_linked}
 use Rattle.sd_manager.proofs.Standing.{no_uses}
 use Rattle.sd_manager.proofs.Totals.{total_new, total_without, total_replaced}
 use Rattle.sd_manager.proofs.Unused.{not_in_node}
-use Rattle.sd_manager.proofs.Valid.{no_total}
 
 -- roots
 

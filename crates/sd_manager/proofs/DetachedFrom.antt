@@ -154,7 +154,8 @@ module _ (t : Table) (i : IsTable t) (n : ℕ) (key : ℕ × List (ℕ × ℕ)) 
     detached_table = record {
       numbered = i.numbered;
       keys = record {
-        distinct = λ q r k here there. i.keys.distinct q r k (still_linked t n q k here).1 (still_linked t n r k there).1;
+        distinct = λ q r k here there. i.keys.distinct q r k (still_linked t n q k here).1
+            (still_linked t n r k there).1;
         ascending = λ q k here. i.keys.ascending q k (still_linked t n q k here).1;
       };
       canonical = λ q k here settled.

@@ -1,8 +1,8 @@
 -- The codes in slots as a map: an empty slot has no entry.
-use Rattle.std.proofs.Common.{◌≡◌, ◌⊎◌, inl, inr, ℕ, suc, zero, ◌+◌, ◌<◌, ◌≤◌, cond, List, [], ◌∷◌, ◌++◌, length, get_or}
-use Rattle.std.proofs.Common.{Option, Some, None, refl, sym, ap, subst, ◌∙◌, arith}
+use Rattle.std.proofs.Common.{◌≡◌, ℕ, suc, zero, ◌+◌, ◌<◌, cond, List, [], ◌∷◌, ◌++◌, length, get_or}
+use Rattle.std.proofs.Common.{Option, Some, None, refl, sym, ap, ◌∙◌, arith}
 use Rattle.std.proofs.Math.ListN.{set}
-use Rattle.std.proofs.lemmas.Bool.{cases_eq, cases_lt}
+use Rattle.std.proofs.lemmas.Bool.{cases_eq}
 use Rattle.std.proofs.lemmas.Cmp.{nat_cmp_total}
 use Rattle.std.proofs.lemmas.List.{get_or-set_same, get_or-set_other}
 use Rattle.std.specs.Option.{IsSome}
@@ -11,8 +11,7 @@ use Rattle.std.specs.FinMap.{FinMap, get, insert, remove, find, get-from_entries
 use Rattle.sd_runs.proofs.Maps.{tied, apart, same_at_each, get_insert_same, get_insert_other}
 use Rattle.sd_runs.proofs.Maps.{get_remove_same, get_remove_other}
 use Rattle.sd_runs.proofs.Places.{by_cases}
-use Rattle.sd_manager.specs.Stored.{held_from, held_map, AreEmpty}
-use Rattle.sd_manager.specs.Marking.{IsNextHeld}
+use Rattle.sd_manager.specs.Stored.{held_from, held_map}
 
 -- no entry has a number below the first
 find_before : (q i : ℕ) (slots : List (Option ℕ)) → q < i → find nat_cmp q (held_from i slots) ≡ None
@@ -106,31 +105,3 @@ pub held_value : (slots : List (Option ℕ)) (i : ℕ) (d : Option ℕ) → i < 
 held_value [] i d h = absurd (omega arith)
 held_value (x ∷ slots) zero d h = refl
 held_value (x ∷ slots) (suc i) d h = held_value slots i d (omega arith)
-
--- past the slots nothing stands
-none_past : (slots : List (Option ℕ)) (q : ℕ) → length slots ≤ q → get_or slots q None ≡ None
-none_past [] q h = refl
-none_past (x ∷ slots) zero h = absurd (omega arith)
-none_past (x ∷ slots) (suc q) h = none_past slots q (omega arith)
-
--- where the slots from one on are empty, no root from it on is held
-pub none_from : (slots : List (Option ℕ)) (m : FinMap nat_cmp ℕ) (from to : ℕ) → held_map slots ≡ m →
-    AreEmpty slots from to → length slots ≤ to → (q : ℕ) → from ≤ q → get m q ≡ None
-none_from slots m from to same empty past q on = subst (λ n. get n q ≡ None) same (get_held slots q ∙ go (cases_lt q to))
-  where
-    go : (q < to) ⊎ (to ≤ q) → get_or slots q None ≡ None
-    go (inl less) = empty.each q on less
-    go (inr more) = none_past slots q (omega arith)
-
--- the first slot that is not empty has the next root
-pub next_held : (slots : List (Option ℕ)) (m : FinMap nat_cmp ℕ) (from i c : ℕ) → held_map slots ≡ m →
-    AreEmpty slots from i → from ≤ i → get_or slots i None ≡ Some c → IsNextHeld m from (i + 1) c
-next_held slots m from i c same empty on there =
-    subst (λ n. IsNextHeld n from (i + 1) c) same
-    (record {
-      root = i;
-      next_is = refl;
-      from_on = on;
-      held = get_held slots i ∙ there;
-      between = λ r above below. get_held slots r ∙ empty.each r above below;
-    })

@@ -10,7 +10,8 @@ pub none_kept : (t : Table) (a : List Bool) → AreValues t a []
 none_kept t a = record { each = λ c b is d h. absurd cc }
 
 -- one value more
-pub value_kept : (t : Table) (a : List Bool) (node : ℕ) (value : Bool) (old new : List (Option Bool)) → AreValues t a old →
+pub value_kept : (t : Table) (a : List Bool) (node : ℕ) (value : Bool) (old new : List (Option Bool)) →
+    AreValues t a old →
     ((k : ℕ) (b : Bool) → slice_index_or new k None ≡ Some b →
     ((k ≡ node) × (b ≡ value)) ⊎ (slice_index_or old k None ≡ Some b)) →
     ((d : Diagram) → ShowsCanonical t node d → value ≡ meaning d a) → AreValues t a new

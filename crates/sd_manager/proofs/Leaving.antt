@@ -1,7 +1,7 @@
 -- A node that nothing uses has left the nodes with the uses of its list: what stays, and that the counts are right.
-use Rattle.std.proofs.Common.{◌≡◌, ◌≢◌, ℕ, ◌+◌, ◌≤◌, false, List, length, Option, Some, sym, ap, subst, ◌∙◌, arith}
+use Rattle.std.proofs.Common.{◌≡◌, ◌≢◌, ℕ, ◌+◌, ◌≤◌, false, List, Option, Some, sym, ap, subst, ◌∙◌, arith}
 use Rattle.std.specs.Ordering.{nat_cmp}
-use Rattle.std.specs.FinMap.{FinMap, get, insert, remove}
+use Rattle.std.specs.FinMap.{FinMap, get}
 use Rattle.sd_vtree.specs.Numbered.{Numbered}
 use Rattle.sd_laws.specs.Values.{StandsIn}
 use Rattle.sd_unique.specs.Nodes.{Nodes, IsNodes, key_at}
@@ -51,7 +51,8 @@ module _ (v : Numbered) (a : Nodes) (m : FinMap nat_cmp ℕ) (e : ℕ) (g : Opti
           ∙ others_kept a n key.0 q ne
 
       -- where the node was not counted, and not held, the counts are right
-      pub left_counts : (held : ℕ → ℕ) (w : Counts) → AreOf a held w → counted_at w n ≡ false → held n ≡ 0 → AreOf f held w
+      pub left_counts : (held : ℕ → ℕ) (w : Counts) → AreOf a held w → counted_at w n ≡ false → held n ≡ 0 →
+          AreOf f held w
       left_counts held w of off free =
           counts_but_one a f held w n of off free others
           (omega (arith, of.room, ap (λ x. x.records) has.is, ap (λ x. x.records) has.drops.rest))

@@ -1,8 +1,8 @@
 -- Outside a move the nodes in the list of a node have higher ranks: their places have smaller subtrees.
-use Rattle.std.proofs.Common.{◌≡◌, ◌≢◌, ◌⊎◌, inl, inr, ℕ, ◌+◌, ◌-◌, ◌≤◌, ◌<◌, List, [], ◌∷◌, length, Option}
+use Rattle.std.proofs.Common.{◌≡◌, ◌≢◌, inl, inr, ℕ, ◌+◌, ◌-◌, ◌≤◌, ◌<◌, List, [], ◌∷◌, length, Option}
 use Rattle.std.proofs.Common.{Some, None, unwrap_or, refl, sym, ◌∙◌, ap, subst, arith, length-append, eq-eqb, ne_eqb}
 use Rattle.std.proofs.Common.{if◌then◌else◌}
-use Rattle.std.specs.Option.{IsSome, option_map}
+use Rattle.std.specs.Option.{option_map}
 use Rattle.std.specs.FinMap.{get, get-empty}
 use Rattle.std.specs.Ordering.{nat_cmp}
 use Rattle.std.proofs.lemmas.Bool.{cases_eq}
@@ -97,7 +97,8 @@ module _ (t : Table) (i : IsTable t) (still : t.moving ≡ None) where
 
       go : (o : Option (ℕ × List (ℕ × ℕ))) → get t.linked n ≡ o → get t.linked n ≡ Some k
       go None e =
-          let bad : None ≡ Some k = sym (ap (λ o. or_else o (get t.detached n)) e ∙ none) ∙ at in absurd (none-some k bad)
+          let bad : None ≡ Some k = sym (ap (λ o. or_else o (get t.detached n)) e ∙ none) ∙ at in
+          absurd (none-some k bad)
       go (Some l) e = e ∙ sym (linked_key t n l e) ∙ at
 
   -- a node in the list of a node has a higher rank

@@ -1,10 +1,9 @@
 -- A linked node without uses is removed before the uses of its list are dropped, or after: the nodes are the same.
-use Rattle.std.proofs.Common.{◌≡◌, ◌≢◌, inl, inr, ℕ, ◌+◌, ◌-◌, ◌≤◌, List, [], ◌∷◌, Option, Some, None, unwrap_or}
+use Rattle.std.proofs.Common.{◌≡◌, ◌≢◌, inl, inr, ℕ, ◌+◌, ◌-◌, ◌≤◌, List, [], ◌∷◌, Some, None, unwrap_or}
 use Rattle.std.proofs.Common.{refl, sym, ap, subst, ◌∙◌, arith}
 use Rattle.std.proofs.lemmas.Bool.{cases_eq}
 use Rattle.std.specs.Option.{IsSome, option_map}
-use Rattle.std.specs.Ordering.{nat_cmp}
-use Rattle.std.specs.FinMap.{FinMap, get, insert, remove}
+use Rattle.std.specs.FinMap.{get, insert, remove}
 use Rattle.sd_runs.proofs.Maps.{same_at_each, get_insert_same, get_insert_other, get_remove_same, get_remove_other}
 use Rattle.sd_runs.proofs.Places.{by_cases}
 use Rattle.sd_laws.specs.Values.{StandsIn}
@@ -90,7 +89,8 @@ module _ (a : Nodes) (n : ℕ) (may : MayLeave a n) where
               (λ same.
               ap (get (insert d.uses n 0)) same ∙ get_insert_same d.uses n 0
               ∙ ap Some (omega arith)
-              ∙ ap (option_map (λ k. k - uses_in (2050 + q) (list_at a n))) (sym (ap (get a.uses) same ∙ may.idle.unused)))
+              ∙ ap (option_map (λ k. k - uses_in (2050 + q) (list_at a n))) (sym (ap (get a.uses) same
+              ∙ may.idle.unused)))
               (λ ne.
               get_insert_other d.uses n 0 q ne ∙ drops.uses q
               ∙ ap (option_map (λ k. k - uses_in (2050 + q) (list_at a n)))

@@ -1,7 +1,7 @@
 -- The code of a node without uses stands in the list of no linked node, and the subs of two pairs are counted.
 use Rattle.std.proofs.Common.{◌≡◌, ℕ, ◌+◌, ◌-◌, List, [], ◌∷◌, Option, sym, subst, arith}
 use Rattle.std.specs.Ordering.{nat_cmp}
-use Rattle.std.specs.FinMap.{FinMap, get}
+use Rattle.std.specs.FinMap.{FinMap}
 use Rattle.sd_vtree.specs.Numbered.{Numbered}
 use Rattle.sd_unique.specs.Nodes.{Nodes}
 use Rattle.sd_manager.specs.Table.{uses_of}

@@ -26,10 +26,6 @@ held_map slots = from_entries (held_from 0 slots)
 pub record AreFilled (slots : List (Option ℕ)) (from to : ℕ) : Type 0 where
   pub each : (k : ℕ) → from ≤ k → k < to → IsSome (slice_index_or slots k None)
 
--- each slot from the one index up to the other is empty
-pub record AreEmpty (slots : List (Option ℕ)) (from to : ℕ) : Type 0 where
-  pub each : (k : ℕ) → from ≤ k → k < to → slice_index_or slots k None ≡ None
-
 -- what holds of the slots of roots: as many as their numbers have room for, and none before the first is empty
 pub record AreSlots (slots : List (Option ℕ)) (first : ℕ) : Type 0 where
   pub fits : length slots < 2 ^ 32

@@ -17,7 +17,7 @@ ghost use Rattle.sd_manager.specs.Views.{view_of, pairs_at, IsViewOf};
 ghost use Rattle.sd_manager.specs.Valid.{IsTable, total_length};
 ghost use Rattle.sd_manager.specs.Making.{Extends, IsMade, IsFull, IsRefusal, KeepsRule, IsNeeded, HasNewNode};
 ghost use Rattle.sd_manager.specs.Making.{with_root, without_root};
-ghost use Rattle.sd_manager.specs.Marking.{with_mark, IsNextHeld};
+ghost use Rattle.sd_manager.specs.Marking.{with_mark};
 ghost use Rattle.sd_manager.specs.Moving.{next_epoch};
 ghost use Rattle.sd_manager.specs.Retiring.{IsIdle, IsRetired};
 ghost use Rattle.sd_manager.specs.Total.{IsTotal};
@@ -425,17 +425,6 @@ impl Manager {
         ensures table { IsTable self.new }
     {
         self.nodes.set_mark(number, value);
-    }
-
-    /// The first held root from a number on: the number after it, and the node that it holds. From 0 on, and then from
-    /// each number that it gave, it goes over all held roots, in the order of their numbers.
-    pub fn next_held(&self, from: u32) -> Option<(u32, NodeId)>
-        ensures some { IfSome result (λ next. IsNextHeld self.now.roots from next.0 next.1) }
-        ensures none { IfNone result ((root : ℕ) → from ≤ root → get self.now.roots root ≡ None) }
-        ensures table { IsTable self.now }
-    {
-        let (next, code) = self.roots.next(from)?;
-        Some((next, NodeId(code)))
     }
 
     /// How many elements the nodes and the loose runs have together, in constant time.

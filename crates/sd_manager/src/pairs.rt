@@ -30,7 +30,8 @@ pub(crate) fn sort_into(
     Ok(())
 }
 
-// Writes two pairs that ascend over a list of two, and answers whether these are such. Most lists are, and need no sort.
+// Writes two pairs that ascend over a list of two, and answers whether these are such. Most lists are, and need no
+// sort.
 fn replace_two(list: &mut Vec<(u32, u32)>, elements: &[(NodeId, NodeId)]) -> bool
     ensures same { IsTrue result → (list.new.items ≡ elements.now) }
     ensures sorted { IsTrue result →

@@ -1,11 +1,10 @@
 //! Roots: numbers that hold nodes.
 
 ghost use Rattle.std.specs.Prelude.{◌≡◌, ◌≤◌, ◌<◌, ℕ, length, slice_index_or};
-ghost use Rattle.std.specs.Prelude.{Some, None, IfOk, OnErr, IfSome, IfNone};
+ghost use Rattle.std.specs.Prelude.{Some, None, IfOk, OnErr};
 ghost use Rattle.std.specs.Option.{IsSome};
 ghost use Rattle.std.specs.FinMap.{empty, get, insert, remove};
-ghost use Rattle.sd_manager.specs.Stored.{AreFilled, AreEmpty};
-ghost use Rattle.sd_manager.specs.Marking.{IsNextHeld};
+ghost use Rattle.sd_manager.specs.Stored.{AreFilled};
 
 use std::alloc::{AllocError, Global};
 use std::marker::Model;
@@ -47,10 +46,9 @@ impl Model for Roots {
 }
 
 impl Roots {
-    ghost use Rattle.std.specs.Prelude.{◌≡◌, ◌≤◌, ℕ, Some, None, IfOk, OnErr, IfSome, IfNone};
+    ghost use Rattle.std.specs.Prelude.{◌≡◌, Some, None, IfOk, OnErr};
     ghost use Rattle.std.specs.Option.{IsSome};
     ghost use Rattle.std.specs.FinMap.{empty, get, insert, remove};
-    ghost use Rattle.sd_manager.specs.Marking.{IsNextHeld};
 
     // No roots.
     pub(crate) fn new(alloc: Global) -> Roots
@@ -68,18 +66,6 @@ impl Roots {
         ensures { get self.now root.now ≡ Some result }
     {
         self.slots[root.0 as usize].unwrap()
-    }
-
-    // The first code that is held from a root on, and the number after its root.
-    pub(crate) fn next(&self, from: u32) -> Option<(u32, u32)>
-        ensures some { IfSome result (λ next. IsNextHeld self.now from next.0 next.1) }
-        ensures none { IfNone result ((root : ℕ) → from ≤ root → get self.now root ≡ None) }
-    {
-        let index = filled_slot(self.slots.as_slice(), from as usize);
-        if index == self.slots.len() {
-            return None;
-        }
-        Some((index as u32 + 1, self.slots[index].unwrap()))
     }
 
     // A new root for a code.
@@ -130,21 +116,6 @@ fn empty_slot(slots: &[Option<u32>], first: usize) -> usize
 {
     for index in first..slots.len() {
         if slots[index].is_none() {
-            return index;
-        }
-    }
-    slots.len()
-}
-
-// The first slot from an index on that is not empty, or the number of slots.
-fn filled_slot(slots: &[Option<u32>], first: usize) -> usize
-    ensures inside { result ≤ length slots.now }
-    ensures from_on { result < length slots.now → first ≤ result }
-    ensures filled { result < length slots.now → IsSome (slice_index_or slots.now result None) }
-    ensures empty { AreEmpty slots.now first result }
-{
-    for index in first..slots.len() {
-        if slots[index].is_some() {
             return index;
         }
     }

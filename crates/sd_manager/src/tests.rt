@@ -80,15 +80,13 @@ fn no_room(rt: HostRuntime) -> Result<(), Fail> {
     Ok(())
 }
 
-/// A root holds the node that it was made for, and is the only one.
+/// A root holds the node that it was made for.
 #[test]
 fn a_root(rt: HostRuntime) -> Result<(), Fail> {
     let (mut m, _) = over_two(rt.alloc(), 3)?;
     let yes = m.constant(true);
     let held = m.hold(yes)?;
     assert_eq!(rt; m.node_of(&held), yes);
-    assert_eq!(rt; m.next_held(0), Some((1, yes)));
-    assert_eq!(rt; m.next_held(1), None);
     Ok(())
 }
 

@@ -13,12 +13,14 @@ list-new-requires c = (c.requires.may).2.node
 pub relisted-requires-clause-number : goal.relisted-requires-clause-number
 relisted-requires-clause-number c =
     let may = c.requires.may in
-    other_inside may.0 c.args.nodes.now may.1 c.args.counts.now c.args.number c.args.former.0 c.args.former.1 may.2 may.3
+    other_inside may.0 c.args.nodes.now may.1 c.args.counts.now c.args.number c.args.former.0
+    c.args.former.1 may.2 may.3
 
 pub relisted-requires-clause-within : goal.relisted-requires-clause-within
 relisted-requires-clause-within c =
     let may = c.requires.may in
-    other_within may.0 c.args.nodes.now may.1 c.args.counts.now c.args.number c.args.former.0 c.args.former.1 may.2 may.3
+    other_within may.0 c.args.nodes.now may.1 c.args.counts.now c.args.number c.args.former.0
+    c.args.former.1 may.2 may.3
     c.loose_list-old.result.now c.list-new.result.now c.loose_list-old.ensures c.list-new.ensures
 
 pub relisted-requires-clause-used : goal.relisted-requires-clause-used

@@ -1,5 +1,4 @@
 use Rattle.std.proofs.Common.{sym, ◌∙◌, arith}
-use Rattle.std.specs.Prelude.{◌≡◌, false}
 use Rattle.sd_unique.specs.Nodes.{key_at}
 use Rattle.sd_manager.proofs.CountsKept.{unused_uncounted, none_counted}
 use Rattle.sd_manager.proofs.Holding.{some_value}

@@ -15,7 +15,8 @@ invariant_of-self c =
     record {
       stored = detached_stored s.vtree s.nodes s.roots s.epoch s.moving c.self.invariant.stored c.args.number linked
           c.unlink.new.self c.unlink.ensures.unlinked c.unlink.ensures.nodes
-          (subst (λ t. IsSome t.moving) same c.requires.moving) (subst (λ t. IsTop t c.args.number) same c.requires.top);
+          (subst (λ t. IsSome t.moving) same c.requires.moving) (subst (λ t. IsTop t c.args.number) same
+          c.requires.top);
       counted = counts_detached s.nodes c.unlink.new.self (held_count s.roots) s.counts c.self.invariant.counted
           c.args.number linked c.unlink.ensures.unlinked;
     }

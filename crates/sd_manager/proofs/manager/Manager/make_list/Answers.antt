@@ -190,7 +190,8 @@ invariant_of-self-2 c =
     (λ n. c.find_or_insert.new.self ≡ inserted s.nodes n c.place.inside.0 c.as_slice-list.result.now) c.in-New.is
     c.in-Ok.ensures.ok in
     record {
-      stored = at_new s.vtree s.nodes s.roots s.epoch s.moving c.place.inside.0 c.args.elements.now c.as_slice-list.result.now
+      stored = at_new s.vtree s.nodes s.roots s.epoch s.moving c.place.inside.0 c.args.elements.now
+          c.as_slice-list.result.now
           h none
           c.in-New.number number c.find_or_insert.new.self c.add_uses.new.nodes is
           c.add_uses.ensures.uses c.add_uses.ensures.valid

@@ -1,11 +1,11 @@
-use Rattle.std.proofs.Common.{◌≡◌, inr, ℕ, ◌+◌, ◌<◌, ◌^◌, Some, List, [], ◌∷◌, length, refl, sym, subst, ◌∙◌, arith}
+use Rattle.std.proofs.Common.{◌≡◌, inr, ℕ, ◌+◌, ◌<◌, ◌^◌, Some, [], ◌∷◌, length, refl, sym, subst, ◌∙◌, arith}
 use Rattle.std.specs.FinMap.{get}
 use Rattle.sd_unique.specs.Inserting.{inserted, IsNewNumber, IsFull}
 use Rattle.sd_manager.specs.Table.{uses_in}
 use Rattle.sd_manager.specs.Making.{Extends, IsMade, IsRefusal, KeepsRule, IsNeeded, HasNewNode}
 use Rattle.sd_manager.specs.Counting.{AreCounted}
 use Rattle.sd_manager.specs.Stored.{table_of, held_count, IsStored, IsKept}
-use Rattle.sd_manager.proofs.Linking.{asked_two, partition_inside, made_trimmed, made_found, two_pairs, refused, kept_rule}
+use Rattle.sd_manager.proofs.Linking.{asked_two, partition_inside, made_trimmed, made_found, refused, kept_rule}
 use Rattle.sd_manager.proofs.Linking.{list_counted, list_room, new_short, at_new, stored_new, made_new, kept_new}
 use Rattle.sd_manager.proofs.Linking.{grown_new}
 use Rattle.sd_manager.proofs.Needed.{needed}
@@ -19,9 +19,9 @@ pub returns-in-Some-clause-ok : goal.returns-in-Some-clause-ok
 returns-in-Some-clause-ok c = λ ds partition.
     let s = c.self.inside in
     let two = c.args.first ∷ c.args.second ∷ [] in
-    let h = asked_two s.vtree s.nodes s.roots s.epoch s.moving c.args.self.now c.args.place c.args.place c.args.first
-    c.args.second c.self.invariant.stored c.self.view_is refl c.requires.partition c.requires.differ
-    c.requires.ascend in
+    let h = asked_two s.vtree s.nodes s.roots s.epoch s.moving c.args.self.now c.args.place c.args.place
+    c.args.first c.args.second c.self.invariant.stored c.self.view_is refl c.requires.partition
+    c.requires.differ c.requires.ascend in
     subst (λ t. IsMade t c.in-Some.code ds) c.self.view_is
     (made_trimmed s.vtree s.nodes s.roots s.epoch s.moving c.args.place two two h
     c.in-Some.code (sym c.trimmed_pair.ensures ∙ c.in-Some.is) ds
@@ -32,9 +32,9 @@ pub returns-in-Present-clause-ok : goal.returns-in-Present-clause-ok
 returns-in-Present-clause-ok c = λ ds partition.
     let s = c.self.inside in
     let two = c.args.first ∷ c.args.second ∷ [] in
-    let h = asked_two s.vtree s.nodes s.roots s.epoch s.moving c.args.self.now c.place.inside.0 c.args.place c.args.first
-    c.args.second c.self.invariant.stored c.self.view_is c.place.view_is c.requires.partition c.requires.differ
-    c.requires.ascend in
+    let h = asked_two s.vtree s.nodes s.roots s.epoch s.moving c.args.self.now c.place.inside.0 c.args.place
+    c.args.first c.args.second c.self.invariant.stored c.self.view_is c.place.view_is c.requires.partition
+    c.requires.differ c.requires.ascend in
     let none = sym c.trimmed_pair.ensures ∙ c.in_default.is in
     let same = if_present c.in-Ok.found c.in-Present.number (λ n. c.find_two.new.nodes ≡ s.nodes)
     c.in-Present.is c.in-Ok.ensures.same in
@@ -53,18 +53,18 @@ grow-requires c =
 pub find_two-requires-clause-first : goal.find_two-requires-clause-first
 find_two-requires-clause-first c =
     let s = c.self.inside in
-    let h = asked_two s.vtree s.nodes s.roots s.epoch s.moving c.args.self.now c.place.inside.0 c.args.place c.args.first
-    c.args.second c.self.invariant.stored c.self.view_is c.place.view_is c.requires.partition c.requires.differ
-    c.requires.ascend in
+    let h = asked_two s.vtree s.nodes s.roots s.epoch s.moving c.args.self.now c.place.inside.0 c.args.place
+    c.args.first c.args.second c.self.invariant.stored c.self.view_is c.place.view_is c.requires.partition
+    c.requires.differ c.requires.ascend in
     (subs_counted s.vtree s.nodes s.roots s.epoch s.moving c.place.inside.0 c.args.first c.args.second
     (c.args.first ∷ c.args.second ∷ []) h).0
 
 pub find_two-requires-clause-second : goal.find_two-requires-clause-second
 find_two-requires-clause-second c =
     let s = c.self.inside in
-    let h = asked_two s.vtree s.nodes s.roots s.epoch s.moving c.args.self.now c.place.inside.0 c.args.place c.args.first
-    c.args.second c.self.invariant.stored c.self.view_is c.place.view_is c.requires.partition c.requires.differ
-    c.requires.ascend in
+    let h = asked_two s.vtree s.nodes s.roots s.epoch s.moving c.args.self.now c.place.inside.0 c.args.place
+    c.args.first c.args.second c.self.invariant.stored c.self.view_is c.place.view_is c.requires.partition
+    c.requires.differ c.requires.ascend in
     (subs_counted s.vtree s.nodes s.roots s.epoch s.moving c.place.inside.0 c.args.first c.args.second
     (c.args.first ∷ c.args.second ∷ []) h).1
 
@@ -76,9 +76,9 @@ pub returns-in-Err-clause-full : goal.returns-in-Err-clause-full
 returns-in-Err-clause-full c =
     let s = c.self.inside in
     let two = c.args.first ∷ c.args.second ∷ [] in
-    let h = asked_two s.vtree s.nodes s.roots s.epoch s.moving c.args.self.now c.place.inside.0 c.args.place c.args.first
-    c.args.second c.self.invariant.stored c.self.view_is c.place.view_is c.requires.partition c.requires.differ
-    c.requires.ascend in
+    let h = asked_two s.vtree s.nodes s.roots s.epoch s.moving c.args.self.now c.place.inside.0 c.args.place
+    c.args.first c.args.second c.self.invariant.stored c.self.view_is c.place.view_is c.requires.partition
+    c.requires.differ c.requires.ascend in
     let none = sym c.trimmed_pair.ensures ∙ c.in_default.is in
     subst (λ t. IsRefusal t (length two) c.in-Err.error) c.self.view_is
     (refused s.vtree s.nodes s.roots s.epoch s.moving c.place.inside.0 two two h none
@@ -88,9 +88,9 @@ pub returns-in-Err-clause-rule : goal.returns-in-Err-clause-rule
 returns-in-Err-clause-rule c =
     let s = c.self.inside in
     let two = c.args.first ∷ c.args.second ∷ [] in
-    let h = asked_two s.vtree s.nodes s.roots s.epoch s.moving c.args.self.now c.place.inside.0 c.args.place c.args.first
-    c.args.second c.self.invariant.stored c.self.view_is c.place.view_is c.requires.partition c.requires.differ
-    c.requires.ascend in
+    let h = asked_two s.vtree s.nodes s.roots s.epoch s.moving c.args.self.now c.place.inside.0 c.args.place
+    c.args.first c.args.second c.self.invariant.stored c.self.view_is c.place.view_is c.requires.partition
+    c.requires.differ c.requires.ascend in
     let none = sym c.trimmed_pair.ensures ∙ c.in_default.is in
     subst (λ x. KeepsRule (table_of s.vtree x s.roots s.epoch s.moving) c.in-Err.error) (sym c.in-Err.ensures.err)
     (kept_rule s.vtree s.nodes s.roots s.epoch s.moving c.place.inside.0 two two h none
@@ -100,9 +100,9 @@ pub returns-in-Err-clause-needed : goal.returns-in-Err-clause-needed
 returns-in-Err-clause-needed c =
     let s = c.self.inside in
     let two = c.args.first ∷ c.args.second ∷ [] in
-    let h = asked_two s.vtree s.nodes s.roots s.epoch s.moving c.args.self.now c.place.inside.0 c.args.place c.args.first
-    c.args.second c.self.invariant.stored c.self.view_is c.place.view_is c.requires.partition c.requires.differ
-    c.requires.ascend in
+    let h = asked_two s.vtree s.nodes s.roots s.epoch s.moving c.args.self.now c.place.inside.0 c.args.place
+    c.args.first c.args.second c.self.invariant.stored c.self.view_is c.place.view_is c.requires.partition
+    c.requires.differ c.requires.ascend in
     let none = sym c.trimmed_pair.ensures ∙ c.in_default.is in
     subst (λ t. IsNeeded t c.args.place two c.in-Err.error) c.self.view_is
     (subst (λ p. IsNeeded (table_of s.vtree s.nodes s.roots s.epoch s.moving) p two c.in-Err.error)
@@ -115,9 +115,9 @@ pub add_two-requires-clause-counted : goal.add_two-requires-clause-counted
 add_two-requires-clause-counted c =
     let s = c.self.inside in
     let two = c.args.first ∷ c.args.second ∷ [] in
-    let h = asked_two s.vtree s.nodes s.roots s.epoch s.moving c.args.self.now c.place.inside.0 c.args.place c.args.first
-    c.args.second c.self.invariant.stored c.self.view_is c.place.view_is c.requires.partition c.requires.differ
-    c.requires.ascend in
+    let h = asked_two s.vtree s.nodes s.roots s.epoch s.moving c.args.self.now c.place.inside.0 c.args.place
+    c.args.first c.args.second c.self.invariant.stored c.self.view_is c.place.view_is c.requires.partition
+    c.requires.differ c.requires.ascend in
     let none = sym c.trimmed_pair.ensures ∙ c.in_default.is in
     let number = if_new c.in-Ok.found c.in-New.number (λ n. IsNewNumber s.nodes n) c.in-New.is
     c.in-Ok.ensures.number in
@@ -132,9 +132,9 @@ pub add_two-requires-clause-room : goal.add_two-requires-clause-room
 add_two-requires-clause-room c =
     let s = c.self.inside in
     let two = c.args.first ∷ c.args.second ∷ [] in
-    let h = asked_two s.vtree s.nodes s.roots s.epoch s.moving c.args.self.now c.place.inside.0 c.args.place c.args.first
-    c.args.second c.self.invariant.stored c.self.view_is c.place.view_is c.requires.partition c.requires.differ
-    c.requires.ascend in
+    let h = asked_two s.vtree s.nodes s.roots s.epoch s.moving c.args.self.now c.place.inside.0 c.args.place
+    c.args.first c.args.second c.self.invariant.stored c.self.view_is c.place.view_is c.requires.partition
+    c.requires.differ c.requires.ascend in
     let none = sym c.trimmed_pair.ensures ∙ c.in_default.is in
     let number = if_new c.in-Ok.found c.in-New.number (λ n. IsNewNumber s.nodes n) c.in-New.is
     c.in-Ok.ensures.number in
@@ -174,9 +174,9 @@ pub invariant_of-self-2 : goal.invariant_of-self-2
 invariant_of-self-2 c =
     let s = c.self.inside in
     let two = c.args.first ∷ c.args.second ∷ [] in
-    let h = asked_two s.vtree s.nodes s.roots s.epoch s.moving c.args.self.now c.place.inside.0 c.args.place c.args.first
-    c.args.second c.self.invariant.stored c.self.view_is c.place.view_is c.requires.partition c.requires.differ
-    c.requires.ascend in
+    let h = asked_two s.vtree s.nodes s.roots s.epoch s.moving c.args.self.now c.place.inside.0 c.args.place
+    c.args.first c.args.second c.self.invariant.stored c.self.view_is c.place.view_is c.requires.partition
+    c.requires.differ c.requires.ascend in
     let none = sym c.trimmed_pair.ensures ∙ c.in_default.is in
     let number = if_new c.in-Ok.found c.in-New.number (λ n. IsNewNumber s.nodes n) c.in-New.is
     c.in-Ok.ensures.number in
@@ -203,9 +203,9 @@ pub returns-clause-ok : goal.returns-clause-ok
 returns-clause-ok c = λ ds partition.
     let s = c.self.inside in
     let two = c.args.first ∷ c.args.second ∷ [] in
-    let h = asked_two s.vtree s.nodes s.roots s.epoch s.moving c.args.self.now c.place.inside.0 c.args.place c.args.first
-    c.args.second c.self.invariant.stored c.self.view_is c.place.view_is c.requires.partition c.requires.differ
-    c.requires.ascend in
+    let h = asked_two s.vtree s.nodes s.roots s.epoch s.moving c.args.self.now c.place.inside.0 c.args.place
+    c.args.first c.args.second c.self.invariant.stored c.self.view_is c.place.view_is c.requires.partition
+    c.requires.differ c.requires.ascend in
     let none = sym c.trimmed_pair.ensures ∙ c.in_default.is in
     let number = if_new c.in-Ok.found c.in-New.number (λ n. IsNewNumber s.nodes n) c.in-New.is
     c.in-Ok.ensures.number in
@@ -226,9 +226,9 @@ pub returns-clause-kept : goal.returns-clause-kept
 returns-clause-kept c =
     let s = c.self.inside in
     let two = c.args.first ∷ c.args.second ∷ [] in
-    let h = asked_two s.vtree s.nodes s.roots s.epoch s.moving c.args.self.now c.place.inside.0 c.args.place c.args.first
-    c.args.second c.self.invariant.stored c.self.view_is c.place.view_is c.requires.partition c.requires.differ
-    c.requires.ascend in
+    let h = asked_two s.vtree s.nodes s.roots s.epoch s.moving c.args.self.now c.place.inside.0 c.args.place
+    c.args.first c.args.second c.self.invariant.stored c.self.view_is c.place.view_is c.requires.partition
+    c.requires.differ c.requires.ascend in
     let none = sym c.trimmed_pair.ensures ∙ c.in_default.is in
     let number = if_new c.in-Ok.found c.in-New.number (λ n. IsNewNumber s.nodes n) c.in-New.is
     c.in-Ok.ensures.number in
@@ -248,9 +248,9 @@ pub returns-clause-grown : goal.returns-clause-grown
 returns-clause-grown c =
     let s = c.self.inside in
     let two = c.args.first ∷ c.args.second ∷ [] in
-    let h = asked_two s.vtree s.nodes s.roots s.epoch s.moving c.args.self.now c.place.inside.0 c.args.place c.args.first
-    c.args.second c.self.invariant.stored c.self.view_is c.place.view_is c.requires.partition c.requires.differ
-    c.requires.ascend in
+    let h = asked_two s.vtree s.nodes s.roots s.epoch s.moving c.args.self.now c.place.inside.0 c.args.place
+    c.args.first c.args.second c.self.invariant.stored c.self.view_is c.place.view_is c.requires.partition
+    c.requires.differ c.requires.ascend in
     let none = sym c.trimmed_pair.ensures ∙ c.in_default.is in
     let number = if_new c.in-Ok.found c.in-New.number (λ n. IsNewNumber s.nodes n) c.in-New.is
     c.in-Ok.ensures.number in

@@ -38,7 +38,8 @@ replace_run-former-requires-clause-node c =
     let asks = putting s.vtree s.nodes s.roots s.epoch s.moving c.args.self.now c.args.number c.args.place
     c.args.place c.args.run.0 c.args.run.1 c.self.view_is refl c.requires.node c.requires.run c.requires.fits
     c.requires.absent in
-    putting_node s.vtree s.nodes s.roots s.epoch s.moving c.self.invariant.stored c.args.number c.args.place c.args.run.0
+    putting_node s.vtree s.nodes s.roots s.epoch s.moving c.self.invariant.stored c.args.number c.args.place
+    c.args.run.0
     c.args.run.1
     asks c.drop_uses.new.nodes c.drop_uses.ensures.uses
 
@@ -59,7 +60,8 @@ recount-requires c =
     c.args.place c.args.run.0 c.args.run.1 c.self.view_is refl c.requires.node c.requires.run
     c.requires.fits
     c.requires.absent in
-    let other = putting_other s.vtree s.nodes s.roots s.epoch s.moving c.self.invariant.stored c.args.number c.args.place
+    let other = putting_other s.vtree s.nodes s.roots s.epoch s.moving c.self.invariant.stored c.args.number
+    c.args.place
     c.args.run.0 c.args.run.1 asks c.drop_uses.new.nodes c.drop_uses.ensures.uses
     c.replace_run-former.result c.replace_run-former.new.self c.replace_run-former.ensures.exchanged
     c.replace_run-former.ensures.fresh c.replace_run-former.ensures.nodes in
@@ -71,7 +73,8 @@ give_run-requires c =
     let asks = putting s.vtree s.nodes s.roots s.epoch s.moving c.args.self.now c.args.number c.args.place
     c.args.place c.args.run.0 c.args.run.1 c.self.view_is refl c.requires.node c.requires.run c.requires.fits
     c.requires.absent in
-    putting_former s.vtree s.nodes s.roots s.epoch s.moving c.self.invariant.stored c.args.number c.args.place c.args.run.0
+    putting_former s.vtree s.nodes s.roots s.epoch s.moving c.self.invariant.stored c.args.number c.args.place
+    c.args.run.0
     c.args.run.1
     asks c.drop_uses.new.nodes c.drop_uses.ensures.uses
     c.replace_run-former.result c.replace_run-former.new.self c.replace_run-former.ensures.exchanged
@@ -85,7 +88,8 @@ retag-requires c =
     c.requires.fits
     c.requires.absent in
     record {
-      node = putting_relisted s.vtree s.nodes s.roots s.epoch s.moving c.self.invariant.stored c.args.number c.place.inside.0
+      node = putting_relisted s.vtree s.nodes s.roots s.epoch s.moving c.self.invariant.stored c.args.number
+          c.place.inside.0
           c.args.run.0 c.args.run.1
           asks c.drop_uses.new.nodes c.drop_uses.ensures.uses
           c.replace_run-former.result c.replace_run-former.new.self c.replace_run-former.ensures.exchanged
@@ -127,7 +131,8 @@ invariant_of-self c =
     c.place.inside.0 c.args.run.0 c.args.run.1 c.self.view_is c.place.view_is c.requires.node c.requires.run
     c.requires.fits
     c.requires.absent in
-    let other = putting_other s.vtree s.nodes s.roots s.epoch s.moving c.self.invariant.stored c.args.number c.place.inside.0
+    let other = putting_other s.vtree s.nodes s.roots s.epoch s.moving c.self.invariant.stored c.args.number
+    c.place.inside.0
     c.args.run.0 c.args.run.1 asks c.drop_uses.new.nodes c.drop_uses.ensures.uses
     c.replace_run-former.result c.replace_run-former.new.self c.replace_run-former.ensures.exchanged
     c.replace_run-former.ensures.fresh c.replace_run-former.ensures.nodes in
@@ -146,7 +151,8 @@ invariant_of-self c =
           let asks = putting s.vtree s.nodes s.roots s.epoch s.moving c.args.self.now c.args.number c.args.place
           c.args.place c.args.run.0 c.args.run.1 c.self.view_is refl c.requires.node c.requires.run c.requires.fits
           c.requires.absent in
-          putting_former s.vtree s.nodes s.roots s.epoch s.moving c.self.invariant.stored c.args.number c.args.place c.args.run.0
+          putting_former s.vtree s.nodes s.roots s.epoch s.moving c.self.invariant.stored c.args.number c.args.place
+          c.args.run.0
           c.args.run.1
           asks c.drop_uses.new.nodes c.drop_uses.ensures.uses
           c.replace_run-former.result c.replace_run-former.new.self c.replace_run-former.ensures.exchanged
@@ -157,17 +163,20 @@ invariant_of-self c =
           c.place.inside.0 c.args.run.0 c.args.run.1 c.self.view_is c.place.view_is c.requires.node c.requires.run
           c.requires.fits
           c.requires.absent in
-          putting_relisted s.vtree s.nodes s.roots s.epoch s.moving c.self.invariant.stored c.args.number c.place.inside.0
+          putting_relisted s.vtree s.nodes s.roots s.epoch s.moving c.self.invariant.stored c.args.number
+          c.place.inside.0
           c.args.run.0 c.args.run.1
           asks c.drop_uses.new.nodes c.drop_uses.ensures.uses
           c.replace_run-former.result c.replace_run-former.new.self c.replace_run-former.ensures.exchanged
-          c.replace_run-former.ensures.fresh c.give_run.new.self c.give_run.ensures.given_back) c.retag.ensures.retagged) c.args.number c.retag.ensures.nodes
+          c.replace_run-former.ensures.fresh c.give_run.new.self c.give_run.ensures.given_back)
+          c.retag.ensures.retagged) c.args.number c.retag.ensures.nodes
           (let s = c.self.inside in
           let asks = putting s.vtree s.nodes s.roots s.epoch s.moving c.args.self.now c.args.number c.args.place
           c.place.inside.0 c.args.run.0 c.args.run.1 c.self.view_is c.place.view_is c.requires.node c.requires.run
           c.requires.fits
           c.requires.absent in
-          putting_detached s.vtree s.nodes s.roots s.epoch s.moving c.self.invariant.stored c.args.number c.place.inside.0
+          putting_detached s.vtree s.nodes s.roots s.epoch s.moving c.self.invariant.stored c.args.number
+          c.place.inside.0
           c.args.run.0 c.args.run.1
           asks c.drop_uses.new.nodes c.drop_uses.ensures.uses
           c.replace_run-former.result c.replace_run-former.new.self c.replace_run-former.ensures.exchanged

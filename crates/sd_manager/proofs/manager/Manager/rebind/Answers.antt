@@ -29,7 +29,8 @@ drop_use-requires-clause-counted c =
     let s = c.self.inside in
     let still = ap (λ t. t.moving) c.self.view_is ∙ c.requires.no_move in
     still_counted s.nodes c.add_use.new.nodes c.rebind-former.result c.add_use.ensures.uses
-    (known_counted s.vtree s.nodes s.roots s.epoch s.moving c.rebind-former.result c.self.invariant.stored.table.numbered
+    (known_counted s.vtree s.nodes s.roots s.epoch s.moving c.rebind-former.result
+    c.self.invariant.stored.table.numbered
     (c.self.invariant.stored.table.held still c.args.root.now c.rebind-former.result c.rebind-former.ensures.held))
 
 pub drop_use-requires-clause-used : goal.drop_use-requires-clause-used

@@ -38,8 +38,10 @@ invariant_of-self c =
           c.args.number c.place.inside.0 c.self.invariant.stored.valid detached c.retag.ensures.retagged)
           c.args.number c.retag.ensures.nodes (let s = c.self.inside in
           let may = may_retag (table_of s.vtree s.nodes s.roots s.epoch s.moving) c.args.self.now c.args.number
-          c.place.inside.0 c.args.place c.self.view_is c.place.view_is c.requires.node c.requires.fits c.requires.absent in
-          tagged_detached s.vtree s.nodes s.roots s.epoch s.moving c.self.invariant.stored c.args.number c.place.inside.0 may
+          c.place.inside.0 c.args.place c.self.view_is c.place.view_is c.requires.node c.requires.fits
+          c.requires.absent in
+          tagged_detached s.vtree s.nodes s.roots s.epoch s.moving c.self.invariant.stored c.args.number
+          c.place.inside.0 may
           c.retag.new.self c.retag.ensures.retagged) c.relink.ensures.relinked;
     }
 

@@ -158,7 +158,8 @@ invariant_of-self-2 c =
           c.recount.new.counts
           (c.recount.ensures.right s.nodes (held_count s.roots) other c.self.invariant.counted) c.args.number
           c.replace_run-former.ensures.nodes (let s = c.self.inside in
-          let asks = rewriting s.vtree s.nodes s.roots s.epoch s.moving c.args.self.now c.args.number c.args.elements.now
+          let asks = rewriting s.vtree s.nodes s.roots s.epoch s.moving c.args.self.now c.args.number
+          c.args.elements.now
           c.as_slice-list.result.now c.sort_into.new.list.items c.self.invariant.stored c.self.view_is c.requires.node
           c.requires.fits c.requires.absent c.in_ok-sort_into.ensures.permutation c.in_ok-sort_into.ensures.sorted
           c.as_slice-list.ensures.value in
