@@ -18,12 +18,12 @@ use Rattle.sd_manager.specs.Shown.{Shows, ShowsCanonical, IsPartitionAt}
 use Rattle.sd_manager.specs.Making.{Extends}
 use Rattle.sd_manager.specs.Valid.{IsTable}
 use Rattle.sd_apply.specs.Places.{IsCanonicalUnder, IsNodeUnder, IsBelow, HasPlace, HasChildren}
-use Rattle.sd_apply.specs.Growing.{GrowsBelowBoth, GrowsStrictlyBelow}
+use Rattle.sd_apply.specs.Growing.{GrowsBelow, GrowsStrictlyBelow}
 use Rattle.sd_apply.specs.Elements.{IsPair, ListsElements, HasList, IsPartitionBelow, products}
 use Rattle.sd_apply.specs.Classes.{AreDisjointBelow}
 use Rattle.sd_apply.specs.Calls.{Expands, Multiplies, Merges}
 use Rattle.sd_apply.specs.Partitions.{IsPartitionOf, AreElementsOf, AreDisjointAt, ExpandsAt, MultipliesAt, MergesAt}
-use Rattle.sd_apply.proofs.Trees.{children_of, bottom_under, top_under, left_there, place_before}
+use Rattle.sd_apply.proofs.Trees.{children_of, bottom_under, top_under, place_before}
 use Rattle.sd_apply.proofs.Standing.{shown}
 use Rattle.sd_apply.proofs.Growing.{grows_left, strictly_either}
 use Rattle.sd_apply.proofs.Expanding.{expand_right, left_under}
@@ -98,12 +98,10 @@ left_below t i p u w own pp po a e h place np ao behind differ =
 
 -- ---- what the calls answer
 
--- the negation of a node below the left child stands there
-pub negated_strictly : (old new : Table) → IsTable old → Extends old new → (p u w a : ℕ) → HasChildren old.vtree p u w →
-    IsBelow old u a → GrowsBelowBoth old new a a → GrowsStrictlyBelow old new p
-negated_strictly old new i x p u w a e below g =
-    strictly_either old new p u w x e
-    (grows_left old new u w (g.each u (left_there old.vtree i.numbered p u w e) below below))
+-- what is new below the left child is new strictly below the node
+pub strictly_left : (old new : Table) → Extends old new → (p u w : ℕ) → HasChildren old.vtree p u w →
+    GrowsBelow old new u → GrowsStrictlyBelow old new p
+strictly_left old new x p u w e g = strictly_either old new p u w x e (grows_left old new u w g)
 
 pub expands_at : (old new : Table) → IsTable new → (p u w a : ℕ) (r : List (ℕ × ℕ)) → HasChildren new.vtree p u w →
     Expands old new p u w a r → ExpandsAt old new p a r

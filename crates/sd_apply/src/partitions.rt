@@ -1,5 +1,8 @@
 // Partitions of a vtree node as lists of pairs: made of a node, multiplied, and with equal subs joined. None of these
 // calls makes a node at the vtree node itself, so they serve while the nodes there are detached in a move.
+//
+// None of them asks the cache, whose keys are nodes and no lists. Their caller holds the table of what was answered, so
+// that what the lists of many nodes share is negated and multiplied once for all of them.
 ghost use Rattle.std.specs.Prelude.{◌≡◌, ℕ, List, map, IfOk, IfErr};
 ghost use Rattle.sd_model.specs.Tree.{AreDistinct};
 ghost use Rattle.sd_model.specs.Diagram.{Diagram};
@@ -9,14 +12,12 @@ ghost use Rattle.sd_manager.specs.Making.{Extends, KeepsRule};
 ghost use Rattle.sd_apply.specs.Growing.{GrowsStrictlyBelow};
 ghost use Rattle.sd_apply.specs.Partitions.{IsInnerNode, AreDisjointAt, ExpandsAt, MultipliesAt, MergesAt};
 ghost use Rattle.sd_apply.specs.Places.{IsBelow};
-ghost use Rattle.sd_apply.specs.Serving.{Serves};
+ghost use Rattle.sd_apply.specs.Recent.{Knows};
 
-use crate::cached::negate_cached;
-use crate::calls::{merge, multiply};
+use crate::calls::{merge, multiply, negate_at};
 use crate::lists::{Pairs, below_left, below_right, by_sub, elements_of};
 use crate::places::place_of;
 use crate::recent::Recent;
-use sd_cache::Cache;
 use sd_manager::{Manager, NodeId};
 use sd_model::Operation;
 use sd_runs::TakeError;
@@ -29,17 +30,17 @@ use std::alloc::Global;
 pub fn expand_at(
     alloc: Global,
     m: &mut Manager,
-    c: &mut Cache,
+    recent: &mut Recent,
     place: VNode,
     a: NodeId,
 ) -> Result<Pairs, TakeError>
     requires place { IsInnerNode m.old.vtree place }
     requires a { IsBelow m.old place a }
-    requires serves { Serves c.old m.old }
+    requires knows { Knows recent.old m.old }
     ensures ok { IfOk result (λ r. ExpandsAt m.old m.new place a r.items) }
     ensures kept { Extends m.old m.new }
     ensures grown { GrowsStrictlyBelow m.old m.new place }
-    ensures serves { Serves c.new m.new }
+    ensures knows { Knows recent.new m.new }
     ensures rule { IfErr result (λ e. KeepsRule m.new e) }
     ensures table { IsTable m.new }
 {
@@ -58,17 +59,16 @@ pub fn expand_at(
     if middle < at {
         return below_right(alloc, a);
     }
-    let other = negate_cached(alloc, m, c, children.0, a)?;
+    let other = negate_at(alloc, m, recent, children.0, a)?;
     below_left(alloc, a, other)
 }
 
 /// The products of two lists of elements at a vtree node, without those that have a false prime. The second list is a
-/// partition; of the first at most one prime is true under each assignment. It refuses as `and`. The cache is not
-/// asked, since its keys are nodes and no lists.
+/// partition; of the first at most one prime is true under each assignment. It refuses as `and`.
 pub fn multiply_at(
     alloc: Global,
     m: &mut Manager,
-    c: &mut Cache,
+    recent: &mut Recent,
     operation: Operation,
     place: VNode,
     first: &[(NodeId, NodeId)],
@@ -76,39 +76,38 @@ pub fn multiply_at(
 ) -> Result<Pairs, TakeError>
     requires first { AreDisjointAt m.old place first.now }
     requires second { (ds : List (Diagram × Diagram)) × IsPartitionAt m.old place second.now ds }
-    requires serves { Serves c.old m.old }
+    requires knows { Knows recent.old m.old }
     ensures ok { IfOk result
         (λ r. MultipliesAt m.old m.new operation place first.now second.now r.items) }
     ensures kept { Extends m.old m.new }
     ensures grown { GrowsStrictlyBelow m.old m.new place }
-    ensures serves { Serves c.new m.new }
+    ensures knows { Knows recent.new m.new }
     ensures rule { IfErr result (λ e. KeepsRule m.new e) }
     ensures table { IsTable m.new }
 {
     let Some(children) = m.vtree().children(place) else {
         unreachable!()
     };
-    let mut recent = Recent::new(alloc);
     let (left, right) = (children.0, children.1);
-    multiply(alloc, m, &mut recent, operation, left, right, first, second)
+    multiply(alloc, m, recent, operation, left, right, first, second)
 }
 
 /// A partition of a vtree node with the primes of equal subs joined: the list that a node there has. It refuses as
-/// `and`. The cache is not asked, since its keys are nodes and no lists.
+/// `and`.
 pub fn merge_at(
     alloc: Global,
     m: &mut Manager,
-    c: &mut Cache,
+    recent: &mut Recent,
     place: VNode,
     pairs: &[(NodeId, NodeId)],
 ) -> Result<Pairs, TakeError>
     requires partition { (ds : List (Diagram × Diagram)) × IsPartitionAt m.old place pairs.now ds }
-    requires serves { Serves c.old m.old }
+    requires knows { Knows recent.old m.old }
     ensures ok { IfOk result (λ r. MergesAt m.old m.new place pairs.now r.items) }
     ensures differ { IfOk result (λ r. AreDistinct (map (λ e. e.1) r.items)) }
     ensures kept { Extends m.old m.new }
     ensures grown { GrowsStrictlyBelow m.old m.new place }
-    ensures serves { Serves c.new m.new }
+    ensures knows { Knows recent.new m.new }
     ensures rule { IfErr result (λ e. KeepsRule m.new e) }
     ensures table { IsTable m.new }
 {
@@ -116,13 +115,5 @@ pub fn merge_at(
         unreachable!()
     };
     let sorted = by_sub(alloc, pairs)?;
-    let mut recent = Recent::new(alloc);
-    merge(
-        alloc,
-        m,
-        &mut recent,
-        children.0,
-        children.1,
-        sorted.as_slice(),
-    )
+    merge(alloc, m, recent, children.0, children.1, sorted.as_slice())
 }

@@ -28,11 +28,12 @@ fn by_lists(
     let Some(_) = m.vtree().children(root) else {
         return Err(TakeError::OutOfMemory);
     };
-    let first = expand_at(alloc, m, c, root, a)?;
-    let second = expand_at(alloc, m, c, root, b)?;
+    let mut recent = Recent::new(alloc);
+    let first = expand_at(alloc, m, &mut recent, root, a)?;
+    let second = expand_at(alloc, m, &mut recent, root, b)?;
     let (one, other) = (first.as_slice(), second.as_slice());
-    let products = multiply_at(alloc, m, c, operation, root, one, other)?;
-    let merged = merge_at(alloc, m, c, root, products.as_slice())?;
+    let products = multiply_at(alloc, m, &mut recent, operation, root, one, other)?;
+    let merged = merge_at(alloc, m, &mut recent, root, products.as_slice())?;
     compress(alloc, m, c, root, merged.as_slice())
 }
 

@@ -1,4 +1,4 @@
--- The loop that rewrites the nodes that wait, and the cache over it.
+-- The loop that rewrites the nodes that wait, with its table of answers and the cache over it.
 use Rattle.std.proofs.Common.{◌≡◌, inl, ℕ, List, [], ◌∷◌, ◌++◌, Some, None, Result, Ok, Err, IfOk}
 use Rattle.std.proofs.Common.{OnErr, append_assoc, append-nil, refl, sym, ◌∙◌, ap, subst, arith}
 use Rattle.std.specs.FinMap.{get}
@@ -12,12 +12,15 @@ use Rattle.sd_manager.proofs.Reading.{linked_key}
 use Rattle.sd_manager.specs.Shown.{ShowsCanonical}
 use Rattle.sd_manager.specs.Valid.{IsTable}
 use Rattle.sd_apply.specs.Serving.{IsRight, Serves}
+use Rattle.sd_apply.specs.Recent.{Knows}
+use Rattle.sd_apply.specs.declared.recent.Recent.{Recent}
+use Rattle.sd_apply.proofs.RightEntries.{knows_when}
 use Rattle.sd_move.specs.Journal.{Named}
 use Rattle.sd_move.specs.Moving.{Progress}
 use Rattle.sd_move.specs.Rewriting.{AreRewritten, HasRewritten, CanRewriteAll, MayRewriteAll, GoesOn, numbers_of}
 use Rattle.sd_move.proofs.RewrittenAll.{rewritten_both, goes_on_both, goes_on_still}
 
--- the cache
+-- what was answered
 
 -- what is shown stays shown
 shown_still : (a b : Table) (x : ℕ) (es : List Named) → AreRewritten a b x es → (c : ℕ) (d : Diagram) →
@@ -55,22 +58,33 @@ serves_rewritten c a b x es g h =
       right = λ n e m k. right_still a b x es g e (h.right (λ q. n (g.epoch ∙ q)) e m (k ∙ g.epoch));
     }
 
+-- and the table of answers knows it
+pub knows_rewritten : (r : Recent) (a b : Table) (x : ℕ) (es : List Named) → AreRewritten a b x es → Knows r a →
+    Knows r b
+knows_rewritten r a b x es g = knows_when r a b (right_still a b x es g)
+
 -- whether the node was rewritten or not
-pub serves_either : {X E : Type 0} (c : Entries) (a b : Table) (x : ℕ) (r : Result X E) (es : X → List Named) →
-    IfOk r (λ run. AreRewritten a b x (es run)) → OnErr r (b ≡ a) → Serves c a → Serves c b
-serves_either c a b x (Ok run) es g same s = serves_rewritten c a b x (es run) g s
-serves_either c a b x (Err e) es g same s = subst (Serves c) (sym same) s
+pub knows_either : {X E : Type 0} (k : Recent) (a b : Table) (x : ℕ) (r : Result X E) (es : X → List Named) →
+    IfOk r (λ run. AreRewritten a b x (es run)) → OnErr r (b ≡ a) → Knows k a → Knows k b
+knows_either k a b x (Ok run) es g same h = knows_rewritten k a b x (es run) g h
+knows_either k a b x (Err e) es g same h = subst (Knows k) (sym same) h
 
 -- the loop
 
--- What is so where the rest of the numbers are left: the others were rewritten, the move goes on, and the cache serves.
+-- What is so where the rest of the numbers are left: the others were rewritten, the move goes on, and the table of
+-- answers is right.
 pub record IsRewriting (old now : Table) (place : ℕ) (numbers : List ℕ) (before after : List Named) (rest : List ℕ)
-    (c : Entries) : Type 0 where
+    (k : Recent) : Type 0 where
   pub done : HasRewritten old now place numbers before after rest
   pub going : (m0 : Table) (h : Progress) (v : Valuation) → CanRewriteAll m0 old place h v numbers →
       GoesOn m0 old now place h v rest
   pub table : IsTable now
-  pub serves : Serves c now
+  pub knows : Knows k now
+
+-- the cache serves, which is not asked
+pub serves_all : (c : Entries) (old now : Table) (place : ℕ) (numbers : List ℕ) (before after : List Named)
+    (rest : List ℕ) → HasRewritten old now place numbers before after rest → Serves c old → Serves c now
+serves_all c old now place numbers before after rest h = serves_rewritten c old now place h.entries h.done
 
 -- nothing was done where no node was rewritten
 pub none_rewritten : (t : Table) (x : ℕ) → AreRewritten t t x []
@@ -97,9 +111,9 @@ none_rewritten t x =
     not_new t n k none is = none-some k (sym none ∙ linked_key t n k is)
 
 -- at the begin all are left
-pub rewriting_first : (old : Table) (place : ℕ) (numbers : List ℕ) (before : List Named) (c : Entries) →
-    IsTable old → Serves c old → IsRewriting old old place numbers before before numbers c
-rewriting_first old place numbers before c t s =
+pub rewriting_first : (old : Table) (place : ℕ) (numbers : List ℕ) (before : List Named) (k : Recent) →
+    IsTable old → Knows k old → IsRewriting old old place numbers before before numbers k
+rewriting_first old place numbers before k t s =
     record {
       done = record {
         entries = [];
@@ -109,7 +123,7 @@ rewriting_first old place numbers before c t s =
       };
       going = λ m0 h v can. goes_on_still m0 old place h v numbers can;
       table = t;
-      serves = s;
+      knows = s;
     }
 
 -- the numbers of two lists of entries
@@ -117,8 +131,8 @@ numbers_both : (es fs : List Named) → numbers_of (es ++ fs) ≡ numbers_of es 
 numbers_both [] fs = refl
 numbers_both (e ∷ es) fs = ap (λ l. e.number ∷ l) (numbers_both es fs)
 
-module _ (old now : Table) (place n : ℕ) (numbers : List ℕ) (before after : List Named) (rest : List ℕ) (c : Entries)
-    (s : IsRewriting old now place numbers before after (n ∷ rest) c) where
+module _ (old now : Table) (place n : ℕ) (numbers : List ℕ) (before after : List Named) (rest : List ℕ) (k : Recent)
+    (s : IsRewriting old now place numbers before after (n ∷ rest) k) where
   -- the next one may be rewritten
   pub may_rewrite_next : MayRewriteAll old place numbers → (less : List ℕ) × MayRewriteAll now place (n ∷ less)
   may_rewrite_next (m0, h, v, can) =
@@ -126,11 +140,11 @@ module _ (old now : Table) (place n : ℕ) (numbers : List ℕ) (before after : 
       (rest, (m0, g.progress, g.values, g.can))
 
   -- where it was not, it is left
-  pub rewriting_stops : (next : Table) (c' : Entries) → AreRewritten now next place [] →
+  pub rewriting_stops : (next : Table) (k' : Recent) → AreRewritten now next place [] →
       ((m0 : Table) (h : Progress) (v : Valuation) (less : List ℕ) → CanRewriteAll m0 now place h v (n ∷ less) →
-      GoesOn m0 now next place h v (n ∷ less)) → IsTable next → Serves c' next →
-      IsRewriting old next place numbers before after (n ∷ rest) c'
-  rewriting_stops next c' g f t serves =
+      GoesOn m0 now next place h v (n ∷ less)) → IsTable next → Knows k' next →
+      IsRewriting old next place numbers before after (n ∷ rest) k'
+  rewriting_stops next k' g f t knows =
       record {
         done = record {
           entries = s.done.entries;
@@ -142,17 +156,17 @@ module _ (old now : Table) (place n : ℕ) (numbers : List ℕ) (before after : 
         going = λ m0 h v can. goes_on_both m0 old now next place h v (n ∷ rest) (n ∷ rest) (s.going m0 h v can)
             (λ p w can. f m0 p w rest can);
         table = t;
-        serves = serves;
+        knows = knows;
       }
 
   -- and where it was, the rest is left
-  pub rewriting_on : (next : Table) (c' : Entries) (run : ℕ × ℕ) (longer : List Named) →
+  pub rewriting_on : (next : Table) (k' : Recent) (run : ℕ × ℕ) (longer : List Named) →
       AreRewritten now next place (record { number = n; place = place; run = Some run } ∷ []) →
       ((m0 : Table) (h : Progress) (v : Valuation) (less : List ℕ) → CanRewriteAll m0 now place h v (n ∷ less) →
-      GoesOn m0 now next place h v less) → IsTable next → Serves c' next →
+      GoesOn m0 now next place h v less) → IsTable next → Knows k' next →
       longer ≡ after ++ record { number = n; place = place; run = Some run } ∷ [] →
-      IsRewriting old next place numbers before longer rest c'
-  rewriting_on next c' run longer g f t serves pushed =
+      IsRewriting old next place numbers before longer rest k'
+  rewriting_on next k' run longer g f t knows pushed =
       let e : Named = record { number = n; place = place; run = Some run } in
       record {
         done = record {
@@ -165,5 +179,5 @@ module _ (old now : Table) (place n : ℕ) (numbers : List ℕ) (before after : 
         going = λ m0 h v can. goes_on_both m0 old now next place h v (n ∷ rest) rest (s.going m0 h v can)
             (λ p w can. f m0 p w rest can);
         table = t;
-        serves = serves;
+        knows = knows;
       }

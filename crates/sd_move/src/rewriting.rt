@@ -1,4 +1,10 @@
 // Nodes that wait in a move get another list, which fits the turned vtree.
+//
+// One table of answers serves all of them. The nodes at one vtree node share most of what stands below it: with a table
+// for each list, or for each call on one, the same subdiagrams are negated and multiplied again for each node, which
+// takes ten times the whole time on a diagram of 100,000 elements. No node is discarded while they are rewritten, and a
+// rewritten one keeps its function, so that each answer stays right. The cache is not asked, since a put into it is
+// dear beside a step.
 ghost use Rattle.std.specs.Prelude.{◌≡◌, ◌∷◌, ℕ, ◌≤◌, Bool, List, [], map, Some, IfOk, OnOk, OnErr, IfErr};
 ghost use Rattle.sd_model.specs.Tree.{AreDistinct};
 ghost use Rattle.sd_model.specs.Diagram.{Diagram, meaning};
@@ -15,13 +21,14 @@ ghost use Rattle.sd_manager.specs.Making.{Extends, KeepsRule};
 ghost use Rattle.sd_apply.specs.Growing.{GrowsStrictlyBelow};
 ghost use Rattle.sd_apply.specs.Partitions.{IsInnerNode, IsPartitionOf};
 ghost use Rattle.sd_apply.specs.Places.{IsBelow, IsNodeUnder};
+ghost use Rattle.sd_apply.specs.Recent.{Knows};
 ghost use Rattle.sd_apply.specs.Serving.{Serves};
 ghost use Rattle.sd_move.specs.Moving.{Progress};
 ghost use Rattle.sd_move.specs.Rewriting.{AreBelow, CanRewriteAll, MayRewriteAll, AreRewritten};
 ghost use Rattle.sd_move.specs.Rewriting.{HasRewritten, GoesOn};
 
 use crate::journal::Entry;
-use sd_apply::{Pairs, expand_at, merge_at, multiply_at};
+use sd_apply::{Pairs, Recent, expand_at, merge_at, multiply_at};
 use sd_cache::Cache;
 use sd_manager::{Manager, NodeId, View};
 use sd_model::Operation;
@@ -33,7 +40,7 @@ use std::alloc::Global;
 fn with_product(
     alloc: Global,
     m: &mut Manager,
-    c: &mut Cache,
+    recent: &mut Recent,
     place: VNode,
     sum: &[(NodeId, NodeId)],
     prime: NodeId,
@@ -43,22 +50,30 @@ fn with_product(
     requires sum { (f : List Bool → Bool) × IsPartitionOf m.old place sum.now f }
     requires prime { IsBelow m.old place prime }
     requires sub { IsBelow m.old place sub }
-    requires serves { Serves c.old m.old }
+    requires knows { Knows recent.old m.old }
     ensures ok { IfOk result (λ r. (f : List Bool → Bool) (d e : Diagram)
         → IsPartitionOf m.old place sum.now f → IsNodeUnder m.old place prime d
         → IsNodeUnder m.old place sub e → IsPartitionOf m.new place r.items
         (λ a. combine Or (f a) (combine And (meaning d a) (meaning e a)))) }
     ensures kept { Extends m.old m.new }
     ensures grown { GrowsStrictlyBelow m.old m.new place }
-    ensures serves { Serves c.new m.new }
+    ensures knows { Knows recent.new m.new }
     ensures rule { IfErr result (λ e. KeepsRule m.new e) }
     ensures table { IsTable m.new }
 {
-    let first = expand_at(alloc, m, c, place, prime)?;
-    let second = expand_at(alloc, m, c, place, sub)?;
+    let first = expand_at(alloc, m, recent, place, prime)?;
+    let second = expand_at(alloc, m, recent, place, sub)?;
     let (one, other) = (first.as_slice(), second.as_slice());
-    let product = multiply_at(alloc, m, c, Operation::And, place, one, other)?;
-    multiply_at(alloc, m, c, Operation::Or, place, sum, product.as_slice())
+    let product = multiply_at(alloc, m, recent, Operation::And, place, one, other)?;
+    multiply_at(
+        alloc,
+        m,
+        recent,
+        Operation::Or,
+        place,
+        sum,
+        product.as_slice(),
+    )
 }
 
 // The list that a node has at a vtree node at which or below which its elements stand: a partition there with its
@@ -66,7 +81,7 @@ fn with_product(
 fn new_list(
     alloc: Global,
     m: &mut Manager,
-    c: &mut Cache,
+    recent: &mut Recent,
     place: VNode,
     node: NodeId,
 ) -> Result<Pairs, TakeError>
@@ -74,30 +89,30 @@ fn new_list(
     requires node { HasNode m.old node }
     requires code { 2050 ≤ node }
     requires codes { AreBelow m.old place (pairs_at m.old node) }
-    requires serves { Serves c.old m.old }
+    requires knows { Knows recent.old m.old }
     requires table { IsTable m.old }
     ensures ok { IfOk result (λ r. IsPartitionOf m.new place r.items
         (pairs_value (value_of (get m.old.linked)) (pairs_at m.old node))) }
     ensures differ { IfOk result (λ r. AreDistinct (map (λ e. e.1) r.items)) }
     ensures kept { Extends m.old m.new }
     ensures grown { GrowsStrictlyBelow m.old m.new place }
-    ensures serves { Serves c.new m.new }
+    ensures knows { Knows recent.new m.new }
     ensures rule { IfErr result (λ e. KeepsRule m.new e) }
     ensures table { IsTable m.new }
 {
     let View::Decomposition { count, .. } = m.view(node) else {
         unreachable!()
     };
-    let mut sum = expand_at(alloc, m, c, place, NodeId(0))?;
+    let mut sum = expand_at(alloc, m, recent, place, NodeId(0))?;
     for index in 0..count {
         let (prime, sub) = m.element(node, index);
         // a false sub adds nothing
         if sub.0 == 0 {
             continue;
         }
-        sum = with_product(alloc, m, c, place, sum.as_slice(), prime, sub)?;
+        sum = with_product(alloc, m, recent, place, sum.as_slice(), prime, sub)?;
     }
-    merge_at(alloc, m, c, place, sum.as_slice())
+    merge_at(alloc, m, recent, place, sum.as_slice())
 }
 
 // Gives a node that waits its new list, and answers the run of its old one. ArenaFull by the arena's rule, and
@@ -105,12 +120,12 @@ fn new_list(
 fn rewrite_one(
     alloc: Global,
     m: &mut Manager,
-    c: &mut Cache,
+    recent: &mut Recent,
     place: VNode,
     number: u32,
 ) -> Result<(u32, u32), TakeError>
     requires may { (rest : List ℕ) × MayRewriteAll m.old place (number ∷ rest) }
-    requires serves { Serves c.old m.old }
+    requires knows { Knows recent.old m.old }
     requires table { IsTable m.old }
     ensures ok { IfOk result (λ run. AreRewritten m.old m.new place
         (record { number = number; place = place; run = Some run } ∷ [])) }
@@ -120,16 +135,16 @@ fn rewrite_one(
     ensures still { OnErr result ((m0 : Table) (h : Progress) (v : Valuation) (rest : List ℕ)
         → CanRewriteAll m0 m.old place h v (number ∷ rest)
         → GoesOn m0 m.old m.new place h v (number ∷ rest)) }
-    ensures serves { Serves c.new m.new }
+    ensures knows { Knows recent.new m.new }
     ensures rule { IfErr result (λ e. KeepsRule m.new e) }
     ensures table { IsTable m.new }
 {
-    let list = new_list(alloc, m, c, place, NodeId(number + 2050))?;
+    let list = new_list(alloc, m, recent, place, NodeId(number + 2050))?;
     m.rewrite(number, list.as_slice())
 }
 
 // Gives each node that waits its new list, and puts its old run behind the entries. ArenaFull by the arena's rule, and
-// OutOfMemory; the rest of the numbers wait still then.
+// OutOfMemory; the rest of the numbers wait still then. The cache is not asked, and serves as before.
 pub(crate) fn rewrite_all(
     alloc: Global,
     m: &mut Manager,
@@ -152,12 +167,13 @@ pub(crate) fn rewrite_all(
     ensures rule { IfErr result (λ e. KeepsRule m.new e) }
     ensures table { IsTable m.new }
 {
+    let mut recent = Recent::new(alloc);
     for index in 0..numbers.len() {
         let Ok(()) = named.reserve(1) else {
             return Err(TakeError::OutOfMemory);
         };
         let number = numbers[index];
-        let run = rewrite_one(alloc, m, c, place, number)?;
+        let run = rewrite_one(alloc, m, &mut recent, place, number)?;
         let _ = named.push(Entry {
             number,
             place,

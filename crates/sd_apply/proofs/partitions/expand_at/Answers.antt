@@ -8,7 +8,7 @@ use Rattle.sd_apply.proofs.Trees.{left_there, place_before}
 use Rattle.sd_apply.proofs.Listed.{children_on}
 use Rattle.sd_apply.proofs.Standing.{shown}
 use Rattle.sd_apply.proofs.Expanding.{own_code, expand_own, expand_right, expand_left, right_under, left_under}
-use Rattle.sd_apply.proofs.AtNode.{inner_within, expand_constant, expands_at, left_below, negated_strictly}
+use Rattle.sd_apply.proofs.AtNode.{inner_within, expand_constant, expands_at, left_below, strictly_left}
 use Rattle.sd_apply.proofs.partitions.expand_at.Goals as goal
 
 -- the vtree node is there
@@ -91,15 +91,15 @@ returns-then-middle-at-clause-ok c =
 
 -- one that stands below the left child
 
-pub negate_cached-requires-clause-at : goal.negate_cached-requires-clause-at
-negate_cached-requires-clause-at c =
+pub negate_at-requires-clause-at : goal.negate_at-requires-clause-at
+negate_at-requires-clause-at c =
     left_there c.args.m.now.vtree c.vtree.ensures.table.numbered c.args.place c.in-Some.children.0
     c.in-Some.children.1
     (subst (λ t. HasChildren t c.args.place c.in-Some.children.0 c.in-Some.children.1) c.vtree.ensures.vtree
     (sym c.in-Some.is ∙ c.children.ensures.children))
 
-pub negate_cached-requires-clause-a : goal.negate_cached-requires-clause-a
-negate_cached-requires-clause-a c =
+pub negate_at-requires-clause-a : goal.negate_at-requires-clause-a
+negate_at-requires-clause-a c =
     let m = c.args.m.now in
     let i = c.place_of-own.ensures.table in
     let p = c.args.place in
@@ -119,7 +119,7 @@ negate_cached-requires-clause-a c =
 pub returns-clause-ok : goal.returns-clause-ok
 returns-clause-ok c =
     let m = c.args.m.now in
-    let n = c.negate_cached.new.m in
+    let n = c.negate_at.new.m in
     let i = c.place_of-own.ensures.table in
     let p = c.args.place in
     let u = c.in-Some.children.0 in
@@ -138,9 +138,9 @@ returns-clause-ok c =
     let least : 2 ≤ c.args.a = omega (arith, c.if-a-lt2.false, c.a.view_is) in
     let E : List (ℕ × ℕ) → Type 0 = λ l. ExpandsAt m n p c.args.a l in
     let list : List (ℕ × ℕ) = (c.args.a, 1) ∷ (c.in_ok-other.other, 0) ∷ [] in
-    let h : E list = expands_at m n c.negate_cached.ensures.table p u w c.args.a list
-    (children_on m n c.negate_cached.ensures.kept p u w e)
-    (expand_left m n i c.negate_cached.ensures.kept p u w c.args.a c.in_ok-other.other least
+    let h : E list = expands_at m n c.negate_at.ensures.table p u w c.args.a list
+    (children_on m n c.negate_at.ensures.kept p u w e)
+    (expand_left m n i c.negate_at.ensures.kept p u w c.args.a c.in_ok-other.other least
     (λ x k. left_under m i p u w c.place_of-own.result c.position-middle.result c.position-at.result e x k.under
     (c.place_of-own.ensures.place x (shown m p c.args.a x k)) np ao lt)
     c.in_ok-other.ensures.ok) in
@@ -149,38 +149,14 @@ returns-clause-ok c =
 
 pub returns-clause-grown : goal.returns-clause-grown
 returns-clause-grown c =
-    let m = c.args.m.now in
-    let p = c.args.place in
-    let u = c.in-Some.children.0 in
-    let w = c.in-Some.children.1 in
-    let e = subst (λ t. HasChildren t p u w) c.vtree.ensures.vtree (sym c.in-Some.is
-    ∙ c.children.ensures.children) in
-    let np = subst (λ v. slice_get (numbers v) c.position-middle.result ≡ Some p) c.vtree-2.ensures.vtree
-    c.position-middle.ensures.position in
-    let ao = subst (λ v. slice_get (numbers v) c.position-at.result ≡ Some c.place_of-own.result)
-    c.vtree-3.ensures.vtree
-    c.position-at.ensures.position in
-    negated_strictly m c.negate_cached.new.m c.vtree.ensures.table c.negate_cached.ensures.kept p u w c.args.a e
-    (left_below m c.vtree.ensures.table p u w c.place_of-own.result c.position-middle.result c.position-at.result
-    c.args.a e c.requires.a c.place_of-own.ensures.place np ao (λ z. omega (arith, c.if-middle-at.false, z))
-    (λ z. c.if-own-place.false (c.own.view_is ∙ z ∙ sym c.place.view_is)))
-    c.negate_cached.ensures.grown
+    strictly_left c.args.m.now c.negate_at.new.m c.negate_at.ensures.kept c.args.place c.in-Some.children.0
+    c.in-Some.children.1
+    (subst (λ t. HasChildren t c.args.place c.in-Some.children.0 c.in-Some.children.1) c.vtree.ensures.vtree
+    (sym c.in-Some.is ∙ c.children.ensures.children)) c.negate_at.ensures.grown
 
 pub returns-in_err-other-clause-grown : goal.returns-in_err-other-clause-grown
 returns-in_err-other-clause-grown c =
-    let m = c.args.m.now in
-    let p = c.args.place in
-    let u = c.in-Some.children.0 in
-    let w = c.in-Some.children.1 in
-    let e = subst (λ t. HasChildren t p u w) c.vtree.ensures.vtree (sym c.in-Some.is
-    ∙ c.children.ensures.children) in
-    let np = subst (λ v. slice_get (numbers v) c.position-middle.result ≡ Some p) c.vtree-2.ensures.vtree
-    c.position-middle.ensures.position in
-    let ao = subst (λ v. slice_get (numbers v) c.position-at.result ≡ Some c.place_of-own.result)
-    c.vtree-3.ensures.vtree
-    c.position-at.ensures.position in
-    negated_strictly m c.negate_cached.new.m c.vtree.ensures.table c.negate_cached.ensures.kept p u w c.args.a e
-    (left_below m c.vtree.ensures.table p u w c.place_of-own.result c.position-middle.result c.position-at.result
-    c.args.a e c.requires.a c.place_of-own.ensures.place np ao (λ z. omega (arith, c.if-middle-at.false, z))
-    (λ z. c.if-own-place.false (c.own.view_is ∙ z ∙ sym c.place.view_is)))
-    c.negate_cached.ensures.grown
+    strictly_left c.args.m.now c.negate_at.new.m c.negate_at.ensures.kept c.args.place c.in-Some.children.0
+    c.in-Some.children.1
+    (subst (λ t. HasChildren t c.args.place c.in-Some.children.0 c.in-Some.children.1) c.vtree.ensures.vtree
+    (sym c.in-Some.is ∙ c.children.ensures.children)) c.negate_at.ensures.grown

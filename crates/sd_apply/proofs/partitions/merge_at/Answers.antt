@@ -8,7 +8,6 @@ use Rattle.sd_apply.specs.Partitions.{MergesAt}
 use Rattle.sd_apply.proofs.Trees.{left_there}
 use Rattle.sd_apply.proofs.Merging.{permuted_partition}
 use Rattle.sd_apply.proofs.Whole.{inner_children, inner_there}
-use Rattle.sd_apply.proofs.Served.{serves_on}
 use Rattle.sd_apply.proofs.Growing.{strictly_either}
 use Rattle.sd_apply.proofs.AtNode.{partition_below, merges_at}
 use Rattle.sd_apply.proofs.partitions.merge_at.Goals as goal
@@ -51,9 +50,6 @@ pub merge-requires-clause-ascend : goal.merge-requires-clause-ascend
 merge-requires-clause-ascend c =
     subst (λ l. Ascend (map sub_then_prime l)) (sym c.as_slice.ensures) c.in_ok-sorted.ensures.ascending
 
-pub merge-requires-clause-knows : goal.merge-requires-clause-knows
-merge-requires-clause-knows c = c.new-recent.ensures c.args.m.now
-
 pub returns-clause-ok : goal.returns-clause-ok
 returns-clause-ok c =
     let old = c.args.m.now in
@@ -80,8 +76,3 @@ returns-clause-grown c =
     strictly_either c.args.m.now c.merge.new.m p u w c.merge.ensures.kept
     (subst (λ t. HasChildren t p u w) c.vtree.ensures.vtree (sym c.in-Some.is ∙ c.children.ensures.children))
     c.merge.ensures.grown
-
--- the cache is not asked, and serves the larger manager
-pub returns-clause-serves : goal.returns-clause-serves
-returns-clause-serves c =
-    serves_on c.args.c.now c.args.m.now c.merge.new.m c.merge.ensures.kept c.requires.serves

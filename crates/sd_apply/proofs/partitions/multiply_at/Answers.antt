@@ -6,7 +6,6 @@ use Rattle.sd_apply.specs.Calls.{Multiplies}
 use Rattle.sd_apply.specs.Partitions.{MultipliesAt}
 use Rattle.sd_apply.proofs.Trees.{left_there, right_there}
 use Rattle.sd_apply.proofs.Whole.{inner_children, inner_there}
-use Rattle.sd_apply.proofs.Served.{serves_on}
 use Rattle.sd_apply.proofs.Growing.{strictly_either}
 use Rattle.sd_apply.proofs.AtNode.{disjoint_below, partition_below, multiplies_at}
 use Rattle.sd_apply.proofs.partitions.multiply_at.Goals as goal
@@ -52,9 +51,6 @@ multiply-requires-clause-second c =
     (subst (λ t. HasChildren t c.args.place c.in-Some.children.0 c.in-Some.children.1) c.vtree.ensures.vtree
     (sym c.in-Some.is ∙ c.children.ensures.children)) c.args.second.now c.requires.second.0 c.requires.second.1
 
-pub multiply-requires-clause-knows : goal.multiply-requires-clause-knows
-multiply-requires-clause-knows c = c.new-recent.ensures c.args.m.now
-
 -- and the other way round
 
 pub returns-clause-ok : goal.returns-clause-ok
@@ -83,8 +79,3 @@ returns-clause-grown c =
     strictly_either c.args.m.now c.multiply.new.m p u w c.multiply.ensures.kept
     (subst (λ t. HasChildren t p u w) c.vtree.ensures.vtree (sym c.in-Some.is ∙ c.children.ensures.children))
     c.multiply.ensures.grown
-
--- the cache is not asked, and serves the larger manager
-pub returns-clause-serves : goal.returns-clause-serves
-returns-clause-serves c =
-    serves_on c.args.c.now c.args.m.now c.multiply.new.m c.multiply.ensures.kept c.requires.serves

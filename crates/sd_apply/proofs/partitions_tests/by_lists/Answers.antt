@@ -1,10 +1,12 @@
 use Rattle.std.proofs.Common.{◌≡◌, ◌∙◌, sym, ap, subst}
 use Rattle.sd_model.specs.Diagram.{meaning}
 use Rattle.sd_vtree.specs.Numbered.{number_of}
+use Rattle.sd_manager.proofs.Extending.{extends_on}
 use Rattle.sd_apply.specs.Places.{HasChildren}
 use Rattle.sd_apply.proofs.Listed.{children_on, below_on}
 use Rattle.sd_apply.proofs.Whole.{root_below}
 use Rattle.sd_apply.proofs.AtNode.{partition_disjoint}
+use Rattle.sd_apply.proofs.Served.{serves_on}
 use Rattle.sd_apply.proofs.Tried.{listed_first, listed_second, listed_slice}
 use Rattle.sd_apply.proofs.partitions_tests.by_lists.Goals as goal
 
@@ -38,6 +40,10 @@ expand_at-requires-2-clause-a c =
     below_on c.args.m.now c.expand_at.new.m c.expand_at.ensures.kept c.root-root.result c.args.b
     (root_below c.args.m.now c.root-root.result c.args.b (c.root-root.ensures.root
     ∙ ap number_of c.vtree.ensures.vtree) c.requires.second)
+
+-- the lists have a table of their own
+pub expand_at-requires-clause-knows : goal.expand_at-requires-clause-knows
+expand_at-requires-clause-knows c = c.new-recent.ensures c.args.m.now
 
 -- each list is a partition
 
@@ -96,3 +102,12 @@ compress-requires-clause-partition c =
     let z = listed_slice c.merge_at.new.m r c.in_ok-merged.merged.items c.as_slice-2.result.now _
     (c.in_ok-merged.ensures.ok.each _ p) c.as_slice-2.ensures in
     (z.diagrams, z.is)
+
+-- which does not ask the cache, so that this serves the larger manager
+pub compress-requires-clause-serves : goal.compress-requires-clause-serves
+compress-requires-clause-serves c =
+    serves_on c.args.c.now c.args.m.now c.merge_at.new.m
+    (extends_on c.args.m.now c.multiply_at.new.m c.merge_at.new.m
+    (extends_on c.args.m.now c.expand_at-2.new.m c.multiply_at.new.m
+    (extends_on c.args.m.now c.expand_at.new.m c.expand_at-2.new.m c.expand_at.ensures.kept
+    c.expand_at-2.ensures.kept) c.multiply_at.ensures.kept) c.merge_at.ensures.kept) c.requires.serves

@@ -18,7 +18,7 @@ pub loop-index-init : goal.loop-index-init
 loop-index-init c = (
   sum_first c.args.m.now c.expand_at.new.m c.args.place c.args.node c.in_ok-sum.sum.items c.expand_at.ensures.table
       c.expand_at.ensures.kept c.expand_at.ensures.grown c.in_ok-sum.ensures.ok,
-  c.expand_at.ensures.serves,
+  c.expand_at.ensures.knows,
 )
 
 pub with_product-requires-clause-place : goal.with_product-requires-clause-place
@@ -66,7 +66,7 @@ loop-index-preserved c =
           w.1.1 c.with_product.ensures.kept c.with_product.ensures.grown c.with_product.ensures.table
           (λ f d e h. c.in_ok-sum-2.ensures.ok f d e
           (partition_same now c.args.place c.loop-index.sum.items c.as_slice.result.now f h c.as_slice.ensures)),
-      c.with_product.ensures.serves,
+      c.with_product.ensures.knows,
     )
 
 pub merge_at-requires-clause-partition : goal.merge_at-requires-clause-partition

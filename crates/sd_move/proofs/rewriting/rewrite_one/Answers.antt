@@ -14,7 +14,7 @@ use Rattle.sd_move.proofs.RewrittenOne.{place_inner, node_there, codes_below}
 use Rattle.sd_move.proofs.RewritingStep.{waits_still, new_list_fits, new_list_absent, goes_still}
 use Rattle.sd_move.proofs.RewritingStep.{rewritten_answer, linked_answer, going_answer, still_answer}
 use Rattle.sd_move.proofs.RewritingStep.{where_err}
-use Rattle.sd_move.proofs.RewritingLoop.{serves_either}
+use Rattle.sd_move.proofs.RewritingLoop.{knows_either}
 use Rattle.sd_move.proofs.rewriting.rewrite_one.Goals as goal
 
 -- the list of the node is made
@@ -112,13 +112,13 @@ returns-clause-still c =
     still_answer c.args.m.now c.new_list.new.m c.rewrite.new.self c.args.place c.args.number c.requires.table
     c.new_list.ensures.table c.new_list.ensures.kept c.new_list.ensures.grown c.rewrite.result c.rewrite.ensures.err
 
-pub returns-clause-serves : goal.returns-clause-serves
-returns-clause-serves c =
+pub returns-clause-knows : goal.returns-clause-knows
+returns-clause-knows c =
     let w = c.requires.may in
-    serves_either c.new_list.new.c c.new_list.new.m c.rewrite.new.self c.args.place c.rewrite.result
+    knows_either c.new_list.new.recent c.new_list.new.m c.rewrite.new.self c.args.place c.rewrite.result
     (λ run. record { number = c.args.number; place = c.args.place; run = Some run } ∷ [])
     (linked_answer c.new_list.new.m c.rewrite.new.self c.args.place c.args.number w.1.3.each.0.list
     c.as_slice.result.now c.new_list.ensures.table
     (waits_still w.1.0 c.args.m.now c.new_list.new.m c.args.place w.1.1 w.1.2 c.args.number w.0
     c.requires.table c.new_list.ensures.table w.1.3 c.new_list.ensures.kept c.new_list.ensures.grown)
-    c.rewrite.result c.rewrite.ensures.ok) c.rewrite.ensures.err c.new_list.ensures.serves
+    c.rewrite.result c.rewrite.ensures.ok) c.rewrite.ensures.err c.new_list.ensures.knows
