@@ -10,7 +10,7 @@ import re
 import sys
 
 CRATES = os.path.join(os.path.dirname(os.path.abspath(__file__)), "..", "crates")
-IMPORT = re.compile(r"^(?:pub |ghost )*use Rattle\.([\w.+]+?)\.(?:\{([^}]*)\}|(\w+))(?: as (\w+))?;?$")
+IMPORT = re.compile(r"^(?:unfoldable |pub |ghost )*use Rattle\.([\w.+]+?)\.(?:\{([^}]*)\}|(\w+))(?: as (\w+))?;?$")
 HEAD = re.compile(r"^(?:abbrev |unfoldable |pub |record |data |inductive )*(◌?[\w◌]+)\b.* : |^pub record (\w+)|^pub data (\w+)")
 NAME = re.compile(r"[A-Za-z_]\w*(?:\.[A-Za-z_]\w*)*")
 
@@ -54,7 +54,7 @@ class SpecsFile:
         self.definitions = {}
         current = None
         for line in lines:
-            if line.startswith(("use ", "pub use ", "mutual")):
+            if line.startswith(("use ", "pub use ", "unfoldable pub use ", "mutual")):
                 current = None
                 continue
             if not line.startswith((" ", "\t", "|")):

@@ -1,8 +1,8 @@
 -- What is read is a script: each of its commands can be done after those before it.
-use Rattle.std.proofs.Common.{◌≡◌, ℕ, zero, suc, ◌<◌, ◌≤◌, Bool, true, false, not, ◌&&◌, List, []}
-use Rattle.std.proofs.Common.{◌∷◌, ◌++◌, length, take, refl, ap, subst, ◌∙◌, arith, if◌then◌else◌}
+use Rattle.std.proofs.Common.{◌≡◌, ℕ, zero, suc, ◌<◌, ◌≤◌, Bool, true, false, not, List, []}
+use Rattle.std.proofs.Common.{◌∷◌, ◌++◌, length, take, refl, ap, subst, sym, ◌∙◌, arith, if◌then◌else◌}
 use Rattle.std.proofs.Common.{Result, Ok, Err}
-use Rattle.std.specs.Prelude.{nat_lt, int_le, ℤ, pos, negsuc, unsigned_abs, slice_get, ok_or}
+use Rattle.std.specs.Prelude.{nat_lt, slice_get, ok_or}
 use Rattle.std.specs.Prelude.{Option, Some, None}
 use Rattle.std.specs.List.{list_any, list_all, AllByRecursion}
 use Rattle.std.proofs.lemmas.List.{length-map}
@@ -12,16 +12,17 @@ use Rattle.sd_base.specs.Reading.{◌>>=◌, ◌>>◌, fault_if}
 use Rattle.sd_script.specs.declared.command.Command.{Command}
 use Rattle.sd_script.specs.declared.fault.ScriptFault.{ScriptFault}
 use Rattle.sd_script.specs.declared.fault.ScriptFault.TheVariants as faults
-use Rattle.sd_script.specs.Commands.{action_of, uses, binds, writes, has, bound, written_files}
+use Rattle.sd_script.specs.declared.command.Action.{Action}
+use Rattle.sd_script.specs.Commands.{uses, binds, writes, has, bound, written_files}
 use Rattle.sd_script.specs.Phrases as p
-use Rattle.sd_script.specs.Phrases.{Phrase, Word, phrase_of, names_in, files_in, renamed}
+use Rattle.sd_script.specs.Phrases.{Phrase, Word, phrase_of, names_in, files_in, renamed, action_of, seen}
+use Rattle.sd_script.specs.Phrases.{numbered_phrase, with_phrase, with_command}
 use Rattle.sd_script.specs.Read.{reads, in_range, IsAllowed, IsScript}
-use Rattle.sd_script.specs.Scripts.{Script, empty, number_of_word, seen, numbered_phrase, literals_fit}
-use Rattle.sd_script.specs.Scripts.{numbers_fit, is_within}
-use Rattle.sd_script.specs.Scripts.{checked, with_phrase, with_command, with_line, after_line}
-use Rattle.sd_script.specs.Scripts.{after_lines, script_of}
+use Rattle.sd_script.specs.Scripts.{Script, empty, number_of_word, literals_fit, numbers_fit, is_within}
+use Rattle.sd_script.specs.Scripts.{checked, with_line, after_line, after_lines, script_of}
 use Rattle.sd_script.proofs.Bits.{lengths_fit, phrase_fits}
 use Rattle.sd_script.proofs.Seeing.{numbers_within, length_see_least}
+use Rattle.sd_script.proofs.WithLine.{with_line_is}
 
 -- ---- steps of a reading that has no fault
 
@@ -54,17 +55,17 @@ not_not true h = refl
 not_not false h = cc
 
 -- what the tests of a command tell
-record Passes (v : ℕ) (earlier : List Command) (phrase : Phrase ℕ) : Type 0 where
-  used_bound : list_all (has (bound earlier)) (uses (action_of phrase)) ≡ true
-  free : list_any (has (bound earlier)) (binds (action_of phrase)) ≡ false
-  literals : literals_fit v phrase ≡ true
-  numbers : numbers_fit v phrase ≡ true
-  unwritten : list_any (has (written_files earlier)) (writes (action_of phrase)) ≡ false
+record Passes (v : ℕ) (earlier : List Command) (action : Action) : Type 0 where
+  used_bound : list_all (has (bound earlier)) (uses action) ≡ true
+  free : list_any (has (bound earlier)) (binds action) ≡ false
+  literals : literals_fit v action ≡ true
+  numbers : numbers_fit v action ≡ true
+  unwritten : list_any (has (written_files earlier)) (writes action) ≡ false
 
 -- where they found no fault
-passes : (v : ℕ) (earlier : List Command) (line : ℕ) (phrase : Phrase ℕ)
-    → checked v earlier line phrase ≡ Ok tt → Passes v earlier phrase
-passes v earlier line phrase h =
+passes : (v : ℕ) (earlier : List Command) (line : ℕ) (action : Action)
+    → checked v earlier line action ≡ Ok tt → Passes v earlier action
+passes v earlier line action h =
     let one = passed _ (faults.NameUnknown line) _ tt h in
     let two = passed _ (faults.NameTaken line) _ tt one.1 in
     let three = passed _ (faults.LiteralRange line) _ tt two.1 in
@@ -107,18 +108,13 @@ files_same (p.Write names file) = refl
 files_same (p.Vtree file) = refl
 files_same q = refl
 
--- a variable to forget
-variable_fits : (v : ℕ) (x : ℤ)
-    → (int_le (pos 1) x && int_le x (pos v)) ≡ true → is_within 1 v (unsigned_abs x) ≡ true
-variable_fits v (pos n) h = h
-variable_fits v (negsuc n) h = cc
-
 -- its numbers
 ranges : (v : ℕ) (q : Phrase ℕ)
-    → literals_fit v q ≡ true → numbers_fit v q ≡ true → lengths_fit v q ≡ true → in_range v (action_of q) ≡ true
+    → literals_fit v (action_of q) ≡ true → numbers_fit v (action_of q) ≡ true → lengths_fit v q ≡ true
+    → in_range v (action_of q) ≡ true
 ranges v (p.Lit n literal) l m b = l
 ranges v (p.Given n a literal) l m b = l
-ranges v (p.Forget n a x) l m b = variable_fits v x l
+ranges v (p.Forget n a x) l m b = l
 ranges v (p.Turn kind q) l m b = m
 ranges v (p.Minimise rounds) l m b = m
 ranges v (p.Limit k) l m b = m
@@ -170,7 +166,7 @@ still_allowed v s t earlier c names files h = record {
 
 -- a command that passes its tests can be done
 allowed : (v : ℕ) (s : Script) (line : ℕ) (phrase : Phrase Word) → lengths_fit v phrase ≡ true
-    → Passes v s.commands (numbered_phrase (seen s phrase) phrase)
+    → Passes v s.commands (action_of (numbered_phrase (seen s phrase) phrase))
     → IsAllowed v (seen s phrase) s.commands
     (record { line = line; action = action_of (numbered_phrase (seen s phrase) phrase) })
 allowed v s line phrase bits h =
@@ -190,7 +186,7 @@ allowed v s line phrase bits h =
 -- a script with one more command
 more : (v : ℕ) (s : Script) (line : ℕ) (phrase : Phrase Word)
     → lengths_fit v phrase ≡ true → IsScript v s
-    → Passes v s.commands (numbered_phrase (seen s phrase) phrase)
+    → Passes v s.commands (action_of (numbered_phrase (seen s phrase) phrase))
     → IsScript v (record (seen s phrase) {
       commands = with_command s.commands line (numbered_phrase (seen s phrase) phrase);
     })
@@ -215,16 +211,16 @@ command_keeps : (v : ℕ) (s t : Script) (line : TextLine)
 command_keeps v s t line h e =
     let fault = faults.BadLine line.number in
     let found = gave (ok_or (phrase_of v line.words) fault)
-    (λ phrase. with_phrase v (seen s phrase) line.number (numbered_phrase (seen s phrase) phrase)) t e in
+    (λ phrase. with_phrase v (seen s phrase) line.number (numbered_phrase (seen s phrase) phrase)) t (sym (with_line_is v s line) ∙ e) in
     let phrase = found.0 in
     let q = numbered_phrase (seen s phrase) phrase in
-    let tested = went_on (checked v s.commands line.number q) _ t found.2 in
+    let tested = went_on (checked v s.commands line.number (action_of q)) _ t found.2 in
     let bits =
     phrase_fits v line.words phrase (was_there (phrase_of v line.words) fault phrase found.1) in
     let same : record (seen s phrase) { commands = with_command s.commands line.number q } ≡ t =
     cc (tested.2) in
     subst (IsScript v) same
-    (more v s line.number phrase bits h (passes v s.commands line.number q tested.1))
+    (more v s line.number phrase bits h (passes v s.commands line.number (action_of q) tested.1))
 
 -- a line that has no fault
 line_keeps : (v : ℕ) (s t : Script) (line : TextLine)

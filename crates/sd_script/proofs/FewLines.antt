@@ -8,11 +8,11 @@ use Rattle.sd_base.specs.Words.{lines_of, words_of}
 use Rattle.sd_base.specs.Lines.{TextLine, numbered_lines_from, is_content}
 use Rattle.sd_script.specs.declared.command.Command.{Command}
 use Rattle.sd_script.specs.declared.fault.ScriptFault.TheVariants as faults
-use Rattle.sd_script.specs.Commands.{action_of}
-use Rattle.sd_script.specs.Phrases.{phrase_of}
-use Rattle.sd_script.specs.Scripts.{Script, empty, seen, numbered_phrase, checked, with_phrase, with_command, with_line}
+use Rattle.sd_script.specs.Phrases.{phrase_of, action_of, seen, numbered_phrase, with_phrase, with_command}
+use Rattle.sd_script.specs.Scripts.{Script, empty, checked, with_line}
 use Rattle.sd_script.specs.Scripts.{after_line, after_lines, script_of}
 use Rattle.sd_script.proofs.Allowed.{passed, gave, went_on}
+use Rattle.sd_script.proofs.WithLine.{with_line_is}
 
 -- a test of an upper bound that passed
 within : (n : ℕ) → nat_lt 100000 n ≡ false → n ≤ 100000
@@ -23,11 +23,11 @@ one_more : (v : ℕ) (s t : Script) (line : TextLine) → with_line v s line ≡
     → length t.commands ≡ length s.commands + 1
 one_more v s t line e =
     let found = gave (ok_or (phrase_of v line.words) (faults.BadLine line.number))
-    (λ phrase. with_phrase v (seen s phrase) line.number (numbered_phrase (seen s phrase) phrase)) t e in
+    (λ phrase. with_phrase v (seen s phrase) line.number (numbered_phrase (seen s phrase) phrase)) t (sym (with_line_is v s line) ∙ e) in
     let phrase = found.0 in
     let q = numbered_phrase (seen s phrase) phrase in
     let c : Command = record { line = line.number; action = action_of q } in
-    let tested = went_on (checked v s.commands line.number q) _ t found.2 in
+    let tested = went_on (checked v s.commands line.number (action_of q)) _ t found.2 in
     let same : record (seen s phrase) { commands = with_command s.commands line.number q } ≡ t = cc (tested.2) in
     ap (λ (u : Script). length u.commands) (sym same) ∙ length-append s.commands (c ∷ [])
 

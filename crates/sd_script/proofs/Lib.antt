@@ -5,6 +5,8 @@ pub mod Writing
 pub mod Seeing
 pub mod Ahead
 pub mod Bits
+pub mod Phrases
+pub mod WithLine
 pub mod Allowed
 pub mod FewLines
 mod Rows

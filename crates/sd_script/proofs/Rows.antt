@@ -10,79 +10,79 @@ use Rattle.sd_script.specs.declared.fault.ScriptFault.TheVariants.{NumberRange, 
 use Rattle.sd_script.specs.declared.fault.ScriptFault.TheVariants.{TooManyLines}
 use Rattle.sd_base.specs.Lines.{numbered_lines_from}
 use Rattle.sd_base.specs.Words.{lines_of}
-use Rattle.sd_script.specs.Scripts.{script_of, empty, after_lines, see, number_of_word}
+use Rattle.sd_script.specs.Scripts.{script_of, empty, after_lines, see, number_of_word, command_of}
 
 -- ---- the first fault
 
 unknown : script_of 2 (codes "and g a b\n") ≡ Err (NameUnknown 1)
-unfolding script_of see number_of_word
+unfolding script_of see number_of_word command_of
 unknown = refl
 
 taken : script_of 2 (codes "lit a 1\nlit a 2\n") ≡ Err (NameTaken 2)
-unfolding script_of see number_of_word
+unfolding script_of see number_of_word command_of
 taken = refl
 
 out_of_range : script_of 2 (codes "lit a 3\n") ≡ Err (LiteralRange 1)
-unfolding script_of see number_of_word
+unfolding script_of see number_of_word command_of
 out_of_range = refl
 
 file_twice : script_of 2 (codes "vtree v\nvtree v\n") ≡ Err (FileTwice 2)
-unfolding script_of see number_of_word
+unfolding script_of see number_of_word command_of
 file_twice = refl
 
 -- positions over four variables are 0 to 6
 no_position : script_of 4 (codes "rotr 7\n") ≡ Err (NumberRange 1)
-unfolding script_of see number_of_word
+unfolding script_of see number_of_word command_of
 no_position = refl
 
 -- blank lines and comments are counted
 too_many_words : script_of 2 (codes "# a comment\n\nlit a 1 1\n") ≡ Err (BadLine 3)
-unfolding script_of see number_of_word
+unfolding script_of see number_of_word command_of
 too_many_words = refl
 
 -- the form of a word is tested before its name
 bits_of_a_wrong_length : script_of 2 (codes "value a 011\n") ≡ Err (BadLine 1)
-unfolding script_of see number_of_word
+unfolding script_of see number_of_word command_of
 bits_of_a_wrong_length = refl
 
 -- an unknown name is told before one that is taken
 unknown_before_taken : script_of 2 (codes "lit a 1\nnot a b\n") ≡ Err (NameUnknown 2)
-unfolding script_of see number_of_word
+unfolding script_of see number_of_word command_of
 unknown_before_taken = refl
 
 -- a name that is taken is told before a literal
 taken_before_range : script_of 2 (codes "lit a 1\nlit a 9\n") ≡ Err (NameTaken 2)
-unfolding script_of see number_of_word
+unfolding script_of see number_of_word command_of
 taken_before_range = refl
 
 -- a name is not bound on its own line
 unknown_itself : script_of 2 (codes "not a a\n") ≡ Err (NameUnknown 1)
-unfolding script_of see number_of_word
+unfolding script_of see number_of_word command_of
 unknown_itself = refl
 
 forgets_no_negation : script_of 2 (codes "lit a 1\nforget b a -1\n") ≡ Err (LiteralRange 2)
-unfolding script_of see number_of_word
+unfolding script_of see number_of_word command_of
 forgets_no_negation = refl
 
 zero_is_no_literal : script_of 2 (codes "lit a -0\n") ≡ Err (LiteralRange 1)
-unfolding script_of see number_of_word
+unfolding script_of see number_of_word command_of
 zero_is_no_literal = refl
 
 no_natural : script_of 2 (codes "swap -1\n") ≡ Err (BadLine 1)
-unfolding script_of see number_of_word
+unfolding script_of see number_of_word command_of
 no_natural = refl
 
 no_natural_zero : script_of 2 (codes "swap -0\n") ≡ Err (BadLine 1)
-unfolding script_of see number_of_word
+unfolding script_of see number_of_word command_of
 no_natural_zero = refl
 
 -- a byte past 126 stands in no command
 no_such_byte : script_of 2 (codes "vtree " ++ 127 ∷ []) ≡ Err (BadLine 1)
-unfolding script_of see number_of_word
+unfolding script_of see number_of_word command_of
 no_such_byte = refl
 
 unknown_once_dropped : script_of 2 (codes "lit a 1\ndrop a\nsize a\n") ≡ Err (NameUnknown 3)
-unfolding script_of see number_of_word
+unfolding script_of see number_of_word command_of
 unknown_once_dropped = refl
 
 -- line 100,001 is too many where it is blank too
@@ -93,17 +93,18 @@ line_past_the_last = refl
 -- an earlier line with a fault decides
 fault_before_the_last_line :
     after_lines 2 empty (numbered_lines_from 100000 (lines_of (codes "one\n\n"))) ≡ Err (BadLine 100000)
+unfolding command_of
 fault_before_the_last_line = refl
 
 -- ---- scripts without a fault
 
 nothing : script_of 2 [] ≡ Ok empty
-unfolding script_of see number_of_word
+unfolding script_of see number_of_word command_of
 nothing = refl
 
 -- bytes past 126 stand in comments
 any_byte_in_a_comment : script_of 2 (codes " #" ++ 127 ∷ 255 ∷ []) ≡ Ok empty
-unfolding script_of see number_of_word
+unfolding script_of see number_of_word command_of
 any_byte_in_a_comment = refl
 
 -- a name is free again, and keeps its number
@@ -117,7 +118,7 @@ freed : script_of 2 (codes "lit a 1\ndrop a\nlit b 1\nlit a -2\nwrite a in\n") �
   names = codes "a" ∷ codes "b" ∷ [];
   files = codes "in" ∷ [];
 })
-unfolding script_of see number_of_word
+unfolding script_of see number_of_word command_of
 freed = refl
 
 compared : script_of 2 (codes "lit a 1\nxor c a a\nnot d c\ntrue t\nsame d t\nvalue a 01") ≡ Ok (record {
@@ -131,7 +132,7 @@ compared : script_of 2 (codes "lit a 1\nxor c a a\nnot d c\ntrue t\nsame d t\nva
   names = codes "a" ∷ codes "c" ∷ codes "d" ∷ codes "t" ∷ [];
   files = [];
 })
-unfolding script_of see number_of_word
+unfolding script_of see number_of_word command_of
 compared = refl
 
 -- a file may be loaded and written, and has one number
@@ -140,7 +141,7 @@ loaded_and_written : script_of 2 (codes "load a f\nwrite a f\n") ≡ Ok (record 
   names = codes "a" ∷ [];
   files = codes "f" ∷ [];
 })
-unfolding script_of see number_of_word
+unfolding script_of see number_of_word command_of
 loaded_and_written = refl
 
 -- the names of a write stand in its order, one as often as it is named
@@ -152,15 +153,15 @@ written_together : script_of 2 (codes "lit a 1\nlit b 2\nwrite b a b f\n") ≡ O
   names = codes "a" ∷ codes "b" ∷ [];
   files = codes "f" ∷ [];
 })
-unfolding script_of see number_of_word
+unfolding script_of see number_of_word command_of
 written_together = refl
 
 -- a write has a name
 no_name : script_of 2 (codes "write f\n") ≡ Err (BadLine 1)
-unfolding script_of see number_of_word
+unfolding script_of see number_of_word command_of
 no_name = refl
 
 -- each name of a write is bound
 one_unknown : script_of 2 (codes "lit a 1\nwrite a b f\n") ≡ Err (NameUnknown 2)
-unfolding script_of see number_of_word
+unfolding script_of see number_of_word command_of
 one_unknown = refl

@@ -6,8 +6,8 @@ use Rattle.std.proofs.lemmas.Grind.{take_at_read}
 use Rattle.std.specs.Prelude.{bytes_eq}
 use Rattle.std.specs.List.{list_any, position_or_len, AllByRecursion}
 use Rattle.sd_script.specs.Phrases as phrases
-use Rattle.sd_script.specs.Phrases.{Phrase, Word, names_in, files_in, Load, Write, Vtree}
-use Rattle.sd_script.specs.Scripts.{Script, see, see_all, number_of_word, seen, numbered_phrase}
+use Rattle.sd_script.specs.Phrases.{Phrase, Word, names_in, files_in, Load, Write, Vtree, seen, numbered_phrase}
+use Rattle.sd_script.specs.Scripts.{Script, see, see_all, number_of_word}
 use Rattle.sd_script.specs.Steps.{HasNamesIn, HasRoom}
 use Rattle.sd_script.proofs.TableLaws.{has_see, has_see_other, number_see_other}
 

@@ -2,36 +2,14 @@
 -- which files are written, and how many files were loaded.
 use Rattle.std.specs.Prelude.{ℕ, Bool, true, false, not, ◌==◌, List, [], ◌∷◌, ◌++◌, filter, fold}
 use Rattle.std.specs.Prelude.{flat_map}
-use Rattle.std.specs.Prelude.{count_by, unsigned_abs}
+use Rattle.std.specs.Prelude.{count_by}
 use Rattle.std.specs.List.{list_any}
 use Rattle.sd_script.specs.declared.command.Action.{Action}
 use Rattle.sd_script.specs.declared.command.Action.TheVariants.{Input, Load, Lit, Constant, Binary}
 use Rattle.sd_script.specs.declared.command.Action.TheVariants.{Not, Given, Forget}
-use Rattle.sd_script.specs.declared.command.Action.TheVariants.{Drop, Turn, Minimise, Limit, Same}
+use Rattle.sd_script.specs.declared.command.Action.TheVariants.{Drop, Same}
 use Rattle.sd_script.specs.declared.command.Action.TheVariants.{Size, Value, Write, Vtree}
 use Rattle.sd_script.specs.declared.command.Command.{Command}
-use Rattle.sd_script.specs.Phrases as phrases
-use Rattle.sd_script.specs.Phrases.{Phrase}
-
--- the command of a phrase over numbers; the variable that is forgotten is its absolute value
-abbrev pub action_of : Phrase ℕ → Action
-action_of (phrases.Input n) = Input n
-action_of (phrases.Load n file) = Load n file
-action_of (phrases.Lit n literal) = Lit n literal
-action_of (phrases.Constant n value) = Constant n value
-action_of (phrases.Binary operation n a b) = Binary operation n a b
-action_of (phrases.Not n a) = Not n a
-action_of (phrases.Given n a literal) = Given n a literal
-action_of (phrases.Forget n a x) = Forget n a (unsigned_abs x)
-action_of (phrases.Drop a) = Drop a
-action_of (phrases.Turn kind p) = Turn kind p
-action_of (phrases.Minimise rounds) = Minimise rounds
-action_of (phrases.Limit k) = Limit k
-action_of (phrases.Same a b) = Same a b
-action_of (phrases.Size a) = Size a
-action_of (phrases.Value a bits) = Value a bits
-action_of (phrases.Write names file) = Write names file
-action_of (phrases.Vtree file) = Vtree file
 
 -- ---- what a command uses, binds, frees and writes
 

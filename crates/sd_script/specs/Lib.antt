@@ -1,5 +1,7 @@
+pub mod Forms
 pub mod Phrases
 pub mod Commands
+pub mod Table
 pub mod Scripts
 pub mod Read
 pub mod Views

@@ -1,15 +1,25 @@
--- The words of a command. A phrase has its names and files as they are written, or as numbers.
-use Rattle.std.specs.Prelude.{ℕ, Bool, true, false, ◌&&◌, ◌||◌, ◌==◌, nat_le, if◌then◌else◌, codes}
-use Rattle.std.specs.Prelude.{bytes_eq}
-use Rattle.std.specs.Prelude.{◌-◌, List, [], ◌∷◌, length, take, map, Option, Some, None, option_map, ℤ}
-use Rattle.std.specs.Char.{is_ascii_alphabetic, is_ascii_alphanumeric}
-use Rattle.std.specs.List.{list_all, last_or}
+-- How the words of a line are read in two steps, for the contracts of private functions: a phrase has its names
+-- and files as they are written, and then as numbers.
+use Rattle.std.specs.Prelude.{ℕ, Bool, true, false, ◌-◌, if◌then◌else◌, codes, bytes_eq, Result, ok_or}
+use Rattle.std.specs.Prelude.{List, [], ◌∷◌, ◌++◌, length, take, map, Option, Some, None, option_map, ℤ}
+use Rattle.std.specs.List.{last_or}
 use Rattle.std.specs.Option.{option_and_then}
+use Rattle.sd_base.specs.Lines.{TextLine}
 use Rattle.sd_base.specs.Numbers.{natural_value, integer_value}
+use Rattle.sd_base.specs.Reading.{◌>>=◌}
 use Rattle.sd_model.specs.declared.trees.Move.{Move}
 use Rattle.sd_model.specs.declared.trees.Move.TheVariants.{RotateLeft, RotateRight, Swap}
 use Rattle.sd_model.specs.declared.trees.Operation.{Operation}
 use Rattle.sd_model.specs.declared.trees.Operation.TheVariants.{And, Or, Xor}
+use Rattle.sd_script.specs.declared.command.Action.{Action}
+use Rattle.sd_script.specs.declared.command.Action.TheVariants as actions
+use Rattle.sd_script.specs.declared.command.Command.{Command}
+use Rattle.sd_script.specs.declared.fault.ScriptFault.{ScriptFault}
+use Rattle.sd_script.specs.declared.fault.ScriptFault.TheVariants.{BadLine}
+use Rattle.sd_script.specs.Scripts.{Script, see_all, number_of_word, with_action}
+use Rattle.sd_script.specs.Forms.{variable_from}
+pub use Rattle.sd_script.specs.Forms.{Word, starts_name, continues_name, is_name, name_of, is_printable}
+pub use Rattle.sd_script.specs.Forms.{file_name_of, is_bit, digit_values, bits_of, names_of}
 
 -- a command, with names and files of a type
 pub data Phrase (W : Type 0) : Type 0 where
@@ -30,49 +40,6 @@ pub data Phrase (W : Type 0) : Type 0 where
   Value : W → List Bool → Phrase W
   Write : List W → W → Phrase W
   Vtree : W → Phrase W
-
--- a word, as its bytes
-abbrev pub Word : Type 0
-Word = List ℕ
-
--- ---- the forms of words
-
--- a letter or _ (byte 95)
-abbrev pub starts_name : ℕ → Bool
-starts_name b = is_ascii_alphabetic b || b == 95
-
--- a letter, a digit or _
-abbrev pub continues_name : ℕ → Bool
-continues_name b = is_ascii_alphanumeric b || b == 95
-
--- a letter or _, and at most 31 letters, digits or _ after it
-abbrev pub is_name : Word → Bool
-is_name [] = false
-is_name (b ∷ bs) = starts_name b && nat_le (length bs) 31 && list_all continues_name bs
-
--- a word that is a name
-abbrev pub name_of : Word → Option Word
-name_of word = if is_name word then Some word else None
-
--- no byte but 33 to 126
-abbrev pub is_printable : Word → Bool
-is_printable word = list_all (λ b. nat_le 33 b && nat_le b 126) word
-
--- a word that names a file: at most 255 bytes, each of 33 to 126
-abbrev pub file_name_of : Word → Option Word
-file_name_of word = if nat_le (length word) 255 && is_printable word then Some word else None
-
--- a digit 0 or 1 (bytes 48 and 49)
-abbrev pub is_bit : ℕ → Bool
-is_bit b = b == 48 || b == 49
-
--- digits as truth values
-abbrev pub digit_values : Word → List Bool
-digit_values word = map (λ b. b == 49) word
-
--- a word of v digits 0 or 1, as truth values
-abbrev pub bits_of : ℕ → Word → Option (List Bool)
-bits_of v word = if length word == v && list_all is_bit word then Some (digit_values word) else None
 
 -- ---- the table of commands, by the number of words after the first
 
@@ -129,12 +96,6 @@ few_words v command (a ∷ []) = one_word command a
 few_words v command (a ∷ b ∷ []) = two_words v command a b
 few_words v command (a ∷ b ∷ c ∷ []) = three_words command a b c
 few_words v command words = None
-
--- words that are names, 1 to 1,024 of them
-abbrev pub names_of : List Word → Option (List Word)
-names_of words =
-    if (nat_le 1 (length words) && nat_le (length words) 1024) && list_all is_name words then Some words
-    else None
 
 -- a write: the words but the last are names, and the last is its file
 abbrev pub write_of : List Word → Option (Phrase Word)
@@ -196,3 +157,55 @@ renamed name file (Size a) = Size (name a)
 renamed name file (Value a bits) = Value (name a) bits
 renamed name file (Write names f) = Write (map name names) (file f)
 renamed name file (Vtree f) = Vtree (file f)
+
+-- the command of a phrase over numbers
+abbrev pub action_of : Phrase ℕ → Action
+action_of (Input n) = actions.Input n
+action_of (Load n file) = actions.Load n file
+action_of (Lit n literal) = actions.Lit n literal
+action_of (Constant n value) = actions.Constant n value
+action_of (Binary operation n a b) = actions.Binary operation n a b
+action_of (Not n a) = actions.Not n a
+action_of (Given n a literal) = actions.Given n a literal
+action_of (Forget n a x) = actions.Forget n a (variable_from x)
+action_of (Drop a) = actions.Drop a
+action_of (Turn kind p) = actions.Turn kind p
+action_of (Minimise rounds) = actions.Minimise rounds
+action_of (Limit k) = actions.Limit k
+action_of (Same a b) = actions.Same a b
+action_of (Size a) = actions.Size a
+action_of (Value a bits) = actions.Value a bits
+action_of (Write names file) = actions.Write names file
+action_of (Vtree file) = actions.Vtree file
+
+-- ---- a phrase in a script
+
+-- a script with the names and files of a phrase among its own
+abbrev pub seen : Script → Phrase Word → Script
+seen script phrase = record {
+  commands = script.commands;
+  names = see_all script.names (names_in phrase);
+  files = see_all script.files (files_in phrase);
+}
+
+-- a phrase with the numbers that its names and files have in a script
+abbrev pub numbered_phrase : Script → Phrase Word → Phrase ℕ
+numbered_phrase script phrase = renamed (number_of_word script.names) (number_of_word script.files) phrase
+
+-- the command of a phrase, and the script with its names and files
+abbrev pub said : Script → Phrase Word → Action × Script
+said script phrase = (action_of (numbered_phrase (seen script phrase) phrase), seen script phrase)
+
+-- the commands with one more behind them
+abbrev pub with_command : List Command → ℕ → Phrase ℕ → List Command
+with_command earlier line phrase = earlier ++ record { line = line; action = action_of phrase } ∷ []
+
+-- a script with one more command, over the names and files so far
+abbrev pub with_phrase : ℕ → Script → ℕ → Phrase ℕ → Result Script ScriptFault
+with_phrase v script line phrase = with_action v line (action_of phrase) script
+
+-- a script with the phrase of a line
+abbrev pub by_phrase : ℕ → Script → TextLine → Result Script ScriptFault
+by_phrase v script line = do
+  phrase ← ok_or (phrase_of v line.words) (BadLine line.number)
+  with_phrase v (seen script phrase) line.number (numbered_phrase (seen script phrase) phrase)

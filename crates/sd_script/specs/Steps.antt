@@ -3,8 +3,8 @@ use Rattle.std.specs.Prelude.{◌≡◌, ℕ, ◌*◌, ◌<◌, ◌≤◌, true,
 use Rattle.std.specs.List.{AllByRecursion}
 use Rattle.sd_base.specs.Lines.{TextLine}
 use Rattle.sd_script.specs.declared.reader.Reader.{Reader}
-use Rattle.sd_script.specs.Commands.{is_load, action_of}
-use Rattle.sd_script.specs.Phrases.{Phrase, names_in, files_in}
+use Rattle.sd_script.specs.Commands.{is_load}
+use Rattle.sd_script.specs.Phrases.{Phrase, names_in, files_in, action_of}
 use Rattle.sd_script.specs.Scripts.{Script, literals_fit, numbers_fit}
 use Rattle.sd_script.specs.Tables.{table_words}
 
@@ -19,8 +19,8 @@ pub record HasNamesIn (script : Script) (phrase : Phrase ℕ) : Type 0 where
 
 -- the numbers of a phrase are in range, and so is the count of files that were loaded
 pub record IsPhraseInRange (v loaded : ℕ) (phrase : Phrase ℕ) : Type 0 where
-  pub literals : literals_fit v phrase ≡ true
-  pub numbers : numbers_fit v phrase ≡ true
+  pub literals : literals_fit v (action_of phrase) ≡ true
+  pub numbers : numbers_fit v (action_of phrase) ≡ true
   pub loads : is_load (action_of phrase) ≡ true → loaded < 64
 
 -- there is room for the words of a line: each line has at most 1,024 names and one file

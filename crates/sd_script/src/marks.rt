@@ -2,8 +2,8 @@
 
 ghost use Rattle.std.specs.Prelude.{◌≡◌, ◌<◌, ℕ, not, ◌&&◌, ◌||◌, length};
 ghost use Rattle.std.specs.List.{AllByRecursion};
-ghost use Rattle.sd_script.specs.Commands.{action_of, binds, frees, writes, has};
-ghost use Rattle.sd_script.specs.Phrases.{names_in, files_in};
+ghost use Rattle.sd_script.specs.Commands.{binds, frees, writes, has};
+ghost use Rattle.sd_script.specs.Phrases.{names_in, files_in, action_of};
 ghost use Rattle.sd_script.specs.Tables.{table_words, is_marked};
 ghost use Rattle.sd_script.specs.Views.{numbers_view};
 

@@ -2,6 +2,7 @@
 
 ghost use Rattle.std.specs.Prelude.{◌≡◌, ◌≤◌, true, IfOk, map, ◌==◌, unsigned_abs};
 ghost use Rattle.sd_script.specs.Commands as commands;
+ghost use Rattle.sd_script.specs.Phrases as phrases;
 ghost use Rattle.sd_script.specs.Phrases.{digit_values};
 ghost use Rattle.sd_script.specs.Scripts as texts;
 ghost use Rattle.sd_script.specs.Views.{numbers_view};
@@ -18,7 +19,7 @@ const MAX_LIMIT: u64 = 268_435_456;
 
 /// Whether a literal, or the variable to forget, is in range.
 pub(crate) fn literals_fit(variables: u32, phrase: &Phrase<'_, u32>) -> bool
-    ensures { result ≡ texts.literals_fit variables (numbers_view phrase.now) }
+    ensures { result ≡ texts.literals_fit variables (phrases.action_of (numbers_view phrase.now)) }
 {
     match phrase {
         Phrase::Lit(_, literal) | Phrase::Given(_, _, literal) => is_literal(variables, *literal),
@@ -38,7 +39,7 @@ fn is_literal(variables: u32, literal: i64) -> bool
 /// Whether a position, a number of rounds or a limit is in range.
 pub(crate) fn numbers_fit(variables: u32, phrase: &Phrase<'_, u32>) -> bool
     requires { 1 ≤ variables }
-    ensures { result ≡ texts.numbers_fit variables (numbers_view phrase.now) }
+    ensures { result ≡ texts.numbers_fit variables (phrases.action_of (numbers_view phrase.now)) }
 {
     match phrase {
         Phrase::Turn(_, position) => *position <= 2 * u64::from(variables) - 2,
@@ -55,9 +56,9 @@ pub(crate) fn action_of(
     phrase: &Phrase<'_, u32>,
 ) -> Result<Action, AllocError>
     requires within_limit { variables ≤ 1024 }
-    requires literals { texts.literals_fit variables (numbers_view phrase.now) ≡ true }
-    requires numbers { texts.numbers_fit variables (numbers_view phrase.now) ≡ true }
-    ensures { IfOk result (λ action. action ≡ commands.action_of (numbers_view phrase.now)) }
+    requires literals { texts.literals_fit variables (phrases.action_of (numbers_view phrase.now)) ≡ true }
+    requires numbers { texts.numbers_fit variables (phrases.action_of (numbers_view phrase.now)) ≡ true }
+    ensures { IfOk result (λ action. action ≡ phrases.action_of (numbers_view phrase.now)) }
 {
     match phrase {
         Phrase::Input(n) => Ok(Action::Input(*n)),
@@ -102,7 +103,7 @@ fn values_from(alloc: Global, digits: &[u8]) -> Result<Vec<bool>, AllocError>
 
 /// Whether a command reads a file.
 pub(crate) fn is_load(phrase: &Phrase<'_, u32>) -> bool
-    ensures { result ≡ commands.is_load (commands.action_of (numbers_view phrase.now)) }
+    ensures { result ≡ commands.is_load (phrases.action_of (numbers_view phrase.now)) }
 {
     matches!(phrase, Phrase::Load(_, _))
 }

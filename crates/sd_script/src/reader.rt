@@ -5,9 +5,10 @@ ghost use Rattle.std.specs.List.{list_any, list_all};
 ghost use Rattle.sd_base.specs.Views.{line_view};
 ghost use Rattle.sd_script.specs.Commands.{uses, binds, writes, has, bound, written_files, loads};
 ghost use Rattle.sd_script.specs.Commands as commands;
-ghost use Rattle.sd_script.specs.Phrases.{names_in};
+ghost use Rattle.sd_script.specs.Phrases as phrases;
+ghost use Rattle.sd_script.specs.Phrases.{names_in, with_phrase, seen, numbered_phrase, with_command};
 ghost use Rattle.sd_script.specs.Scripts as texts;
-ghost use Rattle.sd_script.specs.Scripts.{Gives, empty, seen, numbered_phrase, with_command};
+ghost use Rattle.sd_script.specs.Scripts.{Gives, empty};
 ghost use Rattle.sd_script.specs.Tables.{table_words, is_marked};
 ghost use Rattle.sd_script.specs.Views.{viewed, numbers_view};
 
@@ -73,7 +74,7 @@ impl<'a> Reader<'a> {
     /// Whether the names that a command uses are bound.
     fn all_used_bound(&self, phrase: &Phrase<'a, u32>) -> bool
         ensures { result ≡ list_all (has (bound self.now.commands.items))
-            (uses (commands.action_of (numbers_view phrase.now))) }
+            (uses (phrases.action_of (numbers_view phrase.now))) }
     {
         match phrase {
             Phrase::Binary(_, _, a, b) | Phrase::Same(a, b) => self.is_bound(*a)
@@ -99,7 +100,7 @@ impl<'a> Reader<'a> {
     /// Whether the name that a command binds is bound.
     fn is_taken(&self, phrase: &Phrase<'a, u32>) -> bool
         ensures { result ≡ list_any (has (bound self.now.commands.items))
-            (binds (commands.action_of (numbers_view phrase.now))) }
+            (binds (phrases.action_of (numbers_view phrase.now))) }
     {
         match phrase {
             Phrase::Input(n)
@@ -117,7 +118,7 @@ impl<'a> Reader<'a> {
     /// Whether the file that a command writes is written.
     fn is_twice(&self, phrase: &Phrase<'a, u32>) -> bool
         ensures { result ≡ list_any (has (written_files self.now.commands.items))
-            (writes (commands.action_of (numbers_view phrase.now))) }
+            (writes (phrases.action_of (numbers_view phrase.now))) }
     {
         match phrase {
             Phrase::Write(_, file) | Phrase::Vtree(file) => self.is_written(*file),
@@ -129,7 +130,8 @@ impl<'a> Reader<'a> {
     fn check(&self, variables: u32, line: u32, phrase: &Phrase<'a, u32>) -> Result<(), ScriptFault>
         requires { 1 ≤ variables }
         ensures value { Gives (λ _. tt) result
-            (texts.checked variables self.now.commands.items line (numbers_view phrase.now)) }
+            (texts.checked variables self.now.commands.items line
+            (phrases.action_of (numbers_view phrase.now))) }
         ensures fits { OnOk result
             (IsPhraseInRange variables self.now.loaded (numbers_view phrase.now)) }
     {
@@ -157,9 +159,9 @@ impl<'a> Reader<'a> {
     /// Puts a command behind the others.
     #[tactic(auto, using(crate::proofs::Marking::more))]
     fn put(&mut self, line: u32, action: Action, phrase: &Phrase<'a, u32>) -> Result<(), AllocError>
-        requires action { action ≡ commands.action_of (numbers_view phrase.now) }
+        requires action { action ≡ phrases.action_of (numbers_view phrase.now) }
         requires names { HasNamesIn (script_view self.old) (numbers_view phrase.now) }
-        requires loads { commands.is_load (commands.action_of (numbers_view phrase.now)) ≡ true
+        requires loads { commands.is_load (phrases.action_of (numbers_view phrase.now)) ≡ true
             → self.old.loaded < 64 }
         ensures value { OnOk result (script_view self.new ≡ record (script_view self.old) {
           commands = with_command self.old.commands.items line (numbers_view phrase.now);
@@ -188,7 +190,7 @@ impl<'a> Reader<'a> {
         requires within_limit { variables ≤ 1024 }
         requires names { HasNamesIn (script_view self.old) (numbers_view phrase.now) }
         ensures value { Gives (λ _. script_view self.new) result
-            (texts.with_phrase variables (script_view self.old) line (numbers_view phrase.now)) }
+            (with_phrase variables (script_view self.old) line (numbers_view phrase.now)) }
         ensures names { table_words self.new.names ≡ table_words self.old.names }
         ensures files { table_words self.new.files ≡ table_words self.old.files }
     {
@@ -215,6 +217,7 @@ impl<'a> Reader<'a> {
     }
 
     /// Reads a command line.
+    #[tactic(auto, using(crate::proofs::Phrases::command_of_phrase))]
     fn read_command(
         &mut self,
         alloc: Global,

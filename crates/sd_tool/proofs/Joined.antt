@@ -12,7 +12,7 @@ use Rattle.sd_model.specs.Tree.{Tree}
 use Rattle.sd_manager.specs.Table.{Table}
 use Rattle.sd_formula.specs.Dimacs.{Groups}
 use Rattle.sd_formula.specs.Formulas.{expression_of}
-use Rattle.sd_script.specs.Scripts.{Script, script_of, see, number_of_word}
+use Rattle.sd_script.specs.Scripts.{Script, script_of, see, number_of_word, command_of}
 use Rattle.sd_script.specs.declared.command.Action.{Action}
 use Rattle.sd_script.specs.declared.command.Action.TheVariants as actions
 use Rattle.sd_script.specs.declared.command.Command.{Command as Line}
@@ -375,7 +375,7 @@ joined_at {asks = asks} words status kept old new went = λ files job formula tr
 worked : (v : ℕ) × (script : Script)
     × (script_of v (codes "input f\nlit g 1\nand h f g\nwrite h out\n") ≡ Ok script)
     × ((input : Expression) → JoinsTwo input script (Combined And input (Atom (pos 1))) (codes "out"))
-unfolding script_of see number_of_word
+unfolding script_of see number_of_word command_of
 worked = (
   2,
   _,

@@ -1,19 +1,19 @@
 -- OutOfMemory is never the fault of a script: no step of the reading gives it.
-use Rattle.std.proofs.Common.{◌≡◌, ℕ, Bool, true, false, List, [], ◌∷◌, Ok, Err}
+use Rattle.std.proofs.Common.{◌≡◌, ℕ, Bool, true, false, List, [], ◌∷◌, ◌++◌, Ok, Err}
 use Rattle.std.specs.Prelude.{nat_lt, ok_or, if◌then◌else◌}
 use Rattle.sd_base.specs.Words.{lines_of}
 use Rattle.sd_base.specs.Lines.{TextLine, numbered_lines_from, is_content}
 use Rattle.sd_base.specs.Reading.{fault_if}
-use Rattle.sd_script.specs.Phrases.{Phrase, phrase_of}
-use Rattle.sd_script.specs.Scripts.{Script, empty, seen, numbered_phrase, checked, with_phrase, with_command, with_line}
+use Rattle.sd_script.specs.Scripts.{Script, empty, command_of, checked, with_action, with_line}
 use Rattle.sd_script.specs.Scripts.{after_line, after_lines, script_of}
+use Rattle.sd_script.specs.declared.command.Action.{Action}
 use Rattle.sd_script.specs.declared.command.Command.{Command}
 use Rattle.sd_script.specs.declared.fault.ScriptFault.TheVariants as script
 use Rattle.sd_vfile.proofs.OwnFaults.{Never, never_ok, never_after, never_then, never_if, never_or}
 
-never_checked : (v : ℕ) (earlier : List Command) (line : ℕ) (phrase : Phrase ℕ)
-    → Never script.OutOfMemory (checked v earlier line phrase)
-never_checked v earlier line phrase =
+never_checked : (v : ℕ) (earlier : List Command) (line : ℕ) (action : Action)
+    → Never script.OutOfMemory (checked v earlier line action)
+never_checked v earlier line action =
     never_then script.OutOfMemory _ _ (never_if _ (script.NameUnknown line) _ (λ e. cc))
     (never_then script.OutOfMemory _ _ (never_if _ (script.NameTaken line) _ (λ e. cc))
     (never_then script.OutOfMemory _ _ (never_if _ (script.LiteralRange line) _ (λ e. cc))
@@ -21,19 +21,18 @@ never_checked v earlier line phrase =
     (never_then script.OutOfMemory _ _ (never_if _ (script.FileTwice line) _ (λ e. cc))
     (never_then script.OutOfMemory _ _ (never_if _ (script.TooManyLoads line) _ (λ e. cc)) (never_ok _ _))))))
 
-never_placed : (v : ℕ) (s : Script) (line : ℕ) (phrase : Phrase ℕ)
-    → Never script.OutOfMemory (with_phrase v s line phrase)
-never_placed v s line phrase =
-    never_then script.OutOfMemory (checked v s.commands line phrase)
-    (Ok (record s { commands = with_command s.commands line phrase })) (never_checked v s.commands line phrase)
-    (never_ok _ _)
+never_placed : (v line : ℕ) (action : Action) (s : Script) → Never script.OutOfMemory (with_action v line action s)
+never_placed v line action s =
+    never_then script.OutOfMemory (checked v s.commands line action)
+    (Ok (record s { commands = s.commands ++ record { line = line; action = action } ∷ [] }))
+    (never_checked v s.commands line action) (never_ok _ _)
 
 never_command : (v : ℕ) (s : Script) (line : TextLine) → Never script.OutOfMemory (with_line v s line)
 never_command v s line =
-    never_after script.OutOfMemory (ok_or (phrase_of v line.words) (script.BadLine line.number))
-    (λ phrase. with_phrase v (seen s phrase) line.number (numbered_phrase (seen s phrase) phrase))
+    never_after script.OutOfMemory (ok_or (command_of v s line.words) (script.BadLine line.number))
+    (λ (action, seen). with_action v line.number action seen)
     (never_or _ (script.BadLine line.number) _ (λ e. cc))
-    (λ phrase. never_placed v (seen s phrase) line.number (numbered_phrase (seen s phrase) phrase))
+    (λ (action, seen). never_placed v line.number action seen)
 
 never_line : (v : ℕ) (s : Script) (line : TextLine) → Never script.OutOfMemory (after_line v s line)
 never_line v s line =

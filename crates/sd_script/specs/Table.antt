@@ -1,0 +1,121 @@
+-- A script as it is seen, and the command that the words of a line stand for.
+use Rattle.std.specs.Prelude.{ℕ, ◌-◌, true, false, if◌then◌else◌, bytes_eq, codes, Option, Some, None, option_map}
+use Rattle.std.specs.Prelude.{List, [], ◌∷◌, ◌++◌, length, take, drop, map, fold}
+use Rattle.std.specs.List.{list_any, position_or_len}
+use Rattle.std.specs.Option.{option_and_then}
+use Rattle.sd_base.specs.Numbers.{natural_value, integer_value}
+use Rattle.sd_model.specs.declared.trees.Move.TheVariants.{RotateLeft, RotateRight, Swap}
+use Rattle.sd_model.specs.declared.trees.Operation.TheVariants.{And, Or, Xor}
+use Rattle.sd_script.specs.declared.command.Action.{Action}
+use Rattle.sd_script.specs.declared.command.Action.TheVariants.{Input, Load, Lit, Constant, Binary, Not}
+use Rattle.sd_script.specs.declared.command.Action.TheVariants.{Given, Forget, Drop, Turn, Minimise, Limit}
+use Rattle.sd_script.specs.declared.command.Action.TheVariants.{Same, Size, Value, Write, Vtree}
+use Rattle.sd_script.specs.declared.command.Command.{Command}
+use Rattle.sd_script.specs.Forms.{Word, name_of, file_name_of, names_of, bits_of, variable_of}
+
+-- A script as it is seen. The names, and apart from them the files, stand in the order in which
+-- they are first seen, and the commands have their indices there, counted from 0.
+pub record Script : Type 0 where
+  pub commands : List Command
+  pub names : List Word
+  pub files : List Word
+
+-- nothing read yet
+abbrev pub empty : Script
+empty = record { commands = []; names = []; files = [] }
+
+-- ---- numbers in first-seen order
+
+-- the distinct words with one more
+unfoldable pub see : List Word → Word → List Word
+see words word = if list_any (bytes_eq word) words then words else words ++ word ∷ []
+
+-- the distinct words with more of them, in order
+abbrev pub see_all : List Word → List Word → List Word
+see_all words more = fold see words more
+
+-- the number of a word: its index among the distinct words
+unfoldable pub number_of_word : List Word → Word → ℕ
+number_of_word words word = position_or_len (bytes_eq word) words
+
+-- ---- the parts of a line
+
+-- a script with the names and files so far, and the words of a line that are left
+abbrev pub Rest : Type 0
+Rest = Script × List Word
+
+-- a part of a line: where it has its form its value, and the rest behind it
+abbrev pub Part : Type 0 → Type 0
+Part A = Rest → Option (A × Rest)
+
+-- a part, and then another by its value
+infixl 10 ◌>>=◌
+abbrev pub ◌>>=◌ : {A B : Type 0} → Part A → (A → Part B) → Part B
+part >>= more = λ rest. option_and_then (λ (x, next). more x next) (part rest)
+
+-- no more words
+abbrev pub pure : {A : Type 0} → A → Part A
+pure x = λ rest. Some (x, rest)
+
+-- a word with a value of its own
+abbrev pub value : {A : Type 0} → (Word → Option A) → Part A
+value read (s, []) = None
+value read (s, word ∷ words) = option_map (λ x. (x, (s, words))) (read word)
+
+-- a name, with its number as its value
+abbrev pub name : Part ℕ
+name (s, []) = None
+name (s, word ∷ words) =
+    option_map (λ w. (number_of_word (see s.names w) w, (record s { names = see s.names w }, words))) (name_of word)
+
+-- a file, with its number as its value
+abbrev pub file : Part ℕ
+file (s, []) = None
+file (s, word ∷ words) =
+    option_map (λ w. (number_of_word (see s.files w) w, (record s { files = see s.files w }, words))) (file_name_of word)
+
+-- 1 to 1,024 names, which are all words but the last, with their numbers
+abbrev pub names : Part (List ℕ)
+names (s, words) =
+    option_map (λ own. (
+      map (number_of_word (see_all s.names own)) own,
+      (record s { names = see_all s.names own }, drop (length words - 1) words),
+    ))
+    (names_of (take (length words - 1) words))
+
+-- The table of commands over v variables: what stands behind the first word.
+abbrev pub table : ℕ → Word → Part Action
+table v command =
+    if bytes_eq command (codes "write") then (do pure (Write (← names) (← file)))
+    else if bytes_eq command (codes "input") then (do pure (Input (← name)))
+    else if bytes_eq command (codes "true") then (do pure (Constant (← name) true))
+    else if bytes_eq command (codes "false") then (do pure (Constant (← name) false))
+    else if bytes_eq command (codes "drop") then (do pure (Drop (← name)))
+    else if bytes_eq command (codes "rotl") then (do pure (Turn RotateLeft (← value natural_value)))
+    else if bytes_eq command (codes "rotr") then (do pure (Turn RotateRight (← value natural_value)))
+    else if bytes_eq command (codes "swap") then (do pure (Turn Swap (← value natural_value)))
+    else if bytes_eq command (codes "minimise") then (do pure (Minimise (← value natural_value)))
+    else if bytes_eq command (codes "limit") then (do pure (Limit (← value natural_value)))
+    else if bytes_eq command (codes "size") then (do pure (Size (← name)))
+    else if bytes_eq command (codes "vtree") then (do pure (Vtree (← file)))
+    else if bytes_eq command (codes "load") then (do pure (Load (← name) (← file)))
+    else if bytes_eq command (codes "lit") then (do pure (Lit (← name) (← value integer_value)))
+    else if bytes_eq command (codes "not") then (do pure (Not (← name) (← name)))
+    else if bytes_eq command (codes "same") then (do pure (Same (← name) (← name)))
+    else if bytes_eq command (codes "value") then (do pure (Value (← name) (← value (bits_of v))))
+    else if bytes_eq command (codes "and") then (do pure (Binary And (← name) (← name) (← name)))
+    else if bytes_eq command (codes "or") then (do pure (Binary Or (← name) (← name) (← name)))
+    else if bytes_eq command (codes "xor") then (do pure (Binary Xor (← name) (← name) (← name)))
+    else if bytes_eq command (codes "given") then (do pure (Given (← name) (← name) (← value integer_value)))
+    else if bytes_eq command (codes "forget") then (do pure (Forget (← name) (← name) (← value variable_of)))
+    else (λ rest. None)
+
+-- a command behind which no word is left
+abbrev pub whole : Action × Rest → Option (Action × Script)
+whole (action, (s, [])) = Some (action, s)
+whole (action, (s, word ∷ words)) = None
+
+-- the command of the words of a line, and the script with its names and files
+unfoldable pub command_of : ℕ → Script → List Word → Option (Action × Script)
+command_of v s [] = None
+command_of v s (command ∷ words) = option_and_then whole (table v command (s, words))
