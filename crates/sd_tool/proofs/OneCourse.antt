@@ -13,7 +13,7 @@ use Rattle.sd_tool.specs.Readings.{Plan}
 use Rattle.sd_tool.specs.Ends.{End, Finished, Refused, Unreadable, Unwritable, OutOfMemory, ArenaFull, OverLimit}
 use Rattle.sd_tool.specs.Ends.{NotMovable}
 use Rattle.sd_tool.specs.Course.{Reaches, IsAtCommand, EndsAmong}
-use Rattle.sd_tool.specs.Headline.{IsOwn}
+use Rattle.sd_tool.specs.inside.Course.{IsOwn}
 
 -- commands leave a vtree
 pub steps_valid : (input : Groups) (start last : State) (commands : List NumberedCommand) (effects : List Effect)

@@ -2,14 +2,13 @@
 ghost use Rattle.std.specs.Prelude.{◌≡◌, Some, None, cond, map, string_bytes};
 ghost use Rattle.sd_base.specs.Asked.{Adds};
 ghost use Rattle.sd_base.specs.Shelf.{NoFile};
-ghost use Rattle.sd_tool.specs.Asks.{HasAsked};
-ghost use Rattle.sd_tool.specs.Devices.{contents, faults, between, NotFewer};
+ghost use Rattle.sd_tool.specs.Devices.{seen};
+ghost use Rattle.sd_tool.specs.inside.Devices.{contents, faults, NotFewer};
 ghost use Rattle.sd_tool.specs.PlanViews.{plan_of, plan_with, IsReady, IsReadyWith};
-ghost use Rattle.sd_tool.specs.Headline.{IsCourse, HasEffects, HasLine, HasEnd, IsComplete};
+ghost use Rattle.sd_tool.specs.Theorem.{HasEffects, HasEqualTexts, HasWritten, HasLimit, HasJoined};
+ghost use Rattle.sd_tool.specs.Theorem.{HasLine, HasEnd, IsComplete, HasAsked, IsCourse};
+ghost use Rattle.sd_tool.specs.inside.ByStatus.{IsOneCourse};
 ghost use Rattle.sd_tool.specs.Stops.{RunsToEnd, CarriesOut, Attempts, is_full, stop_of};
-ghost use Rattle.sd_tool.specs.Written.{HasWritten, HasEqualTexts};
-ghost use Rattle.sd_tool.specs.Limited.{HasLimit};
-ghost use Rattle.sd_tool.specs.Joined.{HasJoined};
 
 use crate::devices::perform_any;
 use crate::parts::write_line;
@@ -43,39 +42,26 @@ pub fn run<R: Threads + Sync, F: Shelf, O: Sink, E: Sink>(
     requires hand { F.hand shelf.old ≡ NoFile }
     requires none { kept.old ≡ None }
     ensures hand { F.hand shelf.new ≡ NoFile }
-    ensures course { between F.files F.read_faults F.write_faults O.written O.faults E.written
-        E.faults
-        shelf.old out.old err.old shelf.new out.new err.new
-        (IsCourse (Adds F.asked shelf.old shelf.new) (map string_bytes words.now) result kept.new) }
-    ensures effects { between F.files F.read_faults F.write_faults O.written O.faults E.written
-        E.faults
-        shelf.old out.old err.old shelf.new out.new err.new
-        (HasEffects (map string_bytes words.now) result) }
-    ensures line { between F.files F.read_faults F.write_faults O.written O.faults E.written
-        E.faults
-        shelf.old out.old err.old shelf.new out.new err.new (HasLine result) }
-    ensures ends { between F.files F.read_faults F.write_faults O.written O.faults E.written
-        E.faults
-        shelf.old out.old err.old shelf.new out.new err.new
-        (HasEnd (map string_bytes words.now) result kept.new) }
-    ensures complete { between F.files F.read_faults F.write_faults O.written O.faults E.written
-        E.faults
-        shelf.old out.old err.old shelf.new out.new err.new
-        (IsComplete (map string_bytes words.now) result) }
-    ensures written { between F.files F.read_faults F.write_faults O.written O.faults E.written
-        E.faults
-        shelf.old out.old err.old shelf.new out.new err.new
-        (HasWritten (map string_bytes words.now) result) }
-    ensures limited { between F.files F.read_faults F.write_faults O.written O.faults E.written
-        E.faults
-        shelf.old out.old err.old shelf.new out.new err.new
-        (HasLimit (map string_bytes words.now) result) }
-    ensures joined { between F.files F.read_faults F.write_faults O.written O.faults E.written
-        E.faults
-        shelf.old out.old err.old shelf.new out.new err.new
-        (HasJoined (map string_bytes words.now) result) }
-    ensures asked { HasAsked result (Adds F.asked shelf.old shelf.new) }
-    ensures equal_texts { HasEqualTexts (map string_bytes words.now) (F.files shelf.old) }
+    ensures course { IsCourse (map string_bytes words.now) result kept.new
+        (seen F.Shelf O.Sink E.Sink shelf.old out.old err.old shelf.new out.new err.new) }
+    ensures effects { HasEffects (map string_bytes words.now) result
+        (seen F.Shelf O.Sink E.Sink shelf.old out.old err.old shelf.new out.new err.new) }
+    ensures line { HasLine (map string_bytes words.now) result
+        (seen F.Shelf O.Sink E.Sink shelf.old out.old err.old shelf.new out.new err.new) }
+    ensures ends { HasEnd (map string_bytes words.now) result kept.new
+        (seen F.Shelf O.Sink E.Sink shelf.old out.old err.old shelf.new out.new err.new) }
+    ensures complete { IsComplete (map string_bytes words.now) result
+        (seen F.Shelf O.Sink E.Sink shelf.old out.old err.old shelf.new out.new err.new) }
+    ensures written { HasWritten (map string_bytes words.now) result
+        (seen F.Shelf O.Sink E.Sink shelf.old out.old err.old shelf.new out.new err.new) }
+    ensures limited { HasLimit (map string_bytes words.now) result
+        (seen F.Shelf O.Sink E.Sink shelf.old out.old err.old shelf.new out.new err.new) }
+    ensures joined { HasJoined (map string_bytes words.now) result
+        (seen F.Shelf O.Sink E.Sink shelf.old out.old err.old shelf.new out.new err.new) }
+    ensures asked { HasAsked result
+        (seen F.Shelf O.Sink E.Sink shelf.old out.old err.old shelf.new out.new err.new) }
+    ensures equal_texts { HasEqualTexts (map string_bytes words.now)
+        (seen F.Shelf O.Sink E.Sink shelf.old out.old err.old shelf.new out.new err.new) }
 {
     conduct(alloc, words, shelf, out, err, kept)
 }
@@ -92,10 +78,8 @@ fn conduct<F: Shelf, O: Sink, E: Sink>(
     requires hand { F.hand shelf.old ≡ NoFile }
     requires none { kept.old ≡ None }
     ensures hand { F.hand shelf.new ≡ NoFile }
-    ensures course { between F.files F.read_faults F.write_faults O.written O.faults E.written
-        E.faults
-        shelf.old out.old err.old shelf.new out.new err.new
-        (IsCourse (Adds F.asked shelf.old shelf.new) (map string_bytes words.now) result kept.new) }
+    ensures course { IsOneCourse (map string_bytes words.now) result kept.new
+        (seen F.Shelf O.Sink E.Sink shelf.old out.old err.old shelf.new out.new err.new) }
 {
     match attempt(alloc, words, shelf, out, kept) {
         Ok(()) => 0,

@@ -1,5 +1,5 @@
 use Rattle.std.proofs.Common.{map, string_bytes, ap, arith}
-use Rattle.sd_tool.specs.Devices.{faults, NotFewer}
+use Rattle.sd_tool.specs.inside.Devices.{faults, NotFewer}
 use Rattle.sd_tool.specs.PlanViews.{plan_of}
 use Rattle.sd_tool.proofs.EndLemmas.{reading_stops, commands_go}
 use Rattle.sd_tool.proofs.AskLemmas.{joined}

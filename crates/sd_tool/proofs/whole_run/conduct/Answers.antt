@@ -4,5 +4,5 @@ use Rattle.sd_tool.proofs.whole_run.conduct.Goals as goal
 
 pub returns-in-Err-clause-course : goal.returns-in-Err-clause-course
 returns-in-Err-clause-course g c =
-    went_to_stop (map string_bytes c.args.words.now) c.in-Err.stop _ _ _ _ _ c.in-Err.ensures.ends c.status.ensures
+    went_to_stop (map string_bytes c.args.words.now) c.in-Err.stop _ _ _ _ c.in-Err.ensures.ends c.status.ensures
     c.parts.ensures c.write_line.ensures
