@@ -32,23 +32,17 @@ use Rattle.sd_commands.specs.declared.command.NumberedCommand.{NumberedCommand}
 use Rattle.sd_commands.specs.declared.command.RunCommand.{RunCommand}
 use Rattle.sd_commands.specs.declared.command.RunCommand.TheVariants as commands
 use Rattle.sd_tool.specs.Asks.{GoesTo, writings, begun}
-use Rattle.sd_tool.specs.Readings.{ReadsBy}
+use Rattle.sd_tool.specs.Readings.{ReadsBy, Reading, Refuses, Begins, Reads, Text, Whole, TooLong}
 use Rattle.sd_tool.specs.Theorem.{HasAsked}
 use Rattle.sd_tool.specs.Devices.{Seen}
 use Rattle.sd_tool.specs.Ends.{End, Finished, Refused, Unreadable, Unwritable, OutOfMemory, ArenaFull, OverLimit}
-use Rattle.sd_tool.specs.Ends.{NotMovable}
-use Rattle.sd_tool.specs.Ends.{status_of}
+use Rattle.sd_tool.specs.Ends.{NotMovable, status_of}
 use Rattle.sd_tool.specs.inside.ByStatus.{IsOneCourse}
-use Rattle.sd_tool.specs.Readings.{Reading, Refuses, Begins, Reads, Text, Whole, TooLong}
-use Rattle.sd_tool.specs.inside.Readings.{Input}
-use Rattle.sd_tool.specs.Readings.{reading_of, with_input_word, with_tree_word}
-use Rattle.sd_tool.specs.inside.Readings.{with_job, with_input, with_formula}
-use Rattle.sd_tool.specs.Readings.{with_tree, with_commands}
+use Rattle.sd_tool.specs.inside.Readings.{Input, with_job, with_input, with_formula}
+use Rattle.sd_tool.specs.Readings.{reading_of, with_input_word, with_tree_word, with_tree, with_commands}
 use Rattle.sd_tool.specs.inside.Readings.{with_vtree_text, with_vtree_reading, script_reading}
-use Rattle.sd_tool.specs.Readings.{with_lines, with_action}
-use Rattle.sd_tool.specs.inside.Readings.{with_script_text, with_script_reading, with_sdd}
-use Rattle.sd_tool.specs.Readings.{in_line, file_name, plan_for}
-use Rattle.sd_tool.specs.inside.Readings.{with_sdd_reading}
+use Rattle.sd_tool.specs.Readings.{with_lines, with_action, in_line, file_name, plan_for}
+use Rattle.sd_tool.specs.inside.Readings.{with_script_text, with_script_reading, with_sdd, with_sdd_reading}
 use Rattle.sd_tool.specs.Refusals.{refusal_status}
 use Rattle.sd_tool.specs.declared.refusal.Refusal.{Refusal}
 use Rattle.sd_tool.proofs.ByStatus.{no_idle}

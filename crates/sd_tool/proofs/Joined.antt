@@ -1,5 +1,5 @@
 -- A run with a script of four lines writes the text of two formulas, joined.
-use Rattle.std.proofs.Common.{◌≡◌, ◌⊎◌, ℕ, Bool, true, false, ◌&&◌, List, [], ◌∷◌, ◌++◌, Option, Some, None, length}
+use Rattle.std.proofs.Common.{◌≡◌, ℕ, false, List, [], ◌∷◌, ◌++◌, Option, Some, None, length}
 use Rattle.std.proofs.Common.{Ok, inl, inr, refl, sym, ap, subst, ◌∙◌, codes, pos}
 use Rattle.std.proofs.lemmas.Bool.{eq-eqb, ne_eqb}
 use Rattle.std.specs.Option.{unwrap_or}
@@ -28,16 +28,14 @@ use Rattle.sd_commands.specs.declared.command.RunCommand.{RunCommand}
 use Rattle.sd_commands.specs.declared.command.RunCommand.TheVariants as commands
 use Rattle.sd_commands.proofs.Outcomes.{settled_done, input_done, plain_growth}
 use Rattle.sd_tool.specs.Effects.{Contents, after}
-use Rattle.sd_tool.specs.Readings.{Plan, Reading, Refuses, Begins, Reads, Whole, reading_of}
-use Rattle.sd_tool.specs.inside.Course.{ReadsTo}
-use Rattle.sd_tool.specs.inside.Readings.{with_job}
+use Rattle.sd_tool.specs.Readings.{Plan, Reading, Begins, Reads, Whole, reading_of}
+use Rattle.sd_tool.specs.inside.Course.{ReadsTo, MayEnd}
+use Rattle.sd_tool.specs.inside.Readings.{with_job, with_vtree_text, with_vtree_reading, with_script_text}
 use Rattle.sd_tool.specs.Readings.{with_input_word, with_tree_word, with_tree, with_commands, with_lines}
 use Rattle.sd_tool.specs.Readings.{with_action, announcement, plan_for, file_name, in_line}
-use Rattle.sd_tool.specs.inside.Readings.{with_vtree_text, with_vtree_reading, with_script_text}
 use Rattle.sd_tool.specs.inside.Readings.{with_script_reading, script_reading}
 use Rattle.sd_tool.specs.Ends.{Finished}
 use Rattle.sd_tool.specs.Devices.{Seen}
-use Rattle.sd_tool.specs.inside.Course.{MayEnd}
 use Rattle.sd_tool.specs.Theorem.{HasJoined}
 use Rattle.sd_tool.specs.inside.ByStatus.{IsOneCourse}
 use Rattle.sd_tool.specs.Written.{IsStartTree}

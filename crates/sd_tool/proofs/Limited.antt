@@ -12,7 +12,6 @@ use Rattle.sd_commands.specs.Effects.{Effect}
 use Rattle.sd_commands.specs.Commands.{State, Done, OverLimit as PassesLimit, Step, Steps, BindsInput, PassesAtGroup}
 use Rattle.sd_commands.specs.Standing.{start}
 use Rattle.sd_commands.specs.declared.command.NumberedCommand.{NumberedCommand}
-use Rattle.sd_commands.specs.declared.command.RunCommand.{RunCommand}
 use Rattle.sd_commands.specs.declared.command.RunCommand.TheVariants as commands
 use Rattle.sd_tool.specs.Course.{EndsAmong}
 use Rattle.sd_tool.specs.inside.Course.{MayEnd}

@@ -1,6 +1,6 @@
 -- Commands that are done lead to one state with the same effects, and come to one end by themselves: all are done, or
 -- one is refused.
-use Rattle.std.proofs.Common.{◌≡◌, ℕ, Option, List, [], ◌∷◌, ◌++◌, refl, sym, ap, subst, ◌∙◌}
+use Rattle.std.proofs.Common.{◌≡◌, ℕ, List, [], ◌∷◌, ◌++◌, refl, sym, ap, subst, ◌∙◌}
 use Rattle.std.proofs.lemmas.List.{append-nil}
 use Rattle.sd_model.specs.Tree.{IsVtree}
 use Rattle.sd_formula.specs.Dimacs.{Groups}

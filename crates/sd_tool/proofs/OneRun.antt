@@ -15,11 +15,9 @@ use Rattle.sd_words.specs.declared.jobs.TreeWord.TheVariants as trees
 use Rattle.sd_commands.specs.Effects.{Effect, Write, Print}
 use Rattle.sd_tool.specs.Effects.{after}
 use Rattle.sd_tool.specs.Readings.{Plan, Reading, Refuses, Begins, Reads, Text, Whole, reading_of}
-use Rattle.sd_tool.specs.inside.Course.{ReadsTo}
-use Rattle.sd_tool.specs.Readings.{with_input_word, with_tree_word, with_tree}
-use Rattle.sd_tool.specs.inside.Readings.{with_job, with_formula}
-use Rattle.sd_tool.specs.Readings.{with_commands, plan_for, default_of}
-use Rattle.sd_tool.specs.inside.Readings.{with_vtree_text, with_vtree_reading}
+use Rattle.sd_tool.specs.inside.Course.{ReadsTo, MayEnd, IsOwn}
+use Rattle.sd_tool.specs.Readings.{with_input_word, with_tree_word, with_tree, with_commands, plan_for, default_of}
+use Rattle.sd_tool.specs.inside.Readings.{with_job, with_formula, with_vtree_text, with_vtree_reading, IsInput}
 use Rattle.sd_tool.specs.declared.refusal.Refusal.{Refusal}
 use Rattle.sd_tool.specs.Ends.{End, Finished, Refused, Unreadable, Unwritable, OutOfMemory, ArenaFull, OverLimit}
 use Rattle.sd_tool.specs.Ends.{NotMovable, status_of}
@@ -27,12 +25,9 @@ use Rattle.sd_tool.specs.Devices.{Seen, Faults, IsCalm, HasReason, WritesEndLine
 use Rattle.sd_tool.specs.inside.Devices.{NoneRose}
 use Rattle.sd_tool.specs.Course.{EndsAmong, Leaves}
 use Rattle.sd_tool.specs.Asks.{OwnEnd, CameTo, LacksRoom}
-use Rattle.sd_tool.specs.inside.Course.{MayEnd}
 use Rattle.sd_tool.specs.Theorem.{IsComplete}
 use Rattle.sd_tool.specs.inside.ByStatus.{IsOneCourse}
-use Rattle.sd_tool.specs.inside.Course.{IsOwn}
 use Rattle.sd_tool.specs.Written.{IsFormulaOf, IsStartTree, PlainRun}
-use Rattle.sd_tool.specs.inside.Readings.{IsInput}
 use Rattle.sd_tool.proofs.AskLemmas.{goes_may_end}
 use Rattle.sd_tool.proofs.OneCourse.{one_end_among}
 use Rattle.sd_tool.proofs.NotOutOfMemory.{valid_start}

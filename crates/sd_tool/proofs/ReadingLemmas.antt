@@ -17,14 +17,12 @@ use Rattle.sd_words.specs.declared.jobs.InputWord.{InputWord}
 use Rattle.sd_words.specs.declared.jobs.InputWord.TheVariants as inputs
 use Rattle.sd_words.specs.declared.jobs.TreeWord.{TreeWord}
 use Rattle.sd_words.specs.declared.jobs.TreeWord.TheVariants as trees
-use Rattle.sd_tool.specs.Readings.{Reading, Refuses, Begins, Reads, Text, Whole, TooLong, IsText}
+use Rattle.sd_tool.specs.Readings.{Reading, Refuses, Begins, Reads, Text, Whole, TooLong, IsText, with_commands}
 use Rattle.sd_tool.specs.inside.Course.{ReadsTo}
 use Rattle.sd_script.specs.Scripts.{Script}
 use Rattle.sd_commands.specs.declared.command.NumberedCommand.{NumberedCommand}
-use Rattle.sd_tool.specs.Readings.{with_commands}
-use Rattle.sd_tool.specs.inside.Readings.{script_reading, with_script_text}
+use Rattle.sd_tool.specs.inside.Readings.{script_reading, with_script_text, Input, input_file, with_input}
 use Rattle.sd_tool.specs.Readings.{with_input_word, with_tree_word, with_tree}
-use Rattle.sd_tool.specs.inside.Readings.{Input, input_file, with_input}
 use Rattle.sd_tool.specs.inside.Readings.{with_vtree_text}
 use Rattle.sd_tool.specs.Asks.{ComesTo}
 use Rattle.sd_tool.specs.Stops.{StopsReading, LeadsTo, StopsFor, GivesText, text_read}

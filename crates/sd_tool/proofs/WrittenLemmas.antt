@@ -38,21 +38,17 @@ use Rattle.sd_commands.proofs.Outcomes.{input_done, grows_valid}
 use Rattle.sd_commands.proofs.Searched.{search_valid}
 use Rattle.sd_search.specs.Search.{Found, IsSearch}
 use Rattle.sd_tool.specs.Effects.{Contents, after}
-use Rattle.sd_tool.specs.Readings.{Plan, Begins, Refuses, Text, Whole, TooLong, IsText}
-use Rattle.sd_tool.specs.inside.Course.{ReadsTo}
-use Rattle.sd_tool.specs.inside.Readings.{Input}
+use Rattle.sd_tool.specs.Readings.{Plan, Begins, Text, Whole, TooLong, IsText}
+use Rattle.sd_tool.specs.inside.Course.{ReadsTo, MayEnd}
+use Rattle.sd_tool.specs.inside.Readings.{Input, with_job, with_input, with_formula, with_vtree_reading, IsInput}
 use Rattle.sd_tool.specs.Readings.{reading_of, with_input_word, with_tree_word}
-use Rattle.sd_tool.specs.inside.Readings.{with_job, with_input, with_formula}
 use Rattle.sd_tool.specs.Readings.{with_tree, with_commands, plan_for, for_file, default_of}
-use Rattle.sd_tool.specs.inside.Readings.{with_vtree_reading}
 use Rattle.sd_tool.specs.Readings.{announcement, in_lines, search_of}
 use Rattle.sd_tool.specs.Ends.{Finished}
 use Rattle.sd_tool.specs.Devices.{Seen}
-use Rattle.sd_tool.specs.inside.Course.{MayEnd}
 use Rattle.sd_tool.specs.Theorem.{HasWritten, HasEqualTexts}
 use Rattle.sd_tool.specs.inside.ByStatus.{IsOneCourse}
 use Rattle.sd_tool.specs.Written.{ReadsAs, IsFormulaOf, IsStartTree, IsWritten, PlainRun, WritesInput}
-use Rattle.sd_tool.specs.inside.Readings.{IsInput}
 use Rattle.sd_tool.specs.Written.{with_output, with_announcement, IsFound}
 use Rattle.sd_tool.proofs.AskLemmas.{by_reads_to}
 use Rattle.sd_tool.proofs.ByStatus.{effects_of, effects_at}

@@ -1,5 +1,5 @@
 -- The course of a run: the effects that it does, one after another, and the end that it comes to.
-use Rattle.std.specs.Prelude.{◌≡◌, ℕ, List, [], ◌∷◌, ◌++◌}
+use Rattle.std.specs.Prelude.{◌≡◌, List, [], ◌∷◌, ◌++◌}
 use Rattle.sd_commands.specs.Effects.{Effect}
 use Rattle.sd_commands.specs.Commands.{State, Done, OverLimit as PassesLimit, NotMovable as Unmoved, Step, Steps}
 use Rattle.sd_commands.specs.Commands.{MayFill}

@@ -141,6 +141,7 @@ plan_for job formula tree commands = record {
   commands = announcement job.input formula ++ commands;
 }
 
+-- the commands over this formula and this tree; with them all is accepted
 abbrev pub with_tree : Job → Groups → Tree → Reading
 with_tree job formula tree =
     with_commands job formula.variables (λ commands. Begins (plan_for job formula tree commands)) job.script

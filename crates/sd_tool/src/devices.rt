@@ -15,7 +15,7 @@ use sd_base::{Shelf, Sink, write_all, write_all_to};
 use sd_commands::Effect;
 
 /// Does what a command asks for outside, if anything.
-pub fn perform_any<F: Shelf, O: Sink>(
+pub fn write_effect_if_any<F: Shelf, O: Sink>(
     shelf: &mut F,
     out: &mut O,
     effect: Option<Effect>,
@@ -34,13 +34,13 @@ pub fn perform_any<F: Shelf, O: Sink>(
     ensures asked { Adds F.asked shelf.old shelf.new (writings (effects_of effect)) }
 {
     match effect {
-        Some(effect) => perform(shelf, out, effect),
+        Some(effect) => write_effect(shelf, out, effect),
         None => Ok(()),
     }
 }
 
 // Does this outside.
-fn perform<F: Shelf, O: Sink>(shelf: &mut F, out: &mut O, effect: Effect) -> Result<(), Stop>
+fn write_effect<F: Shelf, O: Sink>(shelf: &mut F, out: &mut O, effect: Effect) -> Result<(), Stop>
     requires { F.hand shelf.old ≡ NoFile }
     ensures hand { F.hand shelf.new ≡ NoFile }
     ensures ok { OnOk result (contents F.files O.written shelf.new out.new

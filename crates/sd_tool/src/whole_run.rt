@@ -10,7 +10,7 @@ ghost use Rattle.sd_tool.specs.Theorem.{HasLine, HasEnd, IsComplete, HasAsked, I
 ghost use Rattle.sd_tool.specs.inside.ByStatus.{IsOneCourse};
 ghost use Rattle.sd_tool.specs.Stops.{RunsToEnd, CarriesOut, Attempts, is_full, stop_of};
 
-use crate::devices::perform_any;
+use crate::devices::write_effect_if_any;
 use crate::parts::write_line;
 use crate::plan::RunPlan;
 use crate::reading::prepare;
@@ -63,11 +63,11 @@ pub fn run<R: Threads + Sync, F: Shelf, O: Sink, E: Sink>(
     ensures equal_texts { HasEqualTexts (map string_bytes words.now)
         (seen F.Shelf O.Sink E.Sink shelf.old out.old err.old shelf.new out.new err.new) }
 {
-    conduct(alloc, words, shelf, out, err, kept)
+    run_and_report(alloc, words, shelf, out, err, kept)
 }
 
 // The run to its end, with the line of that end.
-fn conduct<F: Shelf, O: Sink, E: Sink>(
+fn run_and_report<F: Shelf, O: Sink, E: Sink>(
     alloc: Global,
     words: &[String],
     shelf: &mut F,
@@ -81,7 +81,7 @@ fn conduct<F: Shelf, O: Sink, E: Sink>(
     ensures course { IsOneCourse (map string_bytes words.now) result kept.new
         (seen F.Shelf O.Sink E.Sink shelf.old out.old err.old shelf.new out.new err.new) }
 {
-    match attempt(alloc, words, shelf, out, kept) {
+    match read_and_execute(alloc, words, shelf, out, kept) {
         Ok(()) => 0,
         Err(stop) => {
             write_line(err, &stop.parts());
@@ -91,7 +91,7 @@ fn conduct<F: Shelf, O: Sink, E: Sink>(
 }
 
 // The readings and the commands.
-fn attempt<F: Shelf, O: Sink>(
+fn read_and_execute<F: Shelf, O: Sink>(
     alloc: Global,
     words: &[String],
     shelf: &mut F,
@@ -109,13 +109,13 @@ fn attempt<F: Shelf, O: Sink>(
         (faults F.read_faults F.write_faults O.faults shelf.new out.new) }
 {
     match prepare(alloc, words, shelf) {
-        Ok(plan) => carry_out(alloc, shelf, out, plan, kept),
+        Ok(plan) => execute_plan(alloc, shelf, out, plan, kept),
         Err(stop) => Err(stop),
     }
 }
 
 // Does all commands of the plan, and keeps the manager whose arena was full.
-fn carry_out<F: Shelf, O: Sink>(
+fn execute_plan<F: Shelf, O: Sink>(
     alloc: Global,
     shelf: &mut F,
     out: &mut O,
@@ -137,7 +137,7 @@ fn carry_out<F: Shelf, O: Sink>(
         mut state,
         commands,
     } = plan;
-    match do_all(alloc, shelf, out, &formula, &mut state, &commands) {
+    match execute_commands(alloc, shelf, out, &formula, &mut state, &commands) {
         Ok(()) => Ok(()),
         Err(stop) => {
             keep(kept, &stop, state.manager);
@@ -156,7 +156,7 @@ fn keep(kept: &mut Option<Manager>, stop: &Stop, manager: Manager)
 }
 
 // Does the commands in order, up to the first that stops.
-fn do_all<F: Shelf, O: Sink>(
+fn execute_commands<F: Shelf, O: Sink>(
     alloc: Global,
     shelf: &mut F,
     out: &mut O,
@@ -181,7 +181,7 @@ fn do_all<F: Shelf, O: Sink>(
             Ok(effect) => effect,
             Err(error) => return Err(stop_at(command.line, error)),
         };
-        match perform_any(shelf, out, effect) {
+        match write_effect_if_any(shelf, out, effect) {
             Ok(()) => {}
             Err(stop) => return Err(stop),
         }

@@ -5,7 +5,7 @@ use Rattle.sd_commands.specs.Effects.{Effect}
 use Rattle.sd_commands.specs.Standing.{IsFilled}
 use Rattle.sd_tool.specs.Effects.{after, DoesPart}
 use Rattle.sd_tool.specs.Readings.{Plan, Refuses, Begins, Reads, reading_of}
-use Rattle.sd_tool.specs.inside.Course.{ReadsTo}
+use Rattle.sd_tool.specs.inside.Course.{ReadsTo, MayEnd}
 use Rattle.sd_tool.specs.Refusals.{IsOfText, refusal_status}
 use Rattle.sd_tool.specs.declared.refusal.Refusal.{Refusal}
 use Rattle.sd_tool.specs.Ends.{End, Finished, Refused, Unreadable, Unwritable, OutOfMemory, ArenaFull, OverLimit}
@@ -13,7 +13,6 @@ use Rattle.sd_tool.specs.Ends.{NotMovable, status_of}
 use Rattle.sd_tool.specs.Devices.{Moment, Seen, HasReason, WritesEndLine}
 use Rattle.sd_tool.specs.Asks.{GoesTo}
 use Rattle.sd_tool.specs.Course.{Leaves}
-use Rattle.sd_tool.specs.inside.Course.{MayEnd}
 use Rattle.sd_tool.specs.KeptManager.{HoldsAt, KeepsManager}
 
 -- How the run went: what it did and how it ended, where the words and the files lead; what was asked of the shelf, the

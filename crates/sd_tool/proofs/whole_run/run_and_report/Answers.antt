@@ -1,6 +1,6 @@
 use Rattle.std.proofs.Common.{map, string_bytes}
 use Rattle.sd_tool.proofs.EndLemmas.{went_to_stop}
-use Rattle.sd_tool.proofs.whole_run.conduct.Goals as goal
+use Rattle.sd_tool.proofs.whole_run.run_and_report.Goals as goal
 
 pub returns-in-Err-clause-course : goal.returns-in-Err-clause-course
 returns-in-Err-clause-course g c =

@@ -7,7 +7,7 @@ use Rattle.sd_commands.specs.Standing.{root_count}
 use Rattle.sd_tool.specs.inside.Devices.{contents, faults, NotFewer}
 use Rattle.sd_tool.specs.PlanViews.{plan_with}
 use Rattle.sd_tool.proofs.StepLemmas.{SoFar}
-use Rattle.sd_tool.proofs.whole_run.do_all.Given as goal
+use Rattle.sd_tool.proofs.whole_run.execute_commands.Given as goal
 
 abbrev pub invariant-loop-command : goal.invariant-loop-command
 invariant-loop-command g l = record {
