@@ -6,11 +6,11 @@ use Rattle.sd_base.specs.Asked.{Request, ToRead, Adds}
 use Rattle.sd_base.specs.Files.{Files}
 use Rattle.sd_base.proofs.AskedLemmas.{adds_then, adds_none}
 use Rattle.sd_commands.specs.Effects.{Effect}
-use Rattle.sd_tool.specs.Asks.{IsNone, ReadsBy, ComesTo, AsksLast, BreaksOff, EndsAsking, GoesTo}
-use Rattle.sd_tool.specs.Course.{EndsReading, MayEnd}
+use Rattle.sd_tool.specs.Asks.{IsNone, ComesTo, AsksLast, BreaksOff, EndsAsking, GoesTo}
 use Rattle.sd_tool.specs.Ends.{End, Finished, Refused, Unreadable, Unwritable, OutOfMemory, ArenaFull, OverLimit}
 use Rattle.sd_tool.specs.Ends.{NotMovable}
-use Rattle.sd_tool.specs.Readings.{Reading, Refuses, Begins, Reads, Text, IsText, ReadsTo, reading_of}
+use Rattle.sd_tool.specs.Readings.{Reading, Refuses, Begins, Reads, Text, IsText, ReadsBy, MayComeTo, reading_of}
+use Rattle.sd_tool.specs.inside.Course.{ReadsTo, EndsReading, MayEnd}
 
 -- what is asked in two parts of a time, one after another, is asked in the whole
 pub record Joins (first later whole : List Request → Type 0) : Type 0 where
@@ -103,7 +103,7 @@ pub breaks_at_file : (asks : List Request → Type 0) (files : Option Files) (fi
 breaks_at_file asks files file next asked = inr (file, last_here asks files file file next refl asked)
 
 -- the point to which the readings come, without what they ask
-by_reads_to : (files : Option Files) (reading point : Reading) (names : List (List ℕ))
+pub by_reads_to : (files : Option Files) (reading point : Reading) (names : List (List ℕ))
     → ReadsBy files reading names point → ReadsTo files reading point
 by_reads_to files (Refuses refusal) point [] a = a
 by_reads_to files (Begins plan) point [] a = a
@@ -111,6 +111,15 @@ by_reads_to files (Reads file next) point [] a = inl a
 by_reads_to files (Refuses refusal) point (x ∷ xs) a = absurd a
 by_reads_to files (Begins plan) point (x ∷ xs) a = absurd a
 by_reads_to files (Reads file next) point (x ∷ xs) a = inr (a.0, a.2, by_reads_to files (next a.0) point xs a.3)
+
+-- readings that come to a point have read some files on the way
+pub reads_by : (files : Option Files) (reading point : Reading) → ReadsTo files reading point
+    → MayComeTo files reading point
+reads_by files (Refuses refusal) point a = ([], a)
+reads_by files (Begins plan) point a = ([], a)
+reads_by files (Reads file next) point (inl a) = ([], a)
+reads_by files (Reads file next) point (inr a) =
+    let rest = reads_by files (next a.0) point a.2 in (file ∷ rest.0, (a.0, refl, a.1, rest.1))
 
 pub comes_reads : {asks : List Request → Type 0} (files : Option Files) (reading point : Reading)
     → ComesTo asks files reading point → ReadsTo files reading point

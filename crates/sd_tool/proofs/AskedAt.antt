@@ -31,17 +31,18 @@ use Rattle.sd_commands.specs.Effects.{Effect, Write, Print}
 use Rattle.sd_commands.specs.declared.command.NumberedCommand.{NumberedCommand}
 use Rattle.sd_commands.specs.declared.command.RunCommand.{RunCommand}
 use Rattle.sd_commands.specs.declared.command.RunCommand.TheVariants as commands
-use Rattle.sd_tool.specs.Asks.{ReadsBy, GoesTo, HasAsked, writings, begun}
-use Rattle.sd_tool.specs.Devices.{Moment}
+use Rattle.sd_tool.specs.Asks.{GoesTo, writings, begun}
+use Rattle.sd_tool.specs.Readings.{ReadsBy, Reading, Refuses, Begins, Reads, Text, Whole, TooLong}
+use Rattle.sd_tool.specs.Theorem.{HasAsked}
+use Rattle.sd_tool.specs.Devices.{Seen}
 use Rattle.sd_tool.specs.Ends.{End, Finished, Refused, Unreadable, Unwritable, OutOfMemory, ArenaFull, OverLimit}
-use Rattle.sd_tool.specs.Ends.{NotMovable}
-use Rattle.sd_tool.specs.Ends.{status_of}
-use Rattle.sd_tool.specs.Headline.{IsCourse}
-use Rattle.sd_tool.specs.Readings.{Input, Reading, Refuses, Begins, Reads, Text, Whole, TooLong}
-use Rattle.sd_tool.specs.Readings.{reading_of, with_job, with_input, with_input_word, with_formula, with_tree_word}
-use Rattle.sd_tool.specs.Readings.{with_tree, with_vtree_text, with_vtree_reading, with_commands, script_reading}
-use Rattle.sd_tool.specs.Readings.{with_script_text, with_script_reading, with_lines, with_action, with_sdd}
-use Rattle.sd_tool.specs.Readings.{with_sdd_reading, in_line, file_name, plan_for}
+use Rattle.sd_tool.specs.Ends.{NotMovable, status_of}
+use Rattle.sd_tool.specs.inside.ByStatus.{IsOneCourse}
+use Rattle.sd_tool.specs.inside.Readings.{Input, with_job, with_input, with_formula}
+use Rattle.sd_tool.specs.Readings.{reading_of, with_input_word, with_tree_word, with_tree, with_commands}
+use Rattle.sd_tool.specs.inside.Readings.{with_vtree_text, with_vtree_reading, script_reading}
+use Rattle.sd_tool.specs.Readings.{with_lines, with_action, in_line, file_name, plan_for}
+use Rattle.sd_tool.specs.inside.Readings.{with_script_text, with_script_reading, with_sdd, with_sdd_reading}
 use Rattle.sd_tool.specs.Refusals.{refusal_status}
 use Rattle.sd_tool.specs.declared.refusal.Refusal.{Refusal}
 use Rattle.sd_tool.proofs.ByStatus.{no_idle}
@@ -202,20 +203,20 @@ order_of asks words files effects (NotMovable l) (inl p) = absurd p.0
 -- ---- status by status
 
 -- what is asked of the shelf, status by status
-pub asked_at : {asks : List Request → Type 0} (words : List (List ℕ)) (status : ℕ) (kept : Option Table)
-    (old new : Moment) → IsCourse asks words status kept old new → HasAsked status asks
-asked_at {asks = asks} words status kept old new went = record {
-  nothing = none went.end went.goes went.status_is;
-  readings = alone went.end went.goes went.status_is;
-  order = order_of asks words old.contents.files went.effects went.end went.goes;
-}
+pub asked_at : (words : List (List ℕ)) (status : ℕ) (kept : Option Table) (seen : Seen)
+    → IsOneCourse words status kept seen → HasAsked status seen
+asked_at words status kept seen went = (
+  none went.end went.goes went.status_is,
+  alone went.end went.goes went.status_is,
+  order_of seen.asked words seen.old.contents.files went.effects went.end went.goes,
+)
   where
-    none : (end : End) → GoesTo asks words old.contents.files went.effects end → status ≡ status_of end → status ≡ 1
-        → asks []
+    none : (end : End) → GoesTo seen.asked words seen.old.contents.files went.effects end → status ≡ status_of end → status ≡ 1
+        → seen.asked []
     none Finished goes is s = cc
     none (Refused refusal) (inl p) is s =
-        subst (λ (l : List (List ℕ)). asks (map ToRead l))
-        (none_read old.contents.files words p.0.names refusal p.0.reads (sym is ∙ s)) p.0.asked
+        subst (λ (l : List (List ℕ)). seen.asked (map ToRead l))
+        (none_read seen.old.contents.files words p.0.names refusal p.0.reads (sym is ∙ s)) p.0.asked
     none (Refused refusal) (inr p) is s = absurd p.2
     none (Unreadable file) goes is s = cc
     none (Unwritable effect) goes is s = cc
@@ -224,9 +225,9 @@ asked_at {asks = asks} words status kept old new went = record {
     none (OverLimit l g n k) goes is s = cc
     none (NotMovable l) goes is s = cc
 
-    alone : (end : End) → GoesTo asks words old.contents.files went.effects end → status ≡ status_of end
+    alone : (end : End) → GoesTo seen.asked words seen.old.contents.files went.effects end → status ≡ status_of end
         → (status ≡ 1) ⊎ (status ≡ 2) ⊎ (status ≡ 5)
-        → (names : List (List ℕ)) × asks (map ToRead names)
+        → (names : List (List ℕ)) × seen.asked (map ToRead names)
     alone Finished goes is s = no_idle status 0 refl is s
     alone (Refused refusal) (inl p) is s = (p.0.names, p.0.asked)
     alone (Refused refusal) (inr p) is s = absurd p.2

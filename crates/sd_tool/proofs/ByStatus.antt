@@ -1,24 +1,25 @@
--- What the course of a run says of each status.
-use Rattle.std.proofs.Common.{◌≡◌, ◌⊎◌, ℕ, Bool, true, false, ◌==◌, ◌||◌, List, [], Option, Some, None, inl, inr}
+-- What the clauses of `run` say, from its course; and what they say of each status.
+use Rattle.std.proofs.Common.{◌≡◌, ◌⊎◌, ℕ, Bool, true, false, ◌==◌, ◌||◌, List, [], Option, None, inl, inr}
 use Rattle.std.proofs.Common.{refl, sym, ap, ◌∙◌}
-use Rattle.sd_base.specs.Asked.{Request}
 use Rattle.sd_base.specs.Files.{Files}
 use Rattle.sd_manager.specs.Table.{Table}
 use Rattle.sd_commands.specs.Effects.{Effect}
 use Rattle.sd_tool.specs.Effects.{Contents, after}
-use Rattle.sd_tool.specs.Readings.{Refuses, Reads, reading_of, ReadsTo}
+use Rattle.sd_tool.specs.Readings.{Refuses, Begins, Reads, reading_of}
+use Rattle.sd_tool.specs.inside.Course.{ReadsTo, MayEnd}
 use Rattle.sd_tool.specs.Refusals.{refusal_status}
 use Rattle.sd_tool.specs.Ends.{End, Finished, Refused, Unreadable, Unwritable, OutOfMemory, ArenaFull, OverLimit}
 use Rattle.sd_tool.specs.Ends.{NotMovable, status_of}
-use Rattle.sd_tool.specs.Devices.{Moment, HasDeviceCause, WritesEndLine}
-use Rattle.sd_tool.specs.Course.{MayEnd, Leaves}
-use Rattle.sd_tool.specs.Headline.{IsCourse, HasEffects, HasLine, HasEnd, WasFull}
-use Rattle.sd_tool.specs.Headline.{IsRefused, PassedLimit, WasNotMovable, CouldNotRead, CouldNotWrite}
-use Rattle.sd_tool.specs.KeptManager.{KeepsManager}
+use Rattle.sd_tool.specs.Devices.{Moment, Seen, HasReason, WritesEndLine}
+use Rattle.sd_tool.specs.Course.{Leaves}
+use Rattle.sd_tool.specs.Asks.{Went}
+use Rattle.sd_tool.specs.Theorem.{HasEffects, HasLine, HasEnd, IsCourse}
+use Rattle.sd_tool.specs.inside.ByStatus.{IsOneCourse, EffectsByStatus, EndByStatus, WasFull}
+use Rattle.sd_tool.specs.inside.ByStatus.{IsRefused, PassedLimit, WasNotMovable, CouldNotRead, CouldNotWrite}
+use Rattle.sd_tool.specs.KeptManager.{KeepsManager, EndsSo}
 use Rattle.sd_tool.specs.declared.refusal.Refusal.{Refusal}
 use Rattle.sd_tool.specs.declared.refusal.Refusal.TheVariants as refusals
-use Rattle.sd_tool.proofs.AskLemmas.{goes_may_end}
-use Rattle.sd_tool.proofs.NotOutOfMemory.{refused_of_text}
+use Rattle.sd_tool.proofs.AskLemmas.{goes_may_end, by_reads_to}
 
 -- the statuses of refusals, those of them that come before the commands alone, and with these that of a file that was
 -- not read
@@ -101,17 +102,16 @@ full_at : (words : List (List ℕ)) (n : ℕ) (effects : List Effect) (kept : Op
     → MayEnd words old.contents.files effects (ArenaFull n)
     → WritesEndLine (ArenaFull n) old new
     → WasFull words kept old new
-full_at words n effects None old new keeps may_end line = absurd keeps.2
-full_at words n effects (Some t) old new keeps may_end line = record {
+full_at words n effects kept old new (t, plan, is_kept, filled, led, holds) may_end line = record {
   elements = n;
   effects = effects;
   in_hand = may_end;
   manager = t;
-  is_kept = refl;
-  filled = keeps.2.0;
-  plan = keeps.0;
-  led = keeps.1;
-  holds = keeps.2.1;
+  is_kept = is_kept;
+  filled = filled;
+  plan = plan;
+  led = by_reads_to old.contents.files (reading_of words) (Begins plan) led.0 led.1;
+  holds = holds;
   line = line;
 }
 
@@ -119,18 +119,56 @@ full_at words n effects (Some t) old new keeps may_end line = record {
 nothing_done : (effects : List Effect) (old new : Contents) → effects ≡ [] → new ≡ after effects old → new ≡ old
 nothing_done effects old new none is = is ∙ ap (λ l. after l old) none
 
+-- ---- from the course
+
+-- what holds of the course of a run
+pub went_so : (words : List (List ℕ)) (status : ℕ) (kept : Option Table) (seen : Seen)
+    (holds : List Effect → End → Type 0) → (went : IsOneCourse words status kept seen) → holds went.effects went.end
+    → Went words status seen holds
+went_so words status kept seen holds went so = (
+  went.effects,
+  went.end,
+  went.status_is,
+  went.goes,
+  so,
+)
+
+pub effects_of : (words : List (List ℕ)) (status : ℕ) (kept : Option Table) (seen : Seen)
+    → IsOneCourse words status kept seen → HasEffects words status seen
+effects_of words status kept seen went =
+    went_so words status kept seen (λ effects end. Leaves effects end seen.old.contents seen.new.contents) went
+    went.leaves
+
+pub line_of_run : (words : List (List ℕ)) (status : ℕ) (kept : Option Table) (seen : Seen)
+    → IsOneCourse words status kept seen → HasLine words status seen
+line_of_run words status kept seen went =
+    went_so words status kept seen (λ effects end. WritesEndLine end seen.old seen.new) went went.line
+
+pub ends_of : (words : List (List ℕ)) (status : ℕ) (kept : Option Table) (seen : Seen)
+    → IsOneCourse words status kept seen → HasEnd words status kept seen
+ends_of words status kept seen went =
+    went_so words status kept seen (λ effects end. EndsSo words effects end kept seen) went
+    (went.reason, went.keeps, went.line)
+
+pub course_of : (words : List (List ℕ)) (status : ℕ) (kept : Option Table) (seen : Seen)
+    → IsOneCourse words status kept seen → IsCourse words status kept seen
+course_of words status kept seen went =
+    went_so words status kept seen
+    (λ effects end. Leaves effects end seen.old.contents seen.new.contents × EndsSo words effects end kept seen)
+    went (went.leaves, (went.reason, went.keeps, went.line))
+
+-- ---- status by status
+
 -- the effects, status by status
-pub effects_at : {asks : List Request → Type 0} (words : List (List ℕ)) (status : ℕ) (kept : Option Table)
-    (old new : Moment)
-    → IsCourse asks words status kept old new
-    → HasEffects words status old new
-effects_at {asks = asks} words status kept old new went = go went.end
-    (goes_may_end asks words old.contents.files went.effects went.end went.goes) went.status_is went.leaves
+pub effects_at : (words : List (List ℕ)) (status : ℕ) (seen : Seen)
+    → HasEffects words status seen → EffectsByStatus words status seen.old seen.new
+effects_at words status seen (effects, end, status_is, goes, left) =
+    go end (goes_may_end seen.asked words seen.old.contents.files effects end goes) status_is left
   where
-    go : (end : End) → MayEnd words old.contents.files went.effects end → status ≡ status_of end
-        → Leaves went.effects end old.contents new.contents → HasEffects words status old new
+    go : (end : End) → MayEnd words seen.old.contents.files effects end → status ≡ status_of end
+        → Leaves effects end seen.old.contents seen.new.contents → EffectsByStatus words status seen.old seen.new
     go Finished may_end is leaves = record {
-      all = λ s. (went.effects, may_end, leaves);
+      all = λ s. (effects, may_end, leaves);
       none = λ s. no_idle status 0 refl is s;
       script = λ s. cc;
       first = λ s. cc;
@@ -140,11 +178,11 @@ effects_at {asks = asks} words status kept old new went = go went.end
     }
     go (Refused refusal) may_end is leaves = record {
       all = λ s. other_status refusal status 0 is refl s;
-      none = λ s. nothing_done went.effects old.contents new.contents
-          (refused_early words old.contents.files went.effects refusal may_end).1 leaves;
+      none = λ s. nothing_done effects seen.old.contents seen.new.contents
+          (refused_early words seen.old.contents.files effects refusal may_end).1 leaves;
       script = λ s.
-          let early = refused_early words old.contents.files went.effects refusal may_end in
-          inl (refusal, early.0, nothing_done went.effects old.contents new.contents early.1 leaves);
+          let early = refused_early words seen.old.contents.files effects refusal may_end in
+          inl (refusal, early.0, nothing_done effects seen.old.contents seen.new.contents early.1 leaves);
       first = λ s. other_status refusal status 7 is refl s;
       full = λ s. other_status refusal status 8 is refl s;
       over = λ s. other_status refusal status 4 is refl s;
@@ -152,8 +190,8 @@ effects_at {asks = asks} words status kept old new went = go went.end
     }
     go (Unreadable file) may_end is leaves = record {
       all = λ s. cc;
-      none = λ s. nothing_done went.effects old.contents new.contents
-          (unread_early words old.contents.files went.effects file may_end) leaves;
+      none = λ s. nothing_done effects seen.old.contents seen.new.contents
+          (unread_early words seen.old.contents.files effects file may_end) leaves;
       script = λ s. cc;
       first = λ s. cc;
       full = λ s. cc;
@@ -167,13 +205,13 @@ effects_at {asks = asks} words status kept old new went = go went.end
       first = λ s. cc;
       full = λ s. cc;
       over = λ s. cc;
-      in_hand = λ s. (went.effects, effect, may_end, leaves);
+      in_hand = λ s. (effects, effect, may_end, leaves);
     }
     go OutOfMemory may_end is leaves = record {
       all = λ s. cc;
       none = λ s. no_idle status 7 refl is s;
       script = λ s. cc;
-      first = λ s. (went.effects, may_end, leaves);
+      first = λ s. (effects, may_end, leaves);
       full = λ s. cc;
       over = λ s. cc;
       in_hand = λ s. cc;
@@ -183,7 +221,7 @@ effects_at {asks = asks} words status kept old new went = go went.end
       none = λ s. no_idle status 8 refl is s;
       script = λ s. cc;
       first = λ s. cc;
-      full = λ s. (went.effects, n, may_end, leaves);
+      full = λ s. (effects, n, may_end, leaves);
       over = λ s. cc;
       in_hand = λ s. cc;
     }
@@ -193,29 +231,22 @@ effects_at {asks = asks} words status kept old new went = go went.end
       script = λ s. cc;
       first = λ s. cc;
       full = λ s. cc;
-      over = λ s. (went.effects, line, group, size, limit, may_end, leaves);
+      over = λ s. (effects, line, group, size, limit, may_end, leaves);
       in_hand = λ s. cc;
     }
     go (NotMovable line) may_end is leaves = record {
       all = λ s. cc;
       none = λ s. no_idle status 3 refl is s;
-      script = λ s. inr (went.effects, line, may_end, leaves);
+      script = λ s. inr (effects, line, may_end, leaves);
       first = λ s. cc;
       full = λ s. cc;
       over = λ s. cc;
       in_hand = λ s. cc;
     }
 
--- the line is that of the end
-pub line_at : {asks : List Request → Type 0} (words : List (List ℕ)) (status : ℕ) (kept : Option Table)
-    (old new : Moment)
-    → IsCourse asks words status kept old new
-    → HasLine status old new
-line_at words status kept old new went = (went.end, went.status_is, went.line)
-
 -- the causes where all was done
 end_finished : (words : List (List ℕ)) (status : ℕ) (kept : Option Table) (old new : Moment) → status ≡ 0
-    → kept ≡ None → HasEnd words status kept old new
+    → kept ≡ None → EndByStatus words status kept old new
 end_finished words status kept old new is keeps = record {
   one_of = inl is;
   refused = λ s. no_early status 0 refl is s;
@@ -236,7 +267,7 @@ among_all status (inr (inr s)) = inr (inr (inr (inl s)))
 
 -- where the words or a text were refused
 end_refused : (words : List (List ℕ)) (status : ℕ) (kept : Option Table) (old new : Moment) (refusal : Refusal)
-    → status ≡ refusal_status refusal → kept ≡ None → IsRefused words status old new → HasEnd words status kept old new
+    → status ≡ refusal_status refusal → kept ≡ None → IsRefused words status old new → EndByStatus words status kept old new
 end_refused words status kept old new refusal is keeps refused = record {
   one_of = among_all status (one_of_three refusal status is);
   refused = λ s. refused;
@@ -250,7 +281,7 @@ end_refused words status kept old new refusal is keeps refused = record {
 
 -- where the total size passed the limit
 end_over : (words : List (List ℕ)) (status : ℕ) (kept : Option Table) (old new : Moment) → status ≡ 4
-    → kept ≡ None → PassedLimit words old new → HasEnd words status kept old new
+    → kept ≡ None → PassedLimit words old new → EndByStatus words status kept old new
 end_over words status kept old new is keeps passed = record {
   one_of = inr (inr (inr (inr (inl is))));
   refused = λ s. no_early status 4 refl is s;
@@ -264,7 +295,7 @@ end_over words status kept old new is keeps passed = record {
 
 -- where a place was not movable
 end_unmoved : (words : List (List ℕ)) (status : ℕ) (kept : Option Table) (old new : Moment) → status ≡ 3
-    → kept ≡ None → WasNotMovable words old new → HasEnd words status kept old new
+    → kept ≡ None → WasNotMovable words old new → EndByStatus words status kept old new
 end_unmoved words status kept old new is keeps unmoved = record {
   one_of = inr (inr (inr (inl is)));
   refused = λ s. no_early status 3 refl is s;
@@ -278,7 +309,7 @@ end_unmoved words status kept old new is keeps unmoved = record {
 
 -- where a file was not read
 end_unread : (words : List (List ℕ)) (status : ℕ) (kept : Option Table) (old new : Moment) → status ≡ 5
-    → kept ≡ None → CouldNotRead words old new → HasEnd words status kept old new
+    → kept ≡ None → CouldNotRead words old new → EndByStatus words status kept old new
 end_unread words status kept old new is keeps unread = record {
   one_of = inr (inr (inr (inr (inr (inl is)))));
   refused = λ s. no_early status 5 refl is s;
@@ -292,7 +323,7 @@ end_unread words status kept old new is keeps unread = record {
 
 -- where an effect failed
 end_unwritten : (words : List (List ℕ)) (status : ℕ) (kept : Option Table) (old new : Moment) → status ≡ 6
-    → kept ≡ None → CouldNotWrite words old new → HasEnd words status kept old new
+    → kept ≡ None → CouldNotWrite words old new → EndByStatus words status kept old new
 end_unwritten words status kept old new is keeps unwritten = record {
   one_of = inr (inr (inr (inr (inr (inr (inl is))))));
   refused = λ s. no_early status 6 refl is s;
@@ -306,7 +337,7 @@ end_unwritten words status kept old new is keeps unwritten = record {
 
 -- where there was no memory
 end_no_memory : (words : List (List ℕ)) (status : ℕ) (kept : Option Table) (old new : Moment) → status ≡ 7
-    → kept ≡ None → HasEnd words status kept old new
+    → kept ≡ None → EndByStatus words status kept old new
 end_no_memory words status kept old new is keeps = record {
   one_of = inr (inr (inr (inr (inr (inr (inr (inl is)))))));
   refused = λ s. no_early status 7 refl is s;
@@ -320,7 +351,7 @@ end_no_memory words status kept old new is keeps = record {
 
 -- where the arena was full
 end_full : (words : List (List ℕ)) (status : ℕ) (kept : Option Table) (old new : Moment) → status ≡ 8
-    → WasFull words kept old new → HasEnd words status kept old new
+    → WasFull words kept old new → EndByStatus words status kept old new
 end_full words status kept old new is full = record {
   one_of = inr (inr (inr (inr (inr (inr (inr (inr is)))))));
   refused = λ s. no_early status 8 refl is s;
@@ -333,48 +364,46 @@ end_full words status kept old new is full = record {
 }
 
 -- the causes, status by status
-pub end_at : {asks : List Request → Type 0} (words : List (List ℕ)) (status : ℕ) (kept : Option Table)
-    (old new : Moment)
-    → IsCourse asks words status kept old new → HasEnd words status kept old new
-end_at {asks = asks} words status kept old new went =
-    go went.effects went.end (goes_may_end asks words old.contents.files went.effects went.end went.goes)
-    went.status_is went.cause went.keeps went.line
+pub end_at : (words : List (List ℕ)) (status : ℕ) (kept : Option Table) (seen : Seen)
+    → HasEnd words status kept seen → EndByStatus words status kept seen.old seen.new
+end_at words status kept seen (effects, end, status_is, goes, (reason, keeps, line)) =
+    go effects end (goes_may_end seen.asked words seen.old.contents.files effects end goes) status_is reason keeps line
   where
-    go : (effects : List Effect) (end : End) → MayEnd words old.contents.files effects end → status ≡ status_of end
-        → HasDeviceCause end old.contents.files old.faults new.faults
-        → KeepsManager words old.contents.files effects end kept
-        → WritesEndLine end old new
-        → HasEnd words status kept old new
-    go effects Finished may_end is cause keeps line = end_finished words status kept old new is keeps
+    go : (effects : List Effect) (end : End) → MayEnd words seen.old.contents.files effects end
+        → status ≡ status_of end → HasReason end seen.old.contents.files seen.old.faults seen.new.faults
+        → KeepsManager words seen.old.contents.files effects end kept
+        → WritesEndLine end seen.old seen.new
+        → EndByStatus words status kept seen.old seen.new
+    go effects Finished may_end is cause keeps line = end_finished words status kept seen.old seen.new is keeps
     go effects (Refused refusal) may_end is cause keeps line =
-        let early = refused_early words old.contents.files effects refusal may_end in
-        end_refused words status kept old new refusal is keeps record {
+        let early = refused_early words seen.old.contents.files effects refusal may_end in
+        end_refused words status kept seen.old seen.new refusal is keeps record {
           refusal = refusal;
           status_is = is;
           led = early.0;
-          of_text = refused_of_text old.contents.files words refusal early.0;
+          of_text = cause;
           line = line;
         }
     go effects (Unreadable file) may_end is cause keeps line =
-        end_unread words status kept old new is keeps record {
+        end_unread words status kept seen.old seen.new is keeps record {
           file = file;
-          asked = asked words old.contents.files effects file may_end;
+          asked = asked words seen.old.contents.files effects file may_end;
           cause = cause;
           line = line;
         }
     go effects (Unwritable effect) may_end is cause keeps line =
-        end_unwritten words status kept old new is keeps record {
+        end_unwritten words status kept seen.old seen.new is keeps record {
           effects = effects;
           effect = effect;
           in_hand = may_end;
           cause = cause;
           line = line;
         }
-    go effects OutOfMemory may_end is cause keeps line = end_no_memory words status kept old new is keeps
+    go effects OutOfMemory may_end is cause keeps line = end_no_memory words status kept seen.old seen.new is keeps
     go effects (ArenaFull n) may_end is cause keeps line =
-        end_full words status kept old new is (full_at words n effects kept old new keeps may_end line)
+        end_full words status kept seen.old seen.new is (full_at words n effects kept seen.old seen.new keeps may_end line)
     go effects (OverLimit at group size limit) may_end is cause keeps line =
-        end_over words status kept old new is keeps record {
+        end_over words status kept seen.old seen.new is keeps record {
           at_line = at;
           group = group;
           size = size;
@@ -384,7 +413,7 @@ end_at {asks = asks} words status kept old new went =
           line = line;
         }
     go effects (NotMovable at) may_end is cause keeps line =
-        end_unmoved words status kept old new is keeps record {
+        end_unmoved words status kept seen.old seen.new is keeps record {
           at_line = at;
           effects = effects;
           in_hand = may_end;

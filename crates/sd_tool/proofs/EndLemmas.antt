@@ -9,16 +9,18 @@ use Rattle.sd_commands.specs.Effects.{Effect}
 use Rattle.sd_commands.specs.declared.command.NumberedCommand.{NumberedCommand}
 use Rattle.sd_commands.specs.declared.state.RunState.{RunState}
 use Rattle.sd_tool.specs.Effects.{Contents}
-use Rattle.sd_tool.specs.Readings.{Plan, Begins, reading_of, ReadsTo}
+use Rattle.sd_tool.specs.Readings.{Plan, Begins, Refuses, MayComeTo, reading_of}
 use Rattle.sd_tool.specs.Asks.{ComesTo}
 use Rattle.sd_tool.specs.Course.{EndsAmong, Leaves}
 use Rattle.sd_tool.specs.PlanViews.{plan_with}
-use Rattle.sd_tool.specs.Headline.{IsCourse}
+use Rattle.sd_tool.specs.inside.ByStatus.{IsOneCourse}
 use Rattle.sd_tool.specs.Ends.{End, Finished, Refused, Unreadable, Unwritable, OutOfMemory as NoMemory}
 use Rattle.sd_tool.specs.Ends.{ArenaFull as NoRoom, OverLimit as Passes, NotMovable as Unmoved, line_of, status_of}
 use Rattle.sd_tool.specs.Refusals.{refusal_status}
-use Rattle.sd_tool.specs.KeptManager.{KeepsOf, KeepsManager}
-use Rattle.sd_tool.specs.Devices.{Moment, Faults, NotFewer, HasDeviceCause, WritesLine, WritesEndLine}
+use Rattle.sd_tool.specs.KeptManager.{KeepsManager}
+use Rattle.sd_tool.specs.Stops.{KeepsOf}
+use Rattle.sd_tool.specs.Devices.{Moment, Seen, Faults, HasReason, WritesLine, WritesEndLine}
+use Rattle.sd_tool.specs.inside.Devices.{NotFewer}
 use Rattle.sd_tool.specs.Stops.{stop_status, stop_text, StandsFor, StopsReading, RunsToEnd, CarriesOut, Attempts}
 use Rattle.sd_tool.specs.Stops.{IsFullAt, is_full}
 use Rattle.sd_tool.specs.declared.refusal.Refusal.{Refusal}
@@ -28,6 +30,7 @@ use Rattle.sd_tool.specs.declared.stop.Stop.TheVariants as stops
 use Rattle.sd_tool.specs.declared.stop.Stop.TheVariants.{ReadFault, WriteFault, OutputFault, OutOfMemory, ArenaFull}
 use Rattle.sd_tool.specs.declared.stop.Stop.TheVariants.{OverLimit, NotMovable}
 use Rattle.sd_tool.proofs.AskLemmas.{Joins, comes_reads}
+use Rattle.sd_tool.proofs.NotOutOfMemory.{refused_of_text}
 use Rattle.sd_tool.proofs.StepLemmas.{cause_since}
 
 -- the readings stop, and nothing was done
@@ -43,7 +46,7 @@ reading_stops words (stops.Refused refusal) kept old new before now none same st
   goes = inl (stops, refl);
   keeps = none;
   leaves = same;
-  cause = tt;
+  reason = refused_of_text old.files words refusal (comes_reads old.files (reading_of words) (Refuses refusal) stops);
 }
 reading_stops words (ReadFault file) kept old new before now none same stops = record {
   end = Unreadable file;
@@ -52,7 +55,7 @@ reading_stops words (ReadFault file) kept old new before now none same stops = r
   goes = inl (stops.0, refl);
   keeps = none;
   leaves = same;
-  cause = stops.1;
+  reason = stops.1;
 }
 reading_stops words (WriteFault file) kept old new before now none same stops = absurd stops
 reading_stops words OutputFault kept old new before now none same stops = absurd stops
@@ -66,15 +69,15 @@ reading_stops words OutOfMemory kept old new before now none same stops = record
   goes = inl (stops, refl);
   keeps = none;
   leaves = same;
-  cause = tt;
+  reason = tt;
 }
 
 -- a cause among the commands is a cause in the whole run
 cause_from : (plan : Plan) (effects : List Effect) (end : End) (files others : Option Files)
-    (first mid last : Faults) → EndsAmong plan effects end → NotFewer first mid → HasDeviceCause end files mid last
-    → HasDeviceCause end others first last
+    (first mid last : Faults) → EndsAmong plan effects end → NotFewer first mid → HasReason end files mid last
+    → HasReason end others first last
 cause_from plan effects Finished files others first mid last ends fewer cause = tt
-cause_from plan effects (Refused r) files others first mid last ends fewer cause = tt
+cause_from plan effects (Refused r) files others first mid last ends fewer cause = absurd ends
 cause_from plan effects (Unreadable file) files others first mid last ends fewer cause = absurd ends
 cause_from plan effects (Unwritable effect) files others first mid last ends fewer cause =
     cause_since effect files others first mid last fewer cause
@@ -129,7 +132,7 @@ carried plan t kept result old new before now goes keeps = record {
   asked = goes.asked;
   keeps = keeps;
   leaves = goes.leaves;
-  cause = goes.cause;
+  reason = goes.reason;
 }
 
 -- the commands in hand are those of the plan
@@ -195,14 +198,15 @@ carried_stop {asks = asks} formula state done commands t kept was stop old new b
 
 -- what is kept is that of the plan to which the readings led
 keeps_led : (words : List (List ℕ)) (files : Option Files) (plan : Plan) (effects : List Effect) (end : End)
-    (kept : Option Table) → ReadsTo files (reading_of words) (Begins plan) → KeepsOf plan effects end kept
+    (kept : Option Table) → MayComeTo files (reading_of words) (Begins plan) → KeepsOf plan effects end kept
     → KeepsManager words files effects end kept
 keeps_led words files plan effects Finished kept led keeps = keeps
 keeps_led words files plan effects (Refused refusal) kept led keeps = keeps
 keeps_led words files plan effects (Unreadable file) kept led keeps = keeps
 keeps_led words files plan effects (Unwritable effect) kept led keeps = keeps
 keeps_led words files plan effects NoMemory kept led keeps = keeps
-keeps_led words files plan effects (NoRoom n) kept led keeps = (plan, led, keeps)
+keeps_led words files plan effects (NoRoom n) None led keeps = absurd keeps
+keeps_led words files plan effects (NoRoom n) (Some t) led keeps = (t, plan, refl, keeps.0, led, keeps.1)
 keeps_led words files plan effects (Unmoved l) kept led keeps = keeps
 keeps_led words files plan effects (Passes l g n k) kept led keeps = keeps
 
@@ -222,10 +226,9 @@ commands_go words plan kept result old mid new first before last join led same f
     record { names = led.names; asked = join.meets _ _ led.asked goes.asked; reads = led.reads },
     goes.ends,
   );
-  keeps = keeps_led words old.files plan goes.effects goes.end kept
-      (comes_reads old.files (reading_of words) (Begins plan) led) goes.keeps;
+  keeps = keeps_led words old.files plan goes.effects goes.end kept (led.names, led.reads) goes.keeps;
   leaves = subst (λ (o : Contents). Leaves goes.effects goes.end o new) same goes.leaves;
-  cause = cause_from plan goes.effects goes.end mid.files old.files first before last goes.ends fewer goes.cause;
+  reason = cause_from plan goes.effects goes.end mid.files old.files first before last goes.ends fewer goes.reason;
 }
 
 says_end : (stop : Stop) (end : End) (old new : Moment) → StandsFor stop end
@@ -248,20 +251,21 @@ says_end stop (Passes l g n k) old new at says =
     subst (λ t. WritesLine (line_of t) old.errors new.errors old.err_faults new.err_faults) at.text says
 
 -- a run that stopped and said so went to that end
-pub went_to_stop : {asks : List Request → Type 0} (words : List (List ℕ)) (stop : Stop) (status : ℕ) (text : List ℕ)
-    (kept : Option Table)
-    (old new : Moment)
-    → Attempts asks words kept (Err stop) old.contents new.contents old.faults new.faults → status ≡ stop_status stop
-    → text ≡ stop_text stop → WritesLine (line_of text) old.errors new.errors old.err_faults new.err_faults
-    → IsCourse asks words status kept old new
-went_to_stop words stop status text kept old new attempt is text_is says = record {
+pub went_to_stop : (words : List (List ℕ)) (stop : Stop) (status : ℕ) (text : List ℕ) (kept : Option Table)
+    (seen : Seen)
+    → Attempts seen.asked words kept (Err stop) seen.old.contents seen.new.contents seen.old.faults seen.new.faults
+    → status ≡ stop_status stop → text ≡ stop_text stop
+    → WritesLine (line_of text) seen.old.errors seen.new.errors seen.old.err_faults seen.new.err_faults
+    → IsOneCourse words status kept seen
+went_to_stop words stop status text kept seen attempt is text_is says = record {
   effects = attempt.effects;
   end = attempt.end;
   goes = attempt.goes;
   status_is = is ∙ attempt.at.status;
   leaves = attempt.leaves;
-  cause = attempt.cause;
+  reason = attempt.reason;
   keeps = attempt.keeps;
-  line = says_end stop attempt.end old new attempt.at
-      (subst (λ t. WritesLine (line_of t) old.errors new.errors old.err_faults new.err_faults) text_is says);
+  line = says_end stop attempt.end seen.old seen.new attempt.at
+      (subst (λ t. WritesLine (line_of t) seen.old.errors seen.new.errors seen.old.err_faults seen.new.err_faults)
+      text_is says);
 }

@@ -1,13 +1,15 @@
 -- A run with a script of four lines writes the text of two formulas, joined.
-use Rattle.std.proofs.Common.{◌≡◌, ◌⊎◌, ℕ, Bool, true, false, ◌&&◌, List, [], ◌∷◌, ◌++◌, Option, Some, None, length}
+use Rattle.std.proofs.Common.{◌≡◌, ℕ, false, List, [], ◌∷◌, ◌++◌, Option, Some, None, length}
 use Rattle.std.proofs.Common.{Ok, inl, inr, refl, sym, ap, subst, ◌∙◌, codes, pos}
 use Rattle.std.proofs.lemmas.Bool.{eq-eqb, ne_eqb}
 use Rattle.std.specs.Option.{unwrap_or}
-use Rattle.sd_base.specs.Asked.{Request}
 use Rattle.sd_base.specs.Files.{Files, told_with, with_file}
 use Rattle.sd_model.specs.declared.trees.Operation.{Operation}
 use Rattle.sd_model.specs.declared.trees.Operation.TheVariants.{And}
 use Rattle.sd_model.specs.Expression.{Expression, Constant, Atom, Combined}
+use Rattle.sd_model.specs.Diagram.{Diagram}
+use Rattle.sd_model.specs.Size.{IsDiagramOf}
+use Rattle.sd_model.specs.Text.{sdd_text}
 use Rattle.sd_model.specs.Tree.{Tree}
 use Rattle.sd_manager.specs.Table.{Table}
 use Rattle.sd_formula.specs.Dimacs.{Groups}
@@ -17,8 +19,6 @@ use Rattle.sd_script.specs.declared.command.Action.{Action}
 use Rattle.sd_script.specs.declared.command.Action.TheVariants as actions
 use Rattle.sd_script.specs.declared.command.Command.{Command as Line}
 use Rattle.sd_words.specs.declared.jobs.Job.{Job}
-use Rattle.sd_words.specs.declared.jobs.InputWord.{InputWord}
-use Rattle.sd_words.specs.declared.jobs.InputWord.TheVariants as inputs
 use Rattle.sd_words.specs.declared.jobs.TreeWord.{TreeWord}
 use Rattle.sd_words.specs.declared.jobs.TreeWord.TheVariants as trees
 use Rattle.sd_commands.specs.Effects.{Effect, Write}
@@ -28,24 +28,24 @@ use Rattle.sd_commands.specs.declared.command.RunCommand.{RunCommand}
 use Rattle.sd_commands.specs.declared.command.RunCommand.TheVariants as commands
 use Rattle.sd_commands.proofs.Outcomes.{settled_done, input_done, plain_growth}
 use Rattle.sd_tool.specs.Effects.{Contents, after}
-use Rattle.sd_tool.specs.Readings.{Plan, Reading, Refuses, Begins, Reads, Whole, ReadsTo, reading_of, with_job}
-use Rattle.sd_tool.specs.Readings.{with_input_word, with_input, with_formula, with_tree_word, with_tree}
-use Rattle.sd_tool.specs.Readings.{with_vtree_text, with_vtree_reading, with_commands, with_script_text}
-use Rattle.sd_tool.specs.Readings.{with_script_reading, script_reading, with_lines, with_action}
-use Rattle.sd_tool.specs.Readings.{Input, announcement, plan_for, file_name, input_file, in_line}
+use Rattle.sd_tool.specs.Readings.{Plan, Reading, Begins, Reads, Whole, reading_of}
+use Rattle.sd_tool.specs.inside.Course.{ReadsTo, MayEnd}
+use Rattle.sd_tool.specs.inside.Readings.{with_job, with_vtree_text, with_vtree_reading, with_script_text}
+use Rattle.sd_tool.specs.Readings.{with_input_word, with_tree_word, with_tree, with_commands, with_lines}
+use Rattle.sd_tool.specs.Readings.{with_action, announcement, plan_for, file_name, in_line}
+use Rattle.sd_tool.specs.inside.Readings.{with_script_reading, script_reading}
 use Rattle.sd_tool.specs.Ends.{Finished}
-use Rattle.sd_tool.specs.Devices.{Moment, NoneRose, HasDeviceCause}
-use Rattle.sd_tool.specs.Course.{MayEnd}
-use Rattle.sd_tool.specs.Headline.{IsCourse}
+use Rattle.sd_tool.specs.Devices.{Seen}
+use Rattle.sd_tool.specs.Theorem.{HasJoined}
+use Rattle.sd_tool.specs.inside.ByStatus.{IsOneCourse}
 use Rattle.sd_tool.specs.Written.{IsStartTree}
-use Rattle.sd_tool.specs.Joined.{own_formula, JoinsTwo, HasScript, WritesDiagram, HasJoined}
-use Rattle.sd_tool.proofs.AskLemmas.{goes_may_end}
-use Rattle.sd_tool.proofs.ByStatus.{effects_at}
+use Rattle.sd_tool.specs.Joined.{own_formula, JoinsTwo, FourLines}
+use Rattle.sd_tool.proofs.ByStatus.{effects_of, effects_at}
 use Rattle.sd_tool.proofs.OneCourse.{whole_plan}
 use Rattle.sd_tool.proofs.OnePoint.{one_point}
-use Rattle.sd_tool.proofs.OneRun.{done_or_none}
+use Rattle.sd_tool.proofs.OneRun.{formula_follows, ends_at_plan}
 use Rattle.sd_tool.proofs.StillCommands.{is_move, AreStill}
-use Rattle.sd_tool.proofs.ReadingLemmas.{reads_on, reads_same, file_asked}
+use Rattle.sd_tool.proofs.ReadingLemmas.{reads_on, reads_same}
 use Rattle.sd_tool.proofs.WrittenLemmas.{single_text}
 
 -- ---- the lines as commands
@@ -98,13 +98,6 @@ own_line input (actions.Constant n value) name f is = record {
 }
 own_line input action name f is = let bad : ⊥ = cc in absurd bad
 
--- the formula of a file is not announced
-not_announced : (word : InputWord) (input : Input) (formula : Groups) → input_file word ≡ Some input
-    → announcement word formula ≡ []
-not_announced (inputs.Cnf file) input formula is = refl
-not_announced (inputs.Dnf file) input formula is = refl
-not_announced (inputs.Generate count seed) input formula is = let bad : ⊥ = cc in absurd bad
-
 -- the commands of four lines
 module _ (v : ℕ) (script : Script) (begin : List NumberedCommand → Reading) where
   -- one line more
@@ -125,8 +118,7 @@ module _ (v : ℕ) (script : Script) (begin : List NumberedCommand → Reading) 
       ∙ line_more (in_line k a ∷ in_line l b ∷ []) m (n ∷ []) c r
       ∙ line_more (in_line k a ∷ in_line l b ∷ in_line m c ∷ []) n [] d s
 
-module _ (input : Groups) (script : Script) (joined : Expression) (file : List ℕ)
-    (two : JoinsTwo (expression_of input) script joined file) where
+module _ (input : Groups) (script : Script) (two : JoinsTwo (expression_of input) script) where
   first_line : OwnLine input two.first.action two.f two.left
   first_line = own_line input two.first.action two.f two.left two.binds_f
 
@@ -180,47 +172,48 @@ tree_follows files job f tree point (trees.File file) (bytes, there, short, read
           (reads_same (Some files) _ _ (ap (with_vtree_reading job f file) reads)) led,
     )
 
-module _ (words : List (List ℕ)) (files : Files) (job : Job) (formula : Groups) (script : Script) (tree : Tree)
-    (has : HasScript words files job formula script) (start : IsStartTree files job.tree formula.variables tree) where
+module _ {words : List (List ℕ)} {seen : Seen} (run : FourLines words seen) where
   -- where the script becomes these commands, it is a plan
   script_follows : (cs : List NumberedCommand)
-      → ((begin : List NumberedCommand → Reading) → script_reading formula.variables begin script ≡ begin cs)
-      → ReadsTo (Some files) (with_tree job formula tree) (Begins (plan_for job formula tree cs))
+      → ((begin : List NumberedCommand → Reading)
+      → script_reading run.given.formula.variables begin run.script ≡ begin cs)
+      → ReadsTo (Some run.given.files) (with_tree run.given.job run.given.formula run.given.tree)
+      (Begins (plan_for run.given.job run.given.formula run.given.tree cs))
   script_follows cs becomes =
-      let told = Some files in
+      let told = Some run.given.files in
+      let job = run.given.job in
+      let formula = run.given.formula in
+      let tree = run.given.tree in
       let begin = λ (l : List NumberedCommand). Begins (plan_for job formula tree l) in
-      let asks = Reads has.script_file (with_script_text has.script_file formula.variables begin) in
+      let asks = Reads run.script_file (with_script_text run.script_file formula.variables begin) in
       let read : ReadsTo told asks (begin cs) =
       inr (
-        Whole has.script_bytes,
-        (has.script_there, has.script_fits),
+        Whole run.reads.0,
+        (run.reads.1, run.reads.2),
         reads_same told _ _
-            (ap (with_script_reading has.script_file formula.variables begin) has.script_reads ∙ becomes begin),
+            (ap (with_script_reading run.script_file formula.variables begin) run.reads.3 ∙ becomes begin),
       ) in
       reads_on told (with_tree job formula tree) asks (begin cs)
-      (reads_same told _ _ (ap (with_commands job formula.variables begin) has.asked)) read
+      (reads_same told _ _ (ap (with_commands job formula.variables begin) run.asked)) read
 
   -- the words, the input, the tree and the script lead to it
   leads_to_script : (cs : List NumberedCommand)
-      → ((begin : List NumberedCommand → Reading) → script_reading formula.variables begin script ≡ begin cs)
-      → ReadsTo (Some files) (reading_of words) (Begins (plan_for job formula tree cs))
+      → ((begin : List NumberedCommand → Reading)
+      → script_reading run.given.formula.variables begin run.script ≡ begin cs)
+      → ReadsTo (Some run.given.files) (reading_of words)
+      (Begins (plan_for run.given.job run.given.formula run.given.tree cs))
   leads_to_script cs becomes =
-      let told = Some files in
+      let told = Some run.given.files in
+      let job = run.given.job in
+      let formula = run.given.formula in
+      let tree = run.given.tree in
       let point = Begins (plan_for job formula tree cs) in
-      let asks = Reads has.input.file (with_input job has.input) in
-      let named : ReadsTo told (reading_of words) asks =
-      reads_same told _ _
-      (ap with_job has.named
-      ∙ file_asked job job.input has.input has.is_input) in
-      let read : ReadsTo told asks (with_tree_word job formula job.tree) =
-      inr (
-        Whole has.bytes,
-        (has.there, has.fits),
-        reads_same told _ _ (ap (with_formula job has.input.file) has.reads),
-      ) in
-      reads_on told (reading_of words) asks point named
-      (reads_on told asks (with_tree_word job formula job.tree) point read
-      (tree_follows files job formula tree point job.tree start (script_follows cs becomes)))
+      let named : ReadsTo told (reading_of words) (with_input_word job job.input) =
+      reads_same told _ _ (ap with_job run.given.named) in
+      reads_on told (reading_of words) (with_input_word job job.input) point named
+      (reads_on told (with_input_word job job.input) (with_tree_word job formula job.tree) point
+      (formula_follows run.given.files job formula job.input run.given.input)
+      (tree_follows run.given.files job formula tree point job.tree run.given.starts (script_follows cs becomes)))
 
 -- ---- the commands, done
 
@@ -266,11 +259,11 @@ joined_formula state f g h left right operation differ =
     ∙ ap (λ y. Combined operation left y) (named_first ((f, left) ∷ state.names) g right)
 
 -- four commands that are all done write the joined formula
-four_done : (input : Groups) (script : Script) (joined : Expression) (file : List ℕ)
-    (two : JoinsTwo (expression_of input) script joined file) (state last : State) (effects : List Effect)
-    → state.every ≡ None → Steps input state (four_commands input script joined file two) effects last
-    → (text : List ℕ) × IsTextOf state.tree (joined ∷ []) text × (effects ≡ Write file text ∷ [])
-four_done input script joined file two state last effects none steps =
+four_done : (input : Groups) (script : Script) (two : JoinsTwo (expression_of input) script) (state last : State)
+    (effects : List Effect) → state.every ≡ None → Steps input state (four_commands input script two) effects last
+    → (text : List ℕ) × IsTextOf state.tree (Combined two.operation two.left two.right ∷ []) text
+    × (effects ≡ Write (file_name script two.number) text ∷ [])
+four_done input script two state last effects none steps =
     let one = own_line input two.first.action two.f two.left two.binds_f in
     let other = own_line input two.second.action two.g two.right two.binds_g in
     let second = in_line two.second other.command in
@@ -289,8 +282,8 @@ four_done input script joined file two state last effects none steps =
     let done = write_done input c last two.h (file_name script two.number) two.last effects after_third in (
       done.0,
       subst (λ f. IsTextOf state.tree (f ∷ []) done.0)
-          (joined_formula state two.f two.g two.h two.left two.right two.operation two.two ∙ sym two.is) done.1,
-      done.2 ∙ ap (λ name. Write name done.0 ∷ []) (sym two.file_is),
+          (joined_formula state two.f two.g two.h two.left two.right two.operation two.two) done.1,
+      done.2,
     )
 
 -- ---- the run
@@ -303,6 +296,14 @@ one_plan words files a b p q =
       | inl is ↦ cc
       | inr asks ↦ let e = asks.is in let bad : ⊥ = cc in absurd bad
     ]
+
+-- the file is the text of the formula's canonical diagram for the tree, no other file changed, and nothing was printed
+record WritesDiagram (files : Files) (tree : Tree) (f : Expression) (file : List ℕ) (old new : Contents)
+    : Type 0 where
+  diagram : Diagram
+  of_formula : IsDiagramOf tree f diagram
+  files_are : new.files ≡ Some (with_file files file (sdd_text diagram))
+  printed_is : new.printed ≡ old.printed
 
 -- what this effect leaves
 leaves_text : (files : Files) (tree : Tree) (f : Expression) (file text : List ℕ) (effects : List Effect)
@@ -319,86 +320,82 @@ leaves_text files tree f file text effects old new told are is_text is =
     }
 
 -- a run with a script of four lines
-pub joined_at : {asks : List Request → Type 0} (words : List (List ℕ)) (status : ℕ) (kept : Option Table)
-    (old new : Moment) → IsCourse asks words status kept old new → HasJoined words status old new
-joined_at {asks = asks} words status kept old new went = λ files job formula tree script joined file told has start two.
-    let cs = four_commands formula script joined file two in
-    let plan = plan_for job formula tree cs in
-    let led = leads_to_script words files job formula script tree has start cs
-    (script_leads formula script joined file two formula.variables) in (
-      ends files plan told led (subst AreStill
-          (ap (λ begin. begin ++ cs) (sym (not_announced job.input has.input formula has.is_input)))
-          (four_still formula script joined file two)),
+pub joined_at : (words : List (List ℕ)) (status : ℕ) (kept : Option Table) (seen : Seen)
+    → IsOneCourse words status kept seen → HasJoined words status seen
+joined_at words status kept seen went = λ run.
+    let given = run.given in
+    let cs = four_commands given.formula run.script run.lines in
+    let plan = plan_for given.job given.formula given.tree cs in
+    let led = leads_to_script run cs (script_leads given.formula run.script run.lines given.formula.variables) in (
       λ zero_.
-          let all = (effects_at words status kept old new went).all zero_ in
-          writes files job formula tree script joined file two told
-          (not_announced job.input has.input formula has.is_input) has.plain led all.0
-          (subst (λ f. MayEnd words f all.0 Finished) told all.1) all.2,
+          let all = (effects_at words status seen (effects_of words status kept seen went)).all zero_ in
+          let wrote = writes given.files given.job given.formula given.tree run.script run.lines given.told run.of_file
+          run.plain led all.0 (subst (λ f. MayEnd words f all.0 Finished) given.told all.1) all.2 in
+          record {
+            diagram = wrote.diagram;
+            of_formulas = wrote.of_formula;
+            files_are = wrote.files_are;
+            printed_is = wrote.printed_is;
+          },
+      ends_at_plan words status kept seen went given.files plan given.told led
+          (subst AreStill (ap (λ begin. begin ++ cs) (sym run.of_file))
+          (four_still given.formula run.script run.lines)),
     )
   where
-    ends : (files : Files) (plan : Plan) → old.contents.files ≡ Some files
-        → ReadsTo (Some files) (reading_of words) (Begins plan) → AreStill plan.commands
-        → NoneRose old.faults new.faults
-        → (status ≡ 0) ⊎ (status ≡ 4) ⊎ (status ≡ 7) ⊎ (status ≡ 8)
-    ends files plan told led still calm =
-        let may_end = subst (λ f. MayEnd words f went.effects went.end) told
-        (goes_may_end asks words old.contents.files went.effects went.end went.goes) in
-        let cause = subst (λ f. HasDeviceCause went.end f old.faults new.faults) told went.cause in
-        elim (done_or_none words files plan went.effects went.end old.faults new.faults led still may_end cause calm) [
-          | inl done ↦ inl (went.status_is ∙ done)
-          | inr (inl passes) ↦ inr (inl (went.status_is ∙ passes))
-          | inr (inr (inl memory)) ↦ inr (inr (inl (went.status_is ∙ memory)))
-          | inr (inr (inr full)) ↦ inr (inr (inr (went.status_is ∙ full)))
-        ]
-
-    writes : (files : Files) (job : Job) (formula : Groups) (tree : Tree) (script : Script) (joined : Expression)
-        (file : List ℕ) (two : JoinsTwo (expression_of formula) script joined file) → old.contents.files ≡ Some files
+    writes : (files : Files) (job : Job) (formula : Groups) (tree : Tree) (script : Script)
+        (two : JoinsTwo (expression_of formula) script) → seen.old.contents.files ≡ Some files
         → announcement job.input formula ≡ [] → job.every ≡ None → ReadsTo (Some files) (reading_of words)
-        (Begins (plan_for job formula tree (four_commands formula script joined file two)))
+        (Begins (plan_for job formula tree (four_commands formula script two)))
         → (effects : List Effect) → MayEnd words (Some files) effects Finished
-        → new.contents ≡ after effects old.contents
-        → WritesDiagram files tree joined file old.contents new.contents
-    writes files job formula tree script joined file two told none plain led effects (inl p) is = absurd p.0
-    writes files job formula tree script joined file two told none plain led effects (inr p) is =
-        let cs = four_commands formula script joined file two in
+        → seen.new.contents ≡ after effects seen.old.contents
+        → WritesDiagram files tree (Combined two.operation two.left two.right) (file_name script two.number)
+        seen.old.contents seen.new.contents
+    writes files job formula tree script two told none plain led effects (inl p) is = absurd p.0
+    writes files job formula tree script two told none plain led effects (inr p) is =
+        let cs = four_commands formula script two in
         let plan = plan_for job formula tree cs in
         let same = one_plan words files plan p.0 led p.1 in
         let all = subst (λ (q : Plan). Steps q.input q.start q.commands effects p.2.0) same
         (whole_plan p.0 p.2.0 effects p.2.1) in
         let steps = subst (λ (l : List NumberedCommand). Steps plan.input plan.start (l ++ cs) effects p.2.0) none all in
-        let done = four_done formula script joined file two plan.start p.2.0 effects plain steps in
-        leaves_text files tree joined file done.0 effects old.contents new.contents told done.2 done.1 is
+        let done = four_done formula script two plan.start p.2.0 effects plain steps in
+        leaves_text files tree (Combined two.operation two.left two.right) (file_name script two.number) done.0 effects
+        seen.old.contents seen.new.contents told done.2 done.1 is
 
 -- ---- a script of this form
 
 -- the input and a literal, joined by and
 worked : (v : ℕ) × (script : Script)
     × (script_of v (codes "input f\nlit g 1\nand h f g\nwrite h out\n") ≡ Ok script)
-    × ((input : Expression) → JoinsTwo input script (Combined And input (Atom (pos 1))) (codes "out"))
+    × ((input : Expression) → (two : JoinsTwo input script)
+    × (Combined two.operation two.left two.right ≡ Combined And input (Atom (pos 1)))
+    × (file_name script two.number ≡ codes "out"))
 unfolding script_of see number_of_word command_of
 worked = (
   2,
   _,
   refl,
-  λ input. record {
-    first = _;
-    second = _;
-    third = _;
-    last = _;
-    lines = refl;
-    f = 0;
-    g = 1;
-    h = 2;
-    left = input;
-    right = Atom (pos 1);
-    binds_f = refl;
-    binds_g = refl;
-    two = λ e. cc;
-    operation = And;
-    joins = refl;
-    is = refl;
-    number = 0;
-    writes = refl;
-    file_is = refl;
-  },
+  λ input. (
+    record {
+      first = _;
+      second = _;
+      third = _;
+      last = _;
+      lines = refl;
+      f = 0;
+      g = 1;
+      h = 2;
+      left = input;
+      right = Atom (pos 1);
+      binds_f = refl;
+      binds_g = refl;
+      two = λ e. cc;
+      operation = And;
+      joins = refl;
+      number = 0;
+      writes = refl;
+    },
+    refl,
+    refl,
+  ),
 )

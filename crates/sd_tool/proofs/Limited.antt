@@ -1,7 +1,6 @@
 -- A run without a script passes its limit where the first groups of its input do.
 use Rattle.std.proofs.Common.{◌≡◌, ℕ, List, [], ◌∷◌, ◌++◌, length, Option, Some, None, inl, inr}
-use Rattle.std.proofs.Common.{refl, sym, ap, subst, ◌∙◌}
-use Rattle.sd_base.specs.Asked.{Request}
+use Rattle.std.proofs.Common.{refl, sym, ap, subst, ◌∙◌, lit≤}
 use Rattle.sd_base.specs.Files.{Files}
 use Rattle.sd_model.specs.Tree.{Tree}
 use Rattle.sd_manager.specs.Table.{Table}
@@ -13,18 +12,21 @@ use Rattle.sd_commands.specs.Effects.{Effect}
 use Rattle.sd_commands.specs.Commands.{State, Done, OverLimit as PassesLimit, Step, Steps, BindsInput, PassesAtGroup}
 use Rattle.sd_commands.specs.Standing.{start}
 use Rattle.sd_commands.specs.declared.command.NumberedCommand.{NumberedCommand}
-use Rattle.sd_commands.specs.declared.command.RunCommand.{RunCommand}
 use Rattle.sd_commands.specs.declared.command.RunCommand.TheVariants as commands
-use Rattle.sd_tool.specs.Course.{MayEnd, EndsAmong}
-use Rattle.sd_tool.specs.Devices.{Moment, NoneRose, WritesEndLine}
+use Rattle.sd_tool.specs.Course.{EndsAmong}
+use Rattle.sd_tool.specs.inside.Course.{MayEnd}
+use Rattle.sd_tool.specs.Devices.{Seen, WritesEndLine}
 use Rattle.sd_tool.specs.Ends.{OverLimit}
-use Rattle.sd_tool.specs.Headline.{IsCourse, PassedLimit}
-use Rattle.sd_tool.specs.Limited.{HasLimit}
-use Rattle.sd_tool.specs.Readings.{Plan, reading_of, plan_for, announcement, default_of, for_file, in_lines}
+use Rattle.sd_tool.specs.Theorem.{HasLimit}
+use Rattle.sd_tool.specs.inside.ByStatus.{IsOneCourse}
+use Rattle.sd_tool.specs.Asks.{GoesTo}
+use Rattle.sd_tool.specs.Readings.{Plan, Begins, reading_of, plan_for, announcement, default_of, for_file, in_lines}
 use Rattle.sd_tool.specs.Readings.{search_of}
-use Rattle.sd_tool.specs.Written.{IsInput, IsStartTree}
-use Rattle.sd_tool.proofs.ByStatus.{end_at}
-use Rattle.sd_tool.proofs.OneRun.{completes, leads_to_plan, same_plan}
+use Rattle.sd_tool.specs.Written.{IsStartTree}
+use Rattle.sd_tool.specs.inside.Readings.{IsInput}
+use Rattle.sd_tool.proofs.AskLemmas.{reads_by}
+use Rattle.sd_tool.proofs.ByStatus.{ends_of, end_at}
+use Rattle.sd_tool.proofs.OneRun.{comes_to_own, plain_input, leads_to_plan, same_plan}
 use Rattle.sd_tool.proofs.WrittenLemmas.{announces}
 
 -- ---- commands that pass no limit
@@ -192,12 +194,15 @@ announced_steps formula state (inputs.Generate count seed) = (state, _, [], refl
 leads_to_limit : (words : List (List ℕ)) (files : Files) (job : Job) (formula : Groups) (tree : Tree) (group size : ℕ)
     → IsInput words files job formula → IsStartTree files job.tree formula.variables tree
     → PassesAtGroup formula (start tree job.limit job.slack job.every) group size
-    → MayEnd words (Some files) (announces job.input formula) (OverLimit 1 (Some group) size job.limit)
+    → GoesTo (λ requests. Unit {0}) words (Some files) (announces job.input formula)
+    (OverLimit 1 (Some group) size job.limit)
 leads_to_limit words files job formula tree group size input begins passes =
     let first = start tree job.limit job.slack job.every in
+    let by = reads_by (Some files) (reading_of words) (Begins (plan_of_input job formula tree))
+    (leads_to_plan words files job formula tree input begins) in
     inr (
       plan_of_input job formula tree,
-      leads_to_plan words files job formula tree input begins,
+      record { names = by.0; asked = tt; reads = by.1 },
       (
         first,
         input_line,
@@ -215,27 +220,32 @@ leads_to_limit words files job formula tree group size input begins passes =
     )
 
 -- a run without a script passes its limit where its input does
-pub limited_at : {asks : List Request → Type 0} (words : List (List ℕ)) (status : ℕ) (kept : Option Table)
-    (old new : Moment) → IsCourse asks words status kept old new → HasLimit words status old new
-limited_at words status kept old new went = λ files job formula tree told input begins. (
-  λ four. only files job formula tree told input begins ((end_at words status kept old new went).over_limit four),
-  λ group size passes calm.
-      elim ((completes words status kept old new went).own files (announces job.input formula)
-      (OverLimit 1 (Some group) size job.limit) told calm tt
-      (leads_to_limit words files job formula tree group size input begins passes)) [
-        | inl own ↦ inl own.0
-        | inr free ↦ inr free
-      ],
-)
-  where
-    only : (files : Files) (job : Job) (formula : Groups) (tree : Tree) → old.contents.files ≡ Some files
-        → IsInput words files job formula → IsStartTree files job.tree formula.variables tree
-        → PassedLimit words old new
-        → (group size : ℕ) × PassesAtGroup formula (start tree job.limit job.slack job.every) group size
-        × WritesEndLine (OverLimit 1 (Some group) size job.limit) old new
-    only files job formula tree told input begins passed =
-        let found = passes_input words files job formula tree passed.effects passed.at_line passed.group passed.size
-        passed.limit input begins
-        (subst (λ f. MayEnd words f passed.effects
-        (OverLimit passed.at_line passed.group passed.size passed.limit)) told passed.in_hand) in
-        (found.0, passed.size, found.1, subst (λ e. WritesEndLine e old new) found.2 passed.line)
+pub limited_at : (words : List (List ℕ)) (status : ℕ) (kept : Option Table) (seen : Seen)
+    → IsOneCourse words status kept seen → HasLimit words status seen
+limited_at words status kept seen went = λ run.
+    let given = run.given in
+    let input = plain_input run in (
+      λ four.
+          let passed = (end_at words status kept seen (ends_of words status kept seen went)).over_limit four in
+          let found = passes_input words given.files given.job given.formula given.tree passed.effects passed.at_line
+          passed.group passed.size passed.limit input given.starts
+          (subst (λ f. MayEnd words f passed.effects
+          (OverLimit passed.at_line passed.group passed.size passed.limit)) given.told passed.in_hand) in (
+            found.0,
+            passed.size,
+            found.1,
+            subst (λ e. WritesEndLine e seen.old seen.new) found.2 passed.line,
+          ),
+      λ group size passes calm.
+          elim (comes_to_own words status kept seen went calm record {
+            files = given.files;
+            told = given.told;
+            effects = announces given.job.input given.formula;
+            end = OverLimit 1 (Some group) size given.job.limit;
+            own = lit≤ tt;
+            leads = leads_to_limit words given.files given.job given.formula given.tree group size input given.starts passes;
+          }) [
+            | inl own ↦ inl own.0
+            | inr free ↦ inr free
+          ],
+    )

@@ -35,15 +35,16 @@ use Rattle.sd_words.specs.declared.faults.WordsFault.TheVariants as words
 use Rattle.sd_commands.specs.declared.command.NumberedCommand.{NumberedCommand}
 use Rattle.sd_commands.specs.declared.command.RunCommand.{RunCommand}
 use Rattle.sd_commands.specs.declared.command.RunCommand.TheVariants as commands
-use Rattle.sd_tool.specs.Readings.{Plan, Input, Reading, Refuses, Begins, Reads, Text, Whole, TooLong, ReadsTo}
-use Rattle.sd_tool.specs.Readings.{reading_of, with_job, with_input, with_input_word, with_formula, with_tree_word}
-use Rattle.sd_tool.specs.Readings.{with_tree, with_vtree_text, with_vtree_reading, with_commands, script_reading}
-use Rattle.sd_tool.specs.Readings.{with_script_text, with_script_reading, with_lines, with_action, with_sdd}
-use Rattle.sd_tool.specs.Readings.{with_sdd_reading, in_line, file_name, plan_for, default_of}
+use Rattle.sd_tool.specs.Readings.{Plan, Reading, Refuses, Begins, Reads, Text, Whole, TooLong}
+use Rattle.sd_tool.specs.inside.Course.{ReadsTo}
+use Rattle.sd_tool.specs.inside.Readings.{Input, with_job, with_input, with_formula}
+use Rattle.sd_tool.specs.Readings.{reading_of, with_input_word, with_tree_word, with_tree, with_commands}
+use Rattle.sd_tool.specs.inside.Readings.{with_vtree_text, with_vtree_reading, script_reading}
+use Rattle.sd_tool.specs.Readings.{with_lines, with_action, in_line, file_name, plan_for, default_of}
+use Rattle.sd_tool.specs.inside.Readings.{with_script_text, with_script_reading, with_sdd, with_sdd_reading}
 use Rattle.sd_tool.specs.Refusals.{IsOfText}
 use Rattle.sd_tool.specs.declared.refusal.Refusal.{Refusal}
-use Rattle.sd_tool.specs.declared.refusal.Refusal.TheVariants.{BadWords, BadFormula, BadVtree, BadSdd}
-use Rattle.sd_tool.specs.declared.refusal.Refusal.TheVariants.{BadScript}
+use Rattle.sd_tool.specs.declared.refusal.Refusal.TheVariants.{BadWords, BadFormula, BadVtree, BadSdd, BadScript}
 use Rattle.sd_tool.proofs.FormulaFaults.{not_out_of_memory_dimacs}
 use Rattle.sd_tool.proofs.ScriptFaults.{not_out_of_memory_script}
 use Rattle.sd_tool.proofs.SddFaults.{not_out_of_memory_sdd}

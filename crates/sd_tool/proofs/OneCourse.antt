@@ -1,6 +1,6 @@
 -- Commands that are done lead to one state with the same effects, and come to one end by themselves: all are done, or
 -- one is refused.
-use Rattle.std.proofs.Common.{◌≡◌, ℕ, Option, List, [], ◌∷◌, ◌++◌, refl, sym, ap, subst, ◌∙◌}
+use Rattle.std.proofs.Common.{◌≡◌, ℕ, List, [], ◌∷◌, ◌++◌, refl, sym, ap, subst, ◌∙◌}
 use Rattle.std.proofs.lemmas.List.{append-nil}
 use Rattle.sd_model.specs.Tree.{IsVtree}
 use Rattle.sd_formula.specs.Dimacs.{Groups}
@@ -13,7 +13,7 @@ use Rattle.sd_tool.specs.Readings.{Plan}
 use Rattle.sd_tool.specs.Ends.{End, Finished, Refused, Unreadable, Unwritable, OutOfMemory, ArenaFull, OverLimit}
 use Rattle.sd_tool.specs.Ends.{NotMovable}
 use Rattle.sd_tool.specs.Course.{Reaches, IsAtCommand, EndsAmong}
-use Rattle.sd_tool.specs.Headline.{IsOwn}
+use Rattle.sd_tool.specs.inside.Course.{IsOwn}
 
 -- commands leave a vtree
 pub steps_valid : (input : Groups) (start last : State) (commands : List NumberedCommand) (effects : List Effect)

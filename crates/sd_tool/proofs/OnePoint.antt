@@ -2,7 +2,8 @@
 use Rattle.std.proofs.Common.{◌≡◌, ◌⊎◌, ℕ, List, length, Some, None}
 use Rattle.std.proofs.Common.{inl, inr, refl, sym, ap, subst, ◌∙◌, arith}
 use Rattle.sd_base.specs.Files.{Files, Lacks}
-use Rattle.sd_tool.specs.Readings.{Reading, Refuses, Begins, Reads, Text, Whole, TooLong, IsText, ReadsTo}
+use Rattle.sd_tool.specs.Readings.{Reading, Refuses, Begins, Reads, Text, Whole, TooLong, IsText}
+use Rattle.sd_tool.specs.inside.Course.{ReadsTo}
 
 -- a told file reads in one way
 one_text : (files : Files) (file : List ℕ) (a b : Text) → IsText (Some files) file a → IsText (Some files) file b

@@ -1,8 +1,7 @@
 -- Over told files there is one course: where the words and the files lead to an end of their own, a run in which no
 -- device fails comes to that end, or memory ran out.
-use Rattle.std.proofs.Common.{◌≡◌, ◌⊎◌, ℕ, List, Option, Some, None, inl, inr, refl, sym}
+use Rattle.std.proofs.Common.{◌≡◌, ◌⊎◌, ℕ, ◌≤◌, arith, List, Option, Some, None, inl, inr, refl, sym}
 use Rattle.std.proofs.Common.{ap, subst, ◌∙◌}
-use Rattle.sd_base.specs.Asked.{Request}
 use Rattle.sd_base.specs.Files.{Files, Lacks}
 use Rattle.sd_model.specs.StartTrees.{balanced_tree, right_tree, left_tree}
 use Rattle.sd_model.specs.Tree.{Tree}
@@ -15,17 +14,20 @@ use Rattle.sd_words.specs.declared.jobs.TreeWord.{TreeWord}
 use Rattle.sd_words.specs.declared.jobs.TreeWord.TheVariants as trees
 use Rattle.sd_commands.specs.Effects.{Effect, Write, Print}
 use Rattle.sd_tool.specs.Effects.{after}
-use Rattle.sd_tool.specs.Readings.{Plan, Reading, Refuses, Begins, Reads, Text, Whole, reading_of, ReadsTo}
-use Rattle.sd_tool.specs.Readings.{with_job, with_input_word, with_formula, with_tree_word, with_tree}
-use Rattle.sd_tool.specs.Readings.{with_vtree_text, with_vtree_reading, with_commands, plan_for, default_of}
+use Rattle.sd_tool.specs.Readings.{Plan, Reading, Refuses, Begins, Reads, Text, Whole, reading_of}
+use Rattle.sd_tool.specs.inside.Course.{ReadsTo, MayEnd, IsOwn}
+use Rattle.sd_tool.specs.Readings.{with_input_word, with_tree_word, with_tree, with_commands, plan_for, default_of}
+use Rattle.sd_tool.specs.inside.Readings.{with_job, with_formula, with_vtree_text, with_vtree_reading, IsInput}
 use Rattle.sd_tool.specs.declared.refusal.Refusal.{Refusal}
 use Rattle.sd_tool.specs.Ends.{End, Finished, Refused, Unreadable, Unwritable, OutOfMemory, ArenaFull, OverLimit}
-use Rattle.sd_tool.specs.Ends.{NotMovable}
-use Rattle.sd_tool.specs.Ends.{status_of}
-use Rattle.sd_tool.specs.Devices.{Moment, Faults, NoneRose, HasDeviceCause, WritesEndLine}
-use Rattle.sd_tool.specs.Course.{EndsAmong, MayEnd, Leaves}
-use Rattle.sd_tool.specs.Headline.{IsCourse, IsOwn, IsComplete}
-use Rattle.sd_tool.specs.Written.{IsFormulaOf, IsInput, IsStartTree}
+use Rattle.sd_tool.specs.Ends.{NotMovable, status_of}
+use Rattle.sd_tool.specs.Devices.{Seen, Faults, IsCalm, HasReason, WritesEndLine}
+use Rattle.sd_tool.specs.inside.Devices.{NoneRose}
+use Rattle.sd_tool.specs.Course.{EndsAmong, Leaves}
+use Rattle.sd_tool.specs.Asks.{OwnEnd, CameTo, LacksRoom}
+use Rattle.sd_tool.specs.Theorem.{IsComplete}
+use Rattle.sd_tool.specs.inside.ByStatus.{IsOneCourse}
+use Rattle.sd_tool.specs.Written.{IsFormulaOf, IsStartTree, PlainRun}
 use Rattle.sd_tool.proofs.AskLemmas.{goes_may_end}
 use Rattle.sd_tool.proofs.OneCourse.{one_end_among}
 use Rattle.sd_tool.proofs.NotOutOfMemory.{valid_start}
@@ -123,7 +125,7 @@ none_missing words files effects (NotMovable l) file next a (inl p) q lacks = ab
 -- the end of a run is determined, but for devices and memory
 no_other_end : (words : List (List ℕ)) (files : Files) (effects done : List Effect) (own end : End)
     (before now : Faults) → IsOwn own → MayEnd words (Some files) effects own → MayEnd words (Some files) done end
-    → HasDeviceCause end (Some files) before now → NoneRose before now
+    → HasReason end (Some files) before now → NoneRose before now
     → ((end ≡ own) × (done ≡ effects)) ⊎ (end ≡ OutOfMemory) ⊎ ((n : ℕ) × (end ≡ ArenaFull n))
 no_other_end words files effects done own Finished before now a all may_end cause calm =
     inl (one_own words files effects done own Finished a tt all may_end)
@@ -145,31 +147,46 @@ no_other_end words files effects done own (Unwritable (Print line)) before now a
 no_other_end words files effects done own OutOfMemory before now a all may_end cause calm = inr (inl refl)
 no_other_end words files effects done own (ArenaFull n) before now a all may_end cause calm = inr (inr (n, refl))
 
+-- an end of status 0 to 4 is an end of its own
+own_end : (end : End) → status_of end ≤ 4 → IsOwn end
+own_end Finished few = tt
+own_end (Refused refusal) few = tt
+own_end (Unreadable file) few = absurd (omega (arith, few))
+own_end (Unwritable effect) few = absurd (omega (arith, few))
+own_end OutOfMemory few = absurd (omega (arith, few))
+own_end (ArenaFull n) few = absurd (omega (arith, few))
+own_end (OverLimit l g n k) few = tt
+own_end (NotMovable l) few = tt
+
+-- no device failed
+none_rose : (seen : Seen) → IsCalm seen → NoneRose seen.old.faults seen.new.faults
+none_rose seen calm = record { read = calm.read; write = calm.write; print = calm.print }
+
 -- where the words and the files lead to an end of their own, the run came to it, or there was no memory
-comes_to_own : {asks : List Request → Type 0} (words : List (List ℕ)) (status : ℕ) (kept : Option Table)
-    (old new : Moment)
-    → IsCourse asks words status kept old new
-    → (files : Files) (effects : List Effect) (own : End) → old.contents.files ≡ Some files
-    → NoneRose old.faults new.faults → IsOwn own → MayEnd words (Some files) effects own
-    → ((status ≡ status_of own) × (new.contents ≡ after effects old.contents) × WritesEndLine own old new)
-    ⊎ (status ≡ 7) ⊎ (status ≡ 8)
-comes_to_own {asks = asks} words status kept old new went files effects own told calm is all =
-    let may_end = subst (λ f. MayEnd words f went.effects went.end) told
-    (goes_may_end asks words old.contents.files went.effects went.end went.goes) in
-    let cause = subst (λ f. HasDeviceCause went.end f old.faults new.faults) told went.cause in
-    elim (no_other_end words files effects went.effects own went.end old.faults new.faults is all may_end cause calm) [
+pub comes_to_own : (words : List (List ℕ)) (status : ℕ) (kept : Option Table) (seen : Seen)
+    → IsOneCourse words status kept seen → IsCalm seen → (own : OwnEnd words seen)
+    → CameTo own status ⊎ LacksRoom status
+comes_to_own words status kept seen went calm own =
+    let own_leads = goes_may_end (λ requests. Unit {0}) words (Some own.files) own.effects own.end own.leads in
+    let own_is = own_end own.end own.own in
+    let may_end = subst (λ f. MayEnd words f went.effects went.end) own.told
+    (goes_may_end seen.asked words seen.old.contents.files went.effects went.end went.goes) in
+    let reason = subst (λ f. HasReason went.end f seen.old.faults seen.new.faults) own.told went.reason in
+    elim (no_other_end words own.files own.effects went.effects own.end went.end seen.old.faults seen.new.faults own_is
+    own_leads may_end reason (none_rose seen calm)) [
       | inl whole ↦ inl (
         went.status_is ∙ ap status_of whole.0,
-        all_done own is (subst (λ e. Leaves went.effects e old.contents new.contents) whole.0 went.leaves)
-            ∙ ap (λ l. after l old.contents) whole.1,
-        subst (λ e. WritesEndLine e old new) whole.0 went.line,
+        all_done own.end own_is
+            (subst (λ e. Leaves went.effects e seen.old.contents seen.new.contents) whole.0 went.leaves)
+            ∙ ap (λ l. after l seen.old.contents) whole.1,
+        subst (λ e. WritesEndLine e seen.old seen.new) whole.0 went.line,
       )
       | inr (inl memory) ↦ inr (inl (went.status_is ∙ ap status_of memory))
       | inr (inr full) ↦ inr (inr (went.status_is ∙ ap status_of full.1))
     ]
   where
-    all_done : (end : End) → IsOwn end → Leaves went.effects end old.contents new.contents
-        → new.contents ≡ after went.effects old.contents
+    all_done : (end : End) → IsOwn end → Leaves went.effects end seen.old.contents seen.new.contents
+        → seen.new.contents ≡ after went.effects seen.old.contents
     all_done Finished is leaves = leaves
     all_done (Refused r) is leaves = leaves
     all_done (Unreadable file) is leaves = absurd is
@@ -213,12 +230,12 @@ job_follows words files job f input =
     reads_same (Some files) _ _ (ap with_job input.named)
 
 -- and to its formula
-formula_follows : (files : Files) (job : Job) (f : Groups) (word : InputWord) → IsFormulaOf files word f
+pub formula_follows : (files : Files) (job : Job) (f : Groups) (word : InputWord) → IsFormulaOf files word f
     → ReadsTo (Some files) (with_input_word job word) (with_tree_word job f job.tree)
-formula_follows files job f (inputs.Cnf file) is =
-    inr (Whole is.bytes, (is.there, is.fits), reads_same (Some files) _ _ (ap (with_formula job file) is.reads))
-formula_follows files job f (inputs.Dnf file) is =
-    inr (Whole is.bytes, (is.there, is.fits), reads_same (Some files) _ _ (ap (with_formula job file) is.reads))
+formula_follows files job f (inputs.Cnf file) (bytes, there, short, reads) =
+    inr (Whole bytes, (there, short), reads_same (Some files) _ _ (ap (with_formula job file) reads))
+formula_follows files job f (inputs.Dnf file) (bytes, there, short, reads) =
+    inr (Whole bytes, (there, short), reads_same (Some files) _ _ (ap (with_formula job file) reads))
 formula_follows files job f (inputs.Generate count seed) is =
     reads_same (Some files) _ _ (ap (λ g. with_tree_word job g job.tree) (sym is))
 
@@ -238,7 +255,7 @@ leads_to_plan words files job f tree input start =
 pub done_or_none : (words : List (List ℕ)) (files : Files) (plan : Plan) (effects : List Effect) (end : End)
     (before now : Faults) → ReadsTo (Some files) (reading_of words) (Begins plan)
     → AreStill plan.commands → MayEnd words (Some files) effects end
-    → HasDeviceCause end (Some files) before now → NoneRose before now
+    → HasReason end (Some files) before now → NoneRose before now
     → (status_of end ≡ 0) ⊎ (status_of end ≡ 4) ⊎ (status_of end ≡ 7) ⊎ (status_of end ≡ 8)
 done_or_none words files plan effects Finished before now leads still may_end cause calm = inl refl
 done_or_none words files plan effects (Refused r) before now leads still (inl p) cause calm =
@@ -262,23 +279,37 @@ done_or_none words files plan effects (NotMovable l) before now leads still (inr
     absurd (never_unmoved plan effects l still
     (subst (λ (q : Plan). EndsAmong q effects (NotMovable l)) same p.2))
 
+-- so a run in which no device failed ended so
+pub ends_at_plan : (words : List (List ℕ)) (status : ℕ) (kept : Option Table) (seen : Seen)
+    (went : IsOneCourse words status kept seen) (files : Files) (plan : Plan) → seen.old.contents.files ≡ Some files
+    → ReadsTo (Some files) (reading_of words) (Begins plan) → AreStill plan.commands → IsCalm seen
+    → (status ≡ 0) ⊎ (status ≡ 4) ⊎ LacksRoom status
+ends_at_plan words status kept seen went files plan told leads still calm =
+    let may_end = subst (λ f. MayEnd words f went.effects went.end) told
+    (goes_may_end seen.asked words seen.old.contents.files went.effects went.end went.goes) in
+    let reason = subst (λ f. HasReason went.end f seen.old.faults seen.new.faults) told went.reason in
+    elim (done_or_none words files plan went.effects went.end seen.old.faults seen.new.faults leads still may_end reason
+    (none_rose seen calm)) [
+      | inl done ↦ inl (went.status_is ∙ done)
+      | inr (inl passes) ↦ inr (inl (went.status_is ∙ passes))
+      | inr (inr (inl memory)) ↦ inr (inr (inl (went.status_is ∙ memory)))
+      | inr (inr (inr full)) ↦ inr (inr (inr (went.status_is ∙ full)))
+    ]
+
+-- the words of a run without a script
+pub plain_input : {words : List (List ℕ)} {seen : Seen} (run : PlainRun words seen)
+    → IsInput words run.given.files run.given.job run.given.formula
+plain_input run = record { named = run.given.named; alone = run.alone; input = run.given.input }
+
 -- a run that went somewhere is complete
-pub completes : {asks : List Request → Type 0} (words : List (List ℕ)) (status : ℕ) (kept : Option Table)
-    (old new : Moment)
-    → IsCourse asks words status kept old new → IsComplete words status old new
-completes {asks = asks} words status kept old new went = record {
-  served = λ files job formula tree told calm input start.
-      let may_end = subst (λ f. MayEnd words f went.effects went.end) told
-      (goes_may_end asks words old.contents.files went.effects went.end went.goes) in
-      let cause = subst (λ f. HasDeviceCause went.end f old.faults new.faults) told went.cause in
-      let plan = plan_for job formula tree (default_of job) in
-      let leads = leads_to_plan words files job formula tree input start in
-      elim (done_or_none words files plan went.effects went.end old.faults new.faults leads
-      (default_still job formula) may_end cause calm) [
-        | inl done ↦ inl (went.status_is ∙ done)
-        | inr (inl passes) ↦ inr (inl (went.status_is ∙ passes))
-        | inr (inr (inl memory)) ↦ inr (inr (inl (went.status_is ∙ memory)))
-        | inr (inr (inr full)) ↦ inr (inr (inr (went.status_is ∙ full)))
-      ];
-  own = comes_to_own words status kept old new went;
-}
+pub completes : (words : List (List ℕ)) (status : ℕ) (kept : Option Table) (seen : Seen)
+    → IsOneCourse words status kept seen → IsComplete words status seen
+completes words status kept seen went = λ calm. (
+  λ run.
+      let given = run.given in
+      ends_at_plan words status kept seen went given.files
+      (plan_for given.job given.formula given.tree (default_of given.job)) given.told
+      (leads_to_plan words given.files given.job given.formula given.tree (plain_input run) given.starts)
+      (default_still given.job given.formula) calm,
+  comes_to_own words status kept seen went calm,
+)

@@ -17,12 +17,13 @@ use Rattle.sd_words.specs.declared.jobs.InputWord.{InputWord}
 use Rattle.sd_words.specs.declared.jobs.InputWord.TheVariants as inputs
 use Rattle.sd_words.specs.declared.jobs.TreeWord.{TreeWord}
 use Rattle.sd_words.specs.declared.jobs.TreeWord.TheVariants as trees
-use Rattle.sd_tool.specs.Readings.{Reading, Refuses, Begins, Reads, Text, Whole, TooLong, IsText, ReadsTo}
+use Rattle.sd_tool.specs.Readings.{Reading, Refuses, Begins, Reads, Text, Whole, TooLong, IsText, with_commands}
+use Rattle.sd_tool.specs.inside.Course.{ReadsTo}
 use Rattle.sd_script.specs.Scripts.{Script}
 use Rattle.sd_commands.specs.declared.command.NumberedCommand.{NumberedCommand}
-use Rattle.sd_tool.specs.Readings.{with_commands, script_reading, with_script_text}
-use Rattle.sd_tool.specs.Readings.{Input, input_file, with_input, with_input_word, with_tree_word, with_tree}
-use Rattle.sd_tool.specs.Readings.{with_vtree_text}
+use Rattle.sd_tool.specs.inside.Readings.{script_reading, with_script_text, Input, input_file, with_input}
+use Rattle.sd_tool.specs.Readings.{with_input_word, with_tree_word, with_tree}
+use Rattle.sd_tool.specs.inside.Readings.{with_vtree_text}
 use Rattle.sd_tool.specs.Asks.{ComesTo}
 use Rattle.sd_tool.specs.Stops.{StopsReading, LeadsTo, StopsFor, GivesText, text_read}
 use Rattle.sd_tool.proofs.AskLemmas.{Joins, comes_on, last_on, breaks_on, last_here, comes_same, breaks_here}

@@ -22,7 +22,8 @@ use Rattle.sd_commands.specs.declared.command.RunCommand.{RunCommand}
 use Rattle.sd_commands.specs.declared.command.RunCommand.TheVariants as commands
 use Rattle.sd_tool.specs.Actions.{plain_of, bound_by, IsCommandOf, AreCommandsOf}
 use Rattle.sd_file.specs.Reads.{File}
-use Rattle.sd_tool.specs.Readings.{Reading, Reads, with_action, with_lines, with_sdd, file_name, default_of}
+use Rattle.sd_tool.specs.Readings.{Reading, Reads, with_action, with_lines, file_name, default_of}
+use Rattle.sd_tool.specs.inside.Readings.{with_sdd}
 use Rattle.sd_tool.specs.Readings.{search_of, for_file, in_line, in_lines}
 use Rattle.sd_tool.specs.Asks.{ComesTo}
 use Rattle.sd_tool.specs.Stops.{LeadsTo}

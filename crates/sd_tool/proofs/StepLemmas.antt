@@ -26,7 +26,8 @@ use Rattle.sd_tool.specs.Effects.{Contents, after_effect, after, DoesPart}
 use Rattle.sd_tool.specs.Readings.{Plan}
 use Rattle.sd_tool.specs.Ends.{Finished, Unwritable, OutOfMemory as NoMemory, ArenaFull as NoRoom, OverLimit as Passes}
 use Rattle.sd_tool.specs.Ends.{NotMovable as StaysPut}
-use Rattle.sd_tool.specs.Devices.{Faults, NotFewer, HasDeviceCause}
+use Rattle.sd_tool.specs.Devices.{Faults, HasReason}
+use Rattle.sd_tool.specs.inside.Devices.{NotFewer}
 use Rattle.sd_tool.specs.Asks.{writings}
 use Rattle.sd_tool.specs.Course.{IsAtCommand}
 use Rattle.sd_tool.specs.Stops.{FailsAt, RunsToEnd, stop_of}
@@ -151,7 +152,7 @@ rose_since first mid last later rose = omega arith
 
 -- so a device fault of a later command has its cause in the whole run
 pub cause_since : (effect : Effect) (files others : Option Files) (first mid last : Faults) → NotFewer first mid
-    → HasDeviceCause (Unwritable effect) files mid last → HasDeviceCause (Unwritable effect) others first last
+    → HasReason (Unwritable effect) files mid last → HasReason (Unwritable effect) others first last
 cause_since (Write file bytes) files others first mid last fewer rose =
     rose_since first.write mid.write last.write fewer.write rose
 cause_since (Print line) files others first mid last fewer rose =
@@ -171,7 +172,7 @@ goes_to_out_of_memory plan v index code t old now before after_ command next so_
       asked = so_far.asked;
       full_at = tt;
       leaves = so_far.is;
-      cause = tt;
+      reason = tt;
     }
 
 -- the arena was full, and the command may need it
@@ -205,7 +206,7 @@ goes_to_full plan v index code t old now before after_ command n next so_far nee
     },
   );
   leaves = so_far.is;
-  cause = tt;
+  reason = tt;
 }
 
 -- the total size passes the limit
@@ -228,7 +229,7 @@ goes_to_over plan v index code t old now before after_ command group size limit 
   asked = so_far.asked;
   full_at = tt;
   leaves = so_far.is;
-  cause = tt;
+  reason = tt;
 }
 
 -- the place is not movable
@@ -251,7 +252,7 @@ goes_to_unmoved plan v index code t old now before after_ command next so_far re
   asked = so_far.asked;
   full_at = tt;
   leaves = so_far.is;
-  cause = tt;
+  reason = tt;
 }
 
 -- a command is not done
@@ -306,7 +307,7 @@ goes_to_fault {c = c} plan v index code code' t old now new first before after_ 
           (join.meets _ _ so_far.asked asks);
       full_at = tt;
       leaves = subst (λ (o : Contents). DoesPart fails.effect o new) so_far.is fails.part;
-      cause = cause_since fails.effect now.files old.files first before after_ fewer fails.cause;
+      reason = cause_since fails.effect now.files old.files first before after_ fewer fails.reason;
     }
 
 -- all commands are done
@@ -329,5 +330,5 @@ goes_to_end plan v index code t old now before after_ all so_far = record {
   asked = so_far.asked;
   full_at = tt;
   leaves = so_far.is;
-  cause = tt;
+  reason = tt;
 }

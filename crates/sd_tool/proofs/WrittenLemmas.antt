@@ -4,7 +4,6 @@ use Rattle.std.proofs.Common.{◌≡◌, ◌↔◌, ℕ, ◌+◌, List, [], ◌�
 use Rattle.std.proofs.Common.{Result, Ok, Err}
 use Rattle.std.proofs.Common.{inl, inr, refl, sym, ap, subst, ◌∙◌}
 use Rattle.std.specs.List.{AllZip}
-use Rattle.sd_base.specs.Asked.{Request}
 use Rattle.sd_base.specs.Files.{Files, told_with}
 use Rattle.sd_base.specs.Sink.{told_then}
 use Rattle.sd_model.specs.Expression.{Expression, AreOneFunction}
@@ -39,17 +38,20 @@ use Rattle.sd_commands.proofs.Outcomes.{input_done, grows_valid}
 use Rattle.sd_commands.proofs.Searched.{search_valid}
 use Rattle.sd_search.specs.Search.{Found, IsSearch}
 use Rattle.sd_tool.specs.Effects.{Contents, after}
-use Rattle.sd_tool.specs.Readings.{Plan, Input, Begins, Refuses, Text, Whole, TooLong, ReadsTo, IsText}
-use Rattle.sd_tool.specs.Readings.{reading_of, with_job, with_input_word, with_input, with_formula, with_tree_word}
-use Rattle.sd_tool.specs.Readings.{with_tree, with_vtree_reading, with_commands, plan_for, for_file, default_of}
+use Rattle.sd_tool.specs.Readings.{Plan, Begins, Text, Whole, TooLong, IsText}
+use Rattle.sd_tool.specs.inside.Course.{ReadsTo, MayEnd}
+use Rattle.sd_tool.specs.inside.Readings.{Input, with_job, with_input, with_formula, with_vtree_reading, IsInput}
+use Rattle.sd_tool.specs.Readings.{reading_of, with_input_word, with_tree_word}
+use Rattle.sd_tool.specs.Readings.{with_tree, with_commands, plan_for, for_file, default_of}
 use Rattle.sd_tool.specs.Readings.{announcement, in_lines, search_of}
 use Rattle.sd_tool.specs.Ends.{Finished}
-use Rattle.sd_tool.specs.Devices.{Moment}
-use Rattle.sd_tool.specs.Course.{MayEnd}
-use Rattle.sd_tool.specs.Headline.{IsCourse}
-use Rattle.sd_tool.specs.Written.{HasFormula, IsFormulaOf, IsInput, IsStartTree, IsWritten, HasWritten, HasEqualTexts}
+use Rattle.sd_tool.specs.Devices.{Seen}
+use Rattle.sd_tool.specs.Theorem.{HasWritten, HasEqualTexts}
+use Rattle.sd_tool.specs.inside.ByStatus.{IsOneCourse}
+use Rattle.sd_tool.specs.Written.{ReadsAs, IsFormulaOf, IsStartTree, IsWritten, PlainRun, WritesInput}
 use Rattle.sd_tool.specs.Written.{with_output, with_announcement, IsFound}
-use Rattle.sd_tool.proofs.ByStatus.{effects_at}
+use Rattle.sd_tool.proofs.AskLemmas.{by_reads_to}
+use Rattle.sd_tool.proofs.ByStatus.{effects_of, effects_at}
 use Rattle.sd_tool.proofs.OneCourse.{steps_valid, whole_plan}
 use Rattle.sd_tool.proofs.NotOutOfMemory.{valid_start}
 use Rattle.sd_tool.proofs.RootsTexts.{texts_of_roots}
@@ -123,12 +125,12 @@ record FromWord (files : Files) (job : Job) (word : InputWord) (plan : Plan) : T
 -- the text of a formula file
 from_text : (files : Files) (job : Job) (input : Input) (plan : Plan) (text : Text) → job.script ≡ None
     → IsText (Some files) input.file text → ReadsTo (Some files) (with_input job input text) (Begins plan)
-    → (formula : Groups) × HasFormula files input.kind input.file formula × FromTree files job formula plan
+    → (formula : Groups) × ReadsAs files input.file (dimacs input.kind) formula × FromTree files job formula plan
 from_text files job input plan TooLong alone has p = let bad : ⊥ = cc in absurd bad
 from_text files job input plan (Whole bytes) alone has p =
     let found = from_formula files job input.file (dimacs input.kind bytes) plan alone p in (
       found.0,
-      record { bytes = bytes; there = has.0; fits = has.1; reads = found.1 },
+      (bytes, has.0, has.1, found.1),
       found.2,
     )
 
@@ -530,26 +532,33 @@ plan_writes words files job plan last effects old new there from valid steps is 
     searched.search)
 
 -- at status 0 the formula of the input was written
-pub written_at : {asks : List Request → Type 0} (words : List (List ℕ)) (status : ℕ) (kept : Option Table)
-    (old new : Moment)
-    → IsCourse asks words status kept old new → HasWritten words status old new
-written_at words status kept old new went = λ files job zero_ told named alone.
-    let all = (effects_at words status kept old new went).all zero_ in
-    go files job told named alone all.0 (subst (λ f. MayEnd words f all.0 Finished) told all.1) all.2
+pub written_at : (words : List (List ℕ)) (status : ℕ) (kept : Option Table) (seen : Seen)
+    → IsOneCourse words status kept seen → HasWritten words status seen
+written_at words status kept seen went = λ zero_ plain.
+    let all = (effects_at words status seen (effects_of words status kept seen went)).all zero_ in
+    go plain.0 plain.1 plain.2 plain.3 plain.4 all.0 (subst (λ f. MayEnd words f all.0 Finished) plain.2 all.1) all.2
   where
-    go : (files : Files) (job : Job) → old.contents.files ≡ Some files → job_of words ≡ Ok job → job.script ≡ None
-        → (effects : List Effect) → MayEnd words (Some files) effects Finished
-        → new.contents ≡ after effects old.contents
-        → (formula : Groups) × (tree : Tree) × IsInput words files job formula
-        × IsStartTree files job.tree formula.variables tree × IsWritten files job formula tree old.contents new.contents
+    go : (files : Files) (job : Job) → seen.old.contents.files ≡ Some files → job_of words ≡ Ok job
+        → job.script ≡ None → (effects : List Effect) → MayEnd words (Some files) effects Finished
+        → seen.new.contents ≡ after effects seen.old.contents
+        → (run : PlainRun words seen) × WritesInput run
     go files job told named alone effects (inl p) is = absurd p.0
     go files job told named alone effects (inr p) is =
         let from = from_input words files job p.0 named alone p.1 in (
-          from.formula,
-          from.tree,
-          from.input,
-          from.start,
-          plan_writes words files job p.0 p.2.0 effects old.contents new.contents told from
+          record {
+            given = record {
+              files = files;
+              told = told;
+              job = job;
+              named = named;
+              formula = from.formula;
+              input = from.input.input;
+              tree = from.tree;
+              starts = from.start;
+            };
+            alone = alone;
+          },
+          plan_writes words files job p.0 p.2.0 effects seen.old.contents seen.new.contents told from
               (valid_start (Some files) words p.0 p.1) (whole_plan p.0 p.2.0 effects p.2.1) is,
         )
 
@@ -564,10 +573,12 @@ equal_to tree fs gs a b valid p q =
     (texts_of_roots tree fs gs p.diagrams q.diagrams valid p.of_values q.of_values))
 
 -- and so for two writes of a run
-pub equal_texts : (words : List (List ℕ)) (told : Option Files) → HasEqualTexts words told
-equal_texts words told = λ plan fs gs tree a b led first second.
+pub equal_texts : (words : List (List ℕ)) (seen : Seen) → HasEqualTexts words seen
+equal_texts words seen = λ tree fs gs a b first second.
+    let plan = first.plan in
     let reached = first.at.reaches in
     let valid =
-    steps_valid plan.input plan.start first.state reached.done first.effects (valid_start told words plan led)
-    reached.steps in
+    steps_valid plan.input plan.start first.state reached.done first.effects
+    (valid_start seen.old.contents.files words plan
+    (by_reads_to seen.old.contents.files (reading_of words) (Begins plan) first.led.0 first.led.1)) reached.steps in
     equal_to tree fs gs a b (subst IsVtree (sym first.tree_is) valid) first.text_is second.text_is

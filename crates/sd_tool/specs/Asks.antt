@@ -1,11 +1,13 @@
--- What a run asks of the shelf: the files of its readings, in order, and then those that its effects write.
-use Rattle.std.specs.Prelude.{◌≡◌, ◌⊎◌, ℕ, List, [], ◌∷◌, ◌++◌, map, Option}
+-- Where a run goes, and what it asks of the shelf: the files of its readings, in order, and then those that its effects
+-- write.
+use Rattle.std.specs.Prelude.{◌≡◌, ◌⊎◌, ℕ, ◌≤◌, List, [], ◌∷◌, ◌++◌, map, Option, Some}
 use Rattle.sd_base.specs.Asked.{Request, ToRead, ToWrite}
 use Rattle.sd_base.specs.Files.{Files}
 use Rattle.sd_commands.specs.Effects.{Effect, Write, Print}
-use Rattle.sd_tool.specs.Readings.{Plan, Reading, Refuses, Begins, Reads, Text, IsText, reading_of}
-use Rattle.sd_tool.specs.Ends.{End, Finished, Refused, Unreadable, Unwritable, OutOfMemory, ArenaFull, OverLimit}
-use Rattle.sd_tool.specs.Ends.{NotMovable}
+use Rattle.sd_tool.specs.Readings.{Plan, Reading, Refuses, Begins, Reads, Text, ReadsBy, reading_of}
+use Rattle.sd_tool.specs.Devices.{Seen, WritesEndLine}
+use Rattle.sd_tool.specs.Effects.{after}
+use Rattle.sd_tool.specs.Ends.{End, Refused, Unreadable, Unwritable, OutOfMemory, status_of}
 use Rattle.sd_tool.specs.Course.{EndsAmong}
 
 -- no request at all
@@ -13,14 +15,6 @@ abbrev pub IsNone : List Request → Type 0
 IsNone requests = requests ≡ []
 
 -- ---- the readings
-
--- over these files, the readings ask for files of these names, in order, each of which is read, and come to this point
-abbrev pub ReadsBy : Option Files → Reading → List (List ℕ) → Reading → Type 0
-ReadsBy files reading [] point = point ≡ reading
-ReadsBy files (Refuses refusal) (name ∷ names) point = ⊥
-ReadsBy files (Begins plan) (name ∷ names) point = ⊥
-ReadsBy files (Reads file next) (name ∷ names) point =
-    (text : Text) × (name ≡ file) × IsText files file text × ReadsBy files (next text) names point
 
 -- the readings come to this point, and no more is asked than the files that are read
 pub record ComesTo (asks : List Request → Type 0) (files : Option Files) (reading point : Reading) : Type 0 where
@@ -56,14 +50,10 @@ begun effects end = effects
 
 -- the run ends at its readings, before any command, and asks for no more than they do
 abbrev pub EndsAsking : (List Request → Type 0) → Option Files → Reading → End → Type 0
-EndsAsking asks files reading Finished = ⊥
 EndsAsking asks files reading (Refused refusal) = ComesTo asks files reading (Refuses refusal)
 EndsAsking asks files reading (Unreadable file) = AsksLast asks files reading file
-EndsAsking asks files reading (Unwritable effect) = ⊥
 EndsAsking asks files reading OutOfMemory = BreaksOff asks files reading
-EndsAsking asks files reading (ArenaFull elements) = ⊥
-EndsAsking asks files reading (OverLimit line group size limit) = ⊥
-EndsAsking asks files reading (NotMovable line) = ⊥
+EndsAsking asks files reading end = ⊥
 
 -- After these effects, a run with these words over these files comes to this end, and it asks of the shelf what its
 -- readings ask, and then the writings of the effects that are begun.
@@ -74,10 +64,34 @@ GoesTo asks words files effects end =
     × ComesTo (λ readings. asks (readings ++ writings (begun effects end))) files (reading_of words) (Begins plan)
     × EndsAmong plan effects end)
 
--- What is asked of the shelf at each status: where the words are refused, nothing; at 1, 2 and 5, which come before
--- the commands alone, only readings; and never is a file read after one is written.
-pub record HasAsked (status : ℕ) (asks : List Request → Type 0) : Type 0 where
-  pub nothing : status ≡ 1 → asks []
-  pub readings : (status ≡ 1) ⊎ (status ≡ 2) ⊎ (status ≡ 5)
-      → (names : List (List ℕ)) × asks (map ToRead names)
-  pub order : (names files : List (List ℕ)) × asks (map ToRead names ++ map ToWrite files)
+-- The run did some effects and came to an end with this status, as the words and the files lead, and asked for no more
+-- than they do; and of these this holds.
+abbrev pub Went : List (List ℕ) → ℕ → Seen → (List Effect → End → Type 0) → Type 0
+Went words status seen holds = (effects : List Effect) × (end : End) × (status ≡ status_of end)
+    × GoesTo seen.asked words seen.old.contents.files effects end × holds effects end
+
+-- an end of status 0 to 4 to which the words and told files lead after these effects
+pub record OwnEnd (words : List (List ℕ)) (seen : Seen) : Type 0 where
+  pub files : Files
+  pub told : seen.old.contents.files ≡ Some files
+  pub effects : List Effect
+  pub end : End
+  pub own : status_of end ≤ 4
+  pub leads : GoesTo (λ requests. Unit {0}) words (Some files) effects end
+
+-- the run came to it, with all its effects and its line
+abbrev pub CameTo : {words : List (List ℕ)} {seen : Seen} → OwnEnd words seen → ℕ → Type 0
+CameTo {seen = seen} own status = (status ≡ status_of own.end)
+    × (seen.new.contents ≡ after own.effects seen.old.contents) × WritesEndLine own.end seen.old seen.new
+
+-- there was no memory, or no room in the arena
+abbrev pub LacksRoom : ℕ → Type 0
+LacksRoom status = (status ≡ 7) ⊎ (status ≡ 8)
+
+-- only readings are asked for
+abbrev pub ReadsAlone : (List Request → Type 0) → Type 0
+ReadsAlone asks = (names : List (List ℕ)) × asks (map ToRead names)
+
+-- no file is read after one is written
+abbrev pub ReadsFirst : (List Request → Type 0) → Type 0
+ReadsFirst asks = (names files : List (List ℕ)) × asks (map ToRead names ++ map ToWrite files)

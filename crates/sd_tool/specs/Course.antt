@@ -1,25 +1,12 @@
 -- The course of a run: the effects that it does, one after another, and the end that it comes to.
-use Rattle.std.specs.Prelude.{◌≡◌, ◌⊎◌, ℕ, List, [], ◌∷◌, ◌++◌, Option}
-use Rattle.sd_base.specs.Files.{Files}
+use Rattle.std.specs.Prelude.{◌≡◌, List, [], ◌∷◌, ◌++◌}
 use Rattle.sd_commands.specs.Effects.{Effect}
 use Rattle.sd_commands.specs.Commands.{State, Done, OverLimit as PassesLimit, NotMovable as Unmoved, Step, Steps}
 use Rattle.sd_commands.specs.Commands.{MayFill}
 use Rattle.sd_commands.specs.declared.command.NumberedCommand.{NumberedCommand}
 use Rattle.sd_tool.specs.Effects.{Contents, after, DoesPart}
-use Rattle.sd_tool.specs.Readings.{Plan, Reading, Refuses, Begins, Reads, reading_of, ReadsTo}
-use Rattle.sd_tool.specs.Ends.{End, Finished, Refused, Unreadable, Unwritable, OutOfMemory, ArenaFull, OverLimit}
-use Rattle.sd_tool.specs.Ends.{NotMovable}
-
--- The run ends at its readings, before any command: refused, at a file that it asks for, or out of memory.
-abbrev pub EndsReading : Option Files → Reading → End → Type 0
-EndsReading files reading Finished = ⊥
-EndsReading files reading (Refused refusal) = ReadsTo files reading (Refuses refusal)
-EndsReading files reading (Unreadable file) = (next : _) × ReadsTo files reading (Reads file next)
-EndsReading files reading (Unwritable effect) = ⊥
-EndsReading files reading OutOfMemory = Unit {0}
-EndsReading files reading (ArenaFull elements) = ⊥
-EndsReading files reading (OverLimit line group size limit) = ⊥
-EndsReading files reading (NotMovable line) = ⊥
+use Rattle.sd_tool.specs.Readings.{Plan}
+use Rattle.sd_tool.specs.Ends.{End, Finished, Unwritable, OutOfMemory, ArenaFull, OverLimit, NotMovable}
 
 -- The first commands of a plan are done with these effects, and the others are left.
 pub record Reaches (plan : Plan) (effects : List Effect) (state : State) (left : List NumberedCommand) : Type 0 where
@@ -37,8 +24,6 @@ pub record IsAtCommand (plan : Plan) (effects : List Effect) (state : State) (ne
 -- or its place is not movable.
 abbrev pub EndsAmong : Plan → List Effect → End → Type 0
 EndsAmong plan effects Finished = (state : State) × Reaches plan effects state []
-EndsAmong plan effects (Refused refusal) = ⊥
-EndsAmong plan effects (Unreadable file) = ⊥
 EndsAmong plan effects (Unwritable effect) =
     (state : State) × (next : NumberedCommand) × IsAtCommand plan effects state next
     × ((then_on : State) × Step plan.input state next.command (Done then_on (effect ∷ [])))
@@ -51,12 +36,7 @@ EndsAmong plan effects (OverLimit line group size limit) =
 EndsAmong plan effects (NotMovable line) =
     (state : State) × (next : NumberedCommand) × IsAtCommand plan effects state next × (next.line ≡ line)
     × Step plan.input state next.command Unmoved
-
--- After these effects, a run with these words over these files may come to this end.
-abbrev pub MayEnd : List (List ℕ) → Option Files → List Effect → End → Type 0
-MayEnd words files effects end =
-    (EndsReading files (reading_of words) end × (effects ≡ []))
-    ⊎ ((plan : Plan) × ReadsTo files (reading_of words) (Begins plan) × EndsAmong plan effects end)
+EndsAmong plan effects end = ⊥
 
 -- The contents after these effects; where the effect in hand failed, after a part of it too.
 abbrev pub Leaves : List Effect → End → Contents → Contents → Type 0

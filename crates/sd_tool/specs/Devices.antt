@@ -1,11 +1,15 @@
 -- The devices of a run at a moment: the files, what was printed, what stands on `err`, and the counts of their faults.
-use Rattle.std.specs.Prelude.{◌≡◌, ◌⊎◌, ℕ, ◌≤◌, List, Option}
+use Rattle.std.specs.Prelude.{◌≡◌, ◌⊎◌, ℕ, List, Option}
+use Rattle.sd_base.specs.Asked.{Request, Adds}
 use Rattle.sd_base.specs.Faults.{Rose}
 use Rattle.sd_base.specs.Files.{Files, Lacks}
 use Rattle.sd_base.specs.Sink.{told_then, AppendsPart}
+use Rattle.sd_base.specs.declared.shelf.Shelf as shelves
+use Rattle.sd_base.specs.declared.sink.Sink as sinks
 use Rattle.sd_commands.specs.Effects.{Write, Print}
 use Rattle.sd_tool.specs.Effects.{Contents}
-use Rattle.sd_tool.specs.Ends.{End, Finished, Unreadable, Unwritable, text_of, line_of}
+use Rattle.sd_tool.specs.Ends.{End, Finished, Refused, Unreadable, Unwritable, text_of, line_of}
+use Rattle.sd_tool.specs.Refusals.{IsOfText}
 
 -- how often each device has failed
 pub record Faults : Type 0 where
@@ -20,32 +24,43 @@ pub record Moment : Type 0 where
   pub faults : Faults
   pub err_faults : ℕ
 
--- the contents of this shelf and this `out`
-abbrev pub contents : {F O : Type 0} → (F → Option Files) → (O → Option (List ℕ)) → F → O → Contents
-contents files written shelf out = record { files = files shelf; printed = written out }
+-- what a run shows: the devices before it and after it, and what it asks of the shelf
+pub record Seen : Type 1 where
+  pub old : Moment
+  pub new : Moment
+  pub asked : List Request → Type 0
 
--- their counts
-abbrev pub faults : {F O : Type 0} → (F → ℕ) → (F → ℕ) → (O → ℕ) → F → O → Faults
-faults read write print shelf out = record { read = read shelf; write = write shelf; print = print out }
+-- the moment of this shelf, this `out` and this `err`, by what they tell and count
+abbrev pub moment : {F O E : Type 0} → shelves.Ghosts F → sinks.Ghosts O → sinks.Ghosts E → F → O → E → Moment
+moment files prints errs shelf out err = record {
+  contents = record { files = files.files shelf; printed = prints.written out };
+  errors = errs.written err;
+  faults = record { read = files.read_faults shelf; write = files.write_faults shelf; print = prints.faults out };
+  err_faults = errs.faults err;
+}
 
--- no count has fallen
-pub record NotFewer (before now : Faults) : Type 0 where
-  pub read : before.read ≤ now.read
-  pub write : before.write ≤ now.write
-  pub print : before.print ≤ now.print
+-- what a shelf, `out` and `err` show, before and after
+abbrev pub seen : {F O E : Type 0} → shelves.Ghosts F → sinks.Ghosts O → sinks.Ghosts E → F → O → E → F → O → E → Seen
+seen files prints errs shelf out err shelf' out' err' = record {
+  old = moment files prints errs shelf out err;
+  new = moment files prints errs shelf' out' err';
+  asked = Adds files.asked shelf shelf';
+}
 
 -- neither the shelf nor `out` failed
-pub record NoneRose (before now : Faults) : Type 0 where
-  pub read : ¬ (Rose before.read now.read)
-  pub write : ¬ (Rose before.write now.write)
-  pub print : ¬ (Rose before.print now.print)
+pub record IsCalm (seen : Seen) : Type 0 where
+  pub read : ¬ (Rose seen.old.faults.read seen.new.faults.read)
+  pub write : ¬ (Rose seen.old.faults.write seen.new.faults.write)
+  pub print : ¬ (Rose seen.old.faults.print seen.new.faults.print)
 
--- A device fault has its cause: its count rose, or the shelf tells that there is no such file.
-abbrev pub HasDeviceCause : End → Option Files → Faults → Faults → Type 0
-HasDeviceCause (Unreadable file) files before now = Lacks files file ⊎ Rose before.read now.read
-HasDeviceCause (Unwritable (Write file bytes)) files before now = Rose before.write now.write
-HasDeviceCause (Unwritable (Print line)) files before now = Rose before.print now.print
-HasDeviceCause end files before now = Unit {0}
+-- An end has its reason. A refusal is for a fault of the words or of a text; at a device fault its count rose, or the
+-- shelf tells that there is no such file.
+abbrev pub HasReason : End → Option Files → Faults → Faults → Type 0
+HasReason (Refused refusal) files before now = IsOfText refusal
+HasReason (Unreadable file) files before now = Lacks files file ⊎ Rose before.read now.read
+HasReason (Unwritable (Write file bytes)) files before now = Rose before.write now.write
+HasReason (Unwritable (Print line)) files before now = Rose before.print now.print
+HasReason end files before now = Unit {0}
 
 -- This line was appended, or a prefix of it where the sink has failed.
 abbrev pub WritesLine : List ℕ → Option (List ℕ) → Option (List ℕ) → ℕ → ℕ → Type 0
@@ -55,20 +70,3 @@ WritesLine line old new before now = (new ≡ told_then old line) ⊎ (AppendsPa
 abbrev pub WritesEndLine : End → Moment → Moment → Type 0
 WritesEndLine Finished old new = new.errors ≡ old.errors
 WritesEndLine end old new = WritesLine (line_of (text_of end)) old.errors new.errors old.err_faults new.err_faults
-
--- the moment of a shelf, `out` and `err` by what they tell and count
-abbrev pub moment : {F O E : Type 0} → (F → Option Files) → (F → ℕ) → (F → ℕ)
-    → (O → Option (List ℕ)) → (O → ℕ) → (E → Option (List ℕ)) → (E → ℕ) → F → O → E → Moment
-moment files read write written print errors err_faults shelf out err = record {
-  contents = contents files written shelf out;
-  errors = errors err;
-  faults = faults read write print shelf out;
-  err_faults = err_faults err;
-}
-
--- a fact of two moments of a shelf, `out` and `err`
-abbrev pub between : {F O E : Type 0} → (F → Option Files) → (F → ℕ) → (F → ℕ) → (O → Option (List ℕ)) → (O → ℕ)
-    → (E → Option (List ℕ)) → (E → ℕ) → F → O → E → F → O → E → (Moment → Moment → Type 0) → Type 0
-between files read write written print errors err_faults shelf out err shelf' out' err' holds =
-    holds (moment files read write written print errors err_faults shelf out err)
-    (moment files read write written print errors err_faults shelf' out' err')

@@ -5,6 +5,7 @@ use Rattle.sd_commands.specs.Effects.{Effect, Write, Print}
 use Rattle.sd_tool.specs.Refusals.{refusal_status, refusal_text}
 use Rattle.sd_tool.specs.declared.refusal.Refusal.{Refusal}
 
+-- how a run ends
 pub data End : Type 0 where
   -- all commands were done
   Finished : End
@@ -23,6 +24,7 @@ pub data End : Type 0 where
   -- the total size passes the limit, at the command of a line, or there at a group of the input
   OverLimit : (line : ℕ) (group : Option ℕ) (size limit : ℕ) → End
 
+-- the status of each end
 abbrev pub status_of : End → ℕ
 status_of Finished = 0
 status_of (Refused refusal) = refusal_status refusal

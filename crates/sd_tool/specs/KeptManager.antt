@@ -1,4 +1,4 @@
--- What a run keeps of its diagrams: the manager whose arena refused, and else nothing.
+-- What a run keeps of its diagrams: the manager whose arena refused, and else nothing. With it, all of an end.
 use Rattle.std.specs.Prelude.{◌≡◌, ℕ, List, Option, Some, None}
 use Rattle.sd_base.specs.Files.{Files}
 use Rattle.sd_vtree.specs.Numbered.{plain_tree}
@@ -7,9 +7,10 @@ use Rattle.sd_commands.specs.Effects.{Effect}
 use Rattle.sd_commands.specs.Commands.{State, MayFill}
 use Rattle.sd_commands.specs.Standing.{IsFilled, IsTreeLeft, HoldsState}
 use Rattle.sd_commands.specs.declared.command.NumberedCommand.{NumberedCommand}
-use Rattle.sd_tool.specs.Readings.{Plan, Begins, reading_of, ReadsTo}
+use Rattle.sd_tool.specs.Readings.{Plan, Begins, reading_of, MayComeTo}
 use Rattle.sd_tool.specs.Ends.{End, ArenaFull}
 use Rattle.sd_tool.specs.Course.{IsAtCommand}
+use Rattle.sd_tool.specs.Devices.{Seen, HasReason, WritesEndLine}
 
 -- The manager holds the run's formulas at the command in hand, which may need the arena: its vtree is the tree of the
 -- state there, or at a search or an input the tree after the walks that were finished, and its roots hold the diagrams
@@ -22,14 +23,14 @@ pub record HoldsAt (plan : Plan) (effects : List Effect) (t : Table) : Type 0 wh
   pub left : IsTreeLeft plan.input state next.command (plain_tree t.vtree)
   pub holds : HoldsState t (record state { tree = plain_tree t.vtree })
 
--- at a full arena the manager that refused is kept, as it was at the command in hand, and at each other end none
-abbrev pub KeepsOf : Plan → List Effect → End → Option Table → Type 0
-KeepsOf plan effects (ArenaFull elements) None = ⊥
-KeepsOf plan effects (ArenaFull elements) (Some t) = IsFilled elements t × HoldsAt plan effects t
-KeepsOf plan effects end kept = kept ≡ None
-
--- so it is for the plan to which the words and the files lead
+-- At a full arena the manager that refused is kept, as it was at the command in hand of the plan to which the words and
+-- the files lead, and at each other end none.
 abbrev pub KeepsManager : List (List ℕ) → Option Files → List Effect → End → Option Table → Type 0
-KeepsManager words files effects (ArenaFull elements) kept =
-    (plan : Plan) × ReadsTo files (reading_of words) (Begins plan) × KeepsOf plan effects (ArenaFull elements) kept
+KeepsManager words files effects (ArenaFull elements) kept = (t : Table) × (plan : Plan) × (kept ≡ Some t)
+    × IsFilled elements t × MayComeTo files (reading_of words) (Begins plan) × HoldsAt plan effects t
 KeepsManager words files effects end kept = kept ≡ None
+
+-- the end has its reason and its line, and what is kept is what it keeps
+abbrev pub EndsSo : List (List ℕ) → List Effect → End → Option Table → Seen → Type 0
+EndsSo words effects end kept seen = HasReason end seen.old.contents.files seen.old.faults seen.new.faults
+    × KeepsManager words seen.old.contents.files effects end kept × WritesEndLine end seen.old seen.new

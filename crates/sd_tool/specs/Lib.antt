@@ -4,13 +4,13 @@ pub mod Course
 pub mod Devices
 pub mod Effects
 pub mod Ends
-pub mod PlanViews
-pub mod Headline
+pub mod inside
 pub mod Joined
 pub mod KeptManager
-pub mod Limited
 pub mod Parts
+pub mod PlanViews
 pub mod Readings
 pub mod Refusals
 pub mod Stops
+pub mod Theorem
 pub mod Written

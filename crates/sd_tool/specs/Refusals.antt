@@ -16,14 +16,12 @@ use Rattle.sd_tool.specs.declared.refusal.Refusal.{Refusal}
 use Rattle.sd_tool.specs.declared.refusal.Refusal.TheVariants.{BadWords, TooLong, BadFormula, BadVtree}
 use Rattle.sd_tool.specs.declared.refusal.Refusal.TheVariants.{LongScript, BadScript, BadSdd}
 
+-- 1 for the words, 3 for the script, 2 for each other file
 abbrev pub refusal_status : Refusal → ℕ
 refusal_status (BadWords fault) = 1
-refusal_status (TooLong file) = 2
-refusal_status (BadFormula file fault) = 2
-refusal_status (BadVtree file fault) = 2
-refusal_status (BadSdd file fault) = 2
 refusal_status (LongScript file) = 3
 refusal_status (BadScript file fault) = 3
+refusal_status refusal = 2
 
 -- the fault is one of the words or of a text: OutOfMemory is none
 abbrev pub IsOfText : Refusal → Type 0

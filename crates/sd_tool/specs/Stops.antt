@@ -13,8 +13,8 @@ use Rattle.sd_tool.specs.Effects.{Contents, DoesPart}
 use Rattle.sd_tool.specs.Readings.{Plan, Reading, Refuses, Text, Whole, TooLong}
 use Rattle.sd_tool.specs.Ends.{End, Finished, Refused, Unreadable, Unwritable, OutOfMemory as NoMemory}
 use Rattle.sd_tool.specs.Ends.{ArenaFull as NoRoom, OverLimit, NotMovable, status_of, text_of}
-use Rattle.sd_tool.specs.KeptManager.{HoldsAt, KeepsOf, KeepsManager}
-use Rattle.sd_tool.specs.Devices.{HasDeviceCause, Faults}
+use Rattle.sd_tool.specs.KeptManager.{HoldsAt, KeepsManager}
+use Rattle.sd_tool.specs.Devices.{HasReason, Faults}
 use Rattle.sd_tool.specs.Asks.{ComesTo, AsksLast, BreaksOff, GoesTo, begun, writings}
 use Rattle.sd_tool.specs.Course.{EndsAmong, Leaves}
 use Rattle.sd_tool.specs.declared.refusal.Refusal.{Refusal}
@@ -67,6 +67,12 @@ abbrev pub IsFullAt : Plan → List Effect → End → Table → Type 0
 IsFullAt plan effects (NoRoom elements) t = IsFilled elements t × HoldsAt plan effects t
 IsFullAt plan effects end t = Unit {0}
 
+-- at a full arena the manager that refused is kept, as it was at the command in hand, and at each other end none
+abbrev pub KeepsOf : Plan → List Effect → End → Option Table → Type 0
+KeepsOf plan effects (NoRoom elements) None = ⊥
+KeepsOf plan effects (NoRoom elements) (Some t) = IsFilled elements t × HoldsAt plan effects t
+KeepsOf plan effects end kept = kept ≡ None
+
 -- the readings stop so, and ask for no more
 abbrev pub StopsReading : (List Request → Type 0) → Stop → Option Files → Reading → ℕ → ℕ → Type 0
 StopsReading asks (stops.Refused refusal) files reading before now = ComesTo asks files reading (Refuses refusal)
@@ -85,7 +91,7 @@ pub record RunsToEnd (asks : List Request → Type 0) (plan : Plan) (t : Table) 
   pub asked : asks (writings (begun effects end))
   pub full_at : IsFullAt plan effects end t
   pub leaves : Leaves effects end old new
-  pub cause : HasDeviceCause end old.files before now
+  pub reason : HasReason end old.files before now
 
 -- the same, with what is kept
 pub record CarriesOut (asks : List Request → Type 0) (plan : Plan) (kept : Option Table)
@@ -97,7 +103,7 @@ pub record CarriesOut (asks : List Request → Type 0) (plan : Plan) (kept : Opt
   pub asked : asks (writings (begun effects end))
   pub keeps : KeepsOf plan effects end kept
   pub leaves : Leaves effects end old new
-  pub cause : HasDeviceCause end old.files before now
+  pub reason : HasReason end old.files before now
 
 -- the one effect failed, after a part of it
 pub record FailsAt (stop : Stop) (effects : List Effect) (old new : Contents) (before now : Faults) : Type 0 where
@@ -105,7 +111,7 @@ pub record FailsAt (stop : Stop) (effects : List Effect) (old new : Contents) (b
   pub one : effects ≡ effect ∷ []
   pub at : StandsFor stop (Unwritable effect)
   pub part : DoesPart effect old new
-  pub cause : HasDeviceCause (Unwritable effect) old.files before now
+  pub reason : HasReason (Unwritable effect) old.files before now
 
 -- the readings and the commands come to an end, with the result of the code and what is kept
 pub record Attempts (asks : List Request → Type 0) (words : List (List ℕ)) (kept : Option Table)
@@ -116,7 +122,7 @@ pub record Attempts (asks : List Request → Type 0) (words : List (List ℕ)) (
   pub goes : GoesTo asks words old.files effects end
   pub keeps : KeepsManager words old.files effects end kept
   pub leaves : Leaves effects end old new
-  pub cause : HasDeviceCause end old.files before now
+  pub reason : HasReason end old.files before now
 
 -- ---- the readings, step by step
 

@@ -1,18 +1,16 @@
--- What the written files are, said without the course of the run.
-use Rattle.std.specs.Prelude.{◌≡◌, ◌↔◌, ℕ, ◌≤◌, List, [], ◌∷◌, map, length, Option, Some, None, Ok}
-use Rattle.std.specs.List.{AllZip}
+-- What the words and told files give, and what the written files are, said without the course of the run.
+use Rattle.std.specs.Prelude.{◌≡◌, ℕ, ◌≤◌, List, [], ◌∷◌, map, length, Option, Some, None, Result, Ok}
 use Rattle.sd_base.specs.Files.{Files, bytes_at, with_file}
 use Rattle.sd_base.specs.Sink.{told_then}
-use Rattle.sd_model.specs.Expression.{Expression, AreOneFunction}
+use Rattle.sd_model.specs.Expression.{Expression}
 use Rattle.sd_model.specs.Diagram.{Diagram}
 use Rattle.sd_model.specs.Size.{IsDiagramOf, size_of}
 use Rattle.sd_model.specs.StartTrees.{balanced_tree, right_tree, left_tree}
-use Rattle.sd_model.specs.Tree.{Tree, leaves}
+use Rattle.sd_model.specs.Tree.{Tree}
 use Rattle.sd_model.specs.Text.{sdd_text, vtree_text}
 use Rattle.sd_formula.specs.Dimacs.{Groups, dimacs}
 use Rattle.sd_formula.specs.Formulas.{expression_of}
 use Rattle.sd_formula.specs.Generated.{generated_formula}
-use Rattle.sd_formula.specs.declared.formula.Kind.{Kind}
 use Rattle.sd_formula.specs.declared.formula.Kind.TheVariants as kinds
 use Rattle.sd_vfile.specs.Reads.{vtree_file}
 use Rattle.sd_search.specs.Search.{Found, IsSearch}
@@ -24,40 +22,53 @@ use Rattle.sd_words.specs.declared.jobs.TreeWord.{TreeWord}
 use Rattle.sd_words.specs.declared.jobs.TreeWord.TheVariants as trees
 use Rattle.sd_commands.specs.Effects.{Effect}
 use Rattle.sd_commands.specs.Standing.{start}
-use Rattle.sd_commands.specs.Commands.{State, Grows, IsTextOf, formula_named, generated_line, size_line, search_line}
+use Rattle.sd_commands.specs.Commands.{State, Grows, PassesAtGroup, IsTextOf, formula_named, generated_line, size_line, search_line}
 use Rattle.sd_commands.specs.declared.command.NumberedCommand.{NumberedCommand}
 use Rattle.sd_commands.specs.declared.command.RunCommand.TheVariants as commands
-use Rattle.sd_tool.specs.Readings.{Plan, Begins, reading_of, ReadsTo}
+use Rattle.sd_tool.specs.Readings.{Plan, Begins, reading_of, MayComeTo}
 use Rattle.sd_tool.specs.Course.{IsAtCommand}
 use Rattle.sd_tool.specs.Effects.{Contents}
-use Rattle.sd_tool.specs.Devices.{Moment}
+use Rattle.sd_tool.specs.Devices.{Seen, WritesEndLine}
+use Rattle.sd_tool.specs.Ends.{OverLimit}
 
--- the file is there and not too long, and its bytes are the text of this formula
-pub record HasFormula (files : Files) (kind : Kind) (file : List ℕ) (formula : Groups) : Type 0 where
-  pub bytes : List ℕ
-  pub there : bytes_at files file ≡ Some bytes
-  pub fits : length bytes ≤ 67108864
-  pub reads : dimacs kind bytes ≡ Ok formula
+-- the file is there and not too long, and its text reads so
+abbrev pub ReadsAs : {A E : Type 0} → Files → List ℕ → (List ℕ → Result A E) → A → Type 0
+ReadsAs files file read value =
+    (bytes : List ℕ) × (bytes_at files file ≡ Some bytes) × (length bytes ≤ 67108864) × (read bytes ≡ Ok value)
 
 -- the formula of the words: that of a file, or the generated one
 abbrev pub IsFormulaOf : Files → InputWord → Groups → Type 0
-IsFormulaOf files (inputs.Cnf file) formula = HasFormula files kinds.Cnf file formula
-IsFormulaOf files (inputs.Dnf file) formula = HasFormula files kinds.Dnf file formula
+IsFormulaOf files (inputs.Cnf file) formula = ReadsAs files file (dimacs kinds.Cnf) formula
+IsFormulaOf files (inputs.Dnf file) formula = ReadsAs files file (dimacs kinds.Dnf) formula
 IsFormulaOf files (inputs.Generate count seed) formula = formula ≡ generated_formula count seed
-
--- the words, without a script, ask for this formula
-pub record IsInput (words : List (List ℕ)) (files : Files) (job : Job) (formula : Groups) : Type 0 where
-  pub named : job_of words ≡ Ok job
-  pub alone : job.script ≡ None
-  pub input : IsFormulaOf files job.input formula
 
 -- the start tree of the words, for a formula of so many variables: that of a shape, or that of a vtree file
 abbrev pub IsStartTree : Files → TreeWord → ℕ → Tree → Type 0
 IsStartTree files trees.Balanced v tree = tree ≡ balanced_tree v
 IsStartTree files trees.Right v tree = tree ≡ right_tree v
 IsStartTree files trees.Left v tree = tree ≡ left_tree v
-IsStartTree files (trees.File file) v tree =
-    (bytes : List ℕ) × (bytes_at files file ≡ Some bytes) × (length bytes ≤ 67108864) × (vtree_file v bytes ≡ Ok tree)
+IsStartTree files (trees.File file) v tree = ReadsAs files file (vtree_file v) tree
+
+-- the words are accepted and the files told: what the words ask for, the formula and the start tree
+pub record Given (words : List (List ℕ)) (seen : Seen) : Type 0 where
+  pub files : Files
+  pub told : seen.old.contents.files ≡ Some files
+  pub job : Job
+  pub named : job_of words ≡ Ok job
+  pub formula : Groups
+  pub input : IsFormulaOf files job.input formula
+  pub tree : Tree
+  pub starts : IsStartTree files job.tree formula.variables tree
+
+-- so for a run without a script
+pub record PlainRun (words : List (List ℕ)) (seen : Seen) : Type 0 where
+  pub given : Given words seen
+  pub alone : given.job.script ≡ None
+
+-- the files are told, and the words are accepted and have no script
+abbrev pub IsPlain : List (List ℕ) → Seen → Type 0
+IsPlain words seen = (files : Files) × (job : Job) × (seen.old.contents.files ≡ Some files) × (job_of words ≡ Ok job)
+    × (job.script ≡ None)
 
 -- the files with these bytes under a name that is there
 abbrev pub with_output : Option (List ℕ) → List ℕ → Files → Files
@@ -93,19 +104,30 @@ pub record IsWritten (files : Files) (job : Job) (formula : Groups) (tree : Tree
   pub of_formula : IsDiagramOf found (expression_of formula) diagram
   pub files_are : new.files
       ≡ Some (with_output job.out_sdd (sdd_text diagram) (with_output job.out_vtree (vtree_text found) files))
-  pub printed_is : new.printed
-      ≡ told_then told (size_line (size_of (diagram ∷ [])))
+  pub printed_is : new.printed ≡ told_then told (size_line (size_of (diagram ∷ [])))
 
--- At status 0, over told files, a run without a script wrote the formula of its input.
-abbrev pub HasWritten : List (List ℕ) → ℕ → Moment → Moment → Type 0
-HasWritten words status old new = (files : Files) (job : Job) → status ≡ 0 → old.contents.files ≡ Some files
-    → job_of words ≡ Ok job → job.script ≡ None
-    → (formula : Groups) × (tree : Tree) × IsInput words files job formula
-    × IsStartTree files job.tree formula.variables tree × IsWritten files job formula tree old.contents new.contents
+-- a run without a script wrote so
+abbrev pub WritesInput : {words : List (List ℕ)} {seen : Seen} → PlainRun words seen → Type 0
+WritesInput {seen = seen} run = let given = run.given in
+    IsWritten given.files given.job given.formula given.tree seen.old.contents seen.new.contents
 
--- A command of the plan that writes diagrams is reached: the formulas of its names and the tree there, and the text
--- that it writes.
-pub record Writes (plan : Plan) (fs : List Expression) (tree : Tree) (text : List ℕ) : Type 0 where
+-- The groups of the formula before this one are within the limit of the words, each on the tree to which those before
+-- it lead from the start tree; with this one the size passes it.
+abbrev pub PassesAt : {words : List (List ℕ)} {seen : Seen} → PlainRun words seen → ℕ → ℕ → Type 0
+PassesAt run group size = let job = run.given.job in
+    PassesAtGroup run.given.formula (start run.given.tree job.limit job.slack job.every) group size
+
+-- the line tells the first such group and the size there
+abbrev pub TellsGroup : {words : List (List ℕ)} {seen : Seen} → PlainRun words seen → Type 0
+TellsGroup {seen = seen} run = (group size : ℕ) × PassesAt run group size
+    × WritesEndLine (OverLimit 1 (Some group) size run.given.job.limit) seen.old seen.new
+
+-- A command that writes diagrams is reached, of the plan to which the words and the files lead: the formulas of its
+-- names and the tree there, and the text that it writes.
+pub record Writes (words : List (List ℕ)) (seen : Seen) (tree : Tree) (fs : List Expression) (text : List ℕ)
+    : Type 0 where
+  pub plan : Plan
+  pub led : MayComeTo seen.old.contents.files (reading_of words) (Begins plan)
   pub names : List ℕ
   pub file : List ℕ
   pub effects : List Effect
@@ -116,10 +138,3 @@ pub record Writes (plan : Plan) (fs : List Expression) (tree : Tree) (text : Lis
   pub formulas : fs ≡ map (formula_named state) names
   pub tree_is : tree ≡ state.tree
   pub text_is : IsTextOf tree fs text
-
--- Two writes of a run at one tree have equal texts exactly if both name as many roots and the formulas at each place
--- are one function. The command `same` prints that answer for single names.
-abbrev pub HasEqualTexts : List (List ℕ) → Option Files → Type 0
-HasEqualTexts words files = (plan : Plan) (fs gs : List Expression) (tree : Tree) (a b : List ℕ)
-    → ReadsTo files (reading_of words) (Begins plan) → Writes plan fs tree a → Writes plan gs tree b
-    → (a ≡ b) ↔ AllZip (AreOneFunction (leaves tree)) fs gs

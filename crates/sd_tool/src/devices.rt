@@ -5,7 +5,8 @@ ghost use Rattle.sd_base.specs.Shelf.{NoFile};
 ghost use Rattle.sd_tool.specs.Asks.{writings};
 ghost use Rattle.sd_tool.specs.Effects.{after, after_effect, DoesPart};
 ghost use Rattle.sd_tool.specs.Ends.{Unwritable};
-ghost use Rattle.sd_tool.specs.Devices.{contents, faults, HasDeviceCause, NotFewer};
+ghost use Rattle.sd_tool.specs.Devices.{HasReason};
+ghost use Rattle.sd_tool.specs.inside.Devices.{contents, faults, NotFewer};
 ghost use Rattle.sd_commands.specs.Standing.{effect_of, effects_of};
 ghost use Rattle.sd_tool.specs.Stops.{StandsFor, FailsAt};
 
@@ -14,7 +15,7 @@ use sd_base::{Shelf, Sink, write_all, write_all_to};
 use sd_commands::Effect;
 
 /// Does what a command asks for outside, if anything.
-pub fn perform_any<F: Shelf, O: Sink>(
+pub fn write_effect_if_any<F: Shelf, O: Sink>(
     shelf: &mut F,
     out: &mut O,
     effect: Option<Effect>,
@@ -33,13 +34,13 @@ pub fn perform_any<F: Shelf, O: Sink>(
     ensures asked { Adds F.asked shelf.old shelf.new (writings (effects_of effect)) }
 {
     match effect {
-        Some(effect) => perform(shelf, out, effect),
+        Some(effect) => write_effect(shelf, out, effect),
         None => Ok(()),
     }
 }
 
 // Does this outside.
-fn perform<F: Shelf, O: Sink>(shelf: &mut F, out: &mut O, effect: Effect) -> Result<(), Stop>
+fn write_effect<F: Shelf, O: Sink>(shelf: &mut F, out: &mut O, effect: Effect) -> Result<(), Stop>
     requires { F.hand shelf.old ≡ NoFile }
     ensures hand { F.hand shelf.new ≡ NoFile }
     ensures ok { OnOk result (contents F.files O.written shelf.new out.new
@@ -49,7 +50,7 @@ fn perform<F: Shelf, O: Sink>(shelf: &mut F, out: &mut O, effect: Effect) -> Res
         (contents F.files O.written shelf.new out.new)) }
     ensures stop { IfErr result (λ stop. StandsFor stop (Unwritable (effect_of effect))) }
     ensures cause { IfErr result
-        (λ stop. HasDeviceCause (Unwritable (effect_of effect)) (F.files shelf.old)
+        (λ stop. HasReason (Unwritable (effect_of effect)) (F.files shelf.old)
         (faults F.read_faults F.write_faults O.faults shelf.old out.old)
         (faults F.read_faults F.write_faults O.faults shelf.new out.new)) }
     ensures fewer { NotFewer (faults F.read_faults F.write_faults O.faults shelf.old out.old)

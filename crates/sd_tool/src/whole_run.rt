@@ -2,16 +2,15 @@
 ghost use Rattle.std.specs.Prelude.{◌≡◌, Some, None, cond, map, string_bytes};
 ghost use Rattle.sd_base.specs.Asked.{Adds};
 ghost use Rattle.sd_base.specs.Shelf.{NoFile};
-ghost use Rattle.sd_tool.specs.Asks.{HasAsked};
-ghost use Rattle.sd_tool.specs.Devices.{contents, faults, between, NotFewer};
+ghost use Rattle.sd_tool.specs.Devices.{seen};
+ghost use Rattle.sd_tool.specs.inside.Devices.{contents, faults, NotFewer};
 ghost use Rattle.sd_tool.specs.PlanViews.{plan_of, plan_with, IsReady, IsReadyWith};
-ghost use Rattle.sd_tool.specs.Headline.{IsCourse, HasEffects, HasLine, HasEnd, IsComplete};
+ghost use Rattle.sd_tool.specs.Theorem.{HasEffects, HasEqualTexts, HasWritten, HasLimit, HasJoined};
+ghost use Rattle.sd_tool.specs.Theorem.{HasLine, HasEnd, IsComplete, HasAsked, IsCourse};
+ghost use Rattle.sd_tool.specs.inside.ByStatus.{IsOneCourse};
 ghost use Rattle.sd_tool.specs.Stops.{RunsToEnd, CarriesOut, Attempts, is_full, stop_of};
-ghost use Rattle.sd_tool.specs.Written.{HasWritten, HasEqualTexts};
-ghost use Rattle.sd_tool.specs.Limited.{HasLimit};
-ghost use Rattle.sd_tool.specs.Joined.{HasJoined};
 
-use crate::devices::perform_any;
+use crate::devices::write_effect_if_any;
 use crate::parts::write_line;
 use crate::plan::RunPlan;
 use crate::reading::prepare;
@@ -43,45 +42,32 @@ pub fn run<R: Threads + Sync, F: Shelf, O: Sink, E: Sink>(
     requires hand { F.hand shelf.old ≡ NoFile }
     requires none { kept.old ≡ None }
     ensures hand { F.hand shelf.new ≡ NoFile }
-    ensures course { between F.files F.read_faults F.write_faults O.written O.faults E.written
-        E.faults
-        shelf.old out.old err.old shelf.new out.new err.new
-        (IsCourse (Adds F.asked shelf.old shelf.new) (map string_bytes words.now) result kept.new) }
-    ensures effects { between F.files F.read_faults F.write_faults O.written O.faults E.written
-        E.faults
-        shelf.old out.old err.old shelf.new out.new err.new
-        (HasEffects (map string_bytes words.now) result) }
-    ensures line { between F.files F.read_faults F.write_faults O.written O.faults E.written
-        E.faults
-        shelf.old out.old err.old shelf.new out.new err.new (HasLine result) }
-    ensures ends { between F.files F.read_faults F.write_faults O.written O.faults E.written
-        E.faults
-        shelf.old out.old err.old shelf.new out.new err.new
-        (HasEnd (map string_bytes words.now) result kept.new) }
-    ensures complete { between F.files F.read_faults F.write_faults O.written O.faults E.written
-        E.faults
-        shelf.old out.old err.old shelf.new out.new err.new
-        (IsComplete (map string_bytes words.now) result) }
-    ensures written { between F.files F.read_faults F.write_faults O.written O.faults E.written
-        E.faults
-        shelf.old out.old err.old shelf.new out.new err.new
-        (HasWritten (map string_bytes words.now) result) }
-    ensures limited { between F.files F.read_faults F.write_faults O.written O.faults E.written
-        E.faults
-        shelf.old out.old err.old shelf.new out.new err.new
-        (HasLimit (map string_bytes words.now) result) }
-    ensures joined { between F.files F.read_faults F.write_faults O.written O.faults E.written
-        E.faults
-        shelf.old out.old err.old shelf.new out.new err.new
-        (HasJoined (map string_bytes words.now) result) }
-    ensures asked { HasAsked result (Adds F.asked shelf.old shelf.new) }
-    ensures equal_texts { HasEqualTexts (map string_bytes words.now) (F.files shelf.old) }
+    ensures course { IsCourse (map string_bytes words.now) result kept.new
+        (seen F.Shelf O.Sink E.Sink shelf.old out.old err.old shelf.new out.new err.new) }
+    ensures effects { HasEffects (map string_bytes words.now) result
+        (seen F.Shelf O.Sink E.Sink shelf.old out.old err.old shelf.new out.new err.new) }
+    ensures line { HasLine (map string_bytes words.now) result
+        (seen F.Shelf O.Sink E.Sink shelf.old out.old err.old shelf.new out.new err.new) }
+    ensures ends { HasEnd (map string_bytes words.now) result kept.new
+        (seen F.Shelf O.Sink E.Sink shelf.old out.old err.old shelf.new out.new err.new) }
+    ensures complete { IsComplete (map string_bytes words.now) result
+        (seen F.Shelf O.Sink E.Sink shelf.old out.old err.old shelf.new out.new err.new) }
+    ensures written { HasWritten (map string_bytes words.now) result
+        (seen F.Shelf O.Sink E.Sink shelf.old out.old err.old shelf.new out.new err.new) }
+    ensures limited { HasLimit (map string_bytes words.now) result
+        (seen F.Shelf O.Sink E.Sink shelf.old out.old err.old shelf.new out.new err.new) }
+    ensures joined { HasJoined (map string_bytes words.now) result
+        (seen F.Shelf O.Sink E.Sink shelf.old out.old err.old shelf.new out.new err.new) }
+    ensures asked { HasAsked result
+        (seen F.Shelf O.Sink E.Sink shelf.old out.old err.old shelf.new out.new err.new) }
+    ensures equal_texts { HasEqualTexts (map string_bytes words.now)
+        (seen F.Shelf O.Sink E.Sink shelf.old out.old err.old shelf.new out.new err.new) }
 {
-    conduct(alloc, words, shelf, out, err, kept)
+    run_and_report(alloc, words, shelf, out, err, kept)
 }
 
 // The run to its end, with the line of that end.
-fn conduct<F: Shelf, O: Sink, E: Sink>(
+fn run_and_report<F: Shelf, O: Sink, E: Sink>(
     alloc: Global,
     words: &[String],
     shelf: &mut F,
@@ -92,12 +78,10 @@ fn conduct<F: Shelf, O: Sink, E: Sink>(
     requires hand { F.hand shelf.old ≡ NoFile }
     requires none { kept.old ≡ None }
     ensures hand { F.hand shelf.new ≡ NoFile }
-    ensures course { between F.files F.read_faults F.write_faults O.written O.faults E.written
-        E.faults
-        shelf.old out.old err.old shelf.new out.new err.new
-        (IsCourse (Adds F.asked shelf.old shelf.new) (map string_bytes words.now) result kept.new) }
+    ensures course { IsOneCourse (map string_bytes words.now) result kept.new
+        (seen F.Shelf O.Sink E.Sink shelf.old out.old err.old shelf.new out.new err.new) }
 {
-    match attempt(alloc, words, shelf, out, kept) {
+    match read_and_execute(alloc, words, shelf, out, kept) {
         Ok(()) => 0,
         Err(stop) => {
             write_line(err, &stop.parts());
@@ -107,7 +91,7 @@ fn conduct<F: Shelf, O: Sink, E: Sink>(
 }
 
 // The readings and the commands.
-fn attempt<F: Shelf, O: Sink>(
+fn read_and_execute<F: Shelf, O: Sink>(
     alloc: Global,
     words: &[String],
     shelf: &mut F,
@@ -125,13 +109,13 @@ fn attempt<F: Shelf, O: Sink>(
         (faults F.read_faults F.write_faults O.faults shelf.new out.new) }
 {
     match prepare(alloc, words, shelf) {
-        Ok(plan) => carry_out(alloc, shelf, out, plan, kept),
+        Ok(plan) => execute_plan(alloc, shelf, out, plan, kept),
         Err(stop) => Err(stop),
     }
 }
 
 // Does all commands of the plan, and keeps the manager whose arena was full.
-fn carry_out<F: Shelf, O: Sink>(
+fn execute_plan<F: Shelf, O: Sink>(
     alloc: Global,
     shelf: &mut F,
     out: &mut O,
@@ -153,7 +137,7 @@ fn carry_out<F: Shelf, O: Sink>(
         mut state,
         commands,
     } = plan;
-    match do_all(alloc, shelf, out, &formula, &mut state, &commands) {
+    match execute_commands(alloc, shelf, out, &formula, &mut state, &commands) {
         Ok(()) => Ok(()),
         Err(stop) => {
             keep(kept, &stop, state.manager);
@@ -172,7 +156,7 @@ fn keep(kept: &mut Option<Manager>, stop: &Stop, manager: Manager)
 }
 
 // Does the commands in order, up to the first that stops.
-fn do_all<F: Shelf, O: Sink>(
+fn execute_commands<F: Shelf, O: Sink>(
     alloc: Global,
     shelf: &mut F,
     out: &mut O,
@@ -197,7 +181,7 @@ fn do_all<F: Shelf, O: Sink>(
             Ok(effect) => effect,
             Err(error) => return Err(stop_at(command.line, error)),
         };
-        match perform_any(shelf, out, effect) {
+        match write_effect_if_any(shelf, out, effect) {
             Ok(()) => {}
             Err(stop) => return Err(stop),
         }

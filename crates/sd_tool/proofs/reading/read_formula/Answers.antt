@@ -1,6 +1,6 @@
 use Rattle.std.proofs.Common.{ap}
 use Rattle.sd_formula.specs.declared.formula.Kind.TheVariants.{Cnf, Dnf}
-use Rattle.sd_tool.specs.Readings.{input_file}
+use Rattle.sd_tool.specs.inside.Readings.{input_file}
 use Rattle.sd_tool.proofs.AskLemmas.{asks_none}
 use Rattle.sd_tool.proofs.ReadingLemmas.{input_leads, generated_leads}
 use Rattle.sd_tool.proofs.reading.read_formula.Goals as goal

@@ -1,6 +1,7 @@
 use Rattle.std.proofs.Common.{refl}
 use Rattle.sd_formula.specs.Dimacs.{dimacs}
-use Rattle.sd_tool.specs.Readings.{Reads, Input, with_input, with_formula}
+use Rattle.sd_tool.specs.Readings.{Reads}
+use Rattle.sd_tool.specs.inside.Readings.{Input, with_input, with_formula}
 use Rattle.sd_tool.specs.declared.refusal.Refusal.TheVariants.{BadFormula, TooLong}
 use Rattle.sd_tool.proofs.ReadingLemmas.{text_given, text_lacking, text_leads, stops_for}
 use Rattle.sd_tool.proofs.reading.read_groups.Goals as goal

@@ -3,7 +3,8 @@ use Rattle.sd_vtree.specs.Numbered.{plain_tree}
 use Rattle.sd_vfile.specs.Reads.{vtree_file}
 use Rattle.sd_base.specs.Asked.{Adds}
 use Rattle.sd_tool.specs.Asks.{ComesTo}
-use Rattle.sd_tool.specs.Readings.{Reads, with_vtree_text, with_vtree_reading}
+use Rattle.sd_tool.specs.Readings.{Reads}
+use Rattle.sd_tool.specs.inside.Readings.{with_vtree_text, with_vtree_reading}
 use Rattle.sd_tool.specs.declared.refusal.Refusal.TheVariants.{BadVtree, TooLong}
 use Rattle.sd_tool.proofs.ReadingLemmas.{text_given, text_lacking, text_leads, stops_for}
 use Rattle.sd_tool.proofs.reading.read_vtree_file.Goals as goal

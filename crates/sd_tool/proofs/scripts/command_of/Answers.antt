@@ -1,8 +1,7 @@
 use Rattle.std.proofs.Common.{◌≡◌, Some}
 use Rattle.sd_tool.specs.Actions.{plain_of}
-use Rattle.sd_tool.proofs.AskLemmas.{comes_same, asks_none}
+use Rattle.sd_tool.proofs.AskLemmas.{comes_same, asks_none, breaks_here}
 use Rattle.sd_tool.proofs.ScriptLemmas.{plain_found}
-use Rattle.sd_tool.proofs.AskLemmas.{breaks_here}
 use Rattle.sd_tool.proofs.scripts.command_of.Goals as goal
 
 pub returns-in-Ok-Some-clause-leads : goal.returns-in-Ok-Some-clause-leads

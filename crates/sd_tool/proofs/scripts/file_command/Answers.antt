@@ -1,7 +1,6 @@
 use Rattle.std.proofs.Common.{Ok, Err}
 use Rattle.sd_tool.proofs.ScriptLemmas.{load_leads, write_leads, write_same, vtree_leads}
-use Rattle.sd_tool.proofs.AskLemmas.{asks_none}
-use Rattle.sd_tool.proofs.AskLemmas.{breaks_here}
+use Rattle.sd_tool.proofs.AskLemmas.{asks_none, breaks_here}
 use Rattle.sd_tool.proofs.scripts.file_command.Goals as goal
 
 pub returns-in-Ok-clause-leads : goal.returns-in-Ok-clause-leads

@@ -1,6 +1,7 @@
 use Rattle.std.proofs.Common.{refl}
 use Rattle.sd_file.specs.Reads.{sdd_file}
-use Rattle.sd_tool.specs.Readings.{Reads, with_sdd, with_sdd_reading}
+use Rattle.sd_tool.specs.Readings.{Reads}
+use Rattle.sd_tool.specs.inside.Readings.{with_sdd, with_sdd_reading}
 use Rattle.sd_tool.specs.declared.refusal.Refusal.TheVariants.{BadSdd, TooLong}
 use Rattle.sd_tool.proofs.ReadingLemmas.{text_given, text_lacking, text_leads, stops_for}
 use Rattle.sd_tool.proofs.scripts.load.Goals as goal

@@ -1,8 +1,8 @@
 use Rattle.std.proofs.Common.{Ok, Err, sym, ap, ◌∙◌}
-use Rattle.sd_tool.specs.Readings.{with_commands, script_reading}
+use Rattle.sd_tool.specs.Readings.{with_commands}
+use Rattle.sd_tool.specs.inside.Readings.{script_reading}
 use Rattle.sd_tool.proofs.ReadingLemmas.{leads_on, script_leads}
-use Rattle.sd_tool.proofs.AskLemmas.{joined, comes_same, asks_none}
-use Rattle.sd_tool.proofs.AskLemmas.{breaks_here}
+use Rattle.sd_tool.proofs.AskLemmas.{joined, comes_same, asks_none, breaks_here}
 use Rattle.sd_tool.proofs.scripts.read_commands.Goals as goal
 
 pub returns-in-Ok-clause-leads : goal.returns-in-Ok-clause-leads

@@ -1,6 +1,7 @@
 use Rattle.std.proofs.Common.{refl}
 use Rattle.sd_script.specs.Scripts.{script_of}
-use Rattle.sd_tool.specs.Readings.{Reads, with_script_text, with_script_reading}
+use Rattle.sd_tool.specs.Readings.{Reads}
+use Rattle.sd_tool.specs.inside.Readings.{with_script_text, with_script_reading}
 use Rattle.sd_tool.specs.declared.refusal.Refusal.TheVariants.{BadScript, LongScript}
 use Rattle.sd_tool.proofs.ReadingLemmas.{text_given, text_lacking, text_leads, stops_for}
 use Rattle.sd_tool.proofs.scripts.read_script_file.Goals as goal

@@ -1,11 +1,9 @@
 use Rattle.std.proofs.Common.{[], refl, ◌∙◌, arith}
 use Rattle.sd_commands.proofs.Standing.{left_state}
 use Rattle.sd_tool.specs.PlanViews.{plan_with}
-use Rattle.sd_tool.proofs.StepLemmas.{so_far_more, goes_to_stop}
-use Rattle.sd_tool.proofs.StepLemmas.{goes_to_fault, goes_to_end, no_fewer}
-use Rattle.sd_tool.proofs.StepLemmas.{fits_next}
+use Rattle.sd_tool.proofs.StepLemmas.{so_far_more, goes_to_stop, goes_to_fault, goes_to_end, no_fewer, fits_next}
 use Rattle.sd_tool.proofs.AskLemmas.{joined, asks_none}
-use Rattle.sd_tool.proofs.whole_run.do_all.Goals as goal
+use Rattle.sd_tool.proofs.whole_run.execute_commands.Goals as goal
 
 pub loop-command-init : goal.loop-command-init
 loop-command-init g c = record {
@@ -53,31 +51,31 @@ returns-in-Err-clause-goes g c =
     c.in-Err.ensures.err)
     c.stop_at.ensures
 
-pub returns-in-Err-perform_any-clause-goes : goal.returns-in-Err-perform_any-clause-goes
-returns-in-Err-perform_any-clause-goes g c =
+pub returns-in-Err-write_effect_if_any-clause-goes : goal.returns-in-Err-write_effect_if_any-clause-goes
+returns-in-Err-write_effect_if_any-clause-goes g c =
     let was = c.loop-command.invariant in
     let so_far = was.so_far in
     goes_to_fault (plan_with c.args.formula.now c.args.state.now c.args.commands.now) _
     c.loop-command.command-index _ _ _ _ _ _ _ _ _ c.command-item.result _ c.in-Ok.effect
-    (joined g.F.Shelf.asked c.args.shelf.now c.loop-command.shelf c.perform_any.new.shelf)
+    (joined g.F.Shelf.asked c.args.shelf.now c.loop-command.shelf c.write_effect_if_any.new.shelf)
     (record { within = omega arith; is = c.command-item.is }) so_far was.fewer
-    (c.in-Ok.ensures.done so_far.state so_far.represents) c.in-Err-perform_any.ensures.stop
-    c.in-Err-perform_any.ensures.asked
+    (c.in-Ok.ensures.done so_far.state so_far.represents) c.in-Err-write_effect_if_any.ensures.stop
+    c.in-Err-write_effect_if_any.ensures.asked
 
 pub loop-command-preserved : goal.loop-command-preserved
 loop-command-preserved g c =
     let was = c.loop-command.invariant in record {
-      hand = c.in-Ok-perform_any.ensures.hand;
+      hand = c.in-Ok-write_effect_if_any.ensures.hand;
       so_far =
           so_far_more (plan_with c.args.formula.now c.args.state.now c.args.commands.now) _
           c.loop-command.command-index _ _ _ _ _ c.command-item.result c.in-Ok.effect
-          (joined g.F.Shelf.asked c.args.shelf.now c.loop-command.shelf c.perform_any.new.shelf)
+          (joined g.F.Shelf.asked c.args.shelf.now c.loop-command.shelf c.write_effect_if_any.new.shelf)
           (record { within = omega arith; is = c.command-item.is }) was.so_far
-          (c.in-Ok.ensures.done was.so_far.state was.so_far.represents) c.in-Ok-perform_any.ensures.ok
-          c.in-Ok-perform_any.ensures.asked;
+          (c.in-Ok.ensures.done was.so_far.state was.so_far.represents) c.in-Ok-write_effect_if_any.ensures.ok
+          c.in-Ok-write_effect_if_any.ensures.asked;
       variables = c.in-Ok.ensures.variables ∙ was.variables;
       roots = omega (arith, was.roots, c.in-Ok.ensures.roots);
-      fewer = no_fewer _ _ _ was.fewer c.in-Ok-perform_any.ensures.fewer;
+      fewer = no_fewer _ _ _ was.fewer c.in-Ok-write_effect_if_any.ensures.fewer;
     }
 
 pub returns-clause-goes : goal.returns-clause-goes

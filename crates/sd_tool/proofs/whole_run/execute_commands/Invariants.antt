@@ -4,10 +4,10 @@ use Rattle.sd_base.specs.Shelf.{NoFile}
 use Rattle.sd_model.specs.Tree.{leaves}
 use Rattle.sd_vtree.specs.Numbered.{plain_tree}
 use Rattle.sd_commands.specs.Standing.{root_count}
-use Rattle.sd_tool.specs.Devices.{contents, faults, NotFewer}
+use Rattle.sd_tool.specs.inside.Devices.{contents, faults, NotFewer}
 use Rattle.sd_tool.specs.PlanViews.{plan_with}
 use Rattle.sd_tool.proofs.StepLemmas.{SoFar}
-use Rattle.sd_tool.proofs.whole_run.do_all.Given as goal
+use Rattle.sd_tool.proofs.whole_run.execute_commands.Given as goal
 
 abbrev pub invariant-loop-command : goal.invariant-loop-command
 invariant-loop-command g l = record {

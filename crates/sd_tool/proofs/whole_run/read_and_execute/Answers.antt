@@ -1,9 +1,9 @@
 use Rattle.std.proofs.Common.{map, string_bytes, ap, arith}
-use Rattle.sd_tool.specs.Devices.{faults, NotFewer}
+use Rattle.sd_tool.specs.inside.Devices.{faults, NotFewer}
 use Rattle.sd_tool.specs.PlanViews.{plan_of}
 use Rattle.sd_tool.proofs.EndLemmas.{reading_stops, commands_go}
 use Rattle.sd_tool.proofs.AskLemmas.{joined}
-use Rattle.sd_tool.proofs.whole_run.attempt.Goals as goal
+use Rattle.sd_tool.proofs.whole_run.read_and_execute.Goals as goal
 
 pub returns-in-Err-clause-ends : goal.returns-in-Err-clause-ends
 returns-in-Err-clause-ends g c =
@@ -21,8 +21,8 @@ returns-in-Ok-clause-ends g c =
       write = omega (arith, c.in-Ok.ensures.write_faults);
       print = omega arith;
     } in
-    commands_go (map string_bytes c.args.words.now) (plan_of c.in-Ok.plan) _ c.carry_out.result
+    commands_go (map string_bytes c.args.words.now) (plan_of c.in-Ok.plan) _ c.execute_plan.result
     _ _ _ first before _
-    (joined g.F.Shelf.asked c.args.shelf.now c.prepare.new.shelf c.carry_out.new.shelf) c.in-Ok.ensures.leads
+    (joined g.F.Shelf.asked c.args.shelf.now c.prepare.new.shelf c.execute_plan.new.shelf) c.in-Ok.ensures.leads
     (ap (λ files. record { files = files; printed = g.O.Sink.written c.args.out.now }) c.in-Ok.ensures.files)
-    fewer c.carry_out.ensures.goes
+    fewer c.execute_plan.ensures.goes

@@ -1,41 +1,35 @@
--- What the top call promises of a run with these words that answers this status, between two moments.
+-- What the clauses of `run` say status by status, and its course with a name for each part.
 use Rattle.std.specs.Prelude.{◌≡◌, ◌⊎◌, ℕ, List, Option, Some, None}
-use Rattle.sd_base.specs.Asked.{Request}
-use Rattle.sd_base.specs.Files.{Files}
-use Rattle.sd_model.specs.Tree.{Tree}
 use Rattle.sd_manager.specs.Table.{Table}
-use Rattle.sd_formula.specs.Dimacs.{Groups}
-use Rattle.sd_words.specs.declared.jobs.Job.{Job}
 use Rattle.sd_commands.specs.Effects.{Effect}
 use Rattle.sd_commands.specs.Standing.{IsFilled}
 use Rattle.sd_tool.specs.Effects.{after, DoesPart}
-use Rattle.sd_tool.specs.Readings.{Plan, Refuses, Begins, Reads, reading_of, ReadsTo}
+use Rattle.sd_tool.specs.Readings.{Plan, Refuses, Begins, Reads, reading_of}
+use Rattle.sd_tool.specs.inside.Course.{ReadsTo, MayEnd}
 use Rattle.sd_tool.specs.Refusals.{IsOfText, refusal_status}
 use Rattle.sd_tool.specs.declared.refusal.Refusal.{Refusal}
 use Rattle.sd_tool.specs.Ends.{End, Finished, Refused, Unreadable, Unwritable, OutOfMemory, ArenaFull, OverLimit}
 use Rattle.sd_tool.specs.Ends.{NotMovable, status_of}
-use Rattle.sd_tool.specs.Devices.{Moment, NoneRose, HasDeviceCause, WritesEndLine}
+use Rattle.sd_tool.specs.Devices.{Moment, Seen, HasReason, WritesEndLine}
 use Rattle.sd_tool.specs.Asks.{GoesTo}
-use Rattle.sd_tool.specs.Course.{MayEnd, Leaves}
+use Rattle.sd_tool.specs.Course.{Leaves}
 use Rattle.sd_tool.specs.KeptManager.{HoldsAt, KeepsManager}
-use Rattle.sd_tool.specs.Written.{IsInput, IsStartTree}
 
 -- How the run went: what it did and how it ended, where the words and the files lead; what was asked of the shelf, the
--- status, the files and what was printed, the cause, what is kept and the line are those of this one course.
-pub record IsCourse (asks : List Request → Type 0) (words : List (List ℕ)) (status : ℕ) (kept : Option Table)
-    (old new : Moment) : Type 0 where
+-- status, the files and what was printed, the reason, what is kept and the line are those of this one course.
+pub record IsOneCourse (words : List (List ℕ)) (status : ℕ) (kept : Option Table) (seen : Seen) : Type 0 where
   pub effects : List Effect
   pub end : End
-  pub goes : GoesTo asks words old.contents.files effects end
+  pub goes : GoesTo seen.asked words seen.old.contents.files effects end
   pub status_is : status ≡ status_of end
-  pub leaves : Leaves effects end old.contents new.contents
-  pub cause : HasDeviceCause end old.contents.files old.faults new.faults
-  pub keeps : KeepsManager words old.contents.files effects end kept
-  pub line : WritesEndLine end old new
+  pub leaves : Leaves effects end seen.old.contents seen.new.contents
+  pub reason : HasReason end seen.old.contents.files seen.old.faults seen.new.faults
+  pub keeps : KeepsManager words seen.old.contents.files effects end kept
+  pub line : WritesEndLine end seen.old seen.new
 
 -- What was done outside: at status 0 all effects of the run, at 1, 2 and 5 none, at 4, 7 and 8 those of the first
 -- commands, at 3 none or those of the first commands, at 6 those before the effect in hand, and a part of that one.
-pub record HasEffects (words : List (List ℕ)) (status : ℕ) (old new : Moment) : Type 0 where
+pub record EffectsByStatus (words : List (List ℕ)) (status : ℕ) (old new : Moment) : Type 0 where
   pub all : status ≡ 0 → (effects : List Effect)
       × MayEnd words old.contents.files effects Finished × (new.contents ≡ after effects old.contents)
   pub none : (status ≡ 1) ⊎ (status ≡ 2) ⊎ (status ≡ 5) → new.contents ≡ old.contents
@@ -55,10 +49,6 @@ pub record HasEffects (words : List (List ℕ)) (status : ℕ) (old new : Moment
       × MayEnd words old.contents.files effects (Unwritable effect)
       × DoesPart effect (after effects old.contents) new.contents
 
--- The line: none at status 0, else the one line of an end with this status.
-abbrev pub HasLine : ℕ → Moment → Moment → Type 0
-HasLine status old new = (end : End) × (status ≡ status_of end) × WritesEndLine end old new
-
 -- The words or a text were refused; the line says why, and running out of memory is no such reason.
 pub record IsRefused (words : List (List ℕ)) (status : ℕ) (old new : Moment) : Type 0 where
   pub refusal : Refusal
@@ -71,7 +61,7 @@ pub record IsRefused (words : List (List ℕ)) (status : ℕ) (old new : Moment)
 pub record CouldNotRead (words : List (List ℕ)) (old new : Moment) : Type 0 where
   pub file : List ℕ
   pub asked : (next : _) × ReadsTo old.contents.files (reading_of words) (Reads file next)
-  pub cause : HasDeviceCause (Unreadable file) old.contents.files old.faults new.faults
+  pub cause : HasReason (Unreadable file) old.contents.files old.faults new.faults
   pub line : WritesEndLine (Unreadable file) old new
 
 -- An effect of the run was in hand and failed; the line names it.
@@ -79,7 +69,7 @@ pub record CouldNotWrite (words : List (List ℕ)) (old new : Moment) : Type 0 w
   pub effects : List Effect
   pub effect : Effect
   pub in_hand : MayEnd words old.contents.files effects (Unwritable effect)
-  pub cause : HasDeviceCause (Unwritable effect) old.contents.files old.faults new.faults
+  pub cause : HasReason (Unwritable effect) old.contents.files old.faults new.faults
   pub line : WritesEndLine (Unwritable effect) old new
 
 -- The arena was full: all readings were accepted, the command in hand is one that may need the arena, and the manager
@@ -118,8 +108,8 @@ pub record WasNotMovable (words : List (List ℕ)) (old new : Moment) : Type 0 w
   pub line : WritesEndLine (NotMovable at_line) old new
 
 -- When each status comes, and that a manager is kept at 8 alone. That a refusal comes wherever it may is the other
--- half, in `IsComplete` and `IsCourse`.
-pub record HasEnd (words : List (List ℕ)) (status : ℕ) (kept : Option Table) (old new : Moment) : Type 0 where
+-- half, in `IsComplete` and `IsCourse` of `Theorem`.
+pub record EndByStatus (words : List (List ℕ)) (status : ℕ) (kept : Option Table) (old new : Moment) : Type 0 where
   pub one_of : (status ≡ 0) ⊎ (status ≡ 1) ⊎ (status ≡ 2) ⊎ (status ≡ 3) ⊎ (status ≡ 4) ⊎ (status ≡ 5)
       ⊎ (status ≡ 6) ⊎ (status ≡ 7) ⊎ (status ≡ 8)
   pub refused : (status ≡ 1) ⊎ (status ≡ 2) → IsRefused words status old new
@@ -129,24 +119,3 @@ pub record HasEnd (words : List (List ℕ)) (status : ℕ) (kept : Option Table)
   pub write_fault : status ≡ 6 → CouldNotWrite words old new
   pub arena_full : status ≡ 8 → WasFull words kept old new
   pub none_kept : ¬ (status ≡ 8) → kept ≡ None
-
--- the ends to which the words and the files alone lead
-abbrev pub IsOwn : End → Type 0
-IsOwn Finished = Unit {0}
-IsOwn (Refused refusal) = Unit {0}
-IsOwn (OverLimit line group size limit) = Unit {0}
-IsOwn (NotMovable line) = Unit {0}
-IsOwn end = ⊥
-
--- Over told files, where neither the shelf nor `out` fails: an input with a start tree is written, or it passes the
--- limit, or there was no memory or no room; and where the words and the files lead to an end of their own, the run
--- comes to it with all its effects and its line, or there was no memory or no room.
-pub record IsComplete (words : List (List ℕ)) (status : ℕ) (old new : Moment) : Type 0 where
-  pub served : (files : Files) (job : Job) (formula : Groups) (tree : Tree) → old.contents.files ≡ Some files
-      → NoneRose old.faults new.faults → IsInput words files job formula
-      → IsStartTree files job.tree formula.variables tree
-      → (status ≡ 0) ⊎ (status ≡ 4) ⊎ (status ≡ 7) ⊎ (status ≡ 8)
-  pub own : (files : Files) (effects : List Effect) (end : End) → old.contents.files ≡ Some files
-      → NoneRose old.faults new.faults → IsOwn end → MayEnd words (Some files) effects end
-      → ((status ≡ status_of end) × (new.contents ≡ after effects old.contents) × WritesEndLine end old new)
-      ⊎ (status ≡ 7) ⊎ (status ≡ 8)

@@ -1,0 +1,59 @@
+-- What `run` promises, clause by clause, of the words, its status, and what the shelf, `out` and `err` show (`seen`).
+use Rattle.std.specs.Prelude.{◌≡◌, ◌⊎◌, ◌↔◌, ℕ, List, [], Option}
+use Rattle.std.specs.List.{AllZip}
+use Rattle.sd_model.specs.Expression.{Expression, AreOneFunction}
+use Rattle.sd_model.specs.Tree.{Tree, leaves}
+use Rattle.sd_manager.specs.Table.{Table}
+use Rattle.sd_tool.specs.Asks.{Went, OwnEnd, CameTo, LacksRoom, ReadsAlone, ReadsFirst}
+use Rattle.sd_tool.specs.Course.{Leaves}
+use Rattle.sd_tool.specs.Devices.{Seen, IsCalm, WritesEndLine}
+use Rattle.sd_tool.specs.Joined.{FourLines, WritesJoined}
+use Rattle.sd_tool.specs.KeptManager.{EndsSo}
+use Rattle.sd_tool.specs.Written.{PlainRun, IsPlain, WritesInput, PassesAt, TellsGroup, Writes}
+
+-- effects: outside stands what the effects of the run leave, one after another, and at 6 a part of the one in hand
+abbrev pub HasEffects : List (List ℕ) → ℕ → Seen → Type 0
+HasEffects words status seen =
+    Went words status seen (λ effects end. Leaves effects end seen.old.contents seen.new.contents)
+
+-- equal_texts: two texts that a run writes for one vtree are equal exactly if their formulas are, in order, one function
+abbrev pub HasEqualTexts : List (List ℕ) → Seen → Type 0
+HasEqualTexts words seen = (tree : Tree) (fs gs : List Expression) (a b : List ℕ) → Writes words seen tree fs a
+    → Writes words seen tree gs b → (a ≡ b) ↔ AllZip (AreOneFunction (leaves tree)) fs gs
+
+-- written: at 0 a run without a script wrote the diagram of its formula, its vtree and its size
+abbrev pub HasWritten : List (List ℕ) → ℕ → Seen → Type 0
+HasWritten words status seen = status ≡ 0 → IsPlain words seen → (run : PlainRun words seen) × WritesInput run
+
+-- limited: a run without a script ends with 4 only where its first groups pass the limit, and wherever they do
+abbrev pub HasLimit : List (List ℕ) → ℕ → Seen → Type 0
+HasLimit words status seen = (run : PlainRun words seen) → (status ≡ 4 → TellsGroup run)
+    × ((group size : ℕ) → PassesAt run group size → IsCalm seen → (status ≡ 4) ⊎ LacksRoom status)
+
+-- joined: a run with a script of four lines, as it is stated, is done, and wrote the diagram of two formulas joined
+abbrev pub HasJoined : List (List ℕ) → ℕ → Seen → Type 0
+HasJoined words status seen = (run : FourLines words seen) → (status ≡ 0 → WritesJoined run)
+    × (IsCalm seen → (status ≡ 0) ⊎ (status ≡ 4) ⊎ LacksRoom status)
+
+-- line: `err` has the one line of the end, and at 0 none
+abbrev pub HasLine : List (List ℕ) → ℕ → Seen → Type 0
+HasLine words status seen = Went words status seen (λ effects end. WritesEndLine end seen.old seen.new)
+
+-- ends: the end is one to which the words and the files lead, with its reason, what it keeps and its line
+abbrev pub HasEnd : List (List ℕ) → ℕ → Option Table → Seen → Type 0
+HasEnd words status kept seen = Went words status seen (λ effects end. EndsSo words effects end kept seen)
+
+-- complete: where no device fails, told files lead to their end, if there is memory and room
+abbrev pub IsComplete : List (List ℕ) → ℕ → Seen → Type 0
+IsComplete words status seen = IsCalm seen → (PlainRun words seen → (status ≡ 0) ⊎ (status ≡ 4) ⊎ LacksRoom status)
+    × ((own : OwnEnd words seen) → CameTo own status ⊎ LacksRoom status)
+
+-- asked: at 1 no file is asked for, at 1, 2 and 5 none is to be written, and never is one read after one was written
+abbrev pub HasAsked : ℕ → Seen → Type 0
+HasAsked status seen = (status ≡ 1 → seen.asked [])
+    × ((status ≡ 1) ⊎ (status ≡ 2) ⊎ (status ≡ 5) → ReadsAlone seen.asked) × ReadsFirst seen.asked
+
+-- course: the effects, the end and what is asked are those of one run
+abbrev pub IsCourse : List (List ℕ) → ℕ → Option Table → Seen → Type 0
+IsCourse words status kept seen = Went words status seen
+    (λ effects end. Leaves effects end seen.old.contents seen.new.contents × EndsSo words effects end kept seen)

@@ -1,0 +1,4 @@
+pub mod ByStatus
+pub mod Course
+pub mod Devices
+pub mod Readings
