@@ -52,6 +52,7 @@ pub mod ServesLater
 pub mod SwapWhole
 pub mod RefusedBack
 pub mod NewList
+pub mod Spreading
 pub mod RewritingLoop
 pub mod SwappedAt
 pub mod RewrittenRecorded

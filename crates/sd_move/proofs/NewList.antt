@@ -25,7 +25,7 @@ use Rattle.sd_manager.proofs.Extending.{extends_on}
 use Rattle.sd_manager.proofs.Reading.{among_at, linked_key, detached_key, pairs_node, view_node}
 use Rattle.sd_apply.specs.Growing.{GrowsStrictlyBelow}
 use Rattle.sd_apply.specs.Places.{IsBelow, IsNodeUnder}
-use Rattle.sd_apply.specs.Partitions.{IsPartitionOf, ExpandsAt, MultipliesAt, MergesAt}
+use Rattle.sd_apply.specs.Partitions.{IsPartitionOf, ExpandsAt, MultipliesAt}
 use Rattle.sd_apply.proofs.AtNode.{partition_of_on}
 use Rattle.sd_apply.proofs.Growing.{strictly_both}
 use Rattle.sd_apply.proofs.Listed.{node_on}
@@ -194,15 +194,13 @@ sum_skips first now p node sum rest pair zero s =
     }
 
 -- at the end it has the value of the list
-pub sum_last : (first now next : Table) (p node : ℕ) (sum slice r : List (ℕ × ℕ)) → IsSum first now p node sum [] →
-    slice ≡ sum → MergesAt now next p slice r →
-    IsPartitionOf next p r (pairs_value (value_of (get first.linked)) (pairs_at first node))
-sum_last first now next p node sum slice r s same m =
-    let h = m.each s.value (partition_same now p sum slice s.value s.partition same) in
+pub sum_last : (first now : Table) (p node : ℕ) (sum : List (ℕ × ℕ)) → IsSum first now p node sum [] →
+    IsPartitionOf now p sum (pairs_value (value_of (get first.linked)) (pairs_at first node))
+sum_last first now p node sum s =
     record {
-      diagrams = h.diagrams;
-      is = h.is;
-      value = λ a. h.value a ∙ ap (λ b. b ∷ []) (or_false (s.value a) ∙ s.whole a);
+      diagrams = s.partition.diagrams;
+      is = s.partition.is;
+      value = λ a. s.partition.value a ∙ ap (λ b. b ∷ []) (or_false (s.value a) ∙ s.whole a);
     }
 
 -- what is read of the list is a pair that stands below the place

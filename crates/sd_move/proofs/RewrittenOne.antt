@@ -18,7 +18,7 @@ use Rattle.sd_laws.specs.Depends.{DependsOn}
 use Rattle.sd_laws.specs.Pairs.{answers}
 use Rattle.sd_laws.specs.Parts.{IsPart, here, in_left, in_right}
 use Rattle.sd_laws.specs.Shown.{Lookup, Keeps, ShowPairs, Shows as ShowsBy}
-use Rattle.sd_laws.specs.Values.{Valuation, IsSame, pairs_value, chosen, IsTwoSided, AreOrderly}
+use Rattle.sd_laws.specs.Values.{Valuation, IsSame, pairs_value, chosen, IsTwoSided, IsWhole, AreOrderly}
 use Rattle.sd_laws.specs.Values.{ShowsValue}
 use Rattle.sd_laws.proofs.Choosing.{chosen_value, depends_same, two_sided_same}
 use Rattle.sd_laws.proofs.Evaluated.{value_of, value_of_shown, value_permuted}
@@ -26,7 +26,7 @@ use Rattle.sd_laws.proofs.Lists.{all_weaker, all_permuted}
 use Rattle.sd_laws.proofs.Nodes.{code_of_node}
 use Rattle.sd_laws.proofs.Places.{canonical_lifts, part_trans}
 use Rattle.sd_laws.proofs.Rewriting.{rewritten_untrimmed}
-use Rattle.sd_laws.proofs.SameValues.{AllSame, value_same, shown_value}
+use Rattle.sd_laws.proofs.SameValues.{AllSame, value_same, whole_same, shown_value}
 use Rattle.sd_laws.proofs.Unturned.{IsShownNode, valued_orderly, shown_closed}
 use Rattle.sd_manager.specs.Table.{Table, key_at}
 use Rattle.sd_manager.specs.Shown.{HasNode}
@@ -102,21 +102,27 @@ module _ (m0 m : Table) (x : ℕ) (h : Progress) (v : Valuation) (n : ℕ) (rest
   code_value d w a =
       sym (value_of_shown m.vtree (get m.linked) t.numbered d w.shown.diagram w.shown.is a) ∙ w.shown.value a
 
+  same_values : AllSame v (value_of (get m.linked)) c.each.0.list
+  same_values =
+      all_weaker
+      (λ (p : ℕ × ℕ). ShowsWithin m.vtree (get m.linked) v (Node (plain_tree c.left) (plain_tree c.right)) p.0
+      × ShowsWithin m.vtree (get m.linked) v (Node (plain_tree c.left) (plain_tree c.right)) p.1)
+      (λ (p : ℕ × ℕ). IsSame (value_of (get m.linked) p.0) (v p.0) × IsSame (value_of (get m.linked) p.1) (v p.1))
+      (λ p k. (code_value p.0 k.0, code_value p.1 k.1)) c.each.0.list c.each.0.codes
+
   -- The value of its list is the value that the move gives it.
   pub list_value : (d : ℕ) → d ≡ 2050 + n →
       IsSame (pairs_value (value_of (get m.linked)) (pairs_at m d)) (v (2050 + n))
   list_value d e a =
       ap (λ l. pairs_value (value_of (get m.linked)) l a) (pairs_node m d n (x, c.each.0.list) e own_key)
-      ∙ value_same v (value_of (get m.linked)) c.each.0.list same a
+      ∙ value_same v (value_of (get m.linked)) c.each.0.list same_values a
       ∙ sym (c.going.value n x c.each.0.list own_key a)
-    where
-      same : AllSame v (value_of (get m.linked)) c.each.0.list
-      same =
-          all_weaker
-          (λ (p : ℕ × ℕ). ShowsWithin m.vtree (get m.linked) v (Node (plain_tree c.left) (plain_tree c.right)) p.0
-          × ShowsWithin m.vtree (get m.linked) v (Node (plain_tree c.left) (plain_tree c.right)) p.1)
-          (λ (p : ℕ × ℕ). IsSame (value_of (get m.linked) p.0) (v p.0) × IsSame (value_of (get m.linked) p.1) (v p.1))
-          (λ p k. (code_value p.0 k.0, code_value p.1 k.1)) c.each.0.list c.each.0.codes
+
+  -- and in its values too the list is whole
+  pub list_whole : (d : ℕ) → d ≡ 2050 + n → IsWhole (value_of (get m.linked)) (pairs_at m d)
+  list_whole d e =
+      subst (IsWhole (value_of (get m.linked))) (sym (pairs_node m d n (x, c.each.0.list) e own_key))
+      (whole_same v (value_of (get m.linked)) c.each.0.list same_values (c.going.whole n x c.each.0.list own_key))
 
 -- lists of codes and what they show
 

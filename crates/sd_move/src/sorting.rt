@@ -22,8 +22,8 @@ use sd_model::Move;
 use sd_vtree::VNode;
 use std::alloc::AllocError;
 
-// The side of its nodes that a rotation divides: to the right the primes and the left children, to the left the subs
-// and the right children.
+// The primes of nodes and the left children, or the subs and the right children. A rotation to the right divides the
+// first, one to the left the second.
 #[derive(Clone, Copy)]
 pub(crate) enum Side {
     Left,
@@ -84,8 +84,8 @@ fn is_below(m: &Manager, at: VNode, node: NodeId, child: VNode) -> bool
     lowest.0 == child.0
 }
 
-// Whether all that a node names on a side stands below a vtree node, where it stands below another one.
-fn are_below(m: &Manager, at: VNode, number: u32, side: Side, child: VNode) -> bool
+/// Whether all that a node names on a side stands below a vtree node, where it stands below another one.
+pub(crate) fn are_below(m: &Manager, at: VNode, number: u32, side: Side, child: VNode) -> bool
     requires at { IsThere m.now.vtree at }
     requires number { IsSome (key_at m.now number) }
     requires each { AllByRecursion (λ e. IsBelow m.now at (on side e))

@@ -10,7 +10,7 @@ use Rattle.sd_manager.specs.Views.{pairs_at}
 use Rattle.sd_move.specs.Rewriting.{AreRewritten}
 use Rattle.sd_move.proofs.NewList.{partition_same}
 use Rattle.sd_move.proofs.RewrittenAll.{grown_rewritten}
-use Rattle.sd_move.proofs.RewrittenOne.{place_inner, node_there, codes_below}
+use Rattle.sd_move.proofs.RewrittenOne.{place_inner, node_there, codes_below, list_whole}
 use Rattle.sd_move.proofs.RewritingStep.{waits_still, new_list_fits, new_list_absent, goes_still}
 use Rattle.sd_move.proofs.RewritingStep.{rewritten_answer, linked_answer, going_answer, still_answer}
 use Rattle.sd_move.proofs.RewritingStep.{where_err}
@@ -34,6 +34,12 @@ pub new_list-requires-clause-codes : goal.new_list-requires-clause-codes
 new_list-requires-clause-codes c =
     let w = c.requires.may in
     codes_below w.1.0 c.args.m.now c.args.place w.1.1 w.1.2 c.args.number w.0 c.requires.table w.1.3
+    (c.args.number + 2050) (omega arith)
+
+pub new_list-requires-clause-whole : goal.new_list-requires-clause-whole
+new_list-requires-clause-whole c =
+    let w = c.requires.may in
+    list_whole w.1.0 c.args.m.now c.args.place w.1.1 w.1.2 c.args.number w.0 c.requires.table w.1.3
     (c.args.number + 2050) (omega arith)
 
 -- the node is linked with it

@@ -2,7 +2,7 @@ use Rattle.std.proofs.Common.{drop}
 use Rattle.sd_manager.specs.Views.{pairs_at}
 use Rattle.sd_apply.specs.Recent.{Knows}
 use Rattle.sd_move.proofs.NewList.{IsSum}
-use Rattle.sd_move.proofs.rewriting.new_list.Given as goal
+use Rattle.sd_move.proofs.rewriting.by_products.Given as goal
 
 abbrev pub invariant-loop-index : goal.invariant-loop-index
 invariant-loop-index l =
