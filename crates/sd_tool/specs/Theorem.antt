@@ -11,26 +11,26 @@ use Rattle.sd_tool.specs.Joined.{FourLines, WritesJoined}
 use Rattle.sd_tool.specs.KeptManager.{EndsSo}
 use Rattle.sd_tool.specs.Written.{PlainRun, IsPlain, WritesInput, PassesAt, TellsGroup, Writes}
 
--- effects: outside stands what the effects of the run leave, one after another, and at 6 a part of the one in hand
+-- effects: outside stands what the run's effects leave, and at 6 a part of the one in hand; what a command writes for
+-- roots is the text of their formulas' diagrams, compressed and trimmed for the vtree at its line (`Step`, `IsTextOf`)
 abbrev pub HasEffects : List (List ℕ) → ℕ → Seen → Type 0
-HasEffects words status seen =
-    Went words status seen (λ effects end. Leaves effects end seen.old.contents seen.new.contents)
+HasEffects words status seen = Went words status seen (λ done end. Leaves done end seen.old.contents seen.new.contents)
 
--- equal_texts: two texts that a run writes for one vtree are equal exactly if their formulas are, in order, one function
+-- equal_texts: two texts that a run writes for one vtree are equal just if their formulas are, in order, one function
 abbrev pub HasEqualTexts : List (List ℕ) → Seen → Type 0
 HasEqualTexts words seen = (tree : Tree) (fs gs : List Expression) (a b : List ℕ) → Writes words seen tree fs a
     → Writes words seen tree gs b → (a ≡ b) ↔ AllZip (AreOneFunction (leaves tree)) fs gs
 
--- written: at 0 a run without a script wrote the diagram of its formula, its vtree and its size
+-- written: at 0 a run without a script, over told files, wrote the diagram of its formula, its vtree and its size
 abbrev pub HasWritten : List (List ℕ) → ℕ → Seen → Type 0
 HasWritten words status seen = status ≡ 0 → IsPlain words seen → (run : PlainRun words seen) × WritesInput run
 
--- limited: a run without a script ends with 4 only where its first groups pass the limit, and wherever they do
+-- limited: without a script, 4 comes only where the first groups pass the limit; there, if no device fails, 4, 7 or 8
 abbrev pub HasLimit : List (List ℕ) → ℕ → Seen → Type 0
 HasLimit words status seen = (run : PlainRun words seen) → (status ≡ 4 → TellsGroup run)
     × ((group size : ℕ) → PassesAt run group size → IsCalm seen → (status ≡ 4) ⊎ LacksRoom status)
 
--- joined: a run with a script of four lines, as it is stated, is done, and wrote the diagram of two formulas joined
+-- joined: at 0 a script of four lines wrote the diagram of two formulas, joined; if no device fails, 0, 4, 7 or 8 comes
 abbrev pub HasJoined : List (List ℕ) → ℕ → Seen → Type 0
 HasJoined words status seen = (run : FourLines words seen) → (status ≡ 0 → WritesJoined run)
     × (IsCalm seen → (status ≡ 0) ⊎ (status ≡ 4) ⊎ LacksRoom status)
@@ -39,16 +39,16 @@ HasJoined words status seen = (run : FourLines words seen) → (status ≡ 0 →
 abbrev pub HasLine : List (List ℕ) → ℕ → Seen → Type 0
 HasLine words status seen = Went words status seen (λ effects end. WritesEndLine end seen.old seen.new)
 
--- ends: the end is one to which the words and the files lead, with its reason, what it keeps and its line
+-- ends: all is done, or it is refused, passes a limit, a device fails, or memory or room is gone, each for its reason
 abbrev pub HasEnd : List (List ℕ) → ℕ → Option Table → Seen → Type 0
 HasEnd words status kept seen = Went words status seen (λ effects end. EndsSo words effects end kept seen)
 
--- complete: where no device fails, told files lead to their end, if there is memory and room
+-- complete: if no device fails, a run comes to the end to which told files lead, or there is no memory or no room
 abbrev pub IsComplete : List (List ℕ) → ℕ → Seen → Type 0
 IsComplete words status seen = IsCalm seen → (PlainRun words seen → (status ≡ 0) ⊎ (status ≡ 4) ⊎ LacksRoom status)
     × ((own : OwnEnd words seen) → CameTo own status ⊎ LacksRoom status)
 
--- asked: at 1 no file is asked for, at 1, 2 and 5 none is to be written, and never is one read after one was written
+-- asked: at 1 no file is asked for, at 2 and 5 none is written, and never is one read after another was written
 abbrev pub HasAsked : ℕ → Seen → Type 0
 HasAsked status seen = (status ≡ 1 → seen.asked [])
     × ((status ≡ 1) ⊎ (status ≡ 2) ⊎ (status ≡ 5) → ReadsAlone seen.asked) × ReadsFirst seen.asked
