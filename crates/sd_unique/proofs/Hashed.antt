@@ -5,7 +5,7 @@ use Rattle.sd_unique.specs.Chains.{bucket_of, hash_of, mixed}
 
 -- the hash of a key from its parts
 pub hash_is : (place : ℕ) (list : List (ℕ × ℕ)) (hash : ℕ)
-    → hash ≡ fold mixed (mixed 0 (place, 0)) list
+    → hash ≡ fold mixed place list
     → hash / 2 ^ 32 ≡ hash_of (place, list)
 unfolding hash_of
 hash_is place list hash e = ap (λ h. h / 2 ^ 32) e

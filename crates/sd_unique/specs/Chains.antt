@@ -1,7 +1,7 @@
 -- The chains of the records: of each bucket and of the free records, the lists of each place and of the detached, and
 -- the stack of candidates.
 use Rattle.std.specs.Prelude.{◌≡◌, ℕ, suc, zero, ◌+◌, ◌*◌, ◌/◌, ◌%◌, ◌-◌, ◌<◌, ◌^◌, List, length, map, get_or}
-use Rattle.std.specs.Prelude.{Bool, not, ◌==◌, cond, Option, Some, None, slice_get, bit_and}
+use Rattle.std.specs.Prelude.{Bool, not, ◌==◌, cond, Option, Some, None, slice_get, bit_and, bit_xor}
 use Rattle.std.specs.Int.{w64, rotate_left}
 use Rattle.std.specs.List.{fold, sum_by}
 use Rattle.std.specs.Option.{option_and_then}
@@ -13,14 +13,15 @@ use Rattle.sd_unique.specs.declared.record.Links.{Links}
 use Rattle.sd_unique.specs.declared.record.RecordState.{RecordState}
 use Rattle.sd_unique.specs.declared.record.RecordState.TheVariants.{Free, Linked, Detached}
 
--- a hash with one more pair in it: its halves change places, then the pair is added as one word, and a product mixes
--- the bits
+-- a hash with one more pair in it: its halves change places, and two products mix the bits
 unfoldable pub mixed : ℕ → ℕ × ℕ → ℕ
-mixed hash pair = (rotate_left w64 hash 32 + (pair.1 * 2 ^ 32 + pair.0)) % 2 ^ 64 * 11400714819323198485 % 2 ^ 64
+mixed hash pair =
+    (bit_xor (rotate_left w64 hash 32) pair.0 * 11400714819323198485 % 2 ^ 64
+    + pair.1 * 15485907386658061715 % 2 ^ 64) % 2 ^ 64
 
 -- the hash of a place and a list: the upper half of what the place and all pairs give
 unfoldable pub hash_of : ℕ × List (ℕ × ℕ) → ℕ
-hash_of key = fold mixed (mixed 0 (key.0, 0)) key.1 / 2 ^ 32
+hash_of key = fold mixed key.0 key.1 / 2 ^ 32
 
 -- the bucket of a key among so many
 unfoldable pub bucket_of : ℕ × List (ℕ × ℕ) → ℕ → ℕ

@@ -7,7 +7,7 @@ ghost use Rattle.sd_unique.specs.Chains.{bucket_of, hash_of, mixed};
 pub(crate) fn hash(place: u32, list: &[(u32, u32)]) -> u32
     ensures { result ≡ hash_of (place, list.now) }
 {
-    let mut hash = mix(0, place, 0);
+    let mut hash = u64::from(place);
     for pair in list {
         hash = mix(hash, pair.0, pair.1);
     }
@@ -24,14 +24,14 @@ pub(crate) fn bucket_at(hash: u32, count: usize) -> usize
     hash as usize & (count - 1)
 }
 
-// The hash with one more pair in it.
+// The hash with one more pair in it. The numbers of the pair are read one by one: one word of both
+// would wait for the stores of a pair that was just made.
 #[inline(always)]
 #[tactic(auto, unfolding(crate::specs::Chains::mixed))]
 fn mix(hash: u64, first: u32, second: u32) -> u64
     ensures { result ≡ mixed hash (first, second) }
 {
-    let word = u64::from(second) * 0x1_0000_0000 + u64::from(first);
-    hash.rotate_left(32)
-        .wrapping_add(word)
+    (hash.rotate_left(32) ^ u64::from(first))
         .wrapping_mul(0x9E37_79B9_7F4A_7C15)
+        .wrapping_add(u64::from(second).wrapping_mul(0xD6E8_FEB8_6659_FD93))
 }

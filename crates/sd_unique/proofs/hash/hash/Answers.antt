@@ -9,5 +9,5 @@ pub returns : goal.returns
 returns c =
     hash_is c.args.place c.args.list.now c.loop-pair.hash
     (c.loop-pair.invariant
-    ∙ ap (fold mixed (mixed 0 (c.args.place, 0)))
+    ∙ ap (fold mixed c.args.place)
     (take_all c.loop-pair.pair-index c.args.list.now (omega arith)))

@@ -5,4 +5,4 @@ use Rattle.sd_unique.proofs.hash.hash.Given as goal
 
 abbrev pub invariant-loop-pair : goal.invariant-loop-pair
 invariant-loop-pair l =
-    l.hash ≡ fold mixed (mixed 0 (l.place, 0)) (take l.pair-index l.list)
+    l.hash ≡ fold mixed l.place (take l.pair-index l.list)
