@@ -1,13 +1,15 @@
 -- OutOfMemory is never the fault of the words: no row of the table of refusals gives it.
-use Rattle.std.proofs.Common.{◌≡◌, ℕ, Bool, true, false, List, [], ◌∷◌, Option, Some, None, Err}
+use Rattle.std.proofs.Common.{◌≡◌, ℕ, Bool, true, false, List, [], ◌∷◌, Option, Some, None, Err, subst, sym}
 use Rattle.std.specs.Prelude.{option_map, if◌then◌else◌, count_by, find, nat_le, ◌&&◌, ◌==◌}
 use Rattle.std.specs.Str.{bytes_eq}
 use Rattle.sd_words.specs.Command.{accepts, parsed_by}
 use Rattle.sd_words.specs.ParsedOptions.{ParsedOptions, fails, first_beside, has_option, has_bad_number, start_of}
 use Rattle.sd_words.specs.Options.{inputs, number_options, replaced_by_script}
 use Rattle.sd_words.specs.JobOf.{job_of, job_from, job_of_parsed, first_some, unless}
-use Rattle.sd_words.specs.Refusals.{refusals, fault_where, same_name, no_input, two_inputs, two_vtrees, number_range}
-use Rattle.sd_words.specs.Refusals.{with_script, file_twice, start_unknown, empty_name}
+use Rattle.sd_words.specs.Refusals.{refusals, fault_where, same_name}
+use Rattle.sd_words.specs.Rows.{rows, no_input, two_inputs, two_vtrees, number_range}
+use Rattle.sd_words.specs.Rows.{with_script, file_twice, start_unknown, empty_name}
+use Rattle.sd_words.proofs.JobLemmas.{refusals_are}
 use Rattle.sd_words.specs.declared.faults.WordsFault.{WordsFault}
 use Rattle.sd_words.specs.declared.faults.WordsFault.TheVariants as words
 use Rattle.sd_words.specs.declared.jobs.Job.{Job}
@@ -86,7 +88,8 @@ row_empty_name parsed = not_out_of_memory_made _ (λ o. words.EmptyName o) (λ o
 
 not_out_of_memory_rows : (parsed : ParsedOptions) → IsNotOutOfMemory (first_some (refusals parsed))
 not_out_of_memory_rows parsed =
-    not_out_of_memory_first (refusals parsed) (
+    subst (λ (l : List (Option WordsFault)). IsNotOutOfMemory (first_some l)) (sym (refusals_are parsed))
+    (not_out_of_memory_first (rows parsed) (
       row_no_input parsed,
       (
         row_two_inputs parsed,
@@ -98,7 +101,7 @@ not_out_of_memory_rows parsed =
           ),
         ),
       ),
-    )
+    ))
 
 not_out_of_memory_unless : (found : Option WordsFault) (job : Job) → IsNotOutOfMemory found
     → unless found job ≡ Err words.OutOfMemory → ⊥

@@ -9,7 +9,9 @@ use Rattle.sd_words.specs.Command.{accepts, parsed_by}
 use Rattle.sd_words.specs.Numbers.{natural, within, number_within, both, count_and_seed}
 use Rattle.sd_words.specs.ParsedOptions.{ParsedOptions, fails, has_bad_number, generated}
 use Rattle.sd_words.specs.JobOf.{job_of, job_from, job_of_parsed, input_of, first_some, unless}
-use Rattle.sd_words.specs.Refusals.{refusals, fault_where, no_input, two_inputs, two_vtrees, number_range}
+use Rattle.sd_words.specs.Refusals.{refusals, fault_where}
+use Rattle.sd_words.specs.Rows.{rows, no_input, two_inputs, two_vtrees, number_range}
+use Rattle.sd_words.proofs.JobLemmas.{refusals_are}
 use Rattle.sd_words.specs.declared.faults.WordsFault.{WordsFault}
 use Rattle.sd_words.specs.declared.faults.WordsFault.TheVariants as words
 use Rattle.sd_words.specs.declared.jobs.Job.{Job}
@@ -104,7 +106,9 @@ input_fits None None (Some text) some reads = go (count_and_seed text) refl read
 parsed_fits : (parsed : ParsedOptions) → first_some (refusals parsed) ≡ None
     → IsInRange (input_of parsed (generated parsed))
 parsed_fits parsed none =
-    let first = none_here (no_input parsed) _ none in
+    let by_rows : first_some (rows parsed) ≡ None = subst (λ (l : List (Option WordsFault)). first_some l ≡ None)
+    (refusals_are parsed) none in
+    let first = none_here (no_input parsed) _ by_rows in
     let second = none_here (two_inputs parsed) _ first.1 in
     let third = none_here (two_vtrees parsed) _ second.1 in
     let fourth = none_here (number_range parsed) _ third.1 in

@@ -5,8 +5,7 @@ use Rattle.clap.proofs.OnLiterals.{clap_on_literals}
 use Rattle.sd_words.specs.Command.{rows_found, sddc, usage_faults}
 use Rattle.sd_words.specs.JobOf.{job_from, job_of_parsed, job_of}
 use Rattle.sd_words.specs.Numbers.{natural}
-use Rattle.sd_words.specs.Refusals.{empty_name, file_twice, no_input, number_range}
-use Rattle.sd_words.specs.Refusals.{start_unknown, two_inputs, two_vtrees, with_script}
+use Rattle.sd_words.specs.Refusals.{refusals}
 use Rattle.sd_words.specs.declared.faults.WordsFault.TheVariants as fault
 use Rattle.sd_words.specs.declared.jobs.InputWord.TheVariants as input
 use Rattle.sd_words.specs.declared.jobs.TreeWord.TheVariants as tree
@@ -14,7 +13,7 @@ use Rattle.sd_words.specs.declared.options.OptionName.TheVariants as option
 
 -- all that has to unfold for the table of refusals to compute
 unfoldable table_on_literals : ⊤
-unfolding no_input two_inputs two_vtrees number_range with_script file_twice start_unknown empty_name
+unfolding refusals
 table_on_literals = tt
 
 -- and for all words of an example

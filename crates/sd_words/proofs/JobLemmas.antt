@@ -16,7 +16,9 @@ use Rattle.sd_words.specs.Command.{parsed_in, parsed_of, handed, rows_found, usa
 use Rattle.sd_words.specs.ParsedOptions.{ParsedOptions, fails, has_option}
 use Rattle.sd_words.specs.JobOf.{Answers, first_some, job_from, job_of}
 use Rattle.sd_words.specs.Options.{inputs}
-use Rattle.sd_words.specs.Refusals.{fault_where, no_input, refusals, two_inputs}
+use Rattle.sd_words.specs.Refusals.{fault_where, refusals}
+use Rattle.sd_words.specs.Rows.{empty_name, file_twice, no_input, number_range, rows}
+use Rattle.sd_words.specs.Rows.{start_unknown, two_inputs, two_vtrees, with_script}
 use Rattle.sd_words.specs.declared.faults.WordsFault.{WordsFault}
 use Rattle.sd_words.specs.declared.faults.WordsFault.TheVariants as fault
 use Rattle.sd_words.specs.declared.jobs.Job.{Job}
@@ -27,13 +29,18 @@ pub first_two : (a b : Option WordsFault) (rest : List (Option WordsFault))
 first_two None b rest = refl
 first_two (Some f) b rest = refl
 
+-- the table has its rows
+pub refusals_are : (parsed : ParsedOptions) → refusals parsed ≡ rows parsed
+unfolding refusals no_input two_inputs two_vtrees number_range with_script file_twice start_unknown empty_name
+refusals_are parsed = refl
+
 -- the exit of a `?` at the first fault
 pub refused : (parsed : ParsedOptions) (r : Result Job WordsFault) (f : WordsFault) → IsErrAnd r (λ e. e ≡ f)
-    → first_some (refusals parsed) ≡ Some f → Answers (job_from parsed) r
+    → first_some (rows parsed) ≡ Some f → Answers (job_from parsed) r
 unfolding job_from
 refused parsed r f is first =
     let p = err_from_is_err_and r is in
-    rw (p.1, p.2) (inr (rw first refl))
+    rw (p.1, p.2) (inr (rw (refusals_are parsed, first) refl))
 
 -- and where memory ran out
 pub ran_out : (parsed : ParsedOptions) (r : Result Job WordsFault) (f : WordsFault) → IsErrAnd r (λ e. e ≡ f)

@@ -1,5 +1,5 @@
 mod CommandLemmas
-mod JobLemmas
+pub mod JobLemmas
 mod Examples
 mod OptionSteps
 mod OrdinaryWalk

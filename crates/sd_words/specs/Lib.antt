@@ -3,6 +3,7 @@ pub mod ParsedOptions
 pub mod Command
 pub mod Numbers
 pub mod Refusals
+pub mod Rows
 pub mod JobOf
 pub mod Ordinary
 pub mod Reading

@@ -1,4 +1,4 @@
--- The table of refusals: one definition a row, and the order in which they are tested.
+-- The table of refusals.
 use Rattle.std.specs.Prelude.{◌&&◌, ◌==◌, Bool, List, [], ◌∷◌, count_by, find, if◌then◌else◌, nat_le}
 use Rattle.std.specs.Prelude.{Option, Some, None, option_map}
 use Rattle.std.specs.Str.{bytes_eq}
@@ -20,52 +20,28 @@ abbrev pub fault_at_first : (OptionName → Bool) → List OptionName → (Optio
     → Option WordsFault
 fault_at_first test options fault = option_map fault (find test options)
 
--- none of `--cnf`, `--dnf` and `--generate` is there
-unfoldable pub no_input : ParsedOptions → Option WordsFault
-no_input parsed = fault_where (count_by (has_option parsed) inputs == 0) fault.NoInput
-
--- more than one of them is there
-unfoldable pub two_inputs : ParsedOptions → Option WordsFault
-two_inputs parsed = fault_where (nat_le 2 (count_by (has_option parsed) inputs)) fault.TwoInputs
-
--- both `--vtree` and `--start` are there
-unfoldable pub two_vtrees : ParsedOptions → Option WordsFault
-two_vtrees parsed = fault_where (has_option parsed option.Vtree && has_option parsed option.Start) fault.TwoVtrees
-
--- a number is not as it has to be; the first option is named
-unfoldable pub number_range : ParsedOptions → Option WordsFault
-number_range parsed = fault_at_first (has_bad_number parsed) number_options (λ o. fault.NumberRange o)
-
--- `--script` is there with an option that it stands in place of; the first is named
-unfoldable pub with_script : ParsedOptions → Option WordsFault
-with_script parsed =
-    option_map (λ o. fault.WithScript o) (first_beside option.Script replaced_by_script parsed)
-
 -- two names that are there are the same bytes
 abbrev pub same_name : Option Text → Option Text → Option WordsFault
 same_name (Some a) (Some b) = fault_where (bytes_eq a b) (fault.FileTwice a)
 same_name _ _ = None
 
--- `--out-vtree` and `--out-sdd` name the same bytes
-unfoldable pub file_twice : ParsedOptions → Option WordsFault
-file_twice parsed = same_name (parsed option.OutVtree) (parsed option.OutSdd)
-
--- the value of `--start` is not `balanced`, `right` or `left`
-unfoldable pub start_unknown : ParsedOptions → Option WordsFault
-start_unknown parsed = fault_where (fails start_of (parsed option.Start)) fault.StartUnknown
-
--- the name of a file is empty; the first option is named
-unfoldable pub empty_name : ParsedOptions → Option WordsFault
-empty_name parsed = fault_at_first (has_that is_empty parsed) files (λ o. fault.EmptyName o)
-
--- all of them, in the order in which they are tested
-abbrev pub refusals : ParsedOptions → List (Option WordsFault)
-refusals parsed = no_input parsed
-    ∷ two_inputs parsed
-    ∷ two_vtrees parsed
-    ∷ number_range parsed
-    ∷ with_script parsed
-    ∷ file_twice parsed
-    ∷ start_unknown parsed
-    ∷ empty_name parsed
+-- The table, in the order in which its rows are tested: the fault of each, where it holds.
+unfoldable pub refusals : ParsedOptions → List (Option WordsFault)
+refusals parsed =
+    -- none of `--cnf`, `--dnf` and `--generate` is there
+    fault_where (count_by (has_option parsed) inputs == 0) fault.NoInput
+    -- more than one of them is there
+    ∷ fault_where (nat_le 2 (count_by (has_option parsed) inputs)) fault.TwoInputs
+    -- both `--vtree` and `--start` are there
+    ∷ fault_where (has_option parsed option.Vtree && has_option parsed option.Start) fault.TwoVtrees
+    -- a number is not as it has to be; the first option is named
+    ∷ fault_at_first (has_bad_number parsed) number_options (λ o. fault.NumberRange o)
+    -- `--script` is there with an option that it stands in place of; the first is named
+    ∷ option_map (λ o. fault.WithScript o) (first_beside option.Script replaced_by_script parsed)
+    -- `--out-vtree` and `--out-sdd` name the same bytes
+    ∷ same_name (parsed option.OutVtree) (parsed option.OutSdd)
+    -- the value of `--start` is not `balanced`, `right` or `left`
+    ∷ fault_where (fails start_of (parsed option.Start)) fault.StartUnknown
+    -- the name of a file is empty; the first option is named
+    ∷ fault_at_first (has_that is_empty parsed) files (λ o. fault.EmptyName o)
     ∷ []

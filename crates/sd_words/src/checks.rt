@@ -2,8 +2,8 @@
 ghost use Rattle.std.specs.Option.{option_or};
 ghost use Rattle.sd_words.specs.Command.{parsed_of};
 ghost use Rattle.sd_words.specs.Reading.{RefusesBy, RefusesOrRunsOut};
-ghost use Rattle.sd_words.specs.Refusals.{empty_name, file_twice, no_input, two_inputs};
-ghost use Rattle.sd_words.specs.Refusals.{two_vtrees, with_script};
+ghost use Rattle.sd_words.specs.Rows.{empty_name, file_twice, no_input, two_inputs};
+ghost use Rattle.sd_words.specs.Rows.{two_vtrees, with_script};
 
 use crate::faults::WordsFault;
 use crate::options::{FILES, INPUTS, OptionName, REPLACED_BY_SCRIPT};
@@ -13,7 +13,7 @@ use sd_base::Name;
 use std::alloc::Global;
 
 /// Checks that exactly one input is there.
-#[tactic(auto, unfolding(crate::specs::Refusals::no_input, crate::specs::Refusals::two_inputs))]
+#[tactic(auto, unfolding(crate::specs::Rows::no_input, crate::specs::Rows::two_inputs))]
 pub(crate) fn check_inputs(options: &ArgMatches<'_>) -> Result<(), WordsFault>
     ensures { let parsed = parsed_of options.now in
         RefusesBy (option_or (no_input parsed) (two_inputs parsed)) result }
@@ -26,7 +26,7 @@ pub(crate) fn check_inputs(options: &ArgMatches<'_>) -> Result<(), WordsFault>
 }
 
 /// Checks that `--vtree` and `--start` are not both there.
-#[tactic(auto, unfolding(crate::specs::Refusals::two_vtrees))]
+#[tactic(auto, unfolding(crate::specs::Rows::two_vtrees))]
 pub(crate) fn check_vtrees(options: &ArgMatches<'_>) -> Result<(), WordsFault>
     ensures { RefusesBy (two_vtrees (parsed_of options.now)) result }
 {
@@ -38,7 +38,7 @@ pub(crate) fn check_vtrees(options: &ArgMatches<'_>) -> Result<(), WordsFault>
 }
 
 /// Checks that a script is not there with what it stands in place of.
-#[tactic(auto, unfolding(crate::specs::Refusals::with_script))]
+#[tactic(auto, unfolding(crate::specs::Rows::with_script))]
 pub(crate) fn check_script(options: &ArgMatches<'_>) -> Result<(), WordsFault>
     ensures { RefusesBy (with_script (parsed_of options.now)) result }
 {
@@ -49,7 +49,7 @@ pub(crate) fn check_script(options: &ArgMatches<'_>) -> Result<(), WordsFault>
 }
 
 /// Checks that the two output files are two. The memory is for the name in the fault.
-#[tactic(auto, unfolding(crate::specs::Refusals::file_twice))]
+#[tactic(auto, unfolding(crate::specs::Rows::file_twice))]
 pub(crate) fn check_outputs(alloc: Global, options: &ArgMatches<'_>) -> Result<(), WordsFault>
     ensures { RefusesOrRunsOut (file_twice (parsed_of options.now)) result }
 {
@@ -65,7 +65,7 @@ pub(crate) fn check_outputs(alloc: Global, options: &ArgMatches<'_>) -> Result<(
 }
 
 /// Checks that no file has an empty name.
-#[tactic(auto, unfolding(crate::specs::Refusals::empty_name))]
+#[tactic(auto, unfolding(crate::specs::Rows::empty_name))]
 pub(crate) fn check_names(options: &ArgMatches<'_>) -> Result<(), WordsFault>
     ensures { RefusesBy (empty_name (parsed_of options.now)) result }
 {

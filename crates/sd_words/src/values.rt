@@ -5,7 +5,7 @@ ghost use Rattle.sd_words.specs.ParsedOptions.{fails, generated, option_number, 
 ghost use Rattle.sd_words.specs.JobOf.{tree_word_of};
 ghost use Rattle.sd_words.specs.Numbers.{count_and_seed, number_of_text};
 ghost use Rattle.sd_words.specs.Reading.{HasNumbers, RefusesBy};
-ghost use Rattle.sd_words.specs.Refusals.{number_range, start_unknown};
+ghost use Rattle.sd_words.specs.Rows.{number_range, start_unknown};
 
 use crate::faults::WordsFault;
 use crate::jobs::TreeWord;
@@ -26,7 +26,7 @@ pub(crate) struct Numbers {
 }
 
 /// The numbers that are there, each of which has to be in its range.
-#[tactic(auto, unfolding(crate::specs::Refusals::number_range))]
+#[tactic(auto, unfolding(crate::specs::Rows::number_range))]
 pub(crate) fn read_numbers(options: &ArgMatches<'_>) -> Result<Numbers, WordsFault>
     ensures range { RefusesBy (number_range (parsed_of options.now)) result }
     ensures readable { OnOk result
@@ -43,7 +43,7 @@ pub(crate) fn read_numbers(options: &ArgMatches<'_>) -> Result<Numbers, WordsFau
 }
 
 /// The shape that `--start` names, or the balanced one. Three words are known.
-#[tactic(auto, unfolding(crate::specs::Refusals::start_unknown))]
+#[tactic(auto, unfolding(crate::specs::Rows::start_unknown))]
 pub(crate) fn read_start(options: &ArgMatches<'_>) -> Result<TreeWord, WordsFault>
     ensures unknown { RefusesBy (start_unknown (parsed_of options.now)) result }
     ensures start { IfOk result (λ t. t

@@ -1,0 +1,56 @@
+-- The rows of the table of refusals, one by one, for the contracts of private functions.
+use Rattle.std.specs.Prelude.{◌&&◌, ◌==◌, List, [], ◌∷◌, count_by, nat_le}
+use Rattle.std.specs.Prelude.{Option, option_map}
+use Rattle.clap.specs.Walk.{is_empty}
+use Rattle.sd_words.specs.ParsedOptions.{ParsedOptions, fails, first_beside, has_option, has_bad_number}
+use Rattle.sd_words.specs.ParsedOptions.{has_that, start_of}
+use Rattle.sd_words.specs.Options.{files, inputs, number_options, replaced_by_script}
+use Rattle.sd_words.specs.declared.options.OptionName.TheVariants as option
+use Rattle.sd_words.specs.declared.faults.WordsFault.{WordsFault}
+use Rattle.sd_words.specs.declared.faults.WordsFault.TheVariants as fault
+use Rattle.sd_words.specs.Refusals.{fault_where, fault_at_first, same_name}
+
+-- none of `--cnf`, `--dnf` and `--generate` is there
+unfoldable pub no_input : ParsedOptions → Option WordsFault
+no_input parsed = fault_where (count_by (has_option parsed) inputs == 0) fault.NoInput
+
+-- more than one of them is there
+unfoldable pub two_inputs : ParsedOptions → Option WordsFault
+two_inputs parsed = fault_where (nat_le 2 (count_by (has_option parsed) inputs)) fault.TwoInputs
+
+-- both `--vtree` and `--start` are there
+unfoldable pub two_vtrees : ParsedOptions → Option WordsFault
+two_vtrees parsed = fault_where (has_option parsed option.Vtree && has_option parsed option.Start) fault.TwoVtrees
+
+-- a number is not as it has to be; the first option is named
+unfoldable pub number_range : ParsedOptions → Option WordsFault
+number_range parsed = fault_at_first (has_bad_number parsed) number_options (λ o. fault.NumberRange o)
+
+-- `--script` is there with an option that it stands in place of; the first is named
+unfoldable pub with_script : ParsedOptions → Option WordsFault
+with_script parsed =
+    option_map (λ o. fault.WithScript o) (first_beside option.Script replaced_by_script parsed)
+
+-- `--out-vtree` and `--out-sdd` name the same bytes
+unfoldable pub file_twice : ParsedOptions → Option WordsFault
+file_twice parsed = same_name (parsed option.OutVtree) (parsed option.OutSdd)
+
+-- the value of `--start` is not `balanced`, `right` or `left`
+unfoldable pub start_unknown : ParsedOptions → Option WordsFault
+start_unknown parsed = fault_where (fails start_of (parsed option.Start)) fault.StartUnknown
+
+-- the name of a file is empty; the first option is named
+unfoldable pub empty_name : ParsedOptions → Option WordsFault
+empty_name parsed = fault_at_first (has_that is_empty parsed) files (λ o. fault.EmptyName o)
+
+-- all of them
+abbrev pub rows : ParsedOptions → List (Option WordsFault)
+rows parsed = no_input parsed
+    ∷ two_inputs parsed
+    ∷ two_vtrees parsed
+    ∷ number_range parsed
+    ∷ with_script parsed
+    ∷ file_twice parsed
+    ∷ start_unknown parsed
+    ∷ empty_name parsed
+    ∷ []
