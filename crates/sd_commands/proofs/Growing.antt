@@ -179,7 +179,8 @@ module _ (input : Groups) (seen : State) (code : RunState) (work : CompiledPrefi
   grown_added t cache new kept serves unmarked same more holds within =
       let tree : plain_tree code.manager.vtree ≡ plain_tree t.vtree = ap plain_tree (sym kept.reached.vtree) in
       let next : work.groups + 1 ≡ suc work.groups = omega arith in
-      let in_ = within_with (without code work.root) here numbered was.represents law (prefix_of input (work.groups + 1))
+      let in_ = within_with (without code work.root) here numbered was.represents law
+      (prefix_of input (work.groups + 1))
       code.limit refl within in
       record {
         represents = subst (λ r. Represents (without (record code { manager = t; cache = cache }) r)
@@ -187,7 +188,8 @@ module _ (input : Groups) (seen : State) (code : RunState) (work : CompiledPrefi
             (subst (λ u. Represents (without (record code { manager = t; cache = cache }) work.root)
             (record seen { tree = u })) tree
             (stands_kept (without code work.root) (without_root t work.root) cache here was.represents
-            (all_beside code.manager t work.root kept) (serves_roots cache t (remove t.roots work.root) serves) unmarked));
+            (all_beside code.manager t work.root kept) (serves_roots cache t (remove t.roots work.root) serves)
+            unmarked));
         holds = holds;
         done = work.groups;
         next = more ∙ next;
@@ -203,12 +205,14 @@ module _ (input : Groups) (seen : State) (code : RunState) (work : CompiledPrefi
       → IsBrokenOff input seen (record code { manager = t; cache = cache }) new.root
   not_added t cache new kept serves unmarked same roots =
       let tree : plain_tree code.manager.vtree ≡ plain_tree t.vtree = ap plain_tree (sym kept.reached.vtree) in
-      subst (λ (w : CompiledPrefix). IsBrokenOff input seen (record code { manager = t; cache = cache }) w.root) (sym same)
+      subst (λ (w : CompiledPrefix). IsBrokenOff input seen (record code { manager = t; cache = cache }) w.root)
+      (sym same)
       (record {
         represents = subst (λ u. Represents (without (record code { manager = t; cache = cache }) work.root)
             (record seen { tree = u })) tree
             (stands_kept (without code work.root) (without_root t work.root) cache here was.represents
-            (all_beside code.manager t work.root kept) (serves_roots cache t (remove t.roots work.root) serves) unmarked);
+            (all_beside code.manager t work.root kept) (serves_roots cache t (remove t.roots work.root) serves)
+            unmarked);
         held = subst (λ o. IsSome o) (sym (ap (λ r. get r work.root) roots ∙ was.holds.1.held)) refl;
         grown = inl (record {
           done = work.groups;
@@ -235,7 +239,8 @@ module _ (input : Groups) (seen : State) (code : RunState) (work : CompiledPrefi
           tree = plain_tree code.manager.vtree;
           before = was.course;
           passes =
-              passes_with (without code work.root) here numbered was.represents law (prefix_of input group) code.limit size
+              passes_with (without code work.root) here numbered was.represents law (prefix_of input group)
+              code.limit size
               refl h.1.total h.1.passes;
         },
         refl,

@@ -1,6 +1,7 @@
 -- A command has one outcome; where it is done the tree is a vtree, and the bound names are those that are expected.
 use Rattle.std.proofs.Common.{◌≡◌, ℕ, Bool, true, false, not, eqb, List, [], ◌∷◌, filter, map}
-use Rattle.std.proofs.Common.{zero, suc, ◌≤◌, ◌+◌, ◌<◌, length, get_or, drop, add-one, refl, sym, ap, subst, ◌∙◌, inl, inr}
+use Rattle.std.proofs.Common.{zero, suc, ◌≤◌, ◌+◌, ◌<◌, length, get_or, drop}
+use Rattle.std.proofs.Common.{add-one, refl, sym, ap, subst, ◌∙◌, inl, inr}
 use Rattle.std.proofs.Common.{Option, Some, None, arith}
 use Rattle.std.proofs.Math.Seq.{drop-cons}
 use Rattle.std.proofs.lemmas.Bool.{cases_eq, cases_order, eq-eqb, ne_eqb}
@@ -90,7 +91,8 @@ one_growth input state (suc n) a b valid p q =
     (subst (λ t. Follows (is_due state.every (suc n)) (with_groups input state (suc n)) state.slack t a) same p.3) q.3
 
 -- where no search follows a group it is the tree of the state
-pub plain_growth : (input : Groups) (state : State) (n : ℕ) (tree : Tree) → state.every ≡ None → Grows input state n tree
+pub plain_growth : (input : Groups) (state : State) (n : ℕ) (tree : Tree) → state.every ≡ None → Grows input state n
+    tree
     → tree ≡ state.tree
 plain_growth input state zero tree none p = p
 plain_growth input state (suc n) tree none p =

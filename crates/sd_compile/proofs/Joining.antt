@@ -191,7 +191,8 @@ front_more f i g at assignment =
 -- one group more
 pub group_more : (f : Groups) (old mid new : Table) (between within : Operation) (i : ℕ) (g : Group) (a b c : ℕ)
     → between ≡ outer f.kind → within ≡ inner f.kind g.exclusive → slice_get f.groups i ≡ Some g → Extends old mid
-    → HasAnswer old (front_value f i) a → HasAnswer mid (λ assignment. joined within (literal_holds assignment) g.literals) b
+    → HasAnswer old (front_value f i) a → HasAnswer mid
+    (λ assignment. joined within (literal_holds assignment) g.literals) b
     → Combines mid new between a b c → HasAnswer new (front_value f (i + 1)) c
 group_more f old mid new between within i g a b c outside inside at kept front group combines =
     answer_same new (λ assignment. combine (outer f.kind) (front_value f i assignment)

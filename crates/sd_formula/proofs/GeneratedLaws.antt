@@ -23,7 +23,8 @@ clauses_put seed n = record { closed = generated_clauses seed n; open_part = no_
 
 -- three literals by the states behind a number are the clause of that number
 three_are : (seed i : ℕ) →
-    literal_by (state_at (state_at seed (3 * i)) 1) (i + 1) ∷ literal_by (state_at (state_at seed (3 * i)) 2) (i + 1 + 1)
+    literal_by (state_at (state_at seed (3 * i)) 1) (i + 1) ∷ literal_by (state_at (state_at seed (3 * i)) 2)
+    (i + 1 + 1)
     ∷ literal_by (state_at (state_at seed (3 * i)) 3) (i + 1 + 2) ∷ [] ≡ (generated_clause seed i).literals
 three_are seed i =
     let first : suc (3 * i) ≡ 3 * i + 1 = omega arith in

@@ -1,5 +1,6 @@
 -- The generated formula: clauses of three neighbouring variables, whose signs a linear congruential generator gives.
-use Rattle.std.specs.Prelude.{ℕ, zero, suc, ◌+◌, ◌-◌, ◌*◌, ◌%◌, ◌≤◌, ◌<◌, ◌^◌, nat_lt, if◌then◌else◌, List, [], ◌∷◌, ◌++◌}
+use Rattle.std.specs.Prelude.{ℕ, zero, suc, ◌+◌, ◌-◌, ◌*◌, ◌%◌, ◌≤◌}
+use Rattle.std.specs.Prelude.{◌<◌, ◌^◌, nat_lt, if◌then◌else◌, List, [], ◌∷◌, ◌++◌}
 use Rattle.std.specs.Prelude.{ℤ, pos, neg_ℤ, false}
 use Rattle.sd_model.specs.Expression.{Group}
 use Rattle.sd_formula.specs.declared.formula.Kind.TheVariants.{Cnf}

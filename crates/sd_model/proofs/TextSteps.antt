@@ -9,7 +9,8 @@ use Rattle.sd_model.specs.declared.diagrams.Diagram.{Diagram as OwnedDiagram, De
 use Rattle.sd_model.specs.declared.diagrams.Element.{Element as OwnedElement}
 use Rattle.sd_model.specs.Diagram.{Diagram}
 use Rattle.sd_model.specs.Size.{completed}
-use Rattle.sd_model.specs.Text.{number_text, spaced, line_text, index_of, element_words, node_words, naming_lines, roots_text}
+use Rattle.sd_model.specs.Text.{number_text, spaced, line_text, index_of}
+use Rattle.sd_model.specs.Text.{element_words, node_words, naming_lines, roots_text}
 use Rattle.sd_model.specs.Seen.{diagram_of, elements_of, diagrams_of}
 use Rattle.sd_model.proofs.NodeSteps.{length_diagrams_of}
 use Rattle.sd_model.proofs.SeenLemmas.{seen_decomposition, count_elements_of}

@@ -265,7 +265,8 @@ grown_rewritten a b x t e g =
         linked : (o : Option (ℕ × List (ℕ × ℕ))) → get b.linked n ≡ o → IsSome (get b.linked n)
         linked (Some k) g = subst IsSome (sym g) refl
         linked None g =
-            absurd (cc (subst IsSome (ap (λ o. or_else o (get b.detached n)) g ∙ ap (λ z. get z n) e.detached ∙ d) some))
+            absurd (cc (subst IsSome (ap (λ o. or_else o (get b.detached n)) g ∙ ap (λ z. get z n) e.detached ∙ d)
+            some))
 
     not_linked : (n : ℕ) → key_at a n ≡ None → get a.linked n ≡ None
     not_linked n none = by (get a.linked n) refl

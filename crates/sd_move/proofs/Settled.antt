@@ -26,7 +26,8 @@ pub record IsSettling (old now : Table) (named rest : List Named) : Type 0 where
 
 -- at the begin all entries are left
 pub settling_first : (old : Table) (j : Journal) → CanSettle j old → IsTable old → IsSettling old old j.named j.named
-settling_first old j c t = record { runs = c.runs; once = c.once; loose = refl; freed = λ n. refl; same = refl; table = t }
+settling_first old j c t = record
+    { runs = c.runs; once = c.once; loose = refl; freed = λ n. refl; same = refl; table = t }
 
 -- an entry with no run is passed
 pub settling_passed : (old now : Table) (named rest : List Named) (e : Named) → IsSettling old now named (e ∷ rest) →

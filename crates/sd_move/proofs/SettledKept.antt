@@ -14,7 +14,8 @@ use Rattle.sd_manager.specs.Table.{Table}
 use Rattle.sd_manager.specs.Shown.{ShowsCanonical}
 use Rattle.sd_sweep.specs.Reached.{reached_first, reached_below, IsHeldBy, IsReached, KeepsReached}
 use Rattle.sd_move.specs.Journal.{Named, Journal, journal_entry, key_before, key_of_entry, back, starts_of, IsOwnRun}
-use Rattle.sd_move.specs.Journal.{IsNamed, IsInOtherRun, IsInOwnRun, IsNeededBack, IsOneFunction, HasLooseRun, CanPutBack}
+use Rattle.sd_move.specs.Journal.{IsNamed, IsInOtherRun, IsInOwnRun}
+use Rattle.sd_move.specs.Journal.{IsNeededBack, IsOneFunction, HasLooseRun, CanPutBack}
 use Rattle.sd_move.specs.Journal.{CanUndo, CanSettle, IsSettledBy, HaveOtherRuns, AreNamedReached}
 use Rattle.sd_move.specs.Moves.{IsMoved}
 use Rattle.sd_move.proofs.Recorded.{without_other, member_own, own_entry}

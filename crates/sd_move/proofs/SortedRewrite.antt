@@ -89,7 +89,8 @@ module _ (m0 mid new : Table) (t : Numbered) (side : Side) (x w : ℕ) (h : Prog
         at = children.at;
         once = waits_once m0 mid new t side x w h v numbers moved kept waits i c s;
         only = waits_only m0 mid new t side x w h v numbers moved kept waits i c s only;
-        each = all_members (IsWaiting m0 new x h v (plain_tree children.left) (plain_tree children.right)) waits waits_for;
+        each = all_members (IsWaiting m0 new x h v (plain_tree children.left) (plain_tree children.right)) waits
+            waits_for;
       }
 
 -- After the first half of a rotation just the nodes that wait are detached, and they can be rewritten.

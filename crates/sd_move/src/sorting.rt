@@ -208,7 +208,8 @@ pub(crate) fn sort_upper(
     Ok(())
 }
 
-// Adds an entry for each of the nodes, which stand at the place and keep their lists. The only error: out of memory, and
+// Adds an entry for each of the nodes, which stand at the place and keep their lists. The only error: out of memory,
+// and
 // then some are entered.
 pub(crate) fn enter_all(
     place: VNode,

@@ -109,7 +109,8 @@ fn two_moves_are_undone(rt: HostRuntime) -> Result<(), Fail> {
     Ok(())
 }
 
-/// Of two swaps the first one is settled while the second one can still be undone, and that is undone then. What is left
+/// Of two swaps the first one is settled while the second one can still be undone, and that is undone then. What is
+/// left
 /// is the first swap alone: swapped back there, all is as before.
 #[test]
 fn the_older_move_is_settled(rt: HostRuntime) -> Result<(), Fail> {

@@ -49,7 +49,8 @@ module _ {lists : List (List (ℕ × ℕ))} {lengths : List ℕ} {stacks : List 
             (λ _ h. absurd (omega arith)) (λ _. st.held t);
         within = st.within;
         apart = st.apart;
-        sized = λ m t. placed stacks n (s ∷ get_or stacks n []) [] m (λ l. IsMember t l → get_or lengths t 0 ≡ m) in_stacks
+        sized = λ m t. placed stacks n (s ∷ get_or stacks n []) [] m (λ l. IsMember t l → get_or lengths t 0 ≡ m)
+            in_stacks
             (λ e. by_cases (λ same. ap (λ j. get_or lengths j 0) (sym same) ∙ sym size_is ∙ size ∙ sym e)
             (λ h. st.sized n t h ∙ sym e))
             (λ _. st.sized m t);

@@ -180,7 +180,8 @@ allowed v s line phrase bits h =
       free = h.free;
       unwritten = h.unwritten;
       ranges =
-          ranges v q h.literals h.numbers (lengths_stay v (number_of_word t.names) (number_of_word t.files) phrase ∙ bits);
+          ranges v q h.literals h.numbers
+          (lengths_stay v (number_of_word t.names) (number_of_word t.files) phrase ∙ bits);
     }
 
 -- a script with one more command
@@ -211,7 +212,8 @@ command_keeps : (v : ℕ) (s t : Script) (line : TextLine)
 command_keeps v s t line h e =
     let fault = faults.BadLine line.number in
     let found = gave (ok_or (phrase_of v line.words) fault)
-    (λ phrase. with_phrase v (seen s phrase) line.number (numbered_phrase (seen s phrase) phrase)) t (sym (with_line_is v s line) ∙ e) in
+    (λ phrase. with_phrase v (seen s phrase) line.number (numbered_phrase (seen s phrase) phrase)) t
+    (sym (with_line_is v s line) ∙ e) in
     let phrase = found.0 in
     let q = numbered_phrase (seen s phrase) phrase in
     let tested = went_on (checked v s.commands line.number (action_of q)) _ t found.2 in

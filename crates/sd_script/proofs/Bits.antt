@@ -1,5 +1,6 @@
 -- A value of a phrase has as many truth values as there are variables, and a write 1 to 1,024 names.
-use Rattle.std.proofs.Common.{◌≡◌, ℕ, Bool, true, false, ◌&&◌, List, [], ◌∷◌, length, take, refl, ap, ◌∙◌, ◌-◌, ◌≤◌, arith}
+use Rattle.std.proofs.Common.{◌≡◌, ℕ, Bool, true, false, ◌&&◌, List, []}
+use Rattle.std.proofs.Common.{◌∷◌, length, take, refl, ap, ◌∙◌, ◌-◌, ◌≤◌, arith}
 use Rattle.std.proofs.Common.{if◌then◌else◌}
 use Rattle.std.proofs.lemmas.List.{length-map}
 use Rattle.std.specs.Prelude.{◌==◌, codes, bytes_eq, Option, Some, None, option_map}

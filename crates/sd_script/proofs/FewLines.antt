@@ -23,7 +23,8 @@ one_more : (v : ℕ) (s t : Script) (line : TextLine) → with_line v s line ≡
     → length t.commands ≡ length s.commands + 1
 one_more v s t line e =
     let found = gave (ok_or (phrase_of v line.words) (faults.BadLine line.number))
-    (λ phrase. with_phrase v (seen s phrase) line.number (numbered_phrase (seen s phrase) phrase)) t (sym (with_line_is v s line) ∙ e) in
+    (λ phrase. with_phrase v (seen s phrase) line.number (numbered_phrase (seen s phrase) phrase)) t
+    (sym (with_line_is v s line) ∙ e) in
     let phrase = found.0 in
     let q = numbered_phrase (seen s phrase) phrase in
     let c : Command = record { line = line.number; action = action_of q } in

@@ -137,13 +137,17 @@ module _ (s : Script) where
       (λ n m k. A.Binary operation n m k) (λ x y z. p.Binary operation x y z)
       (λ x y z.
       let all = see (see (see s.names x) y) z in
-      ap (λ n. Some (A.Binary operation n (number_of_word (see (see s.names x) y) y) (number_of_word all z), more_names s all))
+      ap (λ n. Some (
+        A.Binary operation n (number_of_word (see (see s.names x) y) y) (number_of_word all z),
+        more_names s all,
+      ))
       (first_of_three s.names x y z)
       ∙ ap (λ n. Some (A.Binary operation (number_of_word all x) n (number_of_word all z), more_names s all))
       (first_of_two (see s.names x) y z))
 
   -- two names and a value
-  names_value : {C Z : Type 0} (w u r : Word) (o : Option Z) (f : Z → C) (read : Word → Option C) → read r ≡ option_map f o
+  names_value : {C Z : Type 0} (w u r : Word) (o : Option Z) (f : Z → C) (read : Word → Option C) → read r ≡
+      option_map f o
       → (make : ℕ → ℕ → C → Action) (of : Word → Word → Z → Phrase Word)
       → ((x y : Word) (z : Z) → said s (of x y z) ≡ (
         make (number_of_word (see (see s.names x) y) x)
@@ -157,7 +161,11 @@ module _ (s : Script) where
       o (λ x y z. (f z, (more_names s (see (see s.names x) y), []))) (value read)
       (λ x y. last (more_names s (see (see s.names x) y)) o e)
       make of
-      (λ x y z. ap (λ n. Some (make n (number_of_word (see (see s.names x) y) y) (f z), more_names s (see (see s.names x) y)))
+      (λ x y z. ap (λ n. Some (
+        make n (number_of_word (see (see s.names x) y) y) (f z),
+        more_names s
+            (see (see s.names x) y),
+      ))
       (first_of_two s.names x y) ∙ ap Some (sym (h x y z)))
     where
       last : (now : Script) (q : Option Z) → read r ≡ option_map f q
@@ -196,7 +204,8 @@ neither s ws true f g h k = h
 neither s ws false f g h k = k
 
 -- a row that is of another number of words
-skip : (s : Script) (ws : List Word) (command : Word) (of : Word → Option (Phrase Word)) (row : Word) (f g : Part Action)
+skip : (s : Script) (ws : List Word) (command : Word) (of : Word → Option (Phrase Word)) (row : Word)
+    (f g : Part Action)
     → of row ≡ None → Agree s ws f None → Agree s ws g (of command)
     → Agree s ws (if bytes_eq command row then f else g) (of command)
 skip s ws command of row f g none h k = by (bytes_eq command row) refl
@@ -336,11 +345,15 @@ of_one : (v : ℕ) (s : Script) (command a : Word) → Agree s (a ∷ []) (later
 of_one v s command a =
     let ws = a ∷ [] in
     choose s ws (bytes_eq command (codes "input")) _ _ _ _ (one_name s a A.Input p.Input (λ x. refl))
-    (choose s ws (bytes_eq command (codes "true")) _ _ _ _ (one_name s a (λ n. A.Constant n true) (λ n. p.Constant n true) (λ x. refl))
-    (choose s ws (bytes_eq command (codes "false")) _ _ _ _ (one_name s a (λ n. A.Constant n false) (λ n. p.Constant n false) (λ x. refl))
+    (choose s ws (bytes_eq command (codes "true")) _ _ _ _
+    (one_name s a (λ n. A.Constant n true) (λ n. p.Constant n true) (λ x. refl))
+    (choose s ws (bytes_eq command (codes "false")) _ _ _ _
+    (one_name s a (λ n. A.Constant n false) (λ n. p.Constant n false) (λ x. refl))
     (choose s ws (bytes_eq command (codes "drop")) _ _ _ _ (one_name s a A.Drop p.Drop (λ x. refl))
-    (choose s ws (bytes_eq command (codes "rotl")) _ _ _ _ (one_number s a (A.Turn RotateLeft) (p.Turn RotateLeft) (λ x. refl))
-    (choose s ws (bytes_eq command (codes "rotr")) _ _ _ _ (one_number s a (A.Turn RotateRight) (p.Turn RotateRight) (λ x. refl))
+    (choose s ws (bytes_eq command (codes "rotl")) _ _ _ _
+    (one_number s a (A.Turn RotateLeft) (p.Turn RotateLeft) (λ x. refl))
+    (choose s ws (bytes_eq command (codes "rotr")) _ _ _ _
+    (one_number s a (A.Turn RotateRight) (p.Turn RotateRight) (λ x. refl))
     (choose s ws (bytes_eq command (codes "swap")) _ _ _ _ (one_number s a (A.Turn Swap) (p.Turn Swap) (λ x. refl))
     (choose s ws (bytes_eq command (codes "minimise")) _ _ _ _ (one_number s a (A.Minimise) (p.Minimise) (λ x. refl))
     (choose s ws (bytes_eq command (codes "limit")) _ _ _ _ (one_number s a (A.Limit) (p.Limit) (λ x. refl))
@@ -362,17 +375,28 @@ of_one v s command a =
 of_two : (v : ℕ) (s : Script) (command a b : Word) → Agree s (a ∷ b ∷ []) (later v command) (two_words v command a b)
 of_two v s command a b =
     let ws = a ∷ b ∷ [] in
-    skip s ws command (λ c. two_words v c a b) (codes "input") _ _ refl (other s ws 1 _ (takes_one name _ name_takes) (λ e. cc))
-    (skip s ws command (λ c. two_words v c a b) (codes "true") _ _ refl (other s ws 1 _ (takes_one name _ name_takes) (λ e. cc))
-    (skip s ws command (λ c. two_words v c a b) (codes "false") _ _ refl (other s ws 1 _ (takes_one name _ name_takes) (λ e. cc))
-    (skip s ws command (λ c. two_words v c a b) (codes "drop") _ _ refl (other s ws 1 _ (takes_one name _ name_takes) (λ e. cc))
-    (skip s ws command (λ c. two_words v c a b) (codes "rotl") _ _ refl (other s ws 1 _ (takes_one _ _ (value_takes _)) (λ e. cc))
-    (skip s ws command (λ c. two_words v c a b) (codes "rotr") _ _ refl (other s ws 1 _ (takes_one _ _ (value_takes _)) (λ e. cc))
-    (skip s ws command (λ c. two_words v c a b) (codes "swap") _ _ refl (other s ws 1 _ (takes_one _ _ (value_takes _)) (λ e. cc))
-    (skip s ws command (λ c. two_words v c a b) (codes "minimise") _ _ refl (other s ws 1 _ (takes_one _ _ (value_takes _)) (λ e. cc))
-    (skip s ws command (λ c. two_words v c a b) (codes "limit") _ _ refl (other s ws 1 _ (takes_one _ _ (value_takes _)) (λ e. cc))
-    (skip s ws command (λ c. two_words v c a b) (codes "size") _ _ refl (other s ws 1 _ (takes_one name _ name_takes) (λ e. cc))
-    (skip s ws command (λ c. two_words v c a b) (codes "vtree") _ _ refl (other s ws 1 _ (takes_one file _ file_takes) (λ e. cc))
+    skip s ws command (λ c. two_words v c a b) (codes "input") _ _ refl
+    (other s ws 1 _ (takes_one name _ name_takes) (λ e. cc))
+    (skip s ws command (λ c. two_words v c a b) (codes "true") _ _ refl
+    (other s ws 1 _ (takes_one name _ name_takes) (λ e. cc))
+    (skip s ws command (λ c. two_words v c a b) (codes "false") _ _ refl
+    (other s ws 1 _ (takes_one name _ name_takes) (λ e. cc))
+    (skip s ws command (λ c. two_words v c a b) (codes "drop") _ _ refl
+    (other s ws 1 _ (takes_one name _ name_takes) (λ e. cc))
+    (skip s ws command (λ c. two_words v c a b) (codes "rotl") _ _ refl
+    (other s ws 1 _ (takes_one _ _ (value_takes _)) (λ e. cc))
+    (skip s ws command (λ c. two_words v c a b) (codes "rotr") _ _ refl
+    (other s ws 1 _ (takes_one _ _ (value_takes _)) (λ e. cc))
+    (skip s ws command (λ c. two_words v c a b) (codes "swap") _ _ refl
+    (other s ws 1 _ (takes_one _ _ (value_takes _)) (λ e. cc))
+    (skip s ws command (λ c. two_words v c a b) (codes "minimise") _ _ refl
+    (other s ws 1 _ (takes_one _ _ (value_takes _)) (λ e. cc))
+    (skip s ws command (λ c. two_words v c a b) (codes "limit") _ _ refl
+    (other s ws 1 _ (takes_one _ _ (value_takes _)) (λ e. cc))
+    (skip s ws command (λ c. two_words v c a b) (codes "size") _ _ refl
+    (other s ws 1 _ (takes_one name _ name_takes) (λ e. cc))
+    (skip s ws command (λ c. two_words v c a b) (codes "vtree") _ _ refl
+    (other s ws 1 _ (takes_one file _ file_takes) (λ e. cc))
     (choose s ws (bytes_eq command (codes "load")) _ _ _ _ (name_file s a b)
     (choose s ws (bytes_eq command (codes "lit")) _ _ _ _ (name_value s a b integer_value A.Lit p.Lit (λ x y. refl))
     (choose s ws (bytes_eq command (codes "not")) _ _ _ _ (two_names s a b A.Not p.Not (λ x y. refl))
@@ -390,27 +414,46 @@ of_three : (v : ℕ) (s : Script) (command a b c : Word)
     → Agree s (a ∷ b ∷ c ∷ []) (later v command) (three_words command a b c)
 of_three v s command a b c =
     let ws = a ∷ b ∷ c ∷ [] in
-    skip s ws command (λ d. three_words d a b c) (codes "input") _ _ refl (other s ws 1 _ (takes_one name _ name_takes) (λ e. cc))
-    (skip s ws command (λ d. three_words d a b c) (codes "true") _ _ refl (other s ws 1 _ (takes_one name _ name_takes) (λ e. cc))
-    (skip s ws command (λ d. three_words d a b c) (codes "false") _ _ refl (other s ws 1 _ (takes_one name _ name_takes) (λ e. cc))
-    (skip s ws command (λ d. three_words d a b c) (codes "drop") _ _ refl (other s ws 1 _ (takes_one name _ name_takes) (λ e. cc))
-    (skip s ws command (λ d. three_words d a b c) (codes "rotl") _ _ refl (other s ws 1 _ (takes_one _ _ (value_takes _)) (λ e. cc))
-    (skip s ws command (λ d. three_words d a b c) (codes "rotr") _ _ refl (other s ws 1 _ (takes_one _ _ (value_takes _)) (λ e. cc))
-    (skip s ws command (λ d. three_words d a b c) (codes "swap") _ _ refl (other s ws 1 _ (takes_one _ _ (value_takes _)) (λ e. cc))
-    (skip s ws command (λ d. three_words d a b c) (codes "minimise") _ _ refl (other s ws 1 _ (takes_one _ _ (value_takes _)) (λ e. cc))
-    (skip s ws command (λ d. three_words d a b c) (codes "limit") _ _ refl (other s ws 1 _ (takes_one _ _ (value_takes _)) (λ e. cc))
-    (skip s ws command (λ d. three_words d a b c) (codes "size") _ _ refl (other s ws 1 _ (takes_one name _ name_takes) (λ e. cc))
-    (skip s ws command (λ d. three_words d a b c) (codes "vtree") _ _ refl (other s ws 1 _ (takes_one file _ file_takes) (λ e. cc))
-    (skip s ws command (λ d. three_words d a b c) (codes "load") _ _ refl (other s ws 2 _ (takes_two file _ file_takes) (λ e. cc))
-    (skip s ws command (λ d. three_words d a b c) (codes "lit") _ _ refl (other s ws 2 _ (takes_two _ _ (value_takes _)) (λ e. cc))
-    (skip s ws command (λ d. three_words d a b c) (codes "not") _ _ refl (other s ws 2 _ (takes_two name _ name_takes) (λ e. cc))
-    (skip s ws command (λ d. three_words d a b c) (codes "same") _ _ refl (other s ws 2 _ (takes_two name _ name_takes) (λ e. cc))
-    (skip s ws command (λ d. three_words d a b c) (codes "value") _ _ refl (other s ws 2 _ (takes_two _ _ (value_takes _)) (λ e. cc))
+    skip s ws command (λ d. three_words d a b c) (codes "input") _ _ refl
+    (other s ws 1 _ (takes_one name _ name_takes) (λ e. cc))
+    (skip s ws command (λ d. three_words d a b c) (codes "true") _ _ refl
+    (other s ws 1 _ (takes_one name _ name_takes) (λ e. cc))
+    (skip s ws command (λ d. three_words d a b c) (codes "false") _ _ refl
+    (other s ws 1 _ (takes_one name _ name_takes) (λ e. cc))
+    (skip s ws command (λ d. three_words d a b c) (codes "drop") _ _ refl
+    (other s ws 1 _ (takes_one name _ name_takes) (λ e. cc))
+    (skip s ws command (λ d. three_words d a b c) (codes "rotl") _ _ refl
+    (other s ws 1 _ (takes_one _ _ (value_takes _)) (λ e. cc))
+    (skip s ws command (λ d. three_words d a b c) (codes "rotr") _ _ refl
+    (other s ws 1 _ (takes_one _ _ (value_takes _)) (λ e. cc))
+    (skip s ws command (λ d. three_words d a b c) (codes "swap") _ _ refl
+    (other s ws 1 _ (takes_one _ _ (value_takes _)) (λ e. cc))
+    (skip s ws command (λ d. three_words d a b c) (codes "minimise") _ _ refl
+    (other s ws 1 _ (takes_one _ _ (value_takes _)) (λ e. cc))
+    (skip s ws command (λ d. three_words d a b c) (codes "limit") _ _ refl
+    (other s ws 1 _ (takes_one _ _ (value_takes _)) (λ e. cc))
+    (skip s ws command (λ d. three_words d a b c) (codes "size") _ _ refl
+    (other s ws 1 _ (takes_one name _ name_takes) (λ e. cc))
+    (skip s ws command (λ d. three_words d a b c) (codes "vtree") _ _ refl
+    (other s ws 1 _ (takes_one file _ file_takes) (λ e. cc))
+    (skip s ws command (λ d. three_words d a b c) (codes "load") _ _ refl
+    (other s ws 2 _ (takes_two file _ file_takes) (λ e. cc))
+    (skip s ws command (λ d. three_words d a b c) (codes "lit") _ _ refl
+    (other s ws 2 _ (takes_two _ _ (value_takes _)) (λ e. cc))
+    (skip s ws command (λ d. three_words d a b c) (codes "not") _ _ refl
+    (other s ws 2 _ (takes_two name _ name_takes) (λ e. cc))
+    (skip s ws command (λ d. three_words d a b c) (codes "same") _ _ refl
+    (other s ws 2 _ (takes_two name _ name_takes) (λ e. cc))
+    (skip s ws command (λ d. three_words d a b c) (codes "value") _ _ refl
+    (other s ws 2 _ (takes_two _ _ (value_takes _)) (λ e. cc))
     (choose s ws (bytes_eq command (codes "and")) _ _ _ _ (three_names s a b c And)
     (choose s ws (bytes_eq command (codes "or")) _ _ _ _ (three_names s a b c Or)
     (choose s ws (bytes_eq command (codes "xor")) _ _ _ _ (three_names s a b c Xor)
-    (choose s ws (bytes_eq command (codes "given")) _ _ _ _ (names_value s a b c (integer_value c) (λ z. z) integer_value (same_value (integer_value c)) A.Given p.Given (λ x y z. refl))
-    (choose s ws (bytes_eq command (codes "forget")) _ _ _ _ (names_value s a b c (integer_value c) variable_from variable_of refl A.Forget p.Forget (λ x y z. refl))
+    (choose s ws (bytes_eq command (codes "given")) _ _ _ _
+    (names_value s a b c (integer_value c) (λ z. z) integer_value (same_value (integer_value c)) A.Given p.Given
+    (λ x y z. refl))
+    (choose s ws (bytes_eq command (codes "forget")) _ _ _ _
+    (names_value s a b c (integer_value c) variable_from variable_of refl A.Forget p.Forget (λ x y z. refl))
     (record { fact = refl })))))))))))))))))))))
 
 -- with no word, or with four or more
@@ -448,7 +491,8 @@ of_few v s command (a ∷ []) = of_one v s command a
 of_few v s command (a ∷ b ∷ []) = of_two v s command a b
 of_few v s command (a ∷ b ∷ c ∷ []) = of_three v s command a b c
 of_few v s command (a ∷ b ∷ c ∷ d ∷ words) =
-    of_others v s command (a ∷ b ∷ c ∷ d ∷ words) (λ e. omega (arith, e)) (λ e. omega (arith, e)) (λ e. omega (arith, e))
+    of_others v s command (a ∷ b ∷ c ∷ d ∷ words) (λ e. omega (arith, e)) (λ e. omega (arith, e))
+    (λ e. omega (arith, e))
 
 -- ---- a write
 

@@ -72,7 +72,8 @@ name (s, word ∷ words) =
 abbrev pub file : Part ℕ
 file (s, []) = None
 file (s, word ∷ words) =
-    option_map (λ w. (number_of_word (see s.files w) w, (record s { files = see s.files w }, words))) (file_name_of word)
+    option_map (λ w. (number_of_word (see s.files w) w, (record s { files = see s.files w }, words)))
+    (file_name_of word)
 
 -- 1 to 1,024 names, which are all words but the last, with their numbers
 abbrev pub names : Part (List ℕ)

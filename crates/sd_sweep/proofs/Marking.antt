@@ -174,7 +174,8 @@ marks_node old mid new value s n c p es high shown lacks_here below count is val
     here = shown_back first old rest c (Decomposition p es) shown
 
     decomposed : Decomposition p es ≡ d
-    decomposed = one_diagram first.vtree (get first.linked) table.numbered (Decomposition p es) c d here.shows shows.shows
+    decomposed = one_diagram first.vtree (get first.linked) table.numbered (Decomposition p es) c d here.shows
+        shows.shows
 
     same : ShowsCanonical first (2050 + (c - 2050)) (Decomposition p es)
     same = subst (λ z. ShowsCanonical first z (Decomposition p es)) (sym (number_back c high)) here
@@ -235,7 +236,8 @@ child_within t table c p i es e is at k =
 pairs_walking : (old now : Table) (value s c i p : ℕ) (es : Elements) → ShowsCanonical old c (Decomposition p es) →
     InPairs old now value s c i → IsWalking old value (walk_elements es) → IsWalking now value (walk_elements es)
 pairs_walking old now value s c i p es is k w =
-    let r = k.walks w.first p es w.valid w.are.rest (shown_back w.first old w.are.rest c (Decomposition p es) is) w.lacks
+    let r = k.walks w.first p es w.valid w.are.rest (shown_back w.first old w.are.rest c (Decomposition p es) is)
+    w.lacks
     w.codes w.are in
     record {
       first = w.first;
@@ -305,32 +307,34 @@ module _ (old now : Table) (value s c i p : ℕ) (es : Elements) (e : ℕ × ℕ
               (λ n d m. v.lacks n d (within.0 d m))));
         }
 
-    module _ (b : Table) (y : ℕ) (more : MarksUnder a b value y e.1) (last : DifferInMarks a b) (table : IsTable b) where
-      -- one pair more
-      walks_next : (first : Table) (q : ℕ) (fs : Elements) → IsTable first → DifferInMarks first old →
-          ShowsCanonical first c (Decomposition q fs) → LackMark first value (walk_elements fs) →
-          WalksPairs first old b value (s + (x + y)) c (i + 1)
-      walks_next first q fs good begun shows lacks =
-          let to_now : DifferInMarks first now = differ_on first old now begun k.rest in
-          let to_a : DifferInMarks first a = differ_on first now a to_now rest in
-          let there : slice_get (pairs_at first c) i ≡ Some e =
-          subst (λ l. slice_get l i ≡ Some e) (pairs_over first now to_now c) at in
-          let g = children first c q i fs e shows there in
-          let within = child_within first good c q i fs e shows there g in
-          let sum : s + x + y ≡ s + (x + y) = omega arith in
-          subst (λ n. WalksPairs first old b value n c (i + 1)) sum
-          (pairs_more first old now a b good value s x y c q i fs e (k.walks first q fs good begun shows lacks) there g
-          (marks first g.prime good to_now g.prime_is (λ n d m. lacks n d (within.0 d m)))
-          (more first g.sub good to_a g.sub_is (λ n d m. lacks n d (within.1 d m))))
+    module _ (b : Table) (y : ℕ) (more : MarksUnder a b value y e.1) (last : DifferInMarks a b) (table : IsTable b)
+      where
+        -- one pair more
+        walks_next : (first : Table) (q : ℕ) (fs : Elements) → IsTable first → DifferInMarks first old →
+            ShowsCanonical first c (Decomposition q fs) → LackMark first value (walk_elements fs) →
+            WalksPairs first old b value (s + (x + y)) c (i + 1)
+        walks_next first q fs good begun shows lacks =
+            let to_now : DifferInMarks first now = differ_on first old now begun k.rest in
+            let to_a : DifferInMarks first a = differ_on first now a to_now rest in
+            let there : slice_get (pairs_at first c) i ≡ Some e =
+            subst (λ l. slice_get l i ≡ Some e) (pairs_over first now to_now c) at in
+            let g = children first c q i fs e shows there in
+            let within = child_within first good c q i fs e shows there g in
+            let sum : s + x + y ≡ s + (x + y) = omega arith in
+            subst (λ n. WalksPairs first old b value n c (i + 1)) sum
+            (pairs_more first old now a b good value s x y c q i fs e (k.walks first q fs good begun shows lacks)
+            there g
+            (marks first g.prime good to_now g.prime_is (λ n d m. lacks n d (within.0 d m)))
+            (more first g.sub good to_a g.sub_is (λ n d m. lacks n d (within.1 d m))))
 
-      pub pairs_on : InPairs old b value (s + (x + y)) c (i + 1)
-      pairs_on =
-          record {
-            table = table;
-            rest = differ_on old now b k.rest (differ_on now a b rest last);
-            small = pairs_fit old b value (s + (x + y)) c (i + 1) p es is walks_next w;
-            walks = walks_next;
-          }
+        pub pairs_on : InPairs old b value (s + (x + y)) c (i + 1)
+        pairs_on =
+            record {
+              table = table;
+              rest = differ_on old now b k.rest (differ_on now a b rest last);
+              small = pairs_fit old b value (s + (x + y)) c (i + 1) p es is walks_next w;
+              walks = walks_next;
+            }
 
 -- all of them at the end
 pub pairs_marked : (old now : Table) (value s c i n : ℕ) → InPairs old now value s c i → length (pairs_at old c) ≡ n →

@@ -36,7 +36,8 @@ has_diagrams t (c ∷ codes) ds h =
     within d xs m w x (inr n) = w x n
 
 -- different codes show different diagrams
-pub diagrams_differ : (t : Table) → IsTable t → (codes : List ℕ) (ds : List Diagram) → AllZip (ShowsCanonical t) codes ds →
+pub diagrams_differ : (t : Table) → IsTable t → (codes : List ℕ) (ds : List Diagram) → AllZip (ShowsCanonical t)
+    codes ds →
     AreDistinct codes → AreDifferent ds
 diagrams_differ t table [] [] h k = tt
 diagrams_differ t table [] (d ∷ ds) h k = absurd h

@@ -1,5 +1,6 @@
 -- What tests join are nodes of the manager.
-use Rattle.std.proofs.Common.{◌≡◌, ℕ, ◌+◌, ◌-◌, ◌^◌, ◌<◌, ◌≤◌, Bool, true, false, cond, refl, sym, ap, ◌∙◌, subst, arith}
+use Rattle.std.proofs.Common.{◌≡◌, ℕ, ◌+◌, ◌-◌, ◌^◌, ◌<◌, ◌≤◌, Bool}
+use Rattle.std.proofs.Common.{true, false, cond, refl, sym, ap, ◌∙◌, subst, arith}
 use Rattle.std.proofs.lemmas.Bool.{cases_eq}
 use Rattle.std.proofs.lemmas.Cmp.{nat_cmp_total}
 use Rattle.std.specs.Option.{IsSome}
@@ -49,7 +50,13 @@ still_held t u root other c held some =
 -- one root more is few
 pub tried_room : (t u : Table) (root c : ℕ) → u ≡ with_root t root c → len t.roots ≡ 0 → len u.roots < 2 ^ 32 - 1
 tried_room t u root c held none =
-    omega (arith, ap (λ (w : Table). len w.roots) held, len-insert nat_cmp_total t.roots root c, one (contains_key t.roots root))
+    omega (
+      arith,
+      ap (λ (w : Table). len w.roots) held,
+      len-insert nat_cmp_total t.roots root c,
+      one
+          (contains_key t.roots root),
+    )
   where
     one : (b : Bool) → cond b (len t.roots) (len t.roots + 1) ≤ 1
     one true = omega (arith, none)

@@ -37,7 +37,8 @@ pub record EndsWith (first new : Table) (value total : ℕ) (codes : List ℕ) (
   pub adds : Adds first codes marked ds
   pub sum : elements_of first marked ≡ total + elements_of first codes
 
--- a walk that goes on from one table to another marks what shows these diagrams and was not marked since the first table
+-- a walk that goes on from one table to another marks what shows these diagrams and was not marked since the first
+-- table
 abbrev pub Walks : Table → Table → Table → ℕ → ℕ → List Diagram → Type 0
 Walks first old new value total ds =
     (codes : List ℕ) → IsMarkedWith first old value codes → EndsWith first new value total codes ds

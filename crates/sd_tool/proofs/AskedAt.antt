@@ -95,7 +95,8 @@ accepted_action v s next (actions.Value a bits) accepted = accepted (commands.Va
 accepted_action v s next (actions.Write names file) accepted = accepted (commands.Write names (file_name s file))
 accepted_action v s next (actions.Vtree file) accepted = accepted (commands.WriteVtree (file_name s file))
 
-accepted_lines : (v : ℕ) (s : Script) (begin : List NumberedCommand → Reading) (done : List NumberedCommand) (lines : List Line)
+accepted_lines : (v : ℕ) (s : Script) (begin : List NumberedCommand → Reading) (done : List NumberedCommand)
+    (lines : List Line)
     → ((cs : List NumberedCommand) → AreAccepted (begin cs)) → AreAccepted (with_lines v s begin done lines)
 accepted_lines v s begin done [] accepted = accepted done
 accepted_lines v s begin done (line ∷ lines) accepted =
@@ -211,7 +212,8 @@ asked_at words status kept seen went = (
   order_of seen.asked words seen.old.contents.files went.effects went.end went.goes,
 )
   where
-    none : (end : End) → GoesTo seen.asked words seen.old.contents.files went.effects end → status ≡ status_of end → status ≡ 1
+    none : (end : End) → GoesTo seen.asked words seen.old.contents.files went.effects end → status ≡ status_of end →
+        status ≡ 1
         → seen.asked []
     none Finished goes is s = cc
     none (Refused refusal) (inl p) is s =

@@ -267,7 +267,8 @@ among_all status (inr (inr s)) = inr (inr (inr (inl s)))
 
 -- where the words or a text were refused
 end_refused : (words : List (List ℕ)) (status : ℕ) (kept : Option Table) (old new : Moment) (refusal : Refusal)
-    → status ≡ refusal_status refusal → kept ≡ None → IsRefused words status old new → EndByStatus words status kept old new
+    → status ≡ refusal_status refusal → kept ≡ None → IsRefused words status old new → EndByStatus words status kept
+    old new
 end_refused words status kept old new refusal is keeps refused = record {
   one_of = among_all status (one_of_three refusal status is);
   refused = λ s. refused;
@@ -401,7 +402,8 @@ end_at words status kept seen (effects, end, status_is, goes, (reason, keeps, li
         }
     go effects OutOfMemory may_end is cause keeps line = end_no_memory words status kept seen.old seen.new is keeps
     go effects (ArenaFull n) may_end is cause keeps line =
-        end_full words status kept seen.old seen.new is (full_at words n effects kept seen.old seen.new keeps may_end line)
+        end_full words status kept seen.old seen.new is
+        (full_at words n effects kept seen.old seen.new keeps may_end line)
     go effects (OverLimit at group size limit) may_end is cause keeps line =
         end_over words status kept seen.old seen.new is keeps record {
           at_line = at;

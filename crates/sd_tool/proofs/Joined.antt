@@ -357,7 +357,8 @@ joined_at words status kept seen went = λ run.
         let same = one_plan words files plan p.0 led p.1 in
         let all = subst (λ (q : Plan). Steps q.input q.start q.commands effects p.2.0) same
         (whole_plan p.0 p.2.0 effects p.2.1) in
-        let steps = subst (λ (l : List NumberedCommand). Steps plan.input plan.start (l ++ cs) effects p.2.0) none all in
+        let steps = subst (λ (l : List NumberedCommand). Steps plan.input plan.start (l ++ cs) effects p.2.0) none
+        all in
         let done = four_done formula script two plan.start p.2.0 effects plain steps in
         leaves_text files tree (Combined two.operation two.left two.right) (file_name script two.number) done.0 effects
         seen.old.contents seen.new.contents told done.2 done.1 is

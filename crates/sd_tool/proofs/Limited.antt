@@ -35,7 +35,8 @@ use Rattle.sd_tool.proofs.WrittenLemmas.{announces}
 abbrev pub AreQuiet : Groups → List NumberedCommand → Type 0
 AreQuiet input [] = Unit {0}
 AreQuiet input (c ∷ cs) =
-    ((state : State) (group : Option ℕ) (size limit : ℕ) → Step input state c.command (PassesLimit group size limit) → ⊥)
+    ((state : State) (group : Option ℕ) (size limit : ℕ) → Step input state c.command (PassesLimit group size limit)
+    → ⊥)
     × AreQuiet input cs
 
 -- so neither does one of them
@@ -55,7 +56,8 @@ quiet_at input state (c ∷ cs) (d ∷ done) left next group size limit same qui
 -- the commands after the input
 abbrev pub after_input : Job → List NumberedCommand
 after_input job = in_lines 2
-    (search_of job.minimise ++ for_file commands.WriteVtree job.out_vtree ++ for_file (commands.Write (0 ∷ [])) job.out_sdd
+    (search_of job.minimise ++ for_file commands.WriteVtree job.out_vtree ++ for_file (commands.Write (0 ∷ []))
+    job.out_sdd
     ++ commands.Size 0 ∷ [])
 
 quiet_after : (input : Groups) (job : Job) → AreQuiet input (after_input job)
@@ -243,7 +245,8 @@ limited_at words status kept seen went = λ run.
             effects = announces given.job.input given.formula;
             end = OverLimit 1 (Some group) size given.job.limit;
             own = lit≤ tt;
-            leads = leads_to_limit words given.files given.job given.formula given.tree group size input given.starts passes;
+            leads = leads_to_limit words given.files given.job given.formula given.tree group size input
+                given.starts passes;
           }) [
             | inl own ↦ inl own.0
             | inr free ↦ inr free

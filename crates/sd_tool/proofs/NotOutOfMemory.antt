@@ -133,14 +133,16 @@ sound_action v s next (actions.Value a bits) sound = sound (commands.Value a bit
 sound_action v s next (actions.Write names file) sound = sound (commands.Write names (file_name s file))
 sound_action v s next (actions.Vtree file) sound = sound (commands.WriteVtree (file_name s file))
 
-sound_lines : (v : ℕ) (s : Script) (begin : List NumberedCommand → Reading) (done : List NumberedCommand) (lines : List Line)
+sound_lines : (v : ℕ) (s : Script) (begin : List NumberedCommand → Reading) (done : List NumberedCommand)
+    (lines : List Line)
     → ((cs : List NumberedCommand) → AreSound (begin cs)) → AreSound (with_lines v s begin done lines)
 sound_lines v s begin done [] sound = sound done
 sound_lines v s begin done (line ∷ lines) sound =
     sound_action v s (λ command. with_lines v s begin (done ++ in_line line command ∷ []) lines) line.action
     (λ command. sound_lines v s begin (done ++ in_line line command ∷ []) lines sound)
 
-sound_script : (v : ℕ) (s : Script) (begin : List NumberedCommand → Reading) → ((cs : List NumberedCommand) → AreSound (begin cs))
+sound_script : (v : ℕ) (s : Script) (begin : List NumberedCommand → Reading) →
+    ((cs : List NumberedCommand) → AreSound (begin cs))
     → AreSound (script_reading v begin s)
 sound_script v s begin sound = sound_lines v s begin [] s.commands sound
 

@@ -16,7 +16,8 @@ use Rattle.sd_tool.specs.PlanViews.{IsReadyWith, plan_with, behind}
 use Rattle.sd_tool.specs.Readings.{Begins, announcement, plan_for, for_file, search_of, in_lines}
 
 -- the plan of the state's vtree, limit, slack and number for searches
-pub plan_made : (job : Job) (formula : Groups) (vtree : Numbered) (state : RunState) (all commands : List NumberedCommand)
+pub plan_made : (job : Job) (formula : Groups) (vtree : Numbered) (state : RunState)
+    (all commands : List NumberedCommand)
     → all ≡ announcement job.input formula ++ commands → state.manager.vtree ≡ vtree
     → Represents state (start (plain_tree vtree) job.limit job.slack job.every)
     → Begins (plan_with formula state all) ≡ Begins (plan_for job formula (plain_tree vtree) commands)
@@ -98,7 +99,8 @@ stated_lines rounds tree diagram a b c d e p o q r s =
     go : (n : Option ℕ) (t e : Option (List ℕ))
         → behind (behind (behind (behind (behind [] (commands.Input 0 ∷ [])) (search_of n))
         (for_file commands.WriteVtree t)) (for_file (commands.Write (0 ∷ [])) e)) (commands.Size 0 ∷ [])
-        ≡ in_lines 1 (commands.Input 0 ∷ search_of n ++ for_file commands.WriteVtree t ++ for_file (commands.Write (0 ∷ [])) e
+        ≡ in_lines 1 (commands.Input 0 ∷ search_of n ++ for_file commands.WriteVtree t ++ for_file
+        (commands.Write (0 ∷ [])) e
         ++ commands.Size 0 ∷ [])
     go None None None = refl
     go None None (Some e) = refl

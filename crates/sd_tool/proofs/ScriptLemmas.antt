@@ -135,7 +135,8 @@ taken xs index line next =
     take_more xs index line next.within ∙ ap (λ l. take index xs ++ l ∷ []) (sym next.is)
 
 -- the names that are bound then
-bound_same : (names others : List ℕ) (v : ℕ) (line : Line) (c : RunCommand) → IsCommandOf v line.action c → names ≡ others
+bound_same : (names others : List ℕ) (v : ℕ) (line : Line) (c : RunCommand) → IsCommandOf v line.action c → names ≡
+    others
     → bound_after names c ≡ lines.bound_after others line
 bound_same names others v line c same is =
     ap (λ (b : List ℕ). b ++ filter (λ n. not (has (frees c) n)) names) same.binds

@@ -126,7 +126,8 @@ pub so_far_more : {a b c : List Request → Type 0} (plan : Plan) (v index : ℕ
 so_far_more {c = c} plan v index code code' old now new command asked join next so_far done effect asks = record {
   effects = so_far.effects ++ effects_of asked;
   state = done.next;
-  steps = subst (λ (l : List NumberedCommand). Steps plan.input plan.start l (so_far.effects ++ effects_of asked) done.next)
+  steps = subst (λ (l : List NumberedCommand). Steps plan.input plan.start l (so_far.effects ++ effects_of asked)
+      done.next)
       (ap (λ c. take index plan.commands ++ c ∷ []) next.is ∙ sym (take_more plan.commands index command next.within))
       (Steps_push plan.input plan.start so_far.state done.next (take index plan.commands) so_far.effects
       (effects_of asked) command so_far.steps done.step);
@@ -298,7 +299,8 @@ goes_to_fault {c = c} plan v index code code' t old now new first before after_ 
         reaches_next plan so_far.state index so_far.effects command next so_far.steps,
         (
           done.next,
-          subst (λ (l : List Effect). Step plan.input so_far.state command.command (Done done.next l)) fails.one done.step,
+          subst (λ (l : List Effect). Step plan.input so_far.state command.command (Done done.next l)) fails.one
+              done.step,
         ),
       );
       asked = subst c

@@ -466,7 +466,8 @@ compiled job formula tree = with_name (start tree job.limit job.slack job.every)
 
 -- the commands behind the search
 grouped : (rounds : Option ℕ) (vtree sdd : Option (List ℕ))
-    → search_of rounds ++ for_file commands.WriteVtree vtree ++ for_file (commands.Write (0 ∷ [])) sdd ++ commands.Size 0 ∷ []
+    → search_of rounds ++ for_file commands.WriteVtree vtree ++ for_file (commands.Write (0 ∷ [])) sdd ++
+    commands.Size 0 ∷ []
     ≡ search_of rounds
     ++ (for_file commands.WriteVtree vtree ++ for_file (commands.Write (0 ∷ [])) sdd ++ commands.Size 0 ∷ [])
 grouped None vtree sdd = refl
@@ -507,10 +508,12 @@ plan_writes words files job plan last effects old new there from valid steps is 
     let own_valid = subst (λ (p : Plan). IsVtree p.start.tree) from.is valid in
     let told_of = announced_done own.input own.start last job.input from.formula (default_of job) effects own_steps in
     let written : List RunCommand =
-    for_file commands.WriteVtree job.out_vtree ++ for_file (commands.Write (0 ∷ [])) job.out_sdd ++ commands.Size 0 ∷ [] in
+    for_file commands.WriteVtree job.out_vtree ++ for_file (commands.Write (0 ∷ [])) job.out_sdd ++ commands.Size 0
+    ∷ [] in
     let bound = after_input own.input own.start last 1
     (in_lines 2
-    (search_of job.minimise ++ for_file commands.WriteVtree job.out_vtree ++ for_file (commands.Write (0 ∷ [])) job.out_sdd
+    (search_of job.minimise ++ for_file commands.WriteVtree job.out_vtree ++ for_file (commands.Write (0 ∷ []))
+    job.out_sdd
     ++ commands.Size 0 ∷ []))
     told_of.others told_of.steps in
     let state = compiled job from.formula bound.grown in

@@ -22,7 +22,8 @@ use Rattle.sd_words.specs.declared.jobs.TreeWord.{TreeWord}
 use Rattle.sd_words.specs.declared.jobs.TreeWord.TheVariants as trees
 use Rattle.sd_commands.specs.Effects.{Effect}
 use Rattle.sd_commands.specs.Standing.{start}
-use Rattle.sd_commands.specs.Commands.{State, Grows, PassesAtGroup, IsTextOf, formula_named, generated_line, size_line, search_line}
+use Rattle.sd_commands.specs.Commands.{State, Grows, PassesAtGroup, IsTextOf}
+use Rattle.sd_commands.specs.Commands.{formula_named, generated_line, size_line, search_line}
 use Rattle.sd_commands.specs.declared.command.NumberedCommand.{NumberedCommand}
 use Rattle.sd_commands.specs.declared.command.RunCommand.TheVariants as commands
 use Rattle.sd_tool.specs.Readings.{Plan, Begins, reading_of, MayComeTo}

@@ -1,3 +1,4 @@
+-- What private contracts and proofs of a run use beside the definitions of the theorem.
 pub mod ByStatus
 pub mod Course
 pub mod Devices

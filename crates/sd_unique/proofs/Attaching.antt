@@ -75,7 +75,8 @@ module _ (arena : Arena) (rs : List Record) (n : ℕ) (r t : Record) (there : sl
       → IsAbsent (nodes_of arena rs) (key_of arena r) → (r.uses ≡ 0 → stack_under links n ≡ Some 0)
       → kept_hash new n ≡ hash_of (key_of arena r) → ((i : ℕ) → i ≢ n → kept_hash new i ≡ kept_hash links i)
       → HoldsNodes arena rs links heads places top → HoldsNodes arena (set rs n t) new (set heads (b + 1) n) places' top
-  attached_kept links new heads places places' top b at inside next same_places stack lists absent queued hash hashes k =
+  attached_kept links new heads places places' top b at inside next same_places stack lists absent queued hash
+      hashes k =
       record {
         stored = stored_relinked arena rs n r t there (slice_get_inside rs n r there) place start size uses mark
             was is absent k.stored;

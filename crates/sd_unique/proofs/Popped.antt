@@ -1,5 +1,6 @@
 -- Numbers are taken off the stack of candidates.
-use Rattle.std.proofs.Common.{◌≡◌, ◌≢◌, ℕ, zero, suc, ◌<◌, ◌-◌, ◌^◌, Bool, true, false, cond, List, length, get_or, slice_get}
+use Rattle.std.proofs.Common.{◌≡◌, ◌≢◌, ℕ, zero, suc, ◌<◌, ◌-◌, ◌^◌}
+use Rattle.std.proofs.Common.{Bool, true, false, cond, List, length, get_or, slice_get}
 use Rattle.std.proofs.Common.{Option, Some, None, refl, sym, ap, subst, ◌∙◌, arith}
 use Rattle.std.proofs.Math.ListN.{set}
 use Rattle.std.proofs.lemmas.Bool.{cases_eq}
@@ -10,7 +11,8 @@ use Rattle.sd_unique.specs.declared.record.Record.{Record}
 use Rattle.sd_unique.specs.declared.record.Links.{Links}
 use Rattle.sd_runs.specs.Arena.{IsMember}
 use Rattle.sd_unique.specs.Filed.{unfiled}
-use Rattle.sd_unique.specs.Chains.{waiting_of, stack_under, top_of, no_record, waiting_count, is_waiting, not_waiting, IsUnused}
+use Rattle.sd_unique.specs.Chains.{waiting_of, stack_under, top_of, no_record}
+use Rattle.sd_unique.specs.Chains.{waiting_count, is_waiting, not_waiting, IsUnused}
 use Rattle.sd_unique.specs.Chains.{AreStacked, KeepsLists}
 use Rattle.sd_unique.proofs.Both.{unfiled_here, unfiled_other}
 use Rattle.sd_unique.proofs.Cut.{not_first}

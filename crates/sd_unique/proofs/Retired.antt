@@ -130,7 +130,8 @@ module _ (arena : Arena) (rs mid : List Record) (n : ℕ) (m t : Record) (kept :
       (live : get arena.live m.start ≡ Some list) (size : length list ≡ m.length) where
     stored_between : AreRecordsStored arena (set mid n (between m))
     stored_between =
-        stored_unlinked arena mid n m (between m) there within refl refl refl refl refl (still_linked arena rs mid n m kept there was) refl
+        stored_unlinked arena mid n m (between m) there within refl refl refl refl refl
+        (still_linked arena rs mid n m kept there was) refl
         (stored_kept rs mid kept arena st)
 
     here : slice_get (set mid n (between m)) n ≡ Some (between m)
@@ -142,7 +143,8 @@ module _ (arena : Arena) (rs mid : List Record) (n : ℕ) (m t : Record) (kept :
     stored_cleared : AreRecordsStored arena (set mid n t)
     stored_cleared =
         subst (AreRecordsStored arena) (set_twice mid n (between m) t)
-        (stored_freed arena new (set mid n (between m)) n (between m) t here still_inside refl is stored_between well gave list
+        (stored_freed arena new (set mid n (between m)) n (between m) t here still_inside refl is stored_between
+        well gave list
         size)
 
     -- and after that
@@ -156,7 +158,8 @@ module _ (arena : Arena) (rs mid : List Record) (n : ℕ) (m t : Record) (kept :
         → HoldsNodes new (set mid n t) more (set heads' 0 n) places' top
     retired_kept links more heads heads' places places' top next same_heads same_places stack chains lists hashes k =
         let apart = subst (λ l. IsUntaken l m.start) (set_twice mid n (between m) t)
-        (untaken arena new (set mid n (between m)) n (between m) t here still_inside refl is stored_between well gave list size)
+        (untaken arena new (set mid n (between m)) n (between m) t here still_inside refl is stored_between well
+        gave list size)
         in
         kept_arena arena new (set mid n t) stored_cleared well
         (given_same arena new (set mid n t) stored_cleared well list m.start m.length gave size apart)
@@ -171,7 +174,8 @@ module _ (arena : Arena) (rs mid : List Record) (n : ℕ) (m t : Record) (kept :
         → nodes_of new (set mid n t) ≡ removed (unlinked (nodes_of arena rs) n k) n k.1
     nodes_retired k e =
         sym (ap (nodes_of new) (set_twice mid n (between m) t))
-        ∙ nodes_removed arena new (set mid n (between m)) n (between m) t here still_inside refl is stored_between well gave
+        ∙ nodes_removed arena new (set mid n (between m)) n (between m) t here still_inside refl is stored_between
+        well gave
         list size
         ∙ ap (λ a. removed a n list)
         (nodes_detached arena rs mid n m (between m) kept there refl refl refl refl refl refl k e)

@@ -76,13 +76,17 @@ returns-clause-grown c =
 
 pub returns-clause-ok : goal.returns-clause-ok
 returns-clause-ok c =
-    applies_over c.args.m.now c.apply.new.m c.args.operation c.args.at c.lca_with_children-over.result.0 c.args.a c.args.b
-    c.in_ok-code.code c.lca_with_children-over.ensures.first c.lca_with_children-over.ensures.second c.in_ok-code.ensures.ok
+    applies_over c.args.m.now c.apply.new.m c.args.operation c.args.at c.lca_with_children-over.result.0 c.args.a
+    c.args.b
+    c.in_ok-code.code c.lca_with_children-over.ensures.first c.lca_with_children-over.ensures.second
+    c.in_ok-code.ensures.ok
 
 pub apply-requires-clause-a : goal.apply-requires-clause-a
 apply-requires-clause-a c =
-    below_at c.args.m.now c.args.at c.lca_with_children-over.result.0 c.args.a c.lca_with_children-over.ensures.first c.requires.a
+    below_at c.args.m.now c.args.at c.lca_with_children-over.result.0 c.args.a
+    c.lca_with_children-over.ensures.first c.requires.a
 
 pub apply-requires-clause-b : goal.apply-requires-clause-b
 apply-requires-clause-b c =
-    below_at c.args.m.now c.args.at c.lca_with_children-over.result.0 c.args.b c.lca_with_children-over.ensures.second c.requires.b
+    below_at c.args.m.now c.args.at c.lca_with_children-over.result.0 c.args.b
+    c.lca_with_children-over.ensures.second c.requires.b

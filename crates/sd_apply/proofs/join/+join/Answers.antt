@@ -13,7 +13,8 @@ use Rattle.sd_manager.proofs.Extending.{extends_on}
 use Rattle.sd_apply.proofs.RightEntries.{knows_on}
 use Rattle.sd_apply.proofs.Growing.{grows_both}
 use Rattle.sd_apply.proofs.JoiningPlaces.{literals_on, literals_after, right_narrower, fork_range}
-use Rattle.sd_apply.proofs.JoiningSteps.{remembers_on, grows_up, grows_lower, joins_decided, joins_over, joins_found, found_joined}
+use Rattle.sd_apply.proofs.JoiningSteps.{remembers_on, grows_up, grows_lower}
+use Rattle.sd_apply.proofs.JoiningSteps.{joins_decided, joins_over, joins_found, found_joined}
 use Rattle.sd_apply.proofs.JoiningSteps.{first_half, second_half, first_joined, second_joined, joins_made, joins_same}
 use Rattle.sd_apply.proofs.JoiningSteps.{joins_both, joins_first, joins_second}
 use Rattle.sd_apply.proofs.JoiningSteps.{literal_sign, not_first, same_sign, other_sign}

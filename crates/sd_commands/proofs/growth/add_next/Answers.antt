@@ -13,7 +13,8 @@ pub add_group-requires-clause-unmarked : goal.add_group-requires-clause-unmarked
 add_group-requires-clause-unmarked c = c.requires.growing.1.represents.unmarked
 
 pub add_group-requires-clause-serves : goal.add_group-requires-clause-serves
-add_group-requires-clause-serves c = growing_serves c.args.state.now c.args.work.now.root _ c.requires.growing.1.represents
+add_group-requires-clause-serves c = growing_serves c.args.state.now c.args.work.now.root _
+    c.requires.growing.1.represents
 
 pub add_group-requires-clause-holds : goal.add_group-requires-clause-holds
 add_group-requires-clause-holds c = c.requires.growing.1.holds

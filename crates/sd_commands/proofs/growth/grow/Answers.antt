@@ -70,7 +70,8 @@ returns-in-Err-grow_all-clause-roots c =
     none_grown c.args.input.now c.args.state.now c.begin.new.m c.in-Ok.work c.in-Ok.ensures.ok
     c.grow_all.new.state c.in-Err-grow_all.ensures.beside c.release.new.self
     (c.release.ensures.released
-    ∙ ap (without_root c.grow_all.new.state.manager) (c.finish-in-Err-grow_all.ensures ∙ c.in-Err-grow_all.ensures.root))
+    ∙ ap (without_root c.grow_all.new.state.manager)
+    (c.finish-in-Err-grow_all.ensures ∙ c.in-Err-grow_all.ensures.root))
 
 pub returns-in-Err-clause-variables : goal.returns-in-Err-clause-variables
 returns-in-Err-clause-variables c = ap (λ t. leaves (plain_tree t.vtree)) c.in-Err.ensures.err

@@ -87,7 +87,8 @@ pub returns-in-Ok-clause-never_falls : goal.returns-in-Ok-clause-never_falls
 returns-in-Ok-clause-never_falls c =
     let old = c.args.m.now in
     let last : old.epoch ≤ 18446744073709551615 = omega (arith, c.epoch.type_inv, c.epoch.ensures.epoch) in
-    let m = moved_swept old c.sweep.new.m c.rotate_nodes.new.m (rotation_of c.args.side) c.args.place _ last c.sweep.ensures.swept
+    let m = moved_swept old c.sweep.new.m c.rotate_nodes.new.m (rotation_of c.args.side) c.args.place _ last
+    c.sweep.ensures.swept
     c.in-Ok.ensures.moved in
     c.within.ensures.never_falls old (rotation_of c.args.side) c.args.place last m
 

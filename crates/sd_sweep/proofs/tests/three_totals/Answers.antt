@@ -16,4 +16,5 @@ release-requires-clause-root c =
     let here = tried_held c.args.m.now c.hold.new.self root c.args.whole c.in_ok-root.ensures.ok in
     let alone = subst (λ (t : Table). IsSome (get t.roots root)) (sym c.size-alone.ensures.same) here in
     subst (λ (t : Table). IsSome (get t.roots root)) (sym c.size-together.ensures.same)
-    (still_held c.size-alone.new.m c.hold-2.new.self root c.in_ok-hold.field-0 c.args.part c.in_ok-hold.ensures.ok alone)
+    (still_held c.size-alone.new.m c.hold-2.new.self root c.in_ok-hold.field-0 c.args.part c.in_ok-hold.ensures.ok
+    alone)

@@ -88,7 +88,8 @@ loop-line-preserved g c =
           (line_leads told (g.F.Shelf.files c.loop-line.shelf) v script index line done begin (Ok c.in-Ok.command)
           (g.F.Shelf.read_faults c.args.shelf.now) (g.F.Shelf.read_faults c.loop-line.shelf)
           (g.F.Shelf.read_faults c.command_of.new.shelf)
-          (joined g.F.Shelf.asked c.args.shelf.now c.loop-line.shelf c.command_of.new.shelf) next was.files was.read_faults
+          (joined g.F.Shelf.asked c.args.shelf.now c.loop-line.shelf c.command_of.new.shelf) next was.files
+          was.read_faults
           (was.leads begin)
           c.in-Ok.ensures.leads);
     }

@@ -16,7 +16,8 @@ loop-word-preserved c =
     record {
       words = words;
       numbers =
-          numbered_more now old (table_words c.loop-word.self) (table_words c.number.new.self) c.args.words.now i _ within
+          numbered_more now old (table_words c.loop-word.self) (table_words c.number.new.self) c.args.words.now i _
+          within
           c.loop-word.numbers.items c.push.new.self.items c.in_ok-number.field-0
           c.loop-word.invariant.words c.loop-word.invariant.numbers c.in_ok-number.ensures.words
           c.in_ok-number.ensures.number c.in_ok-push.ensures.items;

@@ -34,7 +34,8 @@ invariant_of-self-2 c =
     c.self.inside.heads.items
     c.self.inside.places.items c.self.inside.candidates c.self.invariant c.take.ensures.arena c.args.list.now
     c.in_ok-start.start c.in_ok-start.ensures.ok c.in_ok-start.ensures.start c.in_ok-start.ensures.fresh
-    c.in_ok-start.ensures.kept c.args.self.now c.self.view_is c.self.inside.records.items c.self.inside.links.items refl refl
+    c.in_ok-start.ensures.kept c.args.self.now c.self.view_is c.self.inside.records.items c.self.inside.links.items
+    refl refl
 
 pub occupy-requires-clause-run : goal.occupy-requires-clause-run
 occupy-requires-clause-run c =
@@ -42,7 +43,8 @@ occupy-requires-clause-run c =
     c.self.inside.heads.items
     c.self.inside.places.items c.self.inside.candidates c.self.invariant c.take.ensures.arena c.args.list.now
     c.in_ok-start.start c.in_ok-start.ensures.ok c.in_ok-start.ensures.start c.in_ok-start.ensures.fresh
-    c.in_ok-start.ensures.kept c.args.self.now c.self.view_is c.self.inside.records.items c.self.inside.links.items refl refl
+    c.in_ok-start.ensures.kept c.args.self.now c.self.view_is c.self.inside.records.items c.self.inside.links.items
+    refl refl
     c.args.hash c.args.place c.requires.hash c.requires.absent
 
 pub occupy-requires-clause-free : goal.occupy-requires-clause-free
@@ -51,7 +53,8 @@ occupy-requires-clause-free c =
     c.self.inside.heads.items
     c.self.inside.places.items c.self.inside.candidates c.self.invariant c.take.ensures.arena c.args.list.now
     c.in_ok-start.start c.in_ok-start.ensures.ok c.in_ok-start.ensures.start c.in_ok-start.ensures.fresh
-    c.in_ok-start.ensures.kept c.args.self.now c.self.view_is c.self.inside.records.items c.self.inside.links.items refl refl
+    c.in_ok-start.ensures.kept c.args.self.now c.self.view_is c.self.inside.records.items c.self.inside.links.items
+    refl refl
     c.index.result.now c.index.ensures c.if-index.false
 
 pub returns-clause-number : goal.returns-clause-number
@@ -60,7 +63,8 @@ returns-clause-number c =
     c.self.inside.heads.items
     c.self.inside.places.items c.self.inside.candidates c.self.invariant c.take.ensures.arena c.args.list.now
     c.in_ok-start.start c.in_ok-start.ensures.ok c.in_ok-start.ensures.start c.in_ok-start.ensures.fresh
-    c.in_ok-start.ensures.kept c.args.self.now c.self.view_is c.self.inside.records.items c.self.inside.links.items refl refl
+    c.in_ok-start.ensures.kept c.args.self.now c.self.view_is c.self.inside.records.items c.self.inside.links.items
+    refl refl
     c.occupy.result c.occupy.ensures.number
 
 pub returns-clause-ok : goal.returns-clause-ok
@@ -69,7 +73,8 @@ returns-clause-ok c =
     c.self.inside.heads.items
     c.self.inside.places.items c.self.inside.candidates c.self.invariant c.take.ensures.arena c.args.list.now
     c.in_ok-start.start c.in_ok-start.ensures.ok c.in_ok-start.ensures.start c.in_ok-start.ensures.fresh
-    c.in_ok-start.ensures.kept c.args.self.now c.self.view_is c.self.inside.records.items c.self.inside.links.items refl refl
+    c.in_ok-start.ensures.kept c.args.self.now c.self.view_is c.self.inside.records.items c.self.inside.links.items
+    refl refl
     c.occupy.result c.args.place c.occupy.new.self c.occupy.ensures.number c.occupy.ensures.ok
 
 pub returns-clause-room : goal.returns-clause-room
