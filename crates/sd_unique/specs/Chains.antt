@@ -1,8 +1,7 @@
 -- The chains of the records: of each bucket and of the free records, the lists of each place and of the detached, and
 -- the stack of candidates.
 use Rattle.std.specs.Prelude.{◌≡◌, ℕ, suc, zero, ◌+◌, ◌*◌, ◌/◌, ◌%◌, ◌-◌, ◌<◌, ◌^◌, List, length, map, get_or}
-use Rattle.std.specs.Prelude.{Bool, not, ◌==◌, cond, Option, Some, None, slice_get, bit_and, bit_xor}
-use Rattle.std.specs.Int.{w64, rotate_left}
+use Rattle.std.specs.Prelude.{Bool, not, ◌==◌, cond, Option, Some, None, slice_get, bit_and}
 use Rattle.std.specs.List.{fold, sum_by}
 use Rattle.std.specs.Option.{option_and_then}
 use Rattle.sd_runs.specs.Arena.{Arena}
@@ -13,10 +12,10 @@ use Rattle.sd_unique.specs.declared.record.Links.{Links}
 use Rattle.sd_unique.specs.declared.record.RecordState.{RecordState}
 use Rattle.sd_unique.specs.declared.record.RecordState.TheVariants.{Free, Linked, Detached}
 
--- a hash with one more pair in it: its halves change places, and two products mix the bits
+-- a hash with one more pair in it: the sum of three products, which do not wait for one another
 unfoldable pub mixed : ℕ → ℕ × ℕ → ℕ
 mixed hash pair =
-    (bit_xor (rotate_left w64 hash 32) pair.0 * 11400714819323198485 % 2 ^ 64
+    ((hash * 11400714819323198485 % 2 ^ 64 + pair.0 * 11562461410679940143 % 2 ^ 64) % 2 ^ 64
     + pair.1 * 15485907386658061715 % 2 ^ 64) % 2 ^ 64
 
 -- the hash of a place and a list: the upper half of what the place and all pairs give

@@ -31,7 +31,7 @@ pub(crate) fn bucket_at(hash: u32, count: usize) -> usize
 fn mix(hash: u64, first: u32, second: u32) -> u64
     ensures { result ≡ mixed hash (first, second) }
 {
-    (hash.rotate_left(32) ^ u64::from(first))
-        .wrapping_mul(0x9E37_79B9_7F4A_7C15)
+    hash.wrapping_mul(0x9E37_79B9_7F4A_7C15)
+        .wrapping_add(u64::from(first).wrapping_mul(0xA076_1D64_78BD_642F))
         .wrapping_add(u64::from(second).wrapping_mul(0xD6E8_FEB8_6659_FD93))
 }
