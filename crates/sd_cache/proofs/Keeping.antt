@@ -1,15 +1,15 @@
 -- What keeping an answer does to the entries, and what a look-up past all epochs finds.
 use Rattle.std.proofs.Common.{◌≡◌, ◌∙◌, ◌<◌, ap, ℕ}
 use Rattle.lru.specs.LruCache.{LruCache, lru_cache, promoted, put_entries}
-use Rattle.sd_cache.specs.Entries.{AreEarly, Call, Entries, is_call, kept}
+use Rattle.sd_cache.specs.Entries.{Answers, AreEarly, Call, Entries, answers_of, is_call, kept}
 use Rattle.sd_cache.proofs.Early.{promoted_early, put_early}
 
 -- `put` at the capacity of the cache is `kept`
-pub kept_put : (c r : LruCache Call ℕ) (es : Entries) (k l : Call) (v : ℕ) → c.cap ≡ 65536
-    → c.entries ≡ es → k ≡ l → r ≡ lru_cache (put_entries is_call c k v) c.cap
-    → r.entries ≡ kept es l v
-kept_put c r es k l v n e f h = ap {B = Entries} (λ x. x.entries) h
-    ∙ (λ i. put_entries is_call (lru_cache (e i) (n i)) (f i) v)
+pub kept_put : (c r : LruCache Call ℕ) (computed : Entries) (epoch : ℕ) (es : Answers) (k l : Call) (v : ℕ) →
+    c.cap ≡ 65536 → answers_of c.entries computed epoch ≡ es → k ≡ l →
+    r ≡ lru_cache (put_entries is_call c k v) c.cap → answers_of r.entries computed epoch ≡ kept es l v
+kept_put c r computed epoch es k l v n e f h = ap (λ (x : LruCache Call ℕ). answers_of x.entries computed epoch) h
+    ∙ (λ i. answers_of (put_entries is_call (lru_cache (e i).entries (n i)) (f i) v) (e i).computed (e i).epoch)
 
 -- and the cache still has its capacity and early calls alone
 pub put_kept : (c r : LruCache Call ℕ) (k l : Call) (v : ℕ)

@@ -1,3 +1,4 @@
+pub mod Among
 pub mod Callers
 pub mod Early
 pub mod Keeping

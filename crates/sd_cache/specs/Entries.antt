@@ -1,6 +1,6 @@
--- What a contract sees of the cache: its entries, the most recently used first.
-use Rattle.std.specs.Prelude.{ℕ, ◌<◌, ◌≤◌, Bool, ◌==◌, ◌&&◌, List, length, Contains, refl}
-use Rattle.std.specs.List.{IsDistinct}
+-- What a contract sees of the cache: its entries, the most recently used first, and the answers of one epoch.
+use Rattle.std.specs.Prelude.{◌≡◌, ℕ, ◌<◌, ◌≤◌, Bool, ◌==◌, ◌&&◌, ◌⊎◌, List, [], length, Contains, refl}
+use Rattle.std.specs.List.{All, IsDistinct}
 use Rattle.std.specs.Map.{keys_of}
 use Rattle.std.specs.Coded.{Coded, code_by, coded×, coded_list, coded_ℕ}
 use Rattle.lru.specs.LruCache.{lru_cache, promoted, put_entries}
@@ -35,13 +35,45 @@ Entries = List (Call × ℕ)
 abbrev pub entries_code : Coded Entries
 entries_code = coded_list (coded× call_code coded_ℕ)
 
--- the entries once the call was looked up: where it is there, it goes first
-abbrev pub looked : Entries → Call → Entries
-looked es c = promoted (is_call c) es
+-- what a cache holds: the entries in the order of their use, and the answers computed in one epoch
+pub record Answers : Type 0 where
+  pub entries : Entries
+  pub computed : Entries
+  pub epoch : ℕ
 
--- the entries once an answer is put in: its call goes first, and past 65,536 the last is dropped
-abbrev pub kept : Entries → Call → ℕ → Entries
-kept es c answer = put_entries is_call (lru_cache es 65536) c answer
+-- these entries, and these answers of an epoch
+abbrev pub answers_of : Entries → Entries → ℕ → Answers
+answers_of entries computed epoch = record { entries = entries; computed = computed; epoch = epoch }
+
+-- and so are they stored
+abbrev pub answers_code : Coded Answers
+answers_code = code_by ((Entries × Entries) × ℕ)
+    (coded× (coded× entries_code entries_code) coded_ℕ)
+    (λ c. ((c.entries, c.computed), c.epoch)) (λ p. answers_of p.0.0 p.0.1 p.1) (λ _. refl)
+
+-- no answers
+abbrev pub no_answers : Answers
+no_answers = answers_of [] [] 0
+
+-- the answers once the call was looked up: where it has an entry, that goes first
+abbrev pub looked : Answers → Call → Answers
+looked c k = answers_of (promoted (is_call k) c.entries) c.computed c.epoch
+
+-- the answers once one is put in: its call goes first, and past 65,536 entries the last is dropped
+abbrev pub kept : Answers → Call → ℕ → Answers
+kept c k answer = answers_of (put_entries is_call (lru_cache c.entries 65536) k answer) c.computed c.epoch
+
+-- the answers once those of the epoch are lent
+abbrev pub all_lent : Answers → Answers
+all_lent c = answers_of c.entries [] c.epoch
+
+-- the entry where nothing was computed: a call of zeros, with the answer 0
+abbrev pub blank : Call × ℕ
+blank = (call 0 0 0 0, 0)
+
+-- each entry is blank or one of the others
+abbrev pub AreAmong : (es others : Entries) → Type 0
+AreAmong es others = All (λ e. (e ≡ blank) ⊎ Contains others e) es
 
 -- no call has an epoch of 2^56 or more, which a key has no room for
 abbrev pub AreEarly : Entries → Type 0

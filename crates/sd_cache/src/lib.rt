@@ -5,13 +5,15 @@
 //! answer that was dropped is found anew, which costs time and changes no result: so `keep` can't fail.
 //!
 //! An operation asks once at its beginning and keeps once at its end. An entry in the order of use is too dear for each
-//! step of it; those have a table of their own, which the crate of operations owns.
+//! step of it; for those the cache lends a table, in which the steps of all operations of one epoch keep their answers.
 #![tactic(auto)]
 
 mod cache;
 mod call;
+mod computed;
 
 pub use cache::Cache;
+pub use computed::ComputedTable;
 
 #[cfg(test)]
 mod tests;

@@ -38,3 +38,18 @@ fn past_all_epochs(rt: HostRuntime) -> Result<(), Fail> {
     assert_eq!(rt; cache.len(), 0);
     Ok(())
 }
+
+/// What was computed in an epoch is lent again in that one, and in no other.
+#[test]
+fn computed_answers_end_with_their_epoch(rt: HostRuntime) -> Result<(), Fail> {
+    let mut cache = Cache::new(rt.alloc())?;
+    let mut table = cache.lend(rt.alloc(), 5);
+    table.keep(rt.alloc(), 1, 2050, 2051, 9);
+    cache.take_back(5, table);
+    let again = cache.lend(rt.alloc(), 5);
+    assert_eq!(rt; again.look(1, 2050, 2051), Some(9));
+    assert_eq!(rt; again.look(0, 2050, 2051), None);
+    cache.take_back(5, again);
+    assert_eq!(rt; cache.lend(rt.alloc(), 6).look(1, 2050, 2051), None);
+    Ok(())
+}

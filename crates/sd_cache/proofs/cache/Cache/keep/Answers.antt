@@ -8,9 +8,9 @@ use Rattle.sd_cache.proofs.cache.Cache.keep.Goals as goal
 pub returns-then-epoch-ge-NO_EPOCH-clause-replaces :
     goal.returns-then-epoch-ge-NO_EPOCH-clause-replaces
 returns-then-epoch-ge-NO_EPOCH-clause-replaces c =
-    let early = subst AreEarly c.self.view_is c.self.invariant.1 in
+    let early = subst (λ x. AreEarly x.entries) c.self.view_is c.self.invariant.1 in
     replaces_none (call c.args.epoch c.args.operation c.args.a c.args.b)
-    c.args.self.now early c.if-epoch-ge-NO_EPOCH.true
+    c.args.self.now.entries early c.if-epoch-ge-NO_EPOCH.true
 
 -- the call that was put is early
 pub invariant_of-self : goal.invariant_of-self
@@ -22,13 +22,13 @@ invariant_of-self c =
 
 pub returns-in-Ok-clause-keeps : goal.returns-in-Ok-clause-keeps
 returns-in-Ok-clause-keeps c =
-    inl (kept_put c.self.inside.answers c.put.new.self c.args.self.now c.new-key.result
+    inl (kept_put c.self.inside.answers c.put.new.self c.self.inside.computed c.self.inside.epoch c.args.self.now c.new-key.result
     (call c.args.epoch c.args.operation c.args.a c.args.b) c.args.answer
     c.self.invariant.0 c.self.view_is c.new-key.ensures c.in-Ok.ensures.entries)
 
 pub returns-in-Ok-clause-replaces : goal.returns-in-Ok-clause-replaces
 returns-in-Ok-clause-replaces c =
-    λ _. kept_put c.self.inside.answers c.put.new.self c.args.self.now c.new-key.result
+    λ _. kept_put c.self.inside.answers c.put.new.self c.self.inside.computed c.self.inside.epoch c.args.self.now c.new-key.result
     (call c.args.epoch c.args.operation c.args.a c.args.b) c.args.answer
     c.self.invariant.0 c.self.view_is c.new-key.ensures c.in-Ok.ensures.entries
 

@@ -1,0 +1,190 @@
+// The table of the steps of operations: what was computed so far in one epoch, as far as there is room.
+//
+// An operation asks for the same answer many times, since nodes are shared, and so does one operation
+// after another. The cache keeps its entries in their order of use, so that a put into it (110 to 200
+// nanoseconds) is dear beside a step of an operation. So the public call asks the cache once, and all
+// inside it asks this table: one load to ask, one store to keep, and an answer whose entry is taken
+// drops the one there. What was dropped is found anew, which costs time and changes no answer, so the
+// contracts say only that each entry is blank or was kept.
+//
+// An entry has 16 bytes. There are none until the first answer is kept, then 64, 1 KB, and at most
+// 65,536, 1 MB: four times as many whenever as many answers were kept as there are entries.
+//
+// The table goes from one operation to the next through the cache, as long as the epoch stays. An entry
+// has no epoch of its own. The epoch rises when a node is taken away or rewritten, and at another one the
+// cache lends an empty table: so no answer outlives a sweep or a move.
+//
+// The hash decides whether an operation ends in time. Each step asks for several answers of the
+// level below, so where calls of one level drop each other's answers by system, as those at a node
+// and at its negation do where they fall on one entry, each level repeats the work of the one below
+// it and the time is exponential in the depth. No contract sees this: whoever changes the hash, the
+// size at first or the growth runs the test `deepest_level` of `sd_apply`, which goes down 1,024 levels.
+ghost use Rattle.std.specs.Prelude.{◌≡◌, ◌<◌, ◌∷◌, [], length, Contains, IfOk, IfSome};
+ghost use Rattle.sd_cache.specs.Entries.{AreAmong, Entries, blank, call};
+
+use std::alloc::{AllocError, Global};
+use std::marker::Model;
+
+/// The number of entries once an answer is kept.
+const LEAST: usize = 64;
+
+/// A table of so many entries does not grow.
+const MOST: usize = 65_536;
+
+/// The answer of an operation at two numbers.
+#[derive(Clone, Copy)]
+pub(crate) struct Entry {
+    a: u32,
+    b: u32,
+    operation: u32,
+    answer: u32,
+}
+
+// The table is of one epoch, for which 0 stands.
+impl Model for Entry {
+    ghost use Rattle.std.specs.Prelude.{ℕ};
+    ghost use Rattle.sd_cache.specs.Entries.{Call, call};
+
+    ghost Value = { Call × ℕ };
+
+    ghost view = { λ e. (call 0 e.operation e.a e.b, e.answer) };
+
+    ghost inverse = { λ e. record { a = e.0.a; b = e.0.b; operation = e.0.operation; answer = e.1 } };
+}
+
+impl Entry {
+    // No answer is kept here.
+    fn blank() -> Entry
+        ensures { result ≡ blank }
+    {
+        Entry {
+            a: 0,
+            b: 0,
+            operation: 0,
+            answer: 0,
+        }
+    }
+}
+
+/// Answers of operations in one epoch, without their order. Each has one entry where it may stand, and
+/// drops what stood there. The table grows to four times as many entries, up to 65,536, whenever as many
+/// answers were kept as it has entries; where memory is refused it stays as it is, and at worst keeps
+/// nothing.
+#[derive(Drop)]
+pub struct ComputedTable {
+    entries: Vec<Entry>,
+    // how many answers were kept since the table grew
+    kept: usize,
+}
+
+impl Model for ComputedTable {
+    ghost use Rattle.sd_cache.specs.Entries.{Entries, entries_code};
+
+    ghost Value = { Entries };
+
+    ghost coded = { entries_code };
+
+    ghost view = { λ t. t.entries.items };
+}
+
+// The index of a call's entry among so many, of which there are a power of two, at most 2^24. The
+// operation goes to high bits and the place comes from the middle of a product, so that calls at a
+// node and at its negation, whose numbers are often neighbours, have different places.
+fn entry_of(operation: u32, a: u32, b: u32, count: usize) -> usize
+    requires { 0 < count }
+    ensures { result < count }
+{
+    let word = u64::from(b) * 0x1_0000_0000 + u64::from(a);
+    let kind = u64::from(operation) * 0x2000_0000;
+    let mixed = (word ^ kind).wrapping_mul(0x9E37_79B9_7F4A_7C15);
+    (mixed >> 40) as usize & (count - 1)
+}
+
+// So many blank entries.
+fn blanks(alloc: Global, count: usize) -> Result<Vec<Entry>, AllocError>
+    ensures blank { IfOk result (λ v. AreAmong v.items []) }
+    ensures count { IfOk result (λ v. length v.items ≡ count) }
+{
+    vec![in alloc; Entry::blank(); count]
+}
+
+// Puts each entry into another table. Blank ones go along: they have one place, the first.
+fn refill(old: &[Entry], wider: &mut Vec<Entry>)
+    requires { 0 < length wider.old.items }
+    ensures { (es : Entries) → AreAmong old.now es → AreAmong wider.old.items es →
+        AreAmong wider.new.items es }
+{
+    for i in 0..old.len() {
+        let entry = old[i];
+        let index = entry_of(entry.operation, entry.a, entry.b, wider.len());
+        wider[index] = entry;
+    }
+}
+
+impl ComputedTable {
+    /// A table with no answers, which takes no memory yet.
+    pub fn new(alloc: Global) -> ComputedTable
+        ensures { result ≡ [] }
+    {
+        ComputedTable {
+            entries: Vec::new(alloc),
+            kept: 0,
+        }
+    }
+
+    /// The answer that stands here for the operation at these numbers.
+    #[inline(always)]
+    pub fn look(&self, operation: u8, a: u32, b: u32) -> Option<u32>
+        ensures { IfSome result (λ r. Contains self.now (call 0 operation a b, r)) }
+    {
+        if self.entries.is_empty() {
+            return None;
+        }
+        let index = entry_of(u32::from(operation), a, b, self.entries.len());
+        let entry = self.entries[index];
+        if entry.a == a && entry.b == b && entry.operation == u32::from(operation) {
+            Some(entry.answer)
+        } else {
+            None
+        }
+    }
+
+    /// Keeps an answer.
+    #[inline(always)]
+    pub fn keep(&mut self, alloc: Global, operation: u8, a: u32, b: u32, answer: u32)
+        ensures { AreAmong self.new ((call 0 operation a b, answer) ∷ self.old) }
+    {
+        if self.kept >= self.entries.len() {
+            self.grow(alloc);
+        }
+        if self.entries.is_empty() {
+            return;
+        }
+        let operation = u32::from(operation);
+        let index = entry_of(operation, a, b, self.entries.len());
+        self.entries[index] = Entry {
+            a,
+            b,
+            operation,
+            answer,
+        };
+        self.kept = self.kept.saturating_add(1);
+    }
+
+    // Makes room for four times as many answers, or for the first ones, where memory is not refused.
+    #[inline(never)]
+    fn grow(&mut self, alloc: Global)
+        ensures { AreAmong self.new self.old }
+    {
+        self.kept = 0;
+        let count = self.entries.len();
+        if count >= MOST {
+            return;
+        }
+        let Ok(mut wider) = blanks(alloc, (count * 4).max(LEAST)) else {
+            return;
+        };
+        refill(&self.entries, &mut wider);
+        self.entries = wider;
+    }
+}
