@@ -9,7 +9,7 @@ use Rattle.sd_model.specs.declared.trees.Operation.TheVariants.{And, Or, Xor}
 use Rattle.sd_model.specs.Diagram.{Bottom, meaning}
 use Rattle.sd_model.specs.Canonical.{canonical_bottom}
 use Rattle.sd_model.specs.Expression.{combine}
-use Rattle.sd_cache.specs.Entries.{Entries, call, is_call}
+use Rattle.sd_cache.specs.Entries.{Answers, call, is_call}
 use Rattle.sd_laws.proofs.Codes.{one_diagram}
 use Rattle.sd_manager.specs.Table.{Table}
 use Rattle.sd_manager.specs.Shown.{ShowsCanonical, IsNodeOf}
@@ -30,13 +30,13 @@ pub from_test : (a b : ℕ) → IsTrue (a == b) → a ≡ b
 from_test a b h = grind (arith, nat_tests)
 
 -- what the cache names as the negation of a node is that
-pub looked_opposite : (c : Entries) (t : Table) (a b epoch x y r : ℕ) → IsTable t → Serves c t →
+pub looked_opposite : (c : Answers) (t : Table) (a b epoch x y r : ℕ) → IsTable t → Serves c t →
     epoch ≡ t.epoch → x ≡ a → y ≡ b → epoch < 72057594037927936 →
-    Some r ≡ lookup (is_call (call epoch 3 x 0)) c → r ≡ y → AreOpposite t a b
+    Some r ≡ lookup (is_call (call epoch 3 x 0)) c.entries → r ≡ y → AreOpposite t a b
 looked_opposite c t a b epoch x y r i h ee ex ey early e same =
-    let found : lookup (is_call (call t.epoch 3 a 0)) c ≡ Some r =
-    sym (e ∙ ap (λ z. lookup (is_call (call z 3 x 0)) c) ee
-    ∙ ap (λ z. lookup (is_call (call t.epoch 3 z 0)) c) ex) in
+    let found : lookup (is_call (call t.epoch 3 a 0)) c.entries ≡ Some r =
+    sym (e ∙ ap (λ z. lookup (is_call (call z 3 x 0)) c.entries) ee
+    ∙ ap (λ z. lookup (is_call (call t.epoch 3 z 0)) c.entries) ex) in
     let w = looked_right c t 3 a 0 r h (omega (arith, early, ee)) found in
     let answer : ShowsCanonical t b w.answer.diagram =
     subst (λ z. ShowsCanonical t z w.answer.diagram) (same ∙ ey) w.answer.is in

@@ -8,7 +8,7 @@ use Rattle.sd_model.specs.Canonical.{canonical_literal}
 use Rattle.sd_vtree.specs.Numbered.{Numbered, NumberedLeaf, NumberedNode, number_of, numbers}
 use Rattle.sd_vtree.specs.Numbered.{plain_tree}
 use Rattle.sd_laws.specs.Parts.{IsPart, here, leaf_position, IsInner}
-use Rattle.sd_cache.specs.Entries.{Entries}
+use Rattle.sd_cache.specs.Entries.{Answers, no_answers}
 use Rattle.sd_manager.specs.Table.{Table}
 use Rattle.sd_manager.specs.Shown.{IsNodeOf, IsPartitionAt}
 use Rattle.sd_manager.specs.Making.{Extends}
@@ -20,12 +20,14 @@ use Rattle.sd_apply.proofs.Whole.{root_under}
 use Rattle.sd_apply.proofs.AtNode.{partition_of_on}
 
 -- a new cache serves each manager
-pub empty_serves : (c : Entries) (t : Table) → c ≡ [] → Serves c t
+pub empty_serves : (c : Answers) (t : Table) → c ≡ no_answers → Serves c t
 empty_serves c t e =
     subst (λ es. Serves es t) (sym e)
     (record {
       early = λ x m. absurd (omega (arith, m.1));
       right = λ n x m. absurd (omega (arith, m.1));
+      computed_early = omega arith;
+      computed_right = λ n k x m. absurd (omega (arith, m.1));
     })
 
 -- the root is the inner node over both leaves

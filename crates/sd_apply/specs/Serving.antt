@@ -1,7 +1,7 @@
 -- When the kept answers are right for a manager.
 use Rattle.std.specs.Prelude.{◌≡◌, ℕ, ◌≤◌, true, Contains}
 use Rattle.sd_model.specs.Diagram.{Diagram, Literal}
-use Rattle.sd_cache.specs.Entries.{Call, Entries}
+use Rattle.sd_cache.specs.Entries.{Answers, Call}
 use Rattle.sd_manager.specs.Table.{Table}
 use Rattle.sd_manager.specs.Shown.{ShowsCanonical}
 use Rattle.sd_apply.specs.Operations.{operation_value}
@@ -39,9 +39,12 @@ pub record IsRight (t : Table) (e : Call × ℕ) : Type 0 where
 abbrev pub last_epoch : ℕ
 last_epoch = 18446744073709551615
 
--- No entry has a later epoch than the manager; before the last epoch each entry of the manager's
--- own is right.
-pub record Serves (c : Entries) (t : Table) : Type 0 where
-  pub early : (e : Call × ℕ) → Contains c e → e.0.epoch ≤ t.epoch
-  pub right : ¬ (t.epoch ≡ last_epoch) → (e : Call × ℕ) → Contains c e → e.0.epoch ≡ t.epoch →
+-- No entry has a later epoch than the manager, and the computed answers are of none; before the last epoch each entry
+-- of the manager's own is right, and where the computed answers are of that one, so are they.
+pub record Serves (c : Answers) (t : Table) : Type 0 where
+  pub early : (e : Call × ℕ) → Contains c.entries e → e.0.epoch ≤ t.epoch
+  pub right : ¬ (t.epoch ≡ last_epoch) → (e : Call × ℕ) → Contains c.entries e → e.0.epoch ≡ t.epoch →
+      IsRight t e
+  pub computed_early : c.epoch ≤ t.epoch
+  pub computed_right : ¬ (t.epoch ≡ last_epoch) → c.epoch ≡ t.epoch → (e : Call × ℕ) → Contains c.computed e →
       IsRight t e

@@ -1,5 +1,5 @@
 // The operations of one call: the cache is asked once, and keeps the answer. What the operation asks
-// on its way stands in a table of its own.
+// on its way stands in the table that the cache lends.
 ghost use Rattle.std.specs.Prelude.{◌≡◌, ◌≤◌, ◌/◌, IfOk, IfErr};
 ghost use Rattle.sd_manager.specs.Valid.{IsTable};
 ghost use Rattle.sd_manager.specs.Making.{Extends, KeepsRule};
@@ -95,8 +95,10 @@ fn look_up_or_apply(
         return Ok(at_opposites(operation));
     }
     let over = lca_with_children(m, at, a, b).0;
-    let mut recent = Recent::new(alloc);
-    let code = apply(alloc, m, &mut recent, operation, over, a, b)?;
+    let mut recent = Recent::lent(alloc, m, c);
+    let found = apply(alloc, m, &mut recent, operation, over, a, b);
+    recent.give_back(m, c);
+    let code = found?;
     c.keep(epoch, kind, a.0, b.0, code.0);
     Ok(code)
 }
@@ -127,8 +129,10 @@ pub(crate) fn negate_cached(
         return Ok(NodeId(code));
     }
     let over = place_with_children(m, at, a).0;
-    let mut recent = Recent::new(alloc);
-    let code = negate_at(alloc, m, &mut recent, over, a)?;
+    let mut recent = Recent::lent(alloc, m, c);
+    let found = negate_at(alloc, m, &mut recent, over, a);
+    recent.give_back(m, c);
+    let code = found?;
     keep_opposites(m, c, a, code);
     Ok(code)
 }

@@ -31,7 +31,7 @@ use std::alloc::Global;
 
 /// A node joined with a group of literals, in one pass along the node: for And a clause, the disjunction of the
 /// literals, is conjoined, and for Or a term, their conjunction, is disjoined. The literals stand behind the positions
-/// of their leaves, in the order of these. It refuses as `and`, and the cache is not asked.
+/// of their leaves, in the order of these. It refuses as `and`, and the cache is not asked for the answer.
 pub fn join_group(
     alloc: Global,
     m: &mut Manager,
@@ -56,9 +56,9 @@ pub fn join_group(
         return Ok(m.constant(deciding_value(operation)));
     }
     let over = lowest_over(m, node, literals);
-    let mut recent = Recent::new(alloc);
+    let mut recent = Recent::lent(alloc, m, c);
     let mut found = NodeAnswers::new(alloc);
-    join_from(
+    let joined = join_from(
         alloc,
         m,
         &mut recent,
@@ -68,7 +68,9 @@ pub fn join_group(
         node,
         literals,
         0,
-    )
+    );
+    recent.give_back(m, c);
+    joined
 }
 
 // The lowest vtree node below which a node and all literals stand.

@@ -11,8 +11,8 @@
 // 65,536, 1 MB: four times as many whenever as many answers were kept as there are entries.
 //
 // The table goes from one operation to the next through the cache, as long as the epoch stays. An entry
-// has no epoch of its own. The epoch rises when a node is taken away or rewritten, and at another one the
-// cache lends an empty table: so no answer outlives a sweep or a move.
+// has no epoch of its own. The epoch rises when a node is taken away or the vtree is moved, and at another
+// one the cache lends an empty table: so no answer outlives a sweep or a move.
 //
 // The hash decides whether an operation ends in time. Each step asks for several answers of the
 // level below, so where calls of one level drop each other's answers by system, as those at a node

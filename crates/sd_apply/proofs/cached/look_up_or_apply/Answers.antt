@@ -36,27 +36,30 @@ returns-then-are_opposite-clause-ok c =
     c.args.at c.args.a c.args.b c.at_opposites.result
     (c.are_opposite.ensures.opposite c.if-are_opposite.true) c.at_opposites.ensures
 
--- the operation begins with a table of its own
-pub apply-requires-clause-knows : goal.apply-requires-clause-knows
-apply-requires-clause-knows c = c.new-recent.ensures c.args.m.now
+-- the operation begins with the table of the cache
+pub apply-found-requires-clause-knows : goal.apply-found-requires-clause-knows
+apply-found-requires-clause-knows c = c.lent-recent.ensures.knows
 
-pub returns-in_err-code-clause-serves : goal.returns-in_err-code-clause-serves
-returns-in_err-code-clause-serves c =
-    serves_on c.are_opposite.new.c c.args.m.now c.apply.new.m c.apply.ensures.kept
-    c.are_opposite.ensures.serves
+-- and gives it back, whether it succeeded or not
+pub give_back-requires-clause-knows : goal.give_back-requires-clause-knows
+give_back-requires-clause-knows c = c.apply-found.ensures.knows
+
+pub give_back-requires-clause-serves : goal.give_back-requires-clause-serves
+give_back-requires-clause-serves c =
+    serves_on c.lent-recent.new.c c.args.m.now c.apply-found.new.m c.apply-found.ensures.kept c.lent-recent.ensures.serves
 
 -- and the cache keeps its answer
 pub returns-clause-serves : goal.returns-clause-serves
 returns-clause-serves c =
     let m = c.args.m.now in
-    let n = c.apply.new.m in
-    let x = c.apply.ensures.kept in
+    let n = c.apply-found.new.m in
+    let x = c.apply-found.ensures.kept in
     let epoch = c.epoch-epoch.result in
     let kind = c.number-kind.result in
-    serves_keep c.are_opposite.new.c c.keep.new.self n
+    serves_keep c.give_back.new.c c.keep.new.self n
     (call epoch kind c.a-2.inside.0 c.b-2.inside.0) c.code.inside.0 c.keep.ensures.keeps
     (c.epoch-epoch.ensures.epoch ∙ sym x.epoch)
-    (serves_on c.are_opposite.new.c m n x c.are_opposite.ensures.serves)
+    c.give_back.ensures
     (applies_right m n c.args.operation kind epoch c.args.at c.args.a c.args.b c.in_ok-code.code
     c.a-2.inside.0 c.b-2.inside.0 c.code.inside.0 x c.number-kind.ensures c.a-2.view_is
     c.b-2.view_is c.code.view_is c.requires.a c.requires.b
@@ -66,27 +69,27 @@ returns-clause-serves c =
 -- new nodes stand below the lowest vtree node over both
 pub returns-in_err-code-clause-grown : goal.returns-in_err-code-clause-grown
 returns-in_err-code-clause-grown c =
-    both_lowest c.args.m.now c.apply.new.m c.apply.ensures.kept c.epoch-epoch.ensures.table.numbered
-    c.lca_with_children-over.result.0 c.args.a c.args.b c.lca_with_children-over.ensures.lowest c.apply.ensures.grown
+    both_lowest c.args.m.now c.apply-found.new.m c.apply-found.ensures.kept c.epoch-epoch.ensures.table.numbered
+    c.lca_with_children-over.result.0 c.args.a c.args.b c.lca_with_children-over.ensures.lowest c.apply-found.ensures.grown
 
 pub returns-clause-grown : goal.returns-clause-grown
 returns-clause-grown c =
-    both_lowest c.args.m.now c.apply.new.m c.apply.ensures.kept c.epoch-epoch.ensures.table.numbered
-    c.lca_with_children-over.result.0 c.args.a c.args.b c.lca_with_children-over.ensures.lowest c.apply.ensures.grown
+    both_lowest c.args.m.now c.apply-found.new.m c.apply-found.ensures.kept c.epoch-epoch.ensures.table.numbered
+    c.lca_with_children-over.result.0 c.args.a c.args.b c.lca_with_children-over.ensures.lowest c.apply-found.ensures.grown
 
 pub returns-clause-ok : goal.returns-clause-ok
 returns-clause-ok c =
-    applies_over c.args.m.now c.apply.new.m c.args.operation c.args.at c.lca_with_children-over.result.0 c.args.a
+    applies_over c.args.m.now c.apply-found.new.m c.args.operation c.args.at c.lca_with_children-over.result.0 c.args.a
     c.args.b
     c.in_ok-code.code c.lca_with_children-over.ensures.first c.lca_with_children-over.ensures.second
     c.in_ok-code.ensures.ok
 
-pub apply-requires-clause-a : goal.apply-requires-clause-a
-apply-requires-clause-a c =
+pub apply-found-requires-clause-a : goal.apply-found-requires-clause-a
+apply-found-requires-clause-a c =
     below_at c.args.m.now c.args.at c.lca_with_children-over.result.0 c.args.a
     c.lca_with_children-over.ensures.first c.requires.a
 
-pub apply-requires-clause-b : goal.apply-requires-clause-b
-apply-requires-clause-b c =
+pub apply-found-requires-clause-b : goal.apply-found-requires-clause-b
+apply-found-requires-clause-b c =
     below_at c.args.m.now c.args.at c.lca_with_children-over.result.0 c.args.b
     c.lca_with_children-over.ensures.second c.requires.b

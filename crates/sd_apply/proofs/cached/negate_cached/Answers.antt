@@ -26,55 +26,54 @@ returns-in-Some-look-clause-serves c =
     serves_look c.args.c.now c.look.new.self c.args.m.now
     (call c.epoch-epoch.result 3 c.a.inside.0 0) c.look.ensures.entries c.requires.serves
 
--- the operation begins with a table of its own
-pub negate_at-requires-clause-knows : goal.negate_at-requires-clause-knows
-negate_at-requires-clause-knows c = c.new-recent.ensures c.args.m.now
+-- the operation begins with the table of the cache
+pub negate_at-found-requires-clause-knows : goal.negate_at-found-requires-clause-knows
+negate_at-found-requires-clause-knows c = c.lent-recent.ensures.knows
 
-pub returns-in_err-code-clause-serves : goal.returns-in_err-code-clause-serves
-returns-in_err-code-clause-serves c =
-    serves_on c.look.new.self c.args.m.now c.negate_at.new.m c.negate_at.ensures.kept
-    (serves_look c.args.c.now c.look.new.self c.args.m.now
-    (call c.epoch-epoch.result 3 c.a.inside.0 0) c.look.ensures.entries c.requires.serves)
+pub lent-recent-requires : goal.lent-recent-requires
+lent-recent-requires c =
+    serves_look c.args.c.now c.look.new.self c.args.m.now
+    (call c.epoch-epoch.result 3 c.a.inside.0 0) c.look.ensures.entries c.requires.serves
+
+-- and gives it back, whether it succeeded or not
+pub give_back-requires-clause-serves : goal.give_back-requires-clause-serves
+give_back-requires-clause-serves c =
+    serves_on c.lent-recent.new.c c.args.m.now c.negate_at-found.new.m c.negate_at-found.ensures.kept
+    c.lent-recent.ensures.serves
 
 -- and the cache keeps its answer, both ways round
 pub keep_opposites-requires-clause-first : goal.keep_opposites-requires-clause-first
 keep_opposites-requires-clause-first c =
-    operand_node_of c.args.m.now c.negate_at.new.m c.negate_at.ensures.kept c.args.at c.args.a
+    operand_node_of c.args.m.now c.negate_at-found.new.m c.negate_at-found.ensures.kept c.args.at c.args.a
     c.requires.a
 
 pub keep_opposites-requires-clause-opposite : goal.keep_opposites-requires-clause-opposite
 keep_opposites-requires-clause-opposite c =
-    negates_opposite c.args.m.now c.negate_at.new.m c.negate_at.ensures.table
-    c.negate_at.ensures.kept c.args.at c.args.a c.in_ok-code.code
-    (negates_over c.args.m.now c.negate_at.new.m c.args.at c.place_with_children-over.result.0 c.args.a
+    negates_opposite c.args.m.now c.negate_at-found.new.m c.negate_at-found.ensures.table
+    c.negate_at-found.ensures.kept c.args.at c.args.a c.in_ok-code.code
+    (negates_over c.args.m.now c.negate_at-found.new.m c.args.at c.place_with_children-over.result.0 c.args.a
     c.in_ok-code.code c.place_with_children-over.ensures.node c.in_ok-code.ensures.ok)
     c.requires.a
-
-pub keep_opposites-requires-clause-serves : goal.keep_opposites-requires-clause-serves
-keep_opposites-requires-clause-serves c =
-    serves_on c.look.new.self c.args.m.now c.negate_at.new.m c.negate_at.ensures.kept
-    (serves_look c.args.c.now c.look.new.self c.args.m.now
-    (call c.epoch-epoch.result 3 c.a.inside.0 0) c.look.ensures.entries c.requires.serves)
 
 -- new nodes stand below the node's own vtree node
 pub returns-in_err-code-clause-grown : goal.returns-in_err-code-clause-grown
 returns-in_err-code-clause-grown c =
-    both_lowest c.args.m.now c.negate_at.new.m c.negate_at.ensures.kept c.epoch-epoch.ensures.table.numbered
+    both_lowest c.args.m.now c.negate_at-found.new.m c.negate_at-found.ensures.kept c.epoch-epoch.ensures.table.numbered
     c.place_with_children-over.result.0 c.args.a c.args.a
-    (λ n there x y. c.place_with_children-over.ensures.lowest n there x) c.negate_at.ensures.grown
+    (λ n there x y. c.place_with_children-over.ensures.lowest n there x) c.negate_at-found.ensures.grown
 
 pub returns-clause-grown : goal.returns-clause-grown
 returns-clause-grown c =
-    both_lowest c.args.m.now c.negate_at.new.m c.negate_at.ensures.kept c.epoch-epoch.ensures.table.numbered
+    both_lowest c.args.m.now c.negate_at-found.new.m c.negate_at-found.ensures.kept c.epoch-epoch.ensures.table.numbered
     c.place_with_children-over.result.0 c.args.a c.args.a
-    (λ n there x y. c.place_with_children-over.ensures.lowest n there x) c.negate_at.ensures.grown
+    (λ n there x y. c.place_with_children-over.ensures.lowest n there x) c.negate_at-found.ensures.grown
 
 pub returns-clause-ok : goal.returns-clause-ok
 returns-clause-ok c =
-    negates_over c.args.m.now c.negate_at.new.m c.args.at c.place_with_children-over.result.0 c.args.a
+    negates_over c.args.m.now c.negate_at-found.new.m c.args.at c.place_with_children-over.result.0 c.args.a
     c.in_ok-code.code c.place_with_children-over.ensures.node c.in_ok-code.ensures.ok
 
-pub negate_at-requires-clause-a : goal.negate_at-requires-clause-a
-negate_at-requires-clause-a c =
+pub negate_at-found-requires-clause-a : goal.negate_at-found-requires-clause-a
+negate_at-found-requires-clause-a c =
     below_at c.args.m.now c.args.at c.place_with_children-over.result.0 c.args.a
     c.place_with_children-over.ensures.node c.requires.a

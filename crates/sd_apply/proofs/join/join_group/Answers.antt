@@ -19,31 +19,29 @@ returns-then-literals-eq0-clause-ok c =
     c.deciding_value.result c.deciding_value.ensures c.constant.ensures.code
     (omega (arith, c.if-literals-eq0.true)))
 
-pub join_from-requires-clause-knows : goal.join_from-requires-clause-knows
-join_from-requires-clause-knows c = c.new-recent.ensures c.args.m.now
-
-pub join_from-requires-clause-remembers : goal.join_from-requires-clause-remembers
-join_from-requires-clause-remembers c = c.new-found.ensures c.args.m.now c.args.operation c.args.literals.now
+pub join_from-joined-requires-clause-remembers : goal.join_from-joined-requires-clause-remembers
+join_from-joined-requires-clause-remembers c = c.new-found.ensures c.args.m.now c.args.operation c.args.literals.now
 
 pub returns-clause-ok : goal.returns-clause-ok
 returns-clause-ok c =
     let m = c.args.m.now in
-    let n = c.join_from.new.m in
+    let n = c.join_from-joined.new.m in
     let v = c.lowest_over-over.result in
     let l = c.args.literals.now in
-    IfOk-weaker c.join_from.result (λ r. JoinsFrom m n c.args.operation v c.args.node 0 l r)
+    IfOk-weaker c.join_from-joined.result (λ r. JoinsFrom m n c.args.operation v c.args.node 0 l r)
     (λ r. JoinsGroup m n c.args.operation c.args.node l r)
-    (λ r h. joins_group m n c.join_from.ensures.table c.args.operation c.root-root.result v c.args.node r l
+    (λ r h. joins_group m n c.join_from-joined.ensures.table c.args.operation c.root-root.result v c.args.node r l
     (c.root-root.ensures.root ∙ ap number_of c.vtree.ensures.vtree)
     (λ d k. below_shown m c.vtree.ensures.table v c.args.node c.lowest_over-over.ensures.node d k.shows) h)
-    c.join_from.ensures.ok
+    c.join_from-joined.ensures.ok
 
 pub returns-clause-grown : goal.returns-clause-grown
 returns-clause-grown c =
-    grows_group c.args.m.now c.join_from.new.m c.join_from.ensures.kept c.vtree.ensures.table.numbered
+    grows_group c.args.m.now c.join_from-joined.new.m c.join_from-joined.ensures.kept c.vtree.ensures.table.numbered
     c.lowest_over-over.result c.args.node c.args.literals.now c.lowest_over-over.ensures.lowest
-    c.join_from.ensures.grown
+    c.join_from-joined.ensures.grown
 
-pub returns-clause-serves : goal.returns-clause-serves
-returns-clause-serves c =
-    serves_on c.args.c.now c.args.m.now c.join_from.new.m c.join_from.ensures.kept c.requires.serves
+pub give_back-requires-clause-serves : goal.give_back-requires-clause-serves
+give_back-requires-clause-serves c =
+    serves_on c.lent-recent.new.c c.args.m.now c.join_from-joined.new.m c.join_from-joined.ensures.kept
+    c.lent-recent.ensures.serves
