@@ -17,7 +17,7 @@ use Rattle.sd_formula.specs.Dimacs.{Groups}
 use Rattle.sd_vtree.specs.Numbered.{plain_tree, IsNumbered}
 use Rattle.sd_laws.proofs.Codes.{one_diagram}
 use Rattle.sd_laws.proofs.Lists.{IsAmong}
-use Rattle.sd_cache.specs.Entries.{Entries}
+use Rattle.sd_cache.specs.Entries.{Answers}
 use Rattle.sd_manager.specs.Table.{Table}
 use Rattle.sd_manager.specs.Shown.{ShowsCanonical}
 use Rattle.sd_manager.specs.Marking.{AreUnmarked}
@@ -171,7 +171,7 @@ module _ (input : Groups) (seen : State) (code : RunState) (work : CompiledPrefi
   law f n are total = total_formulas (without_root code.manager work.root) numbered f (formulas_of here) n are total
 
   -- it is added
-  pub grown_added : (t : Table) (cache : Entries) (new : CompiledPrefix)
+  pub grown_added : (t : Table) (cache : Answers) (new : CompiledPrefix)
       → KeepsOtherRoots code.manager t work.root → Serves cache t → AreUnmarked t → new.root ≡ work.root
       → new.groups ≡ work.groups + 1 → HoldsPrefix t input new
       → IsWithinLimit (without_root code.manager work.root) (prefix_of input (work.groups + 1)) code.limit
@@ -200,7 +200,7 @@ module _ (input : Groups) (seen : State) (code : RunState) (work : CompiledPrefi
       }
 
   -- or not, and all stays
-  pub not_added : (t : Table) (cache : Entries) (new : CompiledPrefix) → KeepsOtherRoots code.manager t work.root
+  pub not_added : (t : Table) (cache : Answers) (new : CompiledPrefix) → KeepsOtherRoots code.manager t work.root
       → Serves cache t → AreUnmarked t → new ≡ work → t.roots ≡ code.manager.roots
       → IsBrokenOff input seen (record code { manager = t; cache = cache }) new.root
   not_added t cache new kept serves unmarked same roots =
@@ -282,7 +282,7 @@ module _ (input : Groups) (seen : State) (code : RunState) (work : CompiledPrefi
       was.represents) was.holds.1)
 
   -- without the root the code represents the state over the tree that is there then
-  stands_beside : (t : Table) (cache : Entries) → KeepsRoots code.manager t → Serves cache t → AreUnmarked t
+  stands_beside : (t : Table) (cache : Answers) → KeepsRoots code.manager t → Serves cache t → AreUnmarked t
       → Represents (without (record code { manager = t; cache = cache }) work.root)
       (record seen { tree = plain_tree t.vtree })
   stands_beside t cache kept serves unmarked =
@@ -291,7 +291,7 @@ module _ (input : Groups) (seen : State) (code : RunState) (work : CompiledPrefi
       (record seen { tree = plain_tree code.manager.vtree }) was.represents
 
   -- it is done
-  pub grown_searched : (t : Table) (cache : Entries) (found : Found) → KeepsRoots code.manager t → Serves cache t
+  pub grown_searched : (t : Table) (cache : Answers) (found : Found) → KeepsRoots code.manager t → Serves cache t
       → AreUnmarked t → is_due seen.every work.groups ≡ true → plain_tree t.vtree ≡ found.tree
       → ((fs : List Expression) → AreHeldFormulas code.manager fs
       → IsSearch fs code.slack 1 (plain_tree code.manager.vtree) found)
@@ -335,7 +335,7 @@ module _ (input : Groups) (seen : State) (code : RunState) (work : CompiledPrefi
           }
 
   -- or it was broken off
-  pub growth_broken : (t : Table) (cache : Entries) → KeepsRoots code.manager t → Serves cache t → AreUnmarked t
+  pub growth_broken : (t : Table) (cache : Answers) → KeepsRoots code.manager t → Serves cache t → AreUnmarked t
       → is_due seen.every work.groups ≡ true
       → ((fs : List Expression) → AreHeldFormulas code.manager fs
       → IsSearchBegun fs code.slack 1 (plain_tree code.manager.vtree) (plain_tree t.vtree))

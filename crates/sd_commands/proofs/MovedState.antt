@@ -16,11 +16,12 @@ use Rattle.sd_vtree.specs.Numbered.{Numbered, plain_tree, numbers, IsNumbered}
 use Rattle.sd_vtree.specs.NumberedMoves.{moved_number}
 use Rattle.sd_laws.proofs.Evaluated.{value_of_shown}
 use Rattle.sd_laws.proofs.Lists.{IsAmong, IsWithin, first_at, second_at, all_weaker}
-use Rattle.sd_cache.specs.Entries.{Entries}
+use Rattle.sd_cache.specs.Entries.{Answers}
 use Rattle.sd_manager.specs.Table.{Table}
 use Rattle.sd_manager.specs.Valid.{IsTable}
 use Rattle.sd_manager.specs.Marking.{AreUnmarked}
 use Rattle.sd_apply.specs.Serving.{Serves}
+use Rattle.sd_apply.proofs.Served.{serves_beside}
 use Rattle.sd_sweep.specs.Reached.{reached_first, KeepsReached}
 use Rattle.sd_move.specs.Journal.{Journal, CanUndo, CanPutBack, HasLooseRun, CanSettle, IsSettledBy}
 use Rattle.sd_move.specs.Moves.{HasMoved, HasSizeAfter, IsMoved, IsMoveRefusal}
@@ -118,21 +119,11 @@ can_settle j t can = record {
 }
 
 -- the cache serves, whatever runs are loose or free
-serves_runs : (cache : Entries) (t new : Table) (loose : FinMap nat_cmp (List (ℕ × ℕ))) (free : FinMap nat_cmp ℕ)
+serves_runs : (cache : Answers) (t new : Table) (loose : FinMap nat_cmp (List (ℕ × ℕ))) (free : FinMap nat_cmp ℕ)
     → new ≡ record t { loose = loose; free = free } → Serves cache t → Serves cache new
-serves_runs cache t new loose free is serves = subst (Serves cache) (sym is) (record {
-  early = serves.early;
-  right = λ some e c same.
-      let was = serves.right some e c same in record {
-        served = was.served;
-        first = was.first;
-        second = was.second;
-        first_is = was.first_is;
-        second_is = was.second_is;
-        argument = was.argument;
-        answer = record { diagram = was.answer.diagram; is = was.answer.is; value = was.answer.value };
-      };
-})
+serves_runs cache t new loose free is serves =
+    subst (Serves cache) (sym is)
+    (serves_beside cache t (record t { loose = loose; free = free }) refl refl refl serves)
 
 module _ (code : RunState) (mid new : Table) (kind : Move) (place : ℕ) (j : Journal) (t : IsTable code.manager)
     (u : IsTable mid) (m : IsMoved code.manager mid kind place j) (settled : IsSettledBy mid new j)
@@ -168,7 +159,7 @@ module _ (code : RunState) (mid new : Table) (kind : Move) (place : ℕ) (j : Jo
   roots_moved = ap (λ s. s.roots) settled.same ∙ m.roots
 
   -- the code represents the state with the moved tree
-  pub stands_moved : (cache : Entries) (seen : State) → Serves cache mid → AreUnmarked mid → Represents code seen
+  pub stands_moved : (cache : Answers) (seen : State) → Serves cache mid → AreUnmarked mid → Represents code seen
       → Represents (record code { manager = new; cache = cache }) (record seen { tree = plain_tree mid.vtree })
   stands_moved cache seen serves unmarked was = record {
     tree = ap (λ s. plain_tree s.vtree) (sym settled.same);
@@ -256,7 +247,7 @@ module _ (input : Groups) (code : RunState) (seen : State) (kind : Move) (p plac
   turn_stops new refusals.OutOfMemory numbered bound h = tt
 
 -- all is as before a move that was refused
-pub as_before_refused : (code : RunState) (t : Table) (cache : Entries) → KeepsReached code.manager t
+pub as_before_refused : (code : RunState) (t : Table) (cache : Answers) → KeepsReached code.manager t
     → t.bound ≡ code.manager.bound → t.moving ≡ None → code.manager.moving ≡ None → Serves cache t → AreUnmarked t
     → IsAsBefore code (record code { manager = t; cache = cache })
 as_before_refused code t cache kept bound still was serves unmarked =

@@ -7,7 +7,7 @@ use Rattle.sd_model.specs.Diagram.{meaning}
 use Rattle.sd_model.specs.Expression.{Expression}
 use Rattle.sd_vtree.specs.Numbered.{plain_tree, IsNumbered}
 use Rattle.sd_laws.proofs.Codes.{one_diagram}
-use Rattle.sd_cache.specs.Entries.{Entries}
+use Rattle.sd_cache.specs.Entries.{Answers}
 use Rattle.sd_manager.specs.Table.{Table}
 use Rattle.sd_manager.specs.Marking.{AreUnmarked}
 use Rattle.sd_apply.specs.Serving.{Serves}
@@ -34,7 +34,7 @@ search_valid valid (no_round size) = valid
 search_valid valid (last_round size round after no_less) = round_valid valid round
 search_valid valid (further_round size round less more) = search_valid (round_valid valid round) more
 
-module _ (code : RunState) (t : Table) (cache : Entries) (numbered : IsNumbered code.manager.vtree)
+module _ (code : RunState) (t : Table) (cache : Answers) (numbered : IsNumbered code.manager.vtree)
     (kept : KeepsRoots code.manager t) (serves : Serves cache t) (unmarked : AreUnmarked t) where
   -- a root holds its formula still
   value_searched : (root : ℕ) (f : Expression) → HoldsValue code.manager root f → HoldsValue t root f

@@ -16,11 +16,13 @@ use Rattle.sd_model.specs.Expression.{Expression, Constant}
 use Rattle.sd_model.specs.Size.{IsDiagramOf}
 use Rattle.sd_model.specs.Tree.{AreDistinct}
 use Rattle.sd_vtree.specs.Numbered.{Numbered, plain_tree}
-use Rattle.sd_cache.specs.Entries.{Call, Entries}
+use Rattle.sd_cache.specs.Entries.{Answers, no_answers}
 use Rattle.sd_manager.specs.Table.{Table, no_table}
 use Rattle.sd_manager.specs.Shown.{ShowsCanonical, HoldsDiagram}
 use Rattle.sd_manager.specs.Making.{Extends, with_root, without_root}
 use Rattle.sd_apply.specs.Serving.{Serves}
+use Rattle.sd_apply.proofs.Served.{serves_beside}
+use Rattle.sd_apply.proofs.Tried.{empty_serves}
 use Rattle.sd_commands.specs.Commands.{State, named, with_name, dropped, formula_named}
 use Rattle.sd_commands.specs.Standing.{Represents, IsOfName, HoldsName, HoldsValue, ShowsFormula, start, names_of}
 use Rattle.sd_formula.specs.Dimacs.{Groups}
@@ -37,13 +39,9 @@ use Rattle.sd_compile.proofs.Kept.{all_extended, released_all}
 
 -- ---- the start
 
--- an empty cache has no entry
-none : (e : Call × ℕ) → Contains [] e → ⊥
-none e c = omega (arith, c.1)
-
 -- a new manager and no names hold the start
 pub stands_first : (code : RunState) (vtree : Numbered) (limit slack : ℕ) (every : Option ℕ)
-    → code.manager ≡ no_table vtree 2147483647 → code.cache ≡ [] → code.names.entries ≡ [] → code.limit ≡ limit
+    → code.manager ≡ no_table vtree 2147483647 → code.cache ≡ no_answers → code.names.entries ≡ [] → code.limit ≡ limit
     → code.slack ≡ slack → code.every ≡ every → Represents code (start (plain_tree vtree) limit slack every)
 stands_first code vtree limit slack every is empty_ no_names same_limit same_slack same_every = record {
   tree = ap (λ t. plain_tree t.vtree) (sym is);
@@ -54,8 +52,7 @@ stands_first code vtree limit slack every is empty_ no_names same_limit same_sla
   holds = λ name. subst (λ r. HoldsName code.manager r None) (sym (no_root name)) tt;
   apart = λ a b root first second. let bad : ◌≡◌ {A = Option ℕ} None (Some root) = sym (no_root a) ∙ first in absurd cc;
   only = λ root held. absurd (none_held root held);
-  serves = subst (λ c. Serves c code.manager) (sym empty_)
-      (record { early = λ e c. absurd (none e c); right = λ some e c same. absurd (none e c) });
+  serves = empty_serves code.cache code.manager empty_;
   bound = ap (λ t. t.bound) is;
   no_move = ap (λ t. t.moving) is;
   unmarked = subst AreUnmarked (sym is) (unmarked_new vtree 2147483647);
@@ -155,21 +152,9 @@ fewer_removed roots (Some root) = at _ (len-remove nat_cmp_total roots root)
     at false e = omega (arith, e)
 
 -- the cache serves, whatever the roots hold
-pub serves_roots : (cache : Entries) (t : Table) (roots : FinMap nat_cmp ℕ) → Serves cache t
+pub serves_roots : (cache : Answers) (t : Table) (roots : FinMap nat_cmp ℕ) → Serves cache t
     → Serves cache (record t { roots = roots })
-serves_roots cache t roots serves = record {
-  early = serves.early;
-  right = λ some e c same.
-      let was = serves.right some e c same in record {
-        served = was.served;
-        first = was.first;
-        second = was.second;
-        first_is = was.first_is;
-        second_is = was.second_is;
-        argument = was.argument;
-        answer = record { diagram = was.answer.diagram; is = was.answer.is; value = was.answer.value };
-      };
-}
+serves_roots cache t roots serves = serves_beside cache t (record t { roots = roots }) refl refl refl serves
 
 -- two tests of one number
 is_at_eqb : (k q : ℕ) → is_at (nat_cmp k) q ≡ eqb k q
@@ -497,7 +482,7 @@ holds_kept old new (Some r) (Some value) kept holds = record {
 }
 
 -- the code represents the state in a later table, whatever the next sweep waits for
-pub stands_swept : (code : RunState) (t : Table) (cache : Entries) (most : ℕ) (seen : State) → Represents code seen
+pub stands_swept : (code : RunState) (t : Table) (cache : Answers) (most : ℕ) (seen : State) → Represents code seen
     → KeepsAll code.manager t → Serves cache t → AreUnmarked t
     → Represents (record code { manager = t; cache = cache; most = most }) seen
 stands_swept code t cache most seen was kept serves unmarked = record {
@@ -520,14 +505,14 @@ stands_swept code t cache most seen was kept serves unmarked = record {
         → IsOfName (record code { manager = t; cache = cache; most = most }) root
     of_name root had = record { name = had.name; is = had.is }
 
-pub stands_kept : (code : RunState) (t : Table) (cache : Entries) (seen : State) → Represents code seen
+pub stands_kept : (code : RunState) (t : Table) (cache : Answers) (seen : State) → Represents code seen
     → KeepsAll code.manager t → Serves cache t → AreUnmarked t
     → Represents (record code { manager = t; cache = cache }) seen
 stands_kept code t cache seen was kept serves unmarked =
     stands_swept code t cache code.most seen was kept serves unmarked
 
 -- and after more nodes were made
-pub stands_on : (code : RunState) (t : Table) (cache : Entries) (seen : State) → Represents code seen
+pub stands_on : (code : RunState) (t : Table) (cache : Answers) (seen : State) → Represents code seen
     → Extends code.manager t → Serves cache t → Represents (record code { manager = t; cache = cache }) seen
 stands_on code t cache seen was kept serves =
     stands_kept code t cache seen was (all_extended code.manager t kept) serves
@@ -587,7 +572,7 @@ as_before_self code (Ok x) = tt
 as_before_self code (Err e) = as_before code code refl refl refl refl refl (λ q. refl)
 
 -- a later table leaves all as before
-pub as_before_kept : (code : RunState) (t : Table) (cache : Entries) → KeepsAll code.manager t → Serves cache t
+pub as_before_kept : (code : RunState) (t : Table) (cache : Answers) → KeepsAll code.manager t → Serves cache t
     → AreUnmarked t → IsAsBefore code (record code { manager = t; cache = cache })
 as_before_kept code t cache kept serves unmarked = record {
   represents = λ seen was. stands_kept code t cache seen was kept serves unmarked;
@@ -596,7 +581,7 @@ as_before_kept code t cache kept serves unmarked = record {
 }
 
 -- so does making nodes
-pub as_before_on : (code : RunState) (t : Table) (cache : Entries) → Extends code.manager t → Serves cache t
+pub as_before_on : (code : RunState) (t : Table) (cache : Answers) → Extends code.manager t → Serves cache t
     → IsAsBefore code (record code { manager = t; cache = cache })
 as_before_on code t cache kept serves = record {
   represents = λ seen was. stands_on code t cache seen was kept serves;
@@ -618,7 +603,7 @@ before_then (Ok x) code mid new first later = tt
 before_then (Err e) code mid new first later = before_both code mid new first later
 
 -- and after nodes were made
-pub as_before_then : {X E : Type 0} (result : Result X E) (code new : RunState) (t : Table) (cache : Entries)
+pub as_before_then : {X E : Type 0} (result : Result X E) (code new : RunState) (t : Table) (cache : Answers)
     → Extends code.manager t → Serves cache t
     → OnErr result (IsAsBefore (record code { manager = t; cache = cache }) new)
     → OnErr result (IsAsBefore code new)
@@ -629,7 +614,7 @@ as_before_then result code new t cache kept serves later =
 -- ---- a formula was compiled into a new root
 
 -- without it the code represents what it did
-pub stands_compiled : (code : RunState) (t : Table) (cache : Entries) (root : ℕ) (seen : State) → Represents code seen
+pub stands_compiled : (code : RunState) (t : Table) (cache : Answers) (root : ℕ) (seen : State) → Represents code seen
     → get code.manager.roots root ≡ None → KeepsOtherRoots code.manager t root → Serves cache t → AreUnmarked t
     → Represents (without (record code { manager = t; cache = cache }) root) seen
 stands_compiled code t cache root seen was absent kept serves unmarked =
@@ -638,7 +623,7 @@ stands_compiled code t cache root seen was absent kept serves unmarked =
     (serves_roots cache t (remove t.roots root) serves) unmarked
 
 -- and all is as before
-pub as_before_compiled : (code : RunState) (t : Table) (cache : Entries) (root : ℕ) → get code.manager.roots root ≡ None
+pub as_before_compiled : (code : RunState) (t : Table) (cache : Answers) (root : ℕ) → get code.manager.roots root ≡ None
     → KeepsOtherRoots code.manager t root → Serves cache t → AreUnmarked t
     → IsAsBefore code (without (record code { manager = t; cache = cache }) root)
 as_before_compiled code t cache root absent kept serves unmarked =

@@ -14,7 +14,7 @@ use Rattle.sd_manager.specs.Table.{Table}
 use Rattle.sd_manager.specs.Shown.{ShowsCanonical, constant_diagram}
 use Rattle.sd_manager.specs.Valid.{IsTable}
 use Rattle.sd_manager.specs.Making.{Extends, with_root, without_root}
-use Rattle.sd_cache.specs.Entries.{Entries}
+use Rattle.sd_cache.specs.Entries.{Answers}
 use Rattle.sd_apply.specs.Answers.{HasAnswer}
 use Rattle.sd_apply.specs.Serving.{Serves}
 use Rattle.sd_sweep.specs.Reached.{KeepsReached}
@@ -177,7 +177,7 @@ new_refused old mid last new f work limit e b is h =
     released OutOfMemory h = tt
 
 -- so do the cache's answers
-pub new_serves : (c : Entries) (last new : Table) (root : ℕ) → new ≡ without_root last root → Serves c last →
+pub new_serves : (c : Answers) (last new : Table) (root : ℕ) → new ≡ without_root last root → Serves c last →
     Serves c new
 new_serves c last new root is h = subst (Serves c) (sym is) (serves_roots c last (remove last.roots root) h)
 

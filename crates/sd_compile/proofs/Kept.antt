@@ -13,7 +13,7 @@ use Rattle.sd_model.specs.Tree.{leaves}
 use Rattle.sd_vtree.specs.Numbered.{Numbered, plain_tree}
 use Rattle.sd_laws.specs.Shown.{Shows as ShowsBy}
 use Rattle.sd_laws.proofs.Within.{shows_within}
-use Rattle.sd_cache.specs.Entries.{Entries}
+use Rattle.sd_cache.specs.Entries.{Answers}
 use Rattle.sd_manager.specs.Table.{Table}
 use Rattle.sd_manager.specs.Shown.{ShowsCanonical, IsNodeOf, HoldsDiagram}
 use Rattle.sd_manager.specs.Making.{Extends, IsPastBound, with_root, without_root}
@@ -21,6 +21,7 @@ use Rattle.sd_manager.specs.Moving.{IsLater}
 use Rattle.sd_manager.proofs.Totals.{left_was}
 use Rattle.sd_apply.specs.Answers.{HasAnswer}
 use Rattle.sd_apply.specs.Serving.{Serves, last_epoch}
+use Rattle.sd_apply.proofs.Served.{serves_beside, serves_past}
 use Rattle.sd_sweep.specs.Reached.{reached_first, reached_below, IsReached, IsSwept, HasUnreached, KeepsReached}
 use Rattle.sd_sweep.proofs.Keeping.{keeps_both, keeps_swept, keeps_extended}
 use Rattle.sd_manager.specs.Marking.{AreUnmarked}
@@ -341,50 +342,21 @@ released_all old mid new root again absent k same is =
 -- ---- the cache
 
 -- it serves after a sweep
-pub serves_swept : (c : Entries) (old new : Table) → old.epoch ≤ last_epoch → IsSwept old new → Serves c old →
+pub serves_swept : (c : Answers) (old new : Table) → old.epoch ≤ last_epoch → IsSwept old new → Serves c old →
     Serves c new
 serves_swept c old new last s h = go s.changed
   where
-    by_later : IsLater old new → Serves c new
-    by_later (inl less) =
-        record {
-          early = λ e has. omega (arith, h.early e has, less);
-          right = λ some e has same. absurd (omega (arith, h.early e has, less, same));
-        }
-    by_later (inr is) =
-        record {
-          early = λ e has. omega (arith, h.early e has, last, is);
-          right = λ some e has same. absurd (some is);
-        }
-
     go : (new ≡ old) ⊎ (IsLater old new × HasUnreached old) → Serves c new
     go (inl same) = subst (Serves c) (sym same) h
-    go (inr k) = by_later k.0
+    go (inr k) = serves_past c old new last k.0 h
 
 -- whatever the roots hold
-pub serves_roots : (c : Entries) (t : Table) (roots : FinMap nat_cmp ℕ) → Serves c t →
+pub serves_roots : (c : Answers) (t : Table) (roots : FinMap nat_cmp ℕ) → Serves c t →
     Serves c (record t { roots = roots })
-serves_roots c t roots serves =
-    record {
-      early = serves.early;
-      right = λ some e has same.
-          let was = serves.right some e has same in record {
-            served = was.served;
-            first = was.first;
-            second = was.second;
-            first_is = record { shows = was.first_is.shows; canonical = was.first_is.canonical };
-            second_is = record { shows = was.second_is.shows; canonical = was.second_is.canonical };
-            argument = was.argument;
-            answer = record {
-              diagram = was.answer.diagram;
-              is = record { shows = was.answer.is.shows; canonical = was.answer.is.canonical };
-              value = was.answer.value;
-            };
-          };
-    }
+serves_roots c t roots serves = serves_beside c t (record t { roots = roots }) refl refl refl serves
 
 -- so where one holds another node
-pub serves_rebound : (c : Entries) (t v : Table) (root node : ℕ) → v ≡ with_root t root node → Serves c t → Serves c v
+pub serves_rebound : (c : Answers) (t v : Table) (root node : ℕ) → v ≡ with_root t root node → Serves c t → Serves c v
 serves_rebound c t v root node e h = subst (Serves c) (sym e) (serves_roots c t (insert t.roots root node) h)
 
 -- ---- marks

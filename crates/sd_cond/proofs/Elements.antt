@@ -1,10 +1,10 @@
 -- Elements where a variable has a value: one more, all of them, and the node that they make.
 use Rattle.std.proofs.Common.{◌≡◌, ℕ, ◌+◌, ◌≤◌, ◌<◌, Bool, false, cond, List, [], ◌∷◌, ◌++◌}
-use Rattle.std.proofs.Common.{length, take, get_or, Option, refl, sym, ◌∙◌, ap, subst}
+use Rattle.std.proofs.Common.{length, take, get_or, refl, sym, ◌∙◌, ap, subst}
 use Rattle.std.proofs.Common.{append-nil}
 use Rattle.sd_model.specs.Assignment.{with_value}
 use Rattle.sd_model.specs.Diagram.{Diagram, meaning}
-use Rattle.sd_cache.specs.Entries.{Entries}
+use Rattle.sd_cache.specs.Entries.{Answers}
 use Rattle.sd_laws.specs.Pairs.{answers}
 use Rattle.sd_manager.specs.Table.{Table}
 use Rattle.sd_manager.specs.Shown.{ShowsCanonical, IsPartitionAt}
@@ -31,7 +31,7 @@ use Rattle.sd_cond.proofs.Answering.{conditioned_under}
 use Rattle.sd_cond.proofs.Steps.{IsStep, InPairs}
 
 -- no element yet
-pub pairs_none : (t : Table) (kept : KeptAnswers) (c : Entries) (x : ℕ) (s : Bool) (u w : ℕ)
+pub pairs_none : (t : Table) (kept : KeptAnswers) (c : Answers) (x : ℕ) (s : Bool) (u w : ℕ)
     (l : List (ℕ × ℕ)) → IsTable t → AreAnswers t (conditioned x s) kept → Serves c t →
     InPairs t t kept c x s u w l [] 0
 pairs_none t kept c x s u w l i k serves = record {
@@ -46,7 +46,7 @@ pairs_none t kept c x s u w l i k serves = record {
 }
 
 -- one whose prime is false
-pub pairs_skip : (m0 m m1 : Table) (k k1 : KeptAnswers) (c c1 : Entries) (x : ℕ) (s : Bool) (u w : ℕ)
+pub pairs_skip : (m0 m m1 : Table) (k k1 : KeptAnswers) (c c1 : Answers) (x : ℕ) (s : Bool) (u w : ℕ)
     (l r : List (ℕ × ℕ)) (i : ℕ) (e : ℕ × ℕ) (prime : ℕ) → InPairs m0 m k c x s u w l r i →
     IsStep m m1 (conditioned x s) k1 c1 u w → i < length l → ◌≡◌ {A = ℕ × ℕ} e (get_or l i (0, 0)) →
     AnswersOf m m1 (conditioned x s) e.0 prime → prime ≡ 0 → InPairs m0 m1 k1 c1 x s u w l r (i + 1)
@@ -79,7 +79,7 @@ pairs_skip m0 m m1 k k1 c c1 x s u w l r i e prime h n lt at p none = record {
 }
 
 -- one with a prime that is not false
-pub pairs_push : (m0 m m1 m2 : Table) (k k1 k2 : KeptAnswers) (c c1 c2 : Entries) (x : ℕ) (s : Bool)
+pub pairs_push : (m0 m m1 m2 : Table) (k k1 k2 : KeptAnswers) (c c1 c2 : Answers) (x : ℕ) (s : Bool)
     (u w : ℕ) (l r r2 : List (ℕ × ℕ)) (i : ℕ) (e : ℕ × ℕ) (prime sub : ℕ) → 1 ≤ x →
     InPairs m0 m k c x s u w l r i → IsStep m m1 (conditioned x s) k1 c1 u w →
     IsStep m1 m2 (conditioned x s) k2 c2 u w → i < length l → ◌≡◌ {A = ℕ × ℕ} e (get_or l i (0, 0)) →
@@ -137,7 +137,7 @@ pairs_push m0 m m1 m2 k k1 k2 c c1 c2 x s u w l r r2 i e prime sub low h n n2 lt
     }
 
 -- all of them
-pub pairs_done : (m0 m : Table) (k : KeptAnswers) (c : Entries) (x : ℕ) (s : Bool) (u w : ℕ)
+pub pairs_done : (m0 m : Table) (k : KeptAnswers) (c : Answers) (x : ℕ) (s : Bool) (u w : ℕ)
     (l r : List (ℕ × ℕ)) (i : ℕ) → InPairs m0 m k c x s u w l r i → length l ≤ i → i ≤ length l →
     FixesPairs m0 m x s u w l r
 pairs_done m0 m k c x s u w l r i h lo hi = record {

@@ -1,6 +1,6 @@
 -- Forgetting: at constants and literals, at a node without the variable, and in the subs of elements.
 use Rattle.std.proofs.Common.{◌≡◌, ◌≢◌, ℕ, ◌+◌, ◌≤◌, ◌<◌, ◌/◌, ◌%◌, Bool, true, false, ◌||◌, cond}
-use Rattle.std.proofs.Common.{List, [], ◌∷◌, ◌++◌, length, take, get_or, Option, Some, suc, arith}
+use Rattle.std.proofs.Common.{List, [], ◌∷◌, ◌++◌, length, take, get_or, Some, suc, arith}
 use Rattle.std.proofs.Common.{refl, sym, ◌∙◌, ap, subst, nat_eq, append-nil, append_assoc}
 use mathlib.Core.Bool.{beq}
 use Rattle.std.specs.List.{AllZip}
@@ -9,7 +9,7 @@ use Rattle.sd_model.specs.Assignment.{with_value}
 use Rattle.sd_model.specs.Diagram.{Diagram, Top, meaning}
 use Rattle.sd_model.specs.Canonical.{IsCanonical, canonical_top}
 use Rattle.sd_vtree.specs.Numbered.{Numbered, plain_tree, variable_at, IsUnder}
-use Rattle.sd_cache.specs.Entries.{Entries}
+use Rattle.sd_cache.specs.Entries.{Answers}
 use Rattle.sd_laws.specs.Pairs.{answers}
 use Rattle.sd_manager.specs.Table.{Table}
 use Rattle.sd_manager.specs.Shown.{ShowsCanonical, IsNodeOf}
@@ -140,7 +140,7 @@ take_by f a t u w e ds i d h =
     ap (λ k. answers_by f a (take k ds)) next ∙ ap (answers_by f a) h.more ∙ by_push f a (take i ds) d
 
 -- no element yet
-pub subs_none : (t : Table) (kept yes_kept no_kept : KeptAnswers) (c : Entries) (x u w : ℕ)
+pub subs_none : (t : Table) (kept yes_kept no_kept : KeptAnswers) (c : Answers) (x u w : ℕ)
     (l : List (ℕ × ℕ)) → IsTable t → AreAnswers t (forgotten x) kept →
     AreAnswers t (conditioned x true) yes_kept → AreAnswers t (conditioned x false) no_kept → Serves c t →
     InSubs t t kept yes_kept no_kept c x u w l [] 0
@@ -158,7 +158,7 @@ subs_none t kept yes_kept no_kept c x u w l i k ky kn serves = record {
 }
 
 -- one more
-pub subs_next : (m0 m m1 : Table) (k ky kn k1 ky1 kn1 : KeptAnswers) (c c1 : Entries) (x u w : ℕ)
+pub subs_next : (m0 m m1 : Table) (k ky kn k1 ky1 kn1 : KeptAnswers) (c c1 : Answers) (x u w : ℕ)
     (l r r1 : List (ℕ × ℕ)) (i : ℕ) (e : ℕ × ℕ) (sub : ℕ) → 1 ≤ x →
     InSubs m0 m k ky kn c x u w l r i → IsStep m m1 (forgotten x) k1 c1 u w →
     AreAnswers m1 (conditioned x true) ky1 → AreAnswers m1 (conditioned x false) kn1 →
@@ -204,7 +204,7 @@ subs_next m0 m m1 k ky kn k1 ky1 kn1 c c1 x u w l r r1 i e sub low h n yes_known
 }
 
 -- all of them
-pub subs_done : (m0 m : Table) (k ky kn : KeptAnswers) (c : Entries) (x u w : ℕ)
+pub subs_done : (m0 m : Table) (k ky kn : KeptAnswers) (c : Answers) (x u w : ℕ)
     (l r : List (ℕ × ℕ)) (i : ℕ) → InSubs m0 m k ky kn c x u w l r i → length l ≤ i → i ≤ length l →
     ForgetsSubs m0 m x u w l r
 subs_done m0 m k ky kn c x u w l r i h lo hi = record {

@@ -7,7 +7,7 @@ use Rattle.sd_model.specs.Assignment.{with_value}
 use Rattle.sd_model.specs.Tree.{leaves}
 use Rattle.sd_model.specs.Diagram.{Literal, meaning}
 use Rattle.sd_vtree.specs.Numbered.{plain_tree}
-use Rattle.sd_cache.specs.Entries.{Entries, call, is_call}
+use Rattle.sd_cache.specs.Entries.{Answers, call, is_call}
 use Rattle.sd_laws.specs.Shown.{literal_code}
 use Rattle.sd_laws.proofs.Codes.{one_diagram}
 use Rattle.sd_laws.proofs.Numbers.{leaf_of_vtree}
@@ -89,12 +89,12 @@ given_right old new ext epoch a c n b r z x s en eb ez literal node h =
     })
 
 -- an answer that was looked up
-pub looked_given : (c : Entries) (t : Table) (epoch a l n r x : ℕ) (s : Bool) → IsTable t → Serves c t →
+pub looked_given : (c : Answers) (t : Table) (epoch a l n r x : ℕ) (s : Bool) → IsTable t → Serves c t →
     epoch ≡ t.epoch → n ≡ a → LiteralAt t l x s → epoch < 72057594037927936 →
-    Some r ≡ lookup (is_call (call epoch 4 n l)) c → AnswersOf t t (conditioned x s) a r
+    Some r ≡ lookup (is_call (call epoch 4 n l)) c.entries → AnswersOf t t (conditioned x s) a r
 looked_given c t epoch a l n r x s i h ee en literal early e =
-    let found : lookup (is_call (call t.epoch 4 n l)) c ≡ Some r =
-    sym (e ∙ ap (λ z. lookup (is_call (call z 4 n l)) c) ee) in
+    let found : lookup (is_call (call t.epoch 4 n l)) c.entries ≡ Some r =
+    sym (e ∙ ap (λ z. lookup (is_call (call z 4 n l)) c.entries) ee) in
     right_given t i t.epoch a l n l r x s en refl literal
     (looked_right c t 4 n l r h (omega (arith, early, ee)) found)
 
@@ -142,11 +142,11 @@ forget_right old new ext epoch a c n b r z x en eb ez literal node h =
       answer = record { diagram = k.diagram; is = k.is; value = k.value };
     })
 
-pub looked_forget : (c : Entries) (t : Table) (epoch a l n r x : ℕ) → IsTable t → Serves c t →
+pub looked_forget : (c : Answers) (t : Table) (epoch a l n r x : ℕ) → IsTable t → Serves c t →
     epoch ≡ t.epoch → n ≡ a → LiteralAt t l x true → epoch < 72057594037927936 →
-    Some r ≡ lookup (is_call (call epoch 5 n l)) c → AnswersOf t t (forgotten x) a r
+    Some r ≡ lookup (is_call (call epoch 5 n l)) c.entries → AnswersOf t t (forgotten x) a r
 looked_forget c t epoch a l n r x i h ee en literal early e =
-    let found : lookup (is_call (call t.epoch 5 n l)) c ≡ Some r =
-    sym (e ∙ ap (λ z. lookup (is_call (call z 5 n l)) c) ee) in
+    let found : lookup (is_call (call t.epoch 5 n l)) c.entries ≡ Some r =
+    sym (e ∙ ap (λ z. lookup (is_call (call z 5 n l)) c.entries) ee) in
     right_forget t i t.epoch a l n l r x en refl literal
     (looked_right c t 5 n l r h (omega (arith, early, ee)) found)

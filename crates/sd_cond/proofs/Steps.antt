@@ -1,8 +1,8 @@
 -- What the loops of the operations know.
-use Rattle.std.proofs.Common.{ℕ, Bool, true, false, List, take, Option}
+use Rattle.std.proofs.Common.{ℕ, Bool, true, false, List, take}
 use Rattle.sd_model.specs.Assignment.{with_value}
 use Rattle.sd_model.specs.Diagram.{Diagram}
-use Rattle.sd_cache.specs.Entries.{Entries}
+use Rattle.sd_cache.specs.Entries.{Answers}
 use Rattle.sd_laws.specs.Pairs.{answers}
 use Rattle.sd_manager.specs.Table.{Table}
 use Rattle.sd_manager.specs.Making.{Extends}
@@ -15,7 +15,7 @@ use Rattle.sd_cond.specs.declared.kept.KeptAnswers.{KeptAnswers}
 use Rattle.sd_cond.specs.Kept.{AreAnswers}
 
 -- what each call leaves, where new nodes stand below u or w
-pub record IsStep (old new : Table) (f : Diagram → List Bool → Bool) (kept : KeptAnswers) (c : Entries)
+pub record IsStep (old new : Table) (f : Diagram → List Bool → Bool) (kept : KeptAnswers) (c : Answers)
     (u w : ℕ) : Type 0 where
   pub extends : Extends old new
   pub knows : AreAnswers new f kept
@@ -24,14 +24,14 @@ pub record IsStep (old new : Table) (f : Diagram → List Bool → Bool) (kept :
   pub grown : GrowsBelowEither old new u w
 
 -- the first i elements where the variable x has the value s, without those whose prime is false
-pub record InPairs (old new : Table) (kept : KeptAnswers) (c : Entries) (x : ℕ) (s : Bool) (u w : ℕ)
+pub record InPairs (old new : Table) (kept : KeptAnswers) (c : Answers) (x : ℕ) (s : Bool) (u w : ℕ)
     (l r : List (ℕ × ℕ)) (i : ℕ) : Type 0 where
   pub step : IsStep old new (conditioned x s) kept c u w
   pub pairs : (ds : List (Diagram × Diagram)) → ListsElements old u w l ds →
       HasList new u w r (λ a. answers (with_value a x s) (take i ds))
 
 -- the first i elements with the variable x forgotten in their subs
-pub record InSubs (old new : Table) (kept with_true with_false : KeptAnswers) (c : Entries) (x u w : ℕ)
+pub record InSubs (old new : Table) (kept with_true with_false : KeptAnswers) (c : Answers) (x u w : ℕ)
     (l r : List (ℕ × ℕ)) (i : ℕ) : Type 0 where
   pub step : IsStep old new (forgotten x) kept c u w
   pub knows_true : AreAnswers new (conditioned x true) with_true

@@ -4,13 +4,14 @@ use Rattle.std.proofs.Common.{if◌then◌else◌, refl, sym, ◌∙◌, ap, sub
 use Rattle.std.proofs.lemmas.Bool.Decides.{nat_tests}
 use Rattle.sd_runs.proofs.Maps.{get_insert_same}
 use Rattle.sd_model.specs.Diagram.{Diagram}
-use Rattle.sd_cache.specs.Entries.{Entries}
+use Rattle.sd_cache.specs.Entries.{Answers}
 use Rattle.sd_manager.specs.Table.{Table}
 use Rattle.sd_manager.specs.Shown.{IsNodeOf, HoldsDiagram}
 use Rattle.sd_manager.specs.Making.{with_root}
 use Rattle.sd_manager.specs.Moving.{next_epoch}
 use Rattle.sd_manager.specs.Retiring.{IsRetired}
 use Rattle.sd_apply.specs.Serving.{Serves}
+use Rattle.sd_apply.proofs.Served.{serves_past}
 
 -- the next epoch is one more, or the last
 next_cases : (e : ℕ) → e ≤ 18446744073709551615 →
@@ -25,21 +26,15 @@ next_cases e h = go (nat_lt e 18446744073709551615) refl
         inr (ap (λ b. if b then e + 1 else e) z ∙ last)
 
 -- then no kept answer is of the manager's epoch, or that is the last one
-pub serves_retired : (c : Entries) (old mid new : Table) (n : ℕ) → mid ≡ old → IsRetired mid new n →
+pub serves_retired : (c : Answers) (old mid new : Table) (n : ℕ) → mid ≡ old → IsRetired mid new n →
     old.epoch ≤ 18446744073709551615 → Serves c old → Serves c new
 serves_retired c old mid new n same h bound s =
     let e : new.epoch ≡ next_epoch old.epoch =
     ap (λ (t : Table). t.epoch) h.is ∙ ap (λ (t : Table). next_epoch t.epoch) same in
-    elim (next_cases old.epoch bound) [
-      | inl next ↦ record {
-        early = λ x m. omega (arith, s.early x m, e, next);
-        right = λ k x m z. absurd (omega (arith, s.early x m, e, next, z));
-      }
-      | inr last ↦ record {
-        early = λ x m. omega (arith, s.early x m, e, last, bound);
-        right = λ k x m z. absurd (k (e ∙ last));
-      }
-    ]
+    serves_past c old new bound (elim (next_cases old.epoch bound) [
+      | inl next ↦ inl (omega (arith, e, next))
+      | inr last ↦ inr (e ∙ last)
+    ]) s
 
 -- a root holds the diagram of the node that it was made for
 pub held_diagram : (t u : Table) (root c : ℕ) → u ≡ with_root t root c → IsNodeOf t c →

@@ -4,7 +4,7 @@ use Rattle.std.proofs.Common.{OnErr, append_assoc, append-nil, refl, sym, ◌∙
 use Rattle.std.specs.FinMap.{get}
 use Rattle.std.proofs.lemmas.Option.{none-some}
 use Rattle.sd_model.specs.Diagram.{Diagram}
-use Rattle.sd_cache.specs.Entries.{Call, Entries}
+use Rattle.sd_cache.specs.Entries.{Answers, Call}
 use Rattle.sd_laws.specs.Values.{Valuation}
 use Rattle.sd_laws.proofs.Codes.{shows_kept}
 use Rattle.sd_manager.specs.Table.{Table, key_at}
@@ -13,6 +13,7 @@ use Rattle.sd_manager.specs.Shown.{ShowsCanonical}
 use Rattle.sd_manager.specs.Valid.{IsTable}
 use Rattle.sd_apply.specs.Serving.{IsRight, Serves}
 use Rattle.sd_apply.specs.Recent.{Knows}
+use Rattle.sd_apply.proofs.Served.{serves_while}
 use Rattle.sd_apply.specs.declared.recent.Recent.{Recent}
 use Rattle.sd_apply.proofs.RightEntries.{knows_when}
 use Rattle.sd_move.specs.Journal.{Named}
@@ -50,13 +51,9 @@ right_still a b x es g e h =
     }
 
 -- and the cache serves the rewritten table
-pub serves_rewritten : (c : Entries) (a b : Table) (x : ℕ) (es : List Named) → AreRewritten a b x es → Serves c a →
+pub serves_rewritten : (c : Answers) (a b : Table) (x : ℕ) (es : List Named) → AreRewritten a b x es → Serves c a →
     Serves c b
-serves_rewritten c a b x es g h =
-    record {
-      early = λ e m. let k = h.early e m in omega (arith, g.epoch, k);
-      right = λ n e m k. right_still a b x es g e (h.right (λ q. n (g.epoch ∙ q)) e m (k ∙ g.epoch));
-    }
+serves_rewritten c a b x es g h = serves_while c a b g.epoch (right_still a b x es g) h
 
 -- and the table of answers knows it
 pub knows_rewritten : (r : Recent) (a b : Table) (x : ℕ) (es : List Named) → AreRewritten a b x es → Knows r a →
@@ -82,7 +79,7 @@ pub record IsRewriting (old now : Table) (place : ℕ) (numbers : List ℕ) (bef
   pub knows : Knows k now
 
 -- the cache serves, which is not asked
-pub serves_all : (c : Entries) (old now : Table) (place : ℕ) (numbers : List ℕ) (before after : List Named)
+pub serves_all : (c : Answers) (old now : Table) (place : ℕ) (numbers : List ℕ) (before after : List Named)
     (rest : List ℕ) → HasRewritten old now place numbers before after rest → Serves c old → Serves c now
 serves_all c old now place numbers before after rest h = serves_rewritten c old now place h.entries h.done
 

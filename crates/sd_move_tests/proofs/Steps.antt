@@ -7,7 +7,7 @@ use Rattle.std.specs.Option.{IsSome}
 use Rattle.std.specs.Ordering.{nat_cmp}
 use Rattle.std.specs.FinMap.{FinMap, get, len, len-empty}
 use Rattle.sd_runs.proofs.Maps.{get_insert_same, get_insert_other}
-use Rattle.sd_cache.specs.Entries.{Entries}
+use Rattle.sd_cache.specs.Entries.{Answers, no_answers}
 use Rattle.sd_vtree.specs.Numbered.{Numbered, or_else}
 use Rattle.sd_laws.proofs.Lists.{all_weaker}
 use Rattle.sd_manager.specs.Table.{Table, no_table}
@@ -16,6 +16,7 @@ use Rattle.sd_manager.specs.Making.{Extends, with_root}
 use Rattle.sd_manager.specs.Marking.{AreUnmarked}
 use Rattle.sd_manager.proofs.Marking.{unmarked_new, unmarked_extended}
 use Rattle.sd_apply.specs.Serving.{Serves, last_epoch}
+use Rattle.sd_apply.proofs.Served.{serves_beside as serves_same}
 use Rattle.sd_apply.proofs.Tried.{empty_serves}
 use Rattle.sd_manager.specs.Valid.{IsTable}
 use Rattle.sd_sweep.specs.Reached.{reached_first, IsReached, KeepsReached}
@@ -25,7 +26,7 @@ use Rattle.sd_move.proofs.ServesLater.{serves_later}
 use Rattle.sd_move_tests.specs.Ready.{IsFresh, IsReady, IsAlone}
 
 -- a new manager with a new cache
-pub fresh_new : (t : Table) (c : Entries) (v : Numbered) (bound : ℕ) → t ≡ no_table v bound → c ≡ [] → IsFresh t c
+pub fresh_new : (t : Table) (c : Answers) (v : Numbered) (bound : ℕ) → t ≡ no_table v bound → c ≡ no_answers → IsFresh t c
 fresh_new t c v bound is none =
     record {
       no_move = ap (λ (u : Table). u.moving) is;
@@ -35,7 +36,7 @@ fresh_new t c v bound is none =
     }
 
 -- new nodes leave a manager fresh
-pub fresh_on : (old new : Table) (c d : Entries) → IsFresh old c → Extends old new → Serves d new → IsFresh new d
+pub fresh_on : (old new : Table) (c d : Answers) → IsFresh old c → Extends old new → Serves d new → IsFresh new d
 fresh_on old new c d f x serves =
     record {
       no_move = x.moving ∙ f.no_move;
@@ -45,31 +46,18 @@ fresh_on old new c d f x serves =
     }
 
 -- none of its roots is held
-pub no_root : (t : Table) (c : Entries) → IsFresh t c → len t.roots ≡ 0
+pub no_root : (t : Table) (c : Answers) → IsFresh t c → len t.roots ≡ 0
 no_root t c f = ap len f.no_roots ∙ len-empty nat_cmp ℕ
 
 -- the cache serves, whatever is held, and whatever runs are loose or free
-serves_beside : (c : Entries) (t : Table) (roots free : FinMap nat_cmp ℕ) (loose : FinMap nat_cmp (List (ℕ × ℕ))) →
+serves_beside : (c : Answers) (t : Table) (roots free : FinMap nat_cmp ℕ) (loose : FinMap nat_cmp (List (ℕ × ℕ))) →
     Serves c t → Serves c (record t { roots = roots; loose = loose; free = free })
 serves_beside c t roots free loose serves =
-    record {
-      early = serves.early;
-      right = λ some e has same.
-          let was = serves.right some e has same in
-          record {
-            served = was.served;
-            first = was.first;
-            second = was.second;
-            first_is = was.first_is;
-            second_is = was.second_is;
-            argument = was.argument;
-            answer = record { diagram = was.answer.diagram; is = was.answer.is; value = was.answer.value };
-          };
-    }
+    serves_same c t (record t { roots = roots; loose = loose; free = free }) refl refl refl serves
 
 -- a root beside one that is held
 
-pub serves_held : (c : Entries) (t u : Table) (root code : ℕ) → u ≡ with_root t root code → Serves c t → Serves c u
+pub serves_held : (c : Answers) (t u : Table) (root code : ℕ) → u ≡ with_root t root code → Serves c t → Serves c u
 serves_held c t u root code is serves =
     subst (Serves c) (sym is) (serves_beside c t (with_root t root code).roots t.free t.loose serves)
 
@@ -79,7 +67,7 @@ node_held t u root code c is k = subst (λ v. IsNodeOf v c) (sym is) (record { d
 pub root_held : (t u : Table) (root code : ℕ) → u ≡ with_root t root code → get u.roots root ≡ Some code
 root_held t u root code is = ap (λ (w : Table). get w.roots root) is ∙ get_insert_same t.roots root code
 
-pub ready_held : (t u : Table) (c : Entries) (first second code : ℕ) → t.moving ≡ None → AreUnmarked t → Serves c t →
+pub ready_held : (t u : Table) (c : Answers) (first second code : ℕ) → t.moving ≡ None → AreUnmarked t → Serves c t →
     IsSome (get t.roots first) → get t.roots second ≡ None → u ≡ with_root t second code → IsReady u c first second
 ready_held t u c first second code rest unmarked serves held absent is =
     let other : first ≢ second =
@@ -95,7 +83,7 @@ ready_held t u c first second code rest unmarked serves held absent is =
     }
 
 -- a state stays ready where its roots stay
-pub ready_on : (old new : Table) (c d : Entries) (first second : ℕ) → IsReady old c first second →
+pub ready_on : (old new : Table) (c d : Answers) (first second : ℕ) → IsReady old c first second →
     new.roots ≡ old.roots → new.moving ≡ None → AreUnmarked new → Serves d new → IsReady new d first second
 ready_on old new c d first second r same rest unmarked serves =
     record {
@@ -107,7 +95,7 @@ ready_on old new c d first second r same rest unmarked serves =
     }
 
 -- so where the vtree is moved, or is not
-pub ready_moved : {A E : Type 0} (r : Result A E) (P : A → Type 0) (old new : Table) (c d : Entries)
+pub ready_moved : {A E : Type 0} (r : Result A E) (P : A → Type 0) (old new : Table) (c d : Answers)
     (first second : ℕ) → IsReady old c first second →
     ((a : A) → P a → (new.roots ≡ old.roots) × (new.moving ≡ None)) → IfOk r P →
     OnErr r (KeepsReached old new × (new.moving ≡ None)) → AreUnmarked new → Serves d new → IsReady new d first second
@@ -117,14 +105,14 @@ ready_moved (Err e) P old new c d first second r same moved back unmarked serves
     ready_on old new c d first second r back.0.roots back.1 unmarked serves
 
 -- so where a move is undone
-pub ready_back : (old new : Table) (c : Entries) (first second : ℕ) (j : Journal) → IsReady old c first second →
+pub ready_back : (old new : Table) (c : Answers) (first second : ℕ) (j : Journal) → IsReady old c first second →
     old.epoch ≤ last_epoch → Rollback j old new → (AreUnmarked old → AreUnmarked new) → IsReady new c first second
 ready_back old new c first second j r last b unmarked =
     ready_on old new c c first second r b.roots b.moving (unmarked r.unmarked)
     (serves_later c old new last b.later r.serves)
 
 -- and where it is settled
-pub ready_settled : (old new : Table) (c : Entries) (first second : ℕ) (j : Journal) → IsReady old c first second →
+pub ready_settled : (old new : Table) (c : Answers) (first second : ℕ) (j : Journal) → IsReady old c first second →
     IsSettledBy old new j → IsReady new c first second
 ready_settled old new c first second j r is =
     subst (λ t. IsReady t c first second) (sym is.same)

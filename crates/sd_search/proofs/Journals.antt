@@ -9,12 +9,13 @@ use Rattle.sd_model.specs.Tree.{leaves}
 use Rattle.sd_model.specs.declared.trees.Side.{Side}
 use Rattle.sd_vtree.specs.Numbered.{Numbered, plain_tree}
 use Rattle.sd_laws.proofs.Lists.{all_weaker}
-use Rattle.sd_cache.specs.Entries.{Entries}
+use Rattle.sd_cache.specs.Entries.{Answers}
 use Rattle.sd_manager.specs.Table.{Table}
 use Rattle.sd_manager.specs.Valid.{IsTable}
 use Rattle.sd_manager.specs.Making.{IsPastBound}
 use Rattle.sd_manager.specs.Marking.{AreUnmarked}
 use Rattle.sd_apply.specs.Serving.{Serves, last_epoch}
+use Rattle.sd_apply.proofs.Served.{serves_beside}
 use Rattle.sd_sweep.specs.Reached.{KeepsReached}
 use Rattle.sd_move.specs.Journal.{Named, Journal, CanUndo, CanPutBack, HasLooseRun, CanSettle, IsSettledBy, Rollback}
 use Rattle.sd_move.specs.Journal.{starts_of, without_runs}
@@ -34,21 +35,11 @@ use Rattle.sd_search.proofs.KeptRoots.{ShowsOn, shows_kept, shows_both, shows_mo
 -- ---- a table with other runs
 
 -- the cache serves, whatever runs are loose or free
-pub serves_runs : (cache : Entries) (t new : Table) (loose : FinMap nat_cmp (List (ℕ × ℕ))) (free : FinMap nat_cmp ℕ)
+pub serves_runs : (cache : Answers) (t new : Table) (loose : FinMap nat_cmp (List (ℕ × ℕ))) (free : FinMap nat_cmp ℕ)
     → new ≡ record t { loose = loose; free = free } → Serves cache t → Serves cache new
-serves_runs cache t new loose free is serves = subst (Serves cache) (sym is) (record {
-  early = serves.early;
-  right = λ some e c same.
-      let was = serves.right some e c same in record {
-        served = was.served;
-        first = was.first;
-        second = was.second;
-        first_is = was.first_is;
-        second_is = was.second_is;
-        argument = was.argument;
-        answer = record { diagram = was.answer.diagram; is = was.answer.is; value = was.answer.value };
-      };
-})
+serves_runs cache t new loose free is serves =
+    subst (Serves cache) (sym is)
+    (serves_beside cache t (record t { loose = loose; free = free }) refl refl refl serves)
 
 -- a journal can be settled where the loose runs are those of a table in which it can be undone
 pub can_settle : (j : Journal) (t u : Table) → CanUndo j t → u.loose ≡ t.loose → CanSettle j u
@@ -104,7 +95,7 @@ module _ (a b c d : Table) (m : WalkMove) (place : ℕ) (j : Journal) (t : IsTab
   undoable h k = can_undo_kept j b c u.numbered s.is.can_undo k h.no_move
 
 -- the cache serves after a journal was undone
-pub serves_undone : (cache : Entries) (j : Journal) (c d : Table) → c.epoch ≤ last_epoch → Rollback j c d
+pub serves_undone : (cache : Answers) (j : Journal) (c d : Table) → c.epoch ≤ last_epoch → Rollback j c d
     → Serves cache c → Serves cache d
 serves_undone cache j c d last r serves = serves_later cache c d last r.later serves
 

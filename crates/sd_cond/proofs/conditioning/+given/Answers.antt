@@ -1,4 +1,4 @@
-use Rattle.std.proofs.Common.{◌∙◌, sym, ap, subst, ℕ, ◌+◌, ◌*◌, ◌<◌, not, List, [], ◌∷◌}
+use Rattle.std.proofs.Common.{◌∙◌, sym, subst, ℕ, ◌+◌, ◌*◌, ◌<◌, not, List, [], ◌∷◌}
 use Rattle.std.proofs.Common.{get_or, arith}
 use Rattle.std.proofs.lemmas.Result.{IfOk-weaker}
 use Rattle.sd_model.specs.Diagram.{Diagram}
