@@ -1,0 +1,6 @@
+use Rattle.sd_apply.proofs.Standing.{has_node}
+use Rattle.sd_apply.proofs.lists.has_two.Goals as goal
+
+pub view-requires : goal.view-requires
+view-requires c =
+    has_node c.args.m.now c.vtree.ensures.table c.args.node c.requires.diagram c.requires.is.shows
