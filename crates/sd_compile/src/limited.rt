@@ -21,7 +21,7 @@ use sd_manager::{Manager, NodeId, Root};
 use sd_sweep::{size, sweep};
 
 /// The least number of elements in use that a sweep between groups or commands is for, where they ask the cache.
-pub const LEAST_GARBAGE: u32 = 65_536;
+pub const LEAST_GARBAGE: u32 = 262_144;
 
 // How many elements may be in use before the next sweep, where so many are now. A sweep that takes a node away raises
 // the epoch, and the cache's answers are lost: twice as many, so that what is swept pays for the sweep, and a small
