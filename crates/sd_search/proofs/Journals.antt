@@ -1,10 +1,8 @@
 -- A step that was made and is kept or undone: what the journal leaves.
-use Rattle.std.proofs.Common.{◌≡◌, ◌⊎◌, inl, inr, ℕ, ◌+◌, ◌≤◌, List, [], ◌∷◌, Option, Some, None, refl, sym, ap, subst}
+use Rattle.std.proofs.Common.{◌≡◌, ℕ, ◌+◌, ◌≤◌, List, None, refl, sym, ap, subst}
 use Rattle.std.proofs.Common.{◌∙◌, ◌*◌, ◌/◌, ◌<◌}
-use Rattle.std.specs.Option.{IsSome}
 use Rattle.std.specs.Ordering.{nat_cmp}
 use Rattle.std.specs.FinMap.{FinMap, get}
-use Rattle.sd_model.specs.declared.trees.Move.{Move}
 use Rattle.sd_model.specs.Tree.{leaves}
 use Rattle.sd_model.specs.declared.trees.Side.{Side}
 use Rattle.sd_vtree.specs.Numbered.{Numbered, plain_tree}
@@ -12,14 +10,11 @@ use Rattle.sd_laws.proofs.Lists.{all_weaker}
 use Rattle.sd_cache.specs.Entries.{Answers}
 use Rattle.sd_manager.specs.Table.{Table}
 use Rattle.sd_manager.specs.Valid.{IsTable}
-use Rattle.sd_manager.specs.Making.{IsPastBound}
-use Rattle.sd_manager.specs.Marking.{AreUnmarked}
 use Rattle.sd_apply.specs.Serving.{Serves, last_epoch}
 use Rattle.sd_apply.proofs.Served.{serves_beside}
 use Rattle.sd_sweep.specs.Reached.{KeepsReached}
 use Rattle.sd_move.specs.Journal.{Named, Journal, CanUndo, CanPutBack, HasLooseRun, CanSettle, IsSettledBy, Rollback}
 use Rattle.sd_move.specs.Journal.{starts_of, without_runs}
-use Rattle.sd_move.specs.Moves.{IsMoved}
 use Rattle.sd_move.proofs.ServesLater.{serves_later}
 use Rattle.sd_move.proofs.ThereAndBack.{there_and_back}
 use Rattle.sd_move.proofs.UndoKept.{kept as can_undo_kept}
