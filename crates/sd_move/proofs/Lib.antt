@@ -62,3 +62,4 @@ pub mod RotationOnTheWay
 pub mod RotationWhole
 pub mod NeverFalling
 pub mod SettledKept
+pub mod OneSize

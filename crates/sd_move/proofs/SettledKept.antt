@@ -62,6 +62,10 @@ module _ (j : Journal) (t u : Table) (can : CanSettle j t) where
   pub settle_kept : KeepsReached t u → CanSettle j u
   settle_kept k = runs_stay (λ s own. ap (λ l. get l s) k.loose)
 
+  -- and where the loose runs are the same
+  pub settle_beside : u.loose ≡ t.loose → CanSettle j u
+  settle_beside same = runs_stay (λ s own. ap (λ l. get l s) same)
+
   -- an own run of it is a loose one
   own_loose : (s : ℕ) → IsOwnRun j.named s → (former : List (ℕ × ℕ)) × (get t.loose s ≡ Some former)
   own_loose s own =

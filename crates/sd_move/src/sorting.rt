@@ -209,8 +209,7 @@ pub(crate) fn sort_upper(
 }
 
 // Adds an entry for each of the nodes, which stand at the place and keep their lists. The only error: out of memory,
-// and
-// then some are entered.
+// and then some are entered.
 pub(crate) fn enter_all(
     place: VNode,
     numbers: &[u32],

@@ -4,6 +4,8 @@
 #[cfg(test)]
 mod cases;
 #[cfg(test)]
+mod joining;
+#[cfg(test)]
 mod moves;
 #[cfg(test)]
 mod plan;

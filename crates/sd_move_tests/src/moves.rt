@@ -48,7 +48,7 @@ fn turn(
 }
 
 // The move of this kind at a node of a state's vtree.
-fn move_at(
+pub(crate) fn move_at(
     alloc: Global,
     state: &mut State,
     kind: Move,
@@ -66,7 +66,7 @@ fn move_at(
 }
 
 // Undoes a move.
-fn go_back(state: &mut State, journal: Journal)
+pub(crate) fn go_back(state: &mut State, journal: Journal)
     requires can_undo { CanUndo journal state.old.m }
     requires ready { IsReady state.old.m state.old.c state.old.first state.old.second }
     ensures undone { Rollback journal state.old.m state.new.m }
@@ -109,11 +109,12 @@ fn spend(state: &mut State, journal: Journal, end: End)
 }
 
 // What comes of a move: the size that it answers, the elements in the arena and what is seen before the journal is
-// spent; or why it was refused.
+// spent; or why it was refused; or that the vtree has no such position.
 #[derive(Drop)]
 pub(crate) enum Outcome {
     Made { size: u32, used: u32, seen: Seen },
     Refused(MoveError),
+    NoPlace,
 }
 
 impl Outcome {
@@ -125,7 +126,7 @@ impl Outcome {
                 seen,
                 ..
             } => *own == size && seen.has_nodes_of(before),
-            Outcome::Refused(_) => false,
+            Outcome::Refused(_) | Outcome::NoPlace => false,
         }
     }
 
@@ -133,15 +134,23 @@ impl Outcome {
     pub(crate) fn used(&self) -> Option<u32> {
         match self {
             Outcome::Made { used, .. } => Some(*used),
-            Outcome::Refused(_) => None,
+            Outcome::Refused(_) | Outcome::NoPlace => None,
         }
     }
 
     // Whether the move was refused for this reason.
     pub(crate) fn is_refused(&self, reason: MoveError) -> bool {
         match self {
-            Outcome::Made { .. } => false,
             Outcome::Refused(error) => *error == reason,
+            Outcome::Made { .. } | Outcome::NoPlace => false,
+        }
+    }
+
+    // Whether the move was refused since the arena was full past this bound.
+    pub(crate) fn is_full(&self, bound: u32) -> bool {
+        match self {
+            Outcome::Refused(MoveError::ArenaFull { elements }) => *elements > u64::from(bound),
+            Outcome::Made { .. } | Outcome::Refused(_) | Outcome::NoPlace => false,
         }
     }
 
@@ -149,9 +158,24 @@ impl Outcome {
     pub(crate) fn keeps_bound(&self, bound: u32) -> bool {
         match self {
             Outcome::Made { .. } => true,
-            Outcome::Refused(MoveError::ArenaFull { elements }) => *elements > u64::from(bound),
-            Outcome::Refused(_) => false,
+            Outcome::Refused(_) | Outcome::NoPlace => self.is_full(bound),
         }
+    }
+}
+
+// What comes of a move that was refused; want of memory is an error of the test's own.
+fn refused(error: MoveError) -> Result<Outcome, AllocError> {
+    match error {
+        MoveError::OutOfMemory => Err(AllocError),
+        _ => Ok(Outcome::Refused(error)),
+    }
+}
+
+// That a move was not made; want of memory is an error of the test's own.
+pub(crate) fn not_made(error: MoveError) -> Result<bool, AllocError> {
+    match error {
+        MoveError::OutOfMemory => Err(AllocError),
+        _ => Ok(false),
     }
 }
 
@@ -168,11 +192,11 @@ fn make(
     ensures ready { IsReady state.new.m state.new.c state.new.first state.new.second }
 {
     let Some(place) = state.m.vtree().at_position(position) else {
-        return Ok(Outcome::Refused(MoveError::NotMovable));
+        return Ok(Outcome::NoPlace);
     };
     let moved = match move_at(alloc, state, kind, place, most) {
         Ok(moved) => moved,
-        Err(error) => return Ok(Outcome::Refused(error)),
+        Err(error) => return refused(error),
     };
     let Moved { size, journal } = moved;
     let used = state.m.used();
@@ -186,7 +210,12 @@ fn make(
 }
 
 // Makes a move at a position and undoes it. Answers whether it was made.
-fn make_and_undo(alloc: Global, state: &mut State, kind: Move, position: u32) -> bool
+fn make_and_undo(
+    alloc: Global,
+    state: &mut State,
+    kind: Move,
+    position: u32,
+) -> Result<bool, AllocError>
     requires ready { IsReady state.old.m state.old.c state.old.first state.old.second }
     ensures reached { KeepsReached state.old.m state.new.m }
     ensures ready { IsReady state.new.m state.new.c state.new.first state.new.second }
@@ -195,27 +224,32 @@ fn make_and_undo(alloc: Global, state: &mut State, kind: Move, position: u32) ->
     // Its contract tells that the table is valid.
     let _ = state.m.epoch();
     let Some(place) = state.m.vtree().at_position(position) else {
-        return false;
+        return Ok(false);
     };
     match move_at(alloc, state, kind, place, u32::MAX) {
         Ok(moved) => {
             let Moved { size: _, journal } = moved;
             go_back(state, journal);
-            true
+            Ok(true)
         }
-        Err(_) => false,
+        Err(error) => not_made(error),
     }
 }
 
 // Makes a move at a position, makes and undoes one at another position meanwhile, and undoes the first one. Answers
 // whether both were made.
-fn undo_in_turn(alloc: Global, state: &mut State, outer: (Move, u32), inner: (Move, u32)) -> bool
+fn undo_in_turn(
+    alloc: Global,
+    state: &mut State,
+    outer: (Move, u32),
+    inner: (Move, u32),
+) -> Result<bool, AllocError>
     requires ready { IsReady state.old.m state.old.c state.old.first state.old.second }
     ensures ready { IsReady state.new.m state.new.c state.new.first state.new.second }
 {
     stays_undoable();
     let Some(place) = state.m.vtree().at_position(outer.1) else {
-        return false;
+        return Ok(false);
     };
     match move_at(alloc, state, outer.0, place, u32::MAX) {
         Ok(moved) => {
@@ -224,30 +258,40 @@ fn undo_in_turn(alloc: Global, state: &mut State, outer: (Move, u32), inner: (Mo
             go_back(state, journal);
             made
         }
-        Err(_) => false,
+        Err(error) => not_made(error),
     }
 }
 
 // Makes swaps at two positions, settles the first one, and then undoes the second one. Answers whether this was so.
-fn settle_older(alloc: Global, state: &mut State, first: u32, second: u32) -> bool
+fn settle_older(
+    alloc: Global,
+    state: &mut State,
+    first: u32,
+    second: u32,
+) -> Result<bool, AllocError>
     requires ready { IsReady state.old.m state.old.c state.old.first state.old.second }
     ensures ready { IsReady state.new.m state.new.c state.new.first state.new.second }
 {
     stays_settleable();
     let Some(place) = state.m.vtree().at_position(first) else {
-        return false;
+        return Ok(false);
     };
     match move_at(alloc, state, Move::Swap, place, u32::MAX) {
         Ok(moved) => {
             let Moved { size: _, journal } = moved;
             swap_and_settle(alloc, state, journal, second)
         }
-        Err(_) => false,
+        Err(error) => not_made(error),
     }
 }
 
 // Makes a swap at a position, settles an older journal, and then undoes the swap.
-fn swap_and_settle(alloc: Global, state: &mut State, older: Journal, position: u32) -> bool
+fn swap_and_settle(
+    alloc: Global,
+    state: &mut State,
+    older: Journal,
+    position: u32,
+) -> Result<bool, AllocError>
     requires ready { IsReady state.old.m state.old.c state.old.first state.old.second }
     requires older { CanSettle older state.old.m }
     ensures ready { IsReady state.new.m state.new.c state.new.first state.new.second }
@@ -255,16 +299,16 @@ fn swap_and_settle(alloc: Global, state: &mut State, older: Journal, position: u
     stays_settleable();
     let Some(place) = state.m.vtree().at_position(position) else {
         keep(state, older);
-        return false;
+        return Ok(false);
     };
     match move_at(alloc, state, Move::Swap, place, u32::MAX) {
         Ok(moved) => {
             let Moved { size: _, journal } = moved;
-            settle_and_undo(state, older, journal, place)
+            Ok(settle_and_undo(state, older, journal, place))
         }
-        Err(_) => {
+        Err(error) => {
             keep(state, older);
-            false
+            not_made(error)
         }
     }
 }
@@ -344,12 +388,17 @@ impl Case {
         alloc: Global,
         outer: (Move, u32),
         inner: (Move, u32),
-    ) -> bool {
+    ) -> Result<bool, AllocError> {
         undo_in_turn(alloc, &mut self.state, outer, inner)
     }
 
     // Makes swaps at two positions, settles the first one, and then undoes the second one. Answers whether this was so.
-    pub(crate) fn settle_older(&mut self, alloc: Global, first: u32, second: u32) -> bool {
+    pub(crate) fn settle_older(
+        &mut self,
+        alloc: Global,
+        first: u32,
+        second: u32,
+    ) -> Result<bool, AllocError> {
         settle_older(alloc, &mut self.state, first, second)
     }
 

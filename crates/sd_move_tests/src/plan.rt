@@ -14,6 +14,23 @@ const BEFORE: &str = "sdd 10\nL 0 0 1\nT 1\nL 2 0 -1\nL 3 2 -2\nF 4\nD 5 1 2 2 3
 const AFTER: &str = "sdd 9\nL 0 0 -1\nL 1 2 -2\nF 2\nL 3 2 2\nL 4 4 3\nD 5 3 2 1 2 3 4\n\
     L 6 0 1\nT 7\nD 8 1 2 0 5 6 7\n";
 
+/// The text of `(1 and 3) or (2 and 4)` for the vtree `((3 4) (1 2))`.
+const SWAPPED: &str =
+    "sdd 15\nL 0 0 -3\nF 1\nL 2 0 3\nL 3 2 -4\nD 4 1 2 0 1 2 3\nL 5 4 1\nL 6 2 4\n\
+    D 7 1 2 0 1 2 6\nL 8 4 -1\nL 9 6 2\nT 10\nD 11 5 2 8 9 5 10\nD 12 1 2 0 3 2 1\nD 13 1 2 0 6 2 1\n\
+    D 14 3 4 4 5 7 11 12 1 13 9\n";
+
+// The texts that a test compares.
+#[derive(Clone, Copy)]
+pub(crate) enum Text {
+    // `1 or (2 and 3)` before the rotation.
+    Before,
+    // The same after it.
+    After,
+    // The crossed terms after the swap of the root.
+    Swapped,
+}
+
 // A step of a test. A move is told by its kind and its position.
 #[derive(Clone, Copy)]
 pub(crate) enum Step {
@@ -24,14 +41,18 @@ pub(crate) enum Step {
     Refused(Move, u32, u32, MoveError),
     // The move is made and undone, or refused since the arena was full past this bound.
     Bounded(Move, u32, u32),
+    // The move is refused since the arena was full past this bound.
+    Full(Move, u32, u32),
     // The second move is made and undone while the first one can still be undone, which is undone then.
     InTurn((Move, u32), (Move, u32)),
     // Of the swaps at two positions the first one is settled, and then the second one is undone.
     SettledOlder(u32, u32),
+    // The move is made and undone, and both times operations find that the first root implies the second one.
+    Implied(Move, u32),
     // Whether all is seen as before the first step.
     AsBefore(bool),
-    // The second root has the text of `1 or (2 and 3)` before the rotation, or after it.
-    Rotated(bool),
+    // The diagram of the second root has this text.
+    Shows(Text),
     // The size of what is held.
     Total(u32),
     // The elements in the arena.
@@ -72,10 +93,24 @@ fn is_bounded(
     Ok(case.make(alloc, at, 1000, End::Undone)?.keeps_bound(bound))
 }
 
-// Whether the text is that before the rotation, or after it.
-fn is_rotated(alloc: Global, case: &Case, rotated: bool) -> Result<bool, AllocError> {
-    let text = if rotated { AFTER } else { BEFORE };
-    Ok(case.look(alloc)?.has_text(text))
+// Whether a move is refused past the bound.
+fn is_full(
+    alloc: Global,
+    case: &mut Case,
+    at: (Move, u32),
+    bound: u32,
+) -> Result<bool, AllocError> {
+    Ok(case.make(alloc, at, 1000, End::Undone)?.is_full(bound))
+}
+
+// Whether the diagram of the second root has a text.
+fn has_text(alloc: Global, case: &Case, text: Text) -> Result<bool, AllocError> {
+    let wanted = match text {
+        Text::Before => BEFORE,
+        Text::After => AFTER,
+        Text::Swapped => SWAPPED,
+    };
+    Ok(case.look(alloc)?.has_text(wanted))
 }
 
 // Does a step, and answers whether all was so.
@@ -88,10 +123,12 @@ fn is_so(alloc: Global, case: &mut Case, before: &Seen, step: Step) -> Result<bo
             is_refused(alloc, case, (kind, position), most, reason)
         }
         Step::Bounded(kind, position, bound) => is_bounded(alloc, case, (kind, position), bound),
-        Step::InTurn(outer, inner) => Ok(case.undo_in_turn(alloc, outer, inner)),
-        Step::SettledOlder(first, second) => Ok(case.settle_older(alloc, first, second)),
+        Step::Full(kind, position, bound) => is_full(alloc, case, (kind, position), bound),
+        Step::InTurn(outer, inner) => case.undo_in_turn(alloc, outer, inner),
+        Step::SettledOlder(first, second) => case.settle_older(alloc, first, second),
+        Step::Implied(kind, position) => case.imply_meanwhile(alloc, kind, position),
         Step::AsBefore(same) => Ok(case.shows(alloc, before)? == same),
-        Step::Rotated(rotated) => is_rotated(alloc, case, rotated),
+        Step::Shows(text) => has_text(alloc, case, text),
         Step::Total(size) => Ok(case.total() == size),
         Step::Used(used) => Ok(case.used() == used),
     }

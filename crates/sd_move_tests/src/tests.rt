@@ -3,8 +3,9 @@ ghost use Rattle.std.specs.Prelude.{◌^◌, ◌<◌};
 use crate::cases::{clause_alone, crossed_terms, pair_and_clause, pair_and_parity};
 use crate::moves::End::{Settled, Undone};
 use crate::plan::Step::{
-    AsBefore, Bounded, InTurn, Made, Refused, Rotated, SettledOlder, Total, Used,
+    AsBefore, Bounded, Full, Implied, InTurn, Made, Refused, SettledOlder, Shows, Total, Used,
 };
+use crate::plan::Text::{After, Before, Swapped};
 use crate::plan::all_so;
 use sd_model::Move::{RotateLeft, RotateRight, Swap};
 use sd_move::MoveError;
@@ -13,8 +14,8 @@ use std::alloc::{AllocError, Global};
 use std::test::Fail;
 
 /// On the balanced vtree the crossed terms have size 14, and on `((3 4) (1 2))` too. The root holds its node all the
-/// time, and the move undone gives back the text and the vtree. A leaf has no children to swap, and past the limit all
-/// is as before too.
+/// time, and the move undone gives back the text and the vtree. A leaf has no children to swap, a node over two leaves
+/// is rotated to no side, and past the limit all is as before too.
 #[test]
 fn a_swap_is_undone_or_refused(rt: HostRuntime) -> Result<(), Fail> {
     let alloc = rt.alloc();
@@ -24,6 +25,8 @@ fn a_swap_is_undone_or_refused(rt: HostRuntime) -> Result<(), Fail> {
         Made(Swap, 3, 14, 14, Undone),
         AsBefore(true),
         Refused(Swap, 2, 1000, MoveError::NotMovable),
+        Refused(RotateLeft, 1, 1000, MoveError::NotMovable),
+        Refused(RotateRight, 1, 1000, MoveError::NotMovable),
         Refused(Swap, 3, 13, over),
         AsBefore(true),
     ];
@@ -31,7 +34,8 @@ fn a_swap_is_undone_or_refused(rt: HostRuntime) -> Result<(), Fail> {
     Ok(())
 }
 
-/// A swap that is settled stays, until it is swapped back.
+/// A swap that is settled stays, until it is swapped back. Its old runs are free: after the next move the arena has the
+/// elements that are held, and no more.
 #[test]
 fn a_swap_is_settled(rt: HostRuntime) -> Result<(), Fail> {
     let alloc = rt.alloc();
@@ -39,7 +43,11 @@ fn a_swap_is_settled(rt: HostRuntime) -> Result<(), Fail> {
     let steps = [
         Made(Swap, 3, 14, 14, Settled),
         AsBefore(false),
+        Shows(Swapped),
         Total(14),
+        Made(Swap, 1, 14, 14, Undone),
+        Used(14),
+        Shows(Swapped),
         Made(Swap, 3, 14, 14, Settled),
         AsBefore(true),
     ];
@@ -54,9 +62,9 @@ fn a_rotation_and_the_one_back(rt: HostRuntime) -> Result<(), Fail> {
     let alloc = rt.alloc();
     let mut case = pair_and_clause(alloc)?;
     let steps = [
-        Rotated(false),
+        Shows(Before),
         Made(RotateRight, 3, 4, 4, Settled),
-        Rotated(true),
+        Shows(After),
         Made(RotateLeft, 1, 9, 9, Settled),
         AsBefore(true),
     ];
@@ -73,9 +81,10 @@ fn a_rotation_is_undone_or_refused(rt: HostRuntime) -> Result<(), Fail> {
     let steps = [
         Made(RotateRight, 3, 4, 4, Undone),
         AsBefore(true),
-        Rotated(false),
+        Shows(Before),
         Refused(RotateRight, 3, 3, over),
         AsBefore(true),
+        Shows(Before),
     ];
     assert!(rt; all_so(alloc, &mut case, &steps)?);
     Ok(())
@@ -109,9 +118,26 @@ fn two_moves_are_undone(rt: HostRuntime) -> Result<(), Fail> {
     Ok(())
 }
 
+/// The first root implies the second one under each vtree: the conjunction with the negation of the second one is false
+/// after a move, and again after that was undone.
+#[test]
+fn operations_between_a_move_and_its_undo(rt: HostRuntime) -> Result<(), Fail> {
+    let alloc = rt.alloc();
+    let mut case = pair_and_clause(alloc)?;
+    let steps = [
+        Implied(RotateRight, 3),
+        AsBefore(true),
+        Implied(Swap, 3),
+        AsBefore(true),
+        Shows(Before),
+        Total(9),
+    ];
+    assert!(rt; all_so(alloc, &mut case, &steps)?);
+    Ok(())
+}
+
 /// Of two swaps the first one is settled while the second one can still be undone, and that is undone then. What is
-/// left
-/// is the first swap alone: swapped back there, all is as before.
+/// left is the first swap alone: swapped back there, all is as before.
 #[test]
 fn the_older_move_is_settled(rt: HostRuntime) -> Result<(), Fail> {
     let alloc = rt.alloc();
@@ -136,6 +162,32 @@ fn a_move_makes_nothing_anew(rt: HostRuntime) -> Result<(), Fail> {
         Used(228),
         Total(228),
         Made(Swap, 1, 228, 228, Undone),
+        AsBefore(true),
+    ];
+    assert!(rt; all_so(alloc, &mut case, &steps)?);
+    Ok(())
+}
+
+/// The crossed terms have 14 elements, and 18 while they are made. After the rotation they have 19, and the old list of
+/// the root is kept beside them, so an arena of 18 has no room.
+#[test]
+fn an_arena_without_room_for_a_rotation(rt: HostRuntime) -> Result<(), Fail> {
+    let alloc = rt.alloc();
+    let mut case = crossed_terms(alloc, 18)?;
+    let steps = [Full(RotateLeft, 3, 18), AsBefore(true), Total(14)];
+    assert!(rt; all_so(alloc, &mut case, &steps)?);
+    Ok(())
+}
+
+/// An arena of 60 has room for both moves.
+#[test]
+fn an_arena_with_room_for_both_moves(rt: HostRuntime) -> Result<(), Fail> {
+    let alloc = rt.alloc();
+    let mut case = crossed_terms(alloc, 60)?;
+    let steps = [
+        Made(RotateLeft, 3, 19, 19, Undone),
+        AsBefore(true),
+        Made(Swap, 3, 14, 14, Undone),
         AsBefore(true),
     ];
     assert!(rt; all_so(alloc, &mut case, &steps)?);

@@ -1,4 +1,5 @@
-use Rattle.sd_move.proofs.SettledKept.{can_settle, settle_kept, settle_moved, moved_others, settle_settled}
+use Rattle.sd_move.proofs.SettledKept.{can_settle, settle_kept, settle_beside, settle_moved, moved_others}
+use Rattle.sd_move.proofs.SettledKept.{settle_settled}
 use Rattle.sd_move.proofs.laws.stays_settleable.Goals as goal
 
 pub returns-clause-undoable : goal.returns-clause-undoable
@@ -6,6 +7,9 @@ returns-clause-undoable c j t can = can_settle j t can
 
 pub returns-clause-kept : goal.returns-clause-kept
 returns-clause-kept c j t u can k = settle_kept j t u can k
+
+pub returns-clause-runs : goal.returns-clause-runs
+returns-clause-runs c j t u can same = settle_beside j t u can same
 
 pub returns-clause-moved : goal.returns-clause-moved
 returns-clause-moved c j k t u kind place can m = settle_moved j t u can kind place k m
