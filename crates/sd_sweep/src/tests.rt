@@ -96,8 +96,7 @@ fn three_totals(m: &mut Manager, part: NodeId, whole: NodeId) -> Result<(u32, u3
 }
 
 /// A node that two roots share counts once, and what no root holds has no part in the total size: the conjunction of
-/// two
-/// literals is one of the four decompositions of the two terms.
+/// two literals is one of the four decompositions of the two terms.
 #[test]
 fn shared_nodes_count_once(rt: HostRuntime) -> Result<(), Fail> {
     let alloc = rt.alloc();

@@ -23,14 +23,20 @@ use std::alloc::Global;
 use std::thread::Threads;
 
 /// Runs the program with these words over a shelf of files, and answers its status:
-/// 0 where all was done, 1 where the words are refused, 2 where the formula file, the vtree file or a loaded file is
-/// too long or has a fault, 3 where the script is too long or has a fault, 4 where the total size passes the limit, 5
-/// where an input was not read, 6 where an output or a printed line was not written, 7 where memory ran out, and 8
-/// where
-/// the arena of the diagrams was full. The words are read first, then the formula file, the vtree file, the script, and
-/// the files that it loads; no other is asked for, and none after an output.
-/// At every status but 0 the one line that says so is written to `err`. At 8 the manager that refused is put into
-/// `kept`, which is empty before.
+///
+/// - 0 all was done;
+/// - 1 the words are refused;
+/// - 2 the formula file, the vtree file or a loaded file is too long or has a fault;
+/// - 3 the script is too long or has a fault, or the vtree cannot be moved as a command says;
+/// - 4 the total size passes the limit;
+/// - 5 an input was not read;
+/// - 6 an output or a printed line was not written;
+/// - 7 memory ran out;
+/// - 8 the arena of the diagrams was full.
+///
+/// The words are read first, then the formula file, the vtree file, the script, and the files that it loads; no other
+/// is asked for, and none after an output. At every status but 0 the one line that says so is written to `err`. At 8
+/// the manager that refused is put into `kept`, which is empty before.
 pub fn run<R: Threads + Sync, F: Shelf, O: Sink, E: Sink>(
     _rt: &R,
     alloc: Global,
