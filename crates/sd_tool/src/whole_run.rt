@@ -144,7 +144,7 @@ fn execute_plan<F: Shelf, O: Sink>(
         mut state,
         commands,
     } = plan;
-    match execute_commands(alloc, shelf, out, &formula, &mut state, &commands) {
+    match execute_commands(alloc, shelf, out, &formula, &mut state, commands) {
         Ok(()) => Ok(()),
         Err(stop) => {
             keep(kept, &stop, state.manager);
@@ -162,22 +162,22 @@ fn keep(kept: &mut Option<Manager>, stop: &Stop, manager: Manager)
     }
 }
 
-// Does the commands in order, up to the first that stops.
+// Does the commands in order, up to the first that stops. Each is freed once it is done, with the file that it loaded.
 fn execute_commands<F: Shelf, O: Sink>(
     alloc: Global,
     shelf: &mut F,
     out: &mut O,
     formula: &Formula,
     state: &mut RunState,
-    commands: &[NumberedCommand],
+    commands: Vec<NumberedCommand>,
 ) -> Result<(), Stop>
     requires hand { F.hand shelf.old ≡ NoFile }
-    requires ready { IsReadyWith formula.now state.old commands.now }
+    requires ready { IsReadyWith formula.now state.old commands.items }
     ensures hand { F.hand shelf.new ≡ NoFile }
     ensures fewer { NotFewer (faults F.read_faults F.write_faults O.faults shelf.old out.old)
         (faults F.read_faults F.write_faults O.faults shelf.new out.new) }
     ensures goes { RunsToEnd (Adds F.asked shelf.old shelf.new)
-        (plan_with formula.now state.old commands.now) state.new.manager result
+        (plan_with formula.now state.old commands.items) state.new.manager result
         (contents F.files O.written shelf.old out.old)
         (contents F.files O.written shelf.new out.new)
         (faults F.read_faults F.write_faults O.faults shelf.old out.old)
@@ -189,7 +189,7 @@ fn execute_commands<F: Shelf, O: Sink>(
             Err(error) => return Err(stop_at(command.line, error)),
         };
         match write_effect_if_any(shelf, out, effect) {
-            Ok(()) => {}
+            Ok(()) => drop(command),
             Err(stop) => return Err(stop),
         }
     }
