@@ -4,7 +4,8 @@ use Rattle.std.proofs.lemmas.Iterator.Consumers.{YieldsList-turn, YieldsList-end
 use Rattle.std.proofs.lemmas.Iterator.Adapters.{YieldsList-from_vec}
 use Rattle.sd_commands.proofs.Standing.{left_state}
 use Rattle.sd_tool.specs.PlanViews.{plan_with}
-use Rattle.sd_tool.proofs.StepLemmas.{so_far_more, so_far_at, goes_to_stop, goes_to_fault, goes_to_end, no_fewer, fits_next}
+use Rattle.sd_tool.proofs.StepLemmas.{so_far_more, so_far_at, goes_to_stop, goes_to_fault}
+use Rattle.sd_tool.proofs.StepLemmas.{goes_to_end, no_fewer, fits_next}
 use Rattle.sd_tool.proofs.AskLemmas.{joined, asks_none}
 use Rattle.sd_tool.proofs.whole_run.execute_commands.Goals as goal
 
