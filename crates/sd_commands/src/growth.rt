@@ -5,7 +5,7 @@
 //!
 //! Sweeps come only where they pay, as in `compile`: one that takes a node away costs the cache its answers. A search
 //! goes over no garbage, since each move begins with a sweep.
-ghost use Rattle.std.specs.Prelude.{◌≡◌, ℕ, ◌+◌, ◌-◌, ◌^◌, ◌<◌, ◌≤◌, Some, true, IfOk, IfErr, OnOk, OnErr, length};
+ghost use Rattle.std.specs.Prelude.{◌≡◌, ℕ, ◌+◌, ◌-◌, ◌^◌, ◌<◌, ◌≤◌, Some, IfOk, IfErr, OnOk, OnErr, length};
 ghost use Rattle.std.specs.FinMap.{remove};
 ghost use Rattle.sd_model.specs.Tree.{leaves};
 ghost use Rattle.sd_vtree.specs.Numbered.{plain_tree};
@@ -181,37 +181,17 @@ fn search_if_due(
     ensures beside { IsSameBeside state.old state.new work.now.root }
 {
     if due {
-        return search_behind(alloc, input, state, work);
+        total_of_formulas(&state.manager);
+        let slack = state.slack;
+        return match minimise(alloc, &mut state.manager, &mut state.cache, 1, slack) {
+            Ok(found) => {
+                let _ = found;
+                Ok(())
+            }
+            Err(error) => Err(search_error(error)),
+        };
     }
     Ok(())
-}
-
-// The search behind a group.
-fn search_behind(
-    alloc: Global,
-    input: &Formula,
-    state: &mut RunState,
-    work: &Compiling,
-) -> Result<(), CommandError>
-    requires added { (seen : State) × IsAdded input.now seen state.old work.now }
-    requires due { is_due state.old.every work.now.groups ≡ true }
-    ensures ok { (seen : State) → IsAdded input.now seen state.old work.now →
-        OnOk result (IsGrowing input.now seen state.new work.now) }
-    ensures stops { (seen : State) → IsAdded input.now seen state.old work.now → (name : ℕ) →
-        IfErr result (λ e. StopsAt input.now seen (Input name) state.new.manager e) }
-    ensures broken { (seen : State) → IsAdded input.now seen state.old work.now →
-        OnErr result (IsBrokenOff input.now seen state.new work.now.root) }
-    ensures beside { IsSameBeside state.old state.new work.now.root }
-{
-    total_of_formulas(&state.manager);
-    let slack = state.slack;
-    match minimise(alloc, &mut state.manager, &mut state.cache, 1, slack) {
-        Ok(found) => {
-            let _ = found;
-            Ok(())
-        }
-        Err(error) => Err(search_error(error)),
-    }
 }
 
 // Whether the number of a group is a multiple of another.
