@@ -22,6 +22,7 @@ pub struct FileShelf<'a, R: Files> {
     rt: &'a R,
     alloc: Global,
     hand: InHand<R::File>,
+    // how many calls have failed; at its last value a count stands
     read_faults: u64,
     write_faults: u64,
     // how many readings and writings were begun; at its last value a count stands

@@ -1,8 +1,11 @@
 //! The input's formula compiled with searches behind its groups.
-//
-// The prefix is a root beside those of the names, so a search is one over its formula and those of the names. An error
-// leaves the vtree after the walks that were finished, and the prefix's root is released.
-ghost use Rattle.std.specs.Prelude.{◌≡◌, ℕ, ◌+◌, ◌-◌, ◌^◌, ◌<◌, ◌≤◌, Some, true, IfOk, IfErr, OnOk, OnErr, length};
+//!
+//! The prefix is a root beside those of the names, so a search is one over its formula and those of the names. An error
+//! leaves the vtree after the walks that were finished, and the prefix's root is released.
+//!
+//! Sweeps come only where they pay, as in `compile`: one that takes a node away costs the cache its answers. A search
+//! goes over no garbage, since each move begins with a sweep.
+ghost use Rattle.std.specs.Prelude.{◌≡◌, ℕ, ◌+◌, ◌-◌, ◌^◌, ◌<◌, ◌≤◌, Some, IfOk, IfErr, OnOk, OnErr, length};
 ghost use Rattle.std.specs.FinMap.{remove};
 ghost use Rattle.sd_model.specs.Tree.{leaves};
 ghost use Rattle.sd_vtree.specs.Numbered.{plain_tree};
@@ -14,7 +17,7 @@ ghost use Rattle.sd_commands.specs.declared.command.RunCommand.TheVariants.{Inpu
 use crate::error::{CommandError, compiling_error, search_error};
 use crate::state::RunState;
 use sd_compile::laws::total_of_formulas;
-use sd_compile::{Compiling, add_group, begin, finish};
+use sd_compile::{Compiling, add_group_past, begin, finish};
 use sd_formula::Formula;
 use sd_manager::Root;
 use sd_search::minimise;
@@ -79,8 +82,9 @@ fn grow_all(
     ensures root { work.new.root ≡ work.old.root }
     ensures beside { IsSameBeside state.old state.new work.old.root }
 {
+    let mut most = 0;
     for index in 0..input.groups() {
-        if let Err(error) = grow_next(alloc, input, state, work, every, index) {
+        if let Err(error) = grow_next(alloc, input, state, work, &mut most, every, index) {
             return Err(error);
         }
     }
@@ -93,6 +97,7 @@ fn grow_next(
     input: &Formula,
     state: &mut RunState,
     work: &mut Compiling,
+    most: &mut u32,
     every: u32,
     index: usize,
 ) -> Result<(), CommandError>
@@ -111,7 +116,7 @@ fn grow_next(
     ensures root { work.new.root ≡ work.old.root }
     ensures beside { IsSameBeside state.old state.new work.old.root }
 {
-    if let Err(error) = add_next(alloc, input, state, work) {
+    if let Err(error) = add_next(alloc, input, state, work, most) {
         return Err(error);
     }
     // its range tells that the number of the group is one
@@ -120,12 +125,13 @@ fn grow_next(
     search_if_due(alloc, input, state, work, due)
 }
 
-// Adds the next group.
+// Adds the next group. Garbage may stay up to `most` elements in use.
 fn add_next(
     alloc: Global,
     input: &Formula,
     state: &mut RunState,
     work: &mut Compiling,
+    most: &mut u32,
 ) -> Result<(), CommandError>
     requires growing { (seen : State) × IsGrowing input.now seen state.old work.old }
     requires left { work.old.groups < length input.now.groups }
@@ -142,12 +148,13 @@ fn add_next(
 {
     total_of_formulas(&state.manager);
     let limit = state.limit;
-    match add_group(
+    match add_group_past(
         alloc,
         &mut state.manager,
         &mut state.cache,
         input,
         work,
+        most,
         limit,
     ) {
         Ok(()) => Ok(()),
@@ -174,37 +181,17 @@ fn search_if_due(
     ensures beside { IsSameBeside state.old state.new work.now.root }
 {
     if due {
-        return search_behind(alloc, input, state, work);
+        total_of_formulas(&state.manager);
+        let slack = state.slack;
+        return match minimise(alloc, &mut state.manager, &mut state.cache, 1, slack) {
+            Ok(found) => {
+                let _ = found;
+                Ok(())
+            }
+            Err(error) => Err(search_error(error)),
+        };
     }
     Ok(())
-}
-
-// The search behind a group.
-fn search_behind(
-    alloc: Global,
-    input: &Formula,
-    state: &mut RunState,
-    work: &Compiling,
-) -> Result<(), CommandError>
-    requires added { (seen : State) × IsAdded input.now seen state.old work.now }
-    requires due { is_due state.old.every work.now.groups ≡ true }
-    ensures ok { (seen : State) → IsAdded input.now seen state.old work.now →
-        OnOk result (IsGrowing input.now seen state.new work.now) }
-    ensures stops { (seen : State) → IsAdded input.now seen state.old work.now → (name : ℕ) →
-        IfErr result (λ e. StopsAt input.now seen (Input name) state.new.manager e) }
-    ensures broken { (seen : State) → IsAdded input.now seen state.old work.now →
-        OnErr result (IsBrokenOff input.now seen state.new work.now.root) }
-    ensures beside { IsSameBeside state.old state.new work.now.root }
-{
-    total_of_formulas(&state.manager);
-    let slack = state.slack;
-    match minimise(alloc, &mut state.manager, &mut state.cache, 1, slack) {
-        Ok(found) => {
-            let _ = found;
-            Ok(())
-        }
-        Err(error) => Err(search_error(error)),
-    }
 }
 
 // Whether the number of a group is a multiple of another.

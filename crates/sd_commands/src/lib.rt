@@ -1,5 +1,8 @@
-//! The commands of a run over the diagrams of one vtree: each binds a name to a formula, frees one, or makes a text
-//! to be written or printed. What a command does outside is handed out as a value.
+//! The commands of a run over the diagrams of one vtree, which a command may change: each binds a name to a formula,
+//! frees one, moves the vtree or searches for a better one, sets the limit, or makes a text to be written or printed.
+//!
+//! `step` does one of them in a `RunState`, and tests the limit. What a command does outside is handed out as a value
+//! (`Effect`), so that no code here knows of files and streams. What each comes to is `Step` in `specs/Commands.antt`.
 #![tactic(auto)]
 
 mod bind;

@@ -26,15 +26,19 @@ use std::collections::BTreeMap;
 /// The most elements that the arena of the diagrams may hold.
 const BOUND: u32 = 2_147_483_647;
 
-/// The diagrams of a run, a root for each bound name, the limit of the total size, the slack of its searches, and of
-/// which number a group's is to be a multiple, so that a search follows it.
+/// What a run holds between two commands: the diagrams of its names, and what the words and scripts set.
 #[derive(Drop)]
 pub struct RunState {
     pub manager: Manager,
+    /// It serves the manager: what it names is right there.
     pub cache: Cache,
+    // a root for each bound name, and no other root is held between two commands
     pub(crate) names: BTreeMap<u32, Root>,
+    // the total size, each node once, is at most this after each command that binds a name or moves the vtree
     pub(crate) limit: u32,
+    // how far a walk of a search may let the size grow, in percent
     pub(crate) slack: u32,
+    // a search follows each group of the input whose number is a multiple of this
     pub(crate) every: Option<u32>,
     // the number of elements in use from which on a sweep pays
     pub(crate) most: u32,

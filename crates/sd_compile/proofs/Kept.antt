@@ -324,6 +324,13 @@ refused_swept others old new f limit groups (OverLimit group size most) h s = h
 refused_swept others old new f limit groups (ArenaFull elements) h s = past_swept old new elements s h
 refused_swept others old new f limit groups OutOfMemory h s = tt
 
+-- also where nothing was swept
+pub refused_may : (others old new : Table) (f : Groups) (limit groups : ℕ) (e : CompileError) →
+    IsGroupRefused others old f limit groups e → MaySweep old new → IsGroupRefused others new f limit groups e
+refused_may others old new f limit groups e h (inl is) =
+    subst (λ t. IsGroupRefused others t f limit groups e) (sym is) h
+refused_may others old new f limit groups e h (inr s) = refused_swept others old new f limit groups e h s
+
 -- a new root is released, and all else stays
 pub released_all : (old mid new : Table) (root again : ℕ) → get old.roots root ≡ None → KeepsOtherRoots old mid root →
     again ≡ root → new ≡ without_root mid again → KeepsAll old new

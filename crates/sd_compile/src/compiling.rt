@@ -6,8 +6,9 @@
 // what else is in the table, so that the answer follows from the formula and the vtree alone. While all lists in use
 // together are within the limit, no size has to be counted (`limited.rt`).
 //
-// `add_group` sweeps behind each answer. `compile`, which adds all groups, sweeps only where the elements in use pass
-// twice what the last sweep left: a sweep that takes a node away raises the epoch, and the kept answers are lost.
+// `add_group` sweeps behind each answer. `compile`, which adds all groups, and `add_group_past` sweep only where the
+// elements in use pass twice what the last sweep left: a sweep that takes a node away raises the epoch, and the kept
+// answers are lost.
 ghost use Rattle.std.specs.Prelude.{◌≡◌, ◌↔◌, ℕ, ◌+◌, ◌-◌, ◌^◌, ◌<◌, ◌≤◌, None, IfOk, IfErr, OnOk, OnErr, IsTrue};
 ghost use Rattle.std.specs.Prelude.{length};
 ghost use Rattle.std.specs.Option.{IsSome};
@@ -16,7 +17,7 @@ ghost use Rattle.sd_model.specs.Tree.{leaves};
 ghost use Rattle.sd_vtree.specs.Numbered.{plain_tree};
 ghost use Rattle.sd_model.specs.Expression.{expression_value};
 ghost use Rattle.sd_formula.specs.Formulas.{expression_of};
-ghost use Rattle.sd_manager.specs.Valid.{IsTable};
+ghost use Rattle.sd_manager.specs.Valid.{IsTable, total_length};
 ghost use Rattle.sd_manager.specs.Making.{Extends, KeepsRule, without_root};
 ghost use Rattle.sd_apply.specs.Answers.{HasAnswer};
 ghost use Rattle.sd_apply.specs.Serving.{Serves};
@@ -100,6 +101,43 @@ pub fn add_group(
     let in_one_pass = is_right_linear(m.vtree());
     let answer = join_next(alloc, m, c, f, work, in_one_pass, limit);
     sweep_kept(m, c);
+    answer
+}
+
+/// Joins the next group as `add_group` does, and sweeps behind it as `sweep_past` does, so only where it pays.
+pub fn add_group_past(
+    alloc: Global,
+    m: &mut Manager,
+    c: &mut Cache,
+    f: &Formula,
+    work: &mut Compiling,
+    most: &mut u32,
+    limit: u32,
+) -> Result<(), CompileError>
+    requires variables { leaves (plain_tree m.old.vtree) ≡ f.now.variables }
+    requires no_move { m.old.moving ≡ None }
+    requires unmarked { AreUnmarked m.old }
+    requires serves { Serves c.old m.old }
+    requires left { work.old.groups < length f.now.groups }
+    requires holds { HoldsPrefix m.old f.now work.old }
+    ensures ok { OnOk result (HoldsPrefix m.new f.now work.new) }
+    ensures next { OnOk result (work.new.groups ≡ work.old.groups + 1) }
+    ensures within { OnOk result (IsWithinLimit (without_root m.old work.old.root)
+        (prefix_of f.now (work.old.groups + 1)) limit) }
+    ensures err { IfErr result (λ e.
+        IsGroupRefused (without_root m.old work.old.root) m.new f.now limit work.old.groups e) }
+    ensures unchanged { OnErr result (work.new ≡ work.old) }
+    ensures all_kept { OnErr result (KeepsAll m.old m.new) }
+    ensures root { work.new.root ≡ work.old.root }
+    ensures kept { KeepsOtherRoots m.old m.new work.old.root }
+    ensures used { total_length m.new ≤ most.new }
+    ensures serves { Serves c.new m.new }
+    ensures unmarked { AreUnmarked m.new }
+    ensures table { IsTable m.new }
+{
+    let in_one_pass = is_right_linear(m.vtree());
+    let answer = join_next(alloc, m, c, f, work, in_one_pass, limit);
+    sweep_past(m, c, most, in_one_pass, limit);
     answer
 }
 

@@ -27,7 +27,9 @@ pub(crate) struct Entry {
 /// The answers of one operation at the nodes that it visited. Takes no memory before the first.
 #[derive(Drop)]
 pub(crate) struct KeptAnswers {
+    // none, or a power of two, of which at least half are free
     entries: Vec<Entry>,
+    // how many of them have an answer
     count: usize,
 }
 

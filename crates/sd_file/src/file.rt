@@ -27,6 +27,7 @@ pub(crate) struct FileEntry {
 /// The nodes of a file, each behind its children; the last one is the file's.
 #[derive(Debug, Drop)]
 pub struct SddFile {
+    /// The variables of the vtree over which the text was read.
     pub(crate) variables: u32,
     pub(crate) entries: Vec<FileEntry>,
     /// The pairs of all decompositions, one decomposition after another.

@@ -17,7 +17,9 @@ use std::collections::BTreeMap;
 /// The nodes that were read, and the index of each id.
 #[derive(Drop)]
 pub(crate) struct IdTable {
+    // in the order of their lines
     pub(crate) entries: Vec<FileEntry>,
+    // where each id stands in it
     indices: BTreeMap<u64, u32>,
 }
 

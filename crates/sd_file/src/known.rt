@@ -16,6 +16,7 @@ pub(crate) type Rank = (u8, u32, usize);
 pub(crate) struct Ordered {
     // At each code one more than the index of what is known of its node, or 0 where nothing is.
     places: Vec<usize>,
+    // In the order in which the nodes were ranked.
     known: Vec<Known>,
     ghost placed: { ArePlaced places.items known.items },
 }

@@ -1,10 +1,15 @@
-//! SDD files: the nodes that a text stands for, or its first fault; the node of a manager with the
-//! file's value; and the text of the diagram that a root shows.
-//! The format is that of the SDD Package 2.0; ids may be any distinct numbers. A caller sees a
-//! reading as `sdd_file` of `specs/Reads.antt`.
+//! SDD files: the nodes that a text stands for, or its first fault; the node of a manager with the file's value; and
+//! the text of the diagrams that roots show. The format is that of the SDD Package 2.0; ids may be any distinct
+//! numbers.
+//!
+//! - A text is read line by line (`reader.rt`, with `form.rt`, `id_table.rt` and `fault.rt`) into a list of nodes
+//!   (`file.rt`). A caller sees that as `sdd_file` of `specs/Reads.antt`.
+//! - A node of a manager is built of such a list (`builder.rt`), which need not be compressed or trimmed; the node is.
+//! - A text is written in one walk over the nodes (`writer.rt`, with `lines.rt` and `numbers.rt`), whose elements are
+//!   put in order first (`order.rt`, `known.rt`).
 #![tactic(auto)]
 
-mod compile;
+mod builder;
 mod fault;
 mod file;
 mod form;
@@ -16,7 +21,7 @@ mod order;
 mod reader;
 mod writer;
 
-pub use compile::build;
+pub use builder::build;
 pub use fault::SddFault;
 pub use file::{FileNode, SddFile};
 pub use reader::read_sdd;

@@ -1,6 +1,6 @@
 -- What is found from a step of a walk on, by what is found from the next one on.
 use Rattle.std.proofs.Common.{◌≡◌, ◌⊎◌, inl, inr, ℕ, zero, suc, ◌+◌, ◌^◌, ◌≤◌, ◌<◌, List, [], ◌∷◌, ◌++◌, map, drop}
-use Rattle.std.proofs.Common.{Option, Some, None, slice_get, refl, sym, ap, subst, ◌∙◌, arith}
+use Rattle.std.proofs.Common.{min, Option, Some, None, slice_get, refl, sym, ap, subst, ◌∙◌, arith}
 use Rattle.std.proofs.Common.{length, get_or, ltb, true, false, IfSome, Bor, lt-ltb, le-ltb, if◌then◌else◌}
 use Rattle.std.specs.List.{AllByRecursion}
 use Rattle.std.specs.Option.{is_some, option_copied}
@@ -167,9 +167,19 @@ module _ (fs : List Expression) (bound : ℕ) (t v : Tree) (path : List Side) (m
       go (inl k) = omega (arith, k, larger)
       go (inr k) = k
 
+-- the lesser of two numbers
+pub lesser_of : (a b n : ℕ) → n ≡ min a b → (n ≤ a) × (n ≤ b) × ((a ≤ n) ⊎ (b ≤ n))
+lesser_of a b n is = (grind (arith, is), grind (arith, is), one)
+  where
+    one : (a ≤ n) ⊎ (b ≤ n)
+    one = elim (cases_lt b a) [
+      | inl h ↦ inr (grind (arith, is, h))
+      | inr h ↦ inl (grind (arith, is, h))
+    ]
+
 -- ---- the step at an index
 
-pub item_none : (xs : List Step) (i : ℕ) → length xs ≤ i → slice_get xs i ≡ None
+item_none : (xs : List Step) (i : ℕ) → length xs ≤ i → slice_get xs i ≡ None
 item_none [] zero h = refl
 item_none [] (suc i) h = refl
 item_none (x ∷ xs) zero h = absurd (omega (arith, h))

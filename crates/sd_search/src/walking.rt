@@ -1,5 +1,5 @@
 // A walk over the arrangements of the subtrees at a node.
-ghost use Rattle.std.specs.Prelude.{◌≡◌, ◌⊎◌, ℕ, ◌*◌, ◌/◌, ◌<◌, ◌≤◌, List, length, None, IfOk, IfErr, OnErr};
+ghost use Rattle.std.specs.Prelude.{◌≡◌, ℕ, ◌*◌, ◌/◌, ◌<◌, ◌≤◌, List, length, None, IfOk, IfErr, OnErr};
 ghost use Rattle.sd_model.specs.declared.trees.Side.{Side as TheSide};
 ghost use Rattle.sd_model.specs.Expression.{Expression};
 ghost use Rattle.sd_vtree.specs.Numbered.{numbers, plain_tree};
@@ -54,9 +54,6 @@ fn ahead(
     ensures serves { Serves c.new m.new }
     ensures table { IsTable m.new }
 {
-    if from >= steps.len() {
-        return Ok(None);
-    }
     let Some(step) = steps.get(from).copied() else {
         return Ok(None);
     };
@@ -69,34 +66,23 @@ fn ahead(
             };
         }
     };
-    let here = moved.size;
-    let found = ahead(
-        alloc,
-        m,
-        c,
-        place,
-        steps,
-        from + 1,
-        most,
-        lesser(here, least),
-    );
+    let Moved { size, journal } = moved;
+    let so_far = size.min(least);
+    let found = ahead(alloc, m, c, place, steps, from + 1, most, so_far);
     // That the epoch is a `u64` tells that it is the last one where it no longer rises.
     let _ = m.epoch();
     match found {
-        Ok(later) => match best(later, here, least) {
-            Some(size) => {
-                let Moved { size: _, journal } = moved;
+        Ok(later) => match best(later, size, least) {
+            Some(best) => {
                 settle(m, journal);
-                Ok(Some(size))
+                Ok(Some(best))
             }
             None => {
-                let Moved { size: _, journal } = moved;
                 undo(m, journal);
                 Ok(None)
             }
         },
         Err(error) => {
-            let Moved { size: _, journal } = moved;
             undo(m, journal);
             Err(error)
         }
@@ -125,15 +111,6 @@ fn best(later: Option<u32>, here: u32, least: u32) -> Option<u32>
         return later;
     }
     if here < least { Some(here) } else { None }
-}
-
-// The lesser of two numbers.
-fn lesser(a: u32, b: u32) -> u32
-    ensures first { result ≤ a }
-    ensures second { result ≤ b }
-    ensures one { (a ≤ result) ⊎ (b ≤ result) }
-{
-    if a < b { a } else { b }
 }
 
 // A bound of so many hundredths of a size, or the last `u32` where it is past that.

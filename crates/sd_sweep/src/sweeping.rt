@@ -2,10 +2,9 @@
 //!
 //! A manager counts the uses of each node: in lists of nodes, in loose runs, and by roots. A node without uses is a
 //! candidate as soon as it is made or its last use ends, and stands on a stack inside the table of nodes, so that no
-//! walk
-//! looks for it. A sweep takes candidates until there is none; taking one away may make candidates of its children.
-//! Since
-//! what a node uses stands below it, no ring of nodes keeps itself, and counts of uses find all that is not reached.
+//! walk looks for it. A sweep takes candidates until there is none; taking one away may make candidates of its
+//! children. Since what a node uses stands below it, no ring of nodes keeps itself, and counts of uses find all that
+//! is not reached.
 //!
 //! So a sweep costs what died and what is new since the last one, and no visit of what stays. Clearing all marks and
 //! walking from the roots, which is the usual form, would cost the whole table after each group of a formula.

@@ -116,6 +116,12 @@ reaches_next plan state index effects command next steps = record {
   };
 }
 
+-- the index told otherwise
+pub so_far_at : {asks : List Request → Type 0} (plan : Plan) (v index other : ℕ) (code : RunState) (old now : Contents)
+    → other ≡ index → SoFar asks plan v index code old now → SoFar asks plan v other code old now
+so_far_at {asks = asks} plan v index other code old now is so_far =
+    subst (λ n. SoFar asks plan v n code old now) (sym is) so_far
+
 -- the command at the index is done
 pub so_far_more : {a b c : List Request → Type 0} (plan : Plan) (v index : ℕ) (code code' : RunState)
     (old now new : Contents) (command : NumberedCommand)

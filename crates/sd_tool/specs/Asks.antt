@@ -64,8 +64,8 @@ GoesTo asks words files effects end =
     × ComesTo (λ readings. asks (readings ++ writings (begun effects end))) files (reading_of words) (Begins plan)
     × EndsAmong plan effects end)
 
--- The run did some effects and came to an end with this status, as the words and the files lead, and asked for no more
--- than they do; and of these this holds.
+-- For some effects and an end of this status: the words and the files lead to them, no more is asked than these ask,
+-- and this holds of them.
 abbrev pub Went : List (List ℕ) → ℕ → Seen → (List Effect → End → Type 0) → Type 0
 Went words status seen holds = (effects : List Effect) × (end : End) × (status ≡ status_of end)
     × GoesTo seen.asked words seen.old.contents.files effects end × holds effects end

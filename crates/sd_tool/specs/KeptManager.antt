@@ -23,14 +23,14 @@ pub record HoldsAt (plan : Plan) (effects : List Effect) (t : Table) : Type 0 wh
   pub left : IsTreeLeft plan.input state next.command (plain_tree t.vtree)
   pub holds : HoldsState t (record state { tree = plain_tree t.vtree })
 
--- At a full arena the manager that refused is kept, as it was at the command in hand of the plan to which the words and
--- the files lead, and at each other end none.
+-- At a full arena the manager that refused is kept, as the command in hand left it, of the plan to which the words and
+-- the files lead. At each other end none is kept.
 abbrev pub KeepsManager : List (List ℕ) → Option Files → List Effect → End → Option Table → Type 0
 KeepsManager words files effects (ArenaFull elements) kept = (t : Table) × (plan : Plan) × (kept ≡ Some t)
     × IsFilled elements t × MayComeTo files (reading_of words) (Begins plan) × HoldsAt plan effects t
 KeepsManager words files effects end kept = kept ≡ None
 
--- the end has its reason and its line, and what is kept is what it keeps
+-- an end as it has to be: with its reason, with the manager that it keeps, and with its line on `err`
 abbrev pub EndsSo : List (List ℕ) → List Effect → End → Option Table → Seen → Type 0
 EndsSo words effects end kept seen = HasReason end seen.old.contents.files seen.old.faults seen.new.faults
     × KeepsManager words seen.old.contents.files effects end kept × WritesEndLine end seen.old seen.new

@@ -1,4 +1,5 @@
 -- What `run` promises, clause by clause, of the words, its status, and what the shelf, `out` and `err` show (`seen`).
+-- The status of an end is `status_of` in Ends.antt, and that of a refusal `refusal_status` in Refusals.antt.
 use Rattle.std.specs.Prelude.{◌≡◌, ◌⊎◌, ◌↔◌, ℕ, List, [], Option}
 use Rattle.std.specs.List.{AllZip}
 use Rattle.sd_model.specs.Expression.{Expression, AreOneFunction}
@@ -25,25 +26,29 @@ HasEqualTexts words seen = (tree : Tree) (fs gs : List Expression) (a b : List �
 abbrev pub HasWritten : List (List ℕ) → ℕ → Seen → Type 0
 HasWritten words status seen = status ≡ 0 → IsPlain words seen → (run : PlainRun words seen) × WritesInput run
 
--- limited: without a script, 4 comes only where the first groups pass the limit; there, if no device fails, 4, 7 or 8
+-- limited: without a script, over told files, 4 comes only where the first groups pass the limit; where they do and
+-- neither the shelf nor `out` fails, 4, 7 or 8 comes
 abbrev pub HasLimit : List (List ℕ) → ℕ → Seen → Type 0
 HasLimit words status seen = (run : PlainRun words seen) → (status ≡ 4 → TellsGroup run)
     × ((group size : ℕ) → PassesAt run group size → IsCalm seen → (status ≡ 4) ⊎ LacksRoom status)
 
--- joined: at 0 a script of four lines wrote the diagram of two formulas, joined; if no device fails, 0, 4, 7 or 8 comes
+-- joined: over told files, a script of four lines wrote at 0 the diagram of two formulas, joined; where neither the
+-- shelf nor `out` fails, 0, 4, 7 or 8 comes
 abbrev pub HasJoined : List (List ℕ) → ℕ → Seen → Type 0
 HasJoined words status seen = (run : FourLines words seen) → (status ≡ 0 → WritesJoined run)
     × (IsCalm seen → (status ≡ 0) ⊎ (status ≡ 4) ⊎ LacksRoom status)
 
--- line: `err` has the one line of the end, and at 0 none
+-- line: `err` has the one line of the end behind what stood there, or a prefix of it where `err` failed; at 0 none
 abbrev pub HasLine : List (List ℕ) → ℕ → Seen → Type 0
 HasLine words status seen = Went words status seen (λ effects end. WritesEndLine end seen.old seen.new)
 
--- ends: all is done, or it is refused, passes a limit, a device fails, or memory or room is gone, each for its reason
+-- ends: all is done, or there is a reason: a refusal, a passed limit, a place that is not movable, a failed device, or
+-- a full arena, whose manager is kept, and at no other end one; out of memory (7) needs no reason
 abbrev pub HasEnd : List (List ℕ) → ℕ → Option Table → Seen → Type 0
 HasEnd words status kept seen = Went words status seen (λ effects end. EndsSo words effects end kept seen)
 
--- complete: if no device fails, a run comes to the end to which told files lead, or there is no memory or no room
+-- complete: where neither the shelf nor `out` fails, a run comes to the end of status 0 to 4 to which the words and
+-- told files lead, without a script to 0 or 4; or there is no memory (7) or no room (8)
 abbrev pub IsComplete : List (List ℕ) → ℕ → Seen → Type 0
 IsComplete words status seen = IsCalm seen → (PlainRun words seen → (status ≡ 0) ⊎ (status ≡ 4) ⊎ LacksRoom status)
     × ((own : OwnEnd words seen) → CameTo own status ⊎ LacksRoom status)

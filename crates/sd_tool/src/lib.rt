@@ -1,5 +1,10 @@
 //! The whole run of the program over a shelf of files and two sinks: the words, the input files, and the commands of
-//! the script, which build formulas under one vtree, compare and evaluate them, and write their texts.
+//! the script, which build formulas under one vtree, compare and evaluate them, move the vtree or search for a better
+//! one, and write texts.
+//!
+//! `run` (`whole_run.rt`) is the one door. It reads all inputs first (`reading.rt`, `scripts.rt`), which makes a plan
+//! (`plan.rt`), then does the plan's commands one by one with what each asks for outside (`devices.rt`), and ends with
+//! a status and at most one line (`stop.rt`, `refusal.rt`, `parts.rt`). What it promises is `specs/Theorem.antt`.
 #![tactic(auto)]
 
 mod devices;

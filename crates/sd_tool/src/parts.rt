@@ -12,7 +12,8 @@ ghost use Rattle.sd_tool.specs.Refusals.{at_line, counts, signed_text};
 use itoa::Buffer;
 use sd_base::{Sink, WriteFault, write_all};
 
-/// What a text is about, and what it says of it: texts, and perhaps one number or two between them.
+/// What a text is about, and what it says of it: texts, and perhaps one number or two between them. It is its fields,
+/// one after another, a number in decimal.
 #[derive(Clone, Copy, Debug)]
 pub struct Parts<'a> {
     pub subject: &'a [u8],

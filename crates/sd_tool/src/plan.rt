@@ -12,11 +12,14 @@ use sd_script::Indices;
 use sd_words::{InputWord, Job};
 use std::alloc::{AllocError, Global};
 
-/// The formula of a run, the state that the commands begin with, and the commands.
+/// All that a run does, once its inputs are read.
 #[derive(Drop)]
 pub struct RunPlan {
+    /// The input, to which `input` binds a name.
     pub formula: Formula,
+    /// The state that the commands begin with: the start vtree, and no names.
     pub state: RunState,
+    /// Each with its line, and a loaded file with its nodes.
     pub commands: Vec<NumberedCommand>,
 }
 

@@ -23,8 +23,8 @@ use crate::plan::{RunPlan, announced};
 use crate::refusal::Refusal;
 use crate::scripts::read_commands;
 use crate::stop::Stop;
-use crate::texts::{read_text, too_long};
-use sd_base::{Name, Shelf};
+use crate::texts::{copy_of, read_text, too_long};
+use sd_base::Shelf;
 use sd_commands::{NumberedCommand, RunState};
 use sd_formula::{Formula, FormulaError, Kind, generate, read_dimacs};
 use sd_vfile::{VtreeFault, read_vtree};
@@ -222,10 +222,7 @@ fn formula_in(alloc: Global, file: &str, bytes: &[u8], kind: Kind) -> Result<For
     match read_dimacs(alloc, bytes, kind) {
         Ok(formula) => Ok(formula),
         Err(FormulaError::OutOfMemory) => Err(Stop::OutOfMemory),
-        Err(fault) => match Name::copy_of(alloc, file) {
-            Ok(name) => Err(Stop::Refused(Refusal::BadFormula(name, fault))),
-            Err(_) => Err(Stop::OutOfMemory),
-        },
+        Err(fault) => Err(Stop::Refused(Refusal::BadFormula(copy_of(alloc, file)?, fault))),
     }
 }
 
@@ -306,9 +303,6 @@ fn vtree_in(alloc: Global, file: &str, bytes: &[u8], variables: u32) -> Result<V
     match read_vtree(alloc, bytes, variables) {
         Ok(vtree) => Ok(vtree),
         Err(VtreeFault::OutOfMemory) => Err(Stop::OutOfMemory),
-        Err(fault) => match Name::copy_of(alloc, file) {
-            Ok(name) => Err(Stop::Refused(Refusal::BadVtree(name, fault))),
-            Err(_) => Err(Stop::OutOfMemory),
-        },
+        Err(fault) => Err(Stop::Refused(Refusal::BadVtree(copy_of(alloc, file)?, fault))),
     }
 }

@@ -20,7 +20,7 @@ ghost use Rattle.sd_tool.specs.declared.refusal.Refusal.TheVariants as refusals;
 use crate::plan::default_commands;
 use crate::refusal::Refusal;
 use crate::stop::Stop;
-use crate::texts::{read_text, too_long};
+use crate::texts::{copy_of, read_text, too_long};
 use sd_base::{Bits, Name, Shelf};
 use sd_commands::{NumberedCommand, RunCommand};
 use sd_file::{SddFault, SddFile, read_sdd};
@@ -113,10 +113,7 @@ fn script_in(alloc: Global, file: &str, bytes: &[u8], variables: u32) -> Result<
     match read_script(alloc, bytes, variables) {
         Ok(script) => Ok(script),
         Err(ScriptFault::OutOfMemory) => Err(Stop::OutOfMemory),
-        Err(fault) => match Name::copy_of(alloc, file) {
-            Ok(name) => Err(Stop::Refused(Refusal::BadScript(name, fault))),
-            Err(_) => Err(Stop::OutOfMemory),
-        },
+        Err(fault) => Err(Stop::Refused(Refusal::BadScript(copy_of(alloc, file)?, fault))),
     }
 }
 
@@ -315,9 +312,6 @@ fn sdd_in(alloc: Global, file: &str, bytes: &[u8], variables: u32) -> Result<Sdd
     match read_sdd(alloc, bytes, variables) {
         Ok(read) => Ok(read),
         Err(SddFault::OutOfMemory) => Err(Stop::OutOfMemory),
-        Err(fault) => match Name::copy_of(alloc, file) {
-            Ok(name) => Err(Stop::Refused(Refusal::BadSdd(name, fault))),
-            Err(_) => Err(Stop::OutOfMemory),
-        },
+        Err(fault) => Err(Stop::Refused(Refusal::BadSdd(copy_of(alloc, file)?, fault))),
     }
 }

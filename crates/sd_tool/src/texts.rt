@@ -1,10 +1,11 @@
 // Files as texts, and the stops at what they are refused for.
-ghost use Rattle.std.specs.Prelude.{◌≡◌, ◌≤◌, IfOk};
+ghost use Rattle.std.specs.Prelude.{◌≡◌, ◌≤◌, IfOk, MatchResult};
 ghost use Rattle.sd_base.specs.Asked.{Adds};
 ghost use Rattle.sd_base.specs.Shelf.{NoFile};
 ghost use Rattle.sd_tool.specs.Readings.{Reading, Reads, Text};
 ghost use Rattle.sd_tool.specs.Stops.{LeadsTo, StopsFor, IsShort, text_read};
 ghost use Rattle.sd_tool.specs.declared.refusal.Refusal.TheVariants as refusals;
+ghost use Rattle.sd_tool.specs.declared.stop.Stop.TheVariants as stops;
 
 use crate::refusal::Refusal;
 use crate::stop::Stop;
@@ -32,6 +33,16 @@ pub fn read_text<F: Shelf>(alloc: Global, file: &str, shelf: &mut F) -> Result<O
             Ok(name) => Err(Stop::ReadFault(name)),
             Err(_) => Err(Stop::OutOfMemory),
         },
+    }
+}
+
+/// A copy of the name of a file, for the refusal that tells it.
+pub fn copy_of(alloc: Global, file: &str) -> Result<Name, Stop>
+    ensures { MatchResult result (λ name. name ≡ file.now) (λ stop. stop ≡ stops.OutOfMemory) }
+{
+    match Name::copy_of(alloc, file) {
+        Ok(name) => Ok(name),
+        Err(_) => Err(Stop::OutOfMemory),
     }
 }
 

@@ -23,14 +23,20 @@ use std::alloc::Global;
 use std::thread::Threads;
 
 /// Runs the program with these words over a shelf of files, and answers its status:
-/// 0 where all was done, 1 where the words are refused, 2 where the formula file, the vtree file or a loaded file is
-/// too long or has a fault, 3 where the script is too long or has a fault, 4 where the total size passes the limit, 5
-/// where an input was not read, 6 where an output or a printed line was not written, 7 where memory ran out, and 8
-/// where
-/// the arena of the diagrams was full. The words are read first, then the formula file, the vtree file, the script, and
-/// the files that it loads; no other is asked for, and none after an output.
-/// At every status but 0 the one line that says so is written to `err`. At 8 the manager that refused is put into
-/// `kept`, which is empty before.
+///
+/// - 0 all was done;
+/// - 1 the words are refused;
+/// - 2 the formula file, the vtree file or a loaded file is too long or has a fault;
+/// - 3 the script is too long or has a fault, or the vtree cannot be moved as a command says;
+/// - 4 the total size passes the limit;
+/// - 5 an input was not read;
+/// - 6 an output or a printed line was not written;
+/// - 7 memory ran out;
+/// - 8 the arena of the diagrams was full.
+///
+/// The words are read first, then the formula file, the vtree file, the script, and the files that it loads; no other
+/// is asked for, and none after an output. At every status but 0 the one line that says so is written to `err`. At 8
+/// the manager that refused is put into `kept`, which is empty before.
 pub fn run<R: Threads + Sync, F: Shelf, O: Sink, E: Sink>(
     _rt: &R,
     alloc: Global,
@@ -138,7 +144,7 @@ fn execute_plan<F: Shelf, O: Sink>(
         mut state,
         commands,
     } = plan;
-    match execute_commands(alloc, shelf, out, &formula, &mut state, &commands) {
+    match execute_commands(alloc, shelf, out, &formula, &mut state, commands) {
         Ok(()) => Ok(()),
         Err(stop) => {
             keep(kept, &stop, state.manager);
@@ -156,22 +162,22 @@ fn keep(kept: &mut Option<Manager>, stop: &Stop, manager: Manager)
     }
 }
 
-// Does the commands in order, up to the first that stops.
+// Does the commands in order, up to the first that stops. Each is freed once it is done, with the file that it loaded.
 fn execute_commands<F: Shelf, O: Sink>(
     alloc: Global,
     shelf: &mut F,
     out: &mut O,
     formula: &Formula,
     state: &mut RunState,
-    commands: &[NumberedCommand],
+    commands: Vec<NumberedCommand>,
 ) -> Result<(), Stop>
     requires hand { F.hand shelf.old ≡ NoFile }
-    requires ready { IsReadyWith formula.now state.old commands.now }
+    requires ready { IsReadyWith formula.now state.old commands.items }
     ensures hand { F.hand shelf.new ≡ NoFile }
     ensures fewer { NotFewer (faults F.read_faults F.write_faults O.faults shelf.old out.old)
         (faults F.read_faults F.write_faults O.faults shelf.new out.new) }
     ensures goes { RunsToEnd (Adds F.asked shelf.old shelf.new)
-        (plan_with formula.now state.old commands.now) state.new.manager result
+        (plan_with formula.now state.old commands.items) state.new.manager result
         (contents F.files O.written shelf.old out.old)
         (contents F.files O.written shelf.new out.new)
         (faults F.read_faults F.write_faults O.faults shelf.old out.old)
@@ -183,7 +189,7 @@ fn execute_commands<F: Shelf, O: Sink>(
             Err(error) => return Err(stop_at(command.line, error)),
         };
         match write_effect_if_any(shelf, out, effect) {
-            Ok(()) => {}
+            Ok(()) => drop(command),
             Err(stop) => return Err(stop),
         }
     }

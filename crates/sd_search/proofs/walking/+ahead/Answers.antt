@@ -4,9 +4,9 @@ use Rattle.sd_vtree.specs.Numbered.{plain_tree}
 use Rattle.sd_search.proofs.AlongPaths.{along_same, along_at}
 use Rattle.sd_search.proofs.KeptRoots.{kept_itself, kept_reached}
 use Rattle.sd_search.proofs.AlongPaths.{place_along}
-use Rattle.sd_search.proofs.StepsAhead.{moves_more, moves_end, item_none, item_at, item_within, ahead_none}
+use Rattle.sd_search.proofs.StepsAhead.{moves_more, moves_end, item_at, item_within, ahead_none}
 use Rattle.sd_search.proofs.StepsAhead.{ahead_refused}
-use Rattle.sd_search.proofs.StepsAhead.{stop_rule, can_go_on}
+use Rattle.sd_search.proofs.StepsAhead.{stop_rule, can_go_on, lesser_of}
 use Rattle.sd_search.proofs.Journals.{along_reached, can_settle, settled_kept, undone_reached, undone_kept, undoable}
 use Rattle.sd_search.proofs.Journals.{serves_runs, serves_undone}
 use Rattle.sd_search.proofs.AfterStep.{along_settled, unmarked_settled, rule_back, found_some, found_none, back_then}
@@ -125,17 +125,18 @@ undo-requires-in-Err-found t c =
 
 pub returns-in-Some-best-clause-ahead : goal.returns-in-Some-best-clause-ahead
 returns-in-Some-best-clause-ahead t c fs path bound held at capped =
+    let lesser = lesser_of c.in-Ok.moved.size c.args.least c.min-so_far.result c.min-so_far.ensures in
     found_some c.args.m.now c.make.new.m c.ahead-found.new.m c.settle.new.m c.in-Some.step c.args.place c.args.most
     c.args.least
-    c.in-Ok.moved.size c.lesser.result c.in-Ok.moved.journal (moves_from c.args.steps.now c.args.from)
+    c.in-Ok.moved.size c.min-so_far.result c.in-Ok.moved.journal (moves_from c.args.steps.now c.args.from)
     (moves_from c.args.steps.now (c.args.from + 1)) c.in-Ok-found.later c.requires.table c.make.ensures.table
     c.requires.no_move c.in-Ok.ensures.stepped (moves_more c.args.steps.now c.args.from c.in-Some.step
     (sym (c.in-Some.ensures
     ∙ item_at c.args.steps.now c.args.from c.get.result c.get.ensures.lookup.0 c.get.ensures.lookup.1)))
     c.in-Ok.ensures.sized c.in-Ok.ensures.within
-    c.lesser.ensures.first c.lesser.ensures.second c.lesser.ensures.one c.in-Ok-found.ensures.ahead
+    lesser.0 lesser.1 lesser.2 c.in-Ok-found.ensures.ahead
     c.in-Ok-found.ensures.none
-    c.in-Some-best.size c.in-Some-best.ensures.best c.settle.ensures.settled fs path bound held at capped
+    c.in-Some-best.best c.in-Some-best.ensures.best c.settle.ensures.settled fs path bound held at capped
 
 pub returns-in-Some-best-clause-along : goal.returns-in-Some-best-clause-along
 returns-in-Some-best-clause-along t c path at =
@@ -165,15 +166,16 @@ returns-in-Some-best-clause-serves t c =
 
 pub returns-in-None-best-clause-ahead : goal.returns-in-None-best-clause-ahead
 returns-in-None-best-clause-ahead t c fs path bound held at capped =
+    let lesser = lesser_of c.in-Ok.moved.size c.args.least c.min-so_far.result c.min-so_far.ensures in
     found_none c.args.m.now c.make.new.m c.ahead-found.new.m c.undo.new.m c.in-Some.step c.args.place c.args.most
     c.args.least
-    c.in-Ok.moved.size c.lesser.result c.in-Ok.moved.journal (moves_from c.args.steps.now c.args.from)
+    c.in-Ok.moved.size c.min-so_far.result c.in-Ok.moved.journal (moves_from c.args.steps.now c.args.from)
     (moves_from c.args.steps.now (c.args.from + 1)) c.in-Ok-found.later c.requires.table c.make.ensures.table
     c.requires.no_move c.in-Ok.ensures.stepped (moves_more c.args.steps.now c.args.from c.in-Some.step
     (sym (c.in-Some.ensures
     ∙ item_at c.args.steps.now c.args.from c.get.result c.get.ensures.lookup.0 c.get.ensures.lookup.1)))
     c.in-Ok.ensures.sized c.in-Ok.ensures.within
-    c.lesser.ensures.first c.lesser.ensures.second c.lesser.ensures.one c.in-Ok-found.ensures.ahead
+    lesser.0 lesser.1 lesser.2 c.in-Ok-found.ensures.ahead
     c.in-Ok-found.ensures.none
     c.in-None-best.ensures.best fs path bound held at capped
 
@@ -253,20 +255,3 @@ returns-in-Err-found-clause-serves t c =
 pub returns-in-Err-found-clause-unmarked : goal.returns-in-Err-found-clause-unmarked
 returns-in-Err-found-clause-unmarked t c =
     c.undo-in-Err-found.ensures.unmarked c.ahead-found.ensures.unmarked
-
-pub returns-then-from-steps-clause-ahead : goal.returns-then-from-steps-clause-ahead
-returns-then-from-steps-clause-ahead t c fs path bound held at capped =
-    ahead_none fs bound (plain_tree c.args.m.now.vtree) (plain_tree c.args.m.now.vtree) path
-    (moves_from c.args.steps.now c.args.from) c.args.least
-    (moves_end c.args.steps.now c.args.from
-    (item_none c.args.steps.now c.args.from (omega (arith, c.if-from-steps.true))))
-
-pub returns-then-from-steps-clause-along : goal.returns-then-from-steps-clause-along
-returns-then-from-steps-clause-along t c path at = along_same c.args.m.now.vtree path c.args.place at
-
-pub returns-then-from-steps-clause-none : goal.returns-then-from-steps-clause-none
-returns-then-from-steps-clause-none t c =
-    record { vtree = refl; nodes = λ n k r e. e; roots = refl; loose = refl }
-
-pub returns-then-from-steps-clause-kept : goal.returns-then-from-steps-clause-kept
-returns-then-from-steps-clause-kept t c = kept_itself c.args.m.now c.requires.table c.requires.no_move

@@ -1,4 +1,4 @@
-use Rattle.std.proofs.Common.{◌≡◌, ◌≤◌}
+use Rattle.std.proofs.Common.{◌≡◌, ◌≤◌, length}
 use Rattle.sd_base.specs.Asked.{Adds}
 use Rattle.sd_base.specs.Shelf.{NoFile}
 use Rattle.sd_model.specs.Tree.{leaves}
@@ -13,12 +13,12 @@ abbrev pub invariant-loop-command : goal.invariant-loop-command
 invariant-loop-command g l = record {
   hand : g.F.Shelf.hand l.shelf ≡ NoFile;
   so_far : SoFar (Adds g.F.Shelf.asked l.fn.shelf l.shelf)
-      (plan_with l.formula l.fn.state l.commands) l.formula.variables
-      l.command-index l.state
+      (plan_with l.formula l.fn.state l.fn.commands.items) l.formula.variables
+      (length l.yielded) l.state
       (contents g.F.Shelf.files g.O.Sink.written l.fn.shelf l.fn.out)
       (contents g.F.Shelf.files g.O.Sink.written l.shelf l.out);
   variables : leaves (plain_tree l.state.manager.vtree) ≡ leaves (plain_tree l.fn.state.manager.vtree);
-  roots : root_count l.state ≤ l.command-index;
+  roots : root_count l.state ≤ length l.yielded;
   fewer : NotFewer
       (faults g.F.Shelf.read_faults g.F.Shelf.write_faults g.O.Sink.faults l.fn.shelf l.fn.out)
       (faults g.F.Shelf.read_faults g.F.Shelf.write_faults g.O.Sink.faults l.shelf l.out);

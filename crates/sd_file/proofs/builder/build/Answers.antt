@@ -1,6 +1,6 @@
 use Rattle.std.proofs.Common.{arith}
 use Rattle.sd_file.proofs.Building.{last_built}
-use Rattle.sd_file.proofs.compile.build.Goals as goal
+use Rattle.sd_file.proofs.builder.build.Goals as goal
 
 -- the last node has the file's value
 pub returns-clause-ok : goal.returns-clause-ok

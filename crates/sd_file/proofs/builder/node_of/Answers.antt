@@ -4,7 +4,7 @@ use Rattle.std.proofs.lemmas.Result.{IfOk-weaker}
 use mir.Val.{SFits}
 use Rattle.sd_model.specs.Assignment.{literal_holds}
 use Rattle.sd_file.proofs.Building.{constant_built, literal_built, decomposition_built}
-use Rattle.sd_file.proofs.compile.node_of.Goals as goal
+use Rattle.sd_file.proofs.builder.node_of.Goals as goal
 
 pub returns-in-Constant-clause-ok : goal.returns-in-Constant-clause-ok
 returns-in-Constant-clause-ok c =

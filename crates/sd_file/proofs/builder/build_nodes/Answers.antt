@@ -2,7 +2,7 @@ use Rattle.std.proofs.Common.{◌+◌, ◌∙◌, length, ap}
 use Rattle.std.proofs.lemmas.List.{length_push}
 use Rattle.sd_manager.proofs.Extending.{extends_on}
 use Rattle.sd_file.proofs.Building.{built_more}
-use Rattle.sd_file.proofs.compile.build_nodes.Goals as goal
+use Rattle.sd_file.proofs.builder.build_nodes.Goals as goal
 
 -- one node more
 pub loop-index-preserved : goal.loop-index-preserved

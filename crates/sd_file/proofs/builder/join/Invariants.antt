@@ -3,7 +3,7 @@ use Rattle.sd_manager.specs.Making.{Extends}
 use Rattle.sd_apply.specs.Answers.{HasAnswer}
 use Rattle.sd_apply.specs.Serving.{Serves}
 use Rattle.sd_file.proofs.Building.{front_value}
-use Rattle.sd_file.proofs.compile.join.Given as goal
+use Rattle.sd_file.proofs.builder.join.Given as goal
 
 -- the node has the value of the first pairs
 abbrev pub invariant-loop-element : goal.invariant-loop-element

@@ -3,7 +3,7 @@ use Rattle.sd_manager.specs.Valid.{IsTable}
 use Rattle.sd_manager.specs.Making.{Extends}
 use Rattle.sd_apply.specs.Serving.{Serves}
 use Rattle.sd_file.specs.Built.{AreBuilt}
-use Rattle.sd_file.proofs.compile.build_nodes.Given as goal
+use Rattle.sd_file.proofs.builder.build_nodes.Given as goal
 
 -- the first nodes are built
 abbrev pub invariant-loop-index : goal.invariant-loop-index

@@ -1,7 +1,7 @@
 use Rattle.sd_apply.proofs.Listed.{answer_on}
 use Rattle.sd_manager.proofs.Extending.{extends_on}
 use Rattle.sd_file.proofs.Building.{answer_node, built_at, pair_answer, pair_more}
-use Rattle.sd_file.proofs.compile.join.Goals as goal
+use Rattle.sd_file.proofs.builder.join.Goals as goal
 
 -- primes and subs are earlier nodes, which are built
 pub and-requires-clause-first : goal.and-requires-clause-first
