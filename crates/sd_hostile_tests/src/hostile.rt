@@ -12,6 +12,13 @@ const BALANCED: &str = "vtree 7\nL 0 1\nL 2 2\nI 1 0 2\nL 4 3\nL 6 4\nI 5 4 6\nI
 const TWO_TERMS_AS_SDD: &str = "sdd 13\nL 0 0 -1\nF 1\nL 2 0 1\nL 3 2 2\nD 4 1 2 0 1 2 3\nT 5\n\
     L 6 2 -2\nD 7 1 2 0 5 2 6\nL 8 4 -3\nL 9 4 3\nL 10 6 4\nD 11 5 2 8 1 9 10\nD 12 3 2 4 5 7 11\n";
 
+// Words that read a formula, a vtree and, by a script, a diagram.
+const READS_IN: (&str, u8) = ("--cnf in --out-sdd out", 2);
+
+const READS_TREE: (&str, u8) = ("--dnf in --vtree tree --out-sdd out", 2);
+
+const LOADS_PART: (&str, u8) = ("--dnf in --script s", 2);
+
 // Runs the words over a file that is cut off after so many bytes, beside other files, and says whether the file was
 // refused with this fault and status, and nothing written; or, where there is no fault, whether the run ended well.
 fn is_refused(
@@ -97,8 +104,8 @@ fn vtrees_that_are_cut_off(rt: HostRuntime) -> Result<(), Fail> {
         (54, "line 8: bad line"),
         (55, ""),
     ];
-    let run = ("--dnf in --vtree tree --out-sdd out", 2);
-    assert!(rt; are_refused(&rt, rt.alloc(), run, ("tree", BALANCED), &table)?);
+    let file = ("tree", BALANCED);
+    assert!(rt; are_refused(&rt, rt.alloc(), READS_TREE, file, &table)?);
     Ok(())
 }
 
@@ -136,8 +143,48 @@ fn diagrams_that_are_cut_off(rt: HostRuntime) -> Result<(), Fail> {
         (140, "line 14: bad line"),
         (142, ""),
     ];
-    let run = ("--dnf in --script s", 2);
-    assert!(rt; are_refused(&rt, rt.alloc(), run, ("part", TWO_TERMS_AS_SDD), &table)?);
+    let file = ("part", TWO_TERMS_AS_SDD);
+    assert!(rt; are_refused(&rt, rt.alloc(), LOADS_PART, file, &table)?);
+    Ok(())
+}
+
+/// Nothing is written where a text is refused.
+#[test]
+fn refused_texts_have_their_line(rt: HostRuntime) -> Result<(), Fail> {
+    let table = [
+        (READS_IN, "in", "p cnf 2 1\n", "1 stated, 0 found"),
+        (READS_IN, "in", "\x1f\n", "no header"),
+        (
+            READS_IN,
+            "in",
+            "p cnf 2 1\n999999999999999999 0\n",
+            "line 2: literal out of range: 999999999999999999",
+        ),
+        (
+            READS_IN,
+            "in",
+            "p cnf 2 1\n1000000000000000000 0\n",
+            "line 2: bad word",
+        ),
+        (
+            READS_IN,
+            "in",
+            "p cnf 1025 0\n",
+            "variables out of range: 1025",
+        ),
+        (
+            READS_IN,
+            "in",
+            "p cnf 2 1000001\n",
+            "too many groups: 1000001",
+        ),
+        (READS_TREE, "tree", "vtree 3\n", "3 stated, 0 found"),
+        (LOADS_PART, "part", "sdd 5\n", "5 stated, 0 found"),
+    ];
+    for (run, name, text, fault) in table {
+        let whole = (text, text.len(), fault);
+        assert!(rt; is_refused(&rt, rt.alloc(), run, name, whole)?, "{text}");
+    }
     Ok(())
 }
 
@@ -184,26 +231,36 @@ fn scripts_that_are_cut_off(rt: HostRuntime) -> Result<(), Fail> {
 
 const TWO_WRITINGS: &str = "--cnf in --vtree tree --script s";
 
+const WRITES_TWICE: &str = "input f\nwrite f A\nwrite f B\nsize f\n";
+
+const TWO_LEAVES: &str = "vtree 3\nL 0 1\nL 2 2\nI 1 0 2\n";
+
 // The files of a run that writes one diagram twice and prints its size.
 fn four_files(alloc: Global) -> Result<Vec<NamedBytes>, AllocError> {
-    let script = "input f\nwrite f A\nwrite f B\nsize f\n";
-    let mut files = two_files(alloc, A_CLAUSE, "s", script)?;
-    files.push(file(alloc, "tree", b"vtree 3\nL 0 1\nL 2 2\nI 1 0 2\n")?)?;
+    let mut files = two_files(alloc, A_CLAUSE, "s", WRITES_TWICE)?;
+    files.push(file(alloc, "tree", TWO_LEAVES.as_bytes())?)?;
     Ok(files)
 }
 
-// How many bytes a file of a run holds that ended at a fault: those of the diagram's text, from its begin.
-fn held(end: &Outcome, name: &str) -> Option<usize> {
-    let bytes = end.files.bytes_of(name)?;
-    if A_CLAUSE_AS_SDD.as_bytes().starts_with(bytes) {
-        Some(bytes.len())
-    } else {
-        None
+// How many bytes of the diagram's text, from its begin, `A` and `B` hold where a run ends; none where there is no file.
+type Held = (Option<usize>, Option<usize>);
+
+// Whether a file holds so many bytes of the diagram's text, or is not there.
+fn holds_front(end: &Outcome, name: &str, count: Option<usize>) -> bool {
+    match count {
+        Some(count) => end.files.bytes_of(name) == A_CLAUSE_AS_SDD.as_bytes().get(..count),
+        None => end.lacks(name),
     }
 }
 
-// A file in hand, and how many bytes `A` and `B` hold where a call for that file fails.
-type Fault<'a> = (&'a str, Option<usize>, Option<usize>);
+// Whether a run left its two outputs so, and its inputs as they were.
+fn left(end: &Outcome, (first, second): Held) -> bool {
+    end.holds("in", A_CLAUSE)
+        && end.holds("tree", TWO_LEAVES)
+        && end.holds("s", WRITES_TWICE)
+        && holds_front(end, "A", first)
+        && holds_front(end, "B", second)
+}
 
 // Runs the words with the nth call of a kind failing.
 fn ran_failing(
@@ -231,15 +288,12 @@ fn each_fails(
     call: ShelfCall,
     status: u8,
     kind: &str,
-    faults: &[Fault<'_>],
+    faults: &[(&str, Held)],
 ) -> Result<bool, AllocError> {
-    for (index, (name, first, second)) in faults.iter().enumerate() {
+    for (index, (name, held)) in faults.iter().enumerate() {
         let end = ran_failing(rt, alloc, call, index as u64 + 1)?;
         let line = format!(in alloc; "sddc: {name}: {kind} fault\n")?;
-        if !end.ended(status, "", &line)
-            || held(&end, "A") != *first
-            || held(&end, "B") != *second
-        {
+        if !end.ended(status, "", &line) || !left(&end, *held) {
             return Ok(false);
         }
     }
@@ -254,23 +308,24 @@ fn ends_well(
     nth: u64,
 ) -> Result<bool, AllocError> {
     let end = ran_failing(rt, alloc, call, nth)?;
-    Ok(end.ended(0, "size 2\n", "") && held(&end, "B") == Some(51))
+    Ok(end.ended(0, "size 2\n", "") && left(&end, (Some(51), Some(51))))
 }
 
 #[test]
 fn each_call_that_reads_fails(rt: HostRuntime) -> Result<(), Fail> {
     let alloc = rt.alloc();
-    let starts = [("in", None, None), ("tree", None, None), ("s", None, None)];
+    let none = (None, None);
+    let starts = [("in", none), ("tree", none), ("s", none)];
     assert!(rt; each_fails(&rt, alloc, ShelfCall::StartRead, 5, "read", &starts)?);
     assert!(rt; ends_well(&rt, alloc, ShelfCall::StartRead, 4)?);
     assert!(rt; each_fails(&rt, alloc, ShelfCall::Finish, 5, "read", &starts)?);
     let reads = [
-        ("in", None, None),
-        ("in", None, None),
-        ("tree", None, None),
-        ("tree", None, None),
-        ("s", None, None),
-        ("s", None, None),
+        ("in", none),
+        ("in", none),
+        ("tree", none),
+        ("tree", none),
+        ("s", none),
+        ("s", none),
     ];
     assert!(rt; each_fails(&rt, alloc, ShelfCall::Read, 5, "read", &reads)?);
     assert!(rt; ends_well(&rt, alloc, ShelfCall::Read, 7)?);
@@ -280,14 +335,14 @@ fn each_call_that_reads_fails(rt: HostRuntime) -> Result<(), Fail> {
 #[test]
 fn each_call_that_writes_fails(rt: HostRuntime) -> Result<(), Fail> {
     let alloc = rt.alloc();
-    let starts = [("A", None, None), ("B", Some(51), None)];
+    let starts = [("A", (None, None)), ("B", (Some(51), None))];
     assert!(rt; each_fails(&rt, alloc, ShelfCall::StartWrite, 6, "write", &starts)?);
     assert!(rt; ends_well(&rt, alloc, ShelfCall::StartWrite, 3)?);
     let appends = [
-        ("A", Some(0), None),
-        ("A", Some(32), None),
-        ("B", Some(51), Some(0)),
-        ("B", Some(51), Some(32)),
+        ("A", (Some(0), None)),
+        ("A", (Some(32), None)),
+        ("B", (Some(51), Some(0))),
+        ("B", (Some(51), Some(32))),
     ];
     assert!(rt; each_fails(&rt, alloc, ShelfCall::Append, 6, "write", &appends)?);
     assert!(rt; ends_well(&rt, alloc, ShelfCall::Append, 5)?);
@@ -305,10 +360,7 @@ fn the_end_of_each_writing_fails(rt: HostRuntime) -> Result<(), Fail> {
     for (nth, line, second) in table {
         let end = ran_failing(&rt, alloc, ShelfCall::Finish, nth)?;
         assert!(rt; end.ended(6, "", line), "{nth}");
-        assert!(rt;
-            held(&end, "A") == Some(51) && held(&end, "B") == second,
-            "{nth}"
-        );
+        assert!(rt; left(&end, (Some(51), second)), "{nth}");
     }
     assert!(rt; ends_well(&rt, alloc, ShelfCall::Finish, 6)?);
     Ok(())
@@ -327,10 +379,7 @@ fn each_write_of_a_line_fails(rt: HostRuntime) -> Result<(), Fail> {
         let files = four_files(alloc)?;
         let end = ran_over(&rt, alloc, TWO_WRITINGS, files, Vec::new(alloc), lines)?;
         assert!(rt; end.ended(status, out, err), "{nth}");
-        assert!(rt;
-            held(&end, "A") == Some(51) && held(&end, "B") == Some(51),
-            "{nth}"
-        );
+        assert!(rt; left(&end, (Some(51), Some(51))), "{nth}");
     }
     let line = "sddc: B: write fault\n";
     for (nth, told) in [(1, 0), (2, 6), (3, 7), (4, 20), (5, 21)] {
@@ -343,10 +392,7 @@ fn each_write_of_a_line_fails(rt: HostRuntime) -> Result<(), Fail> {
             Some(end.err.bytes()) == line.as_bytes().get(..told),
             "{nth}"
         );
-        assert!(rt;
-            held(&end, "A") == Some(51) && held(&end, "B") == Some(32),
-            "{nth}"
-        );
+        assert!(rt; left(&end, (Some(51), Some(32))), "{nth}");
     }
     Ok(())
 }

@@ -64,7 +64,7 @@ fn formula_files_are_accepted(rt: HostRuntime) -> Result<(), Fail> {
         ),
         (
             "--cnf in --out-sdd out",
-            b"c \xff\np cnf 2 1\n1 2 0\n",
+            b"c \xff\r\np cnf 2 1\r\n1 2 0\r\n",
             A_CLAUSE_AS_SDD,
         ),
     ];
