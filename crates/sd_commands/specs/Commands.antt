@@ -146,13 +146,11 @@ size_line n = codes "size " ++ number_text n ++ 10 ∷ []
 
 -- the line that says whether two formulas are one function
 abbrev pub same_line : Bool → List ℕ
-same_line true = codes "same" ++ 10 ∷ []
-same_line false = codes "differ" ++ 10 ∷ []
+same_line same = (if same then codes "same" else codes "differ") ++ 10 ∷ []
 
 -- the line with a truth value
 abbrev pub value_line : Bool → List ℕ
-value_line true = codes "value 1" ++ 10 ∷ []
-value_line false = codes "value 0" ++ 10 ∷ []
+value_line value = (if value then codes "value 1" else codes "value 0") ++ 10 ∷ []
 
 -- The names keep their formulas over the moved tree, if the total size is then within the limit; where there is no such
 -- tree, the place is not movable.

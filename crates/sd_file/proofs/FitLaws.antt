@@ -16,8 +16,8 @@ use Rattle.sd_model.specs.Tree.{AreDistinct}
 use Rattle.sd_file.specs.declared.file.FileNode.{FileNode}
 use Rattle.sd_file.specs.Files.{IsEarlier, FitsAt, FitFrom, IsFile, IsKindOver, kind_of}
 use Rattle.sd_file.specs.Files.{no_entry, entry_at, pairs_in, entry_pairs}
-use Rattle.sd_file.specs.Reads.{Node, Constant, Literal, Decomposition, Entry, Form, ConstantForm, LiteralForm}
-use Rattle.sd_file.specs.Reads.{DecompositionForm, id_of, form_of, index_of_id, pair_at, is_literal, node_of}
+use Rattle.sd_file.specs.Reads.{Node, Constant, Literal, Decomposition, Entry}
+use Rattle.sd_file.specs.Reads.{form_of, index_of_id, pair_at, is_literal, node_of}
 use Rattle.sd_file.specs.Reads.{File, entry_with, entry_of}
 use Rattle.sd_file.proofs.Growing.{two, each_length}
 use Rattle.sd_file.proofs.FormPairs.{HasPairs, form_pairs}
@@ -102,14 +102,14 @@ literal_in_range v z h =
     both_true false c e = absurd cc
 
 -- a node that was read fits behind the earlier ones
-node_fits : (v : ℕ) (ids : List ℕ) (line : ℕ) (form : Form) (node : Node) → HasPairs form
+node_fits : (v : ℕ) (ids : List ℕ) (line : ℕ) (form node : Node) → HasPairs form
     → node_of v ids line form ≡ Ok node → FitsAt v (length ids) node
-node_fits v ids line (ConstantForm id value) node some h =
+node_fits v ids line (Constant value) node some h =
     subst (FitsAt v (length ids)) (ends_at (Constant value) node h) tt
-node_fits v ids line (LiteralForm id vtree z) node some h =
+node_fits v ids line (Literal vtree z) node some h =
     let tested = past (not (is_literal v z)) (LiteralRange line) (Ok (Literal vtree z)) node h in
     subst (FitsAt v (length ids)) (ends_at (Literal vtree z) node tested.1) (literal_in_range v z tested.0)
-node_fits v ids line (DecompositionForm id vtree pairs) node some h =
+node_fits v ids line (Decomposition vtree pairs) node some h =
     let read = through (each (pair_at ids line) pairs) (λ places. Ok (Decomposition vtree places)) node h in
     let below = pair_below ids line in
     let earlier = each_all (pair_at ids line) (IsEarlier (length ids)) below pairs read.middle read.gave in
@@ -125,18 +125,18 @@ record IsNext (v : ℕ) (ids : List ℕ) (e : Entry) : Type 0 where
 -- the entry of a line does
 entry_fits : (v : ℕ) (ids : List ℕ) (line : TextLine) (e : Entry) → entry_with v ids line ≡ Ok e → IsNext v ids e
 entry_fits v ids line e h =
-    let node = λ (form : Form). node_of v ids line.number form in
-    let entry : Form → Node → Result Entry SddFault = λ form node. Ok (record { id = id_of form; node = node }) in
-    let known = λ (form : Form). is_some (index_of_id (id_of form) ids) in
-    let rest = λ (form : Form). fault_if (known form) (IdTwice line.number) >> (node form >>= entry form) in
+    let node = λ (form : Entry). node_of v ids line.number form.node in
+    let entry : Entry → Node → Result Entry SddFault = λ form node. Ok (record { id = form.id; node = node }) in
+    let known = λ (form : Entry). is_some (index_of_id form.id ids) in
+    let rest = λ (form : Entry). fault_if (known form) (IdTwice line.number) >> (node form >>= entry form) in
     let formed = through (ok_or (form_of line.words) (BadLine line.number)) rest e h in
     let form = formed.middle in
     let new = past (known form) (IdTwice line.number) (node form >>= entry form) e formed.led in
     let read = through (node form) (entry form) e new.1 in
-    let is = ends_at (record { id = id_of form; node = read.middle }) e read.led in
+    let is = ends_at (record { id = form.id; node = read.middle }) e read.led in
     let some = form_pairs line.words form (had (form_of line.words) (BadLine line.number) form formed.gave) in
     subst (IsNext v ids) is
-    (record { fits = node_fits v ids line.number form read.middle some read.gave; new = new.0 })
+    (record { fits = node_fits v ids line.number form.node read.middle some read.gave; new = new.0 })
 
 -- ---- all lines
 

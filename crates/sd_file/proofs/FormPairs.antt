@@ -3,29 +3,30 @@ use Rattle.std.proofs.Common.{◌≡◌, ℕ, ◌*◌, ◌≤◌, ◌==◌, ◌&
 use Rattle.std.proofs.Common.{refl, subst, arith}
 use Rattle.std.proofs.Common.{Option, Some, None, option_map, ℤ, codes, bytes_eq}
 use Rattle.std.specs.Prelude.{nat_le, if◌then◌else◌, option_and_then}
+use Rattle.std.specs.Option.{option_zip}
 use Rattle.std.proofs.lemmas.Bool.{leb-true, eqb-true}
 use Rattle.sd_base.specs.Numbers.{natural_value, integer_value}
-use Rattle.sd_file.specs.Reads.{Form, ConstantForm, LiteralForm, DecompositionForm, constant_form, literal_from}
+use Rattle.sd_file.specs.Reads.{Node, Entry, Constant, Literal, Decomposition, constant_form}
 use Rattle.sd_file.specs.Reads.{literal_form, two_by_two, decomposition_form, all_values, form_of}
 
 -- a decomposition has pairs
-abbrev pub HasPairs : Form → Type 0
-HasPairs (ConstantForm id value) = Unit {0}
-HasPairs (LiteralForm id vtree literal) = Unit {0}
-HasPairs (DecompositionForm id vtree pairs) = 1 ≤ length pairs
+abbrev pub HasPairs : Node → Type 0
+HasPairs (Constant value) = Unit {0}
+HasPairs (Literal vtree literal) = Unit {0}
+HasPairs (Decomposition vtree pairs) = 1 ≤ length pairs
 
 -- the form that was read, if any, has pairs
-abbrev Gives : Option Form → Type 0
-Gives found = (form : Form) → found ≡ Some form → HasPairs form
+abbrev Gives : Option Entry → Type 0
+Gives found = (form : Entry) → found ≡ Some form → HasPairs form.node
 
 gives_none : Gives None
 gives_none form h = absurd cc
 
-gives_some : (form : Form) → HasPairs form → Gives (Some form)
-gives_some known has form h = let is : known ≡ form = cc in subst HasPairs is has
+gives_some : (form : Entry) → HasPairs form.node → Gives (Some form)
+gives_some known has form h = let is : known ≡ form = cc in subst (λ (e : Entry). HasPairs e.node) is has
 
 -- one of two readings
-gives_either : (b : Bool) (x y : Option Form) → Gives x → Gives y → Gives (if b then x else y)
+gives_either : (b : Bool) (x y : Option Entry) → Gives x → Gives y → Gives (if b then x else y)
 gives_either true x y first second = first
 gives_either false x y first second = second
 
@@ -34,9 +35,9 @@ constant_pairs : (value : Bool) (words : List (List ℕ)) → Gives (constant_fo
 constant_pairs value [] = gives_none
 constant_pairs value (id ∷ []) = go (natural_value id)
   where
-    go : (o : Option ℕ) → Gives (option_map (λ n. ConstantForm n value) o)
+    go : (o : Option ℕ) → Gives (option_map (λ n. record { id = n; node = Constant value }) o)
     go None = gives_none
-    go (Some n) = gives_some (ConstantForm n value) tt
+    go (Some n) = gives_some (record { id = n; node = Constant value }) tt
 constant_pairs value (id ∷ word ∷ words) = gives_none
 
 -- a literal
@@ -46,8 +47,9 @@ literal_pairs (id ∷ []) = gives_none
 literal_pairs (id ∷ vtree ∷ []) = gives_none
 literal_pairs (id ∷ vtree ∷ literal ∷ []) = go (natural_value id) (natural_value vtree) (integer_value literal)
   where
-    go : (i v : Option ℕ) (z : Option ℤ) → Gives (literal_from i v z)
-    go (Some i) (Some v) (Some z) = gives_some (LiteralForm i v z) tt
+    go : (i v : Option ℕ) (z : Option ℤ) → Gives (option_map (λ (n, (p, z)). record { id = n; node = Literal p z })
+        (option_zip i (option_zip v z)))
+    go (Some i) (Some v) (Some z) = gives_some (record { id = i; node = Literal v z }) tt
     go (Some i) (Some v) None = gives_none
     go (Some i) None z = gives_none
     go None v z = gives_none
@@ -68,11 +70,12 @@ decomposition_pairs (id ∷ vtree ∷ k ∷ children) =
     go (nat_le 1 k) (length children == 2 * k) (leb-true 1 k) (eqb-true (length children) (2 * k))
   where
     go : (some even : Bool) → (some ≡ true → 1 ≤ k) → (even ≡ true → length children ≡ 2 * k)
-        → Gives (if some && even then Some (DecompositionForm id vtree (two_by_two children)) else None)
+        → Gives (if some && even then Some (record { id = id; node = Decomposition vtree (two_by_two children) })
+        else None)
     go true true least count =
         let within_limit = least refl in
         let all = count refl in
-        gives_some (DecompositionForm id vtree (two_by_two children))
+        gives_some (record { id = id; node = Decomposition vtree (two_by_two children) })
         (pairs_some children (omega (arith, within_limit, all)))
     go true false least count = gives_none
     go false even least count = gives_none
@@ -83,7 +86,7 @@ numbers_pairs None = gives_none
 numbers_pairs (Some numbers) = decomposition_pairs numbers
 
 -- each line
-pub form_pairs : (words : List (List ℕ)) → (form : Form) → form_of words ≡ Some form → HasPairs form
+pub form_pairs : (words : List (List ℕ)) → (form : Entry) → form_of words ≡ Some form → HasPairs form.node
 form_pairs [] = gives_none
 form_pairs (letter ∷ words) =
     gives_either (bytes_eq letter (codes "F")) _ _ (constant_pairs false words)

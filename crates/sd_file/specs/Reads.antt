@@ -2,15 +2,18 @@
 use Rattle.std.specs.Prelude.{◌≡◌, ℕ, Bool, true, false, not, ◌&&◌, ◌==◌, ◌*◌, nat_le, if◌then◌else◌}
 use Rattle.std.specs.Prelude.{List, [], ◌∷◌, map, length, position, Option, Some, None, ok_or, option_map}
 use Rattle.std.specs.Prelude.{option_and_then, is_some, Result, Ok, Err, ℤ, unsigned_abs, codes, bytes_eq}
+use Rattle.std.specs.Option.{option_zip}
 use Rattle.sd_base.specs.Lines.{TextLine, content_of}
 use Rattle.sd_base.specs.Numbers.{natural_value, integer_value}
 use Rattle.sd_base.specs.Reading.{◌>>=◌, ◌>>◌, fault_if, each, each_after}
+pub use Rattle.sd_vfile.specs.Reads.{all_values, stated_behind}
 use Rattle.sd_model.specs.Expression.{FileNode, FileConstant, FileLiteral, FileDecomposition, Expression, OfFile}
 use Rattle.sd_file.specs.declared.fault.SddFault.{SddFault}
 use Rattle.sd_file.specs.declared.fault.SddFault.TheVariants.{NoHeader, BadLine, IdTwice, ChildUnknown}
 use Rattle.sd_file.specs.declared.fault.SddFault.TheVariants.{LiteralRange, CountDiffers, Empty, OutOfMemory}
 
--- a node with the vtree id that the file has; primes and subs are places in the list of the nodes before it
+-- A node with the vtree id that the file has. Primes and subs are places in the list of the nodes before it; in a line
+-- as it is written they are ids.
 pub data Node : Type 0 where
   Constant : (value : Bool) → Node
   Literal : (vtree : ℕ) (literal : ℤ) → Node
@@ -26,33 +29,18 @@ pub record File : Type 0 where
   pub variables : ℕ
   pub nodes : List Entry
 
--- ---- the four forms of a node line; in a decomposition primes and subs are ids
-
-pub data Form : Type 0 where
-  ConstantForm : (id : ℕ) (value : Bool) → Form
-  LiteralForm : (id vtree : ℕ) (literal : ℤ) → Form
-  DecompositionForm : (id vtree : ℕ) (pairs : List (ℕ × ℕ)) → Form
-
--- the id of a line
-abbrev pub id_of : Form → ℕ
-id_of (ConstantForm id value) = id
-id_of (LiteralForm id vtree literal) = id
-id_of (DecompositionForm id vtree pairs) = id
+-- ---- the four forms of a node line, as it is written
 
 -- the constant of the words after F or T
-abbrev pub constant_form : Bool → List (List ℕ) → Option Form
-constant_form value (id ∷ []) = option_map (λ n. ConstantForm n value) (natural_value id)
+abbrev pub constant_form : Bool → List (List ℕ) → Option Entry
+constant_form value (id ∷ []) = option_map (λ n. record { id = n; node = Constant value }) (natural_value id)
 constant_form value words = None
 
--- a literal, where all three numbers are there
-abbrev pub literal_from : Option ℕ → Option ℕ → Option ℤ → Option Form
-literal_from (Some id) (Some vtree) (Some literal) = Some (LiteralForm id vtree literal)
-literal_from id vtree literal = None
-
 -- the literal of the words after L
-abbrev pub literal_form : List (List ℕ) → Option Form
+abbrev pub literal_form : List (List ℕ) → Option Entry
 literal_form (id ∷ vtree ∷ literal ∷ []) =
-    literal_from (natural_value id) (natural_value vtree) (integer_value literal)
+    option_map (λ (n, (p, z)). record { id = n; node = Literal p z })
+    (option_zip (natural_value id) (option_zip (natural_value vtree) (integer_value literal)))
 literal_form words = None
 
 -- two by two
@@ -61,18 +49,15 @@ two_by_two (p ∷ s ∷ others) = (p, s) ∷ two_by_two others
 two_by_two others = []
 
 -- the numbers after D: an id, a vtree id, k, and k pairs, at least one
-abbrev pub decomposition_form : List ℕ → Option Form
+abbrev pub decomposition_form : List ℕ → Option Entry
 decomposition_form (id ∷ vtree ∷ k ∷ children) =
-    if nat_le 1 k && length children == 2 * k then Some (DecompositionForm id vtree (two_by_two children)) else None
+    if nat_le 1 k && length children == 2 * k
+    then Some (record { id = id; node = Decomposition vtree (two_by_two children) })
+    else None
 decomposition_form numbers = None
 
--- each element where all have a value
-abbrev pub all_values : {A B : Type 0} → (A → Option B) → List A → Option (List B)
-all_values f [] = Some []
-all_values f (x ∷ xs) = option_and_then (λ y. option_map (λ ys. y ∷ ys) (all_values f xs)) (f x)
-
 -- the form that a line's words have
-abbrev pub form_of : List (List ℕ) → Option Form
+abbrev pub form_of : List (List ℕ) → Option Entry
 form_of [] = None
 form_of (letter ∷ words) =
     if bytes_eq letter (codes "F") then constant_form false words
@@ -98,38 +83,29 @@ pair_at ids line (prime, sub) = do
   s ← ok_or (index_of_id sub ids) (ChildUnknown line)
   Ok (p, s)
 
--- the decomposition of these pairs of ids
-abbrev pub decomposition_of : List ℕ → ℕ → ℕ → List (ℕ × ℕ) → Result Node SddFault
-decomposition_of ids line vtree pairs = do
-  places ← each (pair_at ids line) pairs
-  Ok (Decomposition vtree places)
-
--- the node of a form on a line, over the variables 1 to v
-abbrev pub node_of : ℕ → List ℕ → ℕ → Form → Result Node SddFault
-node_of v ids line (ConstantForm id value) = Ok (Constant value)
-node_of v ids line (LiteralForm id vtree literal) = do
+-- a node as it is written on a line, over the variables 1 to v, with places for ids
+abbrev pub node_of : ℕ → List ℕ → ℕ → Node → Result Node SddFault
+node_of v ids line (Constant value) = Ok (Constant value)
+node_of v ids line (Literal vtree literal) = do
   fault_if (not (is_literal v literal)) (LiteralRange line)
   Ok (Literal vtree literal)
-node_of v ids line (DecompositionForm id vtree pairs) = decomposition_of ids line vtree pairs
+node_of v ids line (Decomposition vtree pairs) = do
+  places ← each (pair_at ids line) pairs
+  Ok (Decomposition vtree places)
 
 -- the entry of a line after lines with these ids
 abbrev pub entry_with : ℕ → List ℕ → TextLine → Result Entry SddFault
 entry_with v ids line = do
   form ← ok_or (form_of line.words) (BadLine line.number)
-  fault_if (is_some (index_of_id (id_of form) ids)) (IdTwice line.number)
-  node ← node_of v ids line.number form
-  Ok (record { id = id_of form; node = node })
+  fault_if (is_some (index_of_id form.id ids)) (IdTwice line.number)
+  node ← node_of v ids line.number form.node
+  Ok (record { id = form.id; node = node })
 
 -- the entry of a line after earlier ones
 abbrev pub entry_of : ℕ → List Entry → TextLine → Result Entry SddFault
 entry_of v earlier line = entry_with v (map (λ e. e.id) earlier) line
 
 -- ---- the text
-
--- the number of a header `sdd N`
-abbrev pub stated_by : List (List ℕ) → Option ℕ
-stated_by (name ∷ number ∷ []) = if bytes_eq name (codes "sdd") then natural_value number else None
-stated_by words = None
 
 -- the file of all node lines, where the header states a number of them
 abbrev pub finish : ℕ → ℕ → List Entry → Result File SddFault
@@ -138,11 +114,11 @@ finish v stated entries = do
   fault_if (length entries == 0) Empty
   Ok (record { variables = v; nodes = entries })
 
--- the file of a header and the lines after it
+-- the file of a header `sdd N` and the lines after it
 abbrev pub file_of_lines : ℕ → List TextLine → Result File SddFault
 file_of_lines v [] = Err NoHeader
 file_of_lines v (header ∷ lines) = do
-  stated ← ok_or (stated_by header.words) NoHeader
+  stated ← ok_or (stated_behind (codes "sdd") header.words) NoHeader
   entries ← each_after (entry_of v) [] lines
   finish v stated entries
 
@@ -162,6 +138,22 @@ without_ids (Decomposition vtree pairs) = FileDecomposition pairs
 -- the propositional formula of a file: that of its last node
 abbrev pub expression_of_file : File → Expression
 expression_of_file f = OfFile (map (λ e. without_ids e.node) f.nodes)
+
+-- ---- for the contracts of private functions
+
+-- the id of a line
+abbrev pub id_of : Entry → ℕ
+id_of form = form.id
+
+-- the number of a header `sdd N`
+abbrev pub stated_by : List (List ℕ) → Option ℕ
+stated_by words = stated_behind (codes "sdd") words
+
+-- the decomposition of these pairs of ids
+abbrev pub decomposition_of : List ℕ → ℕ → ℕ → List (ℕ × ℕ) → Result Node SddFault
+decomposition_of ids line vtree pairs = do
+  places ← each (pair_at ids line) pairs
+  Ok (Decomposition vtree places)
 
 -- ---- what a reader answers
 

@@ -12,14 +12,15 @@ use Rattle.sd_file.specs.declared.form.Form as forms
 use Rattle.sd_file.specs.declared.form.Form.TheVariants.{ConstantLine, LiteralLine, DecompositionLine}
 use Rattle.sd_file.specs.declared.id_table.IdTable.{IdTable}
 use Rattle.sd_file.specs.declared.reader.Nodes.{Nodes}
-use Rattle.sd_file.specs.Reads.{Form, ConstantForm, LiteralForm, DecompositionForm, two_by_two, index_of_id}
+use Rattle.sd_file.specs.Reads.{two_by_two, index_of_id}
 use Rattle.sd_file.specs.Reads.{Node, Constant, Literal, Decomposition, Entry, File}
 
--- the form of a line
-abbrev pub form_view : forms.Form → Form
-form_view (ConstantLine id value) = ConstantForm id value
-form_view (LiteralLine id vtree literal) = LiteralForm id vtree literal
-form_view (DecompositionLine id vtree children) = DecompositionForm id vtree (two_by_two children.items)
+-- a line as it is written
+abbrev pub form_view : forms.Form → Entry
+form_view (ConstantLine id value) = record { id = id; node = Constant value }
+form_view (LiteralLine id vtree literal) = record { id = id; node = Literal vtree literal }
+form_view (DecompositionLine id vtree children) =
+    record { id = id; node = Decomposition vtree (two_by_two children.items) }
 
 -- how many ids of children it has
 abbrev pub children_count : forms.Form → ℕ

@@ -110,7 +110,7 @@ impl IdTable {
         requires indexed { IsIndexed self.now }
         requires within_limit { children_count form.now ≤ 67108864 }
         ensures value { Gives (λ node. node_in pairs.new.items (length pairs.old.items) node) result
-            (texts.node_of variables (ids_of self.now) line (form_view form.now)) }
+            (texts.node_of variables (ids_of self.now) line (form_view form.now).node) }
         ensures put { OnOk result (IsPutIn pairs.old.items pairs.new.items) }
         ensures within { IfOk result (λ node.
             length pairs.old.items + count_of node ≤ length pairs.new.items) }

@@ -1,8 +1,9 @@
 -- One more clause of the generated formula, and that its literals are in range.
 use Rattle.std.proofs.Common.{◌≡◌, ℕ, zero, suc, ◌+◌, ◌-◌, ◌*◌, ◌≤◌, List, [], ◌∷◌, ◌++◌, length, Bool, true, false}
 use Rattle.std.proofs.Common.{ℤ, pos, neg_ℤ, unsigned_abs, if◌then◌else◌, nat_lt, refl, ap, sym, subst, ◌∙◌, arith}
-use Rattle.std.proofs.Common.{length-append}
-use Rattle.std.specs.List.{AllByRecursion}
+use Rattle.std.proofs.Common.{length-append, map}
+use Rattle.std.specs.List.{AllByRecursion, range_with_len}
+use Rattle.std.proofs.lemmas.List.{map-append}
 use Rattle.sd_formula.specs.declared.flat.End.{End}
 use Rattle.sd_formula.specs.declared.formula.Kind.TheVariants.{Cnf}
 use Rattle.sd_formula.specs.Formulas.{IsLiteral, IsGroup, IsFormula, groups_between}
@@ -96,6 +97,19 @@ clauses_fit seed v (suc n) h =
     } in
     all_push (IsGroup Cnf v) (generated_clauses seed n) (generated_clause seed n)
     (clauses_fit seed v n (omega arith)) clause
+
+-- the numbers from one on, with one more
+range_more : (a n j : ℕ) → a + n ≡ j → range_with_len a (suc n) ≡ range_with_len a n ++ j ∷ []
+range_more a zero j e = let same : a ≡ j = omega arith in ap (λ k. k ∷ []) same
+range_more a (suc n) j e = ap (λ l. a ∷ l) (range_more (a + 1) n j (omega arith))
+
+-- the clauses so far, said by their numbers
+pub generated_are : (seed n : ℕ) → map (generated_clause seed) (range_with_len 0 n) ≡ generated_clauses seed n
+generated_are seed zero = refl
+generated_are seed (suc n) =
+    ap (map (generated_clause seed)) (range_more 0 n n (omega arith))
+    ∙ map-append (generated_clause seed) (range_with_len 0 n) (n ∷ [])
+    ∙ ap (λ clauses. clauses ++ generated_clause seed n ∷ []) (generated_are seed n)
 
 clauses_count : (seed n : ℕ) → length (generated_clauses seed n) ≡ n
 clauses_count seed zero = refl

@@ -1,9 +1,10 @@
 -- A text that stands for a formula stands for one in range.
 use Rattle.std.proofs.Common.{◌≡◌, ℕ, Bool, true, false, not, ◌&&◌, List, [], ◌∷◌, length, drop}
-use Rattle.std.proofs.Common.{Result, Ok, Err, refl, sym, subst, ◌∙◌, arith}
+use Rattle.std.proofs.Common.{None, Result, Ok, Err, refl, sym, subst, ◌∙◌, arith}
 use Rattle.std.proofs.lemmas.Bool.{and_parts, not-false, leb-true, ltb-false, eqb-true}
 use Rattle.std.specs.Prelude.{nat_le, nat_lt, ◌==◌, ok_or}
-use Rattle.std.specs.List.{AllByRecursion, flat_map}
+use Rattle.std.specs.Option.{option_map_or}
+use Rattle.std.specs.List.{AllByRecursion, flat_map, last_or}
 use Rattle.sd_base.specs.Lines.{TextLine, content_of}
 use Rattle.sd_base.specs.Reading.{◌>>=◌, ◌>>◌, fault_if}
 use Rattle.sd_formula.specs.declared.formula.Kind.{Kind}
@@ -11,7 +12,7 @@ use Rattle.sd_formula.specs.declared.error.FormulaError.TheVariants.{NoHeader, B
 use Rattle.sd_formula.specs.declared.error.FormulaError.TheVariants.{Unterminated, CountDiffers, TooManyGroups}
 use Rattle.sd_formula.specs.Dimacs.{Groups, Stated, dimacs, formula_of, header_of, counts_in_range}
 use Rattle.sd_formula.specs.Dimacs.{numbers_of, is_header}
-use Rattle.sd_formula.specs.Dimacs.{groups_of, body_of, all_but_last, last_part, has_begun, pieces_of}
+use Rattle.sd_formula.specs.Dimacs.{groups_of, body_of, all_but_last, has_begun, pieces_of}
 use Rattle.sd_formula.specs.Formulas.{IsGroup, IsFormula}
 use Rattle.sd_formula.specs.Steps.{Parts, no_parts, put_words, all_groups, InRange, PartsFit}
 use Rattle.sd_formula.proofs.FitLaws.{nothing_fits, words_fit}
@@ -66,7 +67,7 @@ groups_fit kind s p f range fit e =
     let groups = all_but_last (all_groups p) in
     let formula : Groups = record { kind = kind; variables = s.variables; groups = groups } in
     let same = s.groups == length groups in
-    let first = past (has_begun (last_part (all_groups p))) Unterminated
+    let first = past (option_map_or has_begun (last_or None (all_groups p)) false) Unterminated
     (fault_if (not same) (CountDiffers s.groups (length groups)) >> Ok formula) f e in
     let second = past (not same) (CountDiffers s.groups (length groups)) (Ok formula) f first.1 in
     let whole : Ok formula ≡ Ok f = second.1 in

@@ -1,7 +1,8 @@
 -- The steps of the reader, against the definition.
 use Rattle.std.proofs.Common.{◌≡◌, ℕ, ◌+◌, false, not, List, [], ◌∷◌, ◌++◌, length, length-append, Result, Ok, Err}
-use Rattle.std.proofs.Common.{refl, sym, ap, ◌∙◌, subst, Bool, true, ◌==◌, ◌&&◌, if◌then◌else◌, Some}
-use Rattle.std.specs.List.{take_while, flat_map, slice_split}
+use Rattle.std.proofs.Common.{refl, sym, ap, ◌∙◌, subst, Bool, true, ◌==◌}
+use Rattle.std.proofs.Common.{◌&&◌, if◌then◌else◌, Option, Some, None, ◌-◌, take, arith}
+use Rattle.std.specs.List.{take_while, flat_map, last_or, slice_split}
 use Rattle.std.proofs.lemmas.Grind.{flat_map-append}
 use Rattle.std.proofs.lemmas.List.Sums.{take_while-cons}
 use Rattle.sd_base.specs.Lines.{TextLine, begins_with}
@@ -13,21 +14,25 @@ use Rattle.sd_formula.specs.declared.error.FormulaError.{FormulaError}
 use Rattle.sd_formula.specs.declared.error.FormulaError.TheVariants.{OutOfMemory}
 use Rattle.sd_formula.specs.Dimacs.{Groups, Stated, BodyWord, after_mark, pieces_of, is_mark, is_end}
 use Rattle.sd_formula.specs.Dimacs.{group_of_words, has_begun}
-use Rattle.sd_formula.specs.Dimacs.{all_but_last, last_part, body_of, words_at, groups_of, header_of, formula_of, Fails}
+use Rattle.sd_formula.specs.Dimacs.{all_but_last, body_of, words_at, groups_of, header_of, formula_of, Fails}
 use Rattle.sd_formula.specs.Steps.{Parts, no_parts, marked, literal_read, put_word, put_words, put_pieces}
 use Rattle.sd_formula.specs.Steps.{all_groups}
 use Rattle.sd_formula.proofs.FlatLaws.{length_cut}
 use Rattle.sd_formula.proofs.PartsLaws.{by_parts}
 
 pub all_but_last_push : (parts : List Group) (part : Group) → all_but_last (parts ++ part ∷ []) ≡ parts
-all_but_last_push [] part = refl
-all_but_last_push (x ∷ []) part = refl
-all_but_last_push (x ∷ y ∷ ys) part = ap (λ ps. x ∷ ps) (all_but_last_push (y ∷ ys) part)
+all_but_last_push parts part =
+    let short : length (parts ++ part ∷ []) - 1 ≡ length parts = omega (arith, length-append parts (part ∷ [])) in
+    ap (λ n. take n (parts ++ part ∷ [])) short ∙ front parts
+  where
+    front : (ps : List Group) → take (length ps) (ps ++ part ∷ []) ≡ ps
+    front [] = refl
+    front (p ∷ ps) = ap (λ qs. p ∷ qs) (front ps)
 
-pub last_part_push : (parts : List Group) (part : Group) → last_part (parts ++ part ∷ []) ≡ part
-last_part_push [] part = refl
-last_part_push (x ∷ []) part = refl
-last_part_push (x ∷ y ∷ ys) part = last_part_push (y ∷ ys) part
+pub last_part_push : (first : Option Group) (parts : List Group) (part : Group)
+    → last_or first (parts ++ part ∷ []) ≡ Some part
+last_part_push first [] part = refl
+last_part_push first (x ∷ xs) part = last_part_push (Some x) xs part
 
 -- what the count of groups rests on
 pub ruleset counted = (all_but_last_push, last_part_push, length_cut)

@@ -1,9 +1,11 @@
 -- The formula that a text of DIMACS stands for, or its first fault.
-use Rattle.std.specs.Prelude.{◌≡◌, ℕ, Bool, true, false, not, ◌&&◌, ◌||◌, ◌==◌, nat_lt, nat_le, if◌then◌else◌}
+use Rattle.std.specs.Prelude.{◌≡◌, ℕ, ◌-◌, Bool, true, false, not, ◌&&◌, ◌||◌, ◌==◌, nat_lt, nat_le, if◌then◌else◌}
 use Rattle.std.specs.Prelude.{codes, bytes_eq}
-use Rattle.std.specs.Prelude.{List, [], ◌∷◌, length, drop, map, flat_map, take_while, ℤ, unsigned_abs}
+use Rattle.std.specs.Prelude.{List, [], ◌∷◌, length, take, drop, filter, map, flat_map, take_while, ℤ, unsigned_abs}
 use Rattle.std.specs.Prelude.{Option, Some, None, ok_or, Result, Ok, Err}
-use Rattle.std.specs.List.{slice_split}
+use Rattle.std.specs.Option.{option_map, option_map_or, option_zip}
+use Rattle.std.specs.List.{last_or, slice_split}
+use Rattle.sd_base.specs.Words.{is_filled}
 use Rattle.sd_base.specs.Lines.{TextLine, content_of, begins_with}
 use Rattle.sd_base.specs.Numbers.{natural_value, integer_value}
 use Rattle.sd_base.specs.Reading.{◌>>=◌, ◌>>◌, fault_if, each}
@@ -39,30 +41,23 @@ abbrev pub is_header : List (List ℕ) → Bool
 is_header [] = false
 is_header (word ∷ words) = bytes_eq word (codes "p")
 
--- two numbers, where both are there
-abbrev pub stated_counts : Option ℕ → Option ℕ → Option Stated
-stated_counts (Some v) (Some g) = Some (record { variables = v; groups = g })
-stated_counts v g = None
-
 -- the numbers in the words after the first
 abbrev pub numbers_of : Kind → List (List ℕ) → Option Stated
 numbers_of kind (name ∷ variables ∷ groups ∷ []) =
-    if bytes_eq name (kind_word kind) then stated_counts (natural_value variables) (natural_value groups) else None
+    if bytes_eq name (kind_word kind)
+    then option_map (λ (v, g). record { variables = v; groups = g })
+    (option_zip (natural_value variables) (natural_value groups))
+    else None
 numbers_of kind words = None
 
--- 1 to 1,024 variables, and at most 1,000,000 groups
-abbrev pub counts_in_range : Stated → Result Stated FormulaError
-counts_in_range s = do
-  fault_if (not (nat_le 1 s.variables && nat_le s.variables 1024)) (VariablesRange s.variables)
-  fault_if (nat_lt 1000000 s.groups) (TooManyGroups s.groups)
-  Ok s
-
--- the numbers of a header line, or its fault
+-- the numbers of a header line, 1 to 1,024 variables and at most 1,000,000 groups, or its fault
 abbrev pub header_of : Kind → TextLine → Result Stated FormulaError
 header_of kind line = do
   fault_if (not (is_header line.words)) NoHeader
   stated ← ok_or (numbers_of kind (drop 1 line.words)) (BadHeader line.number)
-  counts_in_range stated
+  fault_if (not (nat_le 1 stated.variables && nat_le stated.variables 1024)) (VariablesRange stated.variables)
+  fault_if (nat_lt 1000000 stated.groups) (TooManyGroups stated.groups)
+  Ok stated
 
 -- ---- the body: the lines before the first that begins with %, which ends the files of the collection SATLIB;
 -- ---- as words with their lines
@@ -95,34 +90,20 @@ abbrev pub after_mark : Kind → List ℕ → Option (List ℕ)
 after_mark Cnf (byte ∷ bytes) = if byte == 120 then Some bytes else None
 after_mark kind bytes = None
 
--- a word, or the mark and, where bytes follow it, a further word of these
-abbrev pub split_mark : BodyWord → Option (List ℕ) → List BodyWord
-split_mark word None = word ∷ []
-split_mark word (Some []) = record { line = word.line; bytes = codes "x" } ∷ []
-split_mark word (Some (byte ∷ bytes)) =
-    record { line = word.line; bytes = codes "x" } ∷ record { line = word.line; bytes = byte ∷ bytes } ∷ []
-
--- the words that a word stands for
+-- the words that a word stands for: itself, or the mark and, where bytes follow it, a further word of these
 abbrev pub pieces_of : Kind → BodyWord → List BodyWord
-pieces_of kind word = split_mark word (after_mark kind word.bytes)
+pieces_of kind word =
+    option_map_or (λ rest. map (λ piece. record word { bytes = piece }) (filter is_filled (codes "x" ∷ rest ∷ [])))
+    (after_mark kind word.bytes) (word ∷ [])
 
 -- the mark
 abbrev pub is_mark : Kind → BodyWord → Bool
 is_mark Cnf word = bytes_eq word.bytes (codes "x")
 is_mark Dnf word = false
 
--- a zero
-abbrev pub is_zero : ℤ → Bool
-is_zero z = unsigned_abs z == 0
-
--- a number that is a zero
-abbrev pub ends : Option ℤ → Bool
-ends (Some z) = is_zero z
-ends None = false
-
--- a word that ends a group
+-- a word that ends a group: a zero
 abbrev pub is_end : BodyWord → Bool
-is_end word = ends (integer_value word.bytes)
+is_end word = option_map_or (λ z. unsigned_abs z == 0) (integer_value word.bytes) false
 
 -- the literals of words, as a group
 abbrev pub literals_group : ℕ → Bool → List BodyWord → Result Group FormulaError
@@ -136,18 +117,6 @@ group_of_words kind variables [] = literals_group variables false []
 group_of_words kind variables (word ∷ words) =
     if is_mark kind word then literals_group variables true words else literals_group variables false (word ∷ words)
 
--- the parts that a zero ends
-abbrev pub all_but_last : List Group → List Group
-all_but_last [] = []
-all_but_last (part ∷ []) = []
-all_but_last (part ∷ next ∷ parts) = part ∷ all_but_last (next ∷ parts)
-
--- what stands after the last zero
-abbrev pub last_part : List Group → Group
-last_part [] = record { exclusive = false; literals = [] }
-last_part (part ∷ []) = part
-last_part (part ∷ next ∷ parts) = last_part (next ∷ parts)
-
 -- a mark or a literal
 abbrev pub has_begun : Group → Bool
 has_begun group = group.exclusive || not (length group.literals == 0)
@@ -155,9 +124,9 @@ has_begun group = group.exclusive || not (length group.literals == 0)
 -- the formula of the parts, of which the last is empty and the others are as many as was stated
 abbrev pub groups_of : Kind → Stated → List Group → Result Groups FormulaError
 groups_of kind stated parts =
-    let groups = all_but_last parts in
+    let groups = take (length parts - 1) parts in
     let found = length groups in do
-      fault_if (has_begun (last_part parts)) Unterminated
+      fault_if (option_map_or has_begun (last_or None parts) false) Unterminated
       fault_if (not (stated.groups == found)) (CountDiffers stated.groups found)
       Ok (record { kind = kind; variables = stated.variables; groups = groups })
 
@@ -174,6 +143,27 @@ formula_of kind (header ∷ lines) = do
 -- The formula of a text, or its first fault. Blank lines and comments, which begin with c, are passed over.
 unfoldable pub dimacs : Kind → List ℕ → Result Groups FormulaError
 dimacs kind bytes = formula_of kind (content_of 99 bytes)
+
+-- ---- for the contracts of private functions
+
+-- 1 to 1,024 variables, and at most 1,000,000 groups
+abbrev pub counts_in_range : Stated → Result Stated FormulaError
+counts_in_range s = do
+  fault_if (not (nat_le 1 s.variables && nat_le s.variables 1024)) (VariablesRange s.variables)
+  fault_if (nat_lt 1000000 s.groups) (TooManyGroups s.groups)
+  Ok s
+
+-- the parts that a zero ends
+abbrev pub all_but_last : List Group → List Group
+all_but_last parts = take (length parts - 1) parts
+
+-- a zero
+abbrev pub is_zero : ℤ → Bool
+is_zero z = unsigned_abs z == 0
+
+-- a number that is a zero
+abbrev pub ends : Option ℤ → Bool
+ends z = option_map_or is_zero z false
 
 -- ---- what a reader answers
 

@@ -1,6 +1,7 @@
 -- The generated formula: clauses of three neighbouring variables, whose signs a linear congruential generator gives.
 use Rattle.std.specs.Prelude.{ℕ, zero, suc, ◌+◌, ◌-◌, ◌*◌, ◌%◌, ◌≤◌}
-use Rattle.std.specs.Prelude.{◌<◌, ◌^◌, nat_lt, if◌then◌else◌, List, [], ◌∷◌, ◌++◌}
+use Rattle.std.specs.Prelude.{◌<◌, ◌^◌, nat_lt, if◌then◌else◌, List, [], ◌∷◌, ◌++◌, map}
+use Rattle.std.specs.List.{range_with_len}
 use Rattle.std.specs.Prelude.{ℤ, pos, neg_ℤ, false}
 use Rattle.sd_model.specs.Expression.{Group}
 use Rattle.sd_formula.specs.declared.formula.Kind.TheVariants.{Cnf}
@@ -33,12 +34,14 @@ generated_clause seed i = record {
       ∷ literal_by (state_at seed (3 * i + 3)) (i + 3) ∷ [];
 }
 
+-- the formula of so many variables: a clause begins at each variable but the last two
+abbrev pub generated_formula : ℕ → ℕ → Groups
+generated_formula count seed =
+    record { kind = Cnf; variables = count; groups = map (generated_clause seed) (range_with_len 0 (count - 2)) }
+
+-- ---- for the contracts of private functions
+
 -- the first clauses
 abbrev pub generated_clauses : ℕ → ℕ → List Group
 generated_clauses seed zero = []
 generated_clauses seed (suc n) = generated_clauses seed n ++ generated_clause seed n ∷ []
-
--- the formula of so many variables: a clause begins at each variable but the last two
-abbrev pub generated_formula : ℕ → ℕ → Groups
-generated_formula count seed =
-    record { kind = Cnf; variables = count; groups = generated_clauses seed (count - 2) }

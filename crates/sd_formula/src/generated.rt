@@ -36,6 +36,7 @@ impl From<AllocError> for GenerateError {
 /// The generated CNF over `count` variables, 3 to 1,024, from a seed of 32 bits: for each variable but the last two a
 /// clause of it and the two after it. The signs come from the generator of Numerical Recipes: a literal is positive
 /// where the state is in the lower half.
+#[tactic(auto, using(crate::proofs::GeneratedLaws::generated_are))]
 pub fn generate(alloc: Global, count: u64, seed: u64) -> Result<Formula, GenerateError>
     ensures ok { IfOk result (λ f. IsGenerable count seed × (f ≡ generated_formula count seed)) }
     ensures err { IfErr result (λ e. (e ≡ GenerateError.BadNumber) ↔ ¬ IsGenerable count seed) }

@@ -11,7 +11,7 @@ use Rattle.sd_model.specs.declared.trees.Operation.{Operation}
 use Rattle.sd_model.specs.declared.trees.Operation.TheVariants.{And, Or, Xor}
 use Rattle.sd_script.specs.declared.command.Action.{Action}
 use Rattle.sd_script.specs.declared.command.Action.TheVariants as A
-use Rattle.sd_script.specs.Forms.{variable_from, variable_of}
+use Rattle.sd_script.specs.Forms.{variable_of}
 use Rattle.sd_script.specs.Phrases as p
 use Rattle.sd_script.specs.Phrases.{Phrase, Word, name_of, file_name_of, bits_of, names_of, pair, triple, said}
 use Rattle.sd_script.specs.Phrases.{one_word, two_words, three_words, few_words, phrase_of, write_of}
@@ -453,7 +453,7 @@ of_three v s command a b c =
     (names_value s a b c (integer_value c) (λ z. z) integer_value (same_value (integer_value c)) A.Given p.Given
     (λ x y z. refl))
     (choose s ws (bytes_eq command (codes "forget")) _ _ _ _
-    (names_value s a b c (integer_value c) variable_from variable_of refl A.Forget p.Forget (λ x y z. refl))
+    (names_value s a b c (integer_value c) p.variable_from variable_of refl A.Forget p.Forget (λ x y z. refl))
     (record { fact = refl })))))))))))))))))))))
 
 -- with no word, or with four or more

@@ -1,6 +1,7 @@
 pub mod Forms
 pub mod Phrases
 pub mod Commands
+pub mod Footprints
 pub mod Table
 pub mod Scripts
 pub mod Read

@@ -14,15 +14,12 @@ use Rattle.sd_script.specs.declared.fault.ScriptFault.TheVariants.{LiteralRange}
 use Rattle.sd_script.specs.declared.fault.ScriptFault.TheVariants.{NumberRange, FileTwice}
 use Rattle.sd_script.specs.declared.fault.ScriptFault.TheVariants.{TooManyLines, TooManyLoads}
 use Rattle.sd_script.specs.declared.fault.ScriptFault.TheVariants.{OutOfMemory}
-use Rattle.sd_script.specs.Commands.{uses, binds, writes, is_load, has, bound, written_files, loads}
+use Rattle.sd_script.specs.Footprints.{footprint, has, bound, written_files, loads}
+pub use Rattle.sd_script.specs.Forms.{is_within}
 pub use Rattle.sd_script.specs.Table.{Script, empty, see_all}
 unfoldable pub use Rattle.sd_script.specs.Table.{see, number_of_word, command_of}
 
 -- ---- a command after earlier ones, over the variables 1 to v
-
--- a number from one to another
-abbrev pub is_within : ℕ → ℕ → ℕ → Bool
-is_within low high n = nat_le low n && nat_le n high
 
 -- a literal is of a variable, and what is forgotten is a variable
 abbrev pub literals_fit : ℕ → Action → Bool
@@ -41,25 +38,20 @@ numbers_fit v action = true
 -- the tests of a command, in their order
 abbrev pub checked : ℕ → List Command → ℕ → Action → Result (Unit {0}) ScriptFault
 checked v earlier line action = do
-  fault_if (not (list_all (has (bound earlier)) (uses action))) (NameUnknown line)
-  fault_if (list_any (has (bound earlier)) (binds action)) (NameTaken line)
+  fault_if (not (list_all (has (bound earlier)) (footprint action).uses)) (NameUnknown line)
+  fault_if (list_any (has (bound earlier)) (footprint action).binds) (NameTaken line)
   fault_if (not (literals_fit v action)) (LiteralRange line)
   fault_if (not (numbers_fit v action)) (NumberRange line)
-  fault_if (list_any (has (written_files earlier)) (writes action)) (FileTwice line)
-  fault_if (is_load action && nat_le 64 (loads earlier)) (TooManyLoads line)
+  fault_if (list_any (has (written_files earlier)) (footprint action).writes) (FileTwice line)
+  fault_if ((footprint action).loads && nat_le 64 (loads earlier)) (TooManyLoads line)
   Ok tt
 
--- a script with one more command behind the others
-abbrev pub with_action : ℕ → ℕ → Action → Script → Result Script ScriptFault
-with_action v line action s = do
-  checked v s.commands line action
-  Ok (record s { commands = s.commands ++ record { line = line; action = action } ∷ [] })
-
--- a script with the command of a line
+-- a script with the command of a line behind the others
 abbrev pub with_line : ℕ → Script → TextLine → Result Script ScriptFault
 with_line v s line = do
   (action, seen) ← ok_or (command_of v s line.words) (BadLine line.number)
-  with_action v line.number action seen
+  checked v seen.commands line.number action
+  Ok (record seen { commands = seen.commands ++ record { line = line.number; action = action } ∷ [] })
 
 -- ---- the lines of a text
 
@@ -79,6 +71,14 @@ after_lines v script (line ∷ lines) = do
 -- the script that a text stands for over the variables 1 to v, or the text's first fault
 unfoldable pub script_of : ℕ → List ℕ → Result Script ScriptFault
 script_of v bytes = after_lines v empty (numbered_lines_from 1 (lines_of bytes))
+
+-- ---- for the contracts of private functions
+
+-- a script with one more command behind the others
+abbrev pub with_action : ℕ → ℕ → Action → Script → Result Script ScriptFault
+with_action v line action s = do
+  checked v s.commands line action
+  Ok (record s { commands = s.commands ++ record { line = line; action = action } ∷ [] })
 
 -- ---- what a reader answers
 

@@ -63,18 +63,18 @@ comes_on {c = c} files reading mid point join p q = record {
   reads = by_on files reading mid point p.names q.names p.reads q.reads;
 }
 
+-- so do the parts where further requests follow
+joined_behind : {a b c : List Request → Type 0} → Joins a b c → (behind : List Request)
+    → Joins a (λ earlier. b (earlier ++ behind)) (λ earlier. c (earlier ++ behind))
+joined_behind {c = c} join behind = record {
+  meets = λ xs ys p q. subst c (sym (append_assoc xs ys behind)) (join.meets xs (ys ++ behind) p q);
+}
+
 -- a last file after a point is the last of all
 pub last_on : {a b c : List Request → Type 0} (files : Option Files) (reading mid : Reading) (file : List ℕ)
     → Joins a b c → ComesTo a files reading mid → AsksLast b files mid file → AsksLast c files reading file
-last_on {c = c} files reading mid file join p q = record {
-  names = p.names ++ q.names;
-  next = q.next;
-  asked = subst c
-      (sym (map-append ToRead p.names (q.names ++ file ∷ []))
-      ∙ ap (map ToRead) (sym (append_assoc p.names q.names (file ∷ []))))
-      (join.meets _ _ p.asked q.asked);
-  reads = by_on files reading mid (Reads file q.next) p.names q.names p.reads q.reads;
-}
+last_on files reading mid file join p q =
+    (q.0, comes_on files reading mid (Reads file q.0) (joined_behind join (ToRead file ∷ [])) p q.1)
 
 -- readings that break off after a point
 pub breaks_on : {a b c : List Request → Type 0} (files : Option Files) (reading mid : Reading) → Joins a b c
@@ -90,12 +90,14 @@ breaks_here asks files reading none = inl (reading, comes_same asks files readin
 -- the last file that is asked for, where the readings are
 pub last_here : (asks : List Request → Type 0) (files : Option Files) (file name : List ℕ) (next : Text → Reading)
     → name ≡ file → asks (ToRead file ∷ []) → AsksLast asks files (Reads file next) name
-last_here asks files file name next same asked = record {
-  names = [];
-  next = next;
-  asked = subst (λ (n : List ℕ). asks (ToRead n ∷ [])) (sym same) asked;
-  reads = ap (λ (n : List ℕ). Reads n next) same;
-}
+last_here asks files file name next same asked = (
+  next,
+  record {
+    names = [];
+    asked = subst (λ (n : List ℕ). asks (ToRead n ∷ [])) (sym same) asked;
+    reads = ap (λ (n : List ℕ). Reads n next) same;
+  },
+)
 
 -- readings that break off at their first file
 pub breaks_at_file : (asks : List Request → Type 0) (files : Option Files) (file : List ℕ) (next : Text → Reading)
@@ -126,16 +128,16 @@ pub comes_reads : {asks : List Request → Type 0} (files : Option Files) (readi
 comes_reads files reading point p = by_reads_to files reading point p.names p.reads
 
 -- so of a last file
-pub last_reads : {asks : List Request → Type 0} (files : Option Files) (reading : Reading) (file : List ℕ)
+pub last_reads : (asks : List Request → Type 0) (files : Option Files) (reading : Reading) (file : List ℕ)
     → AsksLast asks files reading file → (next : _) × ReadsTo files reading (Reads file next)
-last_reads files reading file p = (p.next, by_reads_to files reading (Reads file p.next) p.names p.reads)
+last_reads asks files reading file p = (p.0, comes_reads files reading (Reads file p.0) p.1)
 
 -- an end of the readings, without what they ask
 ends_asking : (asks : List Request → Type 0) (files : Option Files) (reading : Reading) (end : End)
     → EndsAsking asks files reading end → EndsReading files reading end
 ends_asking asks files reading Finished p = absurd p
 ends_asking asks files reading (Refused refusal) p = comes_reads files reading (Refuses refusal) p
-ends_asking asks files reading (Unreadable file) p = last_reads files reading file p
+ends_asking asks files reading (Unreadable file) p = last_reads asks files reading file p
 ends_asking asks files reading (Unwritable effect) p = absurd p
 ends_asking asks files reading OutOfMemory p = tt
 ends_asking asks files reading (ArenaFull elements) p = absurd p

@@ -1,7 +1,7 @@
 -- What a run asks of the shelf, status by status.
 use Rattle.std.proofs.Common.{◌≡◌, ◌⊎◌, ℕ, List, [], ◌∷◌, ◌++◌, map, Option, Some, None, Result, Ok, Err}
 use Rattle.std.proofs.Common.{inl, inr, refl, sym, ap, subst, ◌∙◌}
-use Rattle.std.proofs.lemmas.List.{append-nil}
+use Rattle.std.proofs.lemmas.List.{append-nil, map-append}
 use Rattle.sd_base.specs.Asked.{Request, ToRead, ToWrite}
 use Rattle.sd_base.specs.Files.{Files}
 use Rattle.sd_model.specs.StartTrees.{balanced_tree, right_tree, left_tree}
@@ -41,7 +41,8 @@ use Rattle.sd_tool.specs.inside.ByStatus.{IsOneCourse}
 use Rattle.sd_tool.specs.inside.Readings.{Input, with_job, with_input, with_formula}
 use Rattle.sd_tool.specs.Readings.{reading_of, with_input_word, with_tree_word, with_tree, with_commands}
 use Rattle.sd_tool.specs.inside.Readings.{with_vtree_text, with_vtree_reading, script_reading}
-use Rattle.sd_tool.specs.Readings.{with_lines, with_action, in_line, file_name, plan_for}
+use Rattle.sd_tool.specs.Readings.{with_lines, with_action, file_name, plan_for}
+use Rattle.sd_tool.specs.inside.Readings.{in_line}
 use Rattle.sd_tool.specs.inside.Readings.{with_script_text, with_script_reading, with_sdd, with_sdd_reading}
 use Rattle.sd_tool.specs.Refusals.{refusal_status}
 use Rattle.sd_tool.specs.declared.refusal.Refusal.{Refusal}
@@ -177,6 +178,11 @@ writings_names (Write file bytes ∷ effects) =
     (file ∷ rest.0, ap (λ (l : List Request). ToWrite file ∷ l) rest.1)
 writings_names (Print line ∷ effects) = writings_names effects
 
+-- readings, of which one is the last
+with_last : (asks : List Request → Type 0) (names : List (List ℕ)) (file : List ℕ)
+    → asks (map ToRead names ++ ToRead file ∷ []) → asks (map ToRead (names ++ file ∷ []))
+with_last asks names file asked = subst asks (sym (map-append ToRead names (file ∷ []))) asked
+
 -- readings alone are in order
 only_readings : (asks : List Request → Type 0) (names : List (List ℕ)) → asks (map ToRead names)
     → (names files : List (List ℕ)) × asks (map ToRead names ++ map ToWrite files)
@@ -192,11 +198,11 @@ order_of asks words files effects end (inr p) =
 order_of asks words files effects Finished (inl p) = absurd p.0
 order_of asks words files effects (Refused refusal) (inl p) = only_readings asks p.0.names p.0.asked
 order_of asks words files effects (Unreadable file) (inl p) =
-    only_readings asks (p.0.names ++ file ∷ []) p.0.asked
+    only_readings asks (p.0.1.names ++ file ∷ []) (with_last asks p.0.1.names file p.0.1.asked)
 order_of asks words files effects (Unwritable effect) (inl p) = absurd p.0
 order_of asks words files effects OutOfMemory (inl (inl p, none)) = only_readings asks p.1.names p.1.asked
 order_of asks words files effects OutOfMemory (inl (inr p, none)) =
-    only_readings asks (p.1.names ++ p.0 ∷ []) p.1.asked
+    only_readings asks (p.1.1.names ++ p.0 ∷ []) (with_last asks p.1.1.names p.0 p.1.1.asked)
 order_of asks words files effects (ArenaFull n) (inl p) = absurd p.0
 order_of asks words files effects (OverLimit l g n k) (inl p) = absurd p.0
 order_of asks words files effects (NotMovable l) (inl p) = absurd p.0
@@ -233,7 +239,8 @@ asked_at words status kept seen went = (
     alone Finished goes is s = no_idle status 0 refl is s
     alone (Refused refusal) (inl p) is s = (p.0.names, p.0.asked)
     alone (Refused refusal) (inr p) is s = absurd p.2
-    alone (Unreadable file) (inl p) is s = (p.0.names ++ file ∷ [], p.0.asked)
+    alone (Unreadable file) (inl p) is s =
+        (p.0.1.names ++ file ∷ [], with_last seen.asked p.0.1.names file p.0.1.asked)
     alone (Unreadable file) (inr p) is s = absurd p.2
     alone (Unwritable effect) goes is s = no_idle status 6 refl is s
     alone OutOfMemory goes is s = no_idle status 7 refl is s

@@ -1,5 +1,5 @@
 -- A run with a script of four lines writes the text of two formulas, joined.
-use Rattle.std.proofs.Common.{◌≡◌, ℕ, false, List, [], ◌∷◌, ◌++◌, Option, Some, None, length}
+use Rattle.std.proofs.Common.{◌≡◌, ℕ, false, List, [], ◌∷◌, ◌++◌, map, Option, Some, None, length}
 use Rattle.std.proofs.Common.{Ok, inl, inr, refl, sym, ap, subst, ◌∙◌, codes, pos}
 use Rattle.std.proofs.lemmas.Bool.{eq-eqb, ne_eqb}
 use Rattle.std.specs.Option.{unwrap_or}
@@ -32,7 +32,8 @@ use Rattle.sd_tool.specs.Readings.{Plan, Reading, Begins, Reads, Whole, reading_
 use Rattle.sd_tool.specs.inside.Course.{ReadsTo, MayEnd}
 use Rattle.sd_tool.specs.inside.Readings.{with_job, with_vtree_text, with_vtree_reading, with_script_text}
 use Rattle.sd_tool.specs.Readings.{with_input_word, with_tree_word, with_tree, with_commands, with_lines}
-use Rattle.sd_tool.specs.Readings.{with_action, announcement, plan_for, file_name, in_line}
+use Rattle.sd_tool.specs.Readings.{with_action, announcement, plan_for, file_name}
+use Rattle.sd_tool.specs.inside.Readings.{in_line}
 use Rattle.sd_tool.specs.inside.Readings.{with_script_reading, script_reading}
 use Rattle.sd_tool.specs.Ends.{Finished}
 use Rattle.sd_tool.specs.Devices.{Seen}
@@ -40,6 +41,7 @@ use Rattle.sd_tool.specs.Theorem.{HasJoined}
 use Rattle.sd_tool.specs.inside.ByStatus.{IsOneCourse}
 use Rattle.sd_tool.specs.Written.{IsStartTree}
 use Rattle.sd_tool.specs.Joined.{own_formula, JoinsTwo, FourLines}
+use Rattle.sd_tool.specs.inside.Joined.{HasLinesOf}
 use Rattle.sd_tool.proofs.ByStatus.{effects_of, effects_at}
 use Rattle.sd_tool.proofs.OneCourse.{whole_plan}
 use Rattle.sd_tool.proofs.OnePoint.{one_point}
@@ -118,7 +120,7 @@ module _ (v : ℕ) (script : Script) (begin : List NumberedCommand → Reading) 
       ∙ line_more (in_line k a ∷ in_line l b ∷ []) m (n ∷ []) c r
       ∙ line_more (in_line k a ∷ in_line l b ∷ in_line m c ∷ []) n [] d s
 
-module _ (input : Groups) (script : Script) (two : JoinsTwo (expression_of input) script) where
+module _ (input : Groups) (script : Script) (two : HasLinesOf (expression_of input) script) where
   first_line : OwnLine input two.first.action two.f two.left
   first_line = own_line input two.first.action two.f two.left two.binds_f
 
@@ -259,7 +261,7 @@ joined_formula state f g h left right operation differ =
     ∙ ap (λ y. Combined operation left y) (named_first ((f, left) ∷ state.names) g right)
 
 -- four commands that are all done write the joined formula
-four_done : (input : Groups) (script : Script) (two : JoinsTwo (expression_of input) script) (state last : State)
+four_done : (input : Groups) (script : Script) (two : HasLinesOf (expression_of input) script) (state last : State)
     (effects : List Effect) → state.every ≡ None → Steps input state (four_commands input script two) effects last
     → (text : List ℕ) × IsTextOf state.tree (Combined two.operation two.left two.right ∷ []) text
     × (effects ≡ Write (file_name script two.number) text ∷ [])
@@ -319,17 +321,65 @@ leaves_text files tree f file text effects old new told are is_text is =
       printed_is = ap (λ (o : Contents). o.printed) now;
     }
 
+-- four lines with these actions
+record AreFour (lines : List Line) (a b c d : Action) : Type 0 where
+  k : Line
+  l : Line
+  m : Line
+  n : Line
+  are : lines ≡ k ∷ l ∷ m ∷ n ∷ []
+  first : k.action ≡ a
+  second : l.action ≡ b
+  third : m.action ≡ c
+  last : n.action ≡ d
+
+four_are : (lines : List Line) (a b c d : Action) → map (λ line. line.action) lines ≡ a ∷ b ∷ c ∷ d ∷ []
+    → AreFour lines a b c d
+four_are [] a b c d is = let bad : ⊥ = cc in absurd bad
+four_are (k ∷ []) a b c d is = let bad : ⊥ = cc in absurd bad
+four_are (k ∷ l ∷ []) a b c d is = let bad : ⊥ = cc in absurd bad
+four_are (k ∷ l ∷ m ∷ []) a b c d is = let bad : ⊥ = cc in absurd bad
+four_are (k ∷ l ∷ m ∷ n ∷ []) a b c d is =
+    record { k = k; l = l; m = m; n = n; are = refl; first = cc; second = cc; third = cc; last = cc }
+four_are (k ∷ l ∷ m ∷ n ∷ o ∷ lines) a b c d is = let bad : ⊥ = cc in absurd bad
+
+-- the lines of a script, by their actions
+abbrev lines_of : (input : Expression) (script : Script) → JoinsTwo input script → HasLinesOf input script
+lines_of input script q =
+    let four = four_are script.commands q.first q.second (actions.Binary q.operation q.h q.f q.g)
+    (actions.Write (q.h ∷ []) q.number) q.lines in
+    record {
+      first = four.k;
+      second = four.l;
+      third = four.m;
+      last = four.n;
+      lines = four.are;
+      f = q.f;
+      g = q.g;
+      h = q.h;
+      left = q.left;
+      right = q.right;
+      binds_f = subst (λ a. own_formula input a ≡ Some (q.f, q.left)) (sym four.first) q.binds_f;
+      binds_g = subst (λ a. own_formula input a ≡ Some (q.g, q.right)) (sym four.second) q.binds_g;
+      two = q.two;
+      operation = q.operation;
+      joins = four.third;
+      number = q.number;
+      writes = four.last;
+    }
+
 -- a run with a script of four lines
 pub joined_at : (words : List (List ℕ)) (status : ℕ) (kept : Option Table) (seen : Seen)
     → IsOneCourse words status kept seen → HasJoined words status seen
 joined_at words status kept seen went = λ run.
     let given = run.given in
-    let cs = four_commands given.formula run.script run.lines in
+    let two = lines_of (expression_of given.formula) run.script run.lines in
+    let cs = four_commands given.formula run.script two in
     let plan = plan_for given.job given.formula given.tree cs in
-    let led = leads_to_script run cs (script_leads given.formula run.script run.lines given.formula.variables) in (
+    let led = leads_to_script run cs (script_leads given.formula run.script two given.formula.variables) in (
       λ zero_.
           let all = (effects_at words status seen (effects_of words status kept seen went)).all zero_ in
-          let wrote = writes given.files given.job given.formula given.tree run.script run.lines given.told run.of_file
+          let wrote = writes given.files given.job given.formula given.tree run.script two given.told run.of_file
           run.plain led all.0 (subst (λ f. MayEnd words f all.0 Finished) given.told all.1) all.2 in
           record {
             diagram = wrote.diagram;
@@ -339,11 +389,11 @@ joined_at words status kept seen went = λ run.
           },
       ends_at_plan words status kept seen went given.files plan given.told led
           (subst AreStill (ap (λ begin. begin ++ cs) (sym run.of_file))
-          (four_still given.formula run.script run.lines)),
+          (four_still given.formula run.script two)),
     )
   where
     writes : (files : Files) (job : Job) (formula : Groups) (tree : Tree) (script : Script)
-        (two : JoinsTwo (expression_of formula) script) → seen.old.contents.files ≡ Some files
+        (two : HasLinesOf (expression_of formula) script) → seen.old.contents.files ≡ Some files
         → announcement job.input formula ≡ [] → job.every ≡ None → ReadsTo (Some files) (reading_of words)
         (Begins (plan_for job formula tree (four_commands formula script two)))
         → (effects : List Effect) → MayEnd words (Some files) effects Finished
@@ -380,21 +430,17 @@ worked = (
     record {
       first = _;
       second = _;
-      third = _;
-      last = _;
-      lines = refl;
+      operation = And;
       f = 0;
       g = 1;
       h = 2;
+      number = 0;
+      lines = refl;
       left = input;
       right = Atom (pos 1);
       binds_f = refl;
       binds_g = refl;
       two = λ e. cc;
-      operation = And;
-      joins = refl;
-      number = 0;
-      writes = refl;
     },
     refl,
     refl,

@@ -40,7 +40,8 @@ use Rattle.sd_tool.specs.inside.Course.{ReadsTo}
 use Rattle.sd_tool.specs.inside.Readings.{Input, with_job, with_input, with_formula}
 use Rattle.sd_tool.specs.Readings.{reading_of, with_input_word, with_tree_word, with_tree, with_commands}
 use Rattle.sd_tool.specs.inside.Readings.{with_vtree_text, with_vtree_reading, script_reading}
-use Rattle.sd_tool.specs.Readings.{with_lines, with_action, in_line, file_name, plan_for, default_of}
+use Rattle.sd_tool.specs.Readings.{with_lines, with_action, file_name, plan_for, default_of}
+use Rattle.sd_tool.specs.inside.Readings.{in_line}
 use Rattle.sd_tool.specs.inside.Readings.{with_script_text, with_script_reading, with_sdd, with_sdd_reading}
 use Rattle.sd_tool.specs.Refusals.{IsOfText}
 use Rattle.sd_tool.specs.declared.refusal.Refusal.{Refusal}
@@ -56,26 +57,62 @@ use Rattle.sd_tool.proofs.WordsInRange.{IsInRange, in_range}
 
 other_words_fault : (fault : WordsFault) → (fault ≡ words.OutOfMemory → ⊥) → IsOfText (BadWords fault)
 other_words_fault words.OutOfMemory differs = absurd (differs refl)
-other_words_fault fault differs = tt
+other_words_fault words.Usage differs = λ e. cc
+other_words_fault words.NoInput differs = λ e. cc
+other_words_fault words.TwoInputs differs = λ e. cc
+other_words_fault words.TwoVtrees differs = λ e. cc
+other_words_fault (words.NumberRange a) differs = λ e. cc
+other_words_fault (words.WithScript a) differs = λ e. cc
+other_words_fault (words.FileTwice a) differs = λ e. cc
+other_words_fault words.StartUnknown differs = λ e. cc
+other_words_fault (words.EmptyName a) differs = λ e. cc
 
 other_formula_fault : (file : List ℕ) (fault : FormulaError) → (fault ≡ formula.OutOfMemory → ⊥)
     → IsOfText (BadFormula file fault)
 other_formula_fault file formula.OutOfMemory differs = absurd (differs refl)
-other_formula_fault file fault differs = tt
+other_formula_fault file formula.NoHeader differs = λ e. cc
+other_formula_fault file (formula.BadHeader a) differs = λ e. cc
+other_formula_fault file (formula.VariablesRange a) differs = λ e. cc
+other_formula_fault file (formula.TooManyGroups a) differs = λ e. cc
+other_formula_fault file (formula.BadWord a) differs = λ e. cc
+other_formula_fault file (formula.LiteralRange a b) differs = λ e. cc
+other_formula_fault file formula.Unterminated differs = λ e. cc
+other_formula_fault file (formula.CountDiffers a b) differs = λ e. cc
 
 other_vtree_fault : (file : List ℕ) (fault : VtreeFault) → (fault ≡ vtree.OutOfMemory → ⊥)
     → IsOfText (BadVtree file fault)
 other_vtree_fault file vtree.OutOfMemory differs = absurd (differs refl)
-other_vtree_fault file fault differs = tt
+other_vtree_fault file vtree.NoHeader differs = λ e. cc
+other_vtree_fault file (vtree.BadLine a) differs = λ e. cc
+other_vtree_fault file (vtree.IdTwice a) differs = λ e. cc
+other_vtree_fault file (vtree.ChildUnknown a) differs = λ e. cc
+other_vtree_fault file (vtree.ChildTwice a) differs = λ e. cc
+other_vtree_fault file (vtree.VariableWrong a) differs = λ e. cc
+other_vtree_fault file (vtree.CountDiffers a b) differs = λ e. cc
+other_vtree_fault file (vtree.NotOneRoot a) differs = λ e. cc
+other_vtree_fault file (vtree.VariableMissing a) differs = λ e. cc
 
 other_sdd_fault : (file : List ℕ) (fault : SddFault) → (fault ≡ sdd.OutOfMemory → ⊥) → IsOfText (BadSdd file fault)
 other_sdd_fault file sdd.OutOfMemory differs = absurd (differs refl)
-other_sdd_fault file fault differs = tt
+other_sdd_fault file sdd.NoHeader differs = λ e. cc
+other_sdd_fault file (sdd.BadLine a) differs = λ e. cc
+other_sdd_fault file (sdd.IdTwice a) differs = λ e. cc
+other_sdd_fault file (sdd.ChildUnknown a) differs = λ e. cc
+other_sdd_fault file (sdd.LiteralRange a) differs = λ e. cc
+other_sdd_fault file (sdd.CountDiffers a b) differs = λ e. cc
+other_sdd_fault file sdd.Empty differs = λ e. cc
 
 other_script_fault : (file : List ℕ) (fault : ScriptFault) → (fault ≡ script.OutOfMemory → ⊥)
     → IsOfText (BadScript file fault)
 other_script_fault file script.OutOfMemory differs = absurd (differs refl)
-other_script_fault file fault differs = tt
+other_script_fault file (script.BadLine a) differs = λ e. cc
+other_script_fault file (script.NameUnknown a) differs = λ e. cc
+other_script_fault file (script.NameTaken a) differs = λ e. cc
+other_script_fault file (script.LiteralRange a) differs = λ e. cc
+other_script_fault file (script.NumberRange a) differs = λ e. cc
+other_script_fault file (script.FileTwice a) differs = λ e. cc
+other_script_fault file script.TooManyLines differs = λ e. cc
+other_script_fault file (script.TooManyLoads a) differs = λ e. cc
 
 -- ---- all ends of readings
 
@@ -105,7 +142,7 @@ sound_plan told (Reads file next) plan sound (inr a) = sound_plan told (next a.0
 
 sound_sdd : (v : ℕ) (file : List ℕ) (next : File → Reading) (text : Text) → ((read : File) → AreSound (next read))
     → AreSound (with_sdd v file next text)
-sound_sdd v file next TooLong sound = tt
+sound_sdd v file next TooLong sound = λ e. cc
 sound_sdd v file next (Whole bytes) sound = go (sdd_file v bytes) (not_out_of_memory_sdd v bytes)
   where
     go : (read : Result File SddFault) → Never sdd.OutOfMemory read → AreSound (with_sdd_reading file next read)
@@ -148,7 +185,7 @@ sound_script v s begin sound = sound_lines v s begin [] s.commands sound
 
 sound_script_text : (file : List ℕ) (v : ℕ) (begin : List NumberedCommand → Reading) (text : Text)
     → ((cs : List NumberedCommand) → AreSound (begin cs)) → AreSound (with_script_text file v begin text)
-sound_script_text file v begin TooLong sound = tt
+sound_script_text file v begin TooLong sound = λ e. cc
 sound_script_text file v begin (Whole bytes) sound = go (script_of v bytes) (not_out_of_memory_script v bytes)
   where
     go : (read : Result Script ScriptFault) → Never script.OutOfMemory read
@@ -180,12 +217,12 @@ sound_tree_word job f (trees.File file) some = λ text. read text
     go bytes (Err fault) is never = other_vtree_fault file fault (λ same. never (ap Err same))
 
     read : (text : Text) → AreSound (with_vtree_text job f file text)
-    read TooLong = tt
+    read TooLong = λ e. cc
     read (Whole bytes) =
         go bytes (vtree_file f.variables bytes) refl (not_out_of_memory_vtree f.variables bytes)
 
 sound_input : (job : Job) (input : Input) (text : Text) → AreSound (with_input job input text)
-sound_input job input TooLong = tt
+sound_input job input TooLong = λ e. cc
 sound_input job input (Whole bytes) = go (dimacs input.kind bytes) refl (not_out_of_memory_dimacs input.kind bytes)
   where
     go : (read : Result Groups FormulaError) → dimacs input.kind bytes ≡ read

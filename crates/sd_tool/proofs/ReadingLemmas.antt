@@ -84,13 +84,13 @@ pub stops_with : {a c : List Request → Type 0} (stop : Stop) (told : Option Fi
 stops_with (Refused refusal) told reading before now said p =
     record { names = p.names; asked = said _ p.asked; reads = p.reads }
 stops_with (ReadFault file) told reading before now said p =
-    (record { names = p.0.names; next = p.0.next; asked = said _ p.0.asked; reads = p.0.reads }, p.1)
+    ((p.0.0, record { names = p.0.1.names; asked = said _ p.0.1.asked; reads = p.0.1.reads }), p.1)
 stops_with (WriteFault file) told reading before now said p = absurd p
 stops_with OutputFault told reading before now said p = absurd p
 stops_with OutOfMemory told reading before now said (inl p) =
     inl (p.0, record { names = p.1.names; asked = said _ p.1.asked; reads = p.1.reads })
 stops_with OutOfMemory told reading before now said (inr p) =
-    inr (p.0, record { names = p.1.names; next = p.1.next; asked = said _ p.1.asked; reads = p.1.reads })
+    inr (p.0, (p.1.0, record { names = p.1.1.names; asked = said _ p.1.1.asked; reads = p.1.1.reads }))
 stops_with (ArenaFull n) told reading before now said p = absurd p
 stops_with (OverLimit l g n k) told reading before now said p = absurd p
 stops_with (NotMovable l) told reading before now said p = absurd p

@@ -3,8 +3,8 @@ use Rattle.std.proofs.Common.{◌≡◌, ℕ, List, [], ◌∷◌, length, map, 
 use Rattle.std.specs.Prelude.{◌==◌, not, ok_or, is_some}
 use Rattle.sd_base.specs.Lines.{TextLine, content_of}
 use Rattle.sd_base.specs.Reading.{◌>>=◌, ◌>>◌, fault_if, each, each_after}
-use Rattle.sd_file.specs.Reads.{Node, Decomposition, Entry, File, Form, ConstantForm, LiteralForm}
-use Rattle.sd_file.specs.Reads.{DecompositionForm, index_of_id, pair_at, node_of, entry_of, form_of, id_of}
+use Rattle.sd_file.specs.Reads.{Node, Constant, Literal, Decomposition, Entry, File}
+use Rattle.sd_file.specs.Reads.{index_of_id, pair_at, node_of, entry_of, form_of}
 use Rattle.sd_file.specs.Reads.{stated_by, finish, file_of_lines, sdd_file}
 use Rattle.sd_file.specs.declared.fault.SddFault.{SddFault}
 use Rattle.sd_file.specs.declared.fault.SddFault.TheVariants as sdd
@@ -21,24 +21,25 @@ never_pair ids line (prime, sub) =
     (λ p. never_after sdd.OutOfMemory (ok_or (index_of_id sub ids) (sdd.ChildUnknown line)) (λ s. Ok (p, s))
     (never_or _ (sdd.ChildUnknown line) _ (λ e. cc)) (λ s. never_ok _ _))
 
-never_node : (v : ℕ) (ids : List ℕ) (line : ℕ) (form : Form) → Never sdd.OutOfMemory (node_of v ids line form)
-never_node v ids line (ConstantForm id value) = never_ok _ _
-never_node v ids line (LiteralForm id vtree literal) =
+never_node : (v : ℕ) (ids : List ℕ) (line : ℕ) (node : Node) → Never sdd.OutOfMemory (node_of v ids line node)
+never_node v ids line (Constant value) = never_ok _ _
+never_node v ids line (Literal vtree literal) =
     never_then sdd.OutOfMemory _ _ (never_if _ (sdd.LiteralRange line) _ (λ e. cc)) (never_ok _ _)
-never_node v ids line (DecompositionForm id vtree pairs) =
+never_node v ids line (Decomposition vtree pairs) =
     never_after sdd.OutOfMemory (each (pair_at ids line) pairs) (λ places. Ok (Decomposition vtree places))
     (never_each sdd.OutOfMemory (pair_at ids line) pairs (never_pair ids line)) (λ places. never_ok _ _)
 
 never_entry : (v : ℕ) (earlier : List Entry) (line : TextLine) → Never sdd.OutOfMemory (entry_of v earlier line)
 never_entry v earlier line =
     let ids = map (λ (e : Entry). e.id) earlier in
-    let last : Form → Node → Result Entry SddFault = λ form node. Ok (record { id = id_of form; node = node }) in
+    let last : Entry → Node → Result Entry SddFault = λ form node. Ok (record { id = form.id; node = node }) in
     never_after sdd.OutOfMemory (ok_or (form_of line.words) (sdd.BadLine line.number))
-    (λ form. fault_if (is_some (index_of_id (id_of form) ids)) (sdd.IdTwice line.number)
-    >> (node_of v ids line.number form >>= last form))
+    (λ form. fault_if (is_some (index_of_id form.id ids)) (sdd.IdTwice line.number)
+    >> (node_of v ids line.number form.node >>= last form))
     (never_or _ (sdd.BadLine line.number) _ (λ e. cc))
     (λ form. never_then sdd.OutOfMemory _ _ (never_if _ (sdd.IdTwice line.number) _ (λ e. cc))
-    (never_after sdd.OutOfMemory (node_of v ids line.number form) (last form) (never_node v ids line.number form)
+    (never_after sdd.OutOfMemory (node_of v ids line.number form.node) (last form)
+    (never_node v ids line.number form.node)
     (λ node. never_ok _ _)))
 
 never_finish : (v stated : ℕ) (entries : List Entry) → Never sdd.OutOfMemory (finish v stated entries)

@@ -1,6 +1,6 @@
 -- The numbers of a generated formula are in their ranges where the words are a job.
 use Rattle.std.proofs.Common.{◌≡◌, ℕ, ◌≤◌, Bool, true, false, List, [], ◌∷◌, Option, Some, None, Ok, Err, is_none}
-use Rattle.std.proofs.Common.{refl, ap, subst, arith}
+use Rattle.std.proofs.Common.{refl, ap, subst, arith, drop}
 use Rattle.std.specs.Prelude.{◌&&◌, ◌==◌, option_map, option_and_then, if◌then◌else◌, is_some, nat_le, count_by}
 use Rattle.std.specs.Option.{option_map_or}
 use Rattle.std.proofs.lemmas.Bool.{leb-true, and_parts}
@@ -108,10 +108,10 @@ parsed_fits : (parsed : ParsedOptions) → first_some (refusals parsed) ≡ None
 parsed_fits parsed none =
     let by_rows : first_some (rows parsed) ≡ None = subst (λ (l : List (Option WordsFault)). first_some l ≡ None)
     (refusals_are parsed) none in
-    let first = none_here (no_input parsed) _ by_rows in
-    let second = none_here (two_inputs parsed) _ first.1 in
-    let third = none_here (two_vtrees parsed) _ second.1 in
-    let fourth = none_here (number_range parsed) _ third.1 in
+    let first = none_here (no_input parsed) (drop 1 (rows parsed)) by_rows in
+    let second = none_here (two_inputs parsed) (drop 2 (rows parsed)) first.1 in
+    let third = none_here (two_vtrees parsed) (drop 3 (rows parsed)) second.1 in
+    let fourth = none_here (number_range parsed) (drop 4 (rows parsed)) third.1 in
     input_fits (parsed option.Cnf) (parsed option.Dnf) (parsed option.Generate) (some_input parsed first.0)
     (generate_reads parsed fourth.0)
 

@@ -42,8 +42,10 @@ use Rattle.sd_tool.specs.Readings.{Plan, Begins, Text, Whole, TooLong, IsText}
 use Rattle.sd_tool.specs.inside.Course.{ReadsTo, MayEnd}
 use Rattle.sd_tool.specs.inside.Readings.{Input, with_job, with_input, with_formula, with_vtree_reading, IsInput}
 use Rattle.sd_tool.specs.Readings.{reading_of, with_input_word, with_tree_word}
-use Rattle.sd_tool.specs.Readings.{with_tree, with_commands, plan_for, for_file, default_of}
-use Rattle.sd_tool.specs.Readings.{announcement, in_lines, search_of}
+use Rattle.sd_tool.specs.Readings.{with_tree, with_commands, plan_for, default_of}
+use Rattle.sd_tool.specs.inside.Readings.{for_file}
+use Rattle.sd_tool.specs.Readings.{announcement, in_lines}
+use Rattle.sd_tool.specs.inside.Readings.{search_of}
 use Rattle.sd_tool.specs.Ends.{Finished}
 use Rattle.sd_tool.specs.Devices.{Seen}
 use Rattle.sd_tool.specs.Theorem.{HasWritten, HasEqualTexts}

@@ -23,12 +23,9 @@ pub record ComesTo (asks : List Request → Type 0) (files : Option Files) (read
   pub reads : ReadsBy files reading names point
 
 -- the readings come to this file, and it is the last that is asked for
-pub record AsksLast (asks : List Request → Type 0) (files : Option Files) (reading : Reading) (file : List ℕ)
-    : Type 0 where
-  pub names : List (List ℕ)
-  pub next : Text → Reading
-  pub asked : asks (map ToRead (names ++ file ∷ []))
-  pub reads : ReadsBy files reading names (Reads file next)
+abbrev pub AsksLast : (List Request → Type 0) → Option Files → Reading → List ℕ → Type 0
+AsksLast asks files reading file = (next : Text → Reading)
+    × ComesTo (λ earlier. asks (earlier ++ ToRead file ∷ [])) files reading (Reads file next)
 
 -- the readings break off between two files, or at a file that is asked for
 abbrev pub BreaksOff : (List Request → Type 0) → Option Files → Reading → Type 0

@@ -1,5 +1,5 @@
 -- What the effects of a run leave outside.
-use Rattle.std.specs.Prelude.{◌≡◌, ℕ, List, [], ◌∷◌, Option}
+use Rattle.std.specs.Prelude.{◌≡◌, ℕ, List, fold, Option}
 use Rattle.sd_base.specs.Files.{Files, told_with, WritesPart}
 use Rattle.sd_base.specs.Sink.{told_then, AppendsPart}
 use Rattle.sd_commands.specs.Effects.{Effect, Write, Print}
@@ -16,8 +16,7 @@ after_effect (Print line) contents = record contents { printed = told_then conte
 
 -- the contents after these effects, in order
 abbrev pub after : List Effect → Contents → Contents
-after [] contents = contents
-after (effect ∷ effects) contents = after effects (after_effect effect contents)
+after effects contents = fold (λ before effect. after_effect effect before) contents effects
 
 -- the file of the effect is unchanged or holds a prefix of its bytes, or a prefix of its line was printed
 abbrev pub DoesPart : Effect → Contents → Contents → Type 0

@@ -1,8 +1,9 @@
 -- How a run ends: its status, and its line on `err`.
-use Rattle.std.specs.Prelude.{ℕ, List, [], ◌∷◌, ◌++◌, Option, Some, None, codes}
+use Rattle.std.specs.Prelude.{ℕ, List, [], ◌∷◌, ◌++◌, Option, codes}
+use Rattle.std.specs.Option.{option_map_or}
 use Rattle.sd_model.specs.Text.{number_text}
 use Rattle.sd_commands.specs.Effects.{Effect, Write, Print}
-use Rattle.sd_tool.specs.Refusals.{refusal_status, refusal_text}
+use Rattle.sd_tool.specs.Refusals.{refusal_parts}
 use Rattle.sd_tool.specs.declared.refusal.Refusal.{Refusal}
 
 -- how a run ends
@@ -24,35 +25,37 @@ pub data End : Type 0 where
   -- the total size passes the limit, at the command of a line, or there at a group of the input
   OverLimit : (line : ℕ) (group : Option ℕ) (size limit : ℕ) → End
 
--- the status of each end
-abbrev pub status_of : End → ℕ
-status_of Finished = 0
-status_of (Refused refusal) = refusal_status refusal
-status_of (Unreadable file) = 5
-status_of (Unwritable effect) = 6
-status_of OutOfMemory = 7
-status_of (ArenaFull elements) = 8
-status_of (NotMovable line) = 3
-status_of (OverLimit line group size limit) = 4
-
 -- a group of the input, if it is told
 abbrev pub group_text : Option ℕ → List ℕ
-group_text None = []
-group_text (Some group) = codes ": group " ++ number_text group
+group_text group = option_map_or (λ number. codes ": group " ++ number_text number) group []
 
--- the text of the line, after the name of the program
+-- what an effect writes to
+abbrev pub target_of : Effect → List ℕ
+target_of (Write file bytes) = file
+target_of (Print line) = codes "output"
+
+-- The table of ends: the status of each, and the text of its line after the name of the program.
+abbrev pub answer_of : End → ℕ × List ℕ
+answer_of Finished = (0, [])
+answer_of (Refused refusal) = ((refusal_parts refusal).0, (refusal_parts refusal).1 ++ (refusal_parts refusal).2)
+answer_of (Unreadable file) = (5, file ++ codes ": read fault")
+answer_of (Unwritable effect) = (6, target_of effect ++ codes ": write fault")
+answer_of OutOfMemory = (7, codes "out of memory")
+answer_of (ArenaFull elements) = (8, codes "arena full: " ++ number_text elements)
+answer_of (NotMovable line) = (3, codes "line " ++ number_text line ++ codes ": not movable")
+answer_of (OverLimit line group size limit) = (
+  4,
+  codes "line " ++ number_text line ++ group_text group ++ codes ": size " ++ number_text size
+      ++ codes " passes limit " ++ number_text limit,
+)
+
+-- the status of an end
+abbrev pub status_of : End → ℕ
+status_of end = (answer_of end).0
+
+-- the text of its line
 abbrev pub text_of : End → List ℕ
-text_of Finished = []
-text_of (Refused refusal) = refusal_text refusal
-text_of (Unreadable file) = file ++ codes ": read fault"
-text_of (Unwritable (Write file bytes)) = file ++ codes ": write fault"
-text_of (Unwritable (Print line)) = codes "output: write fault"
-text_of OutOfMemory = codes "out of memory"
-text_of (ArenaFull elements) = codes "arena full: " ++ number_text elements
-text_of (NotMovable line) = codes "line " ++ number_text line ++ codes ": not movable"
-text_of (OverLimit line group size limit) =
-    codes "line " ++ number_text line ++ group_text group ++ codes ": size " ++ number_text size
-    ++ codes " passes limit " ++ number_text limit
+text_of end = (answer_of end).1
 
 -- a line on `err`
 abbrev pub line_of : List ℕ → List ℕ

@@ -1,5 +1,5 @@
 -- What a script of four lines writes, said without the course of the run.
-use Rattle.std.specs.Prelude.{◌≡◌, ℕ, List, [], ◌∷◌, Option, Some, None}
+use Rattle.std.specs.Prelude.{◌≡◌, ℕ, List, [], ◌∷◌, map, Option, Some, None}
 use Rattle.sd_base.specs.Files.{with_file}
 use Rattle.sd_model.specs.declared.trees.Operation.{Operation}
 use Rattle.sd_model.specs.Expression.{Expression, Constant, Atom, Combined}
@@ -10,7 +10,6 @@ use Rattle.sd_formula.specs.Formulas.{expression_of}
 use Rattle.sd_script.specs.Scripts.{Script, script_of}
 use Rattle.sd_script.specs.declared.command.Action.{Action}
 use Rattle.sd_script.specs.declared.command.Action.TheVariants as actions
-use Rattle.sd_script.specs.declared.command.Command.{Command as Line}
 use Rattle.sd_tool.specs.Readings.{file_name, announcement}
 use Rattle.sd_tool.specs.Devices.{Seen}
 use Rattle.sd_tool.specs.Written.{ReadsAs, Given}
@@ -25,23 +24,20 @@ own_formula input action = None
 -- The script has four lines. Two of them bind two names to a formula each, as `input f` and `lit g 1` do; the third
 -- joins these, as `and h f g`, `or h f g` and `xor h f g` do; and `write h FILE` is the last.
 pub record JoinsTwo (input : Expression) (script : Script) : Type 0 where
-  pub first : Line
-  pub second : Line
-  pub third : Line
-  pub last : Line
-  pub lines : script.commands ≡ first ∷ second ∷ third ∷ last ∷ []
+  pub first : Action
+  pub second : Action
+  pub operation : Operation
   pub f : ℕ
   pub g : ℕ
   pub h : ℕ
+  pub number : ℕ
+  pub lines : map (λ line. line.action) script.commands
+      ≡ first ∷ second ∷ actions.Binary operation h f g ∷ actions.Write (h ∷ []) number ∷ []
   pub left : Expression
   pub right : Expression
-  pub binds_f : own_formula input first.action ≡ Some (f, left)
-  pub binds_g : own_formula input second.action ≡ Some (g, right)
+  pub binds_f : own_formula input first ≡ Some (f, left)
+  pub binds_g : own_formula input second ≡ Some (g, right)
   pub two : ¬ (g ≡ f)
-  pub operation : Operation
-  pub joins : third.action ≡ actions.Binary operation h f g
-  pub number : ℕ
-  pub writes : last.action ≡ actions.Write (h ∷ []) number
 
 -- The words name such a script, and an input file, and ask for no search behind a group.
 pub record FourLines (words : List (List ℕ)) (seen : Seen) : Type 0 where

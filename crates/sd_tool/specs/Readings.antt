@@ -1,6 +1,8 @@
 -- What a run reads before its first command, and when that is refused. A later reading is one more `Reads`.
 use Rattle.std.specs.Prelude.{◌≡◌, ℕ, ◌+◌, ◌<◌, ◌≤◌}
-use Rattle.std.specs.Prelude.{List, [], ◌∷◌, ◌++◌, length, slice_index_or}
+use Rattle.std.specs.Prelude.{List, [], ◌∷◌, ◌++◌, length, map, slice_index_or}
+use Rattle.std.specs.List.{enumerate_from}
+use Rattle.std.specs.Option.{option_to_list}
 use Rattle.std.specs.Prelude.{Option, Some, None, Result, Ok, Err}
 use Rattle.sd_base.specs.Files.{Files, bytes_at}
 use Rattle.sd_model.specs.Tree.{Tree}
@@ -49,28 +51,18 @@ pub data Reading : Type 0 where
 
 -- ---- the commands
 
--- a command for a file that is there
-abbrev pub for_file : (List ℕ → RunCommand) → Option (List ℕ) → List RunCommand
-for_file command None = []
-for_file command (Some file) = command file ∷ []
-
--- a search of so many rounds, where they are there
-abbrev pub search_of : Option ℕ → List RunCommand
-search_of None = []
-search_of (Some rounds) = commands.Minimise rounds ∷ []
-
 -- commands in lines that follow one another, from this one on
 abbrev pub in_lines : ℕ → List RunCommand → List NumberedCommand
-in_lines line [] = []
-in_lines line (command ∷ commands) = record { line = line; command = command } ∷ in_lines (line + 1) commands
+in_lines first commands = map (λ (n, command). record { line = n; command = command }) (enumerate_from first commands)
 
 -- Without a script the formula is compiled, a search is done where the words ask for one, the vtree and the diagram are
 -- written, and then its size is printed: a script of two to five lines.
 abbrev pub default_of : Job → List NumberedCommand
 default_of job =
     in_lines 1
-    (commands.Input 0 ∷ search_of job.minimise ++ for_file commands.WriteVtree job.out_vtree
-    ++ for_file (commands.Write (0 ∷ [])) job.out_sdd ++ commands.Size 0 ∷ [])
+    (commands.Input 0 ∷ map commands.Minimise (option_to_list job.minimise)
+    ++ map commands.WriteVtree (option_to_list job.out_vtree)
+    ++ map (commands.Write (0 ∷ [])) (option_to_list job.out_sdd) ++ commands.Size 0 ∷ [])
 
 -- the name of a file of a script
 abbrev pub file_name : Script → ℕ → List ℕ
@@ -108,15 +100,12 @@ with_action v script next (actions.Value a bits) = next (commands.Value a bits)
 with_action v script next (actions.Write names file) = next (commands.Write names (file_name script file))
 with_action v script next (actions.Vtree file) = next (commands.WriteVtree (file_name script file))
 
--- a command with the number of its line
-abbrev pub in_line : Line → RunCommand → NumberedCommand
-in_line line command = record { line = line.line; command = command }
-
 -- the commands of these lines, behind others
 abbrev pub with_lines : ℕ → Script → (List NumberedCommand → Reading) → List NumberedCommand → List Line → Reading
 with_lines v script begin done [] = begin done
-with_lines v script begin done (line ∷ lines) =
-    with_action v script (λ command. with_lines v script begin (done ++ in_line line command ∷ []) lines) line.action
+with_lines v script begin done (line ∷ lines) = with_action v script
+    (λ command. with_lines v script begin (done ++ record { line = line.line; command = command } ∷ []) lines)
+    line.action
 
 -- the commands of a job: those of its script, or the stated ones
 abbrev pub with_commands : Job → ℕ → (List NumberedCommand → Reading) → Option (List ℕ) → Reading

@@ -1,5 +1,5 @@
 -- What the words and the texts of a run are refused for: the status and the text of each refusal.
-use Rattle.std.specs.Prelude.{ℕ, suc, true, false, List, [], ◌++◌, codes, ℤ, pos, negsuc}
+use Rattle.std.specs.Prelude.{◌≢◌, ℕ, suc, true, false, List, [], ◌++◌, codes, ℤ, pos, negsuc}
 use Rattle.sd_model.specs.Text.{number_text, literal_text}
 use Rattle.sd_formula.specs.declared.error.FormulaError.{FormulaError}
 use Rattle.sd_formula.specs.declared.error.FormulaError.TheVariants as formula
@@ -15,22 +15,6 @@ use Rattle.sd_words.specs.declared.faults.WordsFault.TheVariants as words
 use Rattle.sd_tool.specs.declared.refusal.Refusal.{Refusal}
 use Rattle.sd_tool.specs.declared.refusal.Refusal.TheVariants.{BadWords, TooLong, BadFormula, BadVtree}
 use Rattle.sd_tool.specs.declared.refusal.Refusal.TheVariants.{LongScript, BadScript, BadSdd}
-
--- 1 for the words, 3 for the script, 2 for each other file
-abbrev pub refusal_status : Refusal → ℕ
-refusal_status (BadWords fault) = 1
-refusal_status (LongScript file) = 3
-refusal_status (BadScript file fault) = 3
-refusal_status refusal = 2
-
--- the fault is one of the words or of a text: OutOfMemory is none
-abbrev pub IsOfText : Refusal → Type 0
-IsOfText (BadWords words.OutOfMemory) = ⊥
-IsOfText (BadFormula file formula.OutOfMemory) = ⊥
-IsOfText (BadVtree file vtree.OutOfMemory) = ⊥
-IsOfText (BadSdd file sdd.OutOfMemory) = ⊥
-IsOfText (BadScript file script.OutOfMemory) = ⊥
-IsOfText refusal = Unit {0}
 
 -- a fault of a line
 abbrev pub at_line : ℕ → List ℕ → List ℕ
@@ -106,12 +90,27 @@ script_fault_text script.TooManyLines = codes ": too many lines"
 script_fault_text (script.TooManyLoads n) = at_line n (codes ": too many loads")
 script_fault_text script.OutOfMemory = []
 
--- the text of the line, after the name of the program
+-- The table of refusals: the status, which is 1 for the words, 3 for the script and 2 for each other file, the name of
+-- the file, and the text of the fault behind it.
+abbrev pub refusal_parts : Refusal → ℕ × List ℕ × List ℕ
+refusal_parts (BadWords fault) = (1, [], words_fault_text fault)
+refusal_parts (TooLong file) = (2, file, codes ": too long")
+refusal_parts (BadFormula file fault) = (2, file, formula_fault_text fault)
+refusal_parts (BadVtree file fault) = (2, file, vtree_fault_text fault)
+refusal_parts (BadSdd file fault) = (2, file, sdd_fault_text fault)
+refusal_parts (LongScript file) = (3, file, codes ": too long")
+refusal_parts (BadScript file fault) = (3, file, script_fault_text fault)
+
+-- the fault is one of the words or of a text, and so it has a text: OutOfMemory is none, and has none
+abbrev pub IsOfText : Refusal → Type 0
+IsOfText refusal = (refusal_parts refusal).2 ≢ []
+
+-- ---- for the contracts of private functions
+
+-- the status of a refusal
+abbrev pub refusal_status : Refusal → ℕ
+refusal_status refusal = (refusal_parts refusal).0
+
+-- the text of its line, after the name of the program
 abbrev pub refusal_text : Refusal → List ℕ
-refusal_text (BadWords fault) = words_fault_text fault
-refusal_text (TooLong file) = file ++ codes ": too long"
-refusal_text (BadFormula file fault) = file ++ formula_fault_text fault
-refusal_text (BadVtree file fault) = file ++ vtree_fault_text fault
-refusal_text (BadSdd file fault) = file ++ sdd_fault_text fault
-refusal_text (LongScript file) = file ++ codes ": too long"
-refusal_text (BadScript file fault) = file ++ script_fault_text fault
+refusal_text refusal = (refusal_parts refusal).1 ++ (refusal_parts refusal).2

@@ -1,5 +1,6 @@
 -- What the words and told files give, and what the written files are, said without the course of the run.
 use Rattle.std.specs.Prelude.{◌≡◌, ℕ, ◌≤◌, List, [], ◌∷◌, map, length, Option, Some, None, Result, Ok}
+use Rattle.std.specs.Option.{option_map_or}
 use Rattle.sd_base.specs.Files.{Files, bytes_at, with_file}
 use Rattle.sd_base.specs.Sink.{told_then}
 use Rattle.sd_model.specs.Expression.{Expression}
@@ -73,8 +74,7 @@ IsPlain words seen = (files : Files) × (job : Job) × (seen.old.contents.files 
 
 -- the files with these bytes under a name that is there
 abbrev pub with_output : Option (List ℕ) → List ℕ → Files → Files
-with_output None bytes files = files
-with_output (Some name) bytes files = with_file files name bytes
+with_output name bytes files = option_map_or (λ own. with_file files own bytes) name files
 
 -- what is printed with the line of a generated formula behind it
 abbrev pub with_announcement : InputWord → Groups → Option (List ℕ) → Option (List ℕ)

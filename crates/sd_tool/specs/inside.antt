@@ -2,4 +2,5 @@
 pub mod ByStatus
 pub mod Course
 pub mod Devices
+pub mod Joined
 pub mod Readings

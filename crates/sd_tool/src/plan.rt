@@ -3,7 +3,8 @@ ghost use Rattle.std.specs.Prelude.{◌≡◌, ◌≤◌, ◌+◌, [], ◌∷◌
 ghost use Rattle.std.specs.Prelude.{Option};
 ghost use Rattle.sd_commands.specs.declared.command.RunCommand.TheVariants.{Write, WriteVtree};
 ghost use Rattle.sd_tool.specs.PlanViews.{behind};
-ghost use Rattle.sd_tool.specs.Readings.{for_file, search_of, default_of, announcement};
+ghost use Rattle.sd_tool.specs.Readings.{default_of, announcement};
+ghost use Rattle.sd_tool.specs.inside.Readings.{for_file, search_of};
 
 use sd_base::Name;
 use sd_commands::{NumberedCommand, RunCommand, RunState};

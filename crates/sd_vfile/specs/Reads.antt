@@ -1,7 +1,7 @@
 -- The tree that a vtree file stands for, or its first fault.
 use Rattle.std.specs.Prelude.{◌≡◌, ℕ, Bool, false, not, ◌&&◌, ◌||◌, ◌==◌, nat_le, if◌then◌else◌, codes, bytes_eq}
 use Rattle.std.specs.Prelude.{List, [], ◌∷◌, length, filter, find}
-use Rattle.std.specs.Prelude.{Option, Some, None, ok_or, option_map, Result, Ok, Err}
+use Rattle.std.specs.Prelude.{Option, Some, None, ok_or, option_and_then, option_map, Result, Ok, Err}
 use Rattle.std.specs.List.{list_any, range_with_len}
 use Rattle.sd_base.specs.Lines.{TextLine, content_of}
 use Rattle.sd_base.specs.Numbers.{natural_value}
@@ -22,32 +22,21 @@ pub record Entry : Type 0 where
 
 -- ---- the two forms of a node line: `L id variable` and `I id left right`
 
--- a leaf, where both numbers are there
-abbrev pub leaf_of : Option ℕ → Option ℕ → Option Form
-leaf_of (Some id) (Some variable) = Some (LeafLine id variable)
-leaf_of id variable = None
+-- each element where all have a value
+abbrev pub all_values : {A B : Type 0} → (A → Option B) → List A → Option (List B)
+all_values f [] = Some []
+all_values f (x ∷ xs) = option_and_then (λ y. option_map (λ ys. y ∷ ys) (all_values f xs)) (f x)
 
--- an internal node, where all three numbers are there
-abbrev pub inner_of : Option ℕ → Option ℕ → Option ℕ → Option Form
-inner_of (Some id) (Some left) (Some right) = Some (InnerLine id left right)
-inner_of id left right = None
-
--- the leaf of the words after the letter L
-abbrev pub leaf_form : List (List ℕ) → Option Form
-leaf_form (id ∷ variable ∷ []) = leaf_of (natural_value id) (natural_value variable)
-leaf_form words = None
-
--- the internal node of the words after the letter I
-abbrev pub inner_form : List (List ℕ) → Option Form
-inner_form (id ∷ left ∷ right ∷ []) = inner_of (natural_value id) (natural_value left) (natural_value right)
-inner_form words = None
+-- the form of a letter and the numbers behind it
+abbrev pub form_with : List ℕ → List ℕ → Option Form
+form_with letter (id ∷ variable ∷ []) = if bytes_eq letter (codes "L") then Some (LeafLine id variable) else None
+form_with letter (id ∷ left ∷ right ∷ []) = if bytes_eq letter (codes "I") then Some (InnerLine id left right) else None
+form_with letter numbers = None
 
 -- the form that a line's words have
 abbrev pub form_of : List (List ℕ) → Option Form
 form_of [] = None
-form_of (letter ∷ words) =
-    if bytes_eq letter (codes "L") then leaf_form words
-    else (if bytes_eq letter (codes "I") then inner_form words else None)
+form_of (letter ∷ words) = option_and_then (form_with letter) (all_values natural_value words)
 
 -- ---- what the earlier lines have
 
@@ -123,16 +112,16 @@ whole_tree v stated entries = do
 
 -- ---- the text
 
--- the number of a header `vtree N`
-abbrev pub stated_by : List (List ℕ) → Option ℕ
-stated_by (name ∷ number ∷ []) = if bytes_eq name (codes "vtree") then natural_value number else None
-stated_by words = None
+-- the number of a header of two words, of which this is the first
+abbrev pub stated_behind : List ℕ → List (List ℕ) → Option ℕ
+stated_behind own (name ∷ number ∷ []) = if bytes_eq name own then natural_value number else None
+stated_behind own words = None
 
--- the tree of a header and the lines after it
+-- the tree of a header `vtree N` and the lines after it
 abbrev pub tree_of_lines : ℕ → List TextLine → Result Tree VtreeFault
 tree_of_lines v [] = Err NoHeader
 tree_of_lines v (header ∷ lines) = do
-  stated ← ok_or (stated_by header.words) NoHeader
+  stated ← ok_or (stated_behind (codes "vtree") header.words) NoHeader
   entries ← each_after (entry_of v) [] lines
   whole_tree v stated entries
 
@@ -140,6 +129,12 @@ tree_of_lines v (header ∷ lines) = do
 -- c, are passed over.
 unfoldable pub vtree_file : ℕ → List ℕ → Result Tree VtreeFault
 vtree_file v bytes = tree_of_lines v (content_of 99 bytes)
+
+-- ---- for the contracts of private functions
+
+-- the number of a header `vtree N`
+abbrev pub stated_by : List (List ℕ) → Option ℕ
+stated_by words = stated_behind (codes "vtree") words
 
 -- ---- what a reader answers
 

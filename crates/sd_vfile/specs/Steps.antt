@@ -2,10 +2,33 @@
 use Rattle.std.specs.Prelude.{◌≡◌, ℕ, ◌≤◌, ◌<◌, Bool, true, false, ◌==◌, List, [], ◌∷◌, ◌++◌, length, take}
 use Rattle.std.specs.Prelude.{slice_index_or, Option, Some, None}
 use Rattle.std.specs.List.{fold, list_any}
+use Rattle.sd_base.specs.Numbers.{natural_value}
 use Rattle.sd_model.specs.Tree.{Tree, Leaf, Node}
 use Rattle.sd_vfile.specs.declared.form.Form.{Form}
 use Rattle.sd_vfile.specs.declared.form.Form.TheVariants.{LeafLine, InnerLine}
 use Rattle.sd_vfile.specs.Reads.{Entry, tree_with_id, has_id, is_leaf}
+
+-- ---- the form of a line, as it is read word by word
+
+-- a leaf, where both numbers are there
+abbrev pub leaf_of : Option ℕ → Option ℕ → Option Form
+leaf_of (Some id) (Some variable) = Some (LeafLine id variable)
+leaf_of id variable = None
+
+-- an internal node, where all three numbers are there
+abbrev pub inner_of : Option ℕ → Option ℕ → Option ℕ → Option Form
+inner_of (Some id) (Some left) (Some right) = Some (InnerLine id left right)
+inner_of id left right = None
+
+-- the leaf of the words after the letter L
+abbrev pub leaf_form : List (List ℕ) → Option Form
+leaf_form (id ∷ variable ∷ []) = leaf_of (natural_value id) (natural_value variable)
+leaf_form words = None
+
+-- the internal node of the words after the letter I
+abbrev pub inner_form : List (List ℕ) → Option Form
+inner_form (id ∷ left ∷ right ∷ []) = inner_of (natural_value id) (natural_value left) (natural_value right)
+inner_form words = None
 
 -- ---- what a line has by itself
 

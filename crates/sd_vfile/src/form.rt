@@ -2,7 +2,8 @@
 
 ghost use Rattle.std.specs.Prelude.{◌≡◌};
 ghost use Rattle.sd_base.specs.Views.{words_left, line_view};
-ghost use Rattle.sd_vfile.specs.Reads as texts;
+ghost use Rattle.sd_vfile.specs.Reads.{form_of as form_of_words};
+ghost use Rattle.sd_vfile.specs.Steps as texts;
 ghost use Rattle.sd_vfile.specs.Steps.{id_of, has_child, is_leaf_line};
 
 use sd_base::{Line, Words, natural};
@@ -49,7 +50,7 @@ impl Form {
 
 /// The form of a line, where it has one.
 pub(crate) fn form_of(line: &Line<'_>) -> Option<Form>
-    ensures { result ≡ texts.form_of (line_view line.now).words }
+    ensures { result ≡ form_of_words (line_view line.now).words }
 {
     let mut words = line.words();
     match words.next() {

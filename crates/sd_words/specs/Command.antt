@@ -1,7 +1,7 @@
 -- The command line as a command of `clap`, and what `clap` makes of the words.
 use Rattle.std.specs.Prelude.{Bool, true, List, ◌∷◌, fold, codes, Some}
 use Rattle.clap.specs.Walk.{Row, Rule, Text, first_of, is_empty, rows_of}
-use Rattle.clap.specs.Simple.{App, Shape, matches_of, new_app, new_rule, on_top, with_rule}
+use Rattle.clap.specs.Simple.{App, matches_of, new_app, new_rule, on_top, with_rule}
 use Rattle.clap.specs.Faults.{fault_of}
 use Rattle.clap.specs.Kinds.{Kinds}
 use Rattle.clap.specs.Matches.{found_of}
@@ -15,13 +15,9 @@ use Rattle.sd_words.specs.declared.options.OptionName.{OptionName}
 abbrev pub text_option : Text → Rule
 text_option word = record (new_rule word) { long = Some word; action = Some Set }
 
--- `disable_help_flag(true)` and `disable_version_flag(true)`
-abbrev pub without_help : Shape → Shape
-without_help s = record s { disable_help_flag = true; disable_version_flag = true }
-
--- `Command::new("sddc")` without help and version
+-- `Command::new("sddc")` with `disable_help_flag(true)` and `disable_version_flag(true)`
 abbrev pub bare_sddc : App
-bare_sddc = on_top without_help (new_app (codes "sddc"))
+bare_sddc = on_top (λ s. record s { disable_help_flag = true; disable_version_flag = true }) (new_app (codes "sddc"))
 
 -- `Command::arg` with such an option
 abbrev pub with_option : App → OptionName → App
@@ -47,14 +43,16 @@ rows_found = matches_of sddc
 abbrev pub accepts : List Text → Bool
 accepts words = is_empty (usage_faults (handed words))
 
--- the first value of each option, among what was found
+-- what the words give: the first value of each option, among what was found
+abbrev pub parsed_by : List Text → ParsedOptions
+parsed_by words o = first_of (word_of o) (rows_found (handed words))
+
+-- ---- for the contracts of private functions
+
+-- the first value of each option, among some rows
 abbrev pub parsed_in : List Row → ParsedOptions
 parsed_in rows o = first_of (word_of o) rows
 
 -- what a parse gave
 unfoldable pub parsed_of : ArgMatches → ParsedOptions
 parsed_of m = parsed_in (rows_of (found_of m))
-
--- what the words give
-abbrev pub parsed_by : List Text → ParsedOptions
-parsed_by words = parsed_in (rows_found (handed words))

@@ -1,11 +1,10 @@
 -- The job that the words of a call stand for, or the first fault in them.
-use Rattle.std.specs.Prelude.{◌≡◌, ◌⊎◌, ℕ, List, [], ◌∷◌, Result, Ok, Err, MatchResult}
-use Rattle.std.specs.Prelude.{Option, Some, None, unwrap_or, option_and_then, if◌then◌else◌}
-use Rattle.std.specs.Option.{option_map_or}
+use Rattle.std.specs.Prelude.{◌≡◌, ◌⊎◌, ℕ, List, Result, Ok, Err, MatchResult}
+use Rattle.std.specs.Prelude.{find, is_some, Option, Some, None, unwrap_or, option_and_then, if◌then◌else◌}
+use Rattle.std.specs.Option.{option_flatten, option_map_or}
 use Rattle.clap.specs.Walk.{Text}
 use Rattle.sd_words.specs.Command.{accepts, parsed_by}
 use Rattle.sd_words.specs.ParsedOptions.{ParsedOptions, generated, option_number, start_of}
-use Rattle.sd_words.specs.Options.{default_limit, default_slack}
 use Rattle.sd_words.specs.Refusals.{refusals}
 use Rattle.sd_words.specs.declared.jobs.InputWord.{InputWord}
 use Rattle.sd_words.specs.declared.jobs.InputWord.TheVariants as input
@@ -27,7 +26,7 @@ abbrev pub tree_word_of : Option Text → Option Text → TreeWord
 tree_word_of (Some name) _ = tree.File name
 tree_word_of None start = unwrap_or (option_and_then start_of start) tree.Balanced
 
--- the job, where nothing is refused
+-- the job, where nothing is refused; where they are not there, the slack is 200 percent, and the limit 16,777,216
 unfoldable pub job_of_parsed : ParsedOptions → Job
 job_of_parsed parsed = record {
   input = input_of parsed (generated parsed);
@@ -37,15 +36,13 @@ job_of_parsed parsed = record {
   out_sdd = parsed option.OutSdd;
   minimise = option_number parsed option.Minimise;
   every = option_number parsed option.Every;
-  slack = unwrap_or (option_number parsed option.Slack) default_slack;
-  limit = unwrap_or (option_number parsed option.Limit) default_limit;
+  slack = unwrap_or (option_number parsed option.Slack) 200;
+  limit = unwrap_or (option_number parsed option.Limit) 16777216;
 }
 
 -- the first fault of a list that is there
 abbrev pub first_some : List (Option WordsFault) → Option WordsFault
-first_some [] = None
-first_some (Some f ∷ _) = Some f
-first_some (None ∷ rest) = first_some rest
+first_some faults = option_flatten (find is_some faults)
 
 -- the fault, or where there is none the value
 abbrev pub unless : {T : Type 0} → Option WordsFault → T → Result T WordsFault

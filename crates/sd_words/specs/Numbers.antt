@@ -2,6 +2,7 @@
 use Rattle.std.specs.Prelude.{ℕ, ◌&&◌, ◌==◌, Bool, Option, Some, None, if◌then◌else◌, length}
 use Rattle.std.specs.Prelude.{nat_le, not, option_and_then}
 use Rattle.std.specs.Char.{is_ascii_digit}
+use Rattle.std.specs.Option.{option_zip}
 use Rattle.std.specs.List.{after_first, before_first, list_all}
 use Rattle.std.specs.Str.Parse.{digits_value}
 use Rattle.clap.specs.Walk.{Text, is_empty}
@@ -28,17 +29,14 @@ number_within least most text = option_and_then (within least most) (natural tex
 abbrev pub number_of_text : OptionName → Text → Option ℕ
 number_of_text o text = option_and_then (λ range. number_within range.0 range.1 text) (range_of o)
 
+-- `COUNT:SEED` (`:` is byte 58): the number of variables, 3 to 1,024, and a seed of 32 bits
+abbrev pub count_and_seed : Text → Option (ℕ × ℕ)
+count_and_seed text = option_zip
+    (number_within 3 1024 (before_first (λ byte. byte == 58) text))
+    (number_within 0 4294967295 (after_first (λ byte. byte == 58) text))
+
+-- ---- for the contracts of private functions
+
 -- both, where both are there
 abbrev pub both : Option ℕ → Option ℕ → Option (ℕ × ℕ)
-both (Some a) (Some b) = Some (a, b)
-both _ _ = None
-
--- the byte `:`
-abbrev pub is_colon : ℕ → Bool
-is_colon byte = byte == 58
-
--- `COUNT:SEED`: the number of variables, 3 to 1,024, and a seed of 32 bits
-abbrev pub count_and_seed : Text → Option (ℕ × ℕ)
-count_and_seed text = both
-    (number_within 3 1024 (before_first is_colon text))
-    (number_within 0 4294967295 (after_first is_colon text))
+both a b = option_zip a b

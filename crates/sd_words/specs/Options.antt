@@ -33,14 +33,6 @@ range_of option.Slack = Some (100, 1000)
 range_of option.Limit = Some (1, 268435456)
 range_of _ = None
 
--- in percent, where `--slack` is not there
-abbrev pub default_slack : ℕ
-default_slack = 200
-
--- where `--limit` is not there
-abbrev pub default_limit : ℕ
-default_limit = 16777216
-
 -- the options that say where the formula comes from
 abbrev pub inputs : List OptionName
 inputs = option.Cnf ∷ option.Dnf ∷ option.Generate ∷ []

@@ -1,10 +1,11 @@
 -- The table of refusals.
-use Rattle.std.specs.Prelude.{◌&&◌, ◌==◌, Bool, List, [], ◌∷◌, count_by, find, if◌then◌else◌, nat_le}
+use Rattle.std.specs.Prelude.{◌&&◌, ◌==◌, Bool, false, List, [], ◌∷◌, count_by, find, if◌then◌else◌, nat_le}
 use Rattle.std.specs.Prelude.{Option, Some, None, option_map}
+use Rattle.std.specs.Option.{option_and_then, option_map_or, option_zip}
 use Rattle.std.specs.Str.{bytes_eq}
 use Rattle.clap.specs.Walk.{Text, is_empty}
 use Rattle.sd_words.specs.ParsedOptions.{ParsedOptions, fails, first_beside, has_option, has_bad_number}
-use Rattle.sd_words.specs.ParsedOptions.{has_that, start_of}
+use Rattle.sd_words.specs.ParsedOptions.{start_of}
 use Rattle.sd_words.specs.Options.{files, inputs, number_options, replaced_by_script}
 use Rattle.sd_words.specs.declared.options.OptionName.{OptionName}
 use Rattle.sd_words.specs.declared.options.OptionName.TheVariants as option
@@ -22,8 +23,7 @@ fault_at_first test options fault = option_map fault (find test options)
 
 -- two names that are there are the same bytes
 abbrev pub same_name : Option Text → Option Text → Option WordsFault
-same_name (Some a) (Some b) = fault_where (bytes_eq a b) (fault.FileTwice a)
-same_name _ _ = None
+same_name a b = option_and_then (λ (x, y). fault_where (bytes_eq x y) (fault.FileTwice x)) (option_zip a b)
 
 -- The table, in the order in which its rows are tested: the fault of each, where it holds.
 unfoldable pub refusals : ParsedOptions → List (Option WordsFault)
@@ -43,5 +43,5 @@ refusals parsed =
     -- the value of `--start` is not `balanced`, `right` or `left`
     ∷ fault_where (fails start_of (parsed option.Start)) fault.StartUnknown
     -- the name of a file is empty; the first option is named
-    ∷ fault_at_first (has_that is_empty parsed) files (λ o. fault.EmptyName o)
+    ∷ fault_at_first (λ o. option_map_or is_empty (parsed o) false) files (λ o. fault.EmptyName o)
     ∷ []

@@ -1,5 +1,6 @@
 -- The readings step by step, for the contracts of private functions and for proofs.
-use Rattle.std.specs.Prelude.{◌≡◌, ℕ, List, [], Option, Some, None, Result, Ok}
+use Rattle.std.specs.Prelude.{◌≡◌, ℕ, List, [], map, Option, Some, None, Result, Ok}
+use Rattle.std.specs.Option.{option_to_list}
 use Rattle.sd_base.specs.Files.{Files}
 use Rattle.sd_model.specs.Tree.{Tree}
 use Rattle.sd_formula.specs.declared.error.FormulaError.{FormulaError}
@@ -18,11 +19,26 @@ use Rattle.sd_words.specs.declared.jobs.InputWord.{InputWord}
 use Rattle.sd_words.specs.declared.jobs.InputWord.TheVariants as inputs
 use Rattle.sd_words.specs.declared.faults.WordsFault.{WordsFault}
 use Rattle.sd_commands.specs.declared.command.NumberedCommand.{NumberedCommand}
+use Rattle.sd_commands.specs.declared.command.RunCommand.{RunCommand}
+use Rattle.sd_commands.specs.declared.command.RunCommand.TheVariants as commands
+use Rattle.sd_script.specs.declared.command.Command.{Command as Line}
 use Rattle.sd_tool.specs.Readings.{Reading, Text, or_refused, parsed, with_lines, with_tree, with_tree_word}
 use Rattle.sd_tool.specs.Readings.{with_input_word}
 use Rattle.sd_tool.specs.Written.{IsFormulaOf}
 use Rattle.sd_tool.specs.declared.refusal.Refusal.TheVariants.{BadWords, BadFormula, BadVtree, BadSdd}
 use Rattle.sd_tool.specs.declared.refusal.Refusal.TheVariants.{BadScript, LongScript, TooLong}
+
+-- a command for a file that is there
+abbrev pub for_file : (List ℕ → RunCommand) → Option (List ℕ) → List RunCommand
+for_file command file = map command (option_to_list file)
+
+-- a search of so many rounds, where they are there
+abbrev pub search_of : Option ℕ → List RunCommand
+search_of rounds = map commands.Minimise (option_to_list rounds)
+
+-- a command with the number of its line
+abbrev pub in_line : Line → RunCommand → NumberedCommand
+in_line line command = record { line = line.line; command = command }
 
 -- a formula file and its kind
 pub record Input : Type 0 where

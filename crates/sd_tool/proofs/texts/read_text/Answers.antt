@@ -1,4 +1,5 @@
 use Rattle.std.proofs.Common.{Err, ap}
+use Rattle.sd_base.specs.Asked.{Adds}
 use Rattle.sd_tool.specs.Readings.{Whole, TooLong}
 use Rattle.sd_tool.proofs.ReadingLemmas.{is_text, is_long, stops_at_file}
 use Rattle.sd_tool.proofs.AskLemmas.{comes_text, breaks_at_file}
@@ -20,7 +21,8 @@ returns-in-Err-TooLong-clause-leads g c = λ next.
 
 pub returns-in-Ok-copy_of-clause-leads : goal.returns-in-Ok-copy_of-clause-leads
 returns-in-Ok-copy_of-clause-leads g c = λ next.
-    stops_at_file _ (g.F.Shelf.files c.args.shelf.now) c.args.file.now _ next
+    stops_at_file (Adds g.F.Shelf.asked c.args.shelf.now c.read_all.new.shelf)
+    (g.F.Shelf.files c.args.shelf.now) c.args.file.now _ next
     (g.F.Shelf.read_faults c.args.shelf.now) (g.F.Shelf.read_faults c.read_all.new.shelf)
     c.in-Err-ReadFault.ensures.asked c.in-Ok-copy_of.ensures
     (c.in-Err-ReadFault.ensures.fault (ap Err c.in-Err-ReadFault.field-0-is))

@@ -1,0 +1,67 @@
+-- Commands over numbered names and files, and what earlier commands leave: which names are bound,
+-- which files are written, and how many files were loaded.
+use Rattle.std.specs.Prelude.{ℕ, Bool, true, false, not, ◌==◌, List, [], ◌∷◌, ◌++◌, filter, fold}
+use Rattle.std.specs.Prelude.{flat_map}
+use Rattle.std.specs.Prelude.{count_by}
+use Rattle.std.specs.List.{list_any}
+use Rattle.sd_script.specs.declared.command.Action.{Action}
+use Rattle.sd_script.specs.declared.command.Action.TheVariants.{Input, Load, Lit, Constant, Binary}
+use Rattle.sd_script.specs.declared.command.Action.TheVariants.{Not, Given, Forget}
+use Rattle.sd_script.specs.declared.command.Action.TheVariants.{Drop, Same}
+use Rattle.sd_script.specs.declared.command.Action.TheVariants.{Size, Value, Write, Vtree}
+use Rattle.sd_script.specs.declared.command.Command.{Command}
+
+-- ---- what a command uses, binds, frees and writes
+
+-- the footprint of a command: the names that must be bound, the name that must be free and is bound then, the name that
+-- is free then, the file that is written, and whether a file is read
+pub record Footprint : Type 0 where
+  pub uses : List ℕ
+  pub binds : List ℕ
+  pub frees : List ℕ
+  pub writes : List ℕ
+  pub loads : Bool
+
+-- no name and no file
+abbrev pub none : Footprint
+none = record { uses = []; binds = []; frees = []; writes = []; loads = false }
+
+-- The table of the footprints.
+abbrev pub footprint : Action → Footprint
+footprint (Input n) = record none { binds = n ∷ [] }
+footprint (Load n file) = record none { binds = n ∷ []; loads = true }
+footprint (Lit n literal) = record none { binds = n ∷ [] }
+footprint (Constant n value) = record none { binds = n ∷ [] }
+footprint (Binary operation n a b) = record none { uses = a ∷ b ∷ []; binds = n ∷ [] }
+footprint (Not n a) = record none { uses = a ∷ []; binds = n ∷ [] }
+footprint (Given n a literal) = record none { uses = a ∷ []; binds = n ∷ [] }
+footprint (Forget n a x) = record none { uses = a ∷ []; binds = n ∷ [] }
+footprint (Drop a) = record none { uses = a ∷ []; frees = a ∷ [] }
+footprint (Same a b) = record none { uses = a ∷ b ∷ [] }
+footprint (Size a) = record none { uses = a ∷ [] }
+footprint (Value a bits) = record none { uses = a ∷ [] }
+footprint (Write names file) = record none { uses = names; writes = file ∷ [] }
+footprint (Vtree file) = record none { writes = file ∷ [] }
+footprint action = none
+
+-- ---- what earlier commands leave
+
+-- a number is in a list
+abbrev pub has : List ℕ → ℕ → Bool
+has numbers n = list_any (λ m. m == n) numbers
+
+-- the bound names after one more command
+abbrev pub bound_after : List ℕ → Command → List ℕ
+bound_after names c = (footprint c.action).binds ++ filter (λ n. not (has (footprint c.action).frees n)) names
+
+-- the names that commands leave bound
+abbrev pub bound : List Command → List ℕ
+bound earlier = fold bound_after [] earlier
+
+-- the files that commands write
+abbrev pub written_files : List Command → List ℕ
+written_files earlier = flat_map (λ c. (footprint c.action).writes) earlier
+
+-- how many commands load a file
+abbrev pub loads : List Command → ℕ
+loads earlier = count_by (λ c. (footprint c.action).loads) earlier
