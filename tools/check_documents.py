@@ -2,10 +2,11 @@
 """Checks that the documents say what the code says, and prints what differs.
 
 README's table of options against the options of `sd_words`, the fault texts of docs/FORMATS.md against the definitions
-of `sd_tool`, the crates and what they stand on in docs/MAP.md against crates.txt, each edit that docs/ANSWERS.md names
-and each path that a document names against the files, the number of definitions in README against the count, and
-README's commands against examples/expected.txt, which has what each prints and writes. With --run PROGRAM it runs these
-too, as `python3 tools/check_documents.py --run ./sddc` does. Its status is 1 where something differs.
+of `sd_tool`, the crates and what they stand on in docs/MAP.md against crates.txt, each clause, edit and test that
+docs/ANSWERS.md names and each path that a document names against the files, the number of definitions in README against
+the count, and README's commands against examples/expected.txt, which has what each prints and writes. With
+--run PROGRAM it runs these too, as `python3 tools/check_documents.py --run ./sddc` does. Its status is 1 where
+something differs.
 """
 import glob
 import os
@@ -106,12 +107,35 @@ def check_crates():
         expect(said == below, "docs/MAP.md: %s stands on %s" % (name, ", ".join(below)))
 
 
-def check_names():
-    edits = set(os.path.basename(path)[:-5] for path in glob.glob(TOP + "/crates/*/must-fail/*.edit"))
-    sources = "".join(open(path, encoding="utf-8").read() for path in glob.glob(TOP + "/crates/*/src/**/*.rt", recursive=True))
+def sources():
+    """The crate and the text of each file of code."""
+    for path in sorted(glob.glob(TOP + "/crates/*/src/**/*.rt", recursive=True)):
+        yield os.path.relpath(path, TOP).split("/")[1], text_of(path)
+
+
+def check_answers():
+    """Each clause of a row is one of its calls, and each edit one of a crate that has such a call."""
+    clauses, homes, edits = {}, {}, {}
+    for crate, text in sources():
+        parts = re.split(r"\bfn (\w+)", text)
+        for name, rest in zip(parts[1::2], parts[2::2]):
+            clauses.setdefault(name, set()).update(re.findall(r"ensures (\w+) {", rest))
+            homes.setdefault(name, set()).add(crate)
+    for path in glob.glob(TOP + "/crates/*/must-fail/*.edit"):
+        edits.setdefault(os.path.basename(path)[:-5], set()).add(path.split("/")[-3])
+    calls = []
     for row in rows_of(text_of("docs/ANSWERS.md"))[2:]:
-        for name in re.findall(r"`(\w+)`", row[-1]):
-            expect(name in edits or name in sources, "docs/ANSWERS.md: no edit or test is named %s" % name)
+        calls = [name for name in re.findall(r"`(\w+)`", row[0]) if name in homes] or calls
+        known = set().union(*(clauses[name] for name in calls))
+        crates = set().union(*(homes[name] for name in calls))
+        for name in re.findall(r"`(\w+)`", row[3]):
+            expect(name in known, "docs/ANSWERS.md: %s: no clause is named %s" % (row[0], name))
+        for name in re.findall(r"`(\w+)`", row[4]):
+            expect(name in homes or edits.get(name, set()) & crates,
+                   "docs/ANSWERS.md: %s: no edit or test is named %s" % (row[0], name))
+
+
+def check_paths():
     for document in DOCUMENTS:
         for path in re.findall(r"(?:crates|docs|examples|tools)/[\w./-]*\w", text_of(document)):
             expect(os.path.exists(os.path.join(TOP, path)), "%s: there is no %s" % (document, path))
@@ -182,7 +206,8 @@ def run_stored(program, words, printed, files):
         for name, _ in files:
             moved = [os.path.join(folder, os.path.basename(name)) if word == name else word for word in moved]
         run = subprocess.run([os.path.abspath(program)] + moved, cwd=folder, stdout=subprocess.PIPE, text=True)
-        expect(run.returncode == 0 and run.stdout.splitlines() == printed, "./sddc %s: printed %r" % (words, run.stdout))
+        expect(run.returncode == 0 and run.stdout.splitlines() == printed,
+               "./sddc %s: printed %r" % (words, run.stdout))
         for name, same in files:
             # A file that a script names is written where the script says.
             path = os.path.join(folder, os.path.basename(name)) if name in words.split() else name
@@ -194,7 +219,8 @@ def main():
     check_options()
     check_faults()
     check_crates()
-    check_names()
+    check_answers()
+    check_paths()
     check_count()
     check_commands(sys.argv[2] if sys.argv[1:2] == ["--run"] else None)
     for fault in faults:

@@ -126,11 +126,17 @@ row() {
 }
 
 # Refuses each allocation of the words in turn, over this script if there is one, and prints the row of this command.
+# Without a refusal the job has to end as its name says, and there has to be an allocation to refuse.
 refuse_each() {
     command=$1 words=$2
     [ $# -gt 2 ] && printf '%b' "$3" >"$work/in/s"
     run "$work/ref" 0
     status=$ended ref_out=$out ref_err=$err
+    case $command in
+    *'bad words') want=1 ;;
+    *'a bad CNF') want=2 ;;
+    *) want=0 ;;
+    esac
     seven=0 early=0 same=0 shelf=0 wrong=0 number=1
     while run "$work/run" "$number" && [ -s "$work/refused" ]; do
         if ! is_allowed; then
@@ -147,6 +153,10 @@ refuse_each() {
         fi
         number=$((number + 1))
     done
+    if [ "$status" -ne "$want" ] || [ "$number" -eq 1 ]; then
+        wrong=$((wrong + 1))
+        echo "refused_memory: $command: status $status without a refusal, $((number - 1)) allocations" >&2
+    fi
     all=$((all + number - 1)) bad=$((bad + wrong))
     row "$command" "$((number - 1))" "$seven" "$early" "$same" "$shelf" "$wrong"
 }
