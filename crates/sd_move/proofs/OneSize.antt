@@ -22,6 +22,7 @@ use Rattle.sd_move.specs.Moves.{HasMoved, HasSizeAfter}
 
 -- a moved vtree is one
 
+-- the left child has another order
 left_rearranged : (m : ℕ) (l k r : Numbered) → Rearranged l k → Rearranged (NumberedNode m l r) (NumberedNode m k r)
 left_rearranged m l k r h = record {
   numbers_times = λ i. omega (
@@ -50,6 +51,7 @@ left_rearranged m l k r h = record {
   );
 }
 
+-- the right child has another order
 right_rearranged : (m : ℕ) (l r k : Numbered) → Rearranged r k → Rearranged (NumberedNode m l r) (NumberedNode m l k)
 right_rearranged m l r k h = record {
   numbers_times = λ i. omega (
@@ -80,6 +82,7 @@ right_rearranged m l r k h = record {
   );
 }
 
+-- the root is moved
 top_rearranged : (kind : Move) (m : ℕ) (l r u : Numbered) → moved_top kind (NumberedNode m l r) ≡ Some u →
     Rearranged (NumberedNode m l r) u
 top_rearranged RotateRight m (NumberedLeaf w y) r u e = absurd (none-some u e)
@@ -119,6 +122,7 @@ moved_rearranged kind (NumberedNode m l r) u x e =
 
 -- the lists are one
 
+-- codes show one list of diagrams
 held_once : (t : Table) → IsNumbered t.vtree → (cs : List ℕ) (ds es : List Diagram) →
     AllZip (ShowsCanonical t) cs ds → AllZip (ShowsCanonical t) cs es → ds ≡ es
 held_once t v [] [] [] h k = refl
@@ -130,6 +134,7 @@ held_once t v (c ∷ cs) (d ∷ ds) (e ∷ es) h k =
     ap (λ x. x ∷ ds) (one_diagram t.vtree (get t.linked) v d c e h.0.shows k.0.shows)
     ∙ ap (λ xs. e ∷ xs) (held_once t v cs ds es h.1 k.1)
 
+-- diagrams are moved to one list
 moved_once : (tree : Numbered) → IsVtree (plain_tree tree) → (ds es fs : List Diagram) →
     AllZip (HasMoved tree) ds es → AllZip (HasMoved tree) ds fs → es ≡ fs
 moved_once tree v [] [] [] h k = refl
