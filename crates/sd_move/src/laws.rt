@@ -1,7 +1,7 @@
 //! Laws of journals: functions whose contracts state a fact, and that do nothing.
 
 ghost use Rattle.std.specs.Prelude.{◌≡◌, ℕ, ◌≤◌, None};
-ghost use Rattle.sd_cache.specs.Entries.{Entries};
+ghost use Rattle.sd_cache.specs.Entries.{Answers};
 ghost use Rattle.sd_model.specs.declared.trees.Move.{Move};
 ghost use Rattle.sd_manager.specs.Making.{Extends};
 ghost use Rattle.sd_manager.specs.Table.{Table};
@@ -59,7 +59,7 @@ pub fn undone_functions()
 
 /// A cache that serves a manager serves it after a move was undone.
 pub fn serves_undone()
-    ensures { (c : Entries) (j : TheJournal) (t u : Table) → t.epoch ≤ 18446744073709551615
+    ensures { (c : Answers) (j : TheJournal) (t u : Table) → t.epoch ≤ 18446744073709551615
         → Rollback j t u → Serves c t → Serves c u }
 {}
 
