@@ -7,7 +7,7 @@ use Rattle.sd_unique.specs.declared.record.Links.{Links}
 use Rattle.sd_unique.specs.declared.record.RecordState.TheVariants.{Linked}
 use Rattle.sd_unique.specs.Record.{if_linked, key_of, linked_key, uses_of_record, nodes_of}
 use Rattle.sd_unique.specs.Relinking.{IsIdle}
-use Rattle.sd_unique.specs.Chains.{waiting_of, no_record, IsUnused, HoldsNodes}
+use Rattle.sd_unique.specs.Chains.{waiting_of, stack_under, no_record, AreStacked, IsUnused}
 use Rattle.sd_unique.proofs.Numbered.{linked_at, linked_there, uses_in_at, node_some}
 use Rattle.sd_unique.proofs.Stacked.{chain_empty}
 use Rattle.sd_unique.proofs.Taken.{linked_state}
@@ -34,10 +34,11 @@ idle_record arena rs n idle =
     let none : (r.0).uses ≡ 0 = cc in
     (r.0, r.1, r.2, none)
 
--- where the stack is empty, no linked node is without uses
-pub idle_none : (arena : Arena) (rs : List Record) (links : List Links) (heads places : List ℕ) (top : ℕ)
-    → HoldsNodes arena rs links heads places top → top ≡ no_record → (n : ℕ) → ¬ IsIdle (nodes_of arena rs) n
-idle_none arena rs links heads places top k e n idle =
+-- where the stack is empty, and has all linked nodes without uses, there is none
+pub idle_none : (arena : Arena) (rs : List Record) (links : List Links) (top : ℕ) → AreStacked links top
+    → ((n : ℕ) (r : Record) → slice_get rs n ≡ Some r → IsUnused r → stack_under links n ≡ Some 0)
+    → top ≡ no_record → (n : ℕ) → ¬ IsIdle (nodes_of arena rs) n
+idle_none arena rs links top stacked queued e n idle =
     let r = idle_record arena rs n idle in
-    chain_empty (waiting_of links) no_record top n ((k.in_stack).lists 0) ((k.in_stack).chained 0) e
-    ((k.in_stack).filed 0 n (k.queued n r.0 r.1 r.2 r.3))
+    chain_empty (waiting_of links) no_record top n (stacked.lists 0) (stacked.chained 0) e
+    (stacked.filed 0 n (queued n r.0 r.1 (record { linked = r.2; none = r.3 })))

@@ -33,5 +33,7 @@ mod Pushed
 mod Appended
 mod Rechained
 mod Growing
+mod Ordering
+mod Rechaining
 mod Nothing
 mod Retiring

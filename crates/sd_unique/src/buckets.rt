@@ -3,7 +3,7 @@ ghost use Rattle.std.specs.Prelude.{◌≡◌, ◌+◌, ◌<◌, ◌-◌, length
 ghost use Rattle.sd_unique.specs.Chains.{chain_under, head_of, next_of, no_record, AreHashed};
 ghost use Rattle.sd_unique.specs.Chains.{KeepsRecords};
 ghost use Rattle.sd_unique.specs.Filed.{IsFiled};
-ghost use Rattle.sd_unique.specs.Growing.{IsLinkedBelow};
+ghost use Rattle.sd_unique.specs.Rechaining.{free_by, IsRechainedBelow};
 ghost use Rattle.sd_unique.specs.Record.{AreRecordsStored};
 
 use crate::hash::bucket_at;
@@ -25,7 +25,8 @@ pub(crate) fn link_all(runs: &Runs, links: &[Links], records: &mut [Record], hea
     requires size { length links.now ≡ length records.old }
     requires hashed { AreHashed runs.now records.old links.now }
     requires at_least_one { 1 < length heads.old }
-    requires linked { IsLinkedBelow runs.now (length heads.old - 1) 0 records.old heads.old }
+    requires linked { IsRechainedBelow free_by runs.now (length heads.old - 1) 0 records.old
+        heads.old }
     ensures kept { KeepsRecords records.old records.new }
     ensures linked { IsFiled (next_of records.new) no_record (head_of heads.new)
         (chain_under runs.now (length heads.new - 1) records.new) }
@@ -42,10 +43,11 @@ fn link(runs: &Runs, links: &[Links], records: &mut [Record], heads: &mut [u32],
     requires hashed { AreHashed runs.now records.old links.now }
     requires inside { number < length records.old }
     requires at_least_one { 1 < length heads.old }
-    requires linked { IsLinkedBelow runs.now (length heads.old - 1) number records.old heads.old }
+    requires linked { IsRechainedBelow free_by runs.now (length heads.old - 1) number records.old
+        heads.old }
     ensures kept { KeepsRecords records.old records.new }
-    ensures linked { IsLinkedBelow runs.now (length heads.new - 1) (number + 1) records.new
-        heads.new }
+    ensures linked { IsRechainedBelow free_by runs.now (length heads.new - 1) (number + 1)
+        records.new heads.new }
 {
     let mut record = records[number];
     let RecordState::Linked = record.state else {

@@ -28,6 +28,7 @@
 mod buckets;
 mod chains;
 mod found;
+mod free_list;
 mod hash;
 mod lists;
 mod nodes;

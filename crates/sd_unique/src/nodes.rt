@@ -2,6 +2,7 @@
 
 use crate::buckets::{empty_heads, link_all};
 use crate::found::Found;
+use crate::free_list::order_free;
 use crate::hash::{bucket_at, hash};
 use crate::lists::{at_place, put_first};
 use crate::record::{Links, NO_RECORD, Record, RecordState};
@@ -14,6 +15,11 @@ use std::marker::Model;
 // So many records have room from the start. That takes addresses, and memory as they are made; in
 // exchange no record of a smaller table is ever copied.
 const FIRST_RECORDS: usize = 65_536;
+
+// The free numbers are put in order where more than this part of the records was freed since then. That
+// reads each record once, so a number that was freed pays for less than sixteen of them, and a sweep
+// that frees a few of many does nothing. Where the part is smaller the order is hardly worse.
+const PART_FREED: usize = 16;
 
 /// Nodes with a number, a place and a list, in one arena.
 #[derive(Drop)]
@@ -33,6 +39,9 @@ pub struct Nodes {
     places: Vec<u32>,
     /// The top of the stack of candidates.
     candidates: u32,
+    /// How many numbers `retire` freed since the free ones were last put in order, or the greatest
+    /// `u32`.
+    freed: u32,
 }
 
 impl Model for Nodes {
@@ -78,6 +87,7 @@ impl Nodes {
             heads: empty_heads(alloc, 17)?,
             places: empty_heads(alloc, 2049)?,
             candidates: NO_RECORD,
+            freed: 0,
         })
     }
 
@@ -534,6 +544,7 @@ impl Nodes {
             node,
         );
         self.candidates = pop_top(&mut self.links, self.candidates, node);
+        self.freed = self.freed.saturating_add(1);
     }
 
     /// A linked node without uses, where there is one: any of them.
@@ -544,9 +555,31 @@ impl Nodes {
     {
         self.candidates = pop_used(&self.records, &mut self.links, self.candidates);
         if self.candidates == NO_RECORD {
+            self.end_sweep();
             return None;
         }
         Some(self.candidates)
+    }
+
+    // Puts the free numbers in order where a great part of the records was freed since that was done.
+    #[inline(always)]
+    fn end_sweep(&mut self)
+        ensures { self.new ≡ self.old }
+    {
+        if self.freed as usize > self.records.len() / PART_FREED {
+            self.order_free();
+        }
+    }
+
+    // Puts the free numbers in order. A sweep frees them in the order of the stack, and nodes that got
+    // them in that order stand all over the records and links, where those made one after the other are
+    // read one after the other.
+    #[inline(never)]
+    fn order_free(&mut self)
+        ensures { self.new ≡ self.old }
+    {
+        order_free(&self.runs, &mut self.records, &mut self.heads);
+        self.freed = 0;
     }
 
     /// A linked node at this place, where there is one.

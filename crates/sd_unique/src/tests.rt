@@ -150,6 +150,55 @@ fn idle_nodes(rt: HostRuntime) -> Result<(), Fail> {
     Ok(())
 }
 
+/// Of a hundred nodes all but one are retired, in an order of their own. As many others get their
+/// numbers and runs: each is found, and the table is as large as before.
+#[test]
+fn as_many_again(rt: HostRuntime) -> Result<(), Fail> {
+    let mut nodes = Nodes::new(rt.alloc(), 300)?;
+    for place in 0..100 {
+        nodes.find_or_insert(place, &[(place, 1), (place, 0)])?;
+        use_once(&mut nodes, place);
+    }
+    assert_eq!(rt; nodes.idle(), None);
+    for step in 0..99_u32 {
+        drop_one(&mut nodes, step * 37 % 100);
+    }
+    for _step in 0..99 {
+        if let Some(node) = nodes.idle() {
+            nodes.retire(node);
+        }
+    }
+    assert_eq!(rt; (nodes.idle(), nodes.used()), (None, 2));
+    for place in 100..199 {
+        let found = nodes.find_or_insert(place, &[(place, 1), (place, 0)])?;
+        assert!(rt; matches!(found, Found::New(_)));
+    }
+    assert_eq!(rt; (nodes.records(), nodes.used()), (100, 200));
+    for place in 100..199 {
+        assert!(rt; nodes.find(place, &[(place, 1), (place, 0)]).is_some());
+    }
+    assert_eq!(rt; nodes.find(63, &[(63, 1), (63, 0)]), Some(63));
+    Ok(())
+}
+
+// Counts one use of the node of this place, if it has none.
+fn use_once(nodes: &mut Nodes, place: u32) {
+    if let Some(node) = nodes.find(place, &[(place, 1), (place, 0)]) {
+        if nodes.uses(node) == 0 {
+            nodes.add_use(node);
+        }
+    }
+}
+
+// Counts one use less of the node of this place, if it has any.
+fn drop_one(nodes: &mut Nodes, place: u32) {
+    if let Some(node) = nodes.find(place, &[(place, 1), (place, 0)]) {
+        if nodes.uses(node) > 0 {
+            nodes.drop_use(node);
+        }
+    }
+}
+
 // Removes an idle node.
 fn retire(nodes: &mut Nodes, node: u32)
     requires { IsIdle nodes.old node }

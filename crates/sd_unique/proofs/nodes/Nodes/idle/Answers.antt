@@ -1,4 +1,6 @@
-use Rattle.std.proofs.Common.{slice_get, sym, ap, ◌∙◌}
+use Rattle.std.proofs.Common.{slice_get, sym, ap, subst, ◌∙◌}
+use Rattle.sd_unique.specs.Chains.{stack_under}
+use Rattle.sd_unique.specs.Relinking.{IsIdle}
 use Rattle.sd_unique.proofs.Idle.{idle_some, idle_none}
 use Rattle.sd_unique.proofs.Whole.{kept_lent}
 use Rattle.sd_unique.proofs.nodes.Nodes.idle.Goals as goal
@@ -27,8 +29,14 @@ invariant_of-self-2 c =
 
 pub returns-then-self-clause-none : goal.returns-then-self-clause-none
 returns-then-self-clause-none c = λ n.
-    idle_none c.self.inside.runs c.self.inside.records.items _ c.self.inside.heads.items c.self.inside.places.items
-    c.pop_used-self-inside.result (invariant_of-self c) c.if-self.true n
+    subst (λ a. ¬ IsIdle a n) (sym c.end_sweep.ensures)
+    (idle_none c.self.inside.runs c.self.inside.records.items c.pop_used-self-inside.new.links
+    c.pop_used-self-inside.result c.pop_used-self-inside.ensures.stacked
+    (λ m r e unused. c.pop_used-self-inside.ensures.others m r
+    (ap (λ l. slice_get l m) c.deref.ensures.value ∙ e) unused
+    (ap (λ l. stack_under l m) c.deref_mut.ensures.value
+    ∙ c.self.invariant.queued m r e unused.linked unused.none))
+    c.if-self.true n)
 
 pub returns-clause-some : goal.returns-clause-some
 returns-clause-some c =

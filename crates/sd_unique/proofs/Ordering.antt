@@ -1,0 +1,90 @@
+-- Before the free records are chained anew, each other record stands where it did.
+use Rattle.std.proofs.Common.{◌≡◌, ℕ, suc, zero, ◌<◌, List, [], length, slice_get, Some}
+use Rattle.std.proofs.Common.{refl, sym, ap, subst, ◌∙◌, arith}
+use Rattle.std.proofs.Math.ListN.{set}
+use Rattle.std.proofs.lemmas.List.{get_or-set_same, get_or-set_other}
+use Rattle.std.specs.Option.{option_and_then}
+use Rattle.sd_runs.specs.Arena.{Arena, IsMember, HasNoCopies}
+use Rattle.sd_unique.specs.declared.record.Record.{Record}
+use Rattle.sd_unique.specs.declared.record.RecordState.{RecordState}
+use Rattle.sd_unique.specs.declared.record.RecordState.TheVariants.{Free, Linked, Detached}
+use Rattle.sd_unique.specs.Record.{key_of}
+use Rattle.sd_unique.specs.Filed.{IsChain, IsFiled}
+use Rattle.sd_unique.specs.Rechaining.{linked_by, under_by, IsRechainedBelow}
+use Rattle.sd_unique.specs.Chains.{next_of, head_of, chain_by, chain_under, bucket_of, no_record}
+use Rattle.sd_unique.proofs.Numbered.{picked_from}
+
+linked_chain : (s : RecordState) (x b : ℕ) → linked_by s x ≡ Some b → chain_by s x ≡ Some b
+linked_chain Free x b e = cc
+linked_chain Linked x b e = e
+linked_chain Detached x b e = cc
+
+linked_first : (s : RecordState) (x : ℕ) → ¬ (linked_by s x ≡ Some 0)
+linked_first Free x e = cc
+linked_first Linked x e = let no : suc x ≡ 0 = cc in omega arith
+linked_first Detached x e = cc
+
+chain_linked : (s : RecordState) (x b : ℕ) → chain_by s x ≡ Some (suc b) → linked_by s x ≡ Some (suc b)
+chain_linked Free x b e = let no : 0 ≡ suc b = cc in absurd (omega arith)
+chain_linked Linked x b e = e
+chain_linked Detached x b e = cc
+
+-- all lists but the first
+abbrev without_first : (ℕ → List ℕ) → ℕ → List ℕ
+without_first lists zero = []
+without_first lists (suc b) = lists (suc b)
+
+module _ (arena : Arena) (rs : List Record) where
+  -- before the first step, without the head of the free records, the linked ones stand in their chains
+  pub ordered_none : (heads : List ℕ) (count : ℕ) → 0 < length heads
+      → IsFiled (next_of rs) no_record (head_of heads) (chain_under arena count rs)
+      → IsRechainedBelow linked_by arena count 0 rs (set heads 0 no_record)
+  ordered_none heads count some f =
+      record {
+        under = under_by linked_by arena count rs;
+        filed = record {
+          lists = without_first f.lists;
+          chained = chained;
+          once = once;
+          filed = filed;
+          only = only;
+        };
+        below = λ n h. absurd (omega arith);
+        above = λ n h. refl;
+      }
+    where
+      chained : (b : ℕ) → IsChain (next_of rs) no_record (head_of (set heads 0 no_record) b) (without_first f.lists b)
+      chained zero = get_or-set_same heads 0 no_record no_record some
+      chained (suc b) =
+          subst (λ k. IsChain (next_of rs) no_record k (f.lists (suc b)))
+          (sym (get_or-set_other heads 0 (suc b) no_record no_record (λ e. omega arith))) (f.chained (suc b))
+
+      once : (b : ℕ) → HasNoCopies (without_first f.lists b)
+      once zero = tt
+      once (suc b) = f.once (suc b)
+
+      filed : (b n : ℕ) → under_by linked_by arena count rs n ≡ Some b → IsMember n (without_first f.lists b)
+      filed zero n e =
+          let r = picked_from (λ (r : Record). linked_by r.state (bucket_of (key_of arena r) count)) (slice_get rs n) 0
+          e in
+          absurd (linked_first (r.0).state (bucket_of (key_of arena r.0) count) r.2)
+      filed (suc b) n e =
+          let r = picked_from (λ (r : Record). linked_by r.state (bucket_of (key_of arena r) count)) (slice_get rs n)
+          (suc b) e in
+          f.filed (suc b) n
+          (ap (option_and_then (λ (x : Record). chain_by x.state (bucket_of (key_of arena x) count))) r.1
+          ∙ linked_chain (r.0).state (bucket_of (key_of arena r.0) count) (suc b) r.2)
+
+      only : (b n : ℕ) → IsMember n (without_first f.lists b) → under_by linked_by arena count rs n ≡ Some b
+      only zero n h = absurd h
+      only (suc b) n h =
+          let r = picked_from (λ (r : Record). chain_by r.state (bucket_of (key_of arena r) count)) (slice_get rs n)
+          (suc b) (f.only (suc b) n h) in
+          ap (option_and_then (λ (x : Record). linked_by x.state (bucket_of (key_of arena x) count))) r.1
+          ∙ chain_linked (r.0).state (bucket_of (key_of arena r.0) count) b r.2
+
+-- a record that is not free stands where its state says
+pub not_free : (s : RecordState) (b : ℕ) → ¬ (s ≡ Free) → linked_by s b ≡ chain_by s b
+not_free Free b h = absurd (h refl)
+not_free Linked b h = refl
+not_free Detached b h = refl

@@ -1,0 +1,36 @@
+-- Records on the way into other chains: those below a number stand where their states say, of the others some do.
+use Rattle.std.specs.Prelude.{◌≡◌, ℕ, suc, ◌<◌, ◌≤◌, List, Option, Some, None, slice_get}
+use Rattle.std.specs.Option.{option_and_then}
+use Rattle.sd_runs.specs.Arena.{Arena}
+use Rattle.sd_unique.specs.Filed.{IsFiled}
+use Rattle.sd_unique.specs.Record.{key_of}
+use Rattle.sd_unique.specs.Chains.{next_of, head_of, no_record, bucket_of, chain_under}
+use Rattle.sd_unique.specs.declared.record.Record.{Record}
+use Rattle.sd_unique.specs.declared.record.RecordState.{RecordState}
+use Rattle.sd_unique.specs.declared.record.RecordState.TheVariants.{Free, Linked, Detached}
+
+-- a free record stands in the first chain, another in none
+abbrev pub free_by : RecordState → ℕ → Option ℕ
+free_by Free b = Some 0
+free_by Linked b = None
+free_by Detached b = None
+
+-- a linked record stands in the chain of its bucket, another in none
+abbrev pub linked_by : RecordState → ℕ → Option ℕ
+linked_by Free b = None
+linked_by Linked b = Some (suc b)
+linked_by Detached b = None
+
+-- under which head the number of a record is filed by such a rule
+abbrev pub under_by : (RecordState → ℕ → Option ℕ) → Arena → ℕ → List Record → ℕ → Option ℕ
+under_by by arena count records n =
+    option_and_then (λ r. by r.state (bucket_of (key_of arena r) count)) (slice_get records n)
+
+-- Each record below `number` stands in the chain that its state asks for among so many buckets; the others stand where
+-- the rule says.
+pub record IsRechainedBelow (by : RecordState → ℕ → Option ℕ) (arena : Arena) (count number : ℕ)
+    (records : List Record) (heads : List ℕ) : Type 0 where
+  pub under : ℕ → Option ℕ
+  pub filed : IsFiled (next_of records) no_record (head_of heads) under
+  pub below : (n : ℕ) → n < number → under n ≡ chain_under arena count records n
+  pub above : (n : ℕ) → number ≤ n → under n ≡ under_by by arena count records n
