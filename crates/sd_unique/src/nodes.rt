@@ -16,9 +16,9 @@ use std::marker::Model;
 // exchange no record of a smaller table is ever copied.
 const FIRST_RECORDS: usize = 65_536;
 
-// The free numbers are put in order where more than this part of the records was freed since then. That
-// reads each record once, so a number that was freed pays for less than sixteen of them, and a sweep
-// that frees a few of many does nothing. Where the part is smaller the order is hardly worse.
+// The free numbers are put in order once more than this part of the records was freed since they last
+// were. That reads each record once: a number that was freed pays for fewer than sixteen of them, 512
+// bytes in a row, and small sweeps of a large table go on without a pass until it pays.
 const PART_FREED: usize = 16;
 
 /// Nodes with a number, a place and a list, in one arena.
