@@ -21,6 +21,10 @@ const FIRST_RECORDS: usize = 65_536;
 // bytes in a row, and small sweeps of a large table go on without a pass until it pays.
 const PART_FREED: usize = 16;
 
+// So many records at least, as fewer stay near in any order: those of a table that is put in order do
+// not fit the cache of a processor.
+const LEAST_ORDERED: usize = 32_768;
+
 /// Nodes with a number, a place and a list, in one arena.
 #[derive(Drop)]
 pub struct Nodes {
@@ -566,7 +570,8 @@ impl Nodes {
     fn end_sweep(&mut self)
         ensures { self.new ≡ self.old }
     {
-        if self.freed as usize > self.records.len() / PART_FREED {
+        let count = self.records.len();
+        if count > LEAST_ORDERED && self.freed as usize > count / PART_FREED {
             self.order_free();
         }
     }

@@ -150,34 +150,35 @@ fn idle_nodes(rt: HostRuntime) -> Result<(), Fail> {
     Ok(())
 }
 
-/// Of a hundred nodes all but one are retired, in an order of their own. As many others get their
-/// numbers and runs: each is found, and the table is as large as before.
+/// Of 40,000 nodes all but one are retired, in an order of their own. As many others get their numbers
+/// and runs: each is found, and the table is as large as before.
 #[test]
 fn as_many_again(rt: HostRuntime) -> Result<(), Fail> {
-    let mut nodes = Nodes::new(rt.alloc(), 300)?;
-    for place in 0..100 {
+    let mut nodes = Nodes::new(rt.alloc(), 100_000)?;
+    for place in 0..40_000 {
         nodes.find_or_insert(place, &[(place, 1), (place, 0)])?;
         use_once(&mut nodes, place);
     }
     assert_eq!(rt; nodes.idle(), None);
-    for step in 0..99_u32 {
-        drop_one(&mut nodes, step * 37 % 100);
+    for step in 0..39_999_u32 {
+        drop_one(&mut nodes, step * 37 % 40_000);
     }
-    for _step in 0..99 {
+    for _step in 0..39_999 {
         if let Some(node) = nodes.idle() {
             nodes.retire(node);
         }
     }
     assert_eq!(rt; (nodes.idle(), nodes.used()), (None, 2));
-    for place in 100..199 {
+    for place in 40_000..79_999 {
         let found = nodes.find_or_insert(place, &[(place, 1), (place, 0)])?;
         assert!(rt; matches!(found, Found::New(_)));
     }
-    assert_eq!(rt; (nodes.records(), nodes.used()), (100, 200));
-    for place in 100..199 {
+    assert_eq!(rt; (nodes.records(), nodes.used()), (40_000, 80_000));
+    for place in 40_000..79_999 {
         assert!(rt; nodes.find(place, &[(place, 1), (place, 0)]).is_some());
     }
-    assert_eq!(rt; nodes.find(63, &[(63, 1), (63, 0)]), Some(63));
+    let left = [(39_963, 1), (39_963, 0)];
+    assert_eq!(rt; nodes.find(39_963, &left), Some(39_963));
     Ok(())
 }
 
