@@ -10,8 +10,9 @@ use Rattle.sd_unique.specs.declared.record.RecordState.{RecordState}
 use Rattle.sd_unique.specs.declared.record.RecordState.TheVariants.{Free, Linked, Detached}
 use Rattle.sd_unique.specs.Record.{key_of}
 use Rattle.sd_unique.specs.Filed.{IsChain, IsFiled}
-use Rattle.sd_unique.specs.Rechaining.{linked_by, under_by, IsRechainedBelow}
+use Rattle.sd_unique.specs.Rechaining.{linked_by, under_by, IsRechainedBelow, KeepsBuckets}
 use Rattle.sd_unique.specs.Chains.{next_of, head_of, chain_by, chain_under, bucket_of, no_record}
+use Rattle.sd_unique.proofs.Entries.{slice_get_set_other}
 use Rattle.sd_unique.proofs.Numbered.{picked_from}
 
 linked_chain : (s : RecordState) (x b : ℕ) → linked_by s x ≡ Some b → chain_by s x ≡ Some b
@@ -88,3 +89,25 @@ pub not_free : (s : RecordState) (b : ℕ) → ¬ (s ≡ Free) → linked_by s b
 not_free Free b h = absurd (h refl)
 not_free Linked b h = refl
 not_free Detached b h = refl
+
+-- the chains of the buckets are as before without the first head, and where a free record is put before it
+pub buckets_begin : (rs : List Record) (heads : List ℕ) → KeepsBuckets rs rs heads (set heads 0 no_record)
+buckets_begin rs heads =
+    record {
+      others = λ n r e other. e;
+      after_first = λ b ne. get_or-set_other heads 0 b no_record no_record ne;
+    }
+
+pub buckets_next : (rs : List Record) (heads : List ℕ) (k : ℕ) (r t : Record) → slice_get rs k ≡ Some r
+    → r.state ≡ Free → KeepsBuckets rs (set rs k t) heads (set heads 0 k)
+buckets_next rs heads k r t there free =
+    record {
+      others = λ n x e other. slice_get_set_other rs k t n (λ same. other (is_free n x e same)) ∙ e;
+      after_first = λ b ne. get_or-set_other heads 0 b k no_record ne;
+    }
+  where
+    is_free : (n : ℕ) (x : Record) → slice_get rs n ≡ Some x → n ≡ k → x.state ≡ Free
+    is_free n x e same =
+        let both : Some x ≡ Some r = sym e ∙ ap (slice_get rs) same ∙ there in
+        let is : x ≡ r = cc in
+        ap (λ (y : Record). y.state) is ∙ free

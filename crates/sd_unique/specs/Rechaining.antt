@@ -1,5 +1,5 @@
 -- Records on the way into other chains: those below a number stand where their states say, of the others some do.
-use Rattle.std.specs.Prelude.{◌≡◌, ℕ, suc, ◌<◌, ◌≤◌, List, Option, Some, None, slice_get}
+use Rattle.std.specs.Prelude.{◌≡◌, ◌≢◌, ℕ, suc, ◌<◌, ◌≤◌, List, Option, Some, None, slice_get}
 use Rattle.std.specs.Option.{option_and_then}
 use Rattle.sd_runs.specs.Arena.{Arena}
 use Rattle.sd_unique.specs.Filed.{IsFiled}
@@ -34,3 +34,8 @@ pub record IsRechainedBelow (by : RecordState → ℕ → Option ℕ) (arena : A
   pub filed : IsFiled (next_of records) no_record (head_of heads) under
   pub below : (n : ℕ) → n < number → under n ≡ chain_under arena count records n
   pub above : (n : ℕ) → number ≤ n → under n ≡ under_by by arena count records n
+
+-- The chains of the buckets are link by link as before: the records that are not free, and all heads but the first.
+pub record KeepsBuckets (old new : List Record) (heads heads' : List ℕ) : Type 0 where
+  pub others : (n : ℕ) (r : Record) → slice_get old n ≡ Some r → ¬ (r.state ≡ Free) → slice_get new n ≡ Some r
+  pub after_first : (b : ℕ) → b ≢ 0 → head_of heads' b ≡ head_of heads b

@@ -3,7 +3,7 @@ ghost use Rattle.std.specs.Prelude.{◌≡◌, ◌+◌, ◌<◌, ◌-◌, length
 ghost use Rattle.sd_unique.specs.Chains.{chain_under, head_of, next_of, no_record, KeepsRecords};
 ghost use Rattle.sd_unique.specs.Filed.{IsFiled};
 ghost use Rattle.sd_unique.specs.Record.{AreRecordsStored};
-ghost use Rattle.sd_unique.specs.Rechaining.{linked_by, IsRechainedBelow};
+ghost use Rattle.sd_unique.specs.Rechaining.{linked_by, IsRechainedBelow, KeepsBuckets};
 
 use crate::record::{NO_RECORD, Record, RecordState};
 use sd_runs::Runs;
@@ -16,6 +16,7 @@ pub(crate) fn order_free(runs: &Runs, records: &mut [Record], heads: &mut [u32])
     requires chained { IsFiled (next_of records.old) no_record (head_of heads.old)
         (chain_under runs.now (length heads.old - 1) records.old) }
     ensures kept { KeepsRecords records.old records.new }
+    ensures buckets { KeepsBuckets records.old records.new heads.old heads.new }
     ensures chained { IsFiled (next_of records.new) no_record (head_of heads.new)
         (chain_under runs.now (length heads.new - 1) records.new) }
 {
@@ -33,6 +34,7 @@ fn chain(runs: &Runs, records: &mut [Record], heads: &mut [u32], number: usize)
     requires chained { IsRechainedBelow linked_by runs.now (length heads.old - 1) number records.old
         heads.old }
     ensures kept { KeepsRecords records.old records.new }
+    ensures buckets { KeepsBuckets records.old records.new heads.old heads.new }
     ensures chained { IsRechainedBelow linked_by runs.now (length heads.new - 1) (number + 1)
         records.new heads.new }
 {

@@ -7,6 +7,7 @@ use Rattle.sd_unique.specs.Rechaining.{linked_by, IsRechainedBelow}
 use Rattle.sd_unique.specs.declared.record.Record.{Record}
 use Rattle.sd_unique.specs.declared.record.RecordState.TheVariants.{Free}
 use Rattle.sd_unique.proofs.Entries.{slice_get_at}
+use Rattle.sd_unique.proofs.Ordering.{buckets_next}
 use Rattle.sd_unique.proofs.Rechaining.{rechained_next}
 use Rattle.sd_unique.proofs.Stacked.{get_or_any}
 use Rattle.sd_unique.proofs.free_list.chain.Goals as goal
@@ -38,3 +39,8 @@ returns-clause-chained c =
       c.requires.stored.bound_fits,
     ))
     c.requires.chained)
+
+pub returns-clause-buckets : goal.returns-clause-buckets
+returns-clause-buckets c =
+    buckets_next c.args.records.now c.args.heads.now c.args.number (get_or c.args.records.now c.args.number blank) _
+    (slice_get_at c.args.records.now c.args.number blank c.requires.inside) c.in-Free.is

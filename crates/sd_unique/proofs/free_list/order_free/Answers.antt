@@ -3,7 +3,7 @@ use Rattle.std.proofs.Math.ListN.{set}
 use Rattle.std.proofs.lemmas.List.{length-set}
 use Rattle.sd_unique.specs.Chains.{no_record}
 use Rattle.sd_unique.specs.Rechaining.{linked_by, IsRechainedBelow}
-use Rattle.sd_unique.proofs.Ordering.{ordered_none}
+use Rattle.sd_unique.proofs.Ordering.{ordered_none, buckets_begin}
 use Rattle.sd_unique.proofs.Rechaining.{rechained_end}
 use Rattle.sd_unique.proofs.Cutting.{all_kept}
 use Rattle.sd_unique.proofs.free_list.order_free.Goals as goal
@@ -12,6 +12,7 @@ pub loop-number-init : goal.loop-number-init
 loop-number-init c =
     record {
       kept = all_kept c.args.records.now;
+      buckets = buckets_begin c.args.records.now c.args.heads.now;
       size = length-set c.args.heads.now 0 no_record;
       chained = subst (λ n. IsRechainedBelow linked_by c.args.runs.now (n - 1) 0 c.args.records.now
           (set c.args.heads.now 0 no_record)) (sym (length-set c.args.heads.now 0 no_record))
