@@ -18,7 +18,8 @@ ghost use Rattle.sd_model.specs.Moves.{inverse_move};
 ghost use Rattle.sd_vtree.specs.Numbered.{Numbered, IsNumbered, plain_tree, numbers};
 ghost use Rattle.sd_vtree.specs.NumberedMoves.{moved_number};
 ghost use Rattle.sd_laws.specs.Depends.{DependsOn};
-ghost use Rattle.sd_laws.specs.Pairs.{answers, HasValue, IsOneTrue, IsPartition, IsCompressed, join};
+ghost use Rattle.sd_laws.specs.Pairs.{answers, HasValue, IsOneTrue, IsPartition, IsCompressed};
+ghost use Rattle.sd_laws.specs.Pairs.{join};
 ghost use Rattle.sd_laws.specs.Parts.{IsPart, IsCanonicalForSome};
 ghost use Rattle.sd_laws.specs.Products.{products};
 ghost use Rattle.sd_laws.specs.Shown.{Lookup, Shows, ShowsCanonical, AreKeys, Keeps, IsPartitionAt};
@@ -39,8 +40,8 @@ pub fn one_diagram()
 /// What is canonical for a part of a tree is canonical for the tree, and what is canonical for a vtree and depends on
 /// the variables of a part alone is canonical for the part.
 pub fn canonical_for_parts()
-    ensures above { (whole part : Tree) (base from : ℕ) (d : TheDiagram) → IsPart part base whole from
-        → IsCanonical part base d → IsCanonical whole from d }
+    ensures above { (whole part : Tree) (base from : ℕ) (d : TheDiagram)
+        → IsPart part base whole from → IsCanonical part base d → IsCanonical whole from d }
     ensures below { (whole part : Tree) (base : ℕ) (d : TheDiagram) → IsVtree whole
         → IsPart part base whole 0 → IsCanonical whole 0 d → DependsOn part (meaning d)
         → IsCanonical part base d }
@@ -52,9 +53,9 @@ pub fn one_prime()
     ensures some { (t : Tree) (base q : ℕ) (es : Elements) (a : List Bool)
         → IsCanonical t base (Decomposition q es)
         → (p : TheDiagram) × (s : TheDiagram) × IsElement p s es × (meaning p a ≡ true) }
-    ensures exclusive { (t : Tree) (base q : ℕ) (es : Elements) (a : List Bool) (p s r u : TheDiagram)
-        → IsCanonical t base (Decomposition q es) → IsElement p s es → IsElement r u es
-        → meaning p a ≡ true → meaning r a ≡ true → (p ≡ r) × (s ≡ u) }
+    ensures exclusive { (t : Tree) (base q : ℕ) (es : Elements) (a : List Bool)
+        (p s r u : TheDiagram) → IsCanonical t base (Decomposition q es) → IsElement p s es
+        → IsElement r u es → meaning p a ≡ true → meaning r a ≡ true → (p ≡ r) × (s ≡ u) }
     ensures value { (t : Tree) (base q : ℕ) (es : Elements) (a : List Bool) (p s : TheDiagram)
         → IsCanonical t base (Decomposition q es) → IsElement p s es → meaning p a ≡ true
         → meaning (Decomposition q es) a ≡ meaning s a }
@@ -95,8 +96,8 @@ fn value_of_chosen(elements: &[Element], assignment: &[bool]) -> bool
 /// A partition of a vtree node is trimmed to a diagram with its value, and where no two subs are equal, that diagram is
 /// canonical for the node.
 pub fn trimmed()
-    ensures canonical { (whole l r : Tree) (base : ℕ) (ds : List (TheDiagram × TheDiagram)) → IsVtree whole
-        → IsPart (Node l r) base whole 0 → IsPartition l r base ds → IsCompressed ds
+    ensures canonical { (whole l r : Tree) (base : ℕ) (ds : List (TheDiagram × TheDiagram))
+        → IsVtree whole → IsPart (Node l r) base whole 0 → IsPartition l r base ds → IsCompressed ds
         → IsCanonical (Node l r) base (join (position (Node l r) base) ds) }
     ensures value { (p : ℕ) (ds : List (TheDiagram × TheDiagram)) → IsOneTrue ds
         → HasValue ds (meaning (join p ds)) }
@@ -104,8 +105,8 @@ pub fn trimmed()
 
 /// Two neighbours with one sub become one element, with the disjunction of their primes, and the value stays.
 pub fn compressed()
-    ensures { (before after : List (TheDiagram × TheDiagram)) (d e : TheDiagram × TheDiagram) (p : TheDiagram)
-        (f : List Bool → Bool) → d.1 ≡ e.1
+    ensures { (before after : List (TheDiagram × TheDiagram)) (d e : TheDiagram × TheDiagram)
+        (p : TheDiagram) (f : List Bool → Bool) → d.1 ≡ e.1
         → ((a : List Bool) → meaning p a ≡ (meaning d.0 a || meaning e.0 a))
         → HasValue (before ++ d ∷ e ∷ after) f → HasValue (before ++ (p, d.1) ∷ after) f }
 {}
@@ -117,8 +118,9 @@ pub fn connected()
         (f g : List Bool → Bool) → HasValue ds f → HasValue fs g
         → ((a : List Bool) → answers a gs ≡ products op (answers a ds) (answers a fs))
         → HasValue gs (λ a. op (f a) (g a)) }
-    ensures negated { (ds gs : List (TheDiagram × TheDiagram)) (f : List Bool → Bool) → HasValue ds f
-        → ((a : List Bool) → answers a gs ≡ map not (answers a ds)) → HasValue gs (λ a. not (f a)) }
+    ensures negated { (ds gs : List (TheDiagram × TheDiagram)) (f : List Bool → Bool)
+        → HasValue ds f → ((a : List Bool) → answers a gs ≡ map not (answers a ds))
+        → HasValue gs (λ a. not (f a)) }
 {}
 
 /// A code shows at most one diagram, and where no two nodes have one key, one diagram has at most one code, and one
@@ -161,10 +163,11 @@ pub fn canonical_by_values()
 /// Where no node stands at the two places that a move turns, each code that shows a canonical diagram shows one of the
 /// same function for the moved vtree.
 pub fn functions_stay()
-    ensures { (t u : Numbered) (upper lower : ℕ) (at : Lookup) (c : ℕ) (d : TheDiagram) → IsNumbered t
-        → IsNumbered u → leaves (plain_tree u) ≡ leaves (plain_tree t)
+    ensures { (t u : Numbered) (upper lower : ℕ) (at : Lookup) (c : ℕ) (d : TheDiagram)
+        → IsNumbered t → IsNumbered u → leaves (plain_tree u) ≡ leaves (plain_tree t)
         → KeepsOthers t u upper lower → AreKeys at
-        → ((n place : ℕ) (l : List (ℕ × ℕ)) → at n ≡ Some (place, l) → (place ≢ upper) × (place ≢ lower))
+        → ((n place : ℕ) (l : List (ℕ × ℕ)) → at n ≡ Some (place, l)
+        → (place ≢ upper) × (place ≢ lower))
         → ShowsCanonical t at c d
         → (e : TheDiagram) × ShowsCanonical u at c e × IsSame (meaning e) (meaning d) }
 {}
