@@ -5,7 +5,7 @@
 //! diagrams, partitions and operations on them); Choi and Darwiche, "Dynamic Minimization of Sentential Decision
 //! Diagrams", AAAI 2013 (moves of a vtree). That one code shows one diagram, and the laws by values, are of this project.
 
-ghost use Rattle.std.specs.Prelude.{◌≡◌, ◌≢◌, ℕ, ◌+◌, Bool, true, not, ◌&&◌, ◌||◌, List, ◌∷◌};
+ghost use Rattle.std.specs.Prelude.{◌≡◌, ◌≢◌, ℕ, ◌+◌, Bool, true, not, ◌||◌, List, ◌∷◌};
 ghost use Rattle.std.specs.Prelude.{◌++◌, ◌↔◌, ◌<◌, map, length, Some, None, OnOk, OnErr, IsErr};
 ghost use Rattle.std.specs.Option.{IsSome};
 ghost use Rattle.sd_model.specs.Tree.{Tree, Node, IsVtree, AreDistinct, leaves, position};
@@ -149,15 +149,16 @@ pub fn node_of_partition()
         → (z : TheDiagram) × ShowsCanonical t new (2050 + n) z × HasValue ds (meaning z) }
 {}
 
-/// Each node shows a canonical diagram with its value exactly where the lists of the nodes are compressed and trimmed
-/// partitions of their places by the values of their codes.
+/// All nodes show canonical diagrams exactly where their lists are compressed and trimmed partitions of their places by
+/// the values of their codes, which are then those of the diagrams.
 pub fn canonical_by_values()
     ensures shown { (t : Numbered) (at : Lookup) (v : Valuation) (c : ℕ) → IsNumbered t → AreKeys at
         → AreOrderly t at (λ n. IsSome (at n)) v → IsCodeOf t at (λ n. IsSome (at n)) c
         → ShowsValue t at v c }
     ensures orderly { (t : Numbered) (at : Lookup) → IsNumbered t
         → ((n : ℕ) → IsSome (at n) → (d : TheDiagram) × ShowsCanonical t at (2050 + n) d)
-        → (v : Valuation) × AreOrderly t at (λ n. IsSome (at n)) v }
+        → (v : Valuation) × AreOrderly t at (λ n. IsSome (at n)) v
+        × ((c : ℕ) (d : TheDiagram) → ShowsCanonical t at c d → IsSame (meaning d) (v c)) }
 {}
 
 /// Where no node stands at the two places that a move turns, each code that shows a canonical diagram shows one of the

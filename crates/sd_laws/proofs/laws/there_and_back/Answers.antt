@@ -1,4 +1,4 @@
-use Rattle.std.proofs.Common.{Some, subst, refl, sym, ◌∙◌}
+use Rattle.std.proofs.Common.{subst, refl, sym, ◌∙◌}
 use Rattle.std.specs.Option.{IsSome}
 use Rattle.sd_laws.proofs.Turns.{went_back}
 use Rattle.sd_laws.proofs.laws.there_and_back.Goals as goal
