@@ -33,3 +33,4 @@ pub mod OneWay
 pub mod Turns
 mod Worked
 mod WorkedValues
+pub mod WorkedOneWay
