@@ -3,7 +3,7 @@
 //!
 //! Sources: Darwiche, "SDD: A New Canonical Representation of Propositional Knowledge Bases", IJCAI 2011 (canonical
 //! diagrams, partitions and operations on them); Choi and Darwiche, "Dynamic Minimization of Sentential Decision
-//! Diagrams", AAAI 2013 (moves of a vtree). That one code shows one diagram, and the laws by values, are of this project.
+//! Diagrams", AAAI 2013 (moves of a vtree). The laws of codes, and those by values, are of this project.
 
 ghost use Rattle.std.specs.Prelude.{◌≡◌, ◌≢◌, ℕ, ◌+◌, Bool, true, not, ◌||◌, List, ◌∷◌};
 ghost use Rattle.std.specs.Prelude.{◌++◌, ◌↔◌, ◌<◌, map, length, Some, None, OnOk, OnErr, IsErr};
