@@ -115,7 +115,7 @@ old_there old new keeps n h = go (old n) refl h
     go (Some key) e k = subst IsSome (sym (keeps n key e)) refl
 
 -- a shown node is there
-shown_there : (t : Numbered) → IsNumbered t → (at : Lookup) (n : ℕ) → IsShownNode t at n → IsSome (at n)
+pub shown_there : (t : Numbered) → IsNumbered t → (at : Lookup) (n : ℕ) → IsShownNode t at n → IsSome (at n)
 shown_there t num at n s = go (code_of_node t at num (2050 + n) s.diagram s.is.shows)
   where
     go : (2050 + n < 2 * leaves (plain_tree t) + 2) ⊎ ((m : ℕ) × (2050 + n ≡ 2050 + m) × IsSome (at m)) → IsSome (at n)

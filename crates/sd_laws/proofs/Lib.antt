@@ -28,5 +28,9 @@ pub mod Users
 pub mod SameValues
 pub mod Growing
 pub mod GoneBack
+pub mod OnePrime
+pub mod OneWay
+pub mod Turns
 mod Worked
 mod WorkedValues
+pub mod WorkedOneWay

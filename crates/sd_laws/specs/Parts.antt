@@ -2,6 +2,7 @@
 use Rattle.std.specs.Prelude.{◌≡◌, ℕ, Option, Some, None, ◌==◌, if◌then◌else◌, slice_get}
 use Rattle.sd_model.specs.Tree.{Tree, Leaf, Node, position, right_base}
 use Rattle.sd_model.specs.Diagram.{Diagram, Literal, Decomposition}
+use Rattle.sd_model.specs.Canonical.{IsCanonical}
 use Rattle.sd_vtree.specs.Numbered.{Numbered, numbers, plain_tree, or_else}
 
 -- s with positions counted from c is a subtree of t with positions counted from b
@@ -25,3 +26,7 @@ HasPosition _ p = ⊥
 pub record IsInner (t : Numbered) (u : ℕ) (left right : Tree) (base : ℕ) : Type 0 where
   pub part : IsPart (Node left right) base (plain_tree t) 0
   pub number : slice_get (numbers t) (position (Node left right) base) ≡ Some u
+
+-- the diagram is canonical for some tree
+abbrev pub IsCanonicalForSome : Diagram → Type 0
+IsCanonicalForSome d = (t : Tree) × (base : ℕ) × IsCanonical t base d

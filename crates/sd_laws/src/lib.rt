@@ -1,2 +1,7 @@
-//! Partitions of a vtree node and numbered diagrams: definitions for contracts, and the lemmas about them. No code.
+//! Partitions of a vtree node and numbered diagrams: definitions for contracts, the lemmas about them, and the main
+//! laws as contracts of functions.
 #![tactic(auto)]
+
+pub mod laws;
+#[cfg(test)]
+mod tests;
