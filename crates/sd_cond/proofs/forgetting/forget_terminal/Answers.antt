@@ -10,7 +10,8 @@ returns-then-is_constant-clause-some c = λ t i.
     let low : c.args.a < 2050 = search rules in
     let differ : 2 ≤ c.args.a → c.args.a / 2 ≢ c.args.variable = λ two.
     elim c.then-is_constant.branch [
-      | then-is_constant-via-then-is_constant w ↦ let low2 : c.args.a < 2 = search rules in absurd (omega (arith, low2, two))
+      | then-is_constant-via-then-is_constant w ↦
+          let one : c.args.a < 2 = search rules in absurd (omega (arith, one, two))
       | then-is_constant-via-else-is_constant+then-variable w ↦ λ e. w.if-variable.true (w.variable.ensures ∙ e)
     ] in
     forget_own t i c.args.variable c.args.a low differ
