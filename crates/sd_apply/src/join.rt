@@ -88,7 +88,7 @@ fn lowest_over(m: &Manager, node: NodeId, literals: &[(u32, i32)]) -> VNode
     let first = leaf_of(m, literals, 0);
     let last = leaf_of(m, literals, literals.len() - 1);
     let vtree = m.vtree();
-    if node.0 < 2 {
+    if node.is_constant() {
         return vtree.lca(first, last);
     }
     let own = place_of(m, node);
@@ -225,7 +225,7 @@ fn is_shared(m: &Manager, at: VNode, node: NodeId) -> bool
     requires node { IsBelow m.now at node }
     requires table { IsTable m.now }
 {
-    node.0 < 2050 || m.uses(node) > 1
+    !node.is_decomposition() || m.uses(node) > 1
 }
 
 // The same from the two halves of the node where the left child of the vtree node is a leaf, and else by the group's
@@ -515,7 +515,7 @@ fn is_right(m: &Manager, at: VNode, left: VNode, right: VNode, node: NodeId) -> 
     requires table { IsTable m.now }
     ensures { IsTrue result → IsBelow m.now right node }
 {
-    if node.0 < 2 {
+    if node.is_constant() {
         return true;
     }
     let own = place_of(m, node);
@@ -533,7 +533,7 @@ fn lower_right(m: &Manager, at: VNode, node: NodeId, literals: &[(u32, i32)], fr
     requires table { IsTable m.now }
     ensures { StandLower m.now at node from literals.now result }
 {
-    if node.0 >= 2050 && place_of(m, node).0 == at.0 {
+    if node.is_decomposition() && place_of(m, node).0 == at.0 {
         return at;
     }
     skip_right(m, at, node, literals, from)
@@ -569,7 +569,7 @@ fn least_position(m: &Manager, at: VNode, node: NodeId, first: u32) -> u32
     ensures first { result ≤ first }
     ensures node { StandsFrom m.now node result }
 {
-    if node.0 < 2 {
+    if node.is_constant() {
         return first;
     }
     let own = place_of(m, node);
@@ -591,7 +591,7 @@ fn halves_of(
     requires table { IsTable m.now }
     ensures { IfSome result (λ r. Halves m.now at right variable node r) }
 {
-    if node.0 >= 2050 {
+    if node.is_decomposition() {
         if let Some(halves) = own_halves(m, at, left, right, variable, node) {
             return Some(halves);
         }
@@ -599,7 +599,7 @@ fn halves_of(
     if is_right(m, at, left, right, node) {
         return Some((node, node));
     }
-    if node.0 < 2 || node.0 >= 2050 {
+    if node.is_constant() || node.is_decomposition() {
         return None;
     }
     literal_halves(m, at, right, variable, node)
@@ -618,13 +618,13 @@ fn literal_halves(
     requires table { IsTable m.now }
     ensures { IfSome result (λ r. Halves m.now at right variable node r) }
 {
-    if node.0 / 2 != variable {
+    if node.variable() != variable {
         return None;
     }
-    if node.0 % 2 == 0 {
-        Some((NodeId(1), NodeId(0)))
+    if node.is_positive() {
+        Some((NodeId::TRUE, NodeId::FALSE))
     } else {
-        Some((NodeId(0), NodeId(1)))
+        Some((NodeId::FALSE, NodeId::TRUE))
     }
 }
 

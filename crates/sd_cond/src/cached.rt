@@ -25,13 +25,13 @@ const GIVEN: u8 = 4;
 /// The number of forgetting.
 const FORGET: u8 = 5;
 
-/// Conditioning on the literal with a code: 2x for the variable x, and 2x + 1 for its negation.
+/// Conditioning on a literal.
 pub(crate) fn given_cached(
     alloc: Global,
     m: &mut Manager,
     c: &mut Cache,
     a: NodeId,
-    literal: u32,
+    literal: NodeId,
 ) -> Result<NodeId, TakeError>
     requires node { IsNodeOf m.old a }
     requires low { 2 ≤ literal }
@@ -46,12 +46,12 @@ pub(crate) fn given_cached(
     ensures table { IsTable m.new }
 {
     let epoch = m.epoch();
-    let variable = literal / 2;
-    let positive = literal % 2 == 0;
-    if let Some(code) = at_terminal(a.0, variable, positive) {
-        return Ok(NodeId(code));
+    let variable = literal.variable();
+    let positive = literal.is_positive();
+    if let Some(node) = at_terminal(a, variable, positive) {
+        return Ok(node);
     }
-    if let Some(code) = c.look(epoch, GIVEN, a.0, literal) {
+    if let Some(code) = c.look(epoch, GIVEN, a.0, literal.0) {
         return Ok(NodeId(code));
     }
     let root = m.vtree().root();
@@ -64,7 +64,7 @@ pub(crate) fn given_cached(
     let code = given_here(
         alloc, m, c, &mut kept, variable, positive, leaf, place, left, right, a,
     )?;
-    c.keep(epoch, GIVEN, a.0, literal, code.0);
+    c.keep(epoch, GIVEN, a.0, literal.0, code.0);
     Ok(code)
 }
 
@@ -88,8 +88,8 @@ pub(crate) fn forget_cached(
     ensures table { IsTable m.new }
 {
     let epoch = m.epoch();
-    if let Some(code) = forget_terminal(a.0, variable) {
-        return Ok(NodeId(code));
+    if let Some(node) = forget_terminal(a, variable) {
+        return Ok(node);
     }
     let literal = 2 * variable;
     if let Some(code) = c.look(epoch, FORGET, a.0, literal) {

@@ -25,22 +25,22 @@ use smallvec::SmallVec;
 use std::alloc::Global;
 
 /// The answer of conditioning at a constant or a literal.
-pub(crate) fn at_terminal(a: u32, variable: u32, positive: bool) -> Option<u32>
+pub(crate) fn at_terminal(a: NodeId, variable: u32, positive: bool) -> Option<NodeId>
     requires { 1 ≤ variable }
     ensures some { IfSome result (λ c. (t : Table) → IsTable t →
         AnswersOf t t (conditioned variable positive) a c) }
     ensures none { IfNone result (2050 ≤ a) }
 {
-    if a >= 2050 {
+    if a.is_decomposition() {
         return None;
     }
-    if a < 2 || a / 2 != variable {
+    if a.is_constant() || a.variable() != variable {
         return Some(a);
     }
-    if (a % 2 == 0) == positive {
-        return Some(1);
+    if a.is_positive() == positive {
+        return Some(NodeId::TRUE);
     }
-    Some(0)
+    Some(NodeId::FALSE)
 }
 
 /// Conditioning at a node below a vtree node below which the variable's leaf stands.
@@ -72,8 +72,8 @@ pub(crate) fn given_at(
 {
     // its contract tells that the table is valid
     let _ = m.vtree();
-    if let Some(code) = at_terminal(a.0, variable, positive) {
-        return Ok(NodeId(code));
+    if let Some(node) = at_terminal(a, variable, positive) {
+        return Ok(node);
     }
     if let Some(code) = kept.look(a) {
         return Ok(NodeId(code));
@@ -177,7 +177,7 @@ fn given_pairs(
         let fixed = given_below(
             alloc, m, c, kept, variable, positive, leaf, left, in_left, prime,
         )?;
-        if fixed.0 != 0 {
+        if !fixed.is_false() {
             let value = given_below(
                 alloc, m, c, kept, variable, positive, leaf, right, !in_left, sub,
             )?;

@@ -26,19 +26,19 @@ use smallvec::SmallVec;
 use std::alloc::Global;
 
 /// The answer of forgetting at a constant or a literal.
-pub(crate) fn forget_terminal(a: u32, variable: u32) -> Option<u32>
+pub(crate) fn forget_terminal(a: NodeId, variable: u32) -> Option<NodeId>
     requires { 1 ≤ variable }
     ensures some { IfSome result (λ c. (t : Table) → IsTable t →
         AnswersOf t t (forgotten variable) a c) }
     ensures none { IfNone result (2050 ≤ a) }
 {
-    if a >= 2050 {
+    if a.is_decomposition() {
         return None;
     }
-    if a < 2 || a / 2 != variable {
+    if a.is_constant() || a.variable() != variable {
         return Some(a);
     }
-    Some(1)
+    Some(NodeId::TRUE)
 }
 
 /// Forgetting at a node below a vtree node below which the variable's leaf stands.
@@ -75,8 +75,8 @@ fn forget_at(
 {
     // its contract tells that the table is valid
     let _ = m.vtree();
-    if let Some(code) = forget_terminal(a.0, variable) {
-        return Ok(NodeId(code));
+    if let Some(node) = forget_terminal(a, variable) {
+        return Ok(node);
     }
     if let Some(code) = kept.look(a) {
         return Ok(NodeId(code));

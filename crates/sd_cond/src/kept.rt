@@ -107,7 +107,7 @@ impl KeptAnswers {
         ensures { IfSome result (λ c. (t : Table) (f : Diagram → List Bool → Bool)
             → AreAnswers t f self.now → IsAnswer t f node c) }
     {
-        if node.0 == 0 || self.entries.is_empty() {
+        if node.is_false() || self.entries.is_empty() {
             return None;
         }
         let index = entry_of(&self.entries, node.0);

@@ -36,8 +36,8 @@ pub fn given(
     ensures rule { IfErr result (λ e. KeepsRule m.new e) }
     ensures table { IsTable m.new }
 {
-    let code = m.literal(literal);
-    given_cached(alloc, m, c, a, code.0)
+    let node = m.literal(literal);
+    given_cached(alloc, m, c, a, node)
 }
 
 /// The node that is true where `a` is true for one of the values of a variable from 1 to V. It

@@ -18,7 +18,7 @@ mod values;
 mod view;
 
 pub use manager::Manager;
-pub use node_id::NodeId;
+pub use node_id::{FIRST_NODE, NodeId};
 pub use roots::Root;
 pub use values::value_of;
 pub use view::View;

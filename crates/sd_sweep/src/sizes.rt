@@ -60,7 +60,7 @@ fn mark_below(m: &mut Manager, node: NodeId, levels: u32, value: u32) -> u32
         View::Literal(_) => return 0,
         View::Decomposition { count, .. } => count,
     };
-    let number = node.0 - 2050;
+    let number = node.number();
     if m.mark(number) == value {
         return 0;
     }

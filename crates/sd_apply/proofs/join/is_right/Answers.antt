@@ -1,4 +1,4 @@
-use Rattle.std.proofs.Common.{◌≡◌, ◌<◌, ℕ, length, sym, subst, Some, slice_get, arith}
+use Rattle.std.proofs.Common.{◌≡◌, ◌<◌, length, sym, subst, Some, slice_get, arith, rules}
 use Rattle.std.proofs.lemmas.Bool.Decides.{nat_tests}
 use Rattle.sd_vtree.specs.Numbered.{numbers}
 use Rattle.sd_apply.proofs.Trees.{there_inner}
@@ -7,10 +7,9 @@ use Rattle.sd_apply.proofs.Expanding.{right_under}
 use Rattle.sd_apply.proofs.JoiningPlaces.{there_within, constant_under}
 use Rattle.sd_apply.proofs.join.is_right.Goals as goal
 
-pub returns-then-node-lt2 : goal.returns-then-node-lt2
-returns-then-node-lt2 c = λ yes.
-    constant_under c.args.m.now c.args.right c.args.node
-    (subst (λ (n : ℕ). n < 2) c.node.view_is c.if-node-lt2.true)
+pub returns-then-is_constant : goal.returns-then-is_constant
+returns-then-is_constant c = λ yes.
+    constant_under c.args.m.now c.args.right c.args.node (search rules)
 
 pub position-requires : goal.position-requires
 position-requires c =

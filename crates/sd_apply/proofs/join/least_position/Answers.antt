@@ -1,11 +1,11 @@
-use Rattle.std.proofs.Common.{◌≡◌, ◌<◌, ℕ, Some, slice_get, subst, arith}
+use Rattle.std.proofs.Common.{◌≡◌, Some, slice_get, subst, arith, rules}
 use Rattle.sd_vtree.specs.Numbered.{numbers}
 use Rattle.sd_apply.proofs.JoiningPlaces.{constant_from, place_from}
 use Rattle.sd_apply.proofs.join.least_position.Goals as goal
 
-pub returns-then-node-lt2-clause-node : goal.returns-then-node-lt2-clause-node
-returns-then-node-lt2-clause-node c =
-    constant_from c.args.m.now c.args.node c.args.first (subst (λ (n : ℕ). n < 2) c.node.view_is c.if-node-lt2.true)
+pub returns-then-is_constant-clause-node : goal.returns-then-is_constant-clause-node
+returns-then-is_constant-clause-node c =
+    constant_from c.args.m.now c.args.node c.args.first (search rules)
 
 pub returns-clause-node : goal.returns-clause-node
 returns-clause-node c =

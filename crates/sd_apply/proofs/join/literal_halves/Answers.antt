@@ -1,17 +1,15 @@
-use Rattle.std.proofs.Common.{◌≡◌, ◌≢◌, ◌/◌, ◌%◌, ℕ, subst}
+use Rattle.std.proofs.Common.{◌∙◌, sym, rules}
 use Rattle.sd_apply.proofs.Joining.{positive_halves, negative_halves}
 use Rattle.sd_apply.proofs.join.literal_halves.Goals as goal
 
-pub returns-then-node-eq0 : goal.returns-then-node-eq0
-returns-then-node-eq0 c =
+pub returns-then-is_positive : goal.returns-then-is_positive
+returns-then-is_positive c =
     positive_halves c.args.m.now c.args.at c.args.right c.args.variable c.args.node c.requires.table
     c.requires.least c.requires.code
-    (subst (λ (n : ℕ). n / 2 ≡ c.args.variable) c.node.view_is c.if-node-variable.false)
-    (subst (λ (n : ℕ). n % 2 ≡ 0) c.node.view_is c.if-node-eq0.true)
+    (sym c.variable.ensures ∙ c.if-variable.false) (search rules)
 
-pub returns-else-node-eq0 : goal.returns-else-node-eq0
-returns-else-node-eq0 c =
+pub returns-else-is_positive : goal.returns-else-is_positive
+returns-else-is_positive c =
     negative_halves c.args.m.now c.args.at c.args.right c.args.variable c.args.node c.requires.table
     c.requires.least c.requires.code
-    (subst (λ (n : ℕ). n / 2 ≡ c.args.variable) c.node.view_is c.if-node-variable.false)
-    (subst (λ (n : ℕ). n % 2 ≢ 0) c.node.view_is c.if-node-eq0.false)
+    (sym c.variable.ensures ∙ c.if-variable.false) (search rules)

@@ -1,4 +1,4 @@
-use Rattle.std.proofs.Common.{◌≡◌, Some, slice_get, sym, subst, ℕ, ◌<◌, ◌-◌, length, arith}
+use Rattle.std.proofs.Common.{◌≡◌, Some, slice_get, sym, subst, ◌-◌, length, arith, rules}
 use Rattle.sd_vtree.specs.Numbered.{numbers}
 use Rattle.sd_vtree.specs.Numbered.{IsUnder as StandsUnder}
 use Rattle.sd_apply.proofs.Trees.{under_number}
@@ -7,21 +7,20 @@ use Rattle.sd_apply.proofs.JoiningPlaces.{constant_under}
 use Rattle.sd_apply.proofs.JoiningWhole.{index_stands, ends_literals, leaves_ordered}
 use Rattle.sd_apply.proofs.join.lowest_over.Goals as goal
 
-pub returns-then-node-lt2-clause-node : goal.returns-then-node-lt2-clause-node
-returns-then-node-lt2-clause-node c =
-    constant_under c.args.m.now c.lca.result c.args.node
-    (subst (λ (n : ℕ). n < 2) c.node.view_is c.if-node-lt2.true)
+pub returns-then-is_constant-clause-node : goal.returns-then-is_constant-clause-node
+returns-then-is_constant-clause-node c =
+    constant_under c.args.m.now c.lca.result c.args.node (search rules)
 
-pub returns-then-node-lt2-clause-literals : goal.returns-then-node-lt2-clause-literals
-returns-then-node-lt2-clause-literals c =
+pub returns-then-is_constant-clause-literals : goal.returns-then-is_constant-clause-literals
+returns-then-is_constant-clause-literals c =
     let e = c.vtree-vtree.ensures.vtree in
     ends_literals c.args.m.now c.vtree-vtree.ensures.table c.lca.result c.leaf_of-first.result c.leaf_of-last.result
     c.args.literals.now c.requires.literals c.requires.some c.leaf_of-first.ensures.place c.leaf_of-last.ensures.place
     (subst (λ t. StandsUnder t c.leaf_of-first.result c.lca.result) e c.lca.ensures.over_first)
     (subst (λ t. StandsUnder t c.leaf_of-last.result c.lca.result) e c.lca.ensures.over_second)
 
-pub returns-then-node-lt2-clause-lowest : goal.returns-then-node-lt2-clause-lowest
-returns-then-node-lt2-clause-lowest c = λ n there below literals.
+pub returns-then-is_constant-clause-lowest : goal.returns-then-is_constant-clause-lowest
+returns-then-is_constant-clause-lowest c = λ n there below literals.
     let m = c.args.m.now in
     let i = c.vtree-vtree.ensures.table in
     let e = c.vtree-vtree.ensures.vtree in

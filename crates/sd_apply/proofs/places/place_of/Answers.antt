@@ -1,4 +1,4 @@
-use Rattle.std.proofs.Common.{◌≡◌, subst, sym, ◌≤◌, ◌<◌, ◌/◌, Some, ℕ}
+use Rattle.std.proofs.Common.{◌≡◌, subst, sym, ◌≤◌, ◌<◌, Some, ℕ, rules}
 use Rattle.sd_model.specs.Tree.{leaves}
 use Rattle.sd_vtree.specs.Numbered.{plain_tree, variable_at, Numbered}
 use Rattle.sd_apply.proofs.Standing.{leaf_within, leaf_place, has_node, shown_there}
@@ -7,23 +7,23 @@ use Rattle.sd_apply.proofs.places.place_of.Goals as goal
 -- a literal's variable is one of the vtree's
 pub leaf-requires-clause-within : goal.leaf-requires-clause-within
 leaf-requires-clause-within c =
-    let W : Numbered → Type 0 = λ t. c.node.inside.0 / 2 ≤ leaves (plain_tree t) in
-    let N : ℕ → Type 0 = λ n. n / 2 ≤ leaves (plain_tree c.args.m.now.vtree) in
-    let low : c.args.node < 2050 = subst (λ n. n < 2050) c.node.view_is c.if-node-lt2050.true in
+    let W : Numbered → Type 0 = λ t. c.variable.result ≤ leaves (plain_tree t) in
+    let N : ℕ → Type 0 = λ n. n ≤ leaves (plain_tree c.args.m.now.vtree) in
+    let low : c.args.node < 2050 = search rules in
     subst W (sym c.vtree-vtree.ensures.vtree)
-    (subst N (sym c.node.view_is)
+    (subst N (sym c.variable.ensures)
     (leaf_within c.args.m.now c.vtree-vtree.ensures.table c.args.node c.requires.node.diagram
     c.requires.node.is
     c.requires.least low))
 
-pub returns-then-node-lt2050-clause-place : goal.returns-then-node-lt2050-clause-place
-returns-then-node-lt2050-clause-place c =
-    let V : Numbered → Type 0 = λ t. variable_at t c.leaf.result ≡ Some (c.node.inside.0 / 2) in
-    let N : ℕ → Type 0 = λ n. variable_at c.args.m.now.vtree c.leaf.result ≡ Some (n / 2) in
-    let low : c.args.node < 2050 = subst (λ n. n < 2050) c.node.view_is c.if-node-lt2050.true in
+pub returns-then-not-is_decomposition-clause-place : goal.returns-then-not-is_decomposition-clause-place
+returns-then-not-is_decomposition-clause-place c =
+    let V : Numbered → Type 0 = λ t. variable_at t c.leaf.result ≡ Some c.variable.result in
+    let N : ℕ → Type 0 = λ n. variable_at c.args.m.now.vtree c.leaf.result ≡ Some n in
+    let low : c.args.node < 2050 = search rules in
     λ d h. leaf_place c.args.m.now c.vtree-vtree.ensures.table c.args.node d h c.requires.least
     low c.leaf.result
-    (subst N c.node.view_is (subst V c.vtree-vtree.ensures.vtree c.leaf.ensures.leaf))
+    (subst N c.variable.ensures (subst V c.vtree-vtree.ensures.vtree c.leaf.ensures.leaf))
 
 pub view-requires : goal.view-requires
 view-requires c =

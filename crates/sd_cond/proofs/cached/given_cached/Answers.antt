@@ -1,4 +1,4 @@
-use Rattle.std.proofs.Common.{◌≡◌, ◌∙◌, ◌/◌, ◌%◌, ◌==◌, refl, sym, ap, subst, Some}
+use Rattle.std.proofs.Common.{◌≡◌, ◌∙◌, ◌/◌, ◌%◌, ◌==◌, sym, ap, subst, Some}
 use Rattle.sd_vtree.specs.Numbered.{number_of, variable_at}
 use Rattle.sd_cache.specs.Entries.{call}
 use Rattle.sd_apply.proofs.Growing.{both_lowest}
@@ -6,7 +6,8 @@ use Rattle.sd_apply.proofs.Served.{serves_look, serves_keep}
 use Rattle.sd_apply.proofs.Whole.{root_there, root_below}
 use Rattle.sd_cond.specs.Calls.{conditioned}
 use Rattle.sd_cond.proofs.Answering.{outside_own, place_each}
-use Rattle.sd_cond.proofs.Serving.{looked_given, given_right, literal_of, literal_on}
+use Rattle.sd_cond.proofs.Serving.{LiteralAt, looked_given, given_right, literal_of}
+use Rattle.sd_cond.proofs.Serving.{literal_on}
 use Rattle.sd_cond.proofs.cached.given_cached.Goals as goal
 
 -- the cache is asked
@@ -14,31 +15,34 @@ pub returns-in-Some-look-clause-ok : goal.returns-in-Some-look-clause-ok
 returns-in-Some-look-clause-ok c =
     let m = c.args.m.now in
     let i = c.epoch-epoch.ensures.table in
-    looked_given c.args.c.now m c.epoch-epoch.result c.args.a c.args.literal c.a.inside.0
-    c.in-Some-look.code (c.args.literal / 2) (c.args.literal % 2 == 0) i c.requires.serves
-    c.epoch-epoch.ensures.epoch c.a.view_is
-    (literal_of m i c.args.literal c.requires.low c.requires.within) c.in-Some-look.ensures.early
-    c.in-Some-look.ensures.value
+    let l = c.args.literal in
+    looked_given c.args.c.now m c.epoch-epoch.result c.args.a c.literal.inside.0 c.a.inside.0
+    c.in-Some-look.code (l / 2) (l % 2 == 0) i c.requires.serves c.epoch-epoch.ensures.epoch
+    c.a.view_is
+    (subst (λ n. LiteralAt m n (l / 2) (l % 2 == 0)) (sym c.literal.view_is)
+    (literal_of m i l c.requires.low c.requires.within))
+    c.in-Some-look.ensures.early c.in-Some-look.ensures.value
 
 pub returns-in-Some-look-clause-serves : goal.returns-in-Some-look-clause-serves
 returns-in-Some-look-clause-serves c =
     serves_look c.args.c.now c.look.new.self c.args.m.now
-    (call c.epoch-epoch.result 4 c.a.inside.0 c.args.literal) c.look.ensures.entries c.requires.serves
+    (call c.epoch-epoch.result 4 c.a.inside.0 c.literal.inside.0) c.look.ensures.entries c.requires.serves
 
 pub returns-then-not-is_over-clause-serves : goal.returns-then-not-is_over-clause-serves
 returns-then-not-is_over-clause-serves c =
     serves_look c.args.c.now c.look.new.self c.args.m.now
-    (call c.epoch-epoch.result 4 c.a.inside.0 c.args.literal) c.look.ensures.entries c.requires.serves
+    (call c.epoch-epoch.result 4 c.a.inside.0 c.literal.inside.0) c.look.ensures.entries c.requires.serves
 
 pub given_here-requires-clause-serves : goal.given_here-requires-clause-serves
 given_here-requires-clause-serves c =
     serves_look c.args.c.now c.look.new.self c.args.m.now
-    (call c.epoch-epoch.result 4 c.a.inside.0 c.args.literal) c.look.ensures.entries c.requires.serves
+    (call c.epoch-epoch.result 4 c.a.inside.0 c.literal.inside.0) c.look.ensures.entries c.requires.serves
 
 -- nothing is kept yet
 pub given_here-requires-clause-knows : goal.given_here-requires-clause-knows
 given_here-requires-clause-knows c =
-    c.new-kept.ensures c.args.m.now (conditioned (c.args.literal / 2) (c.args.literal % 2 == 0))
+    c.new-kept.ensures c.args.m.now
+    (conditioned c.variable-variable.result c.is_positive-positive.result)
 
 -- the root is there, and the node is below it
 pub place_with_children-place-requires-clause-at : goal.place_with_children-place-requires-clause-at
@@ -62,7 +66,7 @@ returns-then-not-is_over-clause-ok c =
     outside_own m i p.result.0 c.leaf-leaf.result (c.args.literal / 2) (c.args.literal % 2 == 0)
     c.args.a p.ensures.there
     (subst (λ t. variable_at t c.leaf-leaf.result ≡ Some (c.args.literal / 2)) c.vtree-2.ensures.vtree
-    c.leaf-leaf.ensures.leaf)
+    (c.leaf-leaf.ensures.leaf ∙ ap (λ n. Some n) c.variable-variable.ensures))
     (c.is_over.ensures.tells.apart c.if-not-is_over.true)
     (place_each m i p.result.0 c.args.a p.ensures.there p.ensures.place)
 
@@ -89,10 +93,13 @@ returns-clause-serves c =
     let e = c.epoch-epoch.result in
     let l = c.args.literal in
     let k = c.given_here.ensures.kept in
-    serves_keep c.given_here.new.c c.keep.new.self n (call e 4 c.a-2.inside.0 l) c.code.inside.0
-    c.keep.ensures.keeps (c.epoch-epoch.ensures.epoch ∙ sym k.epoch) c.given_here.ensures.serves
-    (given_right m n k e c.args.a l c.a-2.inside.0 l c.in_ok-code.code c.code.inside.0 (l / 2)
-    (l % 2 == 0) c.a-2.view_is refl c.code.view_is
+    serves_keep c.given_here.new.c c.keep.new.self n (call e 4 c.a-2.inside.0 c.literal.inside.0)
+    c.code.inside.0 c.keep.ensures.keeps (c.epoch-epoch.ensures.epoch ∙ sym k.epoch)
+    c.given_here.ensures.serves
+    (given_right m n k e c.args.a l c.a-2.inside.0 c.literal.inside.0 c.in_ok-code.code
+    c.code.inside.0 c.variable-variable.result c.is_positive-positive.result c.a-2.view_is
+    c.literal.view_is c.code.view_is
+    (rw (c.variable-variable.ensures, c.is_positive-positive.ensures)
     (literal_on m n k l (l / 2) (l % 2 == 0)
-    (literal_of m c.epoch-epoch.ensures.table l c.requires.low c.requires.within))
+    (literal_of m c.epoch-epoch.ensures.table l c.requires.low c.requires.within)))
     c.requires.node c.in_ok-code.ensures.ok)

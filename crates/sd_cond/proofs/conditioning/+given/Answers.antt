@@ -1,5 +1,5 @@
 use Rattle.std.proofs.Common.{◌∙◌, sym, subst, ℕ, ◌+◌, ◌*◌, ◌<◌, not, List, [], ◌∷◌}
-use Rattle.std.proofs.Common.{get_or, arith}
+use Rattle.std.proofs.Common.{get_or, arith, rules}
 use Rattle.std.proofs.lemmas.Result.{IfOk-weaker}
 use Rattle.sd_model.specs.Diagram.{Diagram}
 use Rattle.sd_manager.specs.Shown.{IsPartitionAt, ShowsCanonical}
@@ -19,8 +19,8 @@ use Rattle.sd_cond.proofs.Answering.{below_each, place_each, outside_own, tells_
 use Rattle.sd_cond.proofs.Elements.{pairs_skip, pairs_push, pairs_done, fixed_list}
 use Rattle.sd_cond.proofs.Elements.{listed_partition, compressed_answers, same_answers}
 use Rattle.sd_cond.proofs.conditioning.+given.Goals as goal
-use Rattle.sd_cond.proofs.conditioning.+given.Goals.{given_pairs-then-fixed-ne0+in_ok-value+in-Ok}
-use Rattle.sd_cond.proofs.conditioning.+given.Goals.{given_pairs-else-fixed-ne0}
+use Rattle.sd_cond.proofs.conditioning.+given.Goals.{given_pairs-then-not-is_false+in_ok-value+in-Ok}
+use Rattle.sd_cond.proofs.conditioning.+given.Goals.{given_pairs-else-not-is_false}
 
 -- an answer that is kept
 pub given_at-returns-in-Some-look-clause-ok : goal.given_at-returns-in-Some-look-clause-ok
@@ -254,8 +254,8 @@ given_pairs-given_below-requires t c =
       ),
     )
 
-pub given_pairs-given_below-requires-then-fixed-ne0 : goal.given_pairs-given_below-requires-then-fixed-ne0
-given_pairs-given_below-requires-then-fixed-ne0 t c =
+pub given_pairs-given_below-requires-then-not-is_false : goal.given_pairs-given_below-requires-then-not-is_false
+given_pairs-given_below-requires-then-not-is_false t c =
     let m0 = c.args.m.now in
     let m1 = c.given_below.new.m in
     let x = extends_on m0 c.loop-i.m m1 c.loop-i.invariant.step.extends c.given_below.ensures.kept in
@@ -314,9 +314,9 @@ given_pairs-loop-i-preserved t c =
       table = a.ensures.table;
       grown = grows_left c.loop-i.m a.new.m u w a.ensures.grown;
     } in
-    elim c.if-fixed-ne0.branch [
-      | given_pairs-then-fixed-ne0+in_ok-value+in-Ok k ↦
-          let b = k.given_below-then-fixed-ne0 in
+    elim c.if-not-is_false.branch [
+      | given_pairs-then-not-is_false+in_ok-value+in-Ok k ↦
+          let b = k.given_below-then-not-is_false in
           let second : IsStep a.new.m b.new.m f b.new.kept b.new.c u w =
           record {
             extends = b.ensures.kept;
@@ -330,13 +330,13 @@ given_pairs-loop-i-preserved t c =
           b.new.kept c.loop-i.c a.new.c b.new.c x s u w l c.loop-i.pairs.items
           k.push.new.self.items i e c.in_ok-fixed.fixed k.in_ok-value.value c.requires.variable
           c.loop-i.invariant first second c.loop-i-test.true at c.in_ok-fixed.ensures.ok
-          (λ z. k.if-fixed-ne0.true (c.fixed.view_is ∙ z)) k.in_ok-value.ensures.ok
+          (search rules) k.in_ok-value.ensures.ok
           k.in-Ok.ensures.ok)
-      | given_pairs-else-fixed-ne0 k ↦
+      | given_pairs-else-not-is_false k ↦
           rw (k.m-is, k.c-is, k.kept-is, k.pairs-is)
           (pairs_skip m0 c.loop-i.m a.new.m c.loop-i.kept a.new.kept c.loop-i.c a.new.c
           x s u w l c.loop-i.pairs.items i e c.in_ok-fixed.fixed c.loop-i.invariant first
-          c.loop-i-test.true at c.in_ok-fixed.ensures.ok (sym c.fixed.view_is ∙ k.if-fixed-ne0.false))
+          c.loop-i-test.true at c.in_ok-fixed.ensures.ok (search rules))
     ]
 
 pub given_pairs-returns-clause-ok : goal.given_pairs-returns-clause-ok

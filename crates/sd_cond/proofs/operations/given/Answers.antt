@@ -14,9 +14,9 @@ pub returns-clause-ok : goal.returns-clause-ok
 returns-clause-ok c =
     let old = c.args.m.now in
     let new = c.given_cached.new.m in
-    let code = c.code.inside.0 in
+    let code = c.literal-node.result in
     let range : SFits w32 c.args.literal = search rules in
-    let e = c.code.view_is ∙ c.literal-code.ensures.code
+    let e = c.literal-node.ensures.code
     ∙ ap code_of_literal (to_z-of_z w32 c.args.literal range) in
     let low = subst (λ n. 2 ≤ n) (sym e)
     (literal_low (leaves (plain_tree old.vtree)) c.args.literal c.requires.literal) in

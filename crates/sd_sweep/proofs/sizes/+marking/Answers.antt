@@ -1,4 +1,4 @@
-use Rattle.std.proofs.Common.{◌≡◌, ◌∙◌, ◌-◌, Some, sym, ap, subst, arith}
+use Rattle.std.proofs.Common.{◌≡◌, ◌∙◌, Some, sym, ap, subst, arith}
 use Rattle.std.specs.FinMap.{get}
 use Rattle.sd_model.specs.Diagram.{Decomposition}
 use Rattle.sd_model.specs.Size.{walk, walk_elements}
@@ -35,7 +35,7 @@ mark_below-returns-then-mark-value-clause-marks t c =
     let is = subst (ShowsCanonical c.args.m.now c.args.node) w.2 c.requires.shown.1 in
     let at = number_linked c.args.m.now c.requires.table c.args.node w.0 w.1 is in
     marks_known c.args.m.now c.args.value c.args.node at.0
-    (ap (λ z. get c.args.m.now.marks (z - 2050)) (sym c.node.view_is) ∙ c.mark.ensures.mark
+    (ap (get c.args.m.now.marks) (sym c.number-number.ensures) ∙ c.mark.ensures.mark
     ∙ ap Some c.if-mark-value.true)
 
 pub mark_below-mark_children-below-requires : goal.mark_below-mark_children-below-requires
@@ -71,7 +71,7 @@ mark_below-returns-clause-small t c =
     c.in-Decomposition.count c.args.node w.0 w.1 at.0 is
     (λ marked.
     let both : Some c.mark.result ≡ Some c.args.value =
-    sym c.mark.ensures.mark ∙ ap (λ z. get c.args.m.now.marks (z - 2050)) c.node.view_is ∙ marked in
+    sym c.mark.ensures.mark ∙ ap (get c.args.m.now.marks) c.number-number.ensures ∙ marked in
     let same : c.mark.result ≡ c.args.value = cc in
     c.if-mark-value.false same)
     c.mark_children-below.ensures.marks
@@ -90,14 +90,14 @@ mark_below-returns-clause-marks t c =
     c.in-Decomposition.count c.args.node w.0 w.1 at.0 is
     (λ marked.
     let both : Some c.mark.result ≡ Some c.args.value =
-    sym c.mark.ensures.mark ∙ ap (λ z. get c.args.m.now.marks (z - 2050)) c.node.view_is ∙ marked in
+    sym c.mark.ensures.mark ∙ ap (get c.args.m.now.marks) c.number-number.ensures ∙ marked in
     let same : c.mark.result ≡ c.args.value = cc in
     c.if-mark-value.false same)
     c.mark_children-below.ensures.marks
     (count_is c.args.m.now c.args.node c.in-Decomposition.place c.in-Decomposition.count w.0 w.1 is
     c.in-Decomposition.ensures.view)
     (c.set_mark.ensures.mark
-    ∙ ap (λ z. with_mark c.mark_children-below.new.m (z - 2050) c.args.value) c.node.view_is) c.requires.table
+    ∙ ap (λ z. with_mark c.mark_children-below.new.m z c.args.value) c.number-number.ensures) c.requires.table
 
 pub mark_children-loop-index-init : goal.mark_children-loop-index-init
 mark_children-loop-index-init t c = in_pairs_none c.args.m.now c.requires.table c.args.value c.args.node
