@@ -30,6 +30,7 @@ use Rattle.sd_apply.proofs.Listed.{shows_on, under_on}
 use Rattle.sd_apply.proofs.Growing.{either_none, either_both}
 use Rattle.sd_apply.proofs.Rows.{pair_prime}
 use Rattle.sd_apply.proofs.Merging.{always_false, head_of}
+use Rattle.sd_apply.proofs.Expanding.{not_false}
 use Rattle.sd_apply.proofs.Sorting.{sub_then_prime_at, length_sub_then_prime}
 use Rattle.sd_apply.proofs.Steps.{IsStep, InUnion}
 
@@ -421,10 +422,6 @@ none_left : (A O C : List Bool) (p x : Bool) → length A ≡ 1 →
 none_left A [] C p x one count some = absurd (cc)
 none_left A (y ∷ O) C true x one count some = absurd (omega (arith, one, count))
 none_left A (y ∷ O) C false x one count some = refl
-
-not_false : (b : Bool) → not b ≡ false → b ≡ true
-not_false true e = refl
-not_false false e = absurd (cc)
 
 -- the others merged, with the complement of their primes for the elements alike
 pub complemented : (m0 m1 m2 m3 : Table) → IsTable m0 → Extends m0 m1 → Extends m1 m2 →

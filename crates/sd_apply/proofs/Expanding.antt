@@ -249,7 +249,8 @@ two_answers true false e = refl
 two_answers false true e = refl
 two_answers false false e = absurd (cc)
 
-not_false : (b : Bool) → not b ≡ false → b ≡ true
+-- what has a false negation is true
+pub not_false : (b : Bool) → not b ≡ false → b ≡ true
 not_false true e = refl
 not_false false e = absurd (cc)
 

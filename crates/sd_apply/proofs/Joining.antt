@@ -31,7 +31,7 @@ use Rattle.sd_apply.specs.GroupCalls.{deciding, between}
 use Rattle.sd_apply.proofs.Trees.{bottom_under, top_under}
 use Rattle.sd_apply.proofs.Standing.{shown}
 use Rattle.sd_apply.proofs.Rows.{not_bottom}
-use Rattle.sd_apply.proofs.Merging.{partition_at}
+use Rattle.sd_apply.proofs.Merging.{partition_at, head_same}
 use Rattle.sd_apply.proofs.Expanding.{own_list}
 use Rattle.sd_apply.proofs.JoiningPlaces.{fork_literal, fork_range}
 
@@ -111,9 +111,6 @@ negative_halves t v w x c i low high half odd = record {
 two_values : (v x y : Bool) → cond v (x ∷ cond (not v) (y ∷ []) []) (cond (not v) (y ∷ []) []) ≡ cond v x y ∷ []
 two_values true x y = refl
 two_values false x y = refl
-
-head_same : (x y : Bool) → x ∷ [] ≡ y ∷ [] → x ≡ y
-head_same x y e = cc
 
 first_same : (x y : Bool) (l : List Bool) → x ∷ l ≡ y ∷ [] → x ≡ y
 first_same x y l e = cc

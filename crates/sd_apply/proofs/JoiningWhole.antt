@@ -13,7 +13,7 @@ use Rattle.sd_model.specs.Expression.{combine}
 use Rattle.sd_model.proofs.Blend.{depends}
 use Rattle.sd_vtree.specs.Numbered.{Numbered, number_of, plain_tree, numbers, variable_at, IsNumbered}
 use Rattle.sd_vtree.specs.Numbered.{IsUnder as StandsUnder}
-use Rattle.sd_vtree.proofs.Times.{one_place, slice_get_append, slice_get_left}
+use Rattle.sd_vtree.proofs.Times.{one_place, slice_get_append, slice_get_left, times_slice_get}
 use Rattle.sd_vtree.proofs.Subtrees.{once_numbered}
 use Rattle.sd_vtree.proofs.Under.{under_part}
 use Rattle.sd_laws.specs.Depends.{DependsOn}
@@ -32,7 +32,7 @@ use Rattle.sd_apply.specs.Places.{plain, IsCanonicalUnder, IsNodeUnder, IsBelow,
 use Rattle.sd_apply.specs.Growing.{GrowsBelow}
 use Rattle.sd_apply.specs.Group.{group_value, IsPlaced, AreOrdered, JoinsGroup, GrowsBelowGroup}
 use Rattle.sd_apply.specs.GroupCalls.{AreLiteralsBelow, JoinsFrom}
-use Rattle.sd_apply.proofs.Trees.{apart, canonical_below, below_canonical, under_number, times_at}
+use Rattle.sd_apply.proofs.Trees.{apart, canonical_below, below_canonical, under_number}
 use Rattle.sd_apply.proofs.Standing.{place_under}
 use Rattle.sd_apply.proofs.Growing.{grows_wider}
 use Rattle.sd_apply.proofs.Whole.{root_under}
@@ -182,7 +182,7 @@ between_stands t n v a b c p q r x z at here there low high =
     ∙ sym (slice_get_append k.front (numbers s ++ k.back) j)
     ∙ sym (ap (λ xs. slice_get xs (length k.front + j)) k.split)
     ∙ sym (ap (slice_get (numbers t)) same) ∙ here in
-    record { part = s; is = x.is; has = times_at (numbers s) j b found }
+    record { part = s; is = x.is; has = times_slice_get (numbers s) j b found }
 
 -- a diagram has one position
 one_position : (d : Diagram) (p q : ℕ) → HasPosition d p → HasPosition d q → p ≡ q

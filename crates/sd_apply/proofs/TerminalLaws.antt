@@ -17,6 +17,7 @@ use Rattle.sd_laws.specs.Shown.{literal_code}
 use Rattle.sd_laws.specs.Parts.{leaf_position}
 use Rattle.sd_laws.proofs.Codes.{one_diagram, bottom_from_code, top_from_code, literal_range}
 use Rattle.sd_laws.proofs.Codes.{node_range}
+use Rattle.sd_laws.proofs.Connectives.{combine_exchanged}
 use Rattle.sd_laws.proofs.Numbers.{literal_canonical}
 use Rattle.sd_manager.specs.Table.{Table}
 use Rattle.sd_manager.specs.Shown.{Shows}
@@ -344,21 +345,6 @@ xor_negation_second old new i o v a b r e one h = record {
       };
 }
 
--- connectives do not look at the order of their operands
-pub combine_commutes : (o : Operation) (x y : Bool) → combine o x y ≡ combine o y x
-combine_commutes And true true = refl
-combine_commutes And true false = refl
-combine_commutes And false true = refl
-combine_commutes And false false = refl
-combine_commutes Or true true = refl
-combine_commutes Or true false = refl
-combine_commutes Or false true = refl
-combine_commutes Or false false = refl
-combine_commutes Xor true true = refl
-combine_commutes Xor true false = refl
-combine_commutes Xor false true = refl
-combine_commutes Xor false false = refl
-
 pub applies_commutes : (old new : Table) (o : Operation) (v a b r : ℕ) → Applies old new o v b a r →
     Applies old new o v a b r
 applies_commutes old new o v a b r h = record {
@@ -368,7 +354,7 @@ applies_commutes old new o v a b r h = record {
         diagram = k.diagram;
         is = k.is;
         value = λ g. k.value g
-            ∙ combine_commutes o (meaning y g) (meaning x g);
+            ∙ combine_exchanged o (meaning y g) (meaning x g);
       };
 }
 

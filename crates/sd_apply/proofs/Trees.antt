@@ -1,9 +1,9 @@
 -- Diagrams below the nodes of a vtree.
-use Rattle.std.proofs.Common.{◌≡◌, ℕ, zero, suc, ◌+◌, ◌-◌, ◌*◌, ◌≤◌, ◌<◌, Bool, not, List}
-use Rattle.std.proofs.Common.{[], ◌∷◌, ◌++◌, length, Some}
+use Rattle.std.proofs.Common.{◌≡◌, ℕ, ◌+◌, ◌-◌, ◌*◌, ◌≤◌, ◌<◌, Bool, not, List}
+use Rattle.std.proofs.Common.{◌++◌, length, Some}
 use Rattle.std.proofs.Common.{slice_get, inl, inr, refl, sym, ◌∙◌, ap, subst, arith}
 use Rattle.std.proofs.Common.{length-append}
-use Rattle.std.proofs.lemmas.Option.{same_Some, none-some}
+use Rattle.std.proofs.lemmas.Option.{same_Some}
 use Rattle.std.proofs.lemmas.Bool.{cases_lt}
 use Rattle.sd_model.specs.declared.trees.Operation.{Operation}
 use Rattle.sd_model.specs.Tree.{Tree, Leaf, Node, leaves, variables, position, right_base}
@@ -12,11 +12,11 @@ use Rattle.sd_model.specs.Canonical.{IsCanonical, canonical_bottom, canonical_to
 use Rattle.sd_model.specs.Expression.{combine}
 use Rattle.sd_model.proofs.Blend.{IsApart, depends}
 use Rattle.sd_model.proofs.OverVtree.{vtree_apart}
-use Rattle.sd_vtree.specs.Numbered.{Numbered, NumberedNode, plain_tree, numbers, subtree, times}
+use Rattle.sd_vtree.specs.Numbered.{Numbered, NumberedNode, plain_tree, numbers, subtree}
 use Rattle.sd_vtree.specs.Numbered.{IsNumbered}
 use Rattle.sd_vtree.specs.Numbered.{IsUnder as StandsUnder}
 use Rattle.sd_vtree.proofs.Subtrees.{InnerPart, inner_part}
-use Rattle.sd_vtree.proofs.Times.{slice_get_append, slice_get_left, times_same}
+use Rattle.sd_vtree.proofs.Times.{slice_get_append, slice_get_left, times_slice_get}
 use Rattle.sd_laws.specs.Parts.{IsPart, here, in_left, in_right, IsInner}
 use Rattle.sd_laws.proofs.Places.{canonical_lifts, part_trans, narrowed, leaves_positive}
 use Rattle.sd_laws.proofs.Places.{part_range}
@@ -144,12 +144,6 @@ nested {s} {c = c} (in_left {l = l} p) (in_right q) low high =
     )
 nested (in_right p) (in_right q) low high = nested p q low high
 
--- a number that stands in a list occurs in it
-pub times_at : (xs : List ℕ) (i n : ℕ) → slice_get xs i ≡ Some n → 1 ≤ times n xs
-times_at [] i n e = absurd (none-some n e)
-times_at (x ∷ xs) zero n e = omega (arith, times_same n x xs (same_Some x n e))
-times_at (x ∷ xs) (suc i) n e = omega (arith, times_at xs i n e)
-
 -- what is below a node stands at a number of its subtree
 pub stands_under : (t : Numbered) → IsNumbered t → (v f : ℕ) (x : Diagram) → IsThere t v →
     IsCanonicalUnder t v x →
@@ -167,7 +161,7 @@ stands_under t n v f x w h k =
     ∙ sym (slice_get_append p.front (numbers w.part ++ p.back) j)
     ∙ sym (ap (λ xs. slice_get xs (length p.front + j)) p.split)
     ∙ sym (ap (slice_get (numbers t)) same) ∙ k.number in
-    record { part = w.part; is = w.is; has = times_at (numbers w.part) j f found }
+    record { part = w.part; is = w.is; has = times_slice_get (numbers w.part) j f found }
 
 -- what stands at a number of a node's subtree is below the node
 pub under_number : (t : Numbered) → IsNumbered t → (v f : ℕ) (x : Diagram) → StandsUnder t f v →

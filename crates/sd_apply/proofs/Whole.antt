@@ -13,7 +13,7 @@ use Rattle.sd_model.proofs.Blend.{AgreeOn, agree_left, agree_right}
 use Rattle.sd_vtree.specs.Numbered.{Numbered, NumberedLeaf, number_of, plain_tree, numbers, subtree}
 use Rattle.sd_vtree.specs.Numbered.{children_at, IsNumbered}
 use Rattle.sd_vtree.proofs.Subtrees.{subtree_root, subtree_some, once_numbered}
-use Rattle.sd_vtree.proofs.Times.{one_place}
+use Rattle.sd_vtree.proofs.Times.{one_place, times_slice_get}
 use Rattle.sd_laws.specs.Pairs.{answers, join, AreElements}
 use Rattle.sd_laws.specs.Parts.{IsPart, here, in_left, in_right, IsInner}
 use Rattle.sd_laws.specs.Depends.{DependsOn}
@@ -32,9 +32,10 @@ use Rattle.sd_apply.specs.Places.{HasChildren}
 use Rattle.sd_apply.specs.Elements.{IsPair, ListsElements, IsPartitionUnder}
 use Rattle.sd_apply.specs.Calls.{Applies, NegatesAt, Joins}
 use Rattle.sd_apply.proofs.Trees.{ChildrenOf, children_of, apart, nested, below_canonical, left_tree}
-use Rattle.sd_apply.proofs.Trees.{right_tree, times_at}
+use Rattle.sd_apply.proofs.Trees.{right_tree}
 use Rattle.sd_apply.proofs.Standing.{leaf_of_none, shown_there}
 use Rattle.sd_apply.proofs.Expanding.{listed}
+use Rattle.sd_apply.proofs.Merging.{head_same}
 
 -- the root is there, and all canonical diagrams are below it
 pub root_there : (t : Numbered) (u : ℕ) → u ≡ number_of t → IsThere t u
@@ -172,7 +173,7 @@ pub inner_children : (t : Table) → IsTable t → (p : ℕ) (l : List (ℕ × �
 inner_children t i p l ds h none =
     let v = i.numbered in
     let at = position (Node h.left h.right) h.base in
-    let s = subtree_some t.vtree p (times_at (numbers t.vtree) at p h.inner.number) in
+    let s = subtree_some t.vtree p (times_slice_get (numbers t.vtree) at p h.inner.number) in
     let k = leaf_of_none t.vtree p s.0 s.1 none in
     let q = part_of_subtree t.vtree p (NumberedLeaf k.0 k.1) 0 k.2 in
     let number = part_number t.vtree p (NumberedLeaf k.0 k.1) q in
@@ -208,9 +209,6 @@ answers_agree t u w a b p q (e ∷ l) (d ∷ ds) h =
     ap (λ x. cond x (meaning d.1 a ∷ answers a ds) (answers a ds)) (h.0.prime.depends a b p)
     ∙ ap (λ x. cond (meaning d.0 b) (x ∷ answers a ds) (answers a ds)) (h.0.sub.depends a b q)
     ∙ ap (λ x. cond (meaning d.0 b) (meaning d.1 b ∷ x) x) rest
-
-head_same : (x y : Bool) → x ∷ [] ≡ y ∷ [] → x ≡ y
-head_same x y e = cc
 
 -- the node of a partition
 pub compresses : (old new : Table) → IsTable old → IsTable new → Extends old new → (p u w : ℕ) →

@@ -65,7 +65,7 @@ none_counted f bs none (suc k) e =
     let some = sum_some f bs (omega (arith, e)) in absurd (none some.0 some.1)
 
 -- a number that was taken out is not counted
-at_off : (bs : List Bool) (m : ℕ) → get_or (set bs m false) m false ≡ false
+pub at_off : (bs : List Bool) (m : ℕ) → get_or (set bs m false) m false ≡ false
 at_off [] m = refl
 at_off (b ∷ bs) zero = refl
 at_off (b ∷ bs) (suc m) = at_off bs m

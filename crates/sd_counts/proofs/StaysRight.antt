@@ -15,12 +15,7 @@ use Rattle.sd_counts.proofs.OnStack.{not_both}
 use Rattle.sd_counts.proofs.Adding.{counts_other}
 use Rattle.sd_counts.proofs.Bounds.{lengths_within}
 use Rattle.sd_counts.proofs.Sums.{sum_fallen, sum_has, sum_equal, sum_twice, sum_padded, uses_twice}
-
--- a number that was taken out is not counted
-at_off : (bs : List Bool) (m : ℕ) → get_or (set bs m false) m false ≡ false
-at_off [] m = refl
-at_off (b ∷ bs) zero = refl
-at_off (b ∷ bs) (suc m) = at_off bs m
+use Rattle.sd_counts.proofs.Reached.{at_off}
 
 -- a number of a code that is held is that of the code
 held_code : (n code : ℕ) → 0 < counts_one (2050 + n) code → code ≡ 2050 + n

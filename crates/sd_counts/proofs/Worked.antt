@@ -1,5 +1,5 @@
 -- Worked rows: two nodes, of which a root holds the second, whose list has the first.
-use Rattle.std.proofs.Common.{◌≡◌, ℕ, zero, suc, ◌+◌, true, false, List, [], ◌∷◌, length, refl, arith}
+use Rattle.std.proofs.Common.{◌≡◌, ℕ, zero, suc, true, false, List, [], ◌∷◌, length, refl, arith}
 use Rattle.sd_counts.specs.Right.{sum_counted, IsReached, reached_held, reached_below}
 use Rattle.sd_counts.specs.Uses.{uses_in}
 

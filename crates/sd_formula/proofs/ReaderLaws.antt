@@ -1,7 +1,7 @@
 -- The steps of the reader, against the definition.
 use Rattle.std.proofs.Common.{◌≡◌, ℕ, ◌+◌, false, not, List, [], ◌∷◌, ◌++◌, length, length-append, Result, Ok, Err}
 use Rattle.std.proofs.Common.{refl, sym, ap, ◌∙◌, subst, Bool, true, ◌==◌}
-use Rattle.std.proofs.Common.{◌&&◌, if◌then◌else◌, Option, Some, None, ◌-◌, take, arith}
+use Rattle.std.proofs.Common.{◌&&◌, if◌then◌else◌, Option, Some, ◌-◌, take, arith}
 use Rattle.std.specs.List.{take_while, flat_map, last_or, slice_split}
 use Rattle.std.proofs.lemmas.Grind.{flat_map-append}
 use Rattle.std.proofs.lemmas.List.Sums.{take_while-cons}

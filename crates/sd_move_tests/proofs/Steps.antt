@@ -26,7 +26,8 @@ use Rattle.sd_move.proofs.ServesLater.{serves_later}
 use Rattle.sd_move_tests.specs.Ready.{IsFresh, IsReady, IsAlone}
 
 -- a new manager with a new cache
-pub fresh_new : (t : Table) (c : Answers) (v : Numbered) (bound : ℕ) → t ≡ no_table v bound → c ≡ no_answers → IsFresh t c
+pub fresh_new : (t : Table) (c : Answers) (v : Numbered) (bound : ℕ)
+    → t ≡ no_table v bound → c ≡ no_answers → IsFresh t c
 fresh_new t c v bound is none =
     record {
       no_move = ap (λ (u : Table). u.moving) is;

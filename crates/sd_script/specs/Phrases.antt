@@ -1,6 +1,6 @@
 -- How the words of a line are read in two steps, for the contracts of private functions: a phrase has its names
 -- and files as they are written, and then as numbers.
-use Rattle.std.specs.Prelude.{ℕ, Bool, true, false, ◌-◌, ◌==◌, ◌&&◌, ◌||◌, nat_le, if◌then◌else◌, codes, bytes_eq}
+use Rattle.std.specs.Prelude.{ℕ, Bool, true, false, ◌-◌, ◌==◌, ◌||◌, if◌then◌else◌, codes, bytes_eq}
 use Rattle.std.specs.Prelude.{Result, ok_or, pos, int_le, unsigned_abs}
 use Rattle.std.specs.Char.{is_ascii_alphabetic, is_ascii_alphanumeric}
 use Rattle.std.specs.Prelude.{List, [], ◌∷◌, ◌++◌, length, take, map, Option, Some, None, option_map, ℤ}

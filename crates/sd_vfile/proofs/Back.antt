@@ -8,14 +8,14 @@ use Rattle.sd_base.specs.Reading.{each_after}
 use Rattle.sd_model.specs.Text.{number_text, vtree_node_lines, vtree_text}
 use Rattle.sd_model.specs.Tree.{Tree, Leaf, Node, variables, leaves, right_base, position, IsVtree}
 use Rattle.sd_vtree.specs.Numbered.{times}
-use Rattle.sd_vtree.proofs.Building.{leaves_positive}
+use Rattle.sd_vtree.proofs.Building.{leaves_positive, leaves_node}
 use Rattle.sd_vtree.proofs.Pigeons.{times_distinct, has_variable, variable_in_range}
 use Rattle.sd_vtree.proofs.Times.{times_append, times_same}
 use Rattle.sd_vfile.specs.Reads.{is_child, has_leaf}
 use Rattle.sd_vfile.specs.Reads.{entry_of, missing}
 use Rattle.sd_vfile.specs.Reads.{roots_of, whole_tree, tree_of_lines, vtree_file}
 use Rattle.sd_vfile.proofs.Texts.{IsTextLine, IsFullWord, numbered, full_number, natural_back, text_back}
-use Rattle.sd_vfile.proofs.Written.{root_entry, entries_in, leaves_node, position_in, root_free}
+use Rattle.sd_vfile.proofs.Written.{root_entry, entries_in, position_in, root_free}
 use Rattle.sd_vfile.proofs.Written.{a_leaf}
 use Rattle.sd_vfile.proofs.WrittenNodes.{length_entries_in, root_kept}
 use Rattle.sd_vfile.proofs.TreeRead.{IsBefore, tree_read}

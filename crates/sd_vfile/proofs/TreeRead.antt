@@ -10,12 +10,12 @@ use Rattle.sd_base.specs.Reading.{each_after}
 use Rattle.sd_model.specs.Text.{number_text, vtree_node_lines}
 use Rattle.sd_model.specs.Tree.{Tree, Leaf, Node, variables, leaves, right_base, position}
 use Rattle.sd_vtree.specs.Numbered.{times}
-use Rattle.sd_vtree.proofs.Building.{leaves_positive}
+use Rattle.sd_vtree.proofs.Building.{leaves_positive, leaves_node}
 use Rattle.sd_vtree.proofs.Times.{times_append, times_same}
 use Rattle.sd_vfile.specs.Reads.{Entry, tree_with_id, has_id, is_child, has_leaf}
 use Rattle.sd_vfile.specs.Reads.{entry_of, is_leaf}
 use Rattle.sd_vfile.proofs.Texts.{numbered, natural_back}
-use Rattle.sd_vfile.proofs.Written.{root_entry, entries_in, leaves_node, position_in, none_of_two, outside, root_free}
+use Rattle.sd_vfile.proofs.Written.{root_entry, entries_in, position_in, none_of_two, outside, root_free}
 use Rattle.sd_vfile.proofs.Written.{found_behind, found_before, root_found}
 use Rattle.sd_vfile.proofs.Written.{no_leaf}
 

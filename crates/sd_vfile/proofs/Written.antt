@@ -1,13 +1,13 @@
 -- The nodes of a written tree.
 use Rattle.std.proofs.Common.{◌≡◌, ℕ, ◌+◌, ◌*◌, ◌<◌, ◌≤◌, Bool, true, false, ◌||◌, ◌==◌, ◌⊎◌}
 use Rattle.std.proofs.Common.{List, [], ◌∷◌, ◌++◌, Some, refl, ◌∙◌, arith, inl, inr}
-use Rattle.std.proofs.Common.{eq-eqb, ne_eqb, length-append}
+use Rattle.std.proofs.Common.{eq-eqb, ne_eqb}
 use Rattle.std.specs.List.{list_any}
 use Rattle.std.proofs.lemmas.Bool.{cases_eq}
 use Rattle.std.proofs.lemmas.List.Folds.{list_any-append}
 use Rattle.sd_model.specs.Tree.{Tree, Leaf, Node, variables, leaves, right_base, position}
 use Rattle.sd_vtree.specs.Numbered.{times}
-use Rattle.sd_vtree.proofs.Building.{leaves_positive}
+use Rattle.sd_vtree.proofs.Building.{leaves_positive, leaves_node}
 use Rattle.sd_vtree.proofs.Times.{times_append, times_same, times_other}
 use Rattle.sd_vfile.specs.Reads.{Entry, tree_with_id, has_id, is_child, is_leaf, has_leaf}
 
@@ -25,9 +25,6 @@ abbrev pub entries_in : Tree → ℕ → List Entry
 entries_in (Leaf x) base = root_entry (Leaf x) base ∷ []
 entries_in (Node l r) base =
     (entries_in l base ++ entries_in r (right_base l base)) ++ root_entry (Node l r) base ∷ []
-
-pub leaves_node : (l r : Tree) → leaves (Node l r) ≡ leaves l + leaves r
-leaves_node l r = length-append (variables l) (variables r)
 
 -- a position is in its range
 pub position_in : (t : Tree) (base : ℕ) → (base ≤ position t base) × (position t base + 1 < base + 2 * leaves t)

@@ -7,8 +7,9 @@ use Rattle.std.proofs.lemmas.List.Folds.{list_any-append}
 use Rattle.std.proofs.lemmas.List.Elements.{filter-append}
 use Rattle.sd_model.specs.Tree.{Tree, Leaf, Node, leaves, right_base, position}
 use Rattle.sd_vfile.specs.Reads.{Entry, is_child}
+use Rattle.sd_vtree.proofs.Building.{leaves_node}
 use Rattle.sd_vfile.proofs.Forests.{or_true}
-use Rattle.sd_vfile.proofs.Written.{root_entry, entries_in, leaves_node}
+use Rattle.sd_vfile.proofs.Written.{root_entry, entries_in}
 
 -- as many as the header states
 pub length_entries_in : (t : Tree) (base : ℕ) → length (entries_in t base) + 1 ≡ 2 * leaves t

@@ -46,7 +46,8 @@ give_back-requires-clause-knows c = c.apply-found.ensures.knows
 
 pub give_back-requires-clause-serves : goal.give_back-requires-clause-serves
 give_back-requires-clause-serves c =
-    serves_on c.lent-recent.new.c c.args.m.now c.apply-found.new.m c.apply-found.ensures.kept c.lent-recent.ensures.serves
+    serves_on c.lent-recent.new.c c.args.m.now c.apply-found.new.m
+    c.apply-found.ensures.kept c.lent-recent.ensures.serves
 
 -- and the cache keeps its answer
 pub returns-clause-serves : goal.returns-clause-serves
@@ -70,12 +71,14 @@ returns-clause-serves c =
 pub returns-in_err-code-clause-grown : goal.returns-in_err-code-clause-grown
 returns-in_err-code-clause-grown c =
     both_lowest c.args.m.now c.apply-found.new.m c.apply-found.ensures.kept c.epoch-epoch.ensures.table.numbered
-    c.lca_with_children-over.result.0 c.args.a c.args.b c.lca_with_children-over.ensures.lowest c.apply-found.ensures.grown
+    c.lca_with_children-over.result.0 c.args.a c.args.b
+    c.lca_with_children-over.ensures.lowest c.apply-found.ensures.grown
 
 pub returns-clause-grown : goal.returns-clause-grown
 returns-clause-grown c =
     both_lowest c.args.m.now c.apply-found.new.m c.apply-found.ensures.kept c.epoch-epoch.ensures.table.numbered
-    c.lca_with_children-over.result.0 c.args.a c.args.b c.lca_with_children-over.ensures.lowest c.apply-found.ensures.grown
+    c.lca_with_children-over.result.0 c.args.a c.args.b
+    c.lca_with_children-over.ensures.lowest c.apply-found.ensures.grown
 
 pub returns-clause-ok : goal.returns-clause-ok
 returns-clause-ok c =

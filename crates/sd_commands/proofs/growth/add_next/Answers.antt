@@ -35,8 +35,9 @@ returns-in-Err-clause-stops c = λ seen was name.
 pub returns-in-Err-clause-broken : goal.returns-in-Err-clause-broken
 returns-in-Err-clause-broken c = λ seen was.
     not_added c.args.input.now seen c.args.state.now c.args.work.now c.total_of_formulas.ensures.table.numbered was
-    c.add_group_past.new.m c.add_group_past.new.c c.add_group_past.new.work c.in-Err.ensures.kept c.in-Err.ensures.serves
-    c.in-Err.ensures.unmarked c.in-Err.ensures.unchanged c.in-Err.ensures.all_kept.reached.roots
+    c.add_group_past.new.m c.add_group_past.new.c c.add_group_past.new.work
+    c.in-Err.ensures.kept c.in-Err.ensures.serves c.in-Err.ensures.unmarked c.in-Err.ensures.unchanged
+    c.in-Err.ensures.all_kept.reached.roots
 
 pub returns-in-Ok-clause-beside : goal.returns-in-Ok-clause-beside
 returns-in-Ok-clause-beside c = record {

@@ -27,7 +27,8 @@ returns-in-Ok-clause-ok c = λ seen was.
     } in
     grown_searched c.args.input.now seen c.args.state.now c.args.work.now c.total_of_formulas.ensures.table.numbered was
     c.minimise.new.m c.minimise.new.c found c.in-Ok.ensures.kept c.in-Ok.ensures.serves c.in-Ok.ensures.unmarked
-    (ap (λ e. is_due e c.args.work.now.groups) was.represents.every ∙ c.requires.due ∙ c.if-due.true) refl c.in-Ok.ensures.search
+    (ap (λ e. is_due e c.args.work.now.groups) was.represents.every ∙ c.requires.due ∙ c.if-due.true)
+    refl c.in-Ok.ensures.search
 
 pub returns-in-Err-clause-stops : goal.returns-in-Err-clause-stops
 returns-in-Err-clause-stops c = λ seen was name.
@@ -39,7 +40,8 @@ pub returns-in-Err-clause-broken : goal.returns-in-Err-clause-broken
 returns-in-Err-clause-broken c = λ seen was.
     growth_broken c.args.input.now seen c.args.state.now c.args.work.now c.total_of_formulas.ensures.table.numbered was
     c.minimise.new.m c.minimise.new.c c.in-Err.ensures.kept c.in-Err.ensures.serves c.in-Err.ensures.unmarked
-    (ap (λ e. is_due e c.args.work.now.groups) was.represents.every ∙ c.requires.due ∙ c.if-due.true) c.in-Err.ensures.begun
+    (ap (λ e. is_due e c.args.work.now.groups) was.represents.every ∙ c.requires.due ∙ c.if-due.true)
+    c.in-Err.ensures.begun
 
 pub returns-in-Ok-clause-beside : goal.returns-in-Ok-clause-beside
 returns-in-Ok-clause-beside c = record {

@@ -22,14 +22,14 @@ invariant_of-self c =
 
 pub returns-in-Ok-clause-keeps : goal.returns-in-Ok-clause-keeps
 returns-in-Ok-clause-keeps c =
-    inl (kept_put c.self.inside.answers c.put.new.self c.self.inside.computed c.self.inside.epoch c.args.self.now c.new-key.result
-    (call c.args.epoch c.args.operation c.args.a c.args.b) c.args.answer
+    inl (kept_put c.self.inside.answers c.put.new.self c.self.inside.computed c.self.inside.epoch
+    c.args.self.now c.new-key.result (call c.args.epoch c.args.operation c.args.a c.args.b) c.args.answer
     c.self.invariant.0 c.self.view_is c.new-key.ensures c.in-Ok.ensures.entries)
 
 pub returns-in-Ok-clause-replaces : goal.returns-in-Ok-clause-replaces
 returns-in-Ok-clause-replaces c =
-    λ _. kept_put c.self.inside.answers c.put.new.self c.self.inside.computed c.self.inside.epoch c.args.self.now c.new-key.result
-    (call c.args.epoch c.args.operation c.args.a c.args.b) c.args.answer
+    λ _. kept_put c.self.inside.answers c.put.new.self c.self.inside.computed c.self.inside.epoch
+    c.args.self.now c.new-key.result (call c.args.epoch c.args.operation c.args.a c.args.b) c.args.answer
     c.self.invariant.0 c.self.view_is c.new-key.ensures c.in-Ok.ensures.entries
 
 -- where memory is refused the entries are as they were
