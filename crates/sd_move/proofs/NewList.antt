@@ -23,6 +23,7 @@ use Rattle.sd_manager.specs.declared.view.View.TheVariants.{Constant as Constant
 use Rattle.sd_manager.specs.declared.view.View.TheVariants.{Decomposition as DecompositionView}
 use Rattle.sd_manager.proofs.Extending.{extends_on}
 use Rattle.sd_manager.proofs.Reading.{among_at, linked_key, detached_key, pairs_node, view_node}
+use Rattle.sd_manager.proofs.Holding.{some_value}
 use Rattle.sd_apply.specs.Growing.{GrowsStrictlyBelow}
 use Rattle.sd_apply.specs.Places.{IsBelow, IsNodeUnder}
 use Rattle.sd_apply.specs.Partitions.{IsPartitionOf, ExpandsAt, MultipliesAt}
@@ -74,11 +75,6 @@ pub bottom_below : (m : Table) (p : ℕ) → IsBelow m p 0
 bottom_below m p =
     record { diagram = Bottom; is = record { shows = refl; under = bottom_under m.vtree p } }
 
--- something that is there
-there : {X : Type 0} (o : Option X) → IsSome o → (y : X) × (o ≡ Some y)
-there None h = absurd (cc (h))
-there (Some y) h = (y, refl)
-
 -- a node keeps its key
 key_stays : (a b : Table) → IsTable b → Extends a b → (n : ℕ) (k : ℕ × List (ℕ × ℕ)) → key_at a n ≡ Some k →
     key_at b n ≡ Some k
@@ -98,7 +94,7 @@ list_stays a b ta tb e c node low = go node
     go : HasNode a c → pairs_at b c ≡ pairs_at a c
     go (inl lt) = absurd (omega (arith, lt, low, ta.numbered.within_limit))
     go (inr w) =
-        let k = there (key_at a (c - 2050)) w.1 in
+        let k = some_value (key_at a (c - 2050)) w.1 in
         let code : c ≡ 2050 + (c - 2050) = omega (arith, low) in
         pairs_node b c (c - 2050) k.0 code (key_stays a b tb e (c - 2050) k.0 k.1)
         ∙ sym (pairs_node a c (c - 2050) k.0 code k.1)
@@ -237,7 +233,7 @@ all_read m node p place count i t node_is low view end = go node_is
     go : HasNode m node → drop i (pairs_at m node) ≡ []
     go (inl lt) = absurd (omega (arith, lt, low, t.numbered.within_limit))
     go (inr w) =
-        let k = there (key_at m (node - 2050)) w.1 in
+        let k = some_value (key_at m (node - 2050)) w.1 in
         let code : node ≡ 2050 + (node - 2050) = omega (arith, low) in
         let long : length k.0.1 ≡ count =
         ap count_of (sym (view_node m node (node - 2050) k.0 code k.1) ∙ view) in

@@ -22,22 +22,13 @@ use Rattle.sd_laws.proofs.GoneBack.{GoesBack, IsBaseOrNode, root_below}
 use Rattle.sd_manager.specs.Table.{Table}
 use Rattle.sd_manager.specs.Valid.{IsTable}
 use Rattle.sd_manager.proofs.AtRest.{all_shown, now_orderly, below_user}
+use Rattle.sd_manager.proofs.DetachedFrom.{under_apart}
 use Rattle.sd_sweep.specs.Reached.{reached_first, reached_below, IsInRun, IsReached}
 use Rattle.sd_move.specs.Journal.{Named, Journal, journal_entry, key_before, key_of_entry, back, IsOwnRun}
 use Rattle.sd_move.specs.Journal.{IsNeededBack, CanPutBack, CanUndo}
 use Rattle.sd_move.proofs.UndoKept.{entry_found}
 
 -- places
-
--- two nodes do not stand strictly under each other
-pub under_apart : (t : Numbered) → AtMostOnce t → (a m : ℕ) → IsUnder t a m → IsUnder t m a → a ≢ m → ⊥
-under_apart t once a m u v d =
-    let s = subtree_some u.part a u.has in
-    let at : subtree t a ≡ Some s.0 = subtree_trans t once m u.part u.is a s.0 s.1 in
-    let has : 1 ≤ times m (numbers s.0) = under_part t m a s.0 at v in
-    let number : number_of u.part ≡ m = subtree_number t m u.part u.is in
-    root_below u.part s.0 a (subtree_once t m u.part once u.is) s.1 (λ e. d (e ∙ number))
-    (subst (λ z. 1 ≤ times z (numbers s.0)) (sym number) has)
 
 -- what is strictly under a node that is under x is strictly under x
 pub under_strictly : (t : Numbered) → AtMostOnce t → (a m x : ℕ) → IsUnder t a m → m ≢ a → IsUnder t m x →
