@@ -1,9 +1,8 @@
 -- A detached node may be linked under a list of its function: the list fits, and no linked node has the key.
-use Rattle.std.proofs.Common.{◌≡◌, ℕ, ◌+◌, List, Option, Some, None, refl, sym, ◌∙◌, ap, subst}
+use Rattle.std.proofs.Common.{◌≡◌, ℕ, ◌+◌, List, Some, None, refl, sym, ◌∙◌, ap, subst}
 use Rattle.std.specs.List.{AllByRecursion}
 use Rattle.std.specs.Option.{IsSome}
 use Rattle.std.specs.FinMap.{get}
-use Rattle.sd_vtree.specs.Numbered.{or_else}
 use Rattle.sd_laws.specs.Values.{Valuation, IsSame, pairs_value, IsWhole, IsPlaced, ShowsValue}
 use Rattle.sd_laws.proofs.ByValues.{FitsBy, fits_by_values}
 use Rattle.sd_laws.proofs.OneKey.{key_once}

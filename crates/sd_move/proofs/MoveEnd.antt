@@ -1,6 +1,6 @@
 -- A move on its way ends, where no node is detached, or goes back.
 use Rattle.std.proofs.Common.{◌≡◌, ◌⊎◌, inl, inr, ℕ, ◌+◌, ◌≤◌, ◌<◌, List, Option, Some, None, refl, sym, ◌∙◌, ap}
-use Rattle.std.proofs.Common.{subst, Bool, true, false, [], ◌∷◌, arith}
+use Rattle.std.proofs.Common.{subst, Bool, true, false, [], arith}
 use Rattle.std.specs.Option.{IsSome}
 use Rattle.std.specs.FinMap.{get, empty, get-empty}
 use Rattle.sd_model.specs.declared.trees.Move.{Move}
@@ -25,9 +25,7 @@ use Rattle.sd_move.proofs.Recorded.{is_moved}
 use Rattle.sd_move.proofs.Refused.{way_to, can_refuse, refused_keeps, refused_past}
 use Rattle.std.specs.Prelude.{nat_lt, if◌then◌else◌}
 use Rattle.std.proofs.lemmas.Bool.{ltb-true, ltb-false}
-use Rattle.std.specs.List.{AllByRecursion}
 use Rattle.std.specs.Ordering.{nat_cmp}
-use Rattle.sd_runs.specs.Arena.{IsMember}
 use Rattle.sd_runs.specs.declared.error.TakeError.TheVariants.{ArenaFull, OutOfMemory}
 use Rattle.sd_runs.proofs.Maps.{same_at_each}
 use Rattle.sd_move.specs.Moving.{Progress}

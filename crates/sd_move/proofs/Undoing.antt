@@ -1,5 +1,5 @@
 -- Before a journal is undone: what is known of the nodes now, and in the state gone back to.
-use Rattle.std.proofs.Common.{◌≡◌, ◌≢◌, ◌⊎◌, inl, inr, ℕ, ◌+◌, ◌*◌, ◌≤◌, ◌<◌, List, [], ◌∷◌, Option, Some, None}
+use Rattle.std.proofs.Common.{◌≡◌, ◌≢◌, ◌⊎◌, inl, inr, ℕ, ◌+◌, ◌*◌, ◌<◌, List, [], ◌∷◌, Option, Some, None}
 use Rattle.std.proofs.Common.{refl, sym, ◌∙◌, ap, subst, arith}
 use Rattle.std.specs.List.{AllByRecursion}
 use Rattle.std.specs.Option.{IsSome, option_map}
@@ -7,10 +7,9 @@ use Rattle.std.specs.FinMap.{get}
 use Rattle.std.proofs.lemmas.Bool.{cases_eq}
 use Rattle.std.proofs.lemmas.Option.{none-some, some_pair_parts}
 use Rattle.sd_model.specs.Tree.{leaves}
-use Rattle.sd_vtree.specs.Numbered.{Numbered, plain_tree, IsNumbered, IsUnder, number_of, subtree, numbers, times}
-use Rattle.sd_vtree.proofs.Subtrees.{AtMostOnce, once_numbered, subtree_some, subtree_once, subtree_trans}
-use Rattle.sd_vtree.proofs.Subtrees.{subtree_number}
-use Rattle.sd_vtree.proofs.Under.{under_trans, under_part}
+use Rattle.sd_vtree.specs.Numbered.{Numbered, plain_tree, IsNumbered, IsUnder}
+use Rattle.sd_vtree.proofs.Subtrees.{AtMostOnce, once_numbered}
+use Rattle.sd_vtree.proofs.Under.{under_trans}
 use Rattle.sd_laws.specs.Shown.{Lookup}
 use Rattle.sd_laws.specs.Turned.{KeepsOthers}
 use Rattle.sd_laws.specs.Values.{StandsIn, IsCodeOf, AreOrderly, ShowsValue}
@@ -18,7 +17,7 @@ use Rattle.sd_laws.proofs.Lists.{all_weaker}
 use Rattle.sd_laws.proofs.Nodes.{code_of_node}
 use Rattle.sd_laws.proofs.Evaluated.{value_of, value_of_shown, literals_given}
 use Rattle.sd_laws.proofs.Unturned.{IsShownNode, valued_orderly}
-use Rattle.sd_laws.proofs.GoneBack.{GoesBack, IsBaseOrNode, root_below}
+use Rattle.sd_laws.proofs.GoneBack.{GoesBack, IsBaseOrNode}
 use Rattle.sd_manager.specs.Table.{Table}
 use Rattle.sd_manager.specs.Valid.{IsTable}
 use Rattle.sd_manager.proofs.AtRest.{all_shown, now_orderly, below_user}
