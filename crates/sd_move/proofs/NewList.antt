@@ -54,11 +54,6 @@ pub product_of : (m2 m3 : Table) (p : ℕ) (one other l k : List (ℕ × ℕ)) (
 product_of m2 m3 p one other l k f g h hf hg same =
     subst (λ q. IsPartitionOf m3 p q (λ a. combine And (f a) (g a))) (sym same) (h.whole f g hf hg)
 
--- what a list is, a slice of it is
-pub partition_same : (m : Table) (p : ℕ) (l k : List (ℕ × ℕ)) (f : List Bool → Bool) → IsPartitionOf m p l f → k ≡ l →
-    IsPartitionOf m p k f
-partition_same m p l k f h same = subst (λ q. IsPartitionOf m p q f) (sym same) h
-
 -- three steps one after the other
 pub extends_three : (a b c d : Table) → Extends a b → Extends b c → Extends c d → Extends a d
 extends_three a b c d x y z = extends_on a c d (extends_on a b c x y) z
