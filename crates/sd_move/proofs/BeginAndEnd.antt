@@ -18,8 +18,8 @@ use Rattle.sd_manager.specs.Valid.{IsTable}
 use Rattle.sd_manager.specs.Moving.{moving_at}
 use Rattle.sd_manager.proofs.Valid.{nothing}
 use Rattle.sd_manager.proofs.AtRest.{all_shown}
+use Rattle.sd_manager.proofs.Reading.{linked_key}
 use Rattle.sd_move.specs.Moving.{Progress, no_progress, IsNew, MoveInProgress}
-use Rattle.sd_move.proofs.Linking.{linked_key}
 
 -- the begin
 

@@ -16,12 +16,12 @@ use Rattle.sd_laws.proofs.Codes.{one_diagram}
 use Rattle.sd_manager.specs.Table.{Table}
 use Rattle.sd_manager.specs.Shown.{ShowsCanonical}
 use Rattle.sd_manager.specs.Valid.{IsTable}
+use Rattle.sd_manager.proofs.DetachedFrom.{under_apart}
 use Rattle.sd_apply.specs.Places.{tree_at, IsThere, IsBelow, HasPlace}
 use Rattle.sd_apply.proofs.Trees.{under_number}
 use Rattle.sd_apply.proofs.Standing.{place_under, stands_here}
 use Rattle.sd_move.specs.declared.sorting.Side.{Side}
 use Rattle.sd_move.specs.Sorting.{on, TellsBelow, TellsAllBelow, HasOneBeside}
-use Rattle.sd_move.proofs.Undoing.{under_apart}
 
 -- by values
 

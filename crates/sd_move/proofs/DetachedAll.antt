@@ -14,11 +14,11 @@ use Rattle.sd_manager.specs.Table.{Table}
 use Rattle.sd_manager.specs.Valid.{IsTable, IsSettled}
 use Rattle.sd_manager.specs.Moving.{detached_from, IsTop}
 use Rattle.sd_manager.specs.Places.{IsLinkedAt}
+use Rattle.sd_manager.proofs.Reading.{linked_key}
 use Rattle.sd_sweep.proofs.Used.{entry_count, fewer_entries}
 use Rattle.sd_move.specs.Moving.{Progress, MoveInProgress}
 use Rattle.sd_move.specs.Steps.{CanDetachAt, MayDetachAt, WasDetached, AreDetached}
 use Rattle.sd_move.proofs.DetachedOn.{detached_on, detached_keys, still_linked}
-use Rattle.sd_move.proofs.Linking.{linked_key}
 
 -- a number at the end of a list
 

@@ -16,10 +16,10 @@ use Rattle.sd_laws.proofs.Within.{shows_within}
 use Rattle.sd_manager.specs.Table.{Table, key_at}
 use Rattle.sd_manager.specs.Valid.{IsSettled}
 use Rattle.sd_manager.specs.Moving.{detached_from, IsTop}
+use Rattle.sd_manager.proofs.Reading.{linked_key}
+use Rattle.sd_manager.proofs.DetachedFrom.{under_apart}
 use Rattle.sd_move.specs.Moving.{Progress, IsNew, MoveInProgress}
 use Rattle.sd_move.proofs.UndoKept.{code_in}
-use Rattle.sd_move.proofs.Undoing.{under_apart}
-use Rattle.sd_move.proofs.Linking.{linked_key}
 
 -- keys
 

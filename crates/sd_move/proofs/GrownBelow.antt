@@ -27,14 +27,14 @@ use Rattle.sd_laws.proofs.Unturned.{IsShownNode, shown_orderly}
 use Rattle.sd_manager.specs.Table.{Table, key_at}
 use Rattle.sd_manager.specs.Making.{Extends}
 use Rattle.sd_manager.specs.Valid.{IsTable, IsSettled}
-use Rattle.sd_manager.proofs.Reading.{node_of_code}
+use Rattle.sd_manager.proofs.Reading.{node_of_code, linked_key}
+use Rattle.sd_manager.proofs.DetachedFrom.{under_apart}
 use Rattle.sd_move.specs.Moving.{Progress, MoveInProgress, IsBelowNode}
 use Rattle.sd_move.specs.Steps.{IsChildNode}
 use Rattle.sd_move.proofs.GrownOn.{HasGrown}
 use Rattle.sd_move.proofs.KnownAtEnd.{stands_there}
-use Rattle.sd_move.proofs.Linking.{linked_key}
 use Rattle.sd_move.proofs.LowerNode.{left_child, right_child}
-use Rattle.sd_move.proofs.Undoing.{under_apart, under_strictly}
+use Rattle.sd_move.proofs.Undoing.{under_strictly}
 
 -- the children of a subtree are subtrees
 left_subtree : (t : Numbered) → AtMostOnce t → (x : ℕ) (l r : Numbered) → subtree t x ≡ Some (NumberedNode x l r) →

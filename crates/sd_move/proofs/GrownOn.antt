@@ -23,6 +23,8 @@ use Rattle.sd_laws.proofs.Growing.{joined_values, both_of, IsGrown, grown_values
 use Rattle.sd_manager.specs.Table.{Table, key_at}
 use Rattle.sd_manager.specs.Making.{Extends}
 use Rattle.sd_manager.specs.Valid.{IsTable, IsSettled}
+use Rattle.sd_manager.proofs.Reading.{linked_key}
+use Rattle.sd_manager.proofs.Holding.{some_value}
 use Rattle.sd_move.specs.Moving.{Progress, IsNew, MoveInProgress, HasNumber, IsDetachedCode, IsBelowNode}
 use Rattle.sd_move.proofs.UndoKept.{code_in}
 
@@ -44,11 +46,6 @@ pub record HasGrown (m m' : Table) (x : ℕ) (left right : Tree) (v : Valuation)
 abbrev pub values_after : Table → Table → Valuation → Valuation
 values_after m m' v = grown_values (get m.linked) (get m'.linked) (get m.detached) v
 
--- something that is there
-there : {X : Type 0} (o : Option X) → IsSome o → (y : X) × (o ≡ Some y)
-there None h = absurd (cc (h))
-there (Some y) h = (y, refl)
-
 -- something, or nothing
 something : {X : Type 0} (o : Option X) → IsSome o ⊎ (o ≡ None)
 something None = inr refl
@@ -61,7 +58,7 @@ not_linked m m' t e n h = go (get m'.linked n) refl
     go : (o : Option (ℕ × List (ℕ × ℕ))) → get m'.linked n ≡ o → get m'.linked n ≡ None
     go None k = k
     go (Some key) k =
-        let d = there (get m.detached n) h in
+        let d = some_value (get m.detached n) h in
         absurd (none-some d.0 (sym (t.either n key k) ∙ ap (λ z. get z n) e.detached ∙ d.1))
 
 -- an old node keeps its key
@@ -111,10 +108,6 @@ origin_of m m' t e n k h = go (key_at m n) refl
             old_detached : (m : Table) (n : ℕ) (k : ℕ × List (ℕ × ℕ)) → get m.detached n ≡ Some k →
                 get m.linked n ≡ None → key_at m n ≡ Some k
             old_detached m n k d y = ap (λ o. or_else o (get m.detached n)) y ∙ d
-
--- a linked old node is one of the old ones
-linked_old : (m : Table) (n : ℕ) (k : ℕ × List (ℕ × ℕ)) → get m.linked n ≡ Some k → key_at m n ≡ Some k
-linked_old m n k e = ap (λ o. or_else o (get m.detached n)) e
 
 -- the values of codes
 
@@ -167,18 +160,18 @@ old_shown : (m0 m m' : Table) (x : ℕ) (p : Progress) (left right : Tree) (v : 
     ShowsCanonicalBy m'.vtree (get m'.linked) (2050 + n) d → IsSame (meaning d) (v (2050 + n))
 old_shown m0 m m' x p left right v g h n d is shown a =
     shown_value m'.vtree (get m.linked) h.table.numbered v g.literals
-    (λ i u l e. g.value i u l (linked_old m i (u, l) e)) d (2050 + n) a
+    (λ i u l e. g.value i u l (linked_key m i (u, l) e)) d (2050 + n) a
     (shows_within m'.vtree (get m'.linked) (get m.linked) (HasNumber m) closed keeps d (2050 + n)
     (code_in (HasNumber m) n number) shown.shows)
   where
     number : HasNumber m n
-    number = let k = there (get m.linked n) is in subst IsSome (sym (linked_old m n k.0 k.1)) refl
+    number = let k = some_value (get m.linked n) is in subst IsSome (sym (linked_key m n k.0 k.1)) refl
 
     keeps : (i : ℕ) (key : ℕ × List (ℕ × ℕ)) → HasNumber m i → get m'.linked i ≡ Some key → get m.linked i ≡ Some key
     keeps i key own e = by (something (get m.linked i))
       where
         by : IsSome (get m.linked i) ⊎ (get m.linked i ≡ None) → get m.linked i ≡ Some key
-        by (inl k) = let j = there (get m.linked i) k in j.1 ∙ sym (h.extends.nodes i j.0 j.1) ∙ e
+        by (inl k) = let j = some_value (get m.linked i) k in j.1 ∙ sym (h.extends.nodes i j.0 j.1) ∙ e
         by (inr z) =
             let d : IsSome (get m.detached i) = subst IsSome (ap (λ o. or_else o (get m.detached i)) z) own in
             absurd (none-some key (sym (not_linked m m' h.table h.extends i d) ∙ e))
@@ -189,8 +182,8 @@ old_shown m0 m m' x p left right v g h n d is shown a =
       where
         old_key : IsSome (get m.linked i) ⊎ (get m.linked i ≡ None) → key_at m i ≡ Some (q, l)
         old_key (inl k) =
-            let j = there (get m.linked i) k in
-            linked_old m i (q, l) (j.1 ∙ sym (h.extends.nodes i j.0 j.1) ∙ e)
+            let j = some_value (get m.linked i) k in
+            linked_key m i (q, l) (j.1 ∙ sym (h.extends.nodes i j.0 j.1) ∙ e)
         old_key (inr z) =
             let d : IsSome (get m.detached i) = subst IsSome (ap (λ o. or_else o (get m.detached i)) z) own in
             absurd (none-some (q, l) (sym (not_linked m m' h.table h.extends i d) ∙ e))
@@ -209,7 +202,7 @@ is_grown m0 m m' x p left right v g h =
       keys = h.table.keys;
       keeps = h.extends.nodes;
       either = not_linked m m' h.table h.extends;
-      kind = λ n is. let k = there (get m'.linked n) is in kind n k.0 k.1 (h.kind n k.0 k.1);
+      kind = λ n is. let k = some_value (get m'.linked n) is in kind n k.0 k.1 (h.kind n k.0 k.1);
       same = old_shown m0 m m' x p left right v g h;
       fresh = h.fresh;
       waiting = h.waiting;
@@ -242,7 +235,7 @@ new_shown m m' x left right v h n k none e = go (h.kind n k e)
         IsShownNode m'.vtree (get m'.linked) n
     go (inl s) = settled_shown m' h.table n k e s
     go (inr w) =
-        let j = there (get m.linked n) w.0 in absurd (none-some j.0 (sym none ∙ linked_old m n j.0 j.1))
+        let j = some_value (get m.linked n) w.0 in absurd (none-some j.0 (sym none ∙ linked_key m n j.0 j.1))
 
 -- what is settled before is settled after
 settled_after : (m m' : Table) → Extends m m' → (p : ℕ) → IsSettled m p → IsSettled m' p
@@ -262,7 +255,7 @@ grown_on m0 m m' x p left right v g h =
       literals = literals_after m m' v g.literals;
       moving = h.extends.moving ∙ g.moving;
       began = λ n a b. began n (g.began n a b) (g.kept n a b);
-      kept = λ n a b. let k = there (key_at m n) (g.kept n a b) in
+      kept = λ n a b. let k = some_value (key_at m n) (g.kept n a b) in
           subst IsSome (sym (key_kept m m' h.table h.extends n k.0 k.1)) refl;
       value = λ n u l e. value n u l (origin_of m m' h.table h.extends n (u, l) e);
       whole = λ n u l e. whole n u l (origin_of m m' h.table h.extends n (u, l) e);
@@ -308,10 +301,10 @@ grown_on m0 m m' x p left right v g h =
     placed : (n u : ℕ) (l : List (ℕ × ℕ)) → get m'.linked n ≡ Some (u, l) →
         IsSome (get m.linked n) ⊎ (get m.linked n ≡ None) → IsPlaced m'.vtree (values_after m m' v) u l
     placed n u l e (inl k) =
-        let j = there (get m.linked n) k in
+        let j = some_value (get m.linked n) k in
         let f : get m.linked n ≡ Some (u, l) = j.1 ∙ sym (h.extends.nodes n j.0 j.1) ∙ e in
         placed_same m'.vtree v (values_after m m' v) u l
-        (list_same m m' x left right v h n u l (linked_old m n (u, l) f))
+        (list_same m m' x left right v h n u l (linked_key m n (u, l) f))
         (subst (λ t. IsPlaced t v u l) (sym h.extends.vtree) (g.placed n u l f))
     placed n u l e (inr z) = fresh (h.kind n (u, l) e)
       where
@@ -319,21 +312,21 @@ grown_on m0 m m' x p left right v g h =
             IsPlaced m'.vtree (values_after m m' v) u l
         fresh (inl s) =
             (shown_order m0 m m' x p left right v g h).placed n u l (settled_shown m' h.table n (u, l) e s) e
-        fresh (inr w) = let j = there (get m.linked n) w.0 in absurd (none-some j.0 (sym z ∙ j.1))
+        fresh (inr w) = let j = some_value (get m.linked n) w.0 in absurd (none-some j.0 (sym z ∙ j.1))
 
     above : (n u : ℕ) (l : List (ℕ × ℕ)) → get m'.linked n ≡ Some (u, l) → ¬ IsSettled m' u →
         IsSettled m' u ⊎ (IsSome (get m.linked n) × (¬ DependsOn (Node left right) (v (2050 + n)))) →
         get m0.linked n ≡ Some (u, l)
     above n u l e s (inl k) = absurd (s k)
     above n u l e s (inr w) =
-        let j = there (get m.linked n) w.0 in
+        let j = some_value (get m.linked n) w.0 in
         g.above n u l (j.1 ∙ sym (h.extends.nodes n j.0 j.1) ∙ e) (λ k. s (settled_after m m' h.extends u k))
 
     lists : (n u q : ℕ) (l old : List (ℕ × ℕ)) → get m0.linked n ≡ Some (q, old) → ¬ IsMember n p.discarded →
         Origin m m' n (u, l) → ((get p.rewritten n ≡ None) × (l ≡ old)) ⊎ (get p.rewritten n ≡ Some l)
     lists n u q l old f d (Old e) = g.lists n u q l old e f d
     lists n u q l old f d (New z e) =
-        let k = there (key_at m n) (g.kept n (subst IsSome (sym f) refl) d) in absurd (none-some k.0 (sym z ∙ k.1))
+        let k = some_value (key_at m n) (g.kept n (subst IsSome (sym f) refl) d) in absurd (none-some k.0 (sym z ∙ k.1))
 
     free : p.has_rewritten ≡ true → p.goes_back ≡ false → (n u : ℕ) (l : List (ℕ × ℕ)) →
         get m.detached n ≡ Some (u, l) →

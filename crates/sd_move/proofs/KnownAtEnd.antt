@@ -10,11 +10,10 @@ use Rattle.sd_laws.proofs.GoneBack.{IsBaseOrNode}
 use Rattle.sd_manager.specs.Table.{Table, key_at}
 use Rattle.sd_manager.specs.Shown.{HasNode, AreThere, IsNodeOf}
 use Rattle.sd_manager.specs.Valid.{IsTable}
-use Rattle.sd_manager.proofs.Reading.{node_of_code}
+use Rattle.sd_manager.proofs.Reading.{node_of_code, linked_key}
 use Rattle.sd_manager.proofs.Valid.{nothing}
 use Rattle.sd_move.specs.Moving.{Progress, MoveInProgress}
 use Rattle.sd_move.proofs.BeginAndEnd.{ended}
-use Rattle.sd_move.proofs.Linking.{linked_key}
 
 -- a code of a list is there where all of them are
 pub stands_there : (t : Table) (c : ℕ) (l : List (ℕ × ℕ)) → AreThere t l → StandsIn c l → HasNode t c

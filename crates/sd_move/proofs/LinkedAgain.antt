@@ -20,11 +20,11 @@ use Rattle.sd_laws.proofs.Within.{prime_stands, sub_stands}
 use Rattle.sd_manager.specs.Table.{Table}
 use Rattle.sd_manager.specs.Valid.{IsTable, IsSettled}
 use Rattle.sd_manager.specs.Places.{IsLinkedAt}
+use Rattle.sd_manager.proofs.Reading.{linked_key}
 use Rattle.sd_move.specs.Moving.{Progress, IsNew, MoveInProgress}
 use Rattle.sd_move.specs.Steps.{CanDetachAt, AreDetached, CanLinkWith, CanLinkAll, AreLinkedAt}
 use Rattle.sd_move.proofs.DetachedAll.{settled_same}
 use Rattle.sd_move.proofs.DetachedOn.{settled_below}
-use Rattle.sd_move.proofs.Linking.{linked_key}
 
 -- a number is in a list or not
 pub has_or_not : (n : ℕ) (ns : List ℕ) → IsMember n ns ⊎ (¬ IsMember n ns)

@@ -12,9 +12,10 @@ use Rattle.sd_laws.proofs.Lists.{all_weaker}
 use Rattle.sd_manager.specs.Table.{Table}
 use Rattle.sd_manager.specs.Valid.{IsTable}
 use Rattle.sd_manager.specs.Moving.{linked_under, FitsNode, IsAscending, IsAbsent}
+use Rattle.sd_manager.proofs.Reading.{detached_key}
 use Rattle.sd_move.specs.Moving.{Progress, MoveInProgress}
 use Rattle.sd_move.specs.Steps.{CanLinkWith, CanLinkAll, MayLinkAll, AreLinkedAt}
-use Rattle.sd_move.proofs.Linking.{detached_key, may_fit, key_absent}
+use Rattle.sd_move.proofs.Linking.{may_fit, key_absent}
 use Rattle.sd_move.proofs.LinkedOn.{CanLink, linked_on, still_there, lifted}
 
 -- one node

@@ -18,8 +18,8 @@ use Rattle.sd_laws.proofs.ByValues.{node_by_values}
 use Rattle.sd_manager.specs.Table.{Table, key_at}
 use Rattle.sd_manager.specs.Valid.{IsTable, IsSettled}
 use Rattle.sd_manager.specs.Moving.{linked_under}
+use Rattle.sd_manager.proofs.Reading.{detached_key}
 use Rattle.sd_move.specs.Moving.{Progress, IsNew, MoveInProgress, IsDetachedCode, IsBelowNode}
-use Rattle.sd_move.proofs.Linking.{detached_key}
 
 -- the table with a detached node linked, and with other loose and free runs
 abbrev pub linked_with : Table → ℕ → ℕ × List (ℕ × ℕ) → FinMap nat_cmp (List (ℕ × ℕ)) → FinMap nat_cmp ℕ → ℕ → Table

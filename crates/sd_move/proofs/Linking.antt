@@ -1,9 +1,8 @@
 -- A detached node may be linked under a list of its function: the list fits, and no linked node has the key.
-use Rattle.std.proofs.Common.{◌≡◌, ℕ, ◌+◌, List, Option, Some, None, refl, sym, ◌∙◌, ap, subst}
+use Rattle.std.proofs.Common.{◌≡◌, ℕ, ◌+◌, List, Some, None, refl, sym, ◌∙◌, ap, subst}
 use Rattle.std.specs.List.{AllByRecursion}
 use Rattle.std.specs.Option.{IsSome}
 use Rattle.std.specs.FinMap.{get}
-use Rattle.sd_vtree.specs.Numbered.{or_else}
 use Rattle.sd_laws.specs.Values.{Valuation, IsSame, pairs_value, IsWhole, IsPlaced, ShowsValue}
 use Rattle.sd_laws.proofs.ByValues.{FitsBy, fits_by_values}
 use Rattle.sd_laws.proofs.OneKey.{key_once}
@@ -11,20 +10,8 @@ use Rattle.std.proofs.lemmas.Option.{none-some}
 use Rattle.sd_manager.specs.Table.{Table, key_at}
 use Rattle.sd_manager.specs.Valid.{IsTable}
 use Rattle.sd_manager.specs.Moving.{FitsNode, IsAbsent}
+use Rattle.sd_manager.proofs.Reading.{linked_key, detached_key}
 use Rattle.sd_move.specs.Moving.{Progress, MoveInProgress}
-
--- a linked node is one of all
-pub linked_key : (m : Table) (n : ℕ) (k : ℕ × List (ℕ × ℕ)) → get m.linked n ≡ Some k → key_at m n ≡ Some k
-linked_key m n k e = ap (λ o. or_else o (get m.detached n)) e
-
--- and so is a detached one
-pub detached_key : (m : Table) → IsTable m → (n : ℕ) (k : ℕ × List (ℕ × ℕ)) → get m.detached n ≡ Some k →
-    key_at m n ≡ Some k
-detached_key m i n k e = go (get m.linked n) refl
-  where
-    go : (o : Option (ℕ × List (ℕ × ℕ))) → get m.linked n ≡ o → key_at m n ≡ Some k
-    go None f = ap (λ o. or_else o (get m.detached n)) f ∙ e
-    go (Some j) f = absurd (none-some k (sym (i.either n j f) ∙ e))
 
 -- Inside a move the list fits the place, where its values make a compressed and trimmed partition of it and its codes
 -- show their values.

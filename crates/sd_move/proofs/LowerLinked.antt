@@ -12,10 +12,11 @@ use Rattle.sd_manager.specs.Table.{Table}
 use Rattle.sd_manager.specs.Valid.{IsTable, IsSettled}
 use Rattle.sd_manager.specs.Moving.{with_vtree}
 use Rattle.sd_manager.specs.Places.{IsLinkedAt}
+use Rattle.sd_manager.proofs.DetachedFrom.{under_apart}
 use Rattle.sd_move.specs.Moving.{Progress, IsNew, MoveInProgress}
 use Rattle.sd_move.specs.Steps.{CanDetachAt, AreDetached, CanLinkWith, CanLinkAll}
 use Rattle.sd_move.proofs.LinkedAgain.{all_members, codes_still}
-use Rattle.sd_move.proofs.Undoing.{under_apart, under_strictly}
+use Rattle.sd_move.proofs.Undoing.{under_strictly}
 
 -- The nodes at w were detached, and the vtree was turned to u, in which x has what it had below it and each list that
 -- was placed at w is placed at x.

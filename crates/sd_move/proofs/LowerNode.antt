@@ -20,10 +20,10 @@ use Rattle.sd_manager.specs.Table.{Table}
 use Rattle.sd_manager.specs.Valid.{IsTable, IsSettled}
 use Rattle.sd_manager.specs.Moving.{moving_at, IsCleared}
 use Rattle.sd_manager.specs.Places.{IsLinkedAt}
+use Rattle.sd_manager.proofs.DetachedFrom.{under_apart}
 use Rattle.sd_move.specs.Moving.{no_progress, HasBegun, IsNew}
 use Rattle.sd_move.specs.Steps.{CanDetachFirst, IsClearAbove, AreDetached, IsChildNode, HasDetachedBoth}
 use Rattle.sd_move.proofs.TurnedMove.{times_cons}
-use Rattle.sd_move.proofs.Undoing.{under_apart}
 
 -- the root of the left subtree is a child
 pub left_child : (t : Numbered) → AtMostOnce t → (x : ℕ) (l r : Numbered) → subtree t x ≡ Some (NumberedNode x l r) →

@@ -1,6 +1,6 @@
 -- A move on its way ends, where no node is detached, or goes back.
 use Rattle.std.proofs.Common.{◌≡◌, ◌⊎◌, inl, inr, ℕ, ◌+◌, ◌≤◌, ◌<◌, List, Option, Some, None, refl, sym, ◌∙◌, ap}
-use Rattle.std.proofs.Common.{subst, Bool, true, false, [], ◌∷◌, arith}
+use Rattle.std.proofs.Common.{subst, Bool, true, false, [], arith}
 use Rattle.std.specs.Option.{IsSome}
 use Rattle.std.specs.FinMap.{get, empty, get-empty}
 use Rattle.sd_model.specs.declared.trees.Move.{Move}
@@ -13,6 +13,7 @@ use Rattle.sd_manager.specs.Valid.{IsTable}
 use Rattle.sd_manager.specs.Making.{KeepsRule, IsPastBound}
 use Rattle.sd_manager.specs.Marking.{AreUnmarked}
 use Rattle.sd_manager.specs.Moving.{at_rest, IsLater, next_epoch}
+use Rattle.sd_manager.proofs.Reading.{linked_key}
 use Rattle.sd_sweep.specs.Reached.{KeepsReached}
 use Rattle.sd_move.specs.GoingBack.{ToTable, CanGoBack, HasGoneBack}
 use Rattle.sd_move.specs.Journal.{Named, Journal}
@@ -20,25 +21,16 @@ use Rattle.sd_move.specs.Moves.{IsMoved}
 use Rattle.sd_move.specs.OnTheWay.{IsOnTheWay, AreAllReached}
 use Rattle.sd_move.specs.Recorded.{AreRecorded}
 use Rattle.sd_move.proofs.KnownAtEnd.{may_end}
-use Rattle.sd_move.proofs.Linking.{linked_key}
 use Rattle.sd_move.proofs.Recorded.{is_moved}
 use Rattle.sd_move.proofs.Refused.{way_to, can_refuse, refused_keeps, refused_past}
 use Rattle.std.specs.Prelude.{nat_lt, if◌then◌else◌}
 use Rattle.std.proofs.lemmas.Bool.{ltb-true, ltb-false}
-use Rattle.std.specs.List.{AllByRecursion}
 use Rattle.std.specs.Ordering.{nat_cmp}
-use Rattle.sd_runs.specs.Arena.{IsMember}
 use Rattle.sd_runs.specs.declared.error.TakeError.TheVariants.{ArenaFull, OutOfMemory}
 use Rattle.sd_runs.proofs.Maps.{same_at_each}
 use Rattle.sd_move.specs.Moving.{Progress}
 use Rattle.sd_move.specs.Rewriting.{GoesOn}
 use Rattle.sd_laws.specs.Values.{Valuation}
-
--- what holds of each element holds of each member
-pub member_of : (P : ℕ → Type 0) (ns : List ℕ) (n : ℕ) → AllByRecursion P ns → IsMember n ns → P n
-member_of P [] n h m = absurd m
-member_of P (i ∷ ns) n h (inl e) = subst P e h.0
-member_of P (i ∷ ns) n h (inr m) = member_of P ns n h.1 m
 
 -- the next epoch is a later one
 pub next_later : (e : ℕ) → e ≤ 18446744073709551615 → (e < next_epoch e) ⊎ (next_epoch e ≡ 18446744073709551615)

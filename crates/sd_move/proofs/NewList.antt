@@ -2,7 +2,6 @@
 use Rattle.std.proofs.Common.{◌≡◌, inl, inr, ℕ, ◌+◌, ◌-◌, ◌≤◌, Bool, true, false, ◌&&◌, ◌||◌, List, [], ◌∷◌}
 use Rattle.std.proofs.Common.{length, drop, Option, Some, None, refl, sym, ◌∙◌, ap, subst, arith}
 use Rattle.std.proofs.Common.{slice_get}
-use Rattle.std.specs.Option.{IsSome}
 use Rattle.std.specs.FinMap.{get}
 use Rattle.std.proofs.lemmas.List.{at_drop_more, at_drop_all}
 use Rattle.std.proofs.lemmas.Option.{slice_get_within, get_or_from_slice_get}
@@ -23,6 +22,7 @@ use Rattle.sd_manager.specs.declared.view.View.TheVariants.{Constant as Constant
 use Rattle.sd_manager.specs.declared.view.View.TheVariants.{Decomposition as DecompositionView}
 use Rattle.sd_manager.proofs.Extending.{extends_on}
 use Rattle.sd_manager.proofs.Reading.{among_at, linked_key, detached_key, pairs_node, view_node}
+use Rattle.sd_manager.proofs.Holding.{some_value}
 use Rattle.sd_apply.specs.Growing.{GrowsStrictlyBelow}
 use Rattle.sd_apply.specs.Places.{IsBelow, IsNodeUnder}
 use Rattle.sd_apply.specs.Partitions.{IsPartitionOf, ExpandsAt, MultipliesAt}
@@ -54,11 +54,6 @@ pub product_of : (m2 m3 : Table) (p : ℕ) (one other l k : List (ℕ × ℕ)) (
 product_of m2 m3 p one other l k f g h hf hg same =
     subst (λ q. IsPartitionOf m3 p q (λ a. combine And (f a) (g a))) (sym same) (h.whole f g hf hg)
 
--- what a list is, a slice of it is
-pub partition_same : (m : Table) (p : ℕ) (l k : List (ℕ × ℕ)) (f : List Bool → Bool) → IsPartitionOf m p l f → k ≡ l →
-    IsPartitionOf m p k f
-partition_same m p l k f h same = subst (λ q. IsPartitionOf m p q f) (sym same) h
-
 -- three steps one after the other
 pub extends_three : (a b c d : Table) → Extends a b → Extends b c → Extends c d → Extends a d
 extends_three a b c d x y z = extends_on a c d (extends_on a b c x y) z
@@ -73,11 +68,6 @@ strictly_three a b c d p x y g h k = strictly_both a c d p y (strictly_both a b 
 pub bottom_below : (m : Table) (p : ℕ) → IsBelow m p 0
 bottom_below m p =
     record { diagram = Bottom; is = record { shows = refl; under = bottom_under m.vtree p } }
-
--- something that is there
-there : {X : Type 0} (o : Option X) → IsSome o → (y : X) × (o ≡ Some y)
-there None h = absurd (cc (h))
-there (Some y) h = (y, refl)
 
 -- a node keeps its key
 key_stays : (a b : Table) → IsTable b → Extends a b → (n : ℕ) (k : ℕ × List (ℕ × ℕ)) → key_at a n ≡ Some k →
@@ -98,7 +88,7 @@ list_stays a b ta tb e c node low = go node
     go : HasNode a c → pairs_at b c ≡ pairs_at a c
     go (inl lt) = absurd (omega (arith, lt, low, ta.numbered.within_limit))
     go (inr w) =
-        let k = there (key_at a (c - 2050)) w.1 in
+        let k = some_value (key_at a (c - 2050)) w.1 in
         let code : c ≡ 2050 + (c - 2050) = omega (arith, low) in
         pairs_node b c (c - 2050) k.0 code (key_stays a b tb e (c - 2050) k.0 k.1)
         ∙ sym (pairs_node a c (c - 2050) k.0 code k.1)
@@ -237,7 +227,7 @@ all_read m node p place count i t node_is low view end = go node_is
     go : HasNode m node → drop i (pairs_at m node) ≡ []
     go (inl lt) = absurd (omega (arith, lt, low, t.numbered.within_limit))
     go (inr w) =
-        let k = there (key_at m (node - 2050)) w.1 in
+        let k = some_value (key_at m (node - 2050)) w.1 in
         let code : node ≡ 2050 + (node - 2050) = omega (arith, low) in
         let long : length k.0.1 ≡ count =
         ap count_of (sym (view_node m node (node - 2050) k.0 code k.1) ∙ view) in

@@ -1,5 +1,5 @@
 -- The journal of a move can be undone when the move is done.
-use Rattle.std.proofs.Common.{◌≡◌, inl, inr, ℕ, ◌+◌, List, Option, Some, None, refl, sym, ◌∙◌}
+use Rattle.std.proofs.Common.{◌≡◌, inl, inr, ℕ, ◌+◌, List, Some, sym, ◌∙◌}
 use Rattle.std.proofs.Common.{ap}
 use Rattle.std.specs.Option.{IsSome}
 use Rattle.std.specs.FinMap.{get}
@@ -9,6 +9,7 @@ use Rattle.sd_laws.specs.Values.{StandsIn}
 use Rattle.sd_laws.proofs.Within.{shows_within}
 use Rattle.sd_manager.specs.Table.{Table}
 use Rattle.sd_manager.specs.Moving.{IsAscending}
+use Rattle.sd_manager.proofs.Holding.{some_value}
 use Rattle.sd_sweep.specs.Reached.{reached_first, reached_below}
 use Rattle.sd_move.specs.Journal.{Journal, back, IsOwnRun, IsNamed}
 use Rattle.sd_move.specs.Journal.{IsNeededBack, IsOneFunction}
@@ -33,11 +34,6 @@ pub record LeadsBack (m0 m : Table) (j : Journal) : Type 0 where
       IsSome (get m0.linked i)
   pub roots_closed : (root i : ℕ) → get m0.roots root ≡ Some (2050 + i) → IsSome (get m0.linked i)
 
--- something that is there
-there : {X : Type 0} (o : Option X) → IsSome o → (x : X) × (o ≡ Some x)
-there None h = absurd (cc (h))
-there (Some x) h = (x, refl)
-
 -- each node that the journal needs is one of m0
 pub needed_old : (m0 m : Table) (j : Journal) → LeadsBack m0 m j → {n : ℕ} → IsNeededBack j m n →
     IsSome (get m0.linked n)
@@ -49,7 +45,7 @@ needed_old m0 m j l (reached_first {n = n} (inr (inr (inl h)))) =
     let o = l.own_runs h.0 h.1 h.2 h.3 in l.lists_closed o.0 n o.1 h.1 o.2 h.4
 needed_old m0 m j l (reached_first {n = n} (inr (inr (inr h)))) = l.named n h
 needed_old m0 m j l (reached_below {m = i} {n = n} {place = place} {list = list} h e s) =
-    let k = there (get m0.linked i) (needed_old m0 m j l h) in
+    let k = some_value (get m0.linked i) (needed_old m0 m j l h) in
     let same : k.0 ≡ (place, list) = same_Some k.0 (place, list) (sym (l.nodes i k.0 k.1) ∙ e) in
     l.lists_closed i n place list (k.1 ∙ ap Some same) s
 
@@ -57,7 +53,7 @@ needed_old m0 m j l (reached_below {m = i} {n = n} {place = place} {list = list}
 back_old : (m0 m : Table) (j : Journal) → LeadsBack m0 m j → (n : ℕ) (key : ℕ × List (ℕ × ℕ)) → IsNeededBack j m n →
     back j m n ≡ Some key → get m0.linked n ≡ Some key
 back_old m0 m j l n key h e =
-    let k = there (get m0.linked n) (needed_old m0 m j l h) in
+    let k = some_value (get m0.linked n) (needed_old m0 m j l h) in
     k.1 ∙ sym (l.nodes n k.0 k.1) ∙ e
 
 -- so its list ascends

@@ -20,7 +20,7 @@ use Rattle.sd_manager.specs.Table.{Table, key_at}
 use Rattle.sd_manager.specs.Shown.{HasNode}
 use Rattle.sd_manager.specs.Valid.{IsTable}
 use Rattle.sd_manager.specs.Moving.{moving_at, at_rest}
-use Rattle.sd_manager.proofs.Reading.{node_of_code}
+use Rattle.sd_manager.proofs.Reading.{node_of_code, linked_key}
 use Rattle.sd_manager.proofs.Valid.{nothing}
 use Rattle.sd_sweep.specs.Reached.{KeepsReached}
 use Rattle.sd_move.specs.Moving.{Progress, no_progress, IsNew, IsBelowNode, MoveInProgress}
@@ -28,7 +28,6 @@ use Rattle.sd_move.specs.Journal.{Named, journal_entry, with_start, starts_of, w
 use Rattle.sd_move.specs.GoingBack.{ToTable, IsRightEntry, AreWellWanted, CanGoBack, HasGoneBack, numbers_of}
 use Rattle.sd_move.proofs.KnownAtEnd.{stands_there, base_or_node, key_linked, known_at_end}
 use Rattle.sd_move.proofs.BeginAndEnd.{begun}
-use Rattle.sd_move.proofs.Linking.{linked_key}
 
 -- runs
 

@@ -19,15 +19,16 @@ use Rattle.sd_manager.specs.Moving.{linked_under, with_free, FitsNode, IsAscendi
 use Rattle.sd_manager.proofs.Counted.{counts_other}
 use Rattle.sd_manager.proofs.Standing.{no_uses}
 use Rattle.sd_manager.proofs.Totals.{sum_zero}
+use Rattle.sd_manager.proofs.Holding.{some_value}
+use Rattle.sd_manager.proofs.Reading.{detached_key}
 use Rattle.sd_sweep.proofs.Used.{entry_count, fewer_entries}
 use Rattle.sd_move.specs.Moving.{IsNew, MoveInProgress}
 use Rattle.sd_move.specs.Steps.{IsChildNode}
 use Rattle.sd_move.specs.Journal.{Named, journal_entry, starts_of}
 use Rattle.sd_move.specs.GoingBack.{IsTurnedPlace, Return, IsWantedBy, key_wanted, IsReturning, numbers_of}
 use Rattle.sd_move.proofs.ThereAndBack.{without_kept, own_start}
-use Rattle.sd_move.proofs.Linking.{detached_key}
 use Rattle.sd_move.proofs.DiscardedOn.{with_discarded, discarded_on}
-use Rattle.sd_move.proofs.Returning.{there, linked_or_detached, places, not_twice}
+use Rattle.sd_move.proofs.Returning.{linked_or_detached, places, not_twice}
 use Rattle.sd_move.proofs.ReturnEntries.{none_named}
 use Rattle.sd_move.proofs.ReturnLinked.{last_free}
 use Rattle.sd_move.proofs.ReturnSteps.{one_may, one_linked}
@@ -221,4 +222,4 @@ pub linked_gone : (now new : Table) (n p : ℕ) → IsSome (get now.detached n) 
     ((k : ℕ × List (ℕ × ℕ)) → get now.detached n ≡ Some k → new ≡ linked_under now n (p, k.1)) →
     new.detached ≡ remove now.detached n
 linked_gone now new n p h is =
-    let k = there (get now.detached n) h in ap (λ (u : Table). u.detached) (is k.0 k.1)
+    let k = some_value (get now.detached n) h in ap (λ (u : Table). u.detached) (is k.0 k.1)

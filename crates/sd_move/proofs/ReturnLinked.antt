@@ -14,12 +14,13 @@ use Rattle.sd_laws.proofs.Users.{users_above}
 use Rattle.sd_manager.specs.Table.{Table, key_at}
 use Rattle.sd_manager.specs.Valid.{IsTable}
 use Rattle.sd_manager.specs.Moving.{linked_under, next_epoch}
+use Rattle.sd_manager.proofs.Holding.{some_value}
 use Rattle.sd_move.specs.Moving.{Progress, IsNew, IsBelowNode, MoveInProgress}
 use Rattle.sd_move.specs.Journal.{Named, journal_entry}
 use Rattle.sd_move.specs.GoingBack.{IsTurnedPlace, IsRightEntry, Return, IsWantedBy, key_wanted}
 use Rattle.sd_move.specs.GoingBack.{AreEntriesLeft, IsReturning, numbers_of}
 use Rattle.sd_move.proofs.UndoKept.{entry_found}
-use Rattle.sd_move.proofs.Returning.{there, linked_or_detached, entry_place, turned_order, places}
+use Rattle.sd_move.proofs.Returning.{linked_or_detached, entry_place, turned_order, places}
 use Rattle.sd_move.proofs.Returning.{below_before, below_now, detached_turned, not_twice}
 use Rattle.sd_move.proofs.Returning.{named_below}
 
@@ -41,7 +42,7 @@ module _ (r : Return) (now : Table) (first second : List Named) (s : IsReturning
   pub kept_free : (place : ℕ) → get r.before.linked n ≡ Some (place, l) → IsTurnedPlace r.upper r.lower place →
       (i : ℕ) (k : ℕ × List (ℕ × ℕ)) → IsWantedBy r i → StandsIn (2050 + i) l → get now.detached i ≡ Some k → ⊥
   kept_free place linked here i k j stands d =
-      by_place (there (key_wanted r i) (s.can.wanted.there i j)) (s.detached i k d).0 (s.detached i k d).1
+      by_place (some_value (key_wanted r i) (s.can.wanted.there i j)) (s.detached i k d).0 (s.detached i k d).1
     where
       by_place : (f : (x : ℕ × List (ℕ × ℕ)) × (key_wanted r i ≡ Some x)) → key_at r.before i ≡ Some k →
           IsTurnedPlace r.upper r.lower k.0 → ⊥
@@ -86,7 +87,7 @@ module _ (r : Return) (now : Table) (second : List Named) (s : IsReturning r now
   pub last_free : (i : ℕ) (k : ℕ × List (ℕ × ℕ)) → IsWantedBy r i → StandsIn (2050 + i) l →
       get now.detached i ≡ Some k → ⊥
   last_free i k j stands d =
-      let f = there (key_wanted r i) (s.can.wanted.there i j) in
+      let f = some_value (key_wanted r i) (s.can.wanted.there i j) in
       go f.0.0 f.0.1 f.1 (names_lower r now [] second s t n p l w e turned i f.0.0 k f.0.1 j stands d f.1)
       (journal_entry r.named i) refl
     where

@@ -12,15 +12,17 @@ use Rattle.sd_laws.specs.Values.{IsPlaced, ShowsValue, StandsIn}
 use Rattle.sd_manager.specs.Table.{Table}
 use Rattle.sd_manager.specs.Valid.{IsTable}
 use Rattle.sd_manager.specs.Moving.{linked_under, with_free, FitsNode, IsAscending, IsAbsent, IsPutBack}
+use Rattle.sd_manager.proofs.Reading.{linked_key}
+use Rattle.sd_manager.proofs.Holding.{some_value}
 use Rattle.sd_move.specs.Moving.{Progress, MoveInProgress}
 use Rattle.sd_move.specs.Steps.{CanLinkAll, MayLinkAll}
 use Rattle.sd_move.specs.Journal.{Named, key_before}
 use Rattle.sd_move.specs.GoingBack.{IsTurnedPlace, IsRightEntry, Return, IsWantedBy, key_wanted}
 use Rattle.sd_move.specs.GoingBack.{AreEntriesLeft, IsReturning}
-use Rattle.sd_move.proofs.Linking.{linked_key, may_fit, key_absent}
+use Rattle.sd_move.proofs.Linking.{may_fit, key_absent}
 use Rattle.sd_move.proofs.LinkedOn.{CanLink, linked_on}
 use Rattle.sd_move.proofs.LinkedAll.{may_link as may_link_first, linking_first, linking_on, linking_last}
-use Rattle.sd_move.proofs.Returning.{there, tree_now, turned_settled, codes_shown, may_link}
+use Rattle.sd_move.proofs.Returning.{tree_now, turned_settled, codes_shown, may_link}
 use Rattle.sd_move.proofs.ReturnEntries.{first_passed, first_linked, second_passed, second_put}
 use Rattle.sd_move.proofs.ReturnLinked.{kept_free, last_free, linked_back}
 
@@ -87,7 +89,7 @@ module _ (r : Return) (now : Table) (e : Named) (rest second : List Named)
 
   waits : get now.detached e.number ≡ Some (right.place, right.list)
   waits =
-      let k = there (get now.detached e.number) (s.entries.wait_first.0 none) in
+      let k = some_value (get now.detached e.number) (s.entries.wait_first.0 none) in
       k.1 ∙ sym (s.detached e.number k.0 k.1).0 ∙ linked_key r.before e.number (right.place, right.list) right.linked
 
   free : (i : ℕ) (k : ℕ × List (ℕ × ℕ)) → IsWantedBy r i → StandsIn (2050 + i) right.list →
@@ -139,7 +141,7 @@ module _ (r : Return) (now : Table) (e : Named) (rest : List Named) (s : IsRetur
       ∙ ap (option_map {U = ℕ × List (ℕ × ℕ)} (λ (l : List (ℕ × ℕ)). (e.place, l))) former.1
 
   detached : (k : ℕ × List (ℕ × ℕ)) × (get now.detached e.number ≡ Some k)
-  detached = there (get now.detached e.number) (s.entries.wait_second.0 (subst IsSome (sym run) refl))
+  detached = some_value (get now.detached e.number) (s.entries.wait_second.0 (subst IsSome (sym run) refl))
 
   placed : IsPlaced now.vtree r.way.valuation e.place former.0
   placed =

@@ -16,23 +16,19 @@ use Rattle.sd_laws.proofs.Users.{users_above}
 use Rattle.sd_laws.proofs.Within.{prime_stands, sub_stands}
 use Rattle.sd_manager.specs.Table.{Table, key_at}
 use Rattle.sd_manager.specs.Valid.{IsTable, IsSettled}
+use Rattle.sd_manager.proofs.Reading.{linked_key}
+use Rattle.sd_manager.proofs.DetachedFrom.{under_apart}
+use Rattle.sd_manager.proofs.Holding.{some_value}
 use Rattle.sd_move.specs.Steps.{CanLinkAll}
 use Rattle.sd_move.specs.Journal.{Named, journal_entry, key_before}
 use Rattle.sd_move.specs.GoingBack.{IsTurnedPlace, IsRightEntry, Return, IsWantedBy}
 use Rattle.sd_move.specs.GoingBack.{key_wanted, IsReturning}
 use Rattle.sd_move.proofs.UndoKept.{entry_found}
-use Rattle.sd_move.proofs.Undoing.{under_apart}
 use Rattle.sd_move.proofs.DetachedOn.{settled_below}
-use Rattle.sd_move.proofs.Linking.{linked_key}
 use Rattle.sd_move.proofs.BegunAt.{settled_here}
 use Rattle.sd_move.proofs.TurnedPlaces.{AreTurnedPlaces, turned_places}
 
 -- keys
-
--- something that is there
-pub there : {X : Type 0} (o : Option X) → IsSome o → (x : X) × (o ≡ Some x)
-there None h = absurd (cc (h))
-there (Some x) h = (x, refl)
 
 -- a key that is there is of a linked or a detached node
 pub linked_or_detached : (t : Table) (n : ℕ) (k : ℕ × List (ℕ × ℕ)) → key_at t n ≡ Some k →
@@ -107,7 +103,7 @@ module _ (r : Return) (now : Table) (first second : List Named) (s : IsReturning
 
   -- a wanted node has a key
   pub wanted_there : (n : ℕ) → IsWantedBy r n → (k : ℕ × List (ℕ × ℕ)) × (key_at now n ≡ Some k)
-  wanted_there n w = there (key_at now n) (s.going.kept n (linked_then (get r.way.start.linked n) refl)
+  wanted_there n w = some_value (key_at now n) (s.going.kept n (linked_then (get r.way.start.linked n) refl)
       (λ m. s.older n w (inr m)))
     where
       linked_then : (o : Option (ℕ × List (ℕ × ℕ))) → get r.way.start.linked n ≡ o → IsSome (get r.way.start.linked n)

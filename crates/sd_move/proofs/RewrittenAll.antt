@@ -37,7 +37,7 @@ member_first (e ∷ es) fs n (inl z) = inl z
 member_first (e ∷ es) fs n (inr m) = inr (member_first es fs n m)
 member_first [] fs n m = absurd m
 
-member_second : (es fs : List Named) (n : ℕ) → IsMember n (numbers_of fs) → IsMember n (numbers_of (es ++ fs))
+pub member_second : (es fs : List Named) (n : ℕ) → IsMember n (numbers_of fs) → IsMember n (numbers_of (es ++ fs))
 member_second [] fs n m = m
 member_second (e ∷ es) fs n m = inr (member_second es fs n m)
 

@@ -25,6 +25,8 @@ use Rattle.sd_laws.proofs.Within.{prime_stands, sub_stands}
 use Rattle.sd_manager.specs.Table.{Table}
 use Rattle.sd_manager.specs.Valid.{IsTable, IsSettled}
 use Rattle.sd_manager.specs.Moving.{with_vtree}
+use Rattle.sd_manager.proofs.Reading.{linked_key}
+use Rattle.sd_manager.proofs.DetachedFrom.{under_apart}
 use Rattle.sd_move.specs.declared.sorting.Side.{Side}
 use Rattle.sd_move.specs.declared.sorting.Side.TheVariants.{Left, Right}
 use Rattle.sd_move.specs.Moving.{no_progress, HasBegun}
@@ -33,9 +35,7 @@ use Rattle.sd_move.specs.Steps.{HasDetachedBoth, AreLinkedAt, IsReadyToRotate}
 use Rattle.sd_move.specs.Sorting.{rotation_of, AreRotatedOn, CanSortNode, CanSort, MaySort, HasSorted, CanRotate}
 use Rattle.sd_move.specs.Sorting.{MayRotate, HasRotated}
 use Rattle.sd_move.proofs.LinkedAgain.{all_members, has_or_not}
-use Rattle.sd_move.proofs.Linking.{linked_key}
 use Rattle.sd_move.proofs.TurnedMove.{Turns, turns}
-use Rattle.sd_move.proofs.Undoing.{under_apart}
 
 -- what each kind of rotation leaves, by its side
 rotated_on : (side : Side) (t u : Numbered) (x w : ℕ) → IsNumbered t → moved_number (rotation_of side) t x ≡ Some u →

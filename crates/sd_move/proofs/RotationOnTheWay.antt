@@ -23,7 +23,8 @@ use Rattle.sd_move.specs.Sorting.{rotation_of, place_entry, CanRotate, HasRotate
 use Rattle.sd_move.proofs.RewrittenRecorded.{KeepLists, rewritten_recorded, first_distinct}
 use Rattle.sd_move.proofs.RotatedSort.{rotated_only}
 use Rattle.sd_move.proofs.RotationRecorded.{detached_first, was_there, rotation_recorded, rotation_keeps}
-use Rattle.sd_move.proofs.MoveEnd.{member_of, next_later}
+use Rattle.sd_move.proofs.MoveEnd.{next_later}
+use Rattle.sd_move.proofs.GrownStrictly.{member_has}
 
 module _ (old m new : Table) (side : Side) (x w : ℕ) (upper lower left : List ℕ) (u : Numbered) (b : List Named)
     (p q : List ℕ) (c : CanRotate old m side x w upper lower u)
@@ -127,7 +128,7 @@ module _ (old m new : Table) (side : Side) (x w : ℕ) (upper lower left : List 
 
     waiting_there : (n : ℕ) (k : ℕ × List (ℕ × ℕ)) → get last.detached n ≡ Some k → k.0 ≡ x
     waiting_there n k e =
-        let i = member_of _ rest n on.can.each (on.can.only n (subst IsSome (sym e) refl)) in
+        let i = member_has _ rest n on.can.each (on.can.only n (subst IsSome (sym e) refl)) in
         ap (λ (y : ℕ × List (ℕ × ℕ)). y.0) (same_Some k (x, i.list) (sym e ∙ i.was))
 
     pub rewritten_on_way : IsOnTheWay old last (rotation_of side) x (Some w) named

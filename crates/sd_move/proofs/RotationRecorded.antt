@@ -14,6 +14,7 @@ use Rattle.sd_runs.specs.Arena.{IsMember, HasNoCopies}
 use Rattle.sd_manager.specs.Table.{Table, key_at}
 use Rattle.sd_manager.specs.Valid.{IsTable}
 use Rattle.sd_manager.specs.Moving.{moving_at}
+use Rattle.sd_manager.proofs.Reading.{linked_key, detached_key}
 use Rattle.sd_move.specs.declared.sorting.Side.{Side}
 use Rattle.sd_move.specs.Journal.{Named, journal_entry, without_runs}
 use Rattle.sd_move.specs.Recorded.{IsRecorded, AreRecorded}
@@ -21,9 +22,9 @@ use Rattle.sd_move.specs.Rewriting.{numbers_of}
 use Rattle.sd_move.specs.Sorting.{place_entry, AreSorted, CanRotate, HasRotated}
 use Rattle.sd_move.proofs.KnownAtEnd.{key_linked}
 use Rattle.sd_move.proofs.LinkedAgain.{has_or_not}
-use Rattle.sd_move.proofs.Linking.{linked_key, detached_key}
 use Rattle.sd_move.proofs.RewrittenRecorded.{KeepLists, none_started, distinct_both, unnamed_apart, first_distinct}
 use Rattle.sd_move.proofs.Waiting.{times_permuted, member_times, times_member, once_times, times_once}
+use Rattle.sd_move.proofs.RewrittenAll.{member_second}
 
 -- the entries of nodes that keep their lists
 
@@ -52,10 +53,6 @@ member_left : (es fs : List Named) (n : ℕ) → IsMember n (numbers_of es) → 
 member_left [] fs n m = absurd m
 member_left (e ∷ es) fs n (inl z) = inl z
 member_left (e ∷ es) fs n (inr m) = inr (member_left es fs n m)
-
-member_right : (es fs : List Named) (n : ℕ) → IsMember n (numbers_of fs) → IsMember n (numbers_of (es ++ fs))
-member_right [] fs n m = m
-member_right (e ∷ es) fs n m = inr (member_right es fs n m)
 
 -- what holds of the nodes of two places holds of their entries
 all_placed : (P : Named → Type 0) (p q : ℕ) (ns ms : List ℕ) → ((n : ℕ) → IsMember n ns → P (place_entry p n)) →
@@ -223,7 +220,7 @@ module _ (old m new : Table) (side : Side) (x w : ℕ) (upper lower left : List 
           key_at new n ≡ Some k
       here z (inl y) =
           absurd (unnamed_apart named_now n none
-          (member_right (map (place_entry w) lower) (map (place_entry x) r.sorted.moved) n
+          (member_second (map (place_entry w) lower) (map (place_entry x) r.sorted.moved) n
           (placed_member x n r.sorted.moved y)))
       here z (inr (inl y)) =
           let l = upper_then n z in

@@ -21,6 +21,7 @@ use Rattle.sd_laws.proofs.Lists.{all_weaker}
 use Rattle.sd_manager.specs.Table.{Table}
 use Rattle.sd_manager.specs.Valid.{IsTable, IsSettled}
 use Rattle.sd_manager.specs.Moving.{linked_under, FitsNode, IsAscending, IsAbsent}
+use Rattle.sd_manager.proofs.DetachedFrom.{under_apart}
 use Rattle.sd_move.specs.declared.sorting.Side.{Side}
 use Rattle.sd_move.specs.declared.sorting.Fit.{Fit}
 use Rattle.sd_move.specs.declared.sorting.Fit.TheVariants.{Upper, Lower, Neither}
@@ -32,7 +33,6 @@ use Rattle.sd_move.specs.Sorting.{place_entry, IsSorted, IsSortedBy, AreSorted, 
 use Rattle.sd_move.proofs.Divided.{are_sides}
 use Rattle.sd_move.proofs.LinkedAll.{may_link, linking_first, first_linked}
 use Rattle.sd_move.proofs.LinkedOn.{still_there, lifted}
-use Rattle.sd_move.proofs.Undoing.{under_apart}
 
 -- where a node may be linked
 

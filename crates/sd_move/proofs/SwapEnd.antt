@@ -10,17 +10,18 @@ use Rattle.sd_laws.proofs.Evaluated.{value_of}
 use Rattle.sd_manager.specs.Table.{Table, key_at}
 use Rattle.sd_manager.specs.Valid.{IsTable}
 use Rattle.sd_manager.specs.Moving.{moving_at, next_epoch, IsLater}
+use Rattle.sd_manager.proofs.Reading.{linked_key}
 use Rattle.sd_move.specs.Journal.{Named}
 use Rattle.sd_move.specs.Moving.{no_progress}
 use Rattle.sd_move.specs.Recorded.{AreRecorded}
 use Rattle.sd_move.specs.Rewriting.{CanRewriteAll, HasRewritten, GoesOn, numbers_of}
 use Rattle.sd_move.specs.Swapping.{HasSwapped}
 use Rattle.sd_move.proofs.KnownAtEnd.{key_linked}
-use Rattle.sd_move.proofs.Linking.{linked_key}
 use Rattle.sd_move.proofs.SwapWaits.{was_linked, may_rewrite}
 use Rattle.sd_move.specs.OnTheWay.{IsOnTheWay}
-use Rattle.sd_move.proofs.MoveEnd.{member_of, next_later}
+use Rattle.sd_move.proofs.MoveEnd.{next_later}
 use Rattle.sd_move.proofs.RewrittenRecorded.{first_distinct, rewritten_recorded}
+use Rattle.sd_move.proofs.GrownStrictly.{member_has}
 
 module _ (m0 m1 : Table) (x : ℕ) (numbers : List ℕ) (t0 : IsTable m0) (still : m0.moving ≡ None)
     (s : HasSwapped m0 m1 x numbers) where
@@ -95,7 +96,7 @@ module _ (m0 m1 : Table) (x : ℕ) (numbers : List ℕ) (t0 : IsTable m0) (still
   -- the nodes that are detached still wait at x
   waiting_there : (n : ℕ) (k : ℕ × List (ℕ × ℕ)) → get m2.detached n ≡ Some k → k.0 ≡ x
   waiting_there n k e =
-      let w = member_of _ rest n on.can.each (on.can.only n (subst IsSome (sym e) refl)) in
+      let w = member_has _ rest n on.can.each (on.can.only n (subst IsSome (sym e) refl)) in
       ap (λ (p : ℕ × List (ℕ × ℕ)). p.0) (same_Some k (x, w.list) (sym e ∙ w.was))
 
   -- So the swap is on its way.

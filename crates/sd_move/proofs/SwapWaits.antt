@@ -28,15 +28,15 @@ use Rattle.sd_manager.specs.Valid.{IsTable, IsSettled}
 use Rattle.sd_manager.specs.Moving.{moving_at, with_vtree, IsCleared, KeepsMeanings}
 use Rattle.sd_manager.specs.Places.{IsLinkedAt}
 use Rattle.sd_manager.proofs.Valid.{nothing}
+use Rattle.sd_manager.proofs.Reading.{linked_key}
+use Rattle.sd_manager.proofs.DetachedFrom.{under_apart}
 use Rattle.sd_move.specs.Moving.{no_progress, HasBegun, MoveInProgress}
 use Rattle.sd_move.specs.Steps.{AreDetached, WasDetached}
 use Rattle.sd_move.specs.Rewriting.{ShowsWithin, IsWaiting, CanRewriteAll}
 use Rattle.sd_move.proofs.BeginAndEnd.{begun}
 use Rattle.sd_move.proofs.BegunAt.{first_can_detach, not_new, settled_here}
 use Rattle.sd_move.proofs.LinkedAgain.{all_members, codes_still}
-use Rattle.sd_move.proofs.Linking.{linked_key}
 use Rattle.sd_move.proofs.TurnedMove.{Turns, turns, turned_move}
-use Rattle.sd_move.proofs.Undoing.{under_apart}
 
 -- codes that show their values, and look at what is below
 shows_within_both : (t u : Numbered) (d : Table) (v : Valuation) (x : ℕ) (a b : Numbered) (l : List (ℕ × ℕ)) →

@@ -28,13 +28,13 @@ use Rattle.sd_manager.specs.Valid.{IsTable, IsSettled}
 use Rattle.sd_manager.specs.Moving.{moving_at, with_vtree}
 use Rattle.sd_manager.proofs.Reading.{linked_key}
 use Rattle.sd_manager.proofs.Valid.{nothing}
+use Rattle.sd_manager.proofs.DetachedFrom.{under_apart}
 use Rattle.sd_move.specs.Moving.{no_progress, HasBegun}
 use Rattle.sd_move.specs.Steps.{CanDetachFirst, AreDetached}
 use Rattle.sd_move.specs.Rewriting.{ShowsWithin, IsWaiting, CanRewriteAll}
 use Rattle.sd_move.proofs.BegunAt.{first_can_detach}
 use Rattle.sd_move.proofs.LinkedAgain.{all_members, codes_still}
 use Rattle.sd_move.proofs.TurnedMove.{Turns, turns}
-use Rattle.sd_move.proofs.Undoing.{under_apart}
 
 -- primes that look at a and subs that look at b look at what is below (b a)
 within_swapped : (t : Numbered) (m : Table) (v : Valuation) (a b : Numbered) (l : List (ℕ × ℕ)) →

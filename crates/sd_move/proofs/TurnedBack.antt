@@ -15,6 +15,7 @@ use Rattle.sd_laws.specs.Turned.{lower_of}
 use Rattle.sd_manager.specs.Table.{Table, key_at}
 use Rattle.sd_manager.specs.Valid.{IsTable}
 use Rattle.sd_manager.specs.Moving.{with_vtree, IsCleared, next_epoch}
+use Rattle.sd_manager.proofs.Reading.{linked_key, detached_key}
 use Rattle.sd_move.specs.Moving.{IsBelowNode, MoveInProgress}
 use Rattle.sd_move.specs.Steps.{CanDetachAt, MayDetachAt, IsChildNode}
 use Rattle.sd_move.specs.Journal.{Named, journal_entry, starts_of, without_runs}
@@ -22,7 +23,6 @@ use Rattle.sd_move.specs.GoingBack.{IsTurnedPlace, IsRightEntry, WayBack, CanGoB
 use Rattle.sd_move.specs.GoingBack.{wanted_key, IsListed, KeptWait, RewrittenWait, KeepsRun, numbers_of}
 use Rattle.sd_move.specs.GoingBack.{AreEntriesLeft, IsReturning, IsClearedAt, IsClearedBelow}
 use Rattle.sd_move.proofs.UndoKept.{entry_found}
-use Rattle.sd_move.proofs.Linking.{linked_key, detached_key}
 use Rattle.sd_move.proofs.LowerNode.{clear_above_child}
 use Rattle.sd_move.proofs.TurnedPlaces.{AreTurnedPlaces, turned_places}
 use Rattle.sd_move.proofs.Returning.{linked_or_detached}

@@ -21,6 +21,7 @@ use Rattle.sd_manager.specs.Valid.{IsTable}
 use Rattle.sd_manager.specs.Marking.{AreUnmarked}
 use Rattle.sd_manager.specs.Moving.{moving_at}
 use Rattle.sd_manager.proofs.Valid.{nothing}
+use Rattle.sd_manager.proofs.Reading.{linked_key}
 use Rattle.sd_sweep.specs.Reached.{reached_first, reached_below, IsReached, IsSwept, KeepsReached}
 use Rattle.sd_sweep.proofs.Keeping.{keeps_swept, unmarked_swept}
 use Rattle.sd_move.specs.GoingBack.{ToJournal, WayBack, CanGoBack, HasGoneBack, IsRightEntry}
@@ -29,7 +30,6 @@ use Rattle.sd_move.specs.Journal.{IsNeededBack, CanPutBack, CanUndo, Rollback, s
 use Rattle.sd_move.specs.Moving.{no_progress, IsNew, IsBelowNode}
 use Rattle.sd_move.proofs.AfterSweep.{later_swept}
 use Rattle.sd_move.proofs.BeginAndEnd.{begun}
-use Rattle.sd_move.proofs.Linking.{linked_key}
 use Rattle.sd_move.proofs.LowerNode.{lower_node}
 use Rattle.sd_move.proofs.Recorded.{linked_again}
 use Rattle.sd_move.proofs.ThereAndBack.{kept_needed}

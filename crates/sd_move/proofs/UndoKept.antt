@@ -19,6 +19,7 @@ use Rattle.sd_laws.proofs.Nodes.{code_of_node}
 use Rattle.sd_laws.proofs.Within.{IsCodeIn, shows_within}
 use Rattle.sd_manager.specs.Table.{Table}
 use Rattle.sd_manager.specs.Shown.{ShowsCanonical}
+use Rattle.sd_manager.proofs.Holding.{some_value}
 use Rattle.sd_laws.specs.Turned.{lower_of}
 use Rattle.sd_sweep.specs.Reached.{reached_first, reached_below, IsHeldBy, IsReached, KeepsReached}
 use Rattle.sd_sweep.proofs.Keeping.{reached_kept}
@@ -45,11 +46,6 @@ image : {X Y : Type 0} (f : X → Y) (o : Option X) (y : Y) → option_map f o �
 image f None y h = absurd (none-some y h)
 image f (Some x) y h = (x, refl, same_Some (f x) y h)
 
--- something that is there
-there : {X : Type 0} (o : Option X) → IsSome o → (x : X) × (o ≡ Some x)
-there None h = absurd (cc (h))
-there (Some x) h = (x, refl)
-
 -- what the journal needs is reached now
 
 -- the list that a node has in the state gone back to is a list of a reached node, or of a loose run
@@ -74,7 +70,7 @@ below_now j t m n place list r e s = by_entry (journal_entry j.named m) e
 -- a named node is reached
 named_now : (j : Journal) (t : Table) → CanUndo j t → (n : ℕ) → IsNamed j.named n → IsReached t n
 named_now j t c n h =
-    let e = there (journal_entry j.named n) h in
+    let e = some_value (journal_entry j.named n) h in
     let f = entry_found j.named (CanPutBack t j.upper j.lower) c.entries n e.0 e.1 in
     subst (IsReached t) f.1 f.0.reached
 
@@ -108,7 +104,7 @@ back_same j t u v c k n h = by_entry (journal_entry j.named n)
     linked : get u.linked n ≡ get t.linked n
     linked =
         let s = c.shown n h in
-        let l = there (get t.linked n) (linked_shown t v n s.now s.shown_now) in
+        let l = some_value (get t.linked n) (linked_shown t v n s.now s.shown_now) in
         k.nodes n l.0 (needed_reached j t c h) l.1 ∙ sym l.1
 
     by_run : (p : ℕ) (o : Option (ℕ × ℕ)) → key_before u n p o ≡ key_before t n p o

@@ -1,5 +1,5 @@
 -- Before a journal is undone: what is known of the nodes now, and in the state gone back to.
-use Rattle.std.proofs.Common.{◌≡◌, ◌≢◌, ◌⊎◌, inl, inr, ℕ, ◌+◌, ◌*◌, ◌≤◌, ◌<◌, List, [], ◌∷◌, Option, Some, None}
+use Rattle.std.proofs.Common.{◌≡◌, ◌≢◌, ◌⊎◌, inl, inr, ℕ, ◌+◌, ◌*◌, ◌<◌, List, [], ◌∷◌, Option, Some, None}
 use Rattle.std.proofs.Common.{refl, sym, ◌∙◌, ap, subst, arith}
 use Rattle.std.specs.List.{AllByRecursion}
 use Rattle.std.specs.Option.{IsSome, option_map}
@@ -7,10 +7,9 @@ use Rattle.std.specs.FinMap.{get}
 use Rattle.std.proofs.lemmas.Bool.{cases_eq}
 use Rattle.std.proofs.lemmas.Option.{none-some, some_pair_parts}
 use Rattle.sd_model.specs.Tree.{leaves}
-use Rattle.sd_vtree.specs.Numbered.{Numbered, plain_tree, IsNumbered, IsUnder, number_of, subtree, numbers, times}
-use Rattle.sd_vtree.proofs.Subtrees.{AtMostOnce, once_numbered, subtree_some, subtree_once, subtree_trans}
-use Rattle.sd_vtree.proofs.Subtrees.{subtree_number}
-use Rattle.sd_vtree.proofs.Under.{under_trans, under_part}
+use Rattle.sd_vtree.specs.Numbered.{Numbered, plain_tree, IsNumbered, IsUnder}
+use Rattle.sd_vtree.proofs.Subtrees.{AtMostOnce, once_numbered}
+use Rattle.sd_vtree.proofs.Under.{under_trans}
 use Rattle.sd_laws.specs.Shown.{Lookup}
 use Rattle.sd_laws.specs.Turned.{KeepsOthers}
 use Rattle.sd_laws.specs.Values.{StandsIn, IsCodeOf, AreOrderly, ShowsValue}
@@ -18,26 +17,17 @@ use Rattle.sd_laws.proofs.Lists.{all_weaker}
 use Rattle.sd_laws.proofs.Nodes.{code_of_node}
 use Rattle.sd_laws.proofs.Evaluated.{value_of, value_of_shown, literals_given}
 use Rattle.sd_laws.proofs.Unturned.{IsShownNode, valued_orderly}
-use Rattle.sd_laws.proofs.GoneBack.{GoesBack, IsBaseOrNode, root_below}
+use Rattle.sd_laws.proofs.GoneBack.{GoesBack, IsBaseOrNode}
 use Rattle.sd_manager.specs.Table.{Table}
 use Rattle.sd_manager.specs.Valid.{IsTable}
 use Rattle.sd_manager.proofs.AtRest.{all_shown, now_orderly, below_user}
+use Rattle.sd_manager.proofs.DetachedFrom.{under_apart}
 use Rattle.sd_sweep.specs.Reached.{reached_first, reached_below, IsInRun, IsReached}
 use Rattle.sd_move.specs.Journal.{Named, Journal, journal_entry, key_before, key_of_entry, back, IsOwnRun}
 use Rattle.sd_move.specs.Journal.{IsNeededBack, CanPutBack, CanUndo}
 use Rattle.sd_move.proofs.UndoKept.{entry_found}
 
 -- places
-
--- two nodes do not stand strictly under each other
-pub under_apart : (t : Numbered) → AtMostOnce t → (a m : ℕ) → IsUnder t a m → IsUnder t m a → a ≢ m → ⊥
-under_apart t once a m u v d =
-    let s = subtree_some u.part a u.has in
-    let at : subtree t a ≡ Some s.0 = subtree_trans t once m u.part u.is a s.0 s.1 in
-    let has : 1 ≤ times m (numbers s.0) = under_part t m a s.0 at v in
-    let number : number_of u.part ≡ m = subtree_number t m u.part u.is in
-    root_below u.part s.0 a (subtree_once t m u.part once u.is) s.1 (λ e. d (e ∙ number))
-    (subst (λ z. 1 ≤ times z (numbers s.0)) (sym number) has)
 
 -- what is strictly under a node that is under x is strictly under x
 pub under_strictly : (t : Numbered) → AtMostOnce t → (a m x : ℕ) → IsUnder t a m → m ≢ a → IsUnder t m x →

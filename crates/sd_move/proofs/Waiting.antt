@@ -20,12 +20,12 @@ use Rattle.sd_laws.proofs.Choosing.{two_sided_same}
 use Rattle.sd_laws.proofs.Lists.{all_weaker}
 use Rattle.sd_manager.specs.Table.{Table}
 use Rattle.sd_manager.specs.Valid.{IsTable}
+use Rattle.sd_manager.proofs.Reading.{detached_key}
 use Rattle.sd_apply.specs.Places.{tree_at}
 use Rattle.sd_move.specs.declared.sorting.Side.{Side}
 use Rattle.sd_move.specs.Moving.{Progress}
 use Rattle.sd_move.specs.Sorting.{IsTwoSidedAt, CanSortNode, CanSort, AreSorted}
 use Rattle.sd_move.proofs.Divided.{looks_below}
-use Rattle.sd_move.proofs.Linking.{detached_key}
 use Rattle.sd_move.proofs.LinkedOn.{lifted}
 use Rattle.sd_move.proofs.SortedAll.{member_at}
 use Rattle.sd_move.proofs.TurnedMove.{times_cons}

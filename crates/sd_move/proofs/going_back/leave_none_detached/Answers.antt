@@ -1,5 +1,5 @@
 use Rattle.std.specs.FinMap.{get}
-use Rattle.sd_move.proofs.Returning.{there}
+use Rattle.sd_manager.proofs.Holding.{some_value}
 use Rattle.sd_move.proofs.ReturnLeft.{fewer_detached}
 use Rattle.sd_move.proofs.going_back.leave_none_detached.Goals as goal
 
@@ -12,7 +12,7 @@ link_or_discard-requires-clause-table c = c.loop-number.invariant.table
 
 pub loop-number-smaller : goal.loop-number-smaller
 loop-number-smaller c =
-    let k = there (get c.loop-number.m.detached c.in-Some.number) c.in-Some.ensures.some in
+    let k = some_value (get c.loop-number.m.detached c.in-Some.number) c.in-Some.ensures.some in
     fewer_detached c.loop-number.m c.link_or_discard.new.m c.in-Some.number k.0 k.1 c.link_or_discard.ensures.gone
 
 pub loop-number-preserved : goal.loop-number-preserved

@@ -2,8 +2,9 @@ use Rattle.std.proofs.Common.{◌∙◌, ◌+◌, drop, sym, subst}
 use Rattle.sd_manager.specs.Views.{pairs_at}
 use Rattle.sd_manager.proofs.Extending.{extends_on}
 use Rattle.sd_apply.proofs.Listed.{below_on, children_on}
+use Rattle.sd_apply.proofs.Tried.{listed_slice}
 use Rattle.sd_move.proofs.NewList.{IsSum, bottom_below, pair_there, sum_first, sum_more, sum_skips, sum_last}
-use Rattle.sd_move.proofs.NewList.{partition_same, all_read}
+use Rattle.sd_move.proofs.NewList.{all_read}
 use Rattle.sd_move.proofs.rewriting.by_products.Goals as goal
 
 pub expand_at-requires-clause-a : goal.expand_at-requires-clause-a
@@ -28,7 +29,7 @@ pub with_product-requires-clause-sum : goal.with_product-requires-clause-sum
 with_product-requires-clause-sum c =
     let s = c.loop-index.invariant.0 in (
       s.value,
-      partition_same c.loop-index.m c.args.place c.loop-index.sum.items c.as_slice.result.now s.value s.partition
+      listed_slice c.loop-index.m c.args.place c.loop-index.sum.items c.as_slice.result.now s.value s.partition
           c.as_slice.ensures,
     )
 
@@ -60,7 +61,7 @@ loop-index-preserved c =
           (drop (c.loop-index.index + 1) (pairs_at m c.args.node)) c.element-prime.result c.requires.table w.0 w.1.0
           w.1.1 c.with_product.ensures.kept c.with_product.ensures.grown c.with_product.ensures.table
           (λ f d e h. c.in_ok-sum-2.ensures.ok f d e
-          (partition_same now c.args.place c.loop-index.sum.items c.as_slice.result.now f h c.as_slice.ensures)),
+          (listed_slice now c.args.place c.loop-index.sum.items c.as_slice.result.now f h c.as_slice.ensures)),
       c.with_product.ensures.knows,
     )
 

@@ -6,13 +6,13 @@ use Rattle.sd_manager.specs.Views.{pairs_at}
 use Rattle.sd_manager.proofs.Extending.{extends_on}
 use Rattle.sd_apply.specs.Partitions.{IsPartitionOf, MergesAt}
 use Rattle.sd_apply.proofs.Growing.{strictly_both}
-use Rattle.sd_move.proofs.NewList.{partition_same}
+use Rattle.sd_apply.proofs.Tried.{listed_slice}
 use Rattle.sd_move.proofs.rewriting.new_list.Goals as goal
 
 pub merge_at-requires-clause-partition : goal.merge_at-requires-clause-partition
 merge_at-requires-clause-partition c =
     let f = pairs_value (value_of (get c.args.m.now.linked)) (pairs_at c.args.m.now c.args.node) in
-    let p = partition_same c.partition_at.new.m c.args.place c.in_ok-list.list.items c.as_slice.result.now f
+    let p = listed_slice c.partition_at.new.m c.args.place c.in_ok-list.list.items c.as_slice.result.now f
     c.in_ok-list.ensures.ok c.as_slice.ensures in
     (p.diagrams, p.is)
 
@@ -24,7 +24,7 @@ returns-clause-ok c =
     let f = pairs_value (value_of (get c.args.m.now.linked)) (pairs_at c.args.m.now c.args.node) in
     IfOk-weaker c.merge_at.result (λ r. MergesAt now next p c.as_slice.result.now r.items)
     (λ r. IsPartitionOf next p r.items f)
-    (λ r h. h.each f (partition_same now p c.in_ok-list.list.items c.as_slice.result.now f c.in_ok-list.ensures.ok
+    (λ r h. h.each f (listed_slice now p c.in_ok-list.list.items c.as_slice.result.now f c.in_ok-list.ensures.ok
     c.as_slice.ensures)) c.merge_at.ensures.ok
 
 pub returns-clause-kept : goal.returns-clause-kept

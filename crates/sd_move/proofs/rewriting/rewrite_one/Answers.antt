@@ -7,8 +7,8 @@ use Rattle.sd_laws.specs.Values.{pairs_value}
 use Rattle.sd_laws.proofs.Evaluated.{value_of}
 use Rattle.sd_manager.specs.Table.{Table}
 use Rattle.sd_manager.specs.Views.{pairs_at}
+use Rattle.sd_apply.proofs.Tried.{listed_slice}
 use Rattle.sd_move.specs.Rewriting.{AreRewritten}
-use Rattle.sd_move.proofs.NewList.{partition_same}
 use Rattle.sd_move.proofs.RewrittenAll.{grown_rewritten}
 use Rattle.sd_move.proofs.RewrittenOne.{place_inner, node_there, codes_below, list_whole}
 use Rattle.sd_move.proofs.RewritingStep.{waits_still, new_list_fits, new_list_absent, goes_still}
@@ -61,7 +61,7 @@ rewrite-requires-clause-fits c =
     new_list_fits w.1.0 c.args.m.now c.new_list.new.m c.args.place w.1.1 w.1.2 c.args.number w.0
     c.requires.table c.new_list.ensures.table w.1.3 c.new_list.ensures.kept c.new_list.ensures.grown
     (c.args.number + 2050) (omega arith) c.as_slice.result.now
-    (partition_same c.new_list.new.m c.args.place c.in_ok-list.list.items c.as_slice.result.now f
+    (listed_slice c.new_list.new.m c.args.place c.in_ok-list.list.items c.as_slice.result.now f
     c.in_ok-list.ensures.ok c.as_slice.ensures)
     (subst (λ l. AreDistinct (map (λ (e : ℕ × ℕ). e.1) l)) (sym c.as_slice.ensures) c.in_ok-list.ensures.differ)
 
@@ -72,7 +72,7 @@ rewrite-requires-clause-absent c =
     new_list_absent w.1.0 c.args.m.now c.new_list.new.m c.args.place w.1.1 w.1.2 c.args.number w.0
     c.requires.table c.new_list.ensures.table w.1.3 c.new_list.ensures.kept c.new_list.ensures.grown
     (c.args.number + 2050) (omega arith) c.as_slice.result.now
-    (partition_same c.new_list.new.m c.args.place c.in_ok-list.list.items c.as_slice.result.now f
+    (listed_slice c.new_list.new.m c.args.place c.in_ok-list.list.items c.as_slice.result.now f
     c.in_ok-list.ensures.ok c.as_slice.ensures)
 
 -- where the list was refused
@@ -110,7 +110,7 @@ returns-clause-going c =
     going_answer c.args.m.now c.new_list.new.m c.rewrite.new.self c.args.place c.args.number c.requires.table
     c.new_list.ensures.table c.rewrite.ensures.table c.new_list.ensures.kept c.new_list.ensures.grown
     c.as_slice.result.now
-    (partition_same c.new_list.new.m c.args.place c.in_ok-list.list.items c.as_slice.result.now f
+    (listed_slice c.new_list.new.m c.args.place c.in_ok-list.list.items c.as_slice.result.now f
     c.in_ok-list.ensures.ok c.as_slice.ensures) c.rewrite.result c.rewrite.ensures.ok
 
 pub returns-clause-still : goal.returns-clause-still

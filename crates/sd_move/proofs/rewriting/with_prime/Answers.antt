@@ -8,7 +8,7 @@ use Rattle.sd_model.specs.Diagram.{meaning}
 use Rattle.sd_manager.proofs.Extending.{extends_on}
 use Rattle.sd_apply.specs.Partitions.{AreElementsOf, MultipliesAt}
 use Rattle.sd_apply.proofs.Growing.{strictly_both}
-use Rattle.sd_move.proofs.NewList.{partition_same}
+use Rattle.sd_apply.proofs.Tried.{listed_slice}
 use Rattle.sd_move.proofs.Spreading.{one_disjoint, product_chosen}
 use Rattle.sd_move.proofs.rewriting.with_prime.Goals as goal
 
@@ -27,7 +27,7 @@ multiply_at-requires-clause-first c =
 pub multiply_at-requires-clause-second : goal.multiply_at-requires-clause-second
 multiply_at-requires-clause-second c =
     let e = c.requires.sub in
-    let p = partition_same c.expand_at.new.m c.args.place c.in_ok-list.list.items c.as_slice.result.now
+    let p = listed_slice c.expand_at.new.m c.args.place c.in_ok-list.list.items c.as_slice.result.now
     (meaning e.diagram) (c.in_ok-list.ensures.ok.each e.diagram e.is) c.as_slice.ensures in
     (p.diagrams, p.is)
 
@@ -43,7 +43,7 @@ returns-clause-ok c =
     (λ r. AreElementsOf q p r.items (chosen (value_of (get m.linked)) ((c.args.prime, c.args.sub) ∷ [])))
     (λ r h. product_chosen m n q c.requires.table c.expand_at.ensures.kept c.expand_at.ensures.table p c.args.prime
     c.args.sub c.as_slice.result.now r.items c.requires.prime e
-    (partition_same n p c.in_ok-list.list.items c.as_slice.result.now (meaning e.diagram)
+    (listed_slice n p c.in_ok-list.list.items c.as_slice.result.now (meaning e.diagram)
     (c.in_ok-list.ensures.ok.each e.diagram e.is) c.as_slice.ensures) h)
     c.multiply_at.ensures.ok
 
