@@ -90,6 +90,7 @@ impl NodeAnswers {
     }
 
     /// The answer that stands here for the node and the literals before the next index.
+    #[inline(always)]
     pub(crate) fn look(&self, node: u32, next: usize) -> Option<u32>
         ensures right { IfSome result (λ r. (t : Table) (o : Operation) (l : List (ℕ × ℤ)) →
             Remembers self.now t o l → IsFoundBefore t o l node next r) }
