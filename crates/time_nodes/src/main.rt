@@ -1,8 +1,9 @@
 //! Times the calls on numbered nodes of two elements, a call each: find_or_insert of new keys, find
 //! and removal in a random order; a million calls over tables of 20,000 nodes, and where it is given
 //! a word a million over 1,000,000 nodes. Each is timed in new tables, and in one that was filled and
-//! emptied before: the difference is what growth and the pages of a new table cost, and at 1,000,000
-//! nodes that numbers are given again in a random order.
+//! emptied before, by removals or by a sweep: the difference is what growth and the pages of a new table
+//! cost, and at 1,000,000 nodes, where the removals come in a random order, that numbers are given again
+//! in that order.
 //! Standard error has the nanoseconds of a call, standard output the sums of the numbers that the
 //! calls answered in one round, which depend on no time.
 #![tactic(auto)]
@@ -14,7 +15,14 @@ mod work;
 use sd_unique::Nodes;
 use std::time::Instant;
 use std::{env, io};
-use work::{found, made, removed};
+use work::{found, made, removed, swept};
+
+// How a table is emptied.
+#[derive(Clone, Copy, Drop)]
+enum Emptying {
+    ByRemovals,
+    BySweep,
+}
 
 // Nanoseconds of all calls of a kind.
 #[derive(Drop)]
@@ -36,12 +44,14 @@ impl Times {
 
 fn main(rt: HostRuntime) -> io::Result<()> {
     measure_new(&rt, 20_000, 50)?;
-    measure_again(&rt, 20_000, 50)?;
+    measure_again(&rt, 20_000, 50, Emptying::ByRemovals)?;
+    measure_again(&rt, 20_000, 50, Emptying::BySweep)?;
     if env::args(&rt)?.nth(1).is_none() {
         return Ok(());
     }
     measure_new(&rt, 1_000_000, 1)?;
-    measure_again(&rt, 1_000_000, 1)
+    measure_again(&rt, 1_000_000, 1, Emptying::ByRemovals)?;
+    measure_again(&rt, 1_000_000, 1, Emptying::BySweep)
 }
 
 // Times the calls over so many new tables of so many nodes.
@@ -55,7 +65,7 @@ fn measure_new(rt: &HostRuntime, count: u32, tables: u32) -> io::Result<()>
         let Ok(mut nodes) = Nodes::new(rt.alloc(), 2_000_000_000) else {
             return println!(rt; "no memory");
         };
-        sums = time_table(rt, &mut nodes, count, &mut times)?;
+        sums = time_table(rt, &mut nodes, count, Emptying::ByRemovals, &mut times)?;
     }
     let calls = u128::from(count) * u128::from(tables);
     eprint!(rt; "{count} nodes in new tables, ")?;
@@ -64,7 +74,7 @@ fn measure_new(rt: &HostRuntime, count: u32, tables: u32) -> io::Result<()>
 }
 
 // Times the calls over one table of so many nodes, which is filled and emptied once before, and then so many times.
-fn measure_again(rt: &HostRuntime, count: u32, rounds: u32) -> io::Result<()>
+fn measure_again(rt: &HostRuntime, count: u32, rounds: u32, how: Emptying) -> io::Result<()>
     requires nodes { 0 < count }
     requires rounds { 0 < rounds }
 {
@@ -72,15 +82,19 @@ fn measure_again(rt: &HostRuntime, count: u32, rounds: u32) -> io::Result<()>
         return println!(rt; "no memory");
     };
     let mut times = Times::none();
-    let mut sums = time_table(rt, &mut nodes, count, &mut times)?;
+    let mut sums = time_table(rt, &mut nodes, count, how, &mut times)?;
     times = Times::none();
     for _ in 0..rounds {
-        sums = time_table(rt, &mut nodes, count, &mut times)?;
+        sums = time_table(rt, &mut nodes, count, how, &mut times)?;
     }
     let calls = u128::from(count) * u128::from(rounds);
-    eprint!(rt; "{count} nodes in one table, again, ")?;
+    let emptied = match how {
+        Emptying::ByRemovals => "again",
+        Emptying::BySweep => "behind a sweep",
+    };
+    eprint!(rt; "{count} nodes in one table, {emptied}, ")?;
     report(rt, &times, calls)?;
-    println!(rt; "{count} nodes again: {} {} {}", sums.0, sums.1, sums.2)
+    println!(rt; "{count} nodes {emptied}: {} {} {}", sums.0, sums.1, sums.2)
 }
 
 // Prints the nanoseconds of a call.
@@ -97,6 +111,7 @@ fn time_table(
     rt: &HostRuntime,
     nodes: &mut Nodes,
     count: u32,
+    how: Emptying,
     times: &mut Times,
 ) -> io::Result<(u64, u64, u64)>
     requires { 0 < count }
@@ -108,7 +123,10 @@ fn time_table(
     let sum_found = found(nodes, count);
     times.found = times.found.saturating_add(start.elapsed(rt)?.as_nanos());
     let start = Instant::now(rt)?;
-    let sum_removed = removed(nodes, count);
+    let sum_removed = match how {
+        Emptying::ByRemovals => removed(nodes, count),
+        Emptying::BySweep => swept(nodes, count),
+    };
     times.removed = times.removed.saturating_add(start.elapsed(rt)?.as_nanos());
     Ok((sum_made, sum_found, sum_removed))
 }

@@ -56,3 +56,15 @@ pub(crate) fn removed(nodes: &mut Nodes, count: u32) -> u64
     }
     sum
 }
+
+// The sum of the numbers of the nodes, which a sweep takes away.
+pub(crate) fn swept(nodes: &mut Nodes, count: u32) -> u64 {
+    let mut sum: u64 = 0;
+    for _step in 0..count {
+        if let Some(node) = nodes.idle() {
+            nodes.retire(node);
+            sum = sum.wrapping_add(u64::from(node));
+        }
+    }
+    sum
+}
