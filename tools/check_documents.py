@@ -141,6 +141,19 @@ def check_paths():
             expect(os.path.exists(os.path.join(TOP, path)), "%s: there is no %s" % (document, path))
 
 
+def check_crate_paths():
+    """In MAP, a path in a crate follows the crate's name in its row, or begins with it."""
+    crates = os.listdir(os.path.join(TOP, "crates"))
+    for row in text_of("docs/MAP.md").splitlines():
+        crate = None
+        for word in re.findall(r"`([^`]*)`", row):
+            if word.split("/")[0] in crates:
+                crate, _, word = word.partition("/")
+            if crate and re.fullmatch(r"(?:src|specs|proofs)/[\w/+]+\.(?:rt|antt)", word):
+                found = os.path.exists(os.path.join(TOP, "crates", crate, word))
+                expect(found, "docs/MAP.md: %s has no %s" % (crate, word))
+
+
 def check_count():
     counted = subprocess.run([sys.executable, os.path.join(TOP, "tools/reached_definitions.py")],
                              stdout=subprocess.PIPE, text=True, check=True).stdout
@@ -221,6 +234,7 @@ def main():
     check_crates()
     check_answers()
     check_paths()
+    check_crate_paths()
     check_count()
     check_commands(sys.argv[2] if sys.argv[1:2] == ["--run"] else None)
     for fault in faults:
