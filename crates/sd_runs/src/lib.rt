@@ -2,11 +2,13 @@
 //! reuse.
 //!
 //! All elements stand in one vector of pairs, 8 bytes each. A run has 4 bytes more, and so has each
-//! length up to that of the longest list.
+//! length up to that of the longest list. An element has a byte more, where the free runs of a length
+//! are put in the order of their starts: it is room until then, and takes no memory of the machine.
 #![tactic(auto)]
 
 mod error;
 mod heads;
+mod ordering;
 mod runs;
 mod writing;
 

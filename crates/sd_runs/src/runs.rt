@@ -1,6 +1,7 @@
 // The runs of one arena.
 use crate::TakeError;
 use crate::heads::{NONE, make_heads};
+use crate::ordering::{chain_marked, mark_chain};
 use crate::writing::write;
 use std::alloc::Global;
 use std::marker::Model;
@@ -24,6 +25,9 @@ pub struct Runs {
     used: u32,
     // what the number of elements never passes
     bound: u32,
+    // room for a mark of each element, made where the arena grows: only while `order` puts free runs in
+    // order are there marks
+    marks: Vec<bool>,
 }
 
 impl Model for Runs {
@@ -53,7 +57,7 @@ impl Runs {
     ghost use Rattle.std.specs.FinMap.{get};
     ghost use Rattle.sd_runs.specs.Arena.{IsArena, free_of, live_length, live_total};
     ghost use Rattle.sd_runs.specs.Taking.{empty_arena, first, next_start, taken};
-    ghost use Rattle.sd_runs.specs.Taking.{given_back, KeepsLive, IsFull, IsRefusal};
+    ghost use Rattle.sd_runs.specs.Taking.{given_back, KeepsLive, IsFull, IsRefusal, IsReordered};
 
     /// An arena of no runs, for at most `bound` elements, live or free. Takes no memory.
     pub fn new(alloc: Global, bound: u32) -> Runs
@@ -67,6 +71,7 @@ impl Runs {
             heads: Vec::new(alloc),
             used: 0,
             bound,
+            marks: Vec::new(alloc),
         }
     }
 
@@ -148,6 +153,7 @@ impl Runs {
     {
         make_heads(&mut self.heads, list.len())?;
         self.lengths.reserve(1)?;
+        self.marks.reserve(self.elements.len() + list.len())?;
         let start = self.elements.len() as u32;
         self.elements.extend_from_slice(list)?;
         let length = list.len() as u32;
@@ -166,6 +172,26 @@ impl Runs {
         self.elements[start as usize] = (self.heads[length as usize], 0);
         self.heads[length as usize] = start;
         self.used -= length;
+    }
+
+    /// Puts the free runs of this length in the order of their starts, so that the least is taken
+    /// next. Takes no memory, and a step for each element.
+    pub fn order(&mut self, length: u32)
+        ensures reordered { IsReordered self.old self.new length }
+        ensures arena { IsArena self.new }
+    {
+        let length = length as usize;
+        if length >= self.heads.len() {
+            return;
+        }
+        // room for the marks was made as the arena grew, so this can't fail
+        self.marks.clear();
+        if self.marks.resize(self.elements.len(), false).is_err() {
+            return;
+        }
+        mark_chain(&self.elements, self.heads[length], &mut self.marks);
+        self.heads[length] = chain_marked(&self.marks, &mut self.elements);
+        self.marks.clear();
     }
 
     /// The list of the live run of this length that starts here.
