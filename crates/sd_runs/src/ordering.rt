@@ -9,7 +9,8 @@ use crate::heads::NONE;
 
 // Marks the start of each free run from this one on.
 pub(crate) fn mark_chain(elements: &[(u32, u32)], head: u32, marks: &mut [bool])
-    requires chained { IsFreeChain elements.now head (chain (length elements.now) elements.now head) }
+    requires chained { IsFreeChain elements.now head
+        (chain (length elements.now) elements.now head) }
     requires inside { (s : ℕ) → IsMember s (chain (length elements.now) elements.now head)
         → s < length elements.now }
     requires clear { (s : ℕ) → get_or marks.old s false ≡ false }

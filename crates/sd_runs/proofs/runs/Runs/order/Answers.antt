@@ -21,8 +21,8 @@ pub mark_chain-requires-clause-chained : goal.mark_chain-requires-clause-chained
 mark_chain-requires-clause-chained c =
     chain_holds c.self.inside.elements.items c.self.inside.lengths.items c.self.inside.heads.items c.self.inside.used
     c.self.inside.bound c.args.length c.self.invariant c.deref.result.now c.index.result.now c.deref.ensures.value
-    (get_or_default c.self.inside.heads.items c.args.length no_run c.index.result.now (omega (arith, c.if-length-len.false))
-    ∙ sym c.index.ensures)
+    (get_or_default c.self.inside.heads.items c.args.length no_run c.index.result.now
+    (omega (arith, c.if-length-len.false)) ∙ sym c.index.ensures)
 
 pub mark_chain-requires-clause-inside : goal.mark_chain-requires-clause-inside
 mark_chain-requires-clause-inside c = λ s h.
