@@ -565,7 +565,8 @@ impl Nodes {
         Some(self.candidates)
     }
 
-    // Puts the free numbers in order where a great part of the records was freed since that was done.
+    // Puts the free numbers and the free runs of two in order where a great part of the records was freed
+    // since that was done.
     #[inline(always)]
     fn end_sweep(&mut self)
         ensures { self.new ≡ self.old }
@@ -576,14 +577,15 @@ impl Nodes {
         }
     }
 
-    // Puts the free numbers in order. A sweep frees them in the order of the stack, and nodes that got
-    // them in that order stand all over the records and links, where those made one after the other are
-    // read one after the other.
+    // Puts the free numbers in order, and the free runs of two, the length of most lists. A sweep frees
+    // them in the order of the stack, and nodes that got them in that order stand all over the records,
+    // links and runs, where those made one after the other are read one after the other.
     #[inline(never)]
     fn order_free(&mut self)
         ensures { self.new ≡ self.old }
     {
         order_free(&self.runs, &mut self.records, &mut self.heads);
+        self.runs.order(2);
         self.freed = 0;
     }
 

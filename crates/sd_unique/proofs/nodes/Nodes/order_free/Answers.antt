@@ -1,6 +1,7 @@
 use Rattle.std.proofs.Common.{◌<◌, length, ap, subst, ◌∙◌, arith}
 use Rattle.sd_unique.specs.Chains.{KeepsRecords}
 use Rattle.sd_unique.specs.Record.{nodes_of}
+use Rattle.sd_unique.proofs.Ordering.{nodes_reordered, kept_reordered}
 use Rattle.sd_unique.proofs.Rechained.{kept_rechained, kept_tables}
 use Rattle.sd_unique.proofs.Relinked.{nodes_kept}
 use Rattle.sd_unique.proofs.Stacked.{whole_slice}
@@ -18,19 +19,23 @@ invariant_of-self c =
       ap length c.deref_mut-2.ensures.value,
       c.self.invariant.at_least_one,
     ) in
-    kept_tables c.self.inside.runs c.order_free.new.records _ c.self.inside.links.items c.order_free.new.heads _
+    kept_reordered c.self.inside.runs c.order.new.self 2 c.order.ensures.reordered c.self.invariant.stored.well
+    c.order.ensures.arena _ c.self.inside.links.items _ c.self.inside.places.items c.self.inside.candidates
+    (kept_tables c.self.inside.runs c.order_free.new.records _ c.self.inside.links.items c.order_free.new.heads _
     c.self.inside.places.items c.self.inside.candidates records heads
     (kept_rechained c.self.inside.runs c.self.inside.records.items c.order_free.new.records
     c.self.inside.links.items c.self.inside.heads.items c.order_free.new.heads c.self.inside.places.items
     c.self.inside.candidates
     (subst (λ rs. KeepsRecords rs c.order_free.new.records) c.deref_mut.ensures.value c.order_free.ensures.kept)
-    some c.order_free.ensures.chained c.self.invariant)
+    some c.order_free.ensures.chained c.self.invariant))
 
 pub returns : goal.returns
 returns c =
     let records = whole_slice c.order_free.new.records c.self.inside.records.items c.self.inside.records.len
     (c.order_free.auto.records ∙ c.deref_mut.ensures.len) in
-    ap (nodes_of c.self.inside.runs) records
+    nodes_reordered c.self.inside.runs c.order.new.self 2 c.order.ensures.reordered c.self.invariant.stored.well
+    c.order.ensures.arena _
+    ∙ ap (nodes_of c.self.inside.runs) records
     ∙ nodes_kept c.self.inside.records.items c.order_free.new.records
     (subst (λ rs. KeepsRecords rs c.order_free.new.records) c.deref_mut.ensures.value c.order_free.ensures.kept)
     c.self.inside.runs
