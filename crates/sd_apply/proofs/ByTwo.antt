@@ -148,14 +148,14 @@ whole_same n o u w e f d x y c k i hd hx h j same = record {
         (second_value (meaning x.0 a) (meaning y.0 a) (meaning y.1 a) (meaning x.1 a) b e one)
 
 -- the two elements that a list of two shows
-record AreTwo (t : Table) (u w : ℕ) (f g : ℕ × ℕ) (ds : List (Diagram × Diagram)) : Type 0 where
-  x : Diagram × Diagram
-  y : Diagram × Diagram
-  first : IsPair t u w f x
-  second : IsPair t u w g y
-  all : ds ≡ x ∷ y ∷ []
+pub record AreTwo (t : Table) (u w : ℕ) (f g : ℕ × ℕ) (ds : List (Diagram × Diagram)) : Type 0 where
+  pub x : Diagram × Diagram
+  pub y : Diagram × Diagram
+  pub first : IsPair t u w f x
+  pub second : IsPair t u w g y
+  pub all : ds ≡ x ∷ y ∷ []
 
-two_shown : (t : Table) (u w : ℕ) (list : List (ℕ × ℕ)) (ds : List (Diagram × Diagram)) (f g : ℕ × ℕ) →
+pub two_shown : (t : Table) (u w : ℕ) (list : List (ℕ × ℕ)) (ds : List (Diagram × Diagram)) (f g : ℕ × ℕ) →
     length list ≡ 2 → ◌≡◌ {A = ℕ × ℕ} f (get_or list 0 (0, 0)) → ◌≡◌ {A = ℕ × ℕ} g (get_or list 1 (0, 0)) →
     AllZip (IsPair t u w) list ds → AreTwo t u w f g ds
 two_shown t u w [] ds f g n ef eg h = absurd (cc)

@@ -143,7 +143,7 @@ shows_false t i a x h e g =
     ap (λ d. meaning d g) (bottom_from_code t.vtree (get t.linked) i.numbered x (code_at t a 0 x h
     e))
 
-shows_true : (t : Table) → IsTable t → (a : ℕ) (x : Diagram) → Shows t a x → a ≡ 1 →
+pub shows_true : (t : Table) → IsTable t → (a : ℕ) (x : Diagram) → Shows t a x → a ≡ 1 →
     (g : List Bool) → meaning x g ≡ true
 shows_true t i a x h e g =
     ap (λ d. meaning d g) (top_from_code t.vtree (get t.linked) i.numbered x (code_at t a 1 x h e))

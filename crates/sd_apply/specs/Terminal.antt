@@ -27,3 +27,9 @@ abbrev pub opposites_code : Operation → ℕ
 opposites_code And = 0
 opposites_code Or = 1
 opposites_code Xor = 1
+
+-- the code of the value that decides a connective: beside it, it comes out
+abbrev pub deciding_code : Operation → Option ℕ
+deciding_code And = Some 0
+deciding_code Or = Some 1
+deciding_code Xor = None

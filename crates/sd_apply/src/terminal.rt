@@ -1,7 +1,7 @@
 // The terminal cases of the operations: answers that need no node.
 ghost use Rattle.std.specs.Prelude.{◌≡◌, ◌≤◌, ◌==◌, ℕ, if◌then◌else◌, Some, None};
 ghost use Rattle.sd_apply.specs.Operations.{operation_number};
-ghost use Rattle.sd_apply.specs.Terminal.{terminal_of, opposite_of, opposites_code};
+ghost use Rattle.sd_apply.specs.Terminal.{terminal_of, opposite_of, opposites_code, deciding_code};
 
 use sd_manager::NodeId;
 use sd_model::Operation;
@@ -77,5 +77,16 @@ pub(crate) fn at_opposites(operation: Operation) -> NodeId
         Operation::And => NodeId(0),
         Operation::Or => NodeId(1),
         Operation::Xor => NodeId(1),
+    }
+}
+
+/// The value that decides a connective: beside it, it comes out.
+pub(crate) fn deciding(operation: Operation) -> Option<u32>
+    ensures { result ≡ deciding_code operation }
+{
+    match operation {
+        Operation::And => Some(0),
+        Operation::Or => Some(1),
+        Operation::Xor => None,
     }
 }
