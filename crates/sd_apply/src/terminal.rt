@@ -90,3 +90,12 @@ pub(crate) fn deciding(operation: Operation) -> Option<u32>
         Operation::Xor => None,
     }
 }
+
+/// Whether a conjunction or a disjunction leaves every other node as it is beside this one.
+pub(crate) fn is_neutral(operation: Operation, node: NodeId) -> bool {
+    match operation {
+        Operation::And => node.0 == 1,
+        Operation::Or => node.0 == 0,
+        Operation::Xor => false,
+    }
+}
