@@ -8,7 +8,7 @@
 //
 // `add_group` sweeps behind each answer. `compile`, which adds all groups, and `add_group_past` sweep only where the
 // elements in use pass twice what the last sweep left: a sweep that takes a node away raises the epoch, and the kept
-// answers are lost.
+// answers are lost. Where each left child of the vtree is a leaf no group asks for them, and they sweep at each.
 ghost use Rattle.std.specs.Prelude.{◌≡◌, ◌↔◌, ℕ, ◌+◌, ◌-◌, ◌^◌, ◌<◌, ◌≤◌, None, IfOk, IfErr, OnOk, OnErr, IsTrue};
 ghost use Rattle.std.specs.Prelude.{length};
 ghost use Rattle.std.specs.Option.{IsSome};
@@ -98,8 +98,7 @@ pub fn add_group(
     ensures unmarked { AreUnmarked m.new }
     ensures table { IsTable m.new }
 {
-    let in_one_pass = is_right_linear(m.vtree());
-    let answer = join_next(alloc, m, c, f, work, in_one_pass, limit);
+    let answer = join_next(alloc, m, c, f, work, limit);
     sweep_kept(m, c);
     answer
 }
@@ -135,9 +134,9 @@ pub fn add_group_past(
     ensures unmarked { AreUnmarked m.new }
     ensures table { IsTable m.new }
 {
-    let in_one_pass = is_right_linear(m.vtree());
-    let answer = join_next(alloc, m, c, f, work, in_one_pass, limit);
-    sweep_past(m, c, most, in_one_pass, limit);
+    let at_each = is_right_linear(m.vtree());
+    let answer = join_next(alloc, m, c, f, work, limit);
+    sweep_past(m, c, most, at_each, limit);
     answer
 }
 
@@ -148,7 +147,6 @@ fn join_next(
     c: &mut Cache,
     f: &Formula,
     work: &mut Compiling,
-    in_one_pass: bool,
     limit: u32,
 ) -> Result<(), CompileError>
     requires variables { leaves (plain_tree m.old.vtree) ≡ f.now.variables }
@@ -173,7 +171,7 @@ fn join_next(
 {
     // its contract tells that the table is valid
     let _ = m.vtree();
-    let node = match next_node(alloc, m, c, f, work, in_one_pass) {
+    let node = match next_node(alloc, m, c, f, work) {
         Ok(node) => node,
         Err(error) => return Err(compile_error(error)),
     };
@@ -194,37 +192,9 @@ fn next_group(f: &Formula, work: &Compiling) -> u32
     work.groups + 1
 }
 
-// The node of the prefix with one group more. One pass is for vtrees each of whose left children is a leaf: elsewhere
-// the answer is the same, and dear.
+// The node of the prefix with one group more: joined in one pass along the node of the prefix, or by a node of its own
+// where it is exclusive.
 fn next_node(
-    alloc: Global,
-    m: &mut Manager,
-    c: &mut Cache,
-    f: &Formula,
-    work: &Compiling,
-    in_one_pass: bool,
-) -> Result<NodeId, TakeError>
-    requires variables { leaves (plain_tree m.old.vtree) ≡ f.now.variables }
-    requires serves { Serves c.old m.old }
-    requires left { work.now.groups < length f.now.groups }
-    requires holds { HoldsPrefix m.old f.now work.now }
-    ensures ok { IfOk result
-        (λ node. HasAnswer m.new (expression_value (prefix_of f.now (work.now.groups + 1))) node) }
-    ensures kept { Extends m.old m.new }
-    ensures serves { Serves c.new m.new }
-    ensures rule { IfErr result (λ e. KeepsRule m.new e) }
-    ensures table { IsTable m.new }
-{
-    if in_one_pass {
-        next_in_one_pass(alloc, m, c, f, work)
-    } else {
-        next_by_node(alloc, m, c, f, work)
-    }
-}
-
-// The same where the group is joined in one pass along the node of the prefix. An exclusive group has a node of its
-// own.
-fn next_in_one_pass(
     alloc: Global,
     m: &mut Manager,
     c: &mut Cache,
@@ -310,14 +280,14 @@ fn add_groups(
     ensures unmarked { AreUnmarked m.new }
     ensures table { IsTable m.new }
 {
-    let in_one_pass = is_right_linear(m.vtree());
-    let mut most = room_over(m.used(), in_one_pass);
+    let at_each = is_right_linear(m.vtree());
+    let mut most = room_over(m.used(), at_each);
     'left: while is_left(f, work) {
-        if let Err(error) = join_next(alloc, m, c, f, work, in_one_pass, limit) {
+        if let Err(error) = join_next(alloc, m, c, f, work, limit) {
             sweep_kept(m, c);
             return Err(error);
         }
-        sweep_past(m, c, &mut most, in_one_pass, limit);
+        sweep_past(m, c, &mut most, at_each, limit);
     }
     Ok(())
 }

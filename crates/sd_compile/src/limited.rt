@@ -25,12 +25,12 @@ pub const LEAST_GARBAGE: u32 = 262_144;
 
 // How many elements may be in use before the next sweep, where so many are now. A sweep that takes a node away raises
 // the epoch, and the cache's answers are lost: twice as many, so that what is swept pays for the sweep, and a small
-// diagram is left alone. Where groups are joined in one pass none asks the cache, and no more: a sweep costs what died,
-// and what just died is near and makes room for what comes next.
-pub(crate) fn room_over(used: u32, in_one_pass: bool) -> u32
+// diagram is left alone. `at_each`, where no group asks the cache, no more: a sweep costs what died, and what just died
+// is near and makes room for what comes next.
+pub(crate) fn room_over(used: u32, at_each: bool) -> u32
     ensures { used ≤ result }
 {
-    if in_one_pass {
+    if at_each {
         used
     } else {
         used.saturating_mul(2).max(LEAST_GARBAGE)
@@ -54,8 +54,8 @@ pub(crate) fn sweep_kept(m: &mut Manager, c: &Cache)
 }
 
 /// Sweeps where more elements are in use than `most` or than the limit. Then `most` becomes what may be in use before
-/// the next sweep: where no group asks the cache what is left, and else twice that, and at least `LEAST_GARBAGE`.
-pub fn sweep_past(m: &mut Manager, c: &Cache, most: &mut u32, in_one_pass: bool, limit: u32)
+/// the next sweep: `at_each` what is left, and else twice that, and at least `LEAST_GARBAGE`.
+pub fn sweep_past(m: &mut Manager, c: &Cache, most: &mut u32, at_each: bool, limit: u32)
     requires no_move { m.old.moving ≡ None }
     requires unmarked { AreUnmarked m.old }
     requires serves { Serves c.now m.old }
@@ -71,7 +71,7 @@ pub fn sweep_past(m: &mut Manager, c: &Cache, most: &mut u32, in_one_pass: bool,
         return;
     }
     sweep_kept(m, c);
-    *most = room_over(m.used(), in_one_pass);
+    *most = room_over(m.used(), at_each);
 }
 
 /// A new root that holds a node, if the total size is then within the limit. Else nothing is changed.

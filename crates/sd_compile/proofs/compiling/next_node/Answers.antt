@@ -6,7 +6,7 @@ use Rattle.sd_manager.proofs.Extending.{extends_self}
 use Rattle.sd_compile.specs.Joined.{JoinsLiterals}
 use Rattle.sd_compile.specs.Compiling.{CompiledPrefix, prefix_of, HoldsPrefix}
 use Rattle.sd_compile.proofs.Joining.{answer_node, prefix_node, group_at, prefix_passed}
-use Rattle.sd_compile.proofs.compiling.next_in_one_pass.Goals as goal
+use Rattle.sd_compile.proofs.compiling.next_node.Goals as goal
 
 pub join_literals-requires-clause-node : goal.join_literals-requires-clause-node
 join_literals-requires-clause-node c =
