@@ -1,4 +1,4 @@
-// A node joined with a group in one pass along it, where the left children of the vtree are leaves: the group has no
+// A node joined with a group in one pass along it: where the left children of the vtree are leaves the group has no
 // node of its own.
 ghost use Rattle.std.specs.Prelude.{◌≡◌, ◌<◌, length, IfOk, IfErr, IfSome};
 ghost use Rattle.sd_model.specs.Tree.{leaves};

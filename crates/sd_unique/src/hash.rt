@@ -1,4 +1,9 @@
 // The hash of a key, and the bucket of a hash.
+//
+// A node stands near its newest child: the hash is the greatest number in the list, and 15 mixed bits on top. What an
+// operation makes one after another, and what it looks for, has its buckets, the records there and their pages near
+// each other, where a hash of mixed bits alone touches the whole table at each step. The 32,768 buckets are there for
+// a child of many nodes, all of which may have it as their greatest number.
 ghost use Rattle.std.specs.Prelude.{◌≡◌, ◌<◌, ℕ, List};
 ghost use Rattle.sd_unique.specs.Chains.{bucket_of, hash_of, mixed};
 
@@ -8,10 +13,12 @@ pub(crate) fn hash(place: u32, list: &[(u32, u32)]) -> u32
     ensures { result ≡ hash_of (place, list.now) }
 {
     let mut hash = u64::from(place);
+    let mut greatest = 0;
     for pair in list {
         hash = mix(hash, pair.0, pair.1);
+        greatest = greatest.max(pair.0).max(pair.1);
     }
-    (hash >> 32) as u32
+    ((hash >> 49) as u32).wrapping_add(greatest)
 }
 
 // The bucket of a key of this hash among so many.
