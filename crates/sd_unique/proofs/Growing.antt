@@ -10,7 +10,7 @@ use Rattle.sd_unique.specs.declared.record.RecordState.{RecordState}
 use Rattle.sd_unique.specs.declared.record.RecordState.TheVariants.{Free, Linked, Detached}
 use Rattle.sd_unique.specs.Record.{key_of}
 use Rattle.sd_unique.specs.Filed.{IsChain, IsFiled}
-use Rattle.sd_unique.specs.Rechaining.{free_by, under_by, IsRechainedBelow}
+use Rattle.sd_unique.specs.Rechaining.{free_by, under_by, IsRechained}
 use Rattle.sd_unique.specs.Chains.{next_of, head_of, chain_by, chain_under, bucket_of, no_record}
 use Rattle.sd_unique.proofs.Numbered.{picked_from}
 
@@ -39,7 +39,7 @@ module _ (arena : Arena) (rs : List Record) where
   -- before the first step the free records stand in the first chain, and nothing else stands in any
   pub linked_none : (heads : List ℕ) (old count size first : ℕ) → 0 < size → first ≡ head_of heads 0
       → IsFiled (next_of rs) no_record (head_of heads) (chain_under arena old rs)
-      → IsRechainedBelow free_by arena count 0 rs (set (replicate size no_record) 0 first)
+      → IsRechained free_by arena count (λ n. n < 0) rs (set (replicate size no_record) 0 first)
   linked_none heads old count size first some is f =
       record {
         under = under_by free_by arena count rs;
@@ -50,8 +50,8 @@ module _ (arena : Arena) (rs : List Record) where
           filed = filed;
           only = only;
         };
-        below = λ n h. absurd (omega arith);
-        above = λ n h. refl;
+        done = λ n h. absurd (omega (arith, h));
+        others = λ n h. refl;
       }
     where
       chained : (b : ℕ) → IsChain (next_of rs) no_record (head_of (set (replicate size no_record) 0 first) b)

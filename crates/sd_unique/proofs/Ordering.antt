@@ -1,5 +1,5 @@
 -- Before the free records are chained anew, each other record stands where it did; the free runs in another order.
-use Rattle.std.proofs.Common.{◌≡◌, ℕ, suc, zero, ◌<◌, List, [], ◌∷◌, length, slice_get, Option, Some, None, unwrap_or}
+use Rattle.std.proofs.Common.{◌≡◌, ℕ, suc, zero, ◌<◌, ◌≤◌, List, [], ◌∷◌, length, slice_get, Option, Some, None, unwrap_or}
 use Rattle.std.proofs.Common.{refl, sym, ap, subst, ◌∙◌, arith}
 use Rattle.std.proofs.Math.ListN.{set}
 use Rattle.std.proofs.lemmas.Bool.{cases_eq}
@@ -17,10 +17,10 @@ use Rattle.sd_unique.specs.declared.record.RecordState.TheVariants.{Free, Linked
 use Rattle.sd_unique.specs.Record.{key_of, linked_key, detached_key, uses_of_record, mark_of_record, loose_of}
 use Rattle.sd_unique.specs.Record.{counts_of, picked_map, nodes_of}
 use Rattle.sd_unique.specs.Filed.{IsChain, IsFiled}
-use Rattle.sd_unique.specs.Rechaining.{linked_by, under_by, IsRechainedBelow, KeepsBuckets}
+use Rattle.sd_unique.specs.Rechaining.{linked_by, under_by, IsRechained, KeepsBuckets}
 use Rattle.sd_unique.specs.Chains.{next_of, head_of, chain_by, chain_under, bucket_of, no_record, HoldsNodes}
 use Rattle.sd_unique.proofs.Counts.{get_counts}
-use Rattle.sd_unique.proofs.Entries.{slice_get_set_other}
+use Rattle.sd_unique.proofs.Entries.{slice_get_inside, slice_get_set_other}
 use Rattle.sd_unique.proofs.Numbered.{picked_from}
 use Rattle.sd_unique.proofs.Taken.{kept_arena}
 
@@ -48,7 +48,7 @@ module _ (arena : Arena) (rs : List Record) where
   -- before the first step, without the head of the free records, the linked ones stand in their chains
   pub ordered_none : (heads : List ℕ) (count : ℕ) → 0 < length heads
       → IsFiled (next_of rs) no_record (head_of heads) (chain_under arena count rs)
-      → IsRechainedBelow linked_by arena count 0 rs (set heads 0 no_record)
+      → IsRechained linked_by arena count (λ n. length rs ≤ n) rs (set heads 0 no_record)
   ordered_none heads count some f =
       record {
         under = under_by linked_by arena count rs;
@@ -59,10 +59,17 @@ module _ (arena : Arena) (rs : List Record) where
           filed = filed;
           only = only;
         };
-        below = λ n h. absurd (omega arith);
-        above = λ n h. refl;
+        done = λ n h. outside n h (slice_get rs n) refl;
+        others = λ n h. refl;
       }
     where
+      outside : (n : ℕ) → length rs ≤ n → (o : Option Record) → slice_get rs n ≡ o
+          → under_by linked_by arena count rs n ≡ chain_under arena count rs n
+      outside n h None e =
+          ap (option_and_then (λ (x : Record). linked_by x.state (bucket_of (key_of arena x) count))) e
+          ∙ sym (ap (option_and_then (λ (x : Record). chain_by x.state (bucket_of (key_of arena x) count))) e)
+      outside n h (Some r) e = absurd (omega (arith, h, slice_get_inside rs n r e))
+
       chained : (b : ℕ) → IsChain (next_of rs) no_record (head_of (set heads 0 no_record) b) (without_first f.lists b)
       chained zero = get_or-set_same heads 0 no_record no_record some
       chained (suc b) =

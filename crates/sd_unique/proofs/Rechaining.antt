@@ -1,6 +1,6 @@
 -- The records come into other chains, one after the other.
-use Rattle.std.proofs.Common.{◌≡◌, ◌≢◌, ℕ, ◌+◌, ◌<◌, ◌≤◌, List, length, slice_get}
-use Rattle.std.proofs.Common.{Option, Some, None, refl, sym, ap, ◌∙◌, arith}
+use Rattle.std.proofs.Common.{◌≡◌, ◌≢◌, ℕ, ◌+◌, ◌<◌, ◌≤◌, ◌⊎◌, List, length, slice_get}
+use Rattle.std.proofs.Common.{Option, Some, None, inl, inr, refl, sym, ap, subst, ◌∙◌, arith}
 use Rattle.std.proofs.Math.ListN.{set}
 use Rattle.std.proofs.lemmas.Bool.{cases_eq, cases_lt}
 use Rattle.std.proofs.lemmas.List.{get_or-set_same, get_or-set_other}
@@ -11,48 +11,78 @@ use Rattle.sd_unique.specs.declared.record.Record.{Record}
 use Rattle.sd_unique.specs.declared.record.RecordState.{RecordState}
 use Rattle.sd_unique.specs.Record.{key_of}
 use Rattle.sd_unique.specs.Filed.{IsFiled, filed_at}
-use Rattle.sd_unique.specs.Rechaining.{IsRechainedBelow}
+use Rattle.sd_unique.specs.Rechaining.{IsRechained}
 use Rattle.sd_unique.specs.Chains.{next_of, head_of, chain_by, chain_under, bucket_of, no_record}
 use Rattle.sd_unique.proofs.Both.{filed_here, filed_other}
 use Rattle.sd_unique.proofs.Entries.{slice_get_inside, slice_get_set, slice_get_set_other}
 use Rattle.sd_unique.proofs.Filed.{filed_first, filed_same}
 use Rattle.sd_unique.proofs.Stacked.{link_there, link_other}
 
-module _ (by : RecordState → ℕ → Option ℕ) (arena : Arena) (rs : List Record) where
-  no_less : (n k : ℕ) → n < k + 1 → n ≢ k → n < k
-  no_less n k h ne = by_cases (λ e. absurd (ne e)) (λ d. omega arith) (cases_eq n k)
+-- with `k` one number more is passed
+pub record IsOneMore (before after : ℕ → Type 0) (k : ℕ) : Type 0 where
+  pub is_new : ¬ before k
+  pub is_passed : after k
+  pub kept : (n : ℕ) → before n → after n
+  pub others : (n : ℕ) → after n → n ≢ k → before n
 
+-- from 0 up
+pub one_up : (k : ℕ) → IsOneMore (λ n. n < k) (λ n. n < k + 1) k
+one_up k =
+    record {
+      is_new = λ h. omega (arith, h);
+      is_passed = omega arith;
+      kept = λ n h. omega (arith, h);
+      others = λ n h ne. by_cases (λ e. absurd (ne e)) (λ d. omega (arith, h, d)) (cases_eq n k);
+    }
+
+-- and from the end down
+pub one_down : (k : ℕ) → IsOneMore (λ n. k < n) (λ n. k ≤ n) k
+one_down k =
+    record {
+      is_new = λ h. omega (arith, h);
+      is_passed = omega arith;
+      kept = λ n h. omega (arith, h);
+      others = λ n h ne. by_cases (λ e. absurd (ne e)) (λ d. omega (arith, h, d)) (cases_eq n k);
+    }
+
+-- a number is below another one, or it is not
+pub below_or_not : (n k : ℕ) → (n < k) ⊎ ¬ (n < k)
+below_or_not n k = by_cases (λ h. inl h) (λ h. inr (λ less. omega (arith, h, less))) (cases_lt n k)
+
+module _ (by : RecordState → ℕ → Option ℕ) (arena : Arena) (rs : List Record) where
   -- a record that stands by the rule where its state says stays
-  pub rechained_pass : (count k : ℕ) (heads : List ℕ) (r : Record) → slice_get rs k ≡ Some r
+  pub rechained_pass : (before after : ℕ → Type 0) (count k : ℕ) (heads : List ℕ) (r : Record)
+      → IsOneMore before after k → slice_get rs k ≡ Some r
       → by r.state (bucket_of (key_of arena r) count) ≡ chain_by r.state (bucket_of (key_of arena r) count)
-      → IsRechainedBelow by arena count k rs heads → IsRechainedBelow by arena count (k + 1) rs heads
-  rechained_pass count k heads r there stays l =
+      → IsRechained by arena count before rs heads → IsRechained by arena count after rs heads
+  rechained_pass before after count k heads r more there stays l =
       record {
         under = l.under;
         filed = l.filed;
-        below = λ n h. by_cases
-            (λ e. ap l.under e ∙ l.above k (omega arith)
+        done = λ n h. by_cases
+            (λ e. ap l.under e ∙ l.others k more.is_new
             ∙ ap (option_and_then (λ (x : Record). by x.state (bucket_of (key_of arena x) count))) there ∙ stays
             ∙ sym (ap (chain_under arena count rs) e
             ∙ ap (option_and_then (λ (x : Record). chain_by x.state (bucket_of (key_of arena x) count))) there))
-            (λ ne. l.below n (no_less n k h ne))
+            (λ ne. l.done n (more.others n h ne))
             (cases_eq n k);
-        above = λ n h. l.above n (omega (arith, h));
+        others = λ n h. l.others n (λ was. h (more.kept n was));
       }
 
   -- one that stands in no chain by the rule is put first in that of its state
-  pub rechained_next : (count k head : ℕ) (heads : List ℕ) (r t : Record) → slice_get rs k ≡ Some r
+  pub rechained_next : (before after : ℕ → Type 0) (count k head : ℕ) (heads : List ℕ) (r t : Record)
+      → IsOneMore before after k → slice_get rs k ≡ Some r
       → by r.state (bucket_of (key_of arena r) count) ≡ None
       → chain_by t.state (bucket_of (key_of arena t) count) ≡ Some head → head < length heads
       → t.next ≡ head_of heads head → k ≢ no_record
-      → IsRechainedBelow by arena count k rs heads
-      → IsRechainedBelow by arena count (k + 1) (set rs k t) (set heads head k)
-  rechained_next count k head heads r t there none goes fits next some l =
+      → IsRechained by arena count before rs heads
+      → IsRechained by arena count after (set rs k t) (set heads head k)
+  rechained_next before after count k head heads r t more there none goes fits next some l =
       record {
         under = filed_at k head l.under;
         filed = filed_first (next_of rs) (next_of (set rs k t)) no_record (head_of heads) (head_of (set heads head k))
             l.under (filed_at k head l.under) head k some
-            (l.above k (omega arith)
+            (l.others k more.is_new
             ∙ ap (option_and_then (λ (x : Record). by x.state (bucket_of (key_of arena x) count))) there ∙ none)
             (record {
               after = link_there (λ (x : Record). x.next) rs k t inside ∙ next;
@@ -63,16 +93,16 @@ module _ (by : RecordState → ℕ → Option ℕ) (arena : Arena) (rs : List Re
               others = λ y ne. filed_other k head l.under y ne;
             })
             l.filed;
-        below = λ n h. by_cases
+        done = λ n h. by_cases
             (λ e. filed_here k head l.under n e ∙ sym goes
             ∙ sym (ap (chain_under arena count (set rs k t)) e
             ∙ ap (option_and_then (λ (x : Record). chain_by x.state (bucket_of (key_of arena x) count)))
             (slice_get_set rs k t inside)))
-            (λ ne. filed_other k head l.under n ne ∙ l.below n (no_less n k h ne)
+            (λ ne. filed_other k head l.under n ne ∙ l.done n (more.others n h ne)
             ∙ sym (ap (option_and_then (λ (x : Record). chain_by x.state (bucket_of (key_of arena x) count)))
             (slice_get_set_other rs k t n ne)))
             (cases_eq n k);
-        above = λ n h. filed_other k head l.under n (later n h) ∙ l.above n (omega (arith, h))
+        others = λ n h. filed_other k head l.under n (later n h) ∙ l.others n (λ was. h (more.kept n was))
             ∙ sym (ap (option_and_then (λ (x : Record). by x.state (bucket_of (key_of arena x) count)))
             (slice_get_set_other rs k t n (later n h)));
       }
@@ -80,21 +110,22 @@ module _ (by : RecordState → ℕ → Option ℕ) (arena : Arena) (rs : List Re
       inside : k < length rs
       inside = slice_get_inside rs k r there
 
-      later : (n : ℕ) → k + 1 ≤ n → n ≢ k
-      later n h e = omega (arith, h, e)
+      later : (n : ℕ) → ¬ after n → n ≢ k
+      later n h e = h (subst after (sym e) more.is_passed)
 
   -- after the last step each record stands where its state says
-  pub rechained_end : (count k : ℕ) (heads : List ℕ) → length rs ≤ k → IsRechainedBelow by arena count k rs heads
+  pub rechained_end : (passed : ℕ → Type 0) (count : ℕ) (heads : List ℕ) → ((n : ℕ) → n < length rs → passed n)
+      → ((n : ℕ) → passed n ⊎ ¬ passed n) → IsRechained by arena count passed rs heads
       → IsFiled (next_of rs) no_record (head_of heads) (chain_under arena count rs)
-  rechained_end count k heads all l =
+  rechained_end passed count heads all either l =
       filed_same _ _ no_record _ _ _ _ (λ b i e. refl) (λ b. refl) (λ n. at_each n (slice_get rs n) refl) l.filed
     where
       at_each : (n : ℕ) (o : Option Record) → slice_get rs n ≡ o → chain_under arena count rs n ≡ l.under n
       at_each n None e =
           let at = ap (option_and_then (λ (x : Record). chain_by x.state (bucket_of (key_of arena x) count))) e in
           by_cases
-          (λ h. sym (l.below n h))
-          (λ h. at ∙ sym (l.above n h
+          (λ h. sym (l.done n h))
+          (λ h. at ∙ sym (l.others n h
           ∙ ap (option_and_then (λ (x : Record). by x.state (bucket_of (key_of arena x) count))) e))
-          (cases_lt n k)
-      at_each n (Some r) e = sym (l.below n (omega (arith, all, slice_get_inside rs n r e)))
+          (either n)
+      at_each n (Some r) e = sym (l.done n (all n (slice_get_inside rs n r e)))

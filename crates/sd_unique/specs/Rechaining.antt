@@ -1,5 +1,5 @@
--- Records on the way into other chains: those below a number stand where their states say, of the others some do.
-use Rattle.std.specs.Prelude.{◌≡◌, ◌≢◌, ℕ, suc, ◌<◌, ◌≤◌, List, Option, Some, None, slice_get}
+-- Records on the way into other chains: those that were passed stand where their states say, of the others some do.
+use Rattle.std.specs.Prelude.{◌≡◌, ◌≢◌, ℕ, suc, List, Option, Some, None, slice_get}
 use Rattle.std.specs.Option.{option_and_then}
 use Rattle.sd_runs.specs.Arena.{Arena}
 use Rattle.sd_unique.specs.Filed.{IsFiled}
@@ -26,14 +26,14 @@ abbrev pub under_by : (RecordState → ℕ → Option ℕ) → Arena → ℕ →
 under_by by arena count records n =
     option_and_then (λ r. by r.state (bucket_of (key_of arena r) count)) (slice_get records n)
 
--- Each record below `number` stands in the chain that its state asks for among so many buckets; the others stand where
+-- Each record that was passed stands in the chain that its state asks for among so many buckets; the others stand where
 -- the rule says.
-pub record IsRechainedBelow (by : RecordState → ℕ → Option ℕ) (arena : Arena) (count number : ℕ)
+pub record IsRechained (by : RecordState → ℕ → Option ℕ) (arena : Arena) (count : ℕ) (passed : ℕ → Type 0)
     (records : List Record) (heads : List ℕ) : Type 0 where
   pub under : ℕ → Option ℕ
   pub filed : IsFiled (next_of records) no_record (head_of heads) under
-  pub below : (n : ℕ) → n < number → under n ≡ chain_under arena count records n
-  pub above : (n : ℕ) → number ≤ n → under n ≡ under_by by arena count records n
+  pub done : (n : ℕ) → passed n → under n ≡ chain_under arena count records n
+  pub others : (n : ℕ) → ¬ passed n → under n ≡ under_by by arena count records n
 
 -- The chains of the buckets are link by link as before: the records that are not free, and all heads but the first.
 pub record KeepsBuckets (old new : List Record) (heads heads' : List ℕ) : Type 0 where

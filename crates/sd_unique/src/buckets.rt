@@ -3,7 +3,7 @@ ghost use Rattle.std.specs.Prelude.{◌≡◌, ◌+◌, ◌<◌, ◌-◌, length
 ghost use Rattle.sd_unique.specs.Chains.{chain_under, head_of, next_of, no_record, AreHashed};
 ghost use Rattle.sd_unique.specs.Chains.{KeepsRecords};
 ghost use Rattle.sd_unique.specs.Filed.{IsFiled};
-ghost use Rattle.sd_unique.specs.Rechaining.{free_by, IsRechainedBelow};
+ghost use Rattle.sd_unique.specs.Rechaining.{free_by, IsRechained};
 ghost use Rattle.sd_unique.specs.Record.{AreRecordsStored};
 
 use crate::hash::bucket_at;
@@ -25,7 +25,7 @@ pub(crate) fn link_all(runs: &Runs, links: &[Links], records: &mut [Record], hea
     requires size { length links.now ≡ length records.old }
     requires hashed { AreHashed runs.now records.old links.now }
     requires at_least_one { 1 < length heads.old }
-    requires linked { IsRechainedBelow free_by runs.now (length heads.old - 1) 0 records.old
+    requires linked { IsRechained free_by runs.now (length heads.old - 1) (λ n. n < 0) records.old
         heads.old }
     ensures kept { KeepsRecords records.old records.new }
     ensures linked { IsFiled (next_of records.new) no_record (head_of heads.new)
@@ -43,10 +43,10 @@ fn link(runs: &Runs, links: &[Links], records: &mut [Record], heads: &mut [u32],
     requires hashed { AreHashed runs.now records.old links.now }
     requires inside { number < length records.old }
     requires at_least_one { 1 < length heads.old }
-    requires linked { IsRechainedBelow free_by runs.now (length heads.old - 1) number records.old
-        heads.old }
+    requires linked { IsRechained free_by runs.now (length heads.old - 1) (λ n. n < number)
+        records.old heads.old }
     ensures kept { KeepsRecords records.old records.new }
-    ensures linked { IsRechainedBelow free_by runs.now (length heads.new - 1) (number + 1)
+    ensures linked { IsRechained free_by runs.now (length heads.new - 1) (λ n. n < number + 1)
         records.new heads.new }
 {
     let mut record = records[number];

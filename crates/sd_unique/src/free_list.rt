@@ -1,14 +1,14 @@
 // The free records are chained anew, by their numbers.
-ghost use Rattle.std.specs.Prelude.{◌≡◌, ◌+◌, ◌<◌, ◌-◌, length};
+ghost use Rattle.std.specs.Prelude.{◌≡◌, ◌<◌, ◌≤◌, ◌-◌, length};
 ghost use Rattle.sd_unique.specs.Chains.{chain_under, head_of, next_of, no_record, KeepsRecords};
 ghost use Rattle.sd_unique.specs.Filed.{IsFiled};
 ghost use Rattle.sd_unique.specs.Record.{AreRecordsStored};
-ghost use Rattle.sd_unique.specs.Rechaining.{linked_by, IsRechainedBelow, KeepsBuckets};
+ghost use Rattle.sd_unique.specs.Rechaining.{linked_by, IsRechained, KeepsBuckets};
 
 use crate::record::{NO_RECORD, Record, RecordState};
 use sd_runs::Runs;
 
-// Puts the free records in the order of their numbers, the greatest first. The other records stay where
+// Puts the free records in the order of their numbers, the smallest first. The other records stay where
 // they stand. The arena is there for the contract alone.
 pub(crate) fn order_free(runs: &Runs, records: &mut [Record], heads: &mut [u32])
     requires stored { AreRecordsStored runs.now records.old }
@@ -21,7 +21,7 @@ pub(crate) fn order_free(runs: &Runs, records: &mut [Record], heads: &mut [u32])
         (chain_under runs.now (length heads.new - 1) records.new) }
 {
     heads[0] = NO_RECORD;
-    for number in 0..records.len() {
+    for number in (0..records.len()).rev() {
         chain(runs, records, heads, number);
     }
 }
@@ -31,11 +31,11 @@ fn chain(runs: &Runs, records: &mut [Record], heads: &mut [u32], number: usize)
     requires stored { AreRecordsStored runs.now records.old }
     requires inside { number < length records.old }
     requires at_least_one { 1 < length heads.old }
-    requires chained { IsRechainedBelow linked_by runs.now (length heads.old - 1) number records.old
-        heads.old }
+    requires chained { IsRechained linked_by runs.now (length heads.old - 1) (λ n. number < n)
+        records.old heads.old }
     ensures kept { KeepsRecords records.old records.new }
     ensures buckets { KeepsBuckets records.old records.new heads.old heads.new }
-    ensures chained { IsRechainedBelow linked_by runs.now (length heads.new - 1) (number + 1)
+    ensures chained { IsRechained linked_by runs.now (length heads.new - 1) (λ n. number ≤ n)
         records.new heads.new }
 {
     let RecordState::Free = records[number].state else {

@@ -19,10 +19,11 @@
 //! one, each of them once for each time that it was put there; `retire` takes the node off that `idle`
 //! just answered. Where `idle` finds none in a large table, and `retire` freed more than a sixteenth of
 //! the records since that was last done, it puts the free numbers and the free runs of two elements in
-//! order, a step for each record and each element: nodes that are made behind a large sweep then stand
-//! next to one another, as those of a new table do. The other calls are a few loads and stores, but for
-//! `new`, which makes the heads. The buckets double where they are as few as the records. That takes a
-//! step for each record, and reads no list: the links keep the hash of each linked record.
+//! order, the smallest first, a step for each record and each element: nodes that are made behind a
+//! large sweep then stand next to one another, in the order in which they are made, as those of a new
+//! table do. The other calls are a few loads and stores, but for `new`, which makes the heads. The
+//! buckets double where they are as few as the records. That takes a step for each record, and reads no
+//! list: the links keep the hash of each linked record.
 //!
 //! A node of two elements has a record of 32 bytes, links of 16, a run of 16 with its length of 4, and
 //! 4 to 8 of the buckets: 72 to 76 bytes, beside the room that vectors keep for growth. Once free runs

@@ -577,9 +577,10 @@ impl Nodes {
         }
     }
 
-    // Puts the free numbers in order, and the free runs of two, the length of most lists. A sweep frees
-    // them in the order of the stack, and nodes that got them in that order stand all over the records,
-    // links and runs, where those made one after the other are read one after the other.
+    // Puts the free numbers in order, the smallest first, and the free runs of two, the length of most
+    // lists. A sweep frees them in the order of the stack, and nodes that got them in that order stand
+    // all over the records, links and runs, where those made one after the other are read one after the
+    // other.
     #[inline(never)]
     fn order_free(&mut self)
         ensures { self.new ≡ self.old }

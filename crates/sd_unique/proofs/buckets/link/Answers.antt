@@ -5,11 +5,11 @@ use Rattle.sd_unique.specs.Chains.{bucket_of, chain_by, no_record}
 use Rattle.sd_unique.specs.Record.{key_of}
 use Rattle.sd_unique.specs.declared.record.Links.{Links}
 use Rattle.sd_unique.proofs.Listed.{link_read}
-use Rattle.sd_unique.specs.Rechaining.{free_by, IsRechainedBelow}
+use Rattle.sd_unique.specs.Rechaining.{free_by, IsRechained}
 use Rattle.sd_unique.specs.declared.record.Record.{Record}
 use Rattle.sd_unique.specs.declared.record.RecordState.TheVariants.{Free}
 use Rattle.sd_unique.proofs.Entries.{slice_get_at}
-use Rattle.sd_unique.proofs.Rechaining.{rechained_next}
+use Rattle.sd_unique.proofs.Rechaining.{one_up, rechained_next}
 use Rattle.sd_unique.proofs.Stacked.{get_or_any}
 use Rattle.sd_unique.proofs.buckets.link.Goals as goal
 
@@ -33,11 +33,12 @@ returns-clause-linked c =
     } in
     let fits : c.bucket_at-head.result + 1 < length c.args.heads.now =
     omega (arith, c.bucket_at-head.ensures.inside, c.requires.at_least_one) in
-    subst (λ n. IsRechainedBelow free_by c.args.runs.now (n - 1) (c.args.number + 1)
+    subst (λ n. IsRechained free_by c.args.runs.now (n - 1) (λ k. k < c.args.number + 1)
     (set c.args.records.now c.args.number t) (set c.args.heads.now (c.bucket_at-head.result + 1) c.args.number))
     (sym (length-set c.args.heads.now (c.bucket_at-head.result + 1) c.args.number))
-    (rechained_next free_by c.args.runs.now c.args.records.now (length c.args.heads.now - 1) c.args.number
-    (c.bucket_at-head.result + 1) c.args.heads.now r t
+    (rechained_next free_by c.args.runs.now c.args.records.now (λ k. k < c.args.number)
+    (λ k. k < c.args.number + 1) (length c.args.heads.now - 1) c.args.number (c.bucket_at-head.result + 1)
+    c.args.heads.now r t (one_up c.args.number)
     (slice_get_at c.args.records.now c.args.number blank c.requires.inside)
     (ap (λ s. free_by s (bucket_of (key_of c.args.runs.now r) (length c.args.heads.now - 1))) c.in-Linked.is)
     (ap (λ s. chain_by s (bucket_of (key_of c.args.runs.now r) (length c.args.heads.now - 1))) c.in-Linked.is

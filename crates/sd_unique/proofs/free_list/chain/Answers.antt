@@ -1,14 +1,14 @@
-use Rattle.std.proofs.Common.{◌+◌, ◌-◌, ◌<◌, get_or, length, sym, ap, subst, arith}
+use Rattle.std.proofs.Common.{◌-◌, ◌<◌, ◌≤◌, get_or, length, sym, ap, subst, arith}
 use Rattle.std.proofs.Math.ListN.{set}
 use Rattle.std.proofs.lemmas.List.{length-set}
 use Rattle.sd_unique.specs.Chains.{bucket_of, chain_by, no_record}
 use Rattle.sd_unique.specs.Record.{key_of}
-use Rattle.sd_unique.specs.Rechaining.{linked_by, IsRechainedBelow}
+use Rattle.sd_unique.specs.Rechaining.{linked_by, IsRechained}
 use Rattle.sd_unique.specs.declared.record.Record.{Record}
 use Rattle.sd_unique.specs.declared.record.RecordState.TheVariants.{Free}
 use Rattle.sd_unique.proofs.Entries.{slice_get_at}
 use Rattle.sd_unique.proofs.Ordering.{buckets_next}
-use Rattle.sd_unique.proofs.Rechaining.{rechained_next}
+use Rattle.sd_unique.proofs.Rechaining.{one_down, rechained_next}
 use Rattle.sd_unique.proofs.Stacked.{get_or_any}
 use Rattle.sd_unique.proofs.free_list.chain.Goals as goal
 
@@ -20,11 +20,11 @@ returns-clause-chained c =
     let r : Record = get_or c.args.records.now c.args.number blank in
     let t : Record = record r { next = get_or c.args.heads.now 0 0 } in
     let fits : 0 < length c.args.heads.now = omega (arith, c.requires.at_least_one) in
-    subst (λ n. IsRechainedBelow linked_by c.args.runs.now (n - 1) (c.args.number + 1)
+    subst (λ n. IsRechained linked_by c.args.runs.now (n - 1) (λ k. c.args.number ≤ k)
     (set c.args.records.now c.args.number t) (set c.args.heads.now 0 c.args.number))
     (sym (length-set c.args.heads.now 0 c.args.number))
-    (rechained_next linked_by c.args.runs.now c.args.records.now (length c.args.heads.now - 1) c.args.number
-    0 c.args.heads.now r t
+    (rechained_next linked_by c.args.runs.now c.args.records.now (λ k. c.args.number < k) (λ k. c.args.number ≤ k)
+    (length c.args.heads.now - 1) c.args.number 0 c.args.heads.now r t (one_down c.args.number)
     (slice_get_at c.args.records.now c.args.number blank c.requires.inside)
     (ap (λ s. linked_by s (bucket_of (key_of c.args.runs.now r) (length c.args.heads.now - 1))) c.in-Free.is)
     (ap (λ s. chain_by s (bucket_of (key_of c.args.runs.now r) (length c.args.heads.now - 1))) c.in-Free.is)

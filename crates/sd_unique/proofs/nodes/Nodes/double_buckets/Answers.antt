@@ -2,7 +2,7 @@ use Rattle.std.proofs.Common.{◌+◌, ◌*◌, ◌-◌, ◌<◌, length, replic
 use Rattle.std.proofs.Math.ListN.{set}
 use Rattle.std.proofs.lemmas.List.{length-set, length-replicate}
 use Rattle.sd_unique.specs.Chains.{KeepsRecords, no_record}
-use Rattle.sd_unique.specs.Rechaining.{free_by, IsRechainedBelow}
+use Rattle.sd_unique.specs.Rechaining.{free_by, IsRechained}
 use Rattle.sd_unique.specs.Record.{nodes_of}
 use Rattle.sd_unique.proofs.Growing.{linked_none}
 use Rattle.sd_unique.proofs.Rechained.{kept_rechained, kept_tables}
@@ -13,11 +13,11 @@ use Rattle.sd_unique.proofs.nodes.Nodes.double_buckets.Goals as goal
 pub link_all-requires-clause-linked : goal.link_all-requires-clause-linked
 link_all-requires-clause-linked c =
     let heads = c.deref_mut-in-Ok.ensures.value ∙ ap (λ l. set l 0 c.index.result.now) c.in-Ok.ensures in
-    subst (λ hs. IsRechainedBelow free_by c.self.inside.runs (length c.deref_mut-in-Ok.result.now - 1) 0
+    subst (λ hs. IsRechained free_by c.self.inside.runs (length c.deref_mut-in-Ok.result.now - 1) (λ n. n < 0)
     c.deref_mut.result.now hs)
     (sym heads)
-    (subst (λ rs. IsRechainedBelow free_by c.self.inside.runs (length c.deref_mut-in-Ok.result.now - 1) 0 rs
-    (set (replicate (2 * (c.len-buckets.result - 1) + 1) no_record) 0 c.index.result.now))
+    (subst (λ rs. IsRechained free_by c.self.inside.runs (length c.deref_mut-in-Ok.result.now - 1) (λ n. n < 0)
+    rs (set (replicate (2 * (c.len-buckets.result - 1) + 1) no_record) 0 c.index.result.now))
     (sym c.deref_mut.ensures.value)
     (linked_none c.self.inside.runs c.self.inside.records.items c.self.inside.heads.items
     (length c.self.inside.heads.items - 1) (length c.deref_mut-in-Ok.result.now - 1)
