@@ -19,7 +19,7 @@ pub struct Runs {
     // the length of each run, live or free, in the order of their starts: growth alone writes it, and
     // no call reads it, but without it the fields would not tell where runs begin
     lengths: Vec<u32>,
-    // for each length the start of the free run that was given last, or `NONE`
+    // for each length the start of the free run that is taken next, or `NONE`
     heads: Vec<u32>,
     // the sum of the lengths of the live runs
     used: u32,
@@ -76,8 +76,8 @@ impl Runs {
     }
 
     /// Makes a run of this list, of one element or more, live and answers its start: that of the
-    /// free run of its length that was given last, or else the extent, which grows. After an error
-    /// nothing is changed.
+    /// first free run of its length (given last, or first in order), or else the extent, which grows.
+    /// After an error nothing is changed.
     #[inline(always)]
     pub fn take(&mut self, list: &[(u32, u32)]) -> Result<u32, TakeError>
         requires { 0 < length list.now }
@@ -108,7 +108,7 @@ impl Runs {
         }
     }
 
-    // The free run of this length that was given last.
+    // The free run of this length that is taken next: the one given last, or the first in order.
     #[inline(always)]
     fn newest(&self, length: usize) -> Option<u32>
         ensures { result ≡ first (free_of self.now length) }
@@ -121,7 +121,7 @@ impl Runs {
         }
     }
 
-    // Makes the free run of its length that was given last live, with this list.
+    // Makes the free run of its length that is taken next live, with this list.
     #[inline(always)]
     fn reuse(&mut self, start: u32, list: &[(u32, u32)])
         requires at_least_one { 0 < length list.now }
