@@ -150,8 +150,8 @@ fn idle_nodes(rt: HostRuntime) -> Result<(), Fail> {
     Ok(())
 }
 
-/// Of 40,000 nodes all but one are retired, in an order of their own. As many others get their numbers
-/// and runs: each is found, and the table is as large as before.
+/// Of 40,000 nodes all but one are retired, in an order of their own. As many others get their numbers,
+/// the least first, and runs: each is found, and the table is as large as before.
 #[test]
 fn as_many_again(rt: HostRuntime) -> Result<(), Fail> {
     let mut nodes = Nodes::new(rt.alloc(), 100_000)?;
@@ -177,6 +177,11 @@ fn as_many_again(rt: HostRuntime) -> Result<(), Fail> {
     for place in 40_000..79_999 {
         assert!(rt; nodes.find(place, &[(place, 1), (place, 0)]).is_some());
     }
+    assert_eq!(rt; nodes.find(40_000, &[(40_000, 1), (40_000, 0)]), Some(0));
+    assert_eq!(rt;
+        nodes.find(79_998, &[(79_998, 1), (79_998, 0)]),
+        Some(39_999)
+    );
     let left = [(39_963, 1), (39_963, 0)];
     assert_eq!(rt; nodes.find(39_963, &left), Some(39_963));
     Ok(())

@@ -15,7 +15,8 @@ loop-number-init c =
       buckets = buckets_begin c.args.records.now c.args.heads.now;
       size = length-set c.args.heads.now 0 no_record;
       chained = subst (λ n. IsRechained linked_by c.args.runs.now (n - 1)
-          (λ k. length c.args.records.now ≤ k) c.args.records.now (set c.args.heads.now 0 no_record)) (sym (length-set c.args.heads.now 0 no_record))
+          (λ k. length c.args.records.now ≤ k) c.args.records.now (set c.args.heads.now 0 no_record))
+          (sym (length-set c.args.heads.now 0 no_record))
           (ordered_none c.args.runs.now c.args.records.now c.args.heads.now (length c.args.heads.now - 1)
           (omega (arith, c.requires.at_least_one)) c.requires.chained);
     }
