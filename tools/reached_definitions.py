@@ -52,12 +52,17 @@ class SpecsFile:
         lines = without_comments(open(path, encoding="utf-8"), "--")
         self.imports, self.modules = imports_of(lines)
         self.definitions = {}
-        current = None
+        current, mutual = None, False
         for line in lines:
-            if line.startswith(("use ", "pub use ", "unfoldable pub use ", "mutual")):
-                current = None
+            if line.startswith(("use ", "pub use ", "unfoldable pub use ")):
+                current, mutual = None, False
                 continue
-            if not line.startswith((" ", "\t", "|")):
+            if line.strip() in ("mutual", "abbrev mutual", "unfoldable mutual"):
+                current, mutual = None, True
+                continue
+            if not line.startswith((" ", "\t", "|", "}", ")", "]")):
+                current, mutual = self.name_of(line, current), False
+            elif mutual and re.match(r"  \S", line):
                 current = self.name_of(line, current)
             if current:
                 self.definitions.setdefault(current, []).append(line)
