@@ -8,7 +8,8 @@
 //
 // `add_group` sweeps behind each answer. `compile`, which adds all groups, and `add_group_past` sweep only where the
 // elements in use pass twice what the last sweep left: a sweep that takes a node away raises the epoch, and the kept
-// answers are lost. Where each left child of the vtree is a leaf no group asks for them, and they sweep at each.
+// answers are lost. Where each left child of the vtree is a leaf no group but an exclusive one asks for them, and they
+// sweep at each.
 ghost use Rattle.std.specs.Prelude.{◌≡◌, ◌↔◌, ℕ, ◌+◌, ◌-◌, ◌^◌, ◌<◌, ◌≤◌, None, IfOk, IfErr, OnOk, OnErr, IsTrue};
 ghost use Rattle.std.specs.Prelude.{length};
 ghost use Rattle.std.specs.Option.{IsSome};
@@ -31,7 +32,7 @@ use crate::connectives::{between_groups, connect, neutral_value, within_group};
 use crate::error::{CompileError, compile_error};
 use crate::groups::group_node;
 use crate::limited::{room_over, sweep_kept, sweep_past, try_hold};
-use crate::one_pass::{is_right_linear, join_literals};
+use crate::one_pass::{is_right_linear, join_literals, suits_one_pass};
 use sd_cache::Cache;
 use sd_formula::Formula;
 use sd_manager::{Manager, NodeId, Root};
@@ -193,7 +194,7 @@ fn next_group(f: &Formula, work: &Compiling) -> u32
 }
 
 // The node of the prefix with one group more: joined in one pass along the node of the prefix, or by a node of its own
-// where it is exclusive.
+// where it is exclusive, or wide on a vtree where that is dear.
 fn next_node(
     alloc: Global,
     m: &mut Manager,
@@ -218,6 +219,9 @@ fn next_node(
     }
     let prefix = m.node_of(&work.root);
     let literals = f.group(index);
+    if !suits_one_pass(m.vtree(), literals) {
+        return next_by_node(alloc, m, c, f, work);
+    }
     join_literals(alloc, m, c, f.kind(), prefix, literals)
 }
 

@@ -20,13 +20,13 @@ use sd_cache::Cache;
 use sd_manager::{Manager, NodeId, Root};
 use sd_sweep::{size, sweep};
 
-/// The least number of elements in use that a sweep between groups or commands is for, where they ask the cache.
+/// The least number of elements in use that a sweep between groups or commands is for, where they use kept answers.
 pub const LEAST_GARBAGE: u32 = 262_144;
 
 // How many elements may be in use before the next sweep, where so many are now. A sweep that takes a node away raises
-// the epoch, and the cache's answers are lost: twice as many, so that what is swept pays for the sweep, and a small
-// diagram is left alone. `at_each`, where no group asks the cache, no more: a sweep costs what died, and what just died
-// is near and makes room for what comes next.
+// the epoch, and what the cache keeps and lends is lost: twice as many, so that what is swept pays for the sweep, and a
+// small diagram is left alone. `at_each`, where hardly a group uses kept answers, no more: a sweep costs what died, and
+// what just died is near and makes room for what comes next.
 pub(crate) fn room_over(used: u32, at_each: bool) -> u32
     ensures { used ≤ result }
 {

@@ -43,6 +43,16 @@ pub(crate) fn join_literals(
     join_group(alloc, m, c, between_groups(kind), node, &placed)
 }
 
+// So many literals are joined in one pass on every vtree.
+const NARROW: usize = 32;
+
+/// Whether a group is to be joined in one pass. Below a vtree node whose left child is no leaf the pass makes a node of
+/// the literals that are left, one after another, which on a left tree takes the square of their number. A wide group
+/// has a node of its own there, made along the vtree.
+pub(crate) fn suits_one_pass(vtree: &Vtree, literals: &[i32]) -> bool {
+    literals.len() <= NARROW || is_right_linear(vtree)
+}
+
 /// Whether each left child of the vtree is a leaf.
 pub(crate) fn is_right_linear(vtree: &Vtree) -> bool {
     let mut at = vtree.root();

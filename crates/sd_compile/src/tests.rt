@@ -151,3 +151,35 @@ fn clauses_on_the_right_vtree(rt: HostRuntime) -> Result<(), Fail> {
     assert_eq!(rt; refusal_of_clauses(alloc, 236)?, None);
     Ok(())
 }
+
+// A clause over 64 variables.
+fn wide_clause(alloc: Global) -> Result<Formula, CompileError>
+    ensures { IfOk result (λ f. f.variables ≡ 64) }
+{
+    let text = b"p cnf 64 1
+1 2 3 4 5 6 7 8 9 10 11 12 13 14 15 16 17 18 19 20 21 22
+23 24 25 26 27 28 29 30 31 32 33 34 35 36 37 38 39 40 41 42 43 44
+45 46 47 48 49 50 51 52 53 54 55 56 57 58 59 60 61 62 63 64 0
+"
+        .as_slice();
+    let Ok(f) = read_dimacs(alloc, text, Kind::Cnf) else {
+        return Err(CompileError::OutOfMemory);
+    };
+    if f.variables() != 64 {
+        return Err(CompileError::OutOfMemory);
+    }
+    Ok(f)
+}
+
+/// On the left vtree the room that a clause takes is in proportion to its width: 4,000 elements are enough for 64
+/// literals, where one literal joined after another would take twice as many.
+#[test]
+fn a_wide_clause_on_the_left_vtree(rt: HostRuntime) -> Result<(), Fail> {
+    let alloc = rt.alloc();
+    let f = wide_clause(alloc)?;
+    let mut m = Manager::new(alloc, Vtree::left(alloc, 64)?, 4000)?;
+    let mut c = Cache::new(alloc)?;
+    let root = compile(alloc, &mut m, &mut c, &f, 1000)?;
+    assert!(rt; m.same(&root, &root));
+    Ok(())
+}
