@@ -4,9 +4,9 @@
 README's table of options against the options of `sd_words`, the fault texts of docs/FORMATS.md against the definitions
 of `sd_tool`, the crates and what they stand on in docs/MAP.md against crates.txt, each clause, edit and test that
 docs/ANSWERS.md names and each path that a document names against the files, the number of definitions in README against
-the count, and README's commands against examples/expected.txt, which has what each prints and writes. With
---run PROGRAM it runs these too, as `python3 tools/check_documents.py --run ./sddc` does. Its status is 1 where
-something differs.
+the count, and the commands of README and docs/TOUR.md against examples/expected.txt, which has what each prints and
+writes. With --run PROGRAM it runs these too, as `python3 tools/check_documents.py --run ./sddc` does. No sentence of
+README has over 40 words. Its status is 1 where something differs.
 """
 import glob
 import os
@@ -195,10 +195,18 @@ def sizes_in(text):
     return sizes
 
 
+def check_sentences():
+    """A sentence ends at a mark before a capital, at the end of a cell, of a line of a list, or of a paragraph."""
+    text = re.sub(r"^```.*?^```", "", text_of("README.md"), flags=re.M | re.S)
+    for line in re.split(r"[|\n]", text):
+        for sentence in re.split(r"(?<=[.!?:;])\s+(?=[A-Z`*(\[])", line):
+            expect(len(sentence.split()) <= 40, "README.md: a sentence has over 40 words: %s" % sentence[:60])
+
+
 def check_commands(program):
     runs = stored_runs()
     stored = set(words for words, _, _ in runs)
-    for words in re.findall(r"^\./sddc (.*)$", text_of("README.md"), re.M):
+    for words in re.findall(r"^\./sddc (.*)$", text_of("README.md") + text_of("docs/TOUR.md"), re.M):
         expect(words in stored, "examples/expected.txt: lacks ./sddc %s" % words)
     for words, printed, files in runs:
         for name, same in files:
@@ -236,6 +244,7 @@ def main():
     check_paths()
     check_crate_paths()
     check_count()
+    check_sentences()
     check_commands(sys.argv[2] if sys.argv[1:2] == ["--run"] else None)
     for fault in faults:
         print(fault)
