@@ -23,18 +23,23 @@ use sd_sweep::{size, sweep};
 /// The least number of elements in use that a sweep between groups or commands is for, where they use kept answers.
 pub const LEAST_GARBAGE: u32 = 262_144;
 
+// Below so many elements all that a sweep reads is near, and one after each group makes room for what comes next.
+const LEAST_SPARED: u32 = 16_384;
+
 // How many elements may be in use before the next sweep, where so many are now. A sweep that takes a node away raises
 // the epoch, and what the cache keeps and lends is lost: twice as many, so that what is swept pays for the sweep, and a
-// small diagram is left alone. `at_each`, where hardly a group uses kept answers, no more: a sweep costs what died, and
-// what just died is near and makes room for what comes next.
+// small diagram is left alone. `at_each`, where hardly a group uses kept answers, no more, as a sweep costs what died,
+// and what just died is near; but a quarter more for a large diagram, which pays with memory for rarer sweeps.
 pub(crate) fn room_over(used: u32, at_each: bool) -> u32
     ensures { used ≤ result }
 {
-    if at_each {
-        used
-    } else {
-        used.saturating_mul(2).max(LEAST_GARBAGE)
+    if !at_each {
+        return used.saturating_mul(2).max(LEAST_GARBAGE);
     }
+    if used < LEAST_SPARED {
+        return used;
+    }
+    used.saturating_add(used / 4)
 }
 
 // Takes away what no root and no loose run needs. The cache still serves.
@@ -54,7 +59,8 @@ pub(crate) fn sweep_kept(m: &mut Manager, c: &Cache)
 }
 
 /// Sweeps where more elements are in use than `most` or than the limit. Then `most` becomes what may be in use before
-/// the next sweep: `at_each` what is left, and else twice that, and at least `LEAST_GARBAGE`.
+/// the next sweep: `at_each` what is left, or for a large diagram a quarter more, and else twice that, and at least
+/// `LEAST_GARBAGE`.
 pub fn sweep_past(m: &mut Manager, c: &Cache, most: &mut u32, at_each: bool, limit: u32)
     requires no_move { m.old.moving ≡ None }
     requires unmarked { AreUnmarked m.old }
