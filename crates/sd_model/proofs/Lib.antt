@@ -19,6 +19,7 @@ pub mod Adding
 pub mod ClosedLists
 pub mod RootLast
 pub mod Words
+pub mod PlainTexts
 pub mod TextBack
 mod NodeSteps
 mod TextSteps
