@@ -10,6 +10,7 @@ pub mod Dependence
 pub mod Blend
 pub mod Valued
 pub mod Parity
+pub mod FileValues
 -- uniqueness
 pub mod Partition
 pub mod Members
