@@ -12,8 +12,9 @@ use Rattle.sd_model.specs.Canonical.{IsElement}
 use Rattle.sd_model.specs.Size.{walk, walk_elements, completed}
 use Rattle.sd_model.specs.Listing.{is_among, add}
 use Rattle.sd_model.specs.Text.{number_text, literal_text, line_text, index_of, node_words, element_words}
-use Rattle.sd_model.specs.Text.{naming_lines, roots_text}
+use Rattle.sd_model.specs.Text.{naming_lines, sdd_lines, roots_text}
 use Rattle.sd_model.proofs.Adding.{completed_walks}
+use Rattle.sd_model.proofs.PlainTexts.{roots_text_plain}
 use Rattle.sd_laws.specs.Shown.{ShowElements}
 use Rattle.sd_manager.specs.Table.{Table}
 use Rattle.sd_manager.specs.Shown.{Shows, ShowsCanonical, HoldsDiagram, constant_diagram}
@@ -145,13 +146,12 @@ none_written t listing marks number text =
       text = text;
     }
 
--- the header, the lines and those that name the roots are the text
-pub whole_text : (t : Table) (listing : Listing) (roots : List Diagram) →
+-- the header, the lines and those that name the roots are the lines of the text
+whole_lines : (t : Table) (listing : Listing) (roots : List Diagram) →
     HasNodeLines t listing (add [] (flat_map walk roots)) →
     (((115 ∷ 100 ∷ 100 ∷ []) ++ 32 ∷ number_text listing.numbers.count ++ 10 ∷ []) ++ listing.text.items)
-    ++ flat_map line_text (naming_lines (completed roots) roots) ≡ roots_text roots
-unfolding roots_text
-whole_text t listing roots w =
+    ++ flat_map line_text (naming_lines (completed roots) roots) ≡ flat_map line_text (sdd_lines roots)
+whole_lines t listing roots w =
     let ds : List Diagram = add [] (flat_map walk roots) in
     let naming : List ℕ = flat_map line_text (naming_lines ds roots) in
     subst
@@ -164,6 +164,13 @@ whole_text t listing roots w =
     (append_assoc (115 ∷ 100 ∷ 100 ∷ 32 ∷ (number_text (length ds) ++ 10 ∷ [])) (diagram_lines ds) naming
     ∙ ap (λ number. 115 ∷ 100 ∷ 100 ∷ 32 ∷ ((number ++ 10 ∷ []) ++ (diagram_lines ds ++ naming)))
     (sym (append-nil (number_text (length ds))))))
+
+-- they are the text
+pub whole_text : (t : Table) (listing : Listing) (roots : List Diagram) →
+    HasNodeLines t listing (add [] (flat_map walk roots)) →
+    (((115 ∷ 100 ∷ 100 ∷ []) ++ 32 ∷ number_text listing.numbers.count ++ 10 ∷ []) ++ listing.text.items)
+    ++ flat_map line_text (naming_lines (completed roots) roots) ≡ roots_text roots
+whole_text t listing roots w = whole_lines t listing roots w ∙ sym (roots_text_plain roots)
 
 -- the node that a root holds shows the root's diagram
 pub held_shown : (t : Table) (root c : ℕ) (d : Diagram) → HoldsDiagram t root d → get t.roots root ≡ Some c →

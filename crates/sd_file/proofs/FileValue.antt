@@ -10,6 +10,7 @@ use Rattle.sd_model.specs.Canonical.{IsElement, first, later}
 use Rattle.sd_model.specs.Expression.{node_value, node_values, expression_value}
 use Rattle.sd_model.specs.Listing.{is_among}
 use Rattle.sd_model.proofs.ClosedLists.{ChildrenAmong, IsClosed}
+use Rattle.sd_model.proofs.FileValues.{file_value_last}
 use Rattle.sd_file.specs.Reads.{without_ids, expression_of_file}
 use Rattle.sd_file.proofs.DiagramPlaces.{value_at_index}
 use Rattle.sd_file.proofs.NodeLines.{written_pairs, signed, written_node, written_entry, IsReadable}
@@ -86,7 +87,7 @@ file_means v nodes before d closed fit is assignment =
     length-map (map (written_entry nodes) nodes) (λ e. without_ids e.node) ∙ length-map nodes (written_entry nodes) in
     let longer : length nodes ≡ length before + 1 = ap length is ∙ length_push before d in
     let index : (length written - 1) ≡ length before = omega (arith, count, longer) in
-    ap (λ bs. slice_index_or bs (length written - 1) false) values
+    file_value_last written assignment ∙ ap (λ bs. slice_index_or bs (length written - 1) false) values
     ∙ ap (λ n. slice_index_or (meanings assignment nodes) n false) index
     ∙ ap (λ ds. slice_index_or (meanings assignment ds) (length before) false) is
     ∙ last_value assignment before d

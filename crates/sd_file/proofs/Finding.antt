@@ -1,5 +1,5 @@
 -- What an empty map has.
-use Rattle.std.proofs.Common.{◌≡◌, ℕ, Option, None, ap}
+use Rattle.std.proofs.Common.{◌≡◌, ℕ, None, ap}
 use Rattle.std.specs.Ordering.{nat_cmp}
 use Rattle.std.specs.BTreeMap as tree
 use Rattle.std.specs.BTreeMap.{BTreeMap, is_at}

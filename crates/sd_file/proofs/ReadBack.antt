@@ -9,6 +9,7 @@ use Rattle.sd_model.specs.Size.{completed}
 use Rattle.sd_model.specs.Text.{naming_lines, roots_text}
 use Rattle.sd_model.proofs.ClosedLists.{closed_completed}
 use Rattle.sd_model.proofs.RootLast.{ends_completed}
+use Rattle.sd_model.proofs.PlainTexts.{roots_text_plain}
 use Rattle.sd_file.specs.Reads.{sdd_file}
 use Rattle.sd_file.specs.RoundTrip.{ReadsBack, IsLastOf}
 use Rattle.sd_file.proofs.Comments.{naming_comments}
@@ -22,7 +23,7 @@ use Rattle.sd_file.proofs.Readable.{readable_completed}
 pub readable_back : (v : ℕ) (roots : List Diagram) (d : Diagram) → IsLastOf (completed roots) d
     → AllByRecursion (IsReadable v) (completed roots) → length (completed roots) < 10 ^ 18
     → ReadsBack v (roots_text roots) d
-unfolding sdd_file roots_text
+unfolding sdd_file
 readable_back v roots d last readable within_limit =
     let nodes = completed roots in
     let closed = closed_completed roots in
@@ -30,7 +31,8 @@ readable_back v roots d last readable within_limit =
     record {
       file = record { variables = v; nodes = map (written_entry nodes) nodes };
       reads =
-          text_read v nodes (naming_lines nodes roots) some within_limit closed (new_completed roots) readable
+          ap (sdd_file v) (roots_text_plain roots)
+          ∙ text_read v nodes (naming_lines nodes roots) some within_limit closed (new_completed roots) readable
           (naming_comments nodes roots);
       value = file_means v nodes last.0 d closed readable last.1;
     }

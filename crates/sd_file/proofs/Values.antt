@@ -6,6 +6,7 @@ use Rattle.std.proofs.Math.Seq.{get_or-append_seam}
 use Rattle.std.specs.List.{AllByRecursion, list_any}
 use Rattle.sd_model.specs.Expression as formulas
 use Rattle.sd_model.specs.Expression.{node_value, node_values, expression_value}
+use Rattle.sd_model.proofs.FileValues.{file_value_last}
 use Rattle.sd_file.specs.Built.{values_of, value_at}
 use Rattle.sd_file.specs.Files.{IsEarlier, FitsAt, FitFrom, IsFile, no_entry, entry_at}
 use Rattle.sd_file.specs.Reads.{Node, Constant, Literal, Decomposition, Entry, File, without_ids, expression_of_file}
@@ -82,3 +83,4 @@ pub last_value : (f : File) (index : ℕ) (a : List Bool) → index + 1 ≡ leng
     → value_at f index a ≡ expression_value (expression_of_file f) a
 last_value f index a last =
     ap (λ n. slice_index_or (values_of f a) n false) (omega (arith, last, length-map f.nodes (λ e. without_ids e.node)))
+    ∙ sym (file_value_last (map (λ e. without_ids e.node) f.nodes) a)

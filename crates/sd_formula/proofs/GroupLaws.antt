@@ -1,6 +1,6 @@
 -- The group at an index, and the groups from an index on.
-use Rattle.std.proofs.Common.{◌≡◌, ℕ, zero, suc, ◌+◌, Bool, true, ◌||◌, List, [], ◌∷◌, map, drop, slice_get}
-use Rattle.std.proofs.Common.{Option, Some, None, option_map, ℤ, refl, ap, sym, subst, add-one}
+use Rattle.std.proofs.Common.{◌≡◌, ℕ, zero, suc, ◌+◌, Bool, true, ◌||◌, ◌&&◌, List, [], ◌∷◌, map, drop, slice_get}
+use Rattle.std.proofs.Common.{Option, Some, None, option_map, ℤ, refl, ap, sym, subst, ◌∙◌, add-one}
 use Rattle.std.specs.List.{AllByRecursion, list_any, list_all}
 use Rattle.sd_model.specs.Assignment.{literal_holds}
 use Rattle.sd_model.specs.Expression.{Group, expression_value}
@@ -66,3 +66,15 @@ at_front (y ∷ ys) (suc i) x at = at_front ys i x at
 
 pub drop_at : {X : Type 0} (xs : List X) (i : ℕ) (x : X) → slice_get xs i ≡ Some x → drop i xs ≡ x ∷ drop (i + 1) xs
 drop_at xs i x at = rw add-one (at_front xs i x at)
+
+-- all pass where one passes and all behind it do
+pub all_behind : {X : Type 0} (p : X → Bool) (xs : List X) (i : ℕ) → option_map p (slice_get xs i) ≡ Some true
+    → list_all p (drop (i + 1) xs) ≡ list_all p (drop i xs)
+all_behind {X} p xs i passes = go (slice_get xs i) refl passes
+  where
+    go : (o : Option X) → slice_get xs i ≡ o → option_map p o ≡ Some true
+        → list_all p (drop (i + 1) xs) ≡ list_all p (drop i xs)
+    go None at h = cc
+    go (Some x) at h =
+        let one : p x ≡ true = cc in
+        sym (ap (list_all p) (drop_at xs i x at) ∙ ap (λ b. b && list_all p (drop (i + 1) xs)) one)

@@ -7,3 +7,4 @@ pub mod GroupLaws
 pub mod RangeLaws
 pub mod FewWords
 pub mod GeneratedLaws
+pub mod Odd

@@ -20,7 +20,6 @@ pub(crate) fn some_holds(clause: &[i32], assignment: &[bool]) -> bool
 }
 
 /// Whether an odd number of the literals of an exclusive group hold.
-#[tactic(auto, using(sd_model::proofs::Parity::odd_more, sd_model::proofs::Parity::xor_assoc))]
 pub(crate) fn odd_hold(group: &[i32], assignment: &[bool]) -> bool
     requires { AreLiterals (length assignment.now) group.now }
     ensures { result ≡ odd_hold assignment.now group.now }

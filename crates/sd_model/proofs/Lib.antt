@@ -10,6 +10,7 @@ pub mod Dependence
 pub mod Blend
 pub mod Valued
 pub mod Parity
+pub mod FileValues
 -- uniqueness
 pub mod Partition
 pub mod Members
@@ -19,6 +20,7 @@ pub mod Adding
 pub mod ClosedLists
 pub mod RootLast
 pub mod Words
+pub mod PlainTexts
 pub mod TextBack
 mod NodeSteps
 mod TextSteps

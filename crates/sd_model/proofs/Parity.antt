@@ -1,16 +1,30 @@
 -- The parity of literals that hold is the exclusive or of their values, taken from either end.
-use Rattle.std.proofs.Common.{◌≡◌, Bool, true, false, List, [], ◌∷◌, ◌++◌, ℤ}
-use Rattle.std.proofs.Common.{refl, ap, sym, ◌∙◌, inl, inr}
-use Rattle.std.proofs.lemmas.Bool.{cases_Bool}
+use Rattle.std.proofs.Common.{◌≡◌, ℕ, suc, ◌%◌, Bool, true, false, not, List, [], ◌∷◌, ◌++◌, length, ℤ}
+use Rattle.std.proofs.Common.{refl, ap, sym, ◌∙◌, inl, inr, arith}
+use Rattle.std.specs.Prelude.{◌==◌, filter}
+use Rattle.std.proofs.lemmas.Bool.{cases_Bool, cases_lt}
 use Rattle.sd_model.specs.declared.trees.Operation.TheVariants.{Xor}
 use Rattle.sd_model.specs.Assignment.{literal_holds}
 use Rattle.sd_model.specs.Expression.{combine, odd_hold}
+
+-- one more is odd where the number is not
+odd_next : (n : ℕ) → (suc n % 2 == 1) ≡ not (n % 2 == 1)
+odd_next n = elim (cases_lt (n % 2) 1) [
+  | inl even ↦
+      let here : n % 2 ≡ 0 = omega arith in
+      let next : suc n % 2 ≡ 1 = omega arith in
+      rw (here, next) refl
+  | inr odd ↦
+      let here : n % 2 ≡ 1 = omega arith in
+      let next : suc n % 2 ≡ 0 = omega arith in
+      rw (here, next) refl
+]
 
 -- one more literal in front
 pub odd_more : (a : List Bool) (z : ℤ) (zs : List ℤ)
     → odd_hold a (z ∷ zs) ≡ combine Xor (literal_holds a z) (odd_hold a zs)
 odd_more a z zs = elim (cases_Bool (literal_holds a z)) [
-  | inl holds ↦ rw holds refl
+  | inl holds ↦ rw holds (odd_next (length (filter (literal_holds a) zs)))
   | inr fails ↦ rw fails refl
 ]
 

@@ -10,9 +10,10 @@ use Rattle.sd_model.specs.declared.diagrams.Element.{Element as OwnedElement}
 use Rattle.sd_model.specs.Diagram.{Diagram}
 use Rattle.sd_model.specs.Size.{completed}
 use Rattle.sd_model.specs.Text.{number_text, spaced, line_text, index_of}
-use Rattle.sd_model.specs.Text.{element_words, node_words, naming_lines, roots_text}
+use Rattle.sd_model.specs.Text.{element_words, node_words, naming_lines, sdd_lines, roots_text}
 use Rattle.sd_model.specs.Seen.{diagram_of, elements_of, diagrams_of}
 use Rattle.sd_model.proofs.NodeSteps.{length_diagrams_of}
+use Rattle.sd_model.proofs.PlainTexts.{roots_text_plain}
 use Rattle.sd_model.proofs.SeenLemmas.{seen_decomposition, count_elements_of}
 
 -- the pieces of a decomposition's line, in the order in which they are written behind what is there
@@ -35,13 +36,12 @@ all_pieces count nodes roots =
     (115 ∷ 100 ∷ 100 ∷ []) ++ 32 ∷ number_text count ++ 10 ∷ [] ++ flat_map line_text (map (node_words nodes) nodes)
     ++ flat_map line_text (naming_lines nodes roots)
 
--- they are the text
-pub whole_text : (roots : List Diagram) (nodes : List (Bor OwnedDiagram)) → diagrams_of nodes ≡ completed roots →
-    all_pieces (length nodes) (diagrams_of nodes) roots ≡ roots_text roots
-unfolding roots_text
-whole_text roots nodes h =
+-- they are the lines of the text
+whole_lines : (roots : List Diagram) (nodes : List (Bor OwnedDiagram)) → diagrams_of nodes ≡ completed roots →
+    all_pieces (length nodes) (diagrams_of nodes) roots ≡ flat_map line_text (sdd_lines roots)
+whole_lines roots nodes h =
     rw (← length_diagrams_of nodes)
-    (subst (λ ns. all_pieces (length ns) ns roots ≡ roots_text roots) (sym h)
+    (subst (λ ns. all_pieces (length ns) ns roots ≡ flat_map line_text (sdd_lines roots)) (sym h)
     (rw (flat_map-append line_text (map (node_words all) all) (naming_lines all roots))
     (ap (λ number. (115 ∷ 100 ∷ 100 ∷ 32 ∷ (number ++ 10 ∷ [])) ++ lines ++ naming)
     (sym (append-nil (number_text (length all))))
@@ -55,3 +55,8 @@ whole_text roots nodes h =
 
     naming : List ℕ
     naming = flat_map line_text (naming_lines all roots)
+
+-- they are the text
+pub whole_text : (roots : List Diagram) (nodes : List (Bor OwnedDiagram)) → diagrams_of nodes ≡ completed roots →
+    all_pieces (length nodes) (diagrams_of nodes) roots ≡ roots_text roots
+whole_text roots nodes h = whole_lines roots nodes h ∙ sym (roots_text_plain roots)

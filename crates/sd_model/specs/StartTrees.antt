@@ -2,30 +2,26 @@
 use Rattle.std.specs.Prelude.{ℕ, zero, suc, ◌+◌, ◌-◌, ◌/◌, nat_lt, if◌then◌else◌}
 use Rattle.sd_model.specs.Tree.{Tree, Leaf, Node}
 
--- each left child is a leaf: the variable x and the n variables after it
-abbrev pub right_from : ℕ → ℕ → Tree
-right_from x zero = Leaf x
-right_from x (suc n) = Node (Leaf x) (right_from (suc x) n)
+-- a tree over the m variables from x on, in order: of m variables the left child gets the first `share m`; the tree has
+-- at most this height
+abbrev pub tree_by : (ℕ → ℕ) → (height x m : ℕ) → Tree
+tree_by share zero x m = Leaf x
+tree_by share (suc h) x m =
+    if nat_lt m 2 then Leaf x
+    else Node (tree_by share h x (share m)) (tree_by share h (x + share m) (m - share m))
 
--- the right start vtree over the variables 1 to v
-abbrev pub right_tree : ℕ → Tree
-right_tree v = right_from 1 (v - 1)
+-- such a tree over the variables 1 to v
+abbrev pub start_tree : (ℕ → ℕ) → ℕ → Tree
+start_tree share v = tree_by share v 1 v
 
--- each right child is a leaf: the variable 1 and the n variables after it
-abbrev pub left_to : ℕ → Tree
-left_to zero = Leaf 1
-left_to (suc n) = Node (left_to n) (Leaf (n + 2))
-
--- the left start vtree over the variables 1 to v
-abbrev pub left_tree : ℕ → Tree
-left_tree v = left_to (v - 1)
-
--- Of m variables from x on the left child gets the first m / 2, rounded down. The tree has at most this height.
-abbrev pub balanced_from : (height x m : ℕ) → Tree
-balanced_from zero x m = Leaf x
-balanced_from (suc h) x m =
-    if nat_lt m 2 then Leaf x else Node (balanced_from h x (m / 2)) (balanced_from h (x + m / 2) (m - m / 2))
-
--- the balanced start vtree over the variables 1 to v
+-- the balanced start vtree: the left child gets half of the variables, rounded down
 abbrev pub balanced_tree : ℕ → Tree
-balanced_tree v = balanced_from v 1 v
+balanced_tree v = start_tree (λ m. m / 2) v
+
+-- the right start vtree: each left child is a leaf
+abbrev pub right_tree : ℕ → Tree
+right_tree v = start_tree (λ m. 1) v
+
+-- the left start vtree: each right child is a leaf
+abbrev pub left_tree : ℕ → Tree
+left_tree v = start_tree (λ m. m - 1) v

@@ -1,11 +1,10 @@
 -- What stands after a step, what came behind it, and the end of its journal.
-use Rattle.std.proofs.Common.{◌≡◌, ◌⊎◌, ℕ, ◌+◌, ◌≤◌, List, [], ◌∷◌, Option, Some, None, refl, sym, ap, subst, ◌∙◌}
+use Rattle.std.proofs.Common.{◌≡◌, ◌⊎◌, ℕ, ◌≤◌, List, ◌∷◌, Option, Some, None, sym, ap, subst, ◌∙◌}
 use Rattle.std.proofs.Common.{arith}
 use Rattle.sd_model.specs.declared.trees.Side.{Side}
 use Rattle.sd_model.specs.Expression.{Expression}
 use Rattle.sd_model.specs.Size.{HasSize}
-use Rattle.sd_model.specs.Tree.{leaves}
-use Rattle.sd_vtree.specs.Numbered.{Numbered, plain_tree}
+use Rattle.sd_vtree.specs.Numbered.{plain_tree}
 use Rattle.sd_manager.specs.Table.{Table}
 use Rattle.sd_manager.specs.Valid.{IsTable}
 use Rattle.sd_manager.specs.Marking.{AreUnmarked}
@@ -20,7 +19,7 @@ use Rattle.sd_search.specs.declared.steps.Step.{Step}
 use Rattle.sd_search.specs.declared.error.SearchError.{SearchError}
 use Rattle.sd_search.proofs.AlongPaths.{along_at, along_both}
 use Rattle.sd_search.proofs.KeptRoots.{formulas_on}
-use Rattle.sd_search.proofs.Journals.{shows_step, undone_reached, undone_kept, rule_undone, along_reached}
+use Rattle.sd_search.proofs.Journals.{shows_step, undone_kept, rule_undone}
 use Rattle.sd_search.proofs.StepsAhead.{best_some, best_none, none_later}
 
 -- a settled journal leaves the vtree and the marks

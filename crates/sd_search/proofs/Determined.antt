@@ -1,5 +1,5 @@
 -- A walk, a round and a search have one result each, and it is a vtree.
-use Rattle.std.proofs.Common.{◌≡◌, ℕ, zero, suc, ◌*◌, ◌/◌, ◌<◌, ◌≤◌, List, [], ◌∷◌, ◌++◌}
+use Rattle.std.proofs.Common.{◌≡◌, ℕ, zero, suc, ◌*◌, ◌/◌, List, [], ◌∷◌, ◌++◌}
 use Rattle.std.proofs.Common.{Some, refl, sym, ◌∙◌, ap, subst}
 use native.Mathlib.Omega.{arith}
 use Rattle.std.specs.List.{AllByRecursion}
@@ -10,45 +10,13 @@ use Rattle.sd_model.specs.Moves.{moved}
 use Rattle.sd_model.specs.declared.trees.Side.{Side}
 use Rattle.sd_model.specs.declared.trees.Side.TheVariants.{Left, Right}
 use Rattle.sd_model.proofs.Determined.{size_determined}
-use Rattle.sd_search.specs.Search.{WalkMove, walk_moves, LeadWithin, State, IsFirstLeast, IsWalk}
+use Rattle.sd_search.specs.Search.{WalkMove, walk_moves, LeadWithin, State, first_least, IsWalk}
 use Rattle.sd_search.specs.Search.{IsRound, round_at_leaf, round_at_node}
 use Rattle.sd_search.specs.Search.{Found, IsSearch, no_round, last_round, further_round}
+use Rattle.sd_search.proofs.LeastState.{all_middle, least_of, first_of}
 use Rattle.sd_search.proofs.Moved.{moved_vtree}
 
--- ---- lists
-
--- what holds of all holds of one in the middle
-pub all_middle : {A : Type 0} (P : A → Type 0) (xs ys : List A) (a : A) → AllByRecursion P (xs ++ a ∷ ys) → P a
-all_middle P [] ys a h = h.0
-all_middle P (x ∷ xs) ys a h = all_middle P xs ys a h.1
-
 -- ---- a walk
-
--- there is one first state of least size
-first_least : (xs ys us vs : List State) (a b : State) → xs ++ a ∷ us ≡ ys ++ b ∷ vs →
-    AllByRecursion (λ s. a.size < s.size) xs → AllByRecursion (λ s. a.size ≤ s.size) us →
-    AllByRecursion (λ s. b.size < s.size) ys → AllByRecursion (λ s. b.size ≤ s.size) vs → a ≡ b
-first_least [] [] us vs a b e p q r s = cc
-first_least [] (y ∷ ys) us vs a b e p q r s =
-    let head : a ≡ y = cc in
-    let tail : us ≡ ys ++ b ∷ vs = cc in
-    let least : a.size ≤ b.size =
-    all_middle (λ s. a.size ≤ s.size) ys vs b (subst (AllByRecursion (λ s. a.size ≤ s.size)) tail q) in
-    absurd (omega (arith, least, r.0, ap (λ s. s.size) head))
-first_least (x ∷ xs) [] us vs a b e p q r s =
-    let head : x ≡ b = cc in
-    let tail : xs ++ a ∷ us ≡ vs = cc in
-    let least : b.size ≤ a.size =
-    all_middle (λ s. b.size ≤ s.size) xs us a (subst (AllByRecursion (λ s. b.size ≤ s.size)) (sym tail) s) in
-    absurd (omega (arith, least, p.0, ap (λ s. s.size) head))
-first_least (x ∷ xs) (y ∷ ys) us vs a b e p q r s =
-    let tail : xs ++ a ∷ us ≡ ys ++ b ∷ vs = cc in
-    first_least xs ys us vs a b tail p.1 q r.1 s
-
-least_determined : (states : List State) (a b : State) → IsFirstLeast states a → IsFirstLeast states b → a ≡ b
-least_determined states a b p q =
-    first_least p.before q.before p.behind q.behind a b (sym p.parts ∙ q.parts)
-    p.larger p.not_smaller q.larger q.not_smaller
 
 -- the trees that moves lead through are vtrees
 through_valid : (fs : List Expression) (bound : ℕ) (t : Tree) (path : List Side) (ms : List WalkMove)
@@ -107,10 +75,8 @@ walk_determined fs slack t path u v valid p q =
     states_determined fs (p.size * slack / 100) t path (walk_moves p.here) p.states q.states valid p.through
     (subst (λ n. LeadWithin fs (n * slack / 100) t path (walk_moves p.here) q.states) (sym size)
     (subst (λ h. LeadWithin fs (q.size * slack / 100) t path (walk_moves h) q.states) (sym here) q.through)) in
-    let by_size : ℕ → List State → Type 0 = λ n ss. IsFirstLeast (record { tree = t; size = n } ∷ ss) p.least in
-    let first = subst (by_size q.size) states (subst (λ n. by_size n p.states) size p.first) in
-    let least = least_determined (record { tree = t; size = q.size } ∷ q.states) p.least q.least first q.first in
-    sym p.end ∙ ap (λ s. s.tree) least ∙ q.end
+    sym p.end ∙ ap (λ n. (first_least (record { tree = t; size = n }) p.states).tree) size
+    ∙ ap (λ ss. (first_least (record { tree = t; size = q.size }) ss).tree) states ∙ q.end
 
 pub walk_valid : (fs : List Expression) (slack : ℕ) (t : Tree) (path : List Side) (u : Tree) → IsVtree t →
     IsWalk fs slack t path u → IsVtree u
@@ -118,8 +84,8 @@ walk_valid fs slack t path u valid p =
     let all = through_valid fs (p.size * slack / 100) t path (walk_moves p.here) p.states valid p.through in
     let each : AllByRecursion (λ s. IsVtree s.tree) (record { tree = t; size = p.size } ∷ p.states) = (valid, all) in
     subst IsVtree p.end
-    (all_middle (λ s. IsVtree s.tree) p.first.before p.first.behind p.least
-    (subst (AllByRecursion (λ s. IsVtree s.tree)) p.first.parts each))
+    (all_middle (λ s. IsVtree s.tree) (first_of p).before (first_of p).behind (least_of p)
+    (subst (AllByRecursion (λ s. IsVtree s.tree)) (first_of p).parts each))
 
 -- ---- rounds and searches
 

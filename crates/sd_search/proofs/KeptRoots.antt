@@ -1,5 +1,5 @@
 -- What the held roots show after moves, after the way back, and after a journal was settled.
-use Rattle.std.proofs.Common.{◌≡◌, ℕ, ◌+◌, Bool, List, [], ◌∷◌, length, Some, None, inl, inr, refl, sym, ap}
+use Rattle.std.proofs.Common.{◌≡◌, ℕ, List, [], ◌∷◌, Some, None, inl, inr, refl, sym, ap}
 use Rattle.std.proofs.Common.{subst, ◌∙◌}
 use Rattle.std.specs.List.{AllZip}
 use Rattle.std.specs.Ordering.{nat_cmp}
@@ -15,7 +15,6 @@ use Rattle.sd_laws.proofs.Codes.{one_diagram}
 use Rattle.sd_laws.proofs.Evaluated.{value_of_shown}
 use Rattle.sd_laws.proofs.Lists.{IsAmong, IsWithin, first_at, second_at}
 use Rattle.sd_manager.specs.Table.{Table}
-use Rattle.sd_manager.specs.Shown.{ShowsCanonical}
 use Rattle.sd_manager.specs.Valid.{IsTable}
 use Rattle.sd_sweep.specs.Reached.{reached_first, KeepsReached}
 use Rattle.sd_move.specs.Journal.{Journal}
@@ -24,7 +23,7 @@ use Rattle.sd_move.proofs.AfterSweep.{value_then}
 use Rattle.sd_compile.specs.Total.{AreHeldFormulas}
 use Rattle.sd_compile.proofs.Holding.{held_among, among_held, same_size}
 use Rattle.sd_compile.proofs.Kept.{kept_shown}
-use Rattle.sd_search.specs.Kept.{StaysShown, KeepsRoots, IsSizeOfHeld}
+use Rattle.sd_search.specs.Kept.{StaysShown, KeepsRoots}
 
 -- the roots are the same and show the same functions, over as many variables
 pub record ShowsOn (old new : Table) : Type 0 where

@@ -1,4 +1,5 @@
 pub mod Moved
+pub mod LeastState
 pub mod Determined
 pub mod AnyFormulas
 pub mod NeverLarger

@@ -1,5 +1,5 @@
 -- A walk, a round and a search never come to a larger size than that at their start.
-use Rattle.std.proofs.Common.{◌≡◌, ℕ, ◌*◌, ◌/◌, ◌<◌, ◌≤◌, List, [], ◌∷◌, ◌++◌, ap, subst}
+use Rattle.std.proofs.Common.{ℕ, ◌*◌, ◌/◌, ◌≤◌, List, [], ◌∷◌, subst}
 use native.Mathlib.Omega.{arith}
 use Rattle.std.specs.List.{AllByRecursion}
 use Rattle.sd_model.specs.Expression.{Expression}
@@ -10,7 +10,8 @@ use Rattle.sd_model.proofs.Determined.{size_determined}
 use Rattle.sd_search.specs.Search.{WalkMove, walk_moves, LeadWithin, State, IsWalk}
 use Rattle.sd_search.specs.Search.{IsRound, round_at_leaf, round_at_node}
 use Rattle.sd_search.specs.Search.{Found, IsSearch, no_round, last_round, further_round}
-use Rattle.sd_search.proofs.Determined.{all_middle, walk_valid, round_valid}
+use Rattle.sd_search.proofs.LeastState.{all_middle, least_within, least_of, first_of}
+use Rattle.sd_search.proofs.Determined.{walk_valid, round_valid}
 
 -- the formulas have a size under the tree that is at most n
 record HasSizeWithin (fs : List Expression) (t : Tree) (n : ℕ) : Type 0 where
@@ -25,27 +26,20 @@ through_sized fs bound t path ms [] h = tt
 through_sized fs bound t path [] (s ∷ states) h = cc
 through_sized fs bound t path (m ∷ ms) (s ∷ states) h = (h.1, through_sized fs bound s.tree path ms states h.3)
 
--- the first of least size is at most the first of all
-least_within : (before behind states : List State) (least first : State) → first ∷ states ≡ before ++ least ∷ behind →
-    AllByRecursion (λ s. least.size < s.size) before → least.size ≤ first.size
-least_within [] behind states least first e larger =
-    (let same : first ≡ least = cc in omega (arith, ap (λ s. s.size) same))
-least_within (s ∷ before) behind states least first e larger =
-    (let same : first ≡ s = cc in omega (arith, ap (λ s. s.size) same, larger.0))
-
 walk_within : (fs : List Expression) (slack : ℕ) (t : Tree) (path : List Side) (u : Tree) (n : ℕ) → IsVtree t →
     HasSize fs t n → IsWalk fs slack t path u → HasSizeWithin fs u n
 walk_within fs slack t path u n valid size p =
     let start : State = record { tree = t; size = p.size } in
+    let first = first_of p in
     let sized : AllByRecursion (λ s. HasSize fs s.tree s.size) (start ∷ p.states) =
     (p.start, through_sized fs (p.size * slack / 100) t path (walk_moves p.here) p.states p.through) in
     let least =
-    all_middle (λ s. HasSize fs s.tree s.size) p.first.before p.first.behind p.least
-    (subst (AllByRecursion (λ s. HasSize fs s.tree s.size)) p.first.parts sized) in
-    let within = least_within p.first.before p.first.behind p.states p.least start p.first.parts p.first.larger in
+    all_middle (λ s. HasSize fs s.tree s.size) first.before first.behind (least_of p)
+    (subst (AllByRecursion (λ s. HasSize fs s.tree s.size)) first.parts sized) in
+    let within = least_within first.before first.behind p.states (least_of p) start first.parts first.larger in
     record {
-      size = p.least.size;
-      is = subst (λ v. HasSize fs v p.least.size) p.end least;
+      size = (least_of p).size;
+      is = subst (λ v. HasSize fs v (least_of p).size) p.end least;
       within = omega (arith, within, size_determined t fs p.size n valid p.start size);
     }
 

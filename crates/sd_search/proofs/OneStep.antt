@@ -1,5 +1,5 @@
 -- One step of a walk: from a move of a numbered node to the move at the end of a path.
-use Rattle.std.proofs.Common.{◌≡◌, ℕ, ◌+◌, ◌≤◌, ◌<◌, List, [], ◌∷◌, ◌++◌, Option, Some, None, refl, sym, ap, subst, ◌∙◌}
+use Rattle.std.proofs.Common.{◌≡◌, ℕ, ◌≤◌, ◌<◌, List, [], ◌∷◌, ◌++◌, Option, Some, None, refl, sym, ap, subst, ◌∙◌}
 use Rattle.std.proofs.Common.{option_map, option_and_then, length, arith, true, false, IfOk, IfErr}
 use Rattle.std.specs.declared.result.Result.{Result}
 use Rattle.std.specs.declared.result.Result.TheVariants.{Ok, Err}
@@ -13,7 +13,7 @@ use Rattle.sd_model.specs.declared.trees.Move.{Move}
 use Rattle.sd_model.specs.declared.trees.Move.TheVariants as moves
 use Rattle.sd_model.specs.Expression.{Expression}
 use Rattle.sd_model.specs.Size.{HasSize}
-use Rattle.sd_model.specs.Tree.{Tree, Leaf, Node, leaves}
+use Rattle.sd_model.specs.Tree.{Tree, Leaf, Node}
 use Rattle.sd_model.specs.Moves.{moved}
 use Rattle.sd_vtree.specs.Numbered.{Numbered, NumberedLeaf, NumberedNode, plain_tree, children_at, child_numbers}
 use Rattle.sd_vtree.specs.Numbered.{numbers, times, IsNumbered}
@@ -28,7 +28,7 @@ use Rattle.sd_move.specs.declared.error.MoveError.TheVariants.{NotMovable, OverM
 use Rattle.sd_compile.specs.Total.{AreHeldFormulas}
 use Rattle.sd_search.specs.Search.{WalkMove, subtree_at}
 use Rattle.sd_search.specs.Paths.{part_at, IsAtPath, KeepsAlong}
-use Rattle.sd_search.specs.Walking.{move_of, child_on, HasStepped, PassesMost, IsStepRefusal}
+use Rattle.sd_search.specs.Walking.{move_of, child_on, HasStepped, IsStepRefusal}
 use Rattle.sd_search.specs.declared.steps.Step.{Step}
 use Rattle.sd_search.specs.declared.steps.Step.TheVariants as steps
 use Rattle.sd_search.proofs.Moved.{HaveSameLeaves, moved_leaves, same_vtree}

@@ -1,26 +1,23 @@
 -- A round, by the walk and the two rounds of which it is made.
-use Rattle.std.proofs.Common.{◌≡◌, ℕ, ◌+◌, ◌≤◌, ◌<◌, List, [], ◌∷◌, ◌++◌, length, Option, Some, None, refl, sym, ap}
+use Rattle.std.proofs.Common.{◌≡◌, ℕ, ◌≤◌, ◌<◌, List, [], ◌∷◌, ◌++◌, length, Option, Some, None, refl, sym, ap}
 use Rattle.std.proofs.Common.{subst}
-use Rattle.std.proofs.Common.{◌∙◌, arith, option_map, option_and_then, length-append, IfSome}
+use Rattle.std.proofs.Common.{◌∙◌, arith, option_and_then, length-append, IfSome}
 use Rattle.std.specs.Option.{IsSome}
-use Rattle.std.proofs.lemmas.Option.{same_Some, none-some}
 use Rattle.sd_model.specs.declared.trees.Side.{Side}
 use Rattle.sd_model.specs.declared.trees.Side.TheVariants.{Left, Right}
 use Rattle.sd_model.specs.Expression.{Expression}
-use Rattle.sd_model.specs.Size.{HasSize}
-use Rattle.sd_model.specs.Tree.{Tree, Leaf, Node}
-use Rattle.sd_vtree.specs.Numbered.{Numbered, NumberedLeaf, NumberedNode, number_of, numbers, plain_tree, subtree}
-use Rattle.sd_vtree.specs.Numbered.{times}
+use Rattle.sd_model.specs.Tree.{Tree}
+use Rattle.sd_vtree.specs.Numbered.{Numbered, NumberedLeaf, NumberedNode, numbers, plain_tree, subtree}
 use Rattle.sd_vtree.specs.Numbered.{children_at, child_numbers, IsNumbered}
 use Rattle.sd_vtree.proofs.Subtrees.{once_numbered, subtree_some, size_at, count_of, inner_part}
 use Rattle.sd_manager.specs.Table.{Table}
 use Rattle.sd_manager.specs.Valid.{IsTable}
 use Rattle.sd_sweep.specs.Reached.{KeepsReached}
 use Rattle.sd_compile.specs.Total.{AreHeldFormulas}
-use Rattle.sd_search.specs.Search.{subtree_at, IsWalk, IsRound, round_at_leaf, round_at_node}
+use Rattle.sd_search.specs.Search.{IsWalk, IsRound, round_at_leaf, round_at_node}
 use Rattle.sd_search.specs.Search.{IsRoundBegun, nothing_done, begun_on_left, begun_on_right}
 use Rattle.sd_search.specs.Kept.{KeepsRoots}
-use Rattle.sd_search.specs.Paths.{part_at, IsAtPath, KeepsAlong}
+use Rattle.sd_search.specs.Paths.{IsAtPath, KeepsAlong}
 use Rattle.sd_search.proofs.AlongPaths.{part_some, subtree_path, path_there, InnerAt, inner_at, leaf_at, along_at}
 use Rattle.sd_search.proofs.AlongPaths.{along_both, along_part, along_up}
 use Rattle.sd_search.proofs.KeptRoots.{shows_kept, formulas_on}

@@ -1,6 +1,6 @@
 -- A search, round by round.
 use Rattle.std.proofs.Common.{◌≡◌, ℕ, zero, suc, ◌+◌, ◌-◌, ◌≤◌, ◌<◌, List, [], Some, None, length, refl, sym}
-use Rattle.std.proofs.Common.{ap, subst, ◌∙◌, arith}
+use Rattle.std.proofs.Common.{ap, subst, arith}
 use Rattle.sd_model.specs.Expression.{Expression}
 use Rattle.sd_model.specs.Size.{HasSize}
 use Rattle.sd_model.specs.Tree.{Tree}

@@ -1,7 +1,7 @@
 -- What is found from a step of a walk on, by what is found from the next one on.
-use Rattle.std.proofs.Common.{◌≡◌, ◌⊎◌, inl, inr, ℕ, zero, suc, ◌+◌, ◌^◌, ◌≤◌, ◌<◌, List, [], ◌∷◌, ◌++◌, map, drop}
+use Rattle.std.proofs.Common.{◌≡◌, ◌⊎◌, inl, inr, ℕ, zero, suc, ◌+◌, ◌≤◌, ◌<◌, List, [], ◌∷◌, ◌++◌, map}
 use Rattle.std.proofs.Common.{min, Option, Some, None, slice_get, refl, sym, ap, subst, ◌∙◌, arith}
-use Rattle.std.proofs.Common.{length, get_or, ltb, true, false, IfSome, Bor, lt-ltb, le-ltb, if◌then◌else◌}
+use Rattle.std.proofs.Common.{length, get_or, ltb, IfSome, Bor, lt-ltb, le-ltb, if◌then◌else◌}
 use Rattle.std.specs.List.{AllByRecursion}
 use Rattle.std.specs.Option.{is_some, option_copied}
 use Rattle.std.proofs.lemmas.Bool.{cases_lt, ltb-true}
@@ -17,10 +17,10 @@ use Rattle.sd_manager.specs.Table.{Table}
 use Rattle.sd_move.specs.declared.error.MoveError.{MoveError}
 use Rattle.sd_move.specs.declared.error.MoveError.TheVariants.{NotMovable, OverMost, ArenaFull, OutOfMemory}
 use Rattle.sd_compile.specs.Total.{AreHeldFormulas}
-use Rattle.sd_search.specs.Search.{WalkMove, State, LeadThrough, LeadWithin, IsFirstLeast}
+use Rattle.sd_search.specs.Search.{WalkMove, State, LeadThrough, LeadWithin}
 use Rattle.sd_search.specs.Paths.{IsAtPath, KeepsAlong}
 use Rattle.sd_search.specs.Kept.{IsSearchRefusal}
-use Rattle.sd_search.specs.Walking.{move_of, moves_from, Finds, IsAhead, CanGoOn, IsCapped, IsStepRefusal, best_of}
+use Rattle.sd_search.specs.Walking.{move_of, moves_from, IsAhead, CanGoOn, IsCapped, IsStepRefusal, best_of}
 use Rattle.sd_search.specs.Walking.{stop_of_move, HasSmallSize}
 use Rattle.sd_search.specs.declared.error.SearchError.{SearchError}
 use Rattle.sd_search.specs.declared.error.SearchError.TheVariants as stops

@@ -1,5 +1,5 @@
 -- A walk, by what is found among the states of its steps.
-use Rattle.std.proofs.Common.{◌≡◌, ℕ, ◌*◌, ◌/◌, ◌≤◌, ◌<◌, List, [], ◌∷◌, ◌++◌, length, map, Option, Some, None, refl}
+use Rattle.std.proofs.Common.{◌≡◌, ℕ, ◌*◌, ◌/◌, ◌<◌, List, [], ◌∷◌, ◌++◌, length, map, Option, Some, None, refl}
 use Rattle.std.proofs.Common.{sym}
 use Rattle.std.proofs.Common.{ap, subst, ◌∙◌, option_map}
 use Rattle.std.specs.List.{AllByRecursion}
@@ -16,13 +16,13 @@ use Rattle.sd_manager.specs.Table.{Table}
 use Rattle.sd_manager.specs.Valid.{IsTable}
 use Rattle.sd_sweep.specs.Reached.{KeepsReached}
 use Rattle.sd_compile.specs.Total.{AreHeldFormulas}
-use Rattle.sd_search.specs.Search.{WalkMove, walk_moves, subtree_at, State, LeadThrough, LeadWithin, IsFirstLeast}
+use Rattle.sd_search.specs.Search.{WalkMove, walk_moves, subtree_at, State, LeadThrough, LeadWithin}
 use Rattle.sd_search.specs.Search.{IsWalk}
 use Rattle.sd_search.specs.Kept.{KeepsRoots, IsSizeOfHeld}
 use Rattle.sd_search.specs.Paths.{IsAtPath}
-use Rattle.sd_search.specs.Walking.{move_of, IsCapped, IsAhead, GoesBackAtNone, CanGoOn, AreStepsAt}
+use Rattle.sd_search.specs.Walking.{move_of, IsCapped, IsAhead, CanGoOn, AreStepsAt}
 use Rattle.sd_search.specs.declared.steps.Step.{Step}
-use Rattle.sd_search.proofs.Determined.{all_middle}
+use Rattle.sd_search.proofs.LeastState.{all_middle, least_found}
 use Rattle.sd_search.proofs.WorkedSearch.{from_left, from_right, of_two}
 use Rattle.sd_search.proofs.Rounds.{has_path}
 use Rattle.sd_search.proofs.KeptRoots.{shows_kept, shows_back, formulas_on}
@@ -117,15 +117,13 @@ module _ (fs : List Expression) (slack size : ℕ) (t : Tree) (path : List Side)
         start = start;
         states = h.states;
         through = subst (λ l. LeadWithin fs (size * slack / 100) t path l h.states) is h.through;
-        least = record { tree = u; size = least };
-        first = record {
+        end = ap (λ s. s.tree) (least_found (record { tree = t; size = size }) h.states (record { tree = u; size = least }) (record {
           before = record { tree = t; size = size } ∷ first.before;
           behind = first.behind;
           parts = ap with_start first.parts;
           larger = (h.finds.1, first.larger);
           not_smaller = first.not_smaller;
-        };
-        end = refl;
+        }));
       }
 
   -- the start is
@@ -137,9 +135,8 @@ module _ (fs : List Expression) (slack size : ℕ) (t : Tree) (path : List Side)
     start = start;
     states = h.states;
     through = subst (λ l. LeadWithin fs (size * slack / 100) t path l h.states) is h.through;
-    least = record { tree = t; size = size };
-    first = record { before = []; behind = h.states; parts = refl; larger = tt; not_smaller = h.finds };
-    end = same;
+    end = ap (λ s. s.tree) (least_found (record { tree = t; size = size }) h.states (record { tree = t; size = size })
+        (record { before = []; behind = h.states; parts = refl; larger = tt; not_smaller = h.finds })) ∙ same;
   }
 
 -- what the steps of a walk tell, for all formulas and the path

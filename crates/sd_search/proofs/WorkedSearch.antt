@@ -1,10 +1,9 @@
 -- Worked cases of the search: the arrangements that walks go through, and the states that they keep.
-use Rattle.std.specs.Prelude.{ℕ, [], ◌∷◌, List}
+use Rattle.std.specs.Prelude.{◌≡◌, ℕ, [], ◌∷◌, List}
 use Rattle.std.proofs.Common.{refl}
-use native.Mathlib.Omega.{arith}
 use Rattle.sd_model.specs.Tree.{Tree, Leaf, Node}
 use Rattle.sd_model.specs.declared.trees.Side.TheVariants.{Right}
-use Rattle.sd_search.specs.Search.{walk_moves, LeadThrough, State, IsFirstLeast}
+use Rattle.sd_search.specs.Search.{walk_moves, LeadThrough, State, first_least}
 
 -- from two subtrees on the left, a walk leads through the eleven other arrangements of the three
 pub from_left : (a b c : Tree) → LeadThrough (Node (Node a b) c) [] (walk_moves (Node (Node a b) c))
@@ -44,11 +43,5 @@ first_walk =
     numbered 1 14 ∷ numbered 2 19 ∷ numbered 3 11 ∷ numbered 4 13 ∷ numbered 5 8 ∷ numbered 6 11 ∷ numbered 7 13
     ∷ numbered 8 8 ∷ numbered 9 14 ∷ numbered 10 14 ∷ numbered 11 19 ∷ []
 
-keeps_the_fifth : IsFirstLeast (numbered 0 14 ∷ first_walk) (numbered 5 8)
-keeps_the_fifth = record {
-  before = numbered 0 14 ∷ numbered 1 14 ∷ numbered 2 19 ∷ numbered 3 11 ∷ numbered 4 13 ∷ [];
-  behind = numbered 6 11 ∷ numbered 7 13 ∷ numbered 8 8 ∷ numbered 9 14 ∷ numbered 10 14 ∷ numbered 11 19 ∷ [];
-  parts = refl;
-  larger = (omega arith, (omega arith, (omega arith, (omega arith, (omega arith, tt)))));
-  not_smaller = (omega arith, (omega arith, (omega arith, (omega arith, (omega arith, (omega arith, tt))))));
-}
+keeps_the_fifth : first_least (numbered 0 14) first_walk ≡ numbered 5 8
+keeps_the_fifth = refl

@@ -1,8 +1,8 @@
 -- The search for a vtree under which formulas have a smaller size: a walk over the arrangements of the subtrees at a
 -- node, a round of walks over all nodes, and rounds until one gains nothing.
-use Rattle.std.specs.Prelude.{◌≡◌, ℕ, zero, suc, ◌*◌, ◌/◌, ◌<◌, ◌≤◌}
+use Rattle.std.specs.Prelude.{◌≡◌, ℕ, zero, suc, ◌*◌, ◌/◌, ◌<◌, ◌≤◌, nat_lt, if◌then◌else◌}
 use Rattle.std.specs.Prelude.{List, [], ◌∷◌, ◌++◌, Option, Some, None}
-use Rattle.std.specs.List.{AllByRecursion}
+use Rattle.std.specs.List.{AllByRecursion, fold}
 use Rattle.sd_model.specs.Expression.{Expression}
 use Rattle.sd_model.specs.Tree.{Tree, Leaf, Node}
 use Rattle.sd_model.specs.Size.{HasSize}
@@ -59,13 +59,9 @@ pub record State : Type 0 where
   pub tree : Tree
   pub size : ℕ
 
--- the first one of least size
-pub record IsFirstLeast (states : List State) (least : State) : Type 0 where
-  pub before : List State
-  pub behind : List State
-  pub parts : states ≡ before ++ least ∷ behind
-  pub larger : AllByRecursion (λ s. least.size < s.size) before
-  pub not_smaller : AllByRecursion (λ s. least.size ≤ s.size) behind
+-- the first one of least size among a state and those behind it
+abbrev pub first_least : State → List State → State
+first_least state states = fold (λ best s. if nat_lt s.size best.size then s else best) state states
 
 -- From a tree the moves at the node at the end of a path lead through these states, which end before the first whose
 -- size passes a bound.
@@ -86,9 +82,7 @@ pub record IsWalk (fs : List Expression) (slack : ℕ) (t : Tree) (path : List S
   pub start : HasSize fs t size
   pub states : List State
   pub through : LeadWithin fs (size * slack / 100) t path (walk_moves here) states
-  pub least : State
-  pub first : IsFirstLeast (record { tree = t; size = size } ∷ states) least
-  pub end : least.tree ≡ u
+  pub end : (first_least (record { tree = t; size = size }) states).tree ≡ u
 
 -- ---- rounds and searches
 
@@ -135,3 +129,13 @@ pub data IsSearchBegun (fs : List Expression) (slack : ℕ) : ℕ → Tree → T
   in_round : {t u : Tree} {rounds : ℕ} → IsRoundBegun fs slack t [] u → IsSearchBegun fs slack (suc rounds) t u
   after_round : {t u v : Tree} {rounds n k : ℕ} → HasSize fs t n → IsRound fs slack t [] u → HasSize fs u k →
       k < n → IsSearchBegun fs slack rounds u v → IsSearchBegun fs slack (suc rounds) t v
+
+-- ---- for the contracts of private functions, and for proofs
+
+-- the first one of least size, with those before and behind it
+pub record IsFirstLeast (states : List State) (least : State) : Type 0 where
+  pub before : List State
+  pub behind : List State
+  pub parts : states ≡ before ++ least ∷ behind
+  pub larger : AllByRecursion (λ s. least.size < s.size) before
+  pub not_smaller : AllByRecursion (λ s. least.size ≤ s.size) behind

@@ -11,6 +11,7 @@ use Rattle.sd_vtree.specs.Numbered.{times}
 use Rattle.sd_vtree.proofs.Building.{leaves_positive, leaves_node}
 use Rattle.sd_vtree.proofs.Pigeons.{times_distinct, has_variable, variable_in_range}
 use Rattle.sd_vtree.proofs.Times.{times_append, times_same}
+use Rattle.sd_model.proofs.PlainTexts.{vtree_text_plain}
 use Rattle.sd_vfile.specs.Reads.{is_child, has_leaf}
 use Rattle.sd_vfile.specs.Reads.{entry_of, missing}
 use Rattle.sd_vfile.specs.Reads.{roots_of, whole_tree, tree_of_lines, vtree_file}
@@ -85,7 +86,7 @@ whole_back t vtree =
 
 -- the text of a vtree over at most 1,024 variables is read back as the vtree
 pub read_back : (t : Tree) → IsVtree t → leaves t ≤ 1024 → vtree_file (leaves t) (vtree_text t) ≡ Ok t
-unfolding vtree_file vtree_text
+unfolding vtree_file
 read_back t vtree within_limit =
     let some = leaves_positive t in
     let v = leaves t in
@@ -108,5 +109,6 @@ read_back t vtree within_limit =
     let read : each_after (entry_of v) [] (numbered 2 lines) ≡ Ok (entries_in t 0) =
     ap (each_after (entry_of v) []) (sym (append-nil (numbered 2 lines)))
     ∙ tree_read v 2 t 0 [] [] (omega arith) (omega arith) begins in
-    ap (tree_of_lines v) (text_back 99 (header ∷ lines) (head, body))
+    ap (vtree_file v) (vtree_text_plain t)
+    ∙ ap (tree_of_lines v) (text_back 99 (header ∷ lines) (head, body))
     ∙ rw (natural_back stated (omega arith), read) (whole_back t vtree)

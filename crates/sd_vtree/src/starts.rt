@@ -1,8 +1,8 @@
 // The start vtrees as plain trees.
 
-ghost use Rattle.std.specs.Prelude.{◌≡◌, ◌+◌, ◌^◌, ◌<◌, ◌≤◌, IfOk};
+ghost use Rattle.std.specs.Prelude.{◌≡◌, ◌+◌, ◌-◌, ◌/◌, ◌^◌, ◌<◌, ◌≤◌, IfOk};
 ghost use Rattle.sd_model.specs.Seen.{tree_of};
-ghost use Rattle.sd_model.specs.StartTrees.{right_from, left_to, balanced_from};
+ghost use Rattle.sd_model.specs.StartTrees.{tree_by};
 ghost use Rattle.sd_model.specs.Tree.{Node};
 
 use sd_model::Tree;
@@ -21,7 +21,7 @@ pub(crate) fn node_over(alloc: Global, left: Tree, right: Tree) -> Result<Tree, 
 pub(crate) fn balanced_over(alloc: Global, first: u32, count: u32) -> Result<Tree, AllocError>
     requires at_least_one { 1 ≤ count }
     requires fits { first + count < 2 ^ 32 }
-    ensures { IfOk result (λ t. tree_of t ≡ balanced_from count first count) }
+    ensures { IfOk result (λ t. tree_of t ≡ tree_by (λ m. m / 2) count first count) }
 {
     if count < 2 {
         return Ok(Tree::Leaf(first));
@@ -32,26 +32,27 @@ pub(crate) fn balanced_over(alloc: Global, first: u32, count: u32) -> Result<Tre
     node_over(alloc, left, right)
 }
 
-// The right tree over a variable and so many after it.
-pub(crate) fn right_over(alloc: Global, first: u32, more: u32) -> Result<Tree, AllocError>
-    requires { first + more < 2 ^ 32 }
-    ensures { IfOk result (λ t. tree_of t ≡ right_from first more) }
+// The right tree over so many variables from the first one on.
+pub(crate) fn right_over(alloc: Global, first: u32, count: u32) -> Result<Tree, AllocError>
+    requires at_least_one { 1 ≤ count }
+    requires fits { first + count < 2 ^ 32 }
+    ensures { IfOk result (λ t. tree_of t ≡ tree_by (λ m. 1) count first count) }
 {
-    if more == 0 {
+    if count < 2 {
         return Ok(Tree::Leaf(first));
     }
-    let right = right_over(alloc, first + 1, more - 1)?;
+    let right = right_over(alloc, first + 1, count - 1)?;
     node_over(alloc, Tree::Leaf(first), right)
 }
 
-// The left tree over the first variable and so many after it.
-pub(crate) fn left_over(alloc: Global, more: u32) -> Result<Tree, AllocError>
-    requires { more + 1 < 2 ^ 32 }
-    ensures { IfOk result (λ t. tree_of t ≡ left_to more) }
+// The left tree over so many variables from 1 on.
+pub(crate) fn left_over(alloc: Global, count: u32) -> Result<Tree, AllocError>
+    requires { 1 ≤ count }
+    ensures { IfOk result (λ t. tree_of t ≡ tree_by (λ m. m - 1) count 1 count) }
 {
-    if more == 0 {
+    if count < 2 {
         return Ok(Tree::Leaf(1));
     }
-    let left = left_over(alloc, more - 1)?;
-    node_over(alloc, left, Tree::Leaf(more + 1))
+    let left = left_over(alloc, count - 1)?;
+    node_over(alloc, left, Tree::Leaf(count))
 }

@@ -1,12 +1,10 @@
-use Rattle.std.proofs.Common.{◌∙◌, sym, ap, subst, option_map}
+use Rattle.std.proofs.Common.{sym, subst}
 use Rattle.sd_model.specs.declared.trees.Move.TheVariants.{RotateLeft, Swap as SwapMove}
-use Rattle.sd_search.specs.Paths.{IsAtPath}
-use Rattle.sd_search.specs.Walking.{child_on, move_of}
+use Rattle.sd_search.specs.Walking.{move_of}
 use Rattle.sd_search.specs.declared.steps.Step.TheVariants.{Swap, Rotate, SwapChild}
 use Rattle.sd_model.specs.Moves.{moved}
-use Rattle.sd_model.specs.declared.trees.Side.{Side}
-use Rattle.std.proofs.Common.{List, ◌≡◌, None, ◌++◌}
-use Rattle.sd_vtree.specs.Numbered.{plain_tree, children_at}
+use Rattle.std.proofs.Common.{◌≡◌, None, ◌++◌}
+use Rattle.sd_vtree.specs.Numbered.{plain_tree}
 use Rattle.sd_search.proofs.OneStep.{stands_here, stands_child, made_stepped, made_sized, made_refused, no_child}
 use Rattle.sd_search.proofs.steps.make.Goals as goal
 

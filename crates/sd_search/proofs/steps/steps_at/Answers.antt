@@ -1,5 +1,4 @@
-use Rattle.std.proofs.Common.{◌≡◌, ◌∙◌, sym, ap, refl, Some, None}
-use Rattle.std.specs.Option.{is_some}
+use Rattle.std.proofs.Common.{◌∙◌, sym, ap, refl}
 use Rattle.sd_model.specs.Tree.{Leaf, Node}
 use Rattle.sd_vtree.specs.Numbered.{children_at}
 use Rattle.sd_vtree.proofs.Subtrees.{once_numbered}

@@ -1,4 +1,4 @@
-use Rattle.std.proofs.Common.{◌≡◌, ◌∙◌, ◌+◌, length, sym, refl, arith}
+use Rattle.std.proofs.Common.{◌∙◌, ◌+◌, length, sym, refl, arith}
 use Rattle.sd_search.specs.Walking.{move_of, moves_from}
 use Rattle.sd_vtree.specs.Numbered.{plain_tree}
 use Rattle.sd_search.proofs.AlongPaths.{along_same, along_at}

@@ -1,16 +1,16 @@
-use Rattle.std.proofs.Common.{◌∙◌, ap, arith}
+use Rattle.std.proofs.Common.{◌∙◌, ap, arith, ◌/◌}
 use Rattle.sd_model.specs.Seen.{tree_of}
 use Rattle.sd_model.specs.Tree.{variables}
-use Rattle.sd_vtree.proofs.Starting.{vtree_in_order, variables_balanced_from}
+use Rattle.sd_vtree.proofs.Starting.{vtree_in_order, variables_start, half}
 use Rattle.sd_vtree.proofs.vtree.Vtree.balanced.Goals as goal
 
 pub of_tree-requires-clause-vtree : goal.of_tree-requires-clause-vtree
 of_tree-requires-clause-vtree c =
     (vtree_in_order (tree_of c.in_ok-tree.tree) c.args.variables (ap variables c.in_ok-tree.ensures
-    ∙ variables_balanced_from c.args.variables 1 c.args.variables c.requires.at_least_one (omega arith))).0
+    ∙ variables_start (λ m. m / 2) half c.args.variables c.requires.at_least_one)).0
 
 pub of_tree-requires-clause-within_limit : goal.of_tree-requires-clause-within_limit
 of_tree-requires-clause-within_limit c =
     let e = (vtree_in_order (tree_of c.in_ok-tree.tree) c.args.variables (ap variables c.in_ok-tree.ensures
-    ∙ variables_balanced_from c.args.variables 1 c.args.variables c.requires.at_least_one (omega arith))).1 in
+    ∙ variables_start (λ m. m / 2) half c.args.variables c.requires.at_least_one)).1 in
     omega arith
