@@ -1,7 +1,7 @@
 -- A new run is added at the end of the arena.
-use Rattle.std.proofs.Common.{◌≡◌, ℕ, suc, zero, ◌+◌, ◌<◌, ◌≤◌, List, [], ◌∷◌, ◌++◌, length, get_or, take, drop}
+use Rattle.std.proofs.Common.{◌≡◌, ℕ, suc, zero, ◌+◌, ◌<◌, ◌≤◌, List, [], ◌∷◌, ◌++◌, length, get_or, take, drop, Bool, false, ◌-◌}
 use Rattle.std.proofs.Common.{None, refl, sym, ap, subst, ◌∙◌, arith}
-use Rattle.std.proofs.Math.ListN.{set}
+use Rattle.std.proofs.Math.ListN.{set, replicate}
 use Rattle.std.proofs.lemmas.Bool.{cases_eq}
 use Rattle.std.proofs.lemmas.List.{length-append, length-map, get_or-set_same, get_or-set_other, set_at}
 use Rattle.std.proofs.lemmas.List.{get_or_append_left, drop_at, take_at, append-nil, append_assoc}
@@ -11,11 +11,12 @@ use Rattle.std.specs.FinMap.{get, insert}
 use Rattle.sd_runs.specs.Arena.{free_of}
 use Rattle.sd_runs.specs.Taking.{taken, taken_at}
 use Rattle.sd_runs.specs.Fields.{chain, run_list, lists_of, stacks_of, lengths_of, filled_map, no_run, zeros, block}
-use Rattle.sd_runs.specs.Stored.{AreRunsStored, HoldsRuns, IsFreeChain}
+use Rattle.sd_runs.specs.Stored.{AreMarked, AreRunsStored, HoldsRuns, IsFreeChain}
 use Rattle.sd_runs.proofs.Arenas.{arena_of, same_arena}
 use Rattle.sd_runs.proofs.Chains.{chain_kept}
 use Rattle.sd_runs.proofs.Lists.{list_first, list_live, list_same, lists_length}
 use Rattle.sd_runs.proofs.Maps.{shown, filled_set, filled_same, get_filled, with_list_some}
+use Rattle.sd_runs.proofs.Marks.{marked_as, marked_grown}
 use Rattle.sd_runs.proofs.Places.{by_cases, placed}
 use Rattle.sd_runs.proofs.Steps.{free_inside, no_list, not_end, stored_grow}
 use Rattle.sd_runs.proofs.Told.{stacks_are, lists_are, kept_from}
@@ -225,6 +226,17 @@ module _ (elements : List (ℕ × ℕ)) (lengths heads : List ℕ) (used bound n
   pub kept_after : HoldsRuns (elements ++ list) (lengths ++ n ∷ []) heads (used + n) bound
   kept_after = kept_from new (lengths ++ n ∷ []) heads stored places chained listed filled placed_still
 
+  stacks_after : stacks_of new heads ≡ stacks_of elements heads
+  stacks_after = stacks_are new (lengths ++ n ∷ []) heads stored places chained listed filled placed_still
+
+  -- the marks after the run was added
+  pub marks_after : {marks : List Bool} → AreMarked marks (stacks_of elements heads) (length elements)
+      → (after : List Bool) (end : ℕ) → end ≡ length (elements ++ list)
+      → after ≡ take end marks ++ replicate (end - length marks) false
+      → AreMarked after (stacks_of (elements ++ list) heads) (length (elements ++ list))
+  marks_after m after end is marks_are =
+      marked_as (marked_grown m after end (omega (arith, is, new_size)) marks_are) stacks_after (sym is)
+
   -- the arena after the run was added
   pub arena_after : free_of (arena_of (lists_of elements lengths heads) (stacks_of elements heads)
       (length elements) bound) n ≡ []
@@ -239,7 +251,7 @@ module _ (elements : List (ℕ × ℕ)) (lengths heads : List ℕ) (used bound n
       (omega (arith, size, at_least_one))
       ∙ ap (λ m. insert m (length elements) list)
       (filled_same _ _ (blank_read (lists_of elements lengths heads) n)))
-      (ap filled_map (stacks_are new (lengths ++ n ∷ []) heads stored places chained listed filled placed_still))
+      (ap filled_map stacks_after)
       (length-append elements list)
       ∙ ap (λ l. taken_at l (arena_of (lists_of elements lengths heads) (stacks_of elements heads)
       (length elements) bound) list)

@@ -7,13 +7,13 @@ use Rattle.std.proofs.lemmas.List.{length-map, length-set, get_or-set_same, get_
 use Rattle.sd_runs.specs.Arena.{IsMember, HasNoCopies, free_of}
 use Rattle.sd_runs.specs.Fields.{chain, is_in, run_list, lists_of, stacks_of, lengths_of, filled_map, no_run}
 use Rattle.sd_runs.specs.Ordered.{IsRechained}
-use Rattle.sd_runs.specs.Stored.{AreRunsStored, HoldsRuns, IsFreeChain}
+use Rattle.sd_runs.specs.Stored.{AreMarked, AreRunsStored, HoldsRuns, IsFreeChain}
 use Rattle.sd_runs.specs.Taking.{IsReordered}
 use Rattle.sd_runs.proofs.Arenas.{arena_of, free_at}
-use Rattle.sd_runs.proofs.Chains.{chain_kept, stack_at, has_yes, has_no, has_or_not}
+use Rattle.sd_runs.proofs.Chains.{chain_kept, has_yes, has_no, has_or_not}
 use Rattle.sd_runs.proofs.Lists.{list_first, list_free, list_same, part_same}
+use Rattle.sd_runs.proofs.Marks.{marked_as, marked_same}
 use Rattle.sd_runs.proofs.Places.{by_cases, placed}
-use Rattle.sd_runs.proofs.Steps.{free_inside}
 use Rattle.sd_runs.proofs.Told.{stacks_are, lists_are, kept_from}
 use Rattle.sd_runs.proofs.Totals.{free_sum_set}
 
@@ -82,27 +82,6 @@ stored_order {lists} {lengths} {stacks} {used} {extent} {bound} st n starts in_s
       bounded = st.bounded;
       bound_fits = st.bound_fits;
     }
-
-module _ (elements : List (ℕ × ℕ)) (lengths heads : List ℕ) (used bound n : ℕ)
-    (k : HoldsRuns elements lengths heads used bound) (items : List (ℕ × ℕ)) (first : ℕ) (is : items ≡ elements)
-    (reads : get_or heads n no_run ≡ first) where
-  -- the chain from the head of a length has the free runs of that length
-  pub chain_stack : chain (length items) items first ≡ get_or (stacks_of elements heads) n []
-  chain_stack =
-      ap (λ e. chain (length e) e first) is ∙ ap (chain (length elements) elements) (sym reads)
-      ∙ sym (stack_at elements heads n)
-
-  pub chain_holds : IsFreeChain items first (chain (length items) items first)
-  chain_holds =
-      subst (IsFreeChain items first) (sym chain_stack)
-      (subst (λ e. IsFreeChain e first (get_or (stacks_of elements heads) n [])) (sym is)
-      (subst (λ at. IsFreeChain elements at (get_or (stacks_of elements heads) n [])) reads (k.chained n)))
-
-  -- and they start within the elements
-  pub chain_inside : (s : ℕ) → IsMember s (chain (length items) items first) → s < length elements
-  chain_inside s h =
-      let free : IsMember s (get_or (stacks_of elements heads) n []) = subst (IsMember s) chain_stack h in
-      omega (arith, free_inside k.stored n s free, k.stored.at_least_one n s free)
 
 module _ (elements : List (ℕ × ℕ)) (lengths heads : List ℕ) (used bound n : ℕ)
     (k : HoldsRuns elements lengths heads used bound) (has_head : n < length heads)
@@ -208,12 +187,20 @@ module _ (elements : List (ℕ × ℕ)) (lengths heads : List ℕ) (used bound n
   lists_after =
       lists_are new lengths (set heads n head) stored places chained listed (k.filled ∙ sym r.size) placed_still
 
+  stacks_after : stacks_of new (set heads n head) ≡ after
+  stacks_after =
+      stacks_are new lengths (set heads n head) stored places chained listed (k.filled ∙ sym r.size) placed_still
+
+  -- the marks after the free runs were put in order
+  pub marks_after : AreMarked marks stacks (length elements)
+      → AreMarked marks (stacks_of new (set heads n head)) (length new)
+  marks_after m = marked_as (marked_same m (λ s. free_there s 2)) stacks_after r.size
+
   free_after : (m : ℕ) → free_of (arena_of (lists_of new lengths (set heads n head)) (stacks_of new (set heads n head))
       (length new) bound) m ≡ get_or after m []
   free_after m =
       free_at (lists_of new lengths (set heads n head)) (stacks_of new (set heads n head)) (length new) bound m
-      ∙ ap (λ s. get_or s m []) (stacks_are new lengths (set heads n head) stored places chained listed
-      (k.filled ∙ sym r.size) placed_still)
+      ∙ ap (λ s. get_or s m []) stacks_after
 
   free_before : (m : ℕ) → free_of (arena_of (lists_of elements lengths heads) (stacks_of elements heads)
       (length elements) bound) m ≡ get_or stacks m []

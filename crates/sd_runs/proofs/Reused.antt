@@ -1,5 +1,5 @@
 -- A free run becomes live again.
-use Rattle.std.proofs.Common.{◌≡◌, ◌⊎◌, ℕ, ◌+◌, ◌<◌, ◌≤◌, List, [], ◌∷◌, length, get_or, take, drop, cond, true}
+use Rattle.std.proofs.Common.{◌≡◌, ◌⊎◌, ℕ, ◌+◌, ◌<◌, ◌≤◌, List, [], ◌∷◌, length, get_or, take, drop, cond, true, Bool, false}
 use Rattle.std.proofs.Common.{None, refl, sym, ap, subst, ◌∙◌, arith, inl, inr}
 use Rattle.std.proofs.Math.ListN.{set}
 use Rattle.std.proofs.lemmas.List.{length-map, length-set, get_or-set_same, get_or-set_other, get_or_default}
@@ -7,11 +7,12 @@ use Rattle.std.specs.FinMap.{get}
 use Rattle.sd_runs.specs.Arena.{IsMember, HasNoCopies, free_of, with_list}
 use Rattle.sd_runs.specs.Taking.{taken, taken_at}
 use Rattle.sd_runs.specs.Fields.{chain, is_in, run_list, lists_of, stacks_of, lengths_of, filled_map, no_run}
-use Rattle.sd_runs.specs.Stored.{AreRunsStored, HoldsRuns, IsFreeChain}
+use Rattle.sd_runs.specs.Stored.{AreMarked, AreRunsStored, HoldsRuns, IsFreeChain}
 use Rattle.sd_runs.proofs.Arenas.{arena_of, same_arena, free_at}
-use Rattle.sd_runs.proofs.Chains.{chain_kept}
+use Rattle.sd_runs.proofs.Chains.{chain_kept, has_no}
 use Rattle.sd_runs.proofs.Lists.{list_first, list_live}
 use Rattle.sd_runs.proofs.Maps.{shown, filled_set, get_filled, with_list_some}
+use Rattle.sd_runs.proofs.Marks.{marked_as, marked_one}
 use Rattle.sd_runs.proofs.Places.{by_cases, placed, not_equal}
 use Rattle.sd_runs.proofs.Steps.{free_inside, stored_reuse}
 use Rattle.sd_runs.proofs.Told.{outside, list_other, stacks_are, lists_are, kept_from}
@@ -141,6 +142,25 @@ module _ (elements : List (ℕ × ℕ)) (lengths heads : List ℕ) (used bound s
     kept_after = kept_from new lengths (set heads n next) stored places chained listed
         (k.filled ∙ sym same_size) placed_still
 
+    stacks_after : stacks_of new (set heads n next) ≡ starts
+    stacks_after =
+        stacks_are new lengths (set heads n next) stored places chained listed (k.filled ∙ sym same_size) placed_still
+
+    -- it is free no longer
+    gone : ¬ IsMember s (get_or starts 2 [])
+    gone =
+        placed (stacks_of elements heads) n rest [] 2 (λ l. ¬ IsMember s l) stack_inside (λ _. alone.0)
+        (λ ne h. ne (sym (k.stored.sized 2 s h) ∙ run))
+
+    -- the marks after the run was used again
+    pub marks_after : {marks : List Bool} → AreMarked marks (stacks_of elements heads) (length elements)
+        → AreMarked (set marks s false) (stacks_of new (set heads n (get_or elements s (0, 0)).0)) (length new)
+    marks_after m =
+        marked_as
+        (marked_one m s false (omega (arith, inside, at_least_one)) (sym (has_no s (get_or starts 2 []) gone))
+        (λ t ne. free_there t 2 ne))
+        stacks_after same_size
+
     -- the arena after the run was used again
     pub arena_after : arena_of (lists_of new lengths (set heads n (get_or elements s (0, 0)).0))
         (stacks_of new (set heads n (get_or elements s (0, 0)).0)) (length new) bound
@@ -151,8 +171,7 @@ module _ (elements : List (ℕ × ℕ)) (lengths heads : List ℕ) (used bound s
         (k.filled ∙ sym same_size) placed_still)
         ∙ filled_set (lists_of elements lengths heads) s list list_inside
         ∙ with_list_some (filled_map (lists_of elements lengths heads)) s list (omega (arith, size, at_least_one)))
-        (ap filled_map (stacks_are new lengths (set heads n next) stored places chained listed
-        (k.filled ∙ sym same_size) placed_still)
+        (ap filled_map stacks_after
         ∙ filled_set (stacks_of elements heads) n rest stack_inside
         ∙ ap (λ m. with_list (filled_map (stacks_of elements heads)) m rest) (sym size))
         same_size
@@ -181,6 +200,16 @@ module _ (elements : List (ℕ × ℕ)) (lengths heads : List ℕ) (used bound s
         (subst (λ l. HoldsRuns l lengths (set heads n (get_or elements s (0, 0)).0) (used + n) bound) (sym is)
         (kept_after (put s elements list) list size (put_length s elements list fits) other_stays
         (put_part s n elements list fits size)))
+
+    -- the marks after the list was written over the free run
+    pub marks_written : {marks : List Bool} → AreMarked marks (stacks_of elements heads) (length elements)
+        → AreMarked (set marks s false) (stacks_of new (set heads n e.0)) (length new)
+    marks_written {marks} m =
+        subst (λ j. AreMarked (set marks s false) (stacks_of new (set heads n j)) (length new)) (sym next_is)
+        (subst (λ l. AreMarked (set marks s false) (stacks_of l (set heads n (get_or elements s (0, 0)).0)) (length l))
+        (sym is)
+        (marks_after (put s elements list) list size (put_length s elements list fits) other_stays
+        (put_part s n elements list fits size) m))
 
     -- the arena after the list was written over the free run
     pub arena_written : arena_of (lists_of new lengths (set heads n e.0)) (stacks_of new (set heads n e.0))

@@ -1,16 +1,17 @@
 -- What the fields tell, and what holds of them.
-use Rattle.std.proofs.Common.{◌≡◌, ◌⊎◌, ℕ, suc, zero, ◌+◌, ◌*◌, ◌<◌, ◌≤◌, List, [], ◌∷◌, length, get_or}
+use Rattle.std.proofs.Common.{◌≡◌, ◌⊎◌, ℕ, suc, zero, ◌+◌, ◌*◌, ◌<◌, ◌≤◌, Bool, List, [], ◌∷◌, length, get_or}
 use Rattle.std.proofs.Common.{refl, sym, ap, subst, ◌∙◌, arith, inl, inr}
 use Rattle.std.proofs.Math.Nat.{mul-le-mul_right}
 use Rattle.std.proofs.lemmas.List.{length-map}
 use Rattle.sd_runs.specs.Arena.{IsMember, HasNoCopies}
 use Rattle.sd_runs.specs.Fields.{chain, is_in, run_list, lists_from, lists_of, stacks_of, lengths_of, free_sum, no_run}
 use Rattle.sd_runs.specs.Padded.{IsPadded}
-use Rattle.sd_runs.specs.Stored.{AreRunsStored, HoldsRuns, IsFreeChain}
+use Rattle.sd_runs.specs.Stored.{AreMarked, AreRunsStored, HoldsRuns, IsFreeChain}
 use Rattle.sd_runs.proofs.Arenas.{arena_of, same_arena}
 use Rattle.sd_runs.proofs.Chains.{chain_is, same_at, stack_at}
 use Rattle.sd_runs.proofs.Lists.{list_first, list_same, lists_length, part_same}
 use Rattle.sd_runs.proofs.Maps.{filled_same}
+use Rattle.sd_runs.proofs.Marks.{marked_same}
 use Rattle.sd_runs.proofs.Places.{by_cases}
 use Rattle.sd_runs.proofs.Steps.{free_inside}
 use Rattle.sd_runs.proofs.Totals.{free_sum_same}
@@ -156,6 +157,11 @@ module _ (elements : List (ℕ × ℕ)) (lengths heads more : List ℕ) {used bo
       kept_from elements lengths more stored_padded
       (length-map more (λ head. chain (length elements) elements head))
       chained_padded listed_padded k.filled placed_padded
+
+  -- the marks are the same
+  pub marks_padded : {marks : List Bool} → AreMarked marks (stacks_of elements heads) (length elements)
+      → AreMarked marks (stacks_of elements more) (length elements)
+  marks_padded m = marked_same m (λ s. ap (is_in s) (stacks_padded 2))
 
   -- and the arena is the same
   pub arena_padded : arena_of (lists_of elements lengths more) (stacks_of elements more) (length elements) bound

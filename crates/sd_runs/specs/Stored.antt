@@ -1,8 +1,8 @@
 -- What holds of the fields of the runs.
-use Rattle.std.specs.Prelude.{◌≡◌, ℕ, ◌+◌, ◌<◌, ◌≤◌, ◌^◌, List, [], ◌∷◌, length, get_or}
+use Rattle.std.specs.Prelude.{◌≡◌, ℕ, ◌+◌, ◌<◌, ◌≤◌, ◌^◌, Bool, false, List, [], ◌∷◌, length, get_or}
 use Rattle.std.specs.List.{sum_by}
 use Rattle.sd_runs.specs.Arena.{IsMember, HasNoCopies}
-use Rattle.sd_runs.specs.Fields.{free_sum, lengths_of, no_run, stacks_of, lists_of}
+use Rattle.sd_runs.specs.Fields.{free_sum, is_in, lengths_of, no_run, stacks_of, lists_of}
 
 -- The lists of the live runs and the lengths of all runs stand at their starts; the starts of the free runs stand at
 -- their lengths.
@@ -37,3 +37,8 @@ pub record HoldsRuns (elements : List (ℕ × ℕ)) (lengths heads : List ℕ) (
   pub chained : (n : ℕ) → IsFreeChain elements (get_or heads n no_run) (get_or (stacks_of elements heads) n [])
   -- each length of a run has a place
   pub placed : (s : ℕ) → 0 < get_or (lengths_of lengths) s 0 → get_or (lengths_of lengths) s 0 < length heads
+
+-- The marks tell of each element whether a free run of two elements starts there.
+pub record AreMarked (marks : List Bool) (stacks : List (List ℕ)) (extent : ℕ) : Type 0 where
+  pub size : length marks ≡ extent
+  pub marked : (s : ℕ) → get_or marks s false ≡ is_in s (get_or stacks 2 [])

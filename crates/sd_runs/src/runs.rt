@@ -1,7 +1,7 @@
 // The runs of one arena.
 use crate::TakeError;
 use crate::heads::{NONE, make_heads};
-use crate::ordering::{chain_marked, mark_chain};
+use crate::ordering::chain_marked;
 use crate::writing::write;
 use std::alloc::Global;
 use std::marker::Model;
@@ -25,8 +25,8 @@ pub struct Runs {
     used: u32,
     // what the number of elements never passes
     bound: u32,
-    // room for a mark of each element, made where the arena grows: only while `order` puts free runs in
-    // order are there marks
+    // whether a free run of two elements starts at each element: so these runs are put in order by one
+    // walk along the marks
     marks: Vec<bool>,
 }
 
@@ -34,7 +34,7 @@ impl Model for Runs {
     ghost use Rattle.std.specs.Prelude.{length};
     ghost use Rattle.sd_runs.specs.Arena.{Arena, arena_code};
     ghost use Rattle.sd_runs.specs.Fields.{filled_map, stacks_of, lists_of};
-    ghost use Rattle.sd_runs.specs.Stored.{HoldsRuns};
+    ghost use Rattle.sd_runs.specs.Stored.{HoldsRuns, AreMarked};
 
     ghost Value = { Arena };
 
@@ -48,7 +48,8 @@ impl Model for Runs {
     } };
 
     ghost invariant = { λ r. HoldsRuns r.elements.items r.lengths.items r.heads.items r.used
-        r.bound };
+        r.bound × AreMarked r.marks.items (stacks_of r.elements.items r.heads.items)
+        (length r.elements.items) };
 }
 
 impl Runs {
@@ -93,7 +94,7 @@ impl Runs {
         ensures full { IfErr result (λ e. IsRefusal self.old (length list.now) e) }
     {
         let length = list.len();
-        match self.newest(length) {
+        match self.first_free(length) {
             Some(start) => {
                 self.reuse(start, list);
                 Ok(start)
@@ -110,7 +111,7 @@ impl Runs {
 
     // The free run of this length that is taken next: the one given last, or the first in order.
     #[inline(always)]
-    fn newest(&self, length: usize) -> Option<u32>
+    fn first_free(&self, length: usize) -> Option<u32>
         ensures { result ≡ first (free_of self.now length) }
     {
         if length < self.heads.len() {
@@ -134,6 +135,7 @@ impl Runs {
         let start = start as usize;
         self.heads[length] = self.elements[start].0;
         write(&mut self.elements, start, list);
+        self.marks[start] = false;
         self.used += length as u32;
     }
 
@@ -153,12 +155,13 @@ impl Runs {
     {
         make_heads(&mut self.heads, list.len())?;
         self.lengths.reserve(1)?;
-        self.marks.reserve(self.elements.len() + list.len())?;
+        self.marks.reserve(list.len())?;
         let start = self.elements.len() as u32;
         self.elements.extend_from_slice(list)?;
         let length = list.len() as u32;
-        // room for it was reserved before the arena grew, so this can't fail
+        // room for both was reserved before the arena grew, so these can't fail
         let _ = self.lengths.push(length);
+        let _ = self.marks.resize(self.elements.len(), false);
         self.used += length;
         Ok(start)
     }
@@ -171,27 +174,19 @@ impl Runs {
     {
         self.elements[start as usize] = (self.heads[length as usize], 0);
         self.heads[length as usize] = start;
+        self.marks[start as usize] = length == 2;
         self.used -= length;
     }
 
-    /// Puts the free runs of this length in the order of their starts, so that the least is taken
-    /// next. Takes no memory, and a step for each element.
-    pub fn order(&mut self, length: u32)
-        ensures reordered { IsReordered self.old self.new length }
+    /// Puts the free runs of two elements in the order of their starts, so that the least is taken next.
+    /// Takes no memory and cannot fail; a step for each element.
+    pub fn order_twos(&mut self)
+        ensures reordered { IsReordered self.old self.new 2 }
         ensures arena { IsArena self.new }
     {
-        let length = length as usize;
-        if length >= self.heads.len() {
-            return;
+        if self.heads.len() > 2 {
+            self.heads[2] = chain_marked(&self.marks, &mut self.elements);
         }
-        // room for the marks was made as the arena grew, so this can't fail
-        self.marks.clear();
-        if self.marks.resize(self.elements.len(), false).is_err() {
-            return;
-        }
-        mark_chain(&self.elements, self.heads[length], &mut self.marks);
-        self.heads[length] = chain_marked(&self.marks, &mut self.elements);
-        self.marks.clear();
     }
 
     /// The list of the live run of this length that starts here.

@@ -1,5 +1,5 @@
 use Rattle.std.proofs.Common.{◌-◌, arith}
-use Rattle.sd_runs.proofs.Marking.{rechained_pass, rechained_next}
+use Rattle.sd_runs.proofs.Rechained.{rechained_pass, rechained_next}
 use Rattle.sd_runs.proofs.ordering.chain_marked.Goals as goal
 
 pub loop-start-preserved-then-marks-start : goal.loop-start-preserved-then-marks-start
