@@ -1,5 +1,5 @@
 -- The marked starts are chained anew.
-use Rattle.std.proofs.Common.{◌≡◌, ℕ, suc, zero, ◌<◌, ◌≤◌, Bool, true, false, List, [], ◌∷◌, length, get_or}
+use Rattle.std.proofs.Common.{◌≡◌, ℕ, suc, zero, ◌<◌, ◌≤◌, List, [], ◌∷◌, length, get_or}
 use Rattle.std.proofs.Common.{refl, sym, ap, subst, ◌∙◌, arith, inl, inr}
 use Rattle.std.proofs.Math.ListN.{set}
 use Rattle.std.proofs.lemmas.Bool.{cases_eq}
@@ -12,7 +12,7 @@ use Rattle.sd_runs.proofs.Chains.{chain_kept}
 use Rattle.sd_runs.proofs.Places.{by_cases}
 
 -- before the first step no start is chained
-pub rechained_first : (marks : List Bool) (elements : List (ℕ × ℕ))
+pub rechained_first : (marks : List ℕ) (elements : List (ℕ × ℕ))
     → IsRechained marks (length marks) elements elements no_run
 rechained_first marks elements =
     record {
@@ -26,15 +26,15 @@ rechained_first marks elements =
       size = refl;
     }
   where
-    no_mark : (marks : List Bool) (s : ℕ) → length marks ≤ s → ¬ (get_or marks s false ≡ true)
+    no_mark : (marks : List ℕ) (s : ℕ) → length marks ≤ s → ¬ (get_or marks s 0 ≡ 2)
     no_mark [] s from is = cc
     no_mark (b ∷ bs) zero from is = omega arith
     no_mark (b ∷ bs) (suc s) from is = no_mark bs s (omega arith) is
 
-module _ (marks : List Bool) (from : ℕ) (old new : List (ℕ × ℕ)) (head start : ℕ) (next : from ≡ suc start)
+module _ (marks : List ℕ) (from : ℕ) (old new : List (ℕ × ℕ)) (head start : ℕ) (next : from ≡ suc start)
     (r : IsRechained marks from old new head) where
   -- a start that is not marked is left out
-  pub rechained_pass : get_or marks start false ≡ false → IsRechained marks start old new head
+  pub rechained_pass : ¬ (get_or marks start 0 ≡ 2) → IsRechained marks start old new head
   rechained_pass off =
       record {
         starts = r.starts;
@@ -43,7 +43,7 @@ module _ (marks : List Bool) (from : ℕ) (old new : List (ℕ × ℕ)) (head st
         behind = λ s h. omega (arith, r.behind s h, next);
         marked = r.marked;
         all = λ s least is. by_cases
-            (λ e. let bad : true ≡ false = sym is ∙ ap (λ j. get_or marks j false) e ∙ off in absurd cc)
+            (λ e. absurd (off (ap (λ j. get_or marks j 0) (sym e) ∙ is)))
             (λ ne. r.all s (above s least ne) is)
             (cases_eq s start);
         others = r.others;
@@ -54,7 +54,7 @@ module _ (marks : List Bool) (from : ℕ) (old new : List (ℕ × ℕ)) (head st
       above s least ne = omega (arith, least, ne, next)
 
   -- a marked one comes first
-  pub rechained_next : get_or marks start false ≡ true → start < length new
+  pub rechained_next : get_or marks start 0 ≡ 2 → start < length new
       → IsRechained marks start old (set new start (head, 0)) start
   rechained_next is_on inside =
       record {
@@ -68,7 +68,7 @@ module _ (marks : List Bool) (from : ℕ) (old new : List (ℕ × ℕ)) (head st
         );
         once = ((λ h. later start h refl), r.once);
         behind = λ s. by_cases (λ e. omega (arith, e)) (λ h. omega (arith, r.behind s h, next));
-        marked = λ s. by_cases (λ e. ap (λ j. get_or marks j false) (sym e) ∙ is_on) (λ h. r.marked s h);
+        marked = λ s. by_cases (λ e. ap (λ j. get_or marks j 0) (sym e) ∙ is_on) (λ h. r.marked s h);
         all = λ s least is. by_cases
             (λ e. inl (sym e))
             (λ ne. inr (r.all s (above s least ne) is))
@@ -83,5 +83,5 @@ module _ (marks : List Bool) (from : ℕ) (old new : List (ℕ × ℕ)) (head st
       later : (x : ℕ) → IsMember x r.starts → ¬ (x ≡ start)
       later x h e = omega (arith, r.behind x h, next, e)
 
-      unmarked : (s : ℕ) → get_or marks s false ≡ false → ¬ (s ≡ start)
-      unmarked s off e = let bad : true ≡ false = sym is_on ∙ ap (λ j. get_or marks j false) (sym e) ∙ off in cc
+      unmarked : (s : ℕ) → ¬ (get_or marks s 0 ≡ 2) → ¬ (s ≡ start)
+      unmarked s off e = off (ap (λ j. get_or marks j 0) e ∙ is_on)

@@ -4,9 +4,10 @@ ghost use Rattle.sd_runs.specs.Fields.{no_run};
 ghost use Rattle.sd_runs.specs.Ordered.{IsRechained};
 
 use crate::heads::NONE;
+use crate::marks::FREE_TWO;
 
-// Chains the marked starts, the least first, and answers it.
-pub(crate) fn chain_marked(marks: &[bool], elements: &mut [(u32, u32)]) -> u32
+// Chains the starts that are marked as free, the least first, and answers it.
+pub(crate) fn chain_marked(marks: &[u8], elements: &mut [(u32, u32)]) -> u32
     requires size { length marks.now ≡ length elements.old }
     requires below { length marks.now ≤ no_run }
     ensures { IsRechained marks.now 0 elements.old elements.new result }
@@ -15,7 +16,7 @@ pub(crate) fn chain_marked(marks: &[bool], elements: &mut [(u32, u32)]) -> u32
     let mut start = marks.len();
     while start > 0 {
         start -= 1;
-        if marks[start] {
+        if marks[start] == FREE_TWO {
             elements[start] = (head, 0);
             head = start as u32;
         }

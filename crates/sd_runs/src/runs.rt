@@ -1,6 +1,7 @@
 // The runs of one arena.
 use crate::TakeError;
 use crate::heads::{NONE, make_heads};
+use crate::marks::{NO_START, START, free_mark};
 use crate::ordering::chain_marked;
 use crate::writing::write;
 use std::alloc::Global;
@@ -11,23 +12,20 @@ use std::marker::Model;
 ///
 /// A run keeps its start and its length for good: runs are neither split nor joined. A free run keeps
 /// the start of the next free run of its length in its own first element, so whether a run is live is
-/// told by the chains of free runs, and giving one back writes an element and a head.
+/// told by the chains of free runs, and giving one back writes an element, a mark and a head.
 #[derive(Drop)]
 pub struct Runs {
     // the elements of all runs, live or free: the next new run starts behind them
     elements: Vec<(u32, u32)>,
-    // the length of each run, live or free, in the order of their starts: growth alone writes it, and
-    // no call reads it, but without it the fields would not tell where runs begin
-    lengths: Vec<u32>,
     // for each length the start of the free run that is taken next, or `NONE`
     heads: Vec<u32>,
     // the sum of the lengths of the live runs
     used: u32,
     // what the number of elements never passes
     bound: u32,
-    // whether a free run of two elements starts at each element: so these runs are put in order by one
-    // walk along the marks
-    marks: Vec<bool>,
+    // for each element whether a run starts there, so that the fields tell the runs, and whether that is
+    // a free one of two elements, so that these are put in order by one walk along the marks
+    marks: Vec<u8>,
 }
 
 impl Model for Runs {
@@ -41,13 +39,13 @@ impl Model for Runs {
     ghost coded = { arena_code };
 
     ghost view = { λ r. record {
-      live = filled_map (lists_of r.elements.items r.lengths.items r.heads.items);
+      live = filled_map (lists_of r.elements.items r.marks.items r.heads.items);
       free = filled_map (stacks_of r.elements.items r.heads.items);
       extent = length r.elements.items;
       bound = r.bound;
     } };
 
-    ghost invariant = { λ r. HoldsRuns r.elements.items r.lengths.items r.heads.items r.used
+    ghost invariant = { λ r. HoldsRuns r.elements.items r.marks.items r.heads.items r.used
         r.bound × AreMarked r.marks.items (stacks_of r.elements.items r.heads.items)
         (length r.elements.items) };
 }
@@ -68,7 +66,6 @@ impl Runs {
     {
         Runs {
             elements: Vec::new(alloc),
-            lengths: Vec::new(alloc),
             heads: Vec::new(alloc),
             used: 0,
             bound,
@@ -135,7 +132,7 @@ impl Runs {
         let start = start as usize;
         self.heads[length] = self.elements[start].0;
         write(&mut self.elements, start, list);
-        self.marks[start] = false;
+        self.marks[start] = START;
         self.used += length as u32;
     }
 
@@ -154,15 +151,13 @@ impl Runs {
         ensures memory { IfErr result (λ e. e ≡ TakeError.OutOfMemory) }
     {
         make_heads(&mut self.heads, list.len())?;
-        self.lengths.reserve(1)?;
         self.marks.reserve(list.len())?;
         let start = self.elements.len() as u32;
         self.elements.extend_from_slice(list)?;
-        let length = list.len() as u32;
-        // room for both was reserved before the arena grew, so these can't fail
-        let _ = self.lengths.push(length);
-        let _ = self.marks.resize(self.elements.len(), false);
-        self.used += length;
+        // room for the marks was reserved before the arena grew, so these can't fail
+        let _ = self.marks.push(START);
+        let _ = self.marks.resize(self.elements.len(), NO_START);
+        self.used += list.len() as u32;
         Ok(start)
     }
 
@@ -174,12 +169,12 @@ impl Runs {
     {
         self.elements[start as usize] = (self.heads[length as usize], 0);
         self.heads[length as usize] = start;
-        self.marks[start as usize] = length == 2;
+        self.marks[start as usize] = free_mark(length);
         self.used -= length;
     }
 
     /// Puts the free runs of two elements in the order of their starts, so that the least is taken next.
-    /// Takes no memory and cannot fail; a step for each element.
+    /// Takes no memory and cannot fail, and takes a step for each element.
     pub fn order_twos(&mut self)
         ensures reordered { IsReordered self.old self.new 2 }
         ensures arena { IsArena self.new }

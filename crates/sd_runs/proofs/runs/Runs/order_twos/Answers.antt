@@ -22,17 +22,17 @@ invariant_of-self c =
     c.deref.ensures.value c.chain_marked.ensures) in
     let written = written_back c.self.inside.elements.items c.chain_marked.new.elements c.self.inside.elements.len
     (c.chain_marked.auto.elements ∙ c.deref_mut.ensures.len) in
-    subst (λ e. HoldsRuns e c.self.inside.lengths.items (set c.self.inside.heads.items 2 c.chain_marked.result)
+    subst (λ e. HoldsRuns e c.self.inside.marks.items (set c.self.inside.heads.items 2 c.chain_marked.result)
     c.self.inside.used c.self.inside.bound
     × AreMarked c.self.inside.marks.items (stacks_of e (set c.self.inside.heads.items 2 c.chain_marked.result))
     (length e))
     (sym written) (
-      kept_after c.self.inside.elements.items c.self.inside.lengths.items c.self.inside.heads.items
+      kept_after c.self.inside.elements.items c.self.inside.marks.items c.self.inside.heads.items
           c.self.inside.used c.self.inside.bound 2 c.self.invariant.0 has_head c.chain_marked.new.elements
-          c.chain_marked.result c.self.inside.marks.items c.self.invariant.1.marked rechained,
-      marks_after c.self.inside.elements.items c.self.inside.lengths.items c.self.inside.heads.items
+          c.chain_marked.result c.self.invariant.1.marked rechained,
+      marks_after c.self.inside.elements.items c.self.inside.marks.items c.self.inside.heads.items
           c.self.inside.used c.self.inside.bound 2 c.self.invariant.0 has_head c.chain_marked.new.elements
-          c.chain_marked.result c.self.inside.marks.items c.self.invariant.1.marked rechained c.self.invariant.1,
+          c.chain_marked.result c.self.invariant.1.marked rechained c.self.invariant.1,
     )
 
 pub returns-then-len-gt2-clause-reordered : goal.returns-then-len-gt2-clause-reordered
@@ -45,7 +45,7 @@ returns-then-len-gt2-clause-reordered c =
     (c.chain_marked.auto.elements ∙ c.deref_mut.ensures.len) in
     subst (λ a. IsReordered a (arena_of
     (lists_of (take c.self.inside.elements.len (c.chain_marked.new.elements
-    ++ drop (length c.chain_marked.new.elements) c.self.inside.elements.items)) c.self.inside.lengths.items
+    ++ drop (length c.chain_marked.new.elements) c.self.inside.elements.items)) c.self.inside.marks.items
     (set c.self.inside.heads.items 2 c.chain_marked.result))
     (stacks_of (take c.self.inside.elements.len (c.chain_marked.new.elements
     ++ drop (length c.chain_marked.new.elements) c.self.inside.elements.items))
@@ -54,15 +54,15 @@ returns-then-len-gt2-clause-reordered c =
     ++ drop (length c.chain_marked.new.elements) c.self.inside.elements.items))) c.self.inside.bound) 2)
     c.self.view_is
     (subst (λ e. IsReordered (arena_of
-    (lists_of c.self.inside.elements.items c.self.inside.lengths.items c.self.inside.heads.items)
+    (lists_of c.self.inside.elements.items c.self.inside.marks.items c.self.inside.heads.items)
     (stacks_of c.self.inside.elements.items c.self.inside.heads.items) (length c.self.inside.elements.items)
     c.self.inside.bound)
-    (arena_of (lists_of e c.self.inside.lengths.items (set c.self.inside.heads.items 2 c.chain_marked.result))
+    (arena_of (lists_of e c.self.inside.marks.items (set c.self.inside.heads.items 2 c.chain_marked.result))
     (stacks_of e (set c.self.inside.heads.items 2 c.chain_marked.result)) (length e) c.self.inside.bound) 2)
     (sym written)
-    (arena_after c.self.inside.elements.items c.self.inside.lengths.items c.self.inside.heads.items
+    (arena_after c.self.inside.elements.items c.self.inside.marks.items c.self.inside.heads.items
     c.self.inside.used c.self.inside.bound 2 c.self.invariant.0 (omega (arith, c.if-len-gt2.true))
-    c.chain_marked.new.elements c.chain_marked.result c.self.inside.marks.items c.self.invariant.1.marked
+    c.chain_marked.new.elements c.chain_marked.result c.self.invariant.1.marked
     rechained))
 
 pub returns-then-len-gt2-clause-arena : goal.returns-then-len-gt2-clause-arena
