@@ -45,8 +45,8 @@ impl Model for Runs {
       bound = r.bound;
     } };
 
-    ghost invariant = { λ r. HoldsRuns r.elements.items r.marks.items r.heads.items r.used
-        r.bound × AreMarked r.marks.items (stacks_of r.elements.items r.heads.items)
+    ghost invariant = { λ r. HoldsRuns r.elements.items r.marks.items r.heads.items r.used r.bound
+        × AreMarked r.marks.items (stacks_of r.elements.items r.heads.items)
         (length r.elements.items) };
 }
 
