@@ -25,10 +25,10 @@ padded_push old new p =
     }
 
 -- with no elements there is an arena
-pub kept_nothing : (elements : List (ℕ × ℕ)) (lengths heads : List ℕ) (bound : ℕ) → elements ≡ [] → lengths ≡ []
-    → heads ≡ [] → bound < 2 ^ 31 → HoldsRuns elements lengths heads 0 bound
-kept_nothing elements lengths heads bound p q r fits =
-    subst (λ e. HoldsRuns e lengths heads 0 bound) (sym p)
+pub kept_nothing : (elements : List (ℕ × ℕ)) (marks heads : List ℕ) (bound : ℕ) → elements ≡ [] → marks ≡ []
+    → heads ≡ [] → bound < 2 ^ 31 → HoldsRuns elements marks heads 0 bound
+kept_nothing elements marks heads bound p q r fits =
+    subst (λ e. HoldsRuns e marks heads 0 bound) (sym p)
     (subst (λ l. HoldsRuns [] l heads 0 bound) (sym q)
     (subst (λ h. HoldsRuns [] [] h 0 bound) (sym r) nothing))
   where

@@ -1,19 +1,19 @@
 -- The free runs of one length come in another order.
-use Rattle.std.proofs.Common.{◌≡◌, ℕ, suc, ◌+◌, ◌*◌, ◌<◌, ◌≤◌, Bool, true, false, List, [], ◌∷◌, length, get_or}
+use Rattle.std.proofs.Common.{◌≡◌, ℕ, suc, ◌+◌, ◌*◌, ◌<◌, ◌≤◌, true, false, List, [], ◌∷◌, length, get_or, eqb}
 use Rattle.std.proofs.Common.{refl, sym, ap, subst, ◌∙◌, arith, inl, inr}
 use Rattle.std.proofs.Math.ListN.{set}
-use Rattle.std.proofs.lemmas.Bool.{cases_eq}
+use Rattle.std.proofs.lemmas.Bool.{cases_eq, eqb-true}
 use Rattle.std.proofs.lemmas.List.{length-map, length-set, get_or-set_same, get_or-set_other}
 use Rattle.sd_runs.specs.Arena.{IsMember, HasNoCopies, free_of}
 use Rattle.sd_runs.specs.Fields.{chain, is_in, run_list, lists_of, stacks_of, lengths_of, filled_map, no_run}
 use Rattle.sd_runs.specs.Ordered.{IsRechained}
-use Rattle.sd_runs.specs.Stored.{AreRunsStored, HoldsRuns, IsFreeChain}
+use Rattle.sd_runs.specs.Stored.{AreMarked, AreRunsStored, HoldsRuns, IsFreeChain}
 use Rattle.sd_runs.specs.Taking.{IsReordered}
 use Rattle.sd_runs.proofs.Arenas.{arena_of, free_at}
-use Rattle.sd_runs.proofs.Chains.{chain_kept, stack_at, has_yes, has_no, has_or_not}
+use Rattle.sd_runs.proofs.Chains.{chain_kept, has_yes, has_no, has_or_not}
 use Rattle.sd_runs.proofs.Lists.{list_first, list_free, list_same, part_same}
+use Rattle.sd_runs.proofs.Marked.{marked_as, marked_same}
 use Rattle.sd_runs.proofs.Places.{by_cases, placed}
-use Rattle.sd_runs.proofs.Steps.{free_inside}
 use Rattle.sd_runs.proofs.Told.{stacks_are, lists_are, kept_from}
 use Rattle.sd_runs.proofs.Totals.{free_sum_set}
 
@@ -83,31 +83,10 @@ stored_order {lists} {lengths} {stacks} {used} {extent} {bound} st n starts in_s
       bound_fits = st.bound_fits;
     }
 
-module _ (elements : List (ℕ × ℕ)) (lengths heads : List ℕ) (used bound n : ℕ)
-    (k : HoldsRuns elements lengths heads used bound) (items : List (ℕ × ℕ)) (first : ℕ) (is : items ≡ elements)
-    (reads : get_or heads n no_run ≡ first) where
-  -- the chain from the head of a length has the free runs of that length
-  pub chain_stack : chain (length items) items first ≡ get_or (stacks_of elements heads) n []
-  chain_stack =
-      ap (λ e. chain (length e) e first) is ∙ ap (chain (length elements) elements) (sym reads)
-      ∙ sym (stack_at elements heads n)
-
-  pub chain_holds : IsFreeChain items first (chain (length items) items first)
-  chain_holds =
-      subst (IsFreeChain items first) (sym chain_stack)
-      (subst (λ e. IsFreeChain e first (get_or (stacks_of elements heads) n [])) (sym is)
-      (subst (λ at. IsFreeChain elements at (get_or (stacks_of elements heads) n [])) reads (k.chained n)))
-
-  -- and they start within the elements
-  pub chain_inside : (s : ℕ) → IsMember s (chain (length items) items first) → s < length elements
-  chain_inside s h =
-      let free : IsMember s (get_or (stacks_of elements heads) n []) = subst (IsMember s) chain_stack h in
-      omega (arith, free_inside k.stored n s free, k.stored.at_least_one n s free)
-
-module _ (elements : List (ℕ × ℕ)) (lengths heads : List ℕ) (used bound n : ℕ)
-    (k : HoldsRuns elements lengths heads used bound) (has_head : n < length heads)
-    (new : List (ℕ × ℕ)) (head : ℕ) (marks : List Bool)
-    (marked : (s : ℕ) → get_or marks s false ≡ is_in s (get_or (stacks_of elements heads) n []))
+module _ (elements : List (ℕ × ℕ)) (marks heads : List ℕ) (used bound n : ℕ)
+    (k : HoldsRuns elements marks heads used bound) (has_head : n < length heads)
+    (new : List (ℕ × ℕ)) (head : ℕ)
+    (marked : (s : ℕ) → eqb (get_or marks s 0) 2 ≡ is_in s (get_or (stacks_of elements heads) n []))
     (r : IsRechained marks 0 elements new head) where
   abbrev stacks : List (List ℕ)
   stacks = stacks_of elements heads
@@ -120,10 +99,10 @@ module _ (elements : List (ℕ × ℕ)) (lengths heads : List ℕ) (used bound n
 
   -- the starts that were chained anew are those that were free
   was : (s : ℕ) → IsMember s r.starts → IsMember s (get_or stacks n [])
-  was s h = is_yes s (get_or stacks n []) (sym (marked s) ∙ r.marked s h)
+  was s h = is_yes s (get_or stacks n []) (sym (marked s) ∙ ap (λ m. eqb m 2) (r.marked s h))
 
   still : (s : ℕ) → IsMember s (get_or stacks n []) → IsMember s r.starts
-  still s h = r.all s (omega arith) (marked s ∙ has_yes s (get_or stacks n []) h)
+  still s h = r.all s (omega arith) (eqb-true (get_or marks s 0) 2 (marked s ∙ has_yes s (get_or stacks n []) h))
 
   count : length r.starts ≡ length (get_or stacks n [])
   count = omega (
@@ -134,11 +113,13 @@ module _ (elements : List (ℕ × ℕ)) (lengths heads : List ℕ) (used bound n
 
   -- the elements at other starts stay
   other : (x : ℕ) → ¬ IsMember x (get_or stacks n []) → get_or new x (0, 0) ≡ get_or elements x (0, 0)
-  other x none = r.others x (marked x ∙ has_no x (get_or stacks n []) none)
+  other x none =
+      r.others x (λ e. let bad : true ≡ false =
+      ap (λ m. eqb m 2) (sym e) ∙ marked x ∙ has_no x (get_or stacks n []) none in absurd cc)
 
-  stored : AreRunsStored (lists_of elements lengths heads) (lengths_of lengths) after used (length new) bound
+  stored : AreRunsStored (lists_of elements marks heads) (lengths_of marks) after used (length new) bound
   stored =
-      subst (λ e. AreRunsStored (lists_of elements lengths heads) (lengths_of lengths) after used e bound) (sym r.size)
+      subst (λ e. AreRunsStored (lists_of elements marks heads) (lengths_of marks) after used e bound) (sym r.size)
       (stored_order k.stored n r.starts stack_inside r.once was count)
 
   chained : (m : ℕ) → IsFreeChain new (get_or (set heads n head) m no_run) (get_or after m [])
@@ -161,72 +142,80 @@ module _ (elements : List (ℕ × ℕ)) (lengths heads : List ℕ) (used bound n
       (λ _. refl)
 
   -- no free run starts within a live one
-  within_live : (t x : ℕ) → ¬ IsMember t (get_or stacks (get_or (lengths_of lengths) t 0) [])
-      → t ≤ x → x < t + get_or (lengths_of lengths) t 0 → ¬ IsMember x (get_or stacks n [])
+  within_live : (t x : ℕ) → ¬ IsMember t (get_or stacks (get_or (lengths_of marks) t 0) [])
+      → t ≤ x → x < t + get_or (lengths_of marks) t 0 → ¬ IsMember x (get_or stacks n [])
   within_live t x live from to free =
       by_cases
-      (λ e. let run : get_or (lengths_of lengths) t 0 ≡ n =
-      ap (λ j. get_or (lengths_of lengths) j 0) (sym e) ∙ k.stored.sized n x free in
+      (λ e. let run : get_or (lengths_of marks) t 0 ≡ n =
+      ap (λ j. get_or (lengths_of marks) j 0) (sym e) ∙ k.stored.sized n x free in
       live (subst (λ j. IsMember t (get_or stacks j [])) (sym run)
       (subst (λ j. IsMember j (get_or stacks n [])) e free)))
-      (λ ne. let far : t + get_or (lengths_of lengths) t 0 ≤ x = k.stored.apart t x (omega (arith, from, to))
+      (λ ne. let far : t + get_or (lengths_of marks) t 0 ≤ x = k.stored.apart t x (omega (arith, from, to))
       (omega (arith, k.stored.sized n x free, k.stored.at_least_one n x free)) (omega (arith, from, ne)) in
       omega (arith, far, to))
       (cases_eq x t)
 
-  listed : (t : ℕ) → get_or (lists_of elements lengths heads) t []
-      ≡ run_list new after t (get_or (lengths_of lengths) t 0)
+  listed : (t : ℕ) → get_or (lists_of elements marks heads) t []
+      ≡ run_list new after t (get_or (lengths_of marks) t 0)
   listed t =
-      list_first elements stacks (lengths_of lengths) t
+      list_first elements stacks (lengths_of marks) t
       ∙ by_cases
-      (λ free. list_free elements stacks t (get_or (lengths_of lengths) t 0) free
-      ∙ sym (list_free new after t (get_or (lengths_of lengths) t 0)
-      (is_yes t (get_or after (get_or (lengths_of lengths) t 0) [])
-      (free_there t (get_or (lengths_of lengths) t 0)
-      ∙ has_yes t (get_or stacks (get_or (lengths_of lengths) t 0) []) free))))
-      (λ live. sym (list_same elements new stacks after t (get_or (lengths_of lengths) t 0)
-      (free_there t (get_or (lengths_of lengths) t 0))
-      (λ _. part_same new elements t (get_or (lengths_of lengths) t 0) r.size
+      (λ free. list_free elements stacks t (get_or (lengths_of marks) t 0) free
+      ∙ sym (list_free new after t (get_or (lengths_of marks) t 0)
+      (is_yes t (get_or after (get_or (lengths_of marks) t 0) [])
+      (free_there t (get_or (lengths_of marks) t 0)
+      ∙ has_yes t (get_or stacks (get_or (lengths_of marks) t 0) []) free))))
+      (λ live. sym (list_same elements new stacks after t (get_or (lengths_of marks) t 0)
+      (free_there t (get_or (lengths_of marks) t 0))
+      (λ _. part_same new elements t (get_or (lengths_of marks) t 0) r.size
       (λ x from to. other x (within_live t x live from to)))))
-      (has_or_not t (get_or stacks (get_or (lengths_of lengths) t 0) []))
+      (has_or_not t (get_or stacks (get_or (lengths_of marks) t 0) []))
 
   places : length after ≡ length (set heads n head)
   places =
       length-set stacks n r.starts
       ∙ length-map heads (λ head. chain (length elements) elements head) ∙ sym (length-set heads n head)
 
-  placed_still : (t : ℕ) → 0 < get_or (lengths_of lengths) t 0
-      → get_or (lengths_of lengths) t 0 < length (set heads n head)
+  placed_still : (t : ℕ) → 0 < get_or (lengths_of marks) t 0
+      → get_or (lengths_of marks) t 0 < length (set heads n head)
   placed_still t h = omega (arith, k.placed t h, length-set heads n head)
 
   -- the fields after the free runs were put in order
-  pub kept_after : HoldsRuns new lengths (set heads n head) used bound
+  pub kept_after : HoldsRuns new marks (set heads n head) used bound
   kept_after =
-      kept_from new lengths (set heads n head) stored places chained listed (k.filled ∙ sym r.size) placed_still
+      kept_from new marks (set heads n head) stored places chained listed (k.filled ∙ sym r.size) placed_still
 
-  lists_after : lists_of new lengths (set heads n head) ≡ lists_of elements lengths heads
+  lists_after : lists_of new marks (set heads n head) ≡ lists_of elements marks heads
   lists_after =
-      lists_are new lengths (set heads n head) stored places chained listed (k.filled ∙ sym r.size) placed_still
+      lists_are new marks (set heads n head) stored places chained listed (k.filled ∙ sym r.size) placed_still
 
-  free_after : (m : ℕ) → free_of (arena_of (lists_of new lengths (set heads n head)) (stacks_of new (set heads n head))
+  stacks_after : stacks_of new (set heads n head) ≡ after
+  stacks_after =
+      stacks_are new marks (set heads n head) stored places chained listed (k.filled ∙ sym r.size) placed_still
+
+  -- the marks after the free runs were put in order
+  pub marks_after : AreMarked marks stacks (length elements)
+      → AreMarked marks (stacks_of new (set heads n head)) (length new)
+  marks_after m = marked_as (marked_same m (λ s. free_there s 2)) stacks_after r.size
+
+  free_after : (m : ℕ) → free_of (arena_of (lists_of new marks (set heads n head)) (stacks_of new (set heads n head))
       (length new) bound) m ≡ get_or after m []
   free_after m =
-      free_at (lists_of new lengths (set heads n head)) (stacks_of new (set heads n head)) (length new) bound m
-      ∙ ap (λ s. get_or s m []) (stacks_are new lengths (set heads n head) stored places chained listed
-      (k.filled ∙ sym r.size) placed_still)
+      free_at (lists_of new marks (set heads n head)) (stacks_of new (set heads n head)) (length new) bound m
+      ∙ ap (λ s. get_or s m []) stacks_after
 
-  free_before : (m : ℕ) → free_of (arena_of (lists_of elements lengths heads) (stacks_of elements heads)
+  free_before : (m : ℕ) → free_of (arena_of (lists_of elements marks heads) (stacks_of elements heads)
       (length elements) bound) m ≡ get_or stacks m []
-  free_before m = free_at (lists_of elements lengths heads) stacks (length elements) bound m
+  free_before m = free_at (lists_of elements marks heads) stacks (length elements) bound m
 
-  free_here : free_of (arena_of (lists_of new lengths (set heads n head)) (stacks_of new (set heads n head))
+  free_here : free_of (arena_of (lists_of new marks (set heads n head)) (stacks_of new (set heads n head))
       (length new) bound) n ≡ r.starts
   free_here = free_after n ∙ get_or-set_same stacks n r.starts [] stack_inside
 
   -- the arena after the free runs were put in order
   pub arena_after : IsReordered
-      (arena_of (lists_of elements lengths heads) (stacks_of elements heads) (length elements) bound)
-      (arena_of (lists_of new lengths (set heads n head)) (stacks_of new (set heads n head)) (length new) bound) n
+      (arena_of (lists_of elements marks heads) (stacks_of elements heads) (length elements) bound)
+      (arena_of (lists_of new marks (set heads n head)) (stacks_of new (set heads n head)) (length new) bound) n
   arena_after =
       record {
         live = ap filled_map lists_after;

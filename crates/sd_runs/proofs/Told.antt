@@ -6,11 +6,12 @@ use Rattle.std.proofs.lemmas.List.{length-map}
 use Rattle.sd_runs.specs.Arena.{IsMember, HasNoCopies}
 use Rattle.sd_runs.specs.Fields.{chain, is_in, run_list, lists_from, lists_of, stacks_of, lengths_of, free_sum, no_run}
 use Rattle.sd_runs.specs.Padded.{IsPadded}
-use Rattle.sd_runs.specs.Stored.{AreRunsStored, HoldsRuns, IsFreeChain}
+use Rattle.sd_runs.specs.Stored.{AreMarked, AreRunsStored, HoldsRuns, IsFreeChain}
 use Rattle.sd_runs.proofs.Arenas.{arena_of, same_arena}
 use Rattle.sd_runs.proofs.Chains.{chain_is, same_at, stack_at}
 use Rattle.sd_runs.proofs.Lists.{list_first, list_same, lists_length, part_same}
 use Rattle.sd_runs.proofs.Maps.{filled_same}
+use Rattle.sd_runs.proofs.Marked.{marked_same}
 use Rattle.sd_runs.proofs.Places.{by_cases}
 use Rattle.sd_runs.proofs.Steps.{free_inside}
 use Rattle.sd_runs.proofs.Totals.{free_sum_same}
@@ -88,14 +89,14 @@ module _ {lists : List (List (ℕ × ℕ))} {lengths : List ℕ} {stacks : List 
         bound_fits = st.bound_fits;
       }
 
-module _ (elements : List (ℕ × ℕ)) (lengths heads : List ℕ) {lists : List (List (ℕ × ℕ))} {stacks : List (List ℕ)}
+module _ (elements : List (ℕ × ℕ)) (marks heads : List ℕ) {lists : List (List (ℕ × ℕ))} {stacks : List (List ℕ)}
     {used bound : ℕ}
-    (st : AreRunsStored lists (lengths_of lengths) stacks used (length elements) bound)
+    (st : AreRunsStored lists (lengths_of marks) stacks used (length elements) bound)
     (places : length stacks ≡ length heads)
     (chained : (n : ℕ) → IsFreeChain elements (get_or heads n no_run) (get_or stacks n []))
-    (listed : (k : ℕ) → get_or lists k [] ≡ run_list elements stacks k (get_or (lengths_of lengths) k 0))
-    (filled : length (lengths_of lengths) ≡ length elements)
-    (placed : (s : ℕ) → 0 < get_or (lengths_of lengths) s 0 → get_or (lengths_of lengths) s 0 < length heads) where
+    (listed : (k : ℕ) → get_or lists k [] ≡ run_list elements stacks k (get_or (lengths_of marks) k 0))
+    (filled : length (lengths_of marks) ≡ length elements)
+    (placed : (s : ℕ) → 0 < get_or (lengths_of marks) s 0 → get_or (lengths_of marks) s 0 < length heads) where
   -- the chains tell the starts of the free runs
   pub stacks_are : stacks_of elements heads ≡ stacks
   stacks_are =
@@ -104,34 +105,34 @@ module _ (elements : List (ℕ × ℕ)) (lengths heads : List ℕ) {lists : List
       ∙ chain_is (length elements) elements _ _ (chained n) (below st n) (short st n))
 
   -- the elements tell the lists of the live runs
-  pub lists_are : lists_of elements lengths heads ≡ lists
+  pub lists_are : lists_of elements marks heads ≡ lists
   lists_are =
-      ap (λ s. lists_from 0 elements s (lengths_of lengths)) stacks_are
-      ∙ same_at _ _ (lists_length 0 elements stacks (lengths_of lengths) ∙ sym st.same_length)
-      (λ k. list_first elements stacks (lengths_of lengths) k ∙ sym (listed k))
+      ap (λ s. lists_from 0 elements s (lengths_of marks)) stacks_are
+      ∙ same_at _ _ (lists_length 0 elements stacks (lengths_of marks) ∙ sym st.same_length)
+      (λ k. list_first elements stacks (lengths_of marks) k ∙ sym (listed k))
 
   -- so what holds of the plain lists holds of the fields
-  pub kept_from : HoldsRuns elements lengths heads used bound
+  pub kept_from : HoldsRuns elements marks heads used bound
   kept_from =
       record {
         stored = subst
-            (λ l. AreRunsStored l (lengths_of lengths) (stacks_of elements heads) used (length elements) bound)
+            (λ l. AreRunsStored l (lengths_of marks) (stacks_of elements heads) used (length elements) bound)
             (sym lists_are)
-            (subst (λ s. AreRunsStored lists (lengths_of lengths) s used (length elements) bound) (sym stacks_are) st);
+            (subst (λ s. AreRunsStored lists (lengths_of marks) s used (length elements) bound) (sym stacks_are) st);
         filled = filled;
         chained = λ n. subst (IsFreeChain elements (get_or heads n no_run)) (ap (λ s. get_or s n []) (sym stacks_are))
             (chained n);
         placed = placed;
       }
 
-module _ (elements : List (ℕ × ℕ)) (lengths heads more : List ℕ) {used bound : ℕ}
-    (k : HoldsRuns elements lengths heads used bound) (p : IsPadded heads more) where
-  -- further places for lengths change no free run
+module _ (elements : List (ℕ × ℕ)) (marks heads more : List ℕ) {used bound : ℕ}
+    (k : HoldsRuns elements marks heads used bound) (p : IsPadded heads more) where
+  -- further places for marks change no free run
   stacks_padded : (n : ℕ) → get_or (stacks_of elements more) n [] ≡ get_or (stacks_of elements heads) n []
   stacks_padded n =
       stack_at elements more n ∙ ap (chain (length elements) elements) (p.same n) ∙ sym (stack_at elements heads n)
 
-  stored_padded : AreRunsStored (lists_of elements lengths heads) (lengths_of lengths) (stacks_of elements more)
+  stored_padded : AreRunsStored (lists_of elements marks heads) (lengths_of marks) (stacks_of elements more)
       used (length elements) bound
   stored_padded = stored_stacks k.stored (stacks_of elements more) stacks_padded
 
@@ -140,29 +141,54 @@ module _ (elements : List (ℕ × ℕ)) (lengths heads more : List ℕ) {used bo
       subst (λ at. IsFreeChain elements at (get_or (stacks_of elements more) n [])) (sym (p.same n))
       (subst (IsFreeChain elements (get_or heads n no_run)) (sym (stacks_padded n)) (k.chained n))
 
-  listed_padded : (s : ℕ) → get_or (lists_of elements lengths heads) s []
-      ≡ run_list elements (stacks_of elements more) s (get_or (lengths_of lengths) s 0)
+  listed_padded : (s : ℕ) → get_or (lists_of elements marks heads) s []
+      ≡ run_list elements (stacks_of elements more) s (get_or (lengths_of marks) s 0)
   listed_padded s =
-      list_first elements (stacks_of elements heads) (lengths_of lengths) s
+      list_first elements (stacks_of elements heads) (lengths_of marks) s
       ∙ sym (list_same elements elements (stacks_of elements heads) (stacks_of elements more) s
-      (get_or (lengths_of lengths) s 0) (ap (is_in s) (stacks_padded (get_or (lengths_of lengths) s 0))) (λ pos. refl))
+      (get_or (lengths_of marks) s 0) (ap (is_in s) (stacks_padded (get_or (lengths_of marks) s 0))) (λ pos. refl))
 
-  placed_padded : (s : ℕ) → 0 < get_or (lengths_of lengths) s 0 → get_or (lengths_of lengths) s 0 < length more
+  placed_padded : (s : ℕ) → 0 < get_or (lengths_of marks) s 0 → get_or (lengths_of marks) s 0 < length more
   placed_padded s h = omega (arith, k.placed s h, p.longer)
 
-  -- what holds of the fields holds with further places for lengths
-  pub kept_padded : HoldsRuns elements lengths more used bound
+  -- what holds of the fields holds with further places for marks
+  pub kept_padded : HoldsRuns elements marks more used bound
   kept_padded =
-      kept_from elements lengths more stored_padded
+      kept_from elements marks more stored_padded
       (length-map more (λ head. chain (length elements) elements head))
       chained_padded listed_padded k.filled placed_padded
 
+  -- the marks are the same
+  pub marks_padded : AreMarked marks (stacks_of elements heads) (length elements)
+      → AreMarked marks (stacks_of elements more) (length elements)
+  marks_padded m = marked_same m (λ s. ap (is_in s) (stacks_padded 2))
+
   -- and the arena is the same
-  pub arena_padded : arena_of (lists_of elements lengths more) (stacks_of elements more) (length elements) bound
-      ≡ arena_of (lists_of elements lengths heads) (stacks_of elements heads) (length elements) bound
+  pub arena_padded : arena_of (lists_of elements marks more) (stacks_of elements more) (length elements) bound
+      ≡ arena_of (lists_of elements marks heads) (stacks_of elements heads) (length elements) bound
   arena_padded =
       same_arena _ _ _ _ (length elements) (length elements) bound
-      (filled_same _ _ (λ s. ap (λ l. get_or l s []) (lists_are elements lengths more stored_padded
+      (filled_same _ _ (λ s. ap (λ l. get_or l s []) (lists_are elements marks more stored_padded
       (length-map more (λ head. chain (length elements) elements head))
       chained_padded listed_padded k.filled placed_padded)))
       (filled_same _ _ stacks_padded) refl
+
+module _ (elements : List (ℕ × ℕ)) (marks more heads : List ℕ) (same : lengths_of more ≡ lengths_of marks) where
+  -- other marks of the same lengths leave what holds of the fields
+  pub kept_marks : {used bound : ℕ} → HoldsRuns elements marks heads used bound
+      → HoldsRuns elements more heads used bound
+  kept_marks {used} {bound} k =
+      record {
+        stored = subst (λ l. AreRunsStored (lists_from 0 elements (stacks_of elements heads) l) l
+            (stacks_of elements heads) used (length elements) bound) (sym same) k.stored;
+        filled = ap length same ∙ k.filled;
+        chained = k.chained;
+        placed = subst (λ l. (s : ℕ) → 0 < get_or l s 0 → get_or l s 0 < length heads) (sym same) k.placed;
+      }
+
+  -- and the arena
+  pub arena_marks : (extent bound : ℕ) → arena_of (lists_of elements more heads) (stacks_of elements heads) extent bound
+      ≡ arena_of (lists_of elements marks heads) (stacks_of elements heads) extent bound
+  arena_marks extent bound =
+      ap (λ l. arena_of (lists_from 0 elements (stacks_of elements heads) l) (stacks_of elements heads) extent bound)
+      same

@@ -1,13 +1,15 @@
 //! Runs of pairs in one arena: a run is taken for a list, read by its start, and given back for
 //! reuse.
 //!
-//! All elements stand in one vector of pairs, 8 bytes each. A run has 4 bytes more, and so has each
-//! length up to that of the longest list. An element has a byte more, where the free runs of a length
-//! are put in the order of their starts: it is room until then, and takes no memory of the machine.
+//! All elements stand in one vector of pairs, 8 bytes each, and each has a mark, a byte more. Each
+//! length up to that of the longest list has 4 bytes. The room for all of it is made as the arena grows:
+//! giving a run back, and putting the free runs of two elements in order, takes no memory and cannot
+//! fail.
 #![tactic(auto)]
 
 mod error;
 mod heads;
+mod marks;
 mod ordering;
 mod runs;
 mod writing;

@@ -1,7 +1,8 @@
 // The runs of one arena.
 use crate::TakeError;
 use crate::heads::{NONE, make_heads};
-use crate::ordering::{chain_marked, mark_chain};
+use crate::marks::{NO_START, START, free_mark};
+use crate::ordering::chain_marked;
 use crate::writing::write;
 use std::alloc::Global;
 use std::marker::Model;
@@ -11,44 +12,42 @@ use std::marker::Model;
 ///
 /// A run keeps its start and its length for good: runs are neither split nor joined. A free run keeps
 /// the start of the next free run of its length in its own first element, so whether a run is live is
-/// told by the chains of free runs, and giving one back writes an element and a head.
+/// told by the chains of free runs, and giving one back writes an element, a mark and a head.
 #[derive(Drop)]
 pub struct Runs {
     // the elements of all runs, live or free: the next new run starts behind them
     elements: Vec<(u32, u32)>,
-    // the length of each run, live or free, in the order of their starts: growth alone writes it, and
-    // no call reads it, but without it the fields would not tell where runs begin
-    lengths: Vec<u32>,
     // for each length the start of the free run that is taken next, or `NONE`
     heads: Vec<u32>,
     // the sum of the lengths of the live runs
     used: u32,
     // what the number of elements never passes
     bound: u32,
-    // room for a mark of each element, made where the arena grows: only while `order` puts free runs in
-    // order are there marks
-    marks: Vec<bool>,
+    // for each element whether a run starts there, so that the fields tell the runs, and whether that is
+    // a free one of two elements, so that these are put in order by one walk along the marks
+    marks: Vec<u8>,
 }
 
 impl Model for Runs {
     ghost use Rattle.std.specs.Prelude.{length};
     ghost use Rattle.sd_runs.specs.Arena.{Arena, arena_code};
     ghost use Rattle.sd_runs.specs.Fields.{filled_map, stacks_of, lists_of};
-    ghost use Rattle.sd_runs.specs.Stored.{HoldsRuns};
+    ghost use Rattle.sd_runs.specs.Stored.{HoldsRuns, AreMarked};
 
     ghost Value = { Arena };
 
     ghost coded = { arena_code };
 
     ghost view = { λ r. record {
-      live = filled_map (lists_of r.elements.items r.lengths.items r.heads.items);
+      live = filled_map (lists_of r.elements.items r.marks.items r.heads.items);
       free = filled_map (stacks_of r.elements.items r.heads.items);
       extent = length r.elements.items;
       bound = r.bound;
     } };
 
-    ghost invariant = { λ r. HoldsRuns r.elements.items r.lengths.items r.heads.items r.used
-        r.bound };
+    ghost invariant = { λ r. HoldsRuns r.elements.items r.marks.items r.heads.items r.used r.bound
+        × AreMarked r.marks.items (stacks_of r.elements.items r.heads.items)
+        (length r.elements.items) };
 }
 
 impl Runs {
@@ -67,7 +66,6 @@ impl Runs {
     {
         Runs {
             elements: Vec::new(alloc),
-            lengths: Vec::new(alloc),
             heads: Vec::new(alloc),
             used: 0,
             bound,
@@ -93,7 +91,7 @@ impl Runs {
         ensures full { IfErr result (λ e. IsRefusal self.old (length list.now) e) }
     {
         let length = list.len();
-        match self.newest(length) {
+        match self.first_free(length) {
             Some(start) => {
                 self.reuse(start, list);
                 Ok(start)
@@ -110,7 +108,7 @@ impl Runs {
 
     // The free run of this length that is taken next: the one given last, or the first in order.
     #[inline(always)]
-    fn newest(&self, length: usize) -> Option<u32>
+    fn first_free(&self, length: usize) -> Option<u32>
         ensures { result ≡ first (free_of self.now length) }
     {
         if length < self.heads.len() {
@@ -134,6 +132,7 @@ impl Runs {
         let start = start as usize;
         self.heads[length] = self.elements[start].0;
         write(&mut self.elements, start, list);
+        self.marks[start] = START;
         self.used += length as u32;
     }
 
@@ -152,14 +151,13 @@ impl Runs {
         ensures memory { IfErr result (λ e. e ≡ TakeError.OutOfMemory) }
     {
         make_heads(&mut self.heads, list.len())?;
-        self.lengths.reserve(1)?;
-        self.marks.reserve(self.elements.len() + list.len())?;
+        self.marks.reserve(list.len())?;
         let start = self.elements.len() as u32;
         self.elements.extend_from_slice(list)?;
-        let length = list.len() as u32;
-        // room for it was reserved before the arena grew, so this can't fail
-        let _ = self.lengths.push(length);
-        self.used += length;
+        // room for the marks was reserved before the arena grew, so these can't fail
+        let _ = self.marks.push(START);
+        let _ = self.marks.resize(self.elements.len(), NO_START);
+        self.used += list.len() as u32;
         Ok(start)
     }
 
@@ -171,27 +169,19 @@ impl Runs {
     {
         self.elements[start as usize] = (self.heads[length as usize], 0);
         self.heads[length as usize] = start;
+        self.marks[start as usize] = free_mark(length);
         self.used -= length;
     }
 
-    /// Puts the free runs of this length in the order of their starts, so that the least is taken
-    /// next. Takes no memory, and a step for each element.
-    pub fn order(&mut self, length: u32)
-        ensures reordered { IsReordered self.old self.new length }
+    /// Puts the free runs of two elements in the order of their starts, so that the least is taken next.
+    /// Takes no memory and cannot fail, and takes a step for each element.
+    pub fn order_twos(&mut self)
+        ensures reordered { IsReordered self.old self.new 2 }
         ensures arena { IsArena self.new }
     {
-        let length = length as usize;
-        if length >= self.heads.len() {
-            return;
+        if self.heads.len() > 2 {
+            self.heads[2] = chain_marked(&self.marks, &mut self.elements);
         }
-        // room for the marks was made as the arena grew, so this can't fail
-        self.marks.clear();
-        if self.marks.resize(self.elements.len(), false).is_err() {
-            return;
-        }
-        mark_chain(&self.elements, self.heads[length], &mut self.marks);
-        self.heads[length] = chain_marked(&self.marks, &mut self.elements);
-        self.marks.clear();
     }
 
     /// The list of the live run of this length that starts here.

@@ -1,6 +1,6 @@
 // The hash of a key, and the bucket of a hash.
 //
-// A node stands near its newest child: the hash is the greatest number in the list, and 15 mixed bits on top. What an
+// A node stands near its newest child: the hash is the greatest number in the list, plus 15 mixed bits. What an
 // operation makes one after another, and what it looks for, has its buckets, the records there and their pages near
 // each other, where a hash of mixed bits alone touches the whole table at each step. The 32,768 buckets are there for
 // a child of many nodes, all of which may have it as their greatest number.

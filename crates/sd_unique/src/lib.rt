@@ -25,9 +25,8 @@
 //! buckets double where they are as few as the records. That takes a step for each record, and reads no
 //! list: the links keep the hash of each linked record.
 //!
-//! A node of two elements has a record of 32 bytes, links of 16, a run of 16 with its length of 4, and
-//! 4 to 8 of the buckets: 72 to 76 bytes, beside the room that vectors keep for growth. Once free runs
-//! were put in order it has two more, a mark for each element.
+//! A node of two elements has a record of 32 bytes, links of 16, a run of 16 with a mark of 1 for each
+//! element, and 4 to 8 of the buckets: 70 to 74 bytes, beside the room that vectors keep for growth.
 #![tactic(auto)]
 
 mod buckets;

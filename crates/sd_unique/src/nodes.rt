@@ -16,9 +16,10 @@ use std::marker::Model;
 // exchange no record of a smaller table is ever copied.
 const FIRST_RECORDS: usize = 65_536;
 
-// The free numbers are put in order once more than this part of the records was freed since they last
-// were. That reads each record once: a number that was freed pays for fewer than sixteen of them, 512
-// bytes in a row, and small sweeps of a large table go on without a pass until it pays.
+// The free numbers are put in order once more than this part of the records was freed since they were
+// last put in order. That reads each record and the mark of each element once: a number that was freed
+// pays for fewer than sixteen records, 512 bytes in a row, and their elements' marks, and small sweeps of
+// a large table go on without a pass until it pays.
 const PART_FREED: usize = 16;
 
 // So many records at least, as fewer stay near in any order: those of a table that is put in order do
@@ -43,7 +44,7 @@ pub struct Nodes {
     places: Vec<u32>,
     /// The top of the stack of candidates.
     candidates: u32,
-    /// How many numbers `retire` freed since the free ones were last put in order, or the greatest
+    /// How many numbers `retire` freed since the free numbers were last put in order, or the greatest
     /// `u32`.
     freed: u32,
 }
@@ -586,7 +587,7 @@ impl Nodes {
         ensures { self.new ≡ self.old }
     {
         order_free(&self.runs, &mut self.records, &mut self.heads);
-        self.runs.order(2);
+        self.runs.order_twos();
         self.freed = 0;
     }
 

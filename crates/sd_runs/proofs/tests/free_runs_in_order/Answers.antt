@@ -1,4 +1,4 @@
-use Rattle.std.proofs.Common.{ap, length, ◌∙◌}
+use Rattle.std.proofs.Common.{ap, length, sym, ◌∙◌}
 use Rattle.std.specs.FinMap.{get}
 use Rattle.std.specs.Option.{option_map}
 use Rattle.sd_runs.proofs.Maps.{given_still, not_taken}
@@ -6,22 +6,33 @@ use Rattle.sd_runs.proofs.tests.free_runs_in_order.Goals as goal
 
 pub give-requires : goal.give-requires
 give-requires g c =
-    ap (option_map length) (c.in_ok-c.ensures.kept _ _ (c.in_ok-b.ensures.kept _ _ c.in_ok-a.ensures.live))
+    ap (option_map length) (c.in_ok-d.ensures.kept _ _ (c.in_ok-c.ensures.kept _ _ c.in_ok-b.ensures.live))
 
 pub give-requires-2 : goal.give-requires-2
 give-requires-2 g c =
     ap (option_map length)
-    (given_still c.take-3.new.self _ c.give.ensures.given_back
-    (not_taken c.take.new.self c.in_ok-a.ensures.live c.in_ok-b.ensures.fresh)
-    (c.in_ok-c.ensures.kept _ _ c.in_ok-b.ensures.live))
+    (given_still c.take-4.new.self _ c.give.ensures.given_back
+    (λ e. not_taken c.take.new.self c.in_ok-a.ensures.live c.in_ok-b.ensures.fresh (sym e))
+    (c.in_ok-d.ensures.kept _ _ (c.in_ok-c.ensures.kept _ _ (c.in_ok-b.ensures.kept _ _ c.in_ok-a.ensures.live))))
+
+pub give-requires-3 : goal.give-requires-3
+give-requires-3 g c =
+    let a = c.in_ok-b.ensures.kept _ _ c.in_ok-a.ensures.live in
+    ap (option_map length)
+    (given_still c.give.new.self _ c.give-2.ensures.given_back (not_taken c.take-2.new.self a c.in_ok-c.ensures.fresh)
+    (given_still c.take-4.new.self _ c.give.ensures.given_back
+    (not_taken c.take-2.new.self c.in_ok-b.ensures.live c.in_ok-c.ensures.fresh)
+    (c.in_ok-d.ensures.kept _ _ c.in_ok-c.ensures.live)))
 
 pub get-requires : goal.get-requires
 get-requires g c =
+    let a = c.in_ok-c.ensures.kept _ _ (c.in_ok-b.ensures.kept _ _ c.in_ok-a.ensures.live) in
+    let b = c.in_ok-c.ensures.kept _ _ c.in_ok-b.ensures.live in
     ap (option_map length)
-    (c.in_ok-e.ensures.kept _ _ (c.in_ok-d.ensures.kept _ _
-    (ap (λ m. get m c.in_ok-c.c) c.order.ensures.reordered.live
-    ∙ given_still c.give.new.self _ c.give-2.ensures.given_back
-    (not_taken c.take-2.new.self c.in_ok-b.ensures.live c.in_ok-c.ensures.fresh)
-    (given_still c.take-3.new.self _ c.give.ensures.given_back
-    (not_taken c.take-2.new.self (c.in_ok-b.ensures.kept _ _ c.in_ok-a.ensures.live) c.in_ok-c.ensures.fresh)
-    c.in_ok-c.ensures.live))))
+    (c.in_ok-third.ensures.kept _ _ (c.in_ok-second.ensures.kept _ _ (c.in_ok-first.ensures.kept _ _
+    (ap (λ m. get m c.in_ok-d.d) c.order_twos.ensures.reordered.live
+    ∙ given_still c.give-2.new.self _ c.give-3.ensures.given_back
+    (not_taken c.take-3.new.self c.in_ok-c.ensures.live c.in_ok-d.ensures.fresh)
+    (given_still c.give.new.self _ c.give-2.ensures.given_back (not_taken c.take-3.new.self a c.in_ok-d.ensures.fresh)
+    (given_still c.take-4.new.self _ c.give.ensures.given_back (not_taken c.take-3.new.self b c.in_ok-d.ensures.fresh)
+    c.in_ok-d.ensures.live))))))

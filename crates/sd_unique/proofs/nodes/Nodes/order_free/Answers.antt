@@ -19,8 +19,8 @@ invariant_of-self c =
       ap length c.deref_mut-2.ensures.value,
       c.self.invariant.at_least_one,
     ) in
-    kept_reordered c.self.inside.runs c.order.new.self 2 c.order.ensures.reordered c.self.invariant.stored.well
-    c.order.ensures.arena _ c.self.inside.links.items _ c.self.inside.places.items c.self.inside.candidates
+    kept_reordered c.self.inside.runs c.order_twos.new.self 2 c.order_twos.ensures.reordered
+    c.self.invariant.stored.well c.order_twos.ensures.arena _ c.self.inside.links.items _ c.self.inside.places.items c.self.inside.candidates
     (kept_tables c.self.inside.runs c.order_free.new.records _ c.self.inside.links.items c.order_free.new.heads _
     c.self.inside.places.items c.self.inside.candidates records heads
     (kept_rechained c.self.inside.runs c.self.inside.records.items c.order_free.new.records
@@ -33,8 +33,8 @@ pub returns : goal.returns
 returns c =
     let records = whole_slice c.order_free.new.records c.self.inside.records.items c.self.inside.records.len
     (c.order_free.auto.records ∙ c.deref_mut.ensures.len) in
-    nodes_reordered c.self.inside.runs c.order.new.self 2 c.order.ensures.reordered c.self.invariant.stored.well
-    c.order.ensures.arena _
+    nodes_reordered c.self.inside.runs c.order_twos.new.self 2 c.order_twos.ensures.reordered
+    c.self.invariant.stored.well c.order_twos.ensures.arena _
     ∙ ap (nodes_of c.self.inside.runs) records
     ∙ nodes_kept c.self.inside.records.items c.order_free.new.records
     (subst (λ rs. KeepsRecords rs c.order_free.new.records) c.deref_mut.ensures.value c.order_free.ensures.kept)
