@@ -35,6 +35,7 @@ mod chains;
 mod found;
 mod free_list;
 mod hash;
+mod listing;
 mod lists;
 mod nodes;
 mod record;
