@@ -24,6 +24,7 @@ impl Manager {
         ensures begun { self.new ≡ moving_at self.old place }
         ensures table { IsTable self.new }
     {
+        self.nodes.list_places();
         self.moving = Some(place);
     }
 

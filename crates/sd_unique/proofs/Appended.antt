@@ -19,7 +19,7 @@ use Rattle.sd_unique.specs.Relinking.{with_loose, IsLoose, IsAbsent}
 use Rattle.sd_unique.specs.Record.{nodes_of}
 use Rattle.sd_unique.specs.Filed.{filed_at}
 use Rattle.sd_unique.specs.Chains.{next_of, head_of, list_under, is_waiting, bucket_of, hash_of, no_record, kept_hash}
-use Rattle.sd_unique.specs.Chains.{HoldsNodes, AreInLists, AreStacked, KeepsLists, KeepsStack, IsPushed}
+use Rattle.sd_unique.specs.Chains.{HoldsNodes, AreListed, AreStacked, KeepsLists, KeepsStack, IsPushed}
 use Rattle.sd_unique.proofs.Occupied.{first_number, first_ready, kept_steps, nodes_steps}
 use Rattle.sd_unique.proofs.Occupied.{first_unlisted, free_first, all_nodes}
 use Rattle.sd_unique.proofs.Pushed.{link_last, run_taken, pushed_kept, pushed_number, pushed_view, pushed_new}
@@ -89,12 +89,12 @@ module _ (arena new : Arena) (rs : List Record) (links : List Links) (heads plac
 
   pub appended_ready : (ls : List Links) (ps : List ℕ) → ls ≡ links ++ l ∷ [] → ps ≡ places
       → (under : ℕ → Option ℕ) × (under n ≡ None) × ((m b : ℕ) → under m ≡ Some b → m < length ls)
-      × AreInLists ls ps under
+      × AreListed ls ps under
   appended_ready ls ps linked same =
       subst (λ x. (under : ℕ → Option ℕ) × (under n ≡ None) × ((m b : ℕ) → under m ≡ Some b → m < length x)
-      × AreInLists x ps under) (sym linked)
+      × AreListed x ps under) (sym linked)
       (subst (λ p. (under : ℕ → Option ℕ) × (under n ≡ None)
-      × ((m b : ℕ) → under m ≡ Some b → m < length (links ++ l ∷ [])) × AreInLists (links ++ l ∷ []) p under)
+      × ((m b : ℕ) → under m ≡ Some b → m < length (links ++ l ∷ [])) × AreListed (links ++ l ∷ []) p under)
       (sym same)
       (first_ready new (rs ++ blank ∷ []) (links ++ l ∷ []) (set heads 0 n) places top held n here number))
 
@@ -105,7 +105,7 @@ module _ (arena new : Arena) (rs : List Record) (links : List Links) (heads plac
   appended_unlisted =
       first_unlisted new (rs ++ blank ∷ []) (links ++ l ∷ []) (set heads 0 n) places top held n here number
 
-  pub appended_lists : AreInLists (links ++ l ∷ []) places (list_under (rs ++ blank ∷ []))
+  pub appended_lists : AreListed (links ++ l ∷ []) places (list_under (rs ++ blank ∷ []))
   appended_lists = held.in_lists
 
   free : IsFreeNumber (nodes_of new (rs ++ blank ∷ [])) n
@@ -142,7 +142,7 @@ module _ (arena new : Arena) (rs : List Record) (links : List Links) (heads plac
     pub appended_kept : (b head : ℕ) → b ≡ bucket_of (place, list) (length heads - 1) → b < length heads - 1
         → head ≡ suc b → next ≡ get_or heads head next
         → (mid ends : List Links) (places' : List ℕ) (top' list_at : ℕ) → list_at ≡ suc (bit_and place 2047)
-        → AreInLists mid places' (filed_at n list_at (list_under (rs ++ blank ∷ [])))
+        → AreListed mid places' (filed_at n list_at (list_under (rs ++ blank ∷ [])))
         → KeepsStack (links ++ l ∷ []) mid → length places' ≡ length places → KeepsLists mid ends
         → AreStacked ends top' → IsPushed mid ends n → kept_hash mid n ≡ hash
         → ((m : ℕ) → m ≢ n → kept_hash mid m ≡ kept_hash (links ++ l ∷ []) m)

@@ -13,7 +13,7 @@ use Rattle.sd_unique.specs.declared.record.RecordState.TheVariants.{Free, Linked
 use Rattle.sd_unique.specs.Filed.{IsChain, IsWalkable}
 use Rattle.sd_unique.specs.Record.{if_linked, key_of, linked_key, nodes_of}
 use Rattle.sd_unique.specs.Relinking.{IsLinkedAt}
-use Rattle.sd_unique.specs.Chains.{AreInLists, after_of, head_of, list_by, list_under, no_record}
+use Rattle.sd_unique.specs.Chains.{AreInLists, IsRecordAt, after_of, head_of, list_by, list_under, no_record}
 use Rattle.sd_unique.proofs.Both.{chain_short}
 use Rattle.sd_unique.proofs.Numbered.{linked_at, linked_record}
 use Rattle.sd_unique.proofs.Stacked.{chain_empty, head_has, get_or_any}
@@ -83,6 +83,17 @@ in_place Free b c e = cc
 in_place Linked b c e = refl
 in_place Detached b c e = let same : 0 ≡ c + 1 = cc in absurd (omega arith)
 
+-- a record that is that of a linked node at a place
+pub found_at : (arena : Arena) (rs : List Record) (place n : ℕ) (r : Record) → slice_get rs n ≡ Some r
+    → IsRecordAt r place → IsLinkedAt (nodes_of arena rs) place n
+found_at arena rs place n r there is =
+    record {
+      list = unwrap_or (get arena.live r.start) [];
+      is = linked_at arena rs n ∙ ap (option_and_then (λ (x : Record). linked_key arena x)) there
+          ∙ ap (λ s. if_linked s (key_of arena r)) is.linked
+          ∙ ap (λ p. Some (p, unwrap_or (get arena.live r.start) [])) is.at;
+    }
+
 module _ (arena : Arena) (rs : List Record) (links : List Links) (places : List ℕ)
     (f : AreInLists links places (list_under rs)) (place : ℕ) where
   -- the list of a remainder can be walked
@@ -102,12 +113,7 @@ module _ (arena : Arena) (rs : List Record) (links : List Links) (places : List 
       let under = (f.forth).only (bit_and place 2047 + 1) n h in
       let linked = in_place r.state (bit_and r.place 2047) (bit_and place 2047)
       (sym (ap (option_and_then (λ (x : Record). list_by x.state (bit_and x.place 2047))) there) ∙ under) in
-      record {
-        list = unwrap_or (get arena.live r.start) [];
-        is = linked_at arena rs n ∙ ap (option_and_then (λ (x : Record). linked_key arena x)) there
-            ∙ ap (λ s. if_linked s (key_of arena r)) linked
-            ∙ ap (λ p. Some (p, unwrap_or (get arena.live r.start) [])) e;
-      }
+      found_at arena rs place n r there (record { linked = linked; at = e })
 
   -- and where there is none, no node is at it
   pub at_none : ((n : ℕ) (r : Record) → IsMember n ((f.forth).lists (bit_and place 2047 + 1))

@@ -12,7 +12,7 @@ use Rattle.sd_unique.specs.declared.record.RecordState.TheVariants.{Linked, Deta
 use Rattle.sd_unique.specs.Filed.{IsFiled, unfiled, filed_at}
 use Rattle.sd_unique.specs.Record.{key_of, nodes_of}
 use Rattle.sd_unique.specs.Chains.{next_of, chain_by, list_by, chain_under, list_under, stack_under, bucket_of}
-use Rattle.sd_unique.specs.Chains.{head_of, hash_of, kept_hash, no_record, HoldsNodes, KeepsStack, AreInLists}
+use Rattle.sd_unique.specs.Chains.{head_of, hash_of, kept_hash, no_record, HoldsNodes, KeepsStack, AreListed}
 use Rattle.sd_unique.specs.Relinking.{relinked, IsAbsent}
 use Rattle.sd_unique.proofs.Changed.{set_which}
 use Rattle.sd_unique.proofs.Cutting.{all_kept}
@@ -71,7 +71,7 @@ module _ (arena : Arena) (rs : List Record) (n : ℕ) (r t : Record) (there : sl
   pub attached_kept : (links new : List Links) (heads places places' : List ℕ) (top b : ℕ)
       → bucket_of (key_of arena r) (length heads - 1) ≡ b → b + 1 < length heads → t.next ≡ head_of heads (b + 1)
       → length places' ≡ length places → KeepsStack links new
-      → AreInLists new places' (filed_at n (bit_and r.place 2047 + 1) (unfiled n (list_under rs)))
+      → AreListed new places' (filed_at n (bit_and r.place 2047 + 1) (unfiled n (list_under rs)))
       → IsAbsent (nodes_of arena rs) (key_of arena r) → (r.uses ≡ 0 → stack_under links n ≡ Some 0)
       → kept_hash new n ≡ hash_of (key_of arena r) → ((i : ℕ) → i ≢ n → kept_hash new i ≡ kept_hash links i)
       → HoldsNodes arena rs links heads places top → HoldsNodes arena (set rs n t) new (set heads (b + 1) n) places' top
@@ -82,13 +82,13 @@ module _ (arena : Arena) (rs : List Record) (n : ℕ) (r t : Record) (there : sl
             was is absent k.stored;
         linked_all = stack.size ∙ k.linked_all ∙ sym (length-set rs n t);
         at_least_one = omega (arith, k.at_least_one, length-set heads (b + 1) n);
-        places_all = same_places ∙ k.places_all;
+        places_all = λ some. same_places ∙ k.places_all (omega (arith, some, same_places));
         in_chains = subst (λ h. IsFiled (next_of (set rs n t)) no_record (head_of (set heads (b + 1) n))
             (chain_under arena (h - 1) (set rs n t))) (sym (length-set heads (b + 1) n))
             (chained heads b (is_record n k.stored (slice_get_inside rs n r there)) at inside next k.in_chains);
-        in_lists = both_same _ _ _ _ no_record _ _ (filed_at n (bit_and r.place 2047 + 1) (unfiled n (list_under rs)))
+        in_lists = λ some. both_same _ _ _ _ no_record _ _ (filed_at n (bit_and r.place 2047 + 1) (unfiled n (list_under rs)))
             (list_under (set rs n t)) (λ b i e. refl) (λ b i e. refl) (λ b. refl)
-            (listed_at arena rs rs n r t (all_kept rs) there (bit_and r.place 2047 + 1) list_new) lists;
+            (listed_at arena rs rs n r t (all_kept rs) there (bit_and r.place 2047 + 1) list_new) (lists some);
         in_stack = stacked_kept links new top stack k.in_stack;
         hashed = λ i x e linked. by_cases
             (λ h. ap (kept_hash new) h.0 ∙ hash ∙ ap hash_of (sym key_same) ∙ ap (λ y. hash_of (key_of arena y)) h.1)

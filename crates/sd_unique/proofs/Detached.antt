@@ -113,8 +113,8 @@ module _ (arena : Arena) (rs : List Record) (n : ℕ) (r t : Record) (there : sl
         places_all = k.places_all;
         in_chains = filed_same _ _ no_record _ _ _ _ (λ b i e. links_kept next read i) (λ b. refl)
             (chain_kept (length heads - 1)) k.in_chains;
-        in_lists = both_same _ _ _ _ no_record _ _ _ _ (λ b i e. refl) (λ b i e. refl) (λ b. refl) list_kept
-            k.in_lists;
+        in_lists = λ some. both_same _ _ _ _ no_record _ _ _ _ (λ b i e. refl) (λ b i e. refl) (λ b. refl) list_kept
+            (k.in_lists some);
         in_stack = k.in_stack;
         hashed = λ i x e linked. by_cases
             (λ h. absurd (not_linked t.state is (ap (λ y. y.state) h.1 ∙ linked)))

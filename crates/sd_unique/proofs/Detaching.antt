@@ -13,7 +13,7 @@ use Rattle.sd_unique.specs.declared.record.RecordState.TheVariants.{Linked, Deta
 use Rattle.sd_unique.specs.Filed.{IsFiled, unfiled, filed_at}
 use Rattle.sd_unique.specs.Record.{key_of, nodes_of}
 use Rattle.sd_unique.specs.Chains.{next_of, chain_by, list_by, chain_under, list_under, bucket_of, head_of}
-use Rattle.sd_unique.specs.Chains.{no_record, hash_of, kept_hash, HoldsNodes, KeepsRecords, KeepsStack, AreInLists}
+use Rattle.sd_unique.specs.Chains.{no_record, hash_of, kept_hash, HoldsNodes, KeepsRecords, KeepsStack, AreListed}
 use Rattle.sd_unique.specs.Relinking.{unlinked}
 use Rattle.sd_unique.proofs.Changed.{set_which}
 use Rattle.sd_unique.proofs.Entries.{slice_get_inside}
@@ -43,7 +43,7 @@ module _ (arena : Arena) (rs mid : List Record) (n : ℕ) (m t : Record) (kept :
       → IsSome (get (nodes_of arena rs).linked n) → t.next ≡ m.next → length heads' ≡ length heads
       → length places' ≡ length places → KeepsStack links new
       → IsFiled (next_of mid) no_record (head_of heads') (unfiled n (chain_under arena (length heads - 1) rs))
-      → AreInLists new places' (filed_at n 0 (unfiled n (list_under rs)))
+      → AreListed new places' (filed_at n 0 (unfiled n (list_under rs)))
       → ((i : ℕ) → i ≢ n → kept_hash new i ≡ kept_hash links i)
       → HoldsNodes arena rs links heads places top → HoldsNodes arena (set mid n t) new heads' places' top
   detached_kept links new heads heads' places places' top was next same_heads same_places stack chains lists hashes k =
@@ -52,16 +52,16 @@ module _ (arena : Arena) (rs mid : List Record) (n : ℕ) (m t : Record) (kept :
             (was_linked was) is (stored_kept rs mid kept arena k.stored);
         linked_all = stack.size ∙ k.linked_all ∙ sym kept.size ∙ sym (length-set mid n t);
         at_least_one = omega (arith, k.at_least_one, same_heads);
-        places_all = same_places ∙ k.places_all;
+        places_all = λ some. same_places ∙ k.places_all (omega (arith, some, same_places));
         in_chains = filed_same (next_of mid) (next_of (set mid n t)) no_record (head_of heads') (head_of heads')
             (unfiled n (chain_under arena (length heads - 1) rs)) (chain_under arena (length heads' - 1) (set mid n t))
             (λ b i e. link_same (λ (x : Record). x.next) mid n t m there next i) (λ b. refl)
             (λ i. ap (λ h. chain_under arena (h - 1) (set mid n t) i) same_heads
             ∙ unchained arena rs mid n m t kept there (length heads - 1)
             (ap (λ s. chain_by s (bucket_of (key_of arena t) (length heads - 1))) is) i) chains;
-        in_lists = both_same _ _ _ _ no_record _ _ (filed_at n 0 (unfiled n (list_under rs)))
+        in_lists = λ some. both_same _ _ _ _ no_record _ _ (filed_at n 0 (unfiled n (list_under rs)))
             (list_under (set mid n t)) (λ b i e. refl) (λ b i e. refl) (λ b. refl)
-            (listed_at arena rs mid n m t kept there 0 (ap (λ s. list_by s (bit_and t.place 2047)) is)) lists;
+            (listed_at arena rs mid n m t kept there 0 (ap (λ s. list_by s (bit_and t.place 2047)) is)) (lists some);
         in_stack = stacked_kept links new top stack k.in_stack;
         hashed = λ i x e linked. by_cases
             (λ h. absurd (not_both t.state is (ap (λ y. y.state) h.1 ∙ linked)))

@@ -7,11 +7,10 @@ top_nothing : (b : ℕ) → top_of no_record b ≡ no_record
 top_nothing zero = refl
 top_nothing (suc b) = refl
 
--- with no records, and no record at any head, the fields are in order
-pub kept_nothing : (arena : Arena) (heads places : List ℕ) → IsArena arena → arena.bound < 2 ^ 31 → 1 < length heads
-    → length places ≡ 2049 → ((b : ℕ) → head_of heads b ≡ no_record) → ((b : ℕ) → head_of places b ≡ no_record)
-    → HoldsNodes arena [] [] heads places no_record
-kept_nothing arena heads places well fits some all no_heads no_places =
+-- with no records, no record at any head and no lists, the fields are in order
+pub kept_nothing : (arena : Arena) (heads : List ℕ) → IsArena arena → arena.bound < 2 ^ 31 → 1 < length heads
+    → ((b : ℕ) → head_of heads b ≡ no_record) → HoldsNodes arena [] [] heads [] no_record
+kept_nothing arena heads well fits some no_heads =
     record {
       stored = record {
         well = well;
@@ -23,7 +22,7 @@ kept_nothing arena heads places well fits some all no_heads no_places =
       };
       linked_all = refl;
       at_least_one = some;
-      places_all = all;
+      places_all = λ any. absurd (omega (arith, any));
       in_chains = record {
         lists = λ b. [];
         chained = no_heads;
@@ -31,16 +30,7 @@ kept_nothing arena heads places well fits some all no_heads no_places =
         filed = λ b n e. cc;
         only = λ b n h. absurd h;
       };
-      in_lists = record {
-        forth = record {
-          lists = λ b. [];
-          chained = no_places;
-          once = λ b. tt;
-          filed = λ b n e. cc;
-          only = λ b n h. absurd h;
-        };
-        back = λ b. tt;
-      };
+      in_lists = λ any. absurd (omega (arith, any));
       in_stack = record {
         lists = λ b. [];
         chained = top_nothing;

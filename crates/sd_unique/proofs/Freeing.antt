@@ -13,7 +13,7 @@ use Rattle.sd_unique.specs.declared.record.RecordState.TheVariants.{Free, Detach
 use Rattle.sd_unique.specs.Filed.{IsFiled, unfiled}
 use Rattle.sd_unique.specs.Record.{key_of, nodes_of, AreRecordsStored}
 use Rattle.sd_unique.specs.Chains.{next_of, chain_by, list_by, chain_under, list_under, bucket_of, head_of}
-use Rattle.sd_unique.specs.Chains.{no_record, kept_hash, HoldsNodes, KeepsStack, AreInLists}
+use Rattle.sd_unique.specs.Chains.{no_record, kept_hash, HoldsNodes, KeepsStack, AreListed}
 use Rattle.sd_unique.specs.Relinking.{removed}
 use Rattle.sd_unique.proofs.Changed.{set_which}
 use Rattle.sd_unique.proofs.Cutting.{all_kept}
@@ -48,7 +48,7 @@ module _ (arena : Arena) (rs : List Record) (n : ℕ) (r t : Record) (there : sl
 
   -- what holds of the fields is kept, before the run is given back
   freed_kept : (links new : List Links) (heads places places' : List ℕ) (top : ℕ) → t.next ≡ head_of heads 0
-      → length places' ≡ length places → KeepsStack links new → AreInLists new places' (unfiled n (list_under rs))
+      → length places' ≡ length places → KeepsStack links new → AreListed new places' (unfiled n (list_under rs))
       → ((i : ℕ) → kept_hash new i ≡ kept_hash links i) → AreRecordsStored arena (set rs n t)
       → HoldsNodes arena rs links heads places top
       → HoldsNodes arena (set rs n t) new (set heads 0 n) places' top
@@ -57,14 +57,14 @@ module _ (arena : Arena) (rs : List Record) (n : ℕ) (r t : Record) (there : sl
         stored = st;
         linked_all = stack.size ∙ k.linked_all ∙ sym (length-set rs n t);
         at_least_one = omega (arith, k.at_least_one, length-set heads 0 n);
-        places_all = same_places ∙ k.places_all;
+        places_all = λ some. same_places ∙ k.places_all (omega (arith, some, same_places));
         in_chains = subst (λ h. IsFiled (next_of (set rs n t)) no_record (head_of (set heads 0 n))
             (chain_under arena (h - 1) (set rs n t))) (sym (length-set heads 0 n))
             (chained (length heads - 1) heads (is_record n k.stored (slice_get_inside rs n r there))
             (omega (arith, k.at_least_one)) next k.in_chains);
-        in_lists = both_same _ _ _ _ no_record _ _ (unfiled n (list_under rs)) (list_under (set rs n t))
+        in_lists = λ some. both_same _ _ _ _ no_record _ _ (unfiled n (list_under rs)) (list_under (set rs n t))
             (λ b i e. refl) (λ b i e. refl) (λ b. refl)
-            (unlisted arena rs rs n r t (all_kept rs) there (ap (λ s. list_by s (bit_and t.place 2047)) is)) lists;
+            (unlisted arena rs rs n r t (all_kept rs) there (ap (λ s. list_by s (bit_and t.place 2047)) is)) (lists some);
         in_stack = stacked_kept links new top stack k.in_stack;
         hashed = λ i x e linked. by_cases
             (λ h. absurd (free_not_linked t.state is (ap (λ (y : Record). y.state) h.1 ∙ linked)))
@@ -85,7 +85,7 @@ module _ (arena : Arena) (rs : List Record) (n : ℕ) (r t : Record) (there : sl
     -- and after that
     pub released_kept : (links more : List Links) (heads places places' : List ℕ) (top : ℕ) → t.next ≡ head_of heads 0
         → length places' ≡ length places → KeepsStack links more
-        → AreInLists more places' (unfiled n (list_under rs)) → ((i : ℕ) → kept_hash more i ≡ kept_hash links i)
+        → AreListed more places' (unfiled n (list_under rs)) → ((i : ℕ) → kept_hash more i ≡ kept_hash links i)
         → HoldsNodes arena rs links heads places top
         → HoldsNodes new (set rs n t) more (set heads 0 n) places' top
     released_kept links more heads places places' top next same_places stack lists hashes k =

@@ -36,4 +36,5 @@ mod Growing
 mod Ordering
 mod Rechaining
 mod Nothing
+mod ListsMade
 mod Retiring

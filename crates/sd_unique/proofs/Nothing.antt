@@ -35,13 +35,12 @@ module _ (arena : Arena) (bound : ℕ) (rs : List Record) (is : arena ≡ empty_
   nodes_new = ap (λ a. nodes_of a rs) is ∙ ap (nodes_of (empty_arena bound)) none ∙ nodes_of_nothing bound
 
   pub kept_new : (links : List Links) (heads places : List ℕ) (buckets : ℕ) → IsArena arena → bound < 2 ^ 31
-      → links ≡ [] → heads ≡ replicate buckets no_record → places ≡ replicate 2049 no_record → 1 < buckets
+      → links ≡ [] → heads ≡ replicate buckets no_record → places ≡ [] → 1 < buckets
       → HoldsNodes arena rs links heads places no_record
   kept_new links heads places buckets well fits no_links no_chains no_lists some =
       kept_tables arena [] rs links (replicate buckets no_record) heads places no_record none no_chains
-      (kept_fields arena [] [] links (replicate buckets no_record) (replicate 2049 no_record) places no_record
+      (kept_fields arena [] [] links (replicate buckets no_record) [] places no_record
       no_links no_lists
-      (kept_nothing arena (replicate buckets no_record) (replicate 2049 no_record) well
+      (kept_nothing arena (replicate buckets no_record) well
       (subst (λ b. b < 2 ^ 31) (sym (ap (λ a. a.bound) is)) fits)
-      (omega (arith, some, length-replicate buckets no_record)) (length-replicate 2049 no_record)
-      (no_heads buckets) (no_heads 2049)))
+      (omega (arith, some, length-replicate buckets no_record)) (no_heads buckets)))

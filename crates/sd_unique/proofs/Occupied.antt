@@ -20,7 +20,7 @@ use Rattle.sd_unique.specs.Record.{detached_key, uses_of_record, mark_of_record,
 use Rattle.sd_unique.specs.Record.{nodes_of, AreRecordsStored}
 use Rattle.sd_unique.specs.Filed.{IsFiled, unfiled, filed_at}
 use Rattle.sd_unique.specs.Chains.{next_of, head_of, chain_by, list_by, chain_under, list_under}
-use Rattle.sd_unique.specs.Chains.{stack_under, bucket_of, no_record, HoldsNodes, AreInLists, AreStacked, KeepsLists}
+use Rattle.sd_unique.specs.Chains.{stack_under, bucket_of, no_record, HoldsNodes, AreListed, AreStacked, KeepsLists}
 use Rattle.sd_unique.specs.Chains.{KeepsStack, IsPushed, hash_of, kept_hash}
 use Rattle.sd_unique.proofs.Both.{unfiled_here, unfiled_other, filed_here, filed_other}
 use Rattle.sd_unique.proofs.Changed.{set_which, stored_set}
@@ -147,7 +147,7 @@ module _ (arena : Arena) (rs : List Record) (n : ℕ) (r t : Record) (there : sl
         → length new ≡ length links → length heads' ≡ length heads → length places' ≡ length places
         → IsFiled (next_of (set rs n t)) no_record (head_of heads')
         (chain_under arena (length heads - 1) (set rs n t))
-        → AreInLists new places' (list_under (set rs n t)) → AreStacked new top'
+        → AreListed new places' (list_under (set rs n t)) → AreStacked new top'
         → ((m : ℕ) → stack_under links m ≡ Some 0 → stack_under new m ≡ Some 0) → stack_under new n ≡ Some 0
         → kept_hash new n ≡ hash_of (t.place, list) → ((m : ℕ) → m ≢ n → kept_hash new m ≡ kept_hash links m)
         → HoldsNodes arena rs links heads places top → HoldsNodes arena (set rs n t) new heads' places' top'
@@ -157,7 +157,7 @@ module _ (arena : Arena) (rs : List Record) (n : ℕ) (r t : Record) (there : sl
           stored = stored_occupied absent k.stored;
           linked_all = size ∙ k.linked_all ∙ sym (length-set rs n t);
           at_least_one = omega (arith, hsize, k.at_least_one);
-          places_all = psize ∙ k.places_all;
+          places_all = λ some. psize ∙ k.places_all (omega (arith, some, psize));
           in_chains = subst (λ s. IsFiled (next_of (set rs n t)) no_record (head_of heads')
               (chain_under arena (s - 1) (set rs n t))) (sym hsize) chains;
           in_lists = lists;
@@ -175,15 +175,16 @@ module _ (arena : Arena) (rs : List Record) (n : ℕ) (r t : Record) (there : sl
 
 -- the lists, read from another function of the same places
 pub lists_by : (links : List Links) (places : List ℕ) (under under' : ℕ → Option ℕ) → ((m : ℕ) → under' m ≡ under m)
-    → AreInLists links places under → AreInLists links places under'
+    → AreListed links places under → AreListed links places under'
 lists_by links places under under' same f =
-    both_same _ _ _ _ no_record _ _ _ _ (λ b i e. refl) (λ b i e. refl) (λ b. refl) same f
+    λ some. both_same _ _ _ _ no_record _ _ _ _ (λ b i e. refl) (λ b i e. refl) (λ b. refl) same (f some)
 
 -- the lists after a push onto the stack
 pub lists_pushed : (links new : List Links) (places : List ℕ) (under : ℕ → Option ℕ) → KeepsLists links new
-    → AreInLists links places under → AreInLists new places under
+    → AreListed links places under → AreListed new places under
 lists_pushed links new places under kept f =
-    both_same _ _ _ _ no_record _ _ _ _ (λ b i e. kept.after i) (λ b i e. kept.before i) (λ b. refl) (λ m. refl) f
+    λ some. both_same _ _ _ _ no_record _ _ _ _ (λ b i e. kept.after i) (λ b i e. kept.before i) (λ b. refl)
+    (λ m. refl) (f some)
 
 -- the stack after a step in the lists
 pub stack_kept : (links new : List Links) (top : ℕ) → KeepsStack links new → AreStacked links top → AreStacked new top
@@ -281,7 +282,7 @@ module _ (arena : Arena) (rs : List Record) (links : List Links) (heads places :
 
   -- what putting it first in the list of its place asks
   pub first_ready : (under : ℕ → Option ℕ) × (under first ≡ None)
-      × ((n b : ℕ) → under n ≡ Some b → n < length links) × AreInLists links places under
+      × ((n b : ℕ) → under n ≡ Some b → n < length links) × AreListed links places under
   first_ready = (
     list_under rs,
     first_unlisted,
@@ -299,7 +300,7 @@ module _ (arena : Arena) (rs : List Record) (links : List Links) (heads places :
         → b ≡ bucket_of (t.place, list) (length heads - 1) → b < length heads - 1 → head ≡ suc b
         → t.next ≡ get_or (set heads 0 next) head t.next
         → (mid new : List Links) (places' : List ℕ) (top' at : ℕ) → at ≡ suc (bit_and t.place 2047)
-        → AreInLists mid places' (filed_at first at (list_under rs)) → KeepsStack links mid
+        → AreListed mid places' (filed_at first at (list_under rs)) → KeepsStack links mid
         → length places' ≡ length places → KeepsLists mid new → AreStacked new top' → IsPushed mid new first
         → kept_hash mid first ≡ hash_of (t.place, list)
         → ((m : ℕ) → m ≢ first → kept_hash mid m ≡ kept_hash links m)

@@ -153,11 +153,11 @@ module _ (arena : Arena) (rs : List Record) (r : Record) (free : r.state ≡ Fre
         in_chains = subst (λ s. IsFiled (next_of (rs ++ r ∷ [])) no_record (head_of (set heads 0 (length rs)))
             (chain_under arena (s - 1) (rs ++ r ∷ []))) (sym (length-set heads 0 (length rs)))
             (chains_free heads (length heads - 1) (omega (arith, k.at_least_one)) next fits k.in_chains);
-        in_lists = both_same _ _ _ _ no_record _ _ _ _
+        in_lists = λ some. both_same _ _ _ _ no_record _ _ _ _
             (λ b i e. link_before (λ (x : Links). x.after) links l i (listed_other i b e))
             (λ b i e. link_before (λ (x : Links). x.before) links l i (listed_other i b e)) (λ b. refl)
             (read_push rs r (λ x. list_by x.state (bit_and x.place 2047))
-            (ap (λ s. list_by s (bit_and r.place 2047)) free)) k.in_lists;
+            (ap (λ s. list_by s (bit_and r.place 2047)) free)) (k.in_lists some);
         in_stack = filed_same _ _ no_record _ _ _ _
             (λ b i e. link_before (λ (x : Links). x.waiting) links l i (stacked_other i b e)) (λ b. refl)
             (read_push links l (λ x. cond (is_waiting x) (Some 0) None) (ap (λ b. cond b (Some 0) None) flag))

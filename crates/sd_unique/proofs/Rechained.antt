@@ -33,8 +33,8 @@ kept_rechained arena rs ts links heads heads' places top keeps some filed k =
       at_least_one = some;
       places_all = k.places_all;
       in_chains = filed;
-      in_lists = both_same _ _ _ _ no_record _ _ _ _ (λ b i e. refl) (λ b i e. refl) (λ b. refl)
-          (list_kept rs ts keeps) k.in_lists;
+      in_lists = λ some. both_same _ _ _ _ no_record _ _ _ _ (λ b i e. refl) (λ b i e. refl) (λ b. refl)
+          (list_kept rs ts keeps) (k.in_lists some);
       in_stack = k.in_stack;
       hashed = hashes_kept arena rs ts links keeps k.hashed;
       queued = λ i t e linked none.

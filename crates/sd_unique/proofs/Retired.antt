@@ -14,7 +14,7 @@ use Rattle.sd_unique.specs.declared.record.RecordState.TheVariants.{Free, Linked
 use Rattle.sd_unique.specs.Filed.{IsFiled, unfiled}
 use Rattle.sd_unique.specs.Record.{key_of, nodes_of, AreRecordsStored}
 use Rattle.sd_unique.specs.Chains.{next_of, chain_by, list_by, chain_under, list_under, bucket_of, head_of}
-use Rattle.sd_unique.specs.Chains.{no_record, hash_of, kept_hash, HoldsNodes, KeepsRecords, KeepsStack, AreInLists}
+use Rattle.sd_unique.specs.Chains.{no_record, hash_of, kept_hash, HoldsNodes, KeepsRecords, KeepsStack, AreListed}
 use Rattle.sd_unique.specs.Relinking.{unlinked, removed}
 use Rattle.sd_unique.proofs.Both.{unfiled_here, unfiled_other}
 use Rattle.sd_unique.proofs.Changed.{set_which}
@@ -93,7 +93,7 @@ module _ (arena : Arena) (rs mid : List Record) (n : ℕ) (m t : Record) (kept :
       → t.next ≡ head_of heads' 0 → length heads' ≡ length heads → length places' ≡ length places
       → KeepsStack links more
       → IsFiled (next_of mid) no_record (head_of heads') (unfiled n (chain_under arena (length heads - 1) rs))
-      → AreInLists more places' (unfiled n (list_under rs))
+      → AreListed more places' (unfiled n (list_under rs))
       → ((i : ℕ) → kept_hash more i ≡ kept_hash links i) → AreRecordsStored arena (set mid n t)
       → HoldsNodes arena rs links heads places top
       → HoldsNodes arena (set mid n t) more (set heads' 0 n) places' top
@@ -102,15 +102,15 @@ module _ (arena : Arena) (rs mid : List Record) (n : ℕ) (m t : Record) (kept :
         stored = st;
         linked_all = stack.size ∙ k.linked_all ∙ sym kept.size ∙ sym (length-set mid n t);
         at_least_one = omega (arith, k.at_least_one, same_heads, length-set heads' 0 n);
-        places_all = same_places ∙ k.places_all;
+        places_all = λ some. same_places ∙ k.places_all (omega (arith, some, same_places));
         in_chains = subst (λ h. IsFiled (next_of (set mid n t)) no_record (head_of (set heads' 0 n))
             (chain_under arena (h - 1) (set mid n t))) (sym (length-set heads' 0 n ∙ same_heads))
             (chained (length heads - 1) heads'
             (is_record n k.stored (omega (arith, within, kept.size)))
             (omega (arith, k.at_least_one, same_heads)) next chains);
-        in_lists = both_same _ _ _ _ no_record _ _ (unfiled n (list_under rs)) (list_under (set mid n t))
+        in_lists = λ some. both_same _ _ _ _ no_record _ _ (unfiled n (list_under rs)) (list_under (set mid n t))
             (λ b i e. refl) (λ b i e. refl) (λ b. refl)
-            (unlisted arena rs mid n m t kept there (ap (λ s. list_by s (bit_and t.place 2047)) is)) lists;
+            (unlisted arena rs mid n m t kept there (ap (λ s. list_by s (bit_and t.place 2047)) is)) (lists some);
         in_stack = stacked_kept links more top stack k.in_stack;
         hashed = λ i x e linked. by_cases
             (λ h. absurd (free_not_linked t.state is (ap (λ (y : Record). y.state) h.1 ∙ linked)))
@@ -152,7 +152,7 @@ module _ (arena : Arena) (rs mid : List Record) (n : ℕ) (m t : Record) (kept :
         → t.next ≡ head_of heads' 0 → length heads' ≡ length heads → length places' ≡ length places
         → KeepsStack links more
         → IsFiled (next_of mid) no_record (head_of heads') (unfiled n (chain_under arena (length heads - 1) rs))
-        → AreInLists more places' (unfiled n (list_under rs))
+        → AreListed more places' (unfiled n (list_under rs))
         → ((i : ℕ) → kept_hash more i ≡ kept_hash links i)
         → HoldsNodes arena rs links heads places top
         → HoldsNodes new (set mid n t) more (set heads' 0 n) places' top

@@ -101,6 +101,10 @@ stack_under links n = option_and_then (λ l. cond (is_waiting l) (Some 0) None) 
 abbrev pub AreInLists : List Links → List ℕ → (ℕ → Option ℕ) → Type 0
 AreInLists links places under = IsFiledBoth (after_of links) (before_of links) no_record (head_of places) under
 
+-- The lists are kept from the first move of the vtree on: before that they have no heads.
+abbrev pub AreListed : List Links → List ℕ → (ℕ → Option ℕ) → Type 0
+AreListed links places under = 0 < length places → AreInLists links places under
+
 -- the stack of the links
 abbrev pub AreStacked : List Links → ℕ → Type 0
 AreStacked links top = IsFiled (waiting_of links) no_record (top_of top) (stack_under links)
@@ -130,17 +134,17 @@ AreHashed arena records links =
     → kept_hash links n ≡ hash_of (key_of arena r)
 
 -- What holds of the fields. The first head is that of the free records, the others are those of the buckets; the first
--- place is that of the detached records.
+-- place, where there are any, is that of the detached records.
 pub record HoldsNodes (arena : Arena) (records : List Record) (links : List Links) (heads places : List ℕ)
     (candidates : ℕ) : Type 0 where
   pub stored : AreRecordsStored arena records
   pub linked_all : length links ≡ length records
-  -- there is a bucket, and a head for each remainder of places
+  -- there is a bucket, and a head for each remainder of places, or for none
   pub at_least_one : 1 < length heads
-  pub places_all : length places ≡ 2049
+  pub places_all : 0 < length places → length places ≡ 2049
   -- each record stands where its state says
   pub in_chains : IsFiled (next_of records) no_record (head_of heads) (chain_under arena (length heads - 1) records)
-  pub in_lists : AreInLists links places (list_under records)
+  pub in_lists : AreListed links places (list_under records)
   pub in_stack : AreStacked links candidates
   pub hashed : AreHashed arena records links
   -- each linked node without uses is a candidate
@@ -153,6 +157,11 @@ pub record KeepsRecords (old new : List Record) : Type 0 where
   pub was : (i : ℕ) (t : Record) → slice_get new i ≡ Some t
       → (r : Record) × (slice_get old i ≡ Some r) × (t.place ≡ r.place) × (t.start ≡ r.start)
       × (t.length ≡ r.length) × (t.uses ≡ r.uses) × (t.mark ≡ r.mark) × (t.state ≡ r.state)
+
+-- the record is that of a node that is linked at this place
+pub record IsRecordAt (r : Record) (place : ℕ) : Type 0 where
+  pub linked : r.state ≡ Linked
+  pub at : r.place ≡ place
 
 -- the record is that of a linked node without uses
 pub record IsUnused (r : Record) : Type 0 where

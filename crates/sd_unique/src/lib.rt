@@ -1,8 +1,9 @@
 //! Numbered nodes, found by their place and list: no two linked nodes have the same place and list.
 //!
 //! Each number has a record and its links. A record is free, linked or detached, and stands where its
-//! state says: `next` chains the free records and those of each bucket, `before` and `after` the
-//! linked ones of each place and the detached ones, `waiting` the candidates for removal.
+//! state says: `next` chains the free records and those of each bucket, `waiting` the candidates for
+//! removal, and from `list_places` on `before` and `after` the linked ones of each place and the
+//! detached ones.
 //!
 //! ```text
 //! heads     [ free | bucket 0 | bucket 1 | .. ]        places  [ detached | 0 | 1 | .. | 2047 ]
@@ -15,18 +16,21 @@
 //! A look-up reads a head, then the records of its bucket until one has the key, and of these the list
 //! where place and length agree: it takes the length of the list and of the chain. `insert`, `relink`
 //! and `take_run` take the length of the list, `unlink` and `retire` that of the chain, and `first_at`
-//! goes along the list of the place's remainder. `idle` takes candidates off the stack until it finds
-//! one, each of them once for each time that it was put there; `retire` takes the node off that `idle`
-//! just answered. Where `idle` finds none in a large table, and `retire` freed more than a sixteenth of
-//! the records since that was last done, it puts the free numbers and the free runs of two elements in
-//! order, the smallest first, a step for each record and each element: nodes that are made behind a
-//! large sweep then stand next to one another, in the order in which they are made, as those of a new
-//! table do. The other calls are a few loads and stores, but for `new`, which makes the heads. The
-//! buckets double where they are as few as the records. That takes a step for each record, and reads no
-//! list: the links keep the hash of each linked record.
+//! goes along the list of the place's remainder. Before `list_places` there are no lists, and no call
+//! pays for them: `places` has no heads, and `first_at` and `first_detached` go over all records.
+//! `list_places` makes the lists, a step for each record, once. `idle` takes candidates off the stack
+//! until it finds one, each of them once for each time that it was put there; `retire` takes the node
+//! off that `idle` just answered. Where `idle` finds none in a large table, and `retire` freed more
+//! than a sixteenth of the records since that was last done, it puts the free numbers and the free
+//! runs of two elements in order, the smallest first, a step for each record and each element: nodes
+//! that are made behind a large sweep then stand next to one another, in the order in which they are
+//! made, as those of a new table do. The other calls are a few loads and stores, but for `new`, which
+//! makes the heads. The buckets double where they are as few as the records. That takes a step for
+//! each record, and reads no list: the links keep the hash of each linked record.
 //!
 //! A node of two elements has a record of 32 bytes, links of 16, a run of 16 with a mark of 1 for each
-//! element, and 4 to 8 of the buckets: 70 to 74 bytes, beside the room that vectors keep for growth.
+//! element, and 4 to 8 of the buckets: 70 to 74 bytes, beside the room that vectors keep for growth. The
+//! heads of the lists have 8 KB, which are written at the first `list_places`.
 #![tactic(auto)]
 
 mod buckets;
@@ -34,6 +38,7 @@ mod chains;
 mod found;
 mod free_list;
 mod hash;
+mod listing;
 mod lists;
 mod nodes;
 mod record;

@@ -1,7 +1,8 @@
-// The lists of the places and of the detached records, through the links in both directions.
+// The lists of the places and of the detached records, through the links in both directions. They are
+// kept once they have heads: only moves of the vtree use them, and what comes before pays one test.
 ghost use Rattle.std.specs.Prelude.{◌≡◌, ◌≢◌, ◌<◌, length, slice_get, Some, None, Option, List, ℕ};
 ghost use Rattle.sd_unique.specs.declared.record.Record.{Record};
-ghost use Rattle.sd_unique.specs.Chains.{AreInLists, KeepsStack, after_of, before_of, head_of, kept_hash};
+ghost use Rattle.sd_unique.specs.Chains.{AreInLists, AreListed, KeepsStack, after_of, before_of, head_of, kept_hash};
 ghost use Rattle.sd_unique.specs.Chains.{no_record};
 ghost use Rattle.sd_runs.specs.Arena.{IsMember};
 ghost use Rattle.sd_unique.specs.Filed.{unfiled, filed_at, IsChain, IsLed};
@@ -9,8 +10,27 @@ ghost use Rattle.sd_unique.specs.Filed.{IsLedBack, IsWalkable};
 
 use crate::record::{Links, NO_RECORD, Record};
 
-// Takes a number out of the list of this head.
+// Takes a number out of the list of this head, where lists are kept.
+#[inline(always)]
 pub(crate) fn take_out(links: &mut [Links], places: &mut [u32], head: usize, number: u32)
+    requires inside { number < length links.old }
+    requires head { 0 < length places.old → head < length places.old }
+    requires listed { (under : ℕ → Option ℕ) × (under number ≡ Some head)
+        × ((n b : ℕ) → under n ≡ Some b → n < length links.old)
+        × AreListed links.old places.old under }
+    ensures listed { (under : ℕ → Option ℕ) → under number ≡ Some head
+        → AreListed links.old places.old under
+        → AreListed links.new places.new (unfiled number under) }
+    ensures stack { KeepsStack links.old links.new }
+    ensures hashes { (n : ℕ) → kept_hash links.new n ≡ kept_hash links.old n }
+{
+    if head < places.len() {
+        lead_past(links, places, head, number);
+    }
+}
+
+// Lets what stands before a number in the list of this head lead to what stands behind it.
+fn lead_past(links: &mut [Links], places: &mut [u32], head: usize, number: u32)
     requires inside { number < length links.old }
     requires head { head < length places.old }
     requires listed { (under : ℕ → Option ℕ) × (under number ≡ Some head)
@@ -57,8 +77,38 @@ fn lead_back(links: &mut [Links], to: u32, from: u32)
     }
 }
 
-// Puts a number that is in no list first in the list of this head, and keeps this hash for it.
+// Keeps this hash for a number that is in no list, and puts it first in the list of this head, where
+// lists are kept.
+#[inline(always)]
 pub(crate) fn put_first(
+    links: &mut [Links],
+    places: &mut [u32],
+    head: usize,
+    number: u32,
+    hash: u32,
+)
+    requires inside { number < length links.old }
+    requires at_least_one { number ≢ no_record }
+    requires head { 0 < length places.old → head < length places.old }
+    requires listed { (under : ℕ → Option ℕ) × (under number ≡ None)
+        × ((n b : ℕ) → under n ≡ Some b → n < length links.old)
+        × AreListed links.old places.old under }
+    ensures listed { (under : ℕ → Option ℕ) → under number ≡ None
+        → AreListed links.old places.old under
+        → AreListed links.new places.new (filed_at number head under) }
+    ensures stack { KeepsStack links.old links.new }
+    ensures hash { kept_hash links.new number ≡ hash }
+    ensures hashes { (n : ℕ) → n ≢ number → kept_hash links.new n ≡ kept_hash links.old n }
+{
+    if head < places.len() {
+        link_first(links, places, head, number, hash);
+        return;
+    }
+    links[number as usize].hash = hash;
+}
+
+// Puts a number that is in no list first in the list of this head, and keeps this hash for it.
+pub(crate) fn link_first(
     links: &mut [Links],
     places: &mut [u32],
     head: usize,

@@ -4,6 +4,7 @@ use crate::buckets::{empty_heads, link_all};
 use crate::found::Found;
 use crate::free_list::order_free;
 use crate::hash::{bucket_at, hash};
+use crate::listing::{detached_among, linked_among, list_all};
 use crate::lists::{at_place, put_first};
 use crate::record::{Links, NO_RECORD, Record, RecordState};
 use crate::stack::{pop_top, pop_used, push, push_unused};
@@ -26,6 +27,9 @@ const PART_FREED: usize = 16;
 // not fit the cache of a processor.
 const LEAST_ORDERED: usize = 32_768;
 
+// The lists of the remainders of places, and that of the detached nodes.
+const LISTS: usize = 2049;
+
 /// Nodes with a number, a place and a list, in one arena.
 #[derive(Drop)]
 pub struct Nodes {
@@ -41,6 +45,7 @@ pub struct Nodes {
     /// many buckets as records, or more.
     heads: Vec<u32>,
     /// The first detached record, then the first number of the list of each place, by its remainder.
+    /// Nothing before the first move: no lists are kept until then.
     places: Vec<u32>,
     /// The top of the stack of candidates.
     candidates: u32,
@@ -90,7 +95,7 @@ impl Nodes {
             records: Vec::with_capacity(alloc, FIRST_RECORDS)?,
             links: Vec::with_capacity(alloc, FIRST_RECORDS)?,
             heads: empty_heads(alloc, 17)?,
-            places: empty_heads(alloc, 2049)?,
+            places: Vec::with_capacity(alloc, LISTS)?,
             candidates: NO_RECORD,
             freed: 0,
         })
@@ -400,11 +405,31 @@ impl Nodes {
         self.records[node as usize].uses = uses;
     }
 
+    /// Sees to it that the nodes of each place, and the detached ones, have a list from now on. That
+    /// takes a step for each record the first time, and one test from then on. Takes no memory: there
+    /// is room for the heads since the table was made.
+    pub fn list_places(&mut self)
+        ensures same { self.new ≡ self.old }
+        ensures nodes { IsNodes self.new }
+    {
+        if !self.places.is_empty() {
+            return;
+        }
+        let Ok(()) = self.places.resize(LISTS, NO_RECORD) else {
+            return;
+        };
+        list_all(&self.records, &mut self.links, &mut self.places);
+    }
+
     /// A detached node, where there is one.
     pub fn first_detached(&self) -> Option<u32>
         ensures some { IfSome result (λ n. IsSome (get self.now.detached n)) }
         ensures none { IfNone result (self.now.detached ≡ empty) }
     {
+        // a move lists the places first
+        if self.places.is_empty() {
+            return detached_among(&self.records);
+        }
         let first = self.places[0];
         if first == NO_RECORD {
             return None;
@@ -596,6 +621,10 @@ impl Nodes {
         ensures some { IfSome result (λ n. IsLinkedAt self.now place n) }
         ensures none { IfNone result ((n : ℕ) → ¬ IsLinkedAt self.now place n) }
     {
+        // a move lists the places first
+        if self.places.is_empty() {
+            return linked_among(&self.records, place);
+        }
         let first = self.places[(place & 2047) as usize + 1];
         let found = at_place(&self.records, &self.links, first, place);
         if found == NO_RECORD {

@@ -67,7 +67,7 @@ fn many_nodes(rt: HostRuntime) -> Result<(), Fail> {
 }
 
 /// A node that gets another place, in the list of the same remainder, is found there and not where
-/// it was, with its number, its list and its mark.
+/// it was, with its number, its list and its mark. No lists are kept.
 #[test]
 fn another_place(rt: HostRuntime) -> Result<(), Fail> {
     let mut nodes = Nodes::new(rt.alloc(), 100)?;
@@ -97,6 +97,62 @@ fn another_place(rt: HostRuntime) -> Result<(), Fail> {
         assert_eq!(rt; nodes.mark(node), 9);
     }
     Ok(())
+}
+
+/// What is there when the lists are made is found in them, a detached node too, and what is made,
+/// removed, unlinked and linked again from then on.
+#[test]
+fn lists_from_then_on(rt: HostRuntime) -> Result<(), Fail> {
+    let mut nodes = Nodes::new(rt.alloc(), 100)?;
+    add_at(&mut nodes, &[7, 2055, 8])?;
+    unlink_at(&mut nodes, 8);
+    assert!(rt; are_first(&nodes, Some(0), Some(1), Some(2)));
+    nodes.list_places();
+    assert!(rt; are_first(&nodes, Some(0), Some(1), Some(2)));
+    remove_detached(&mut nodes);
+    add_at(&mut nodes, &[4103])?;
+    assert!(rt; are_first(&nodes, Some(0), Some(1), None));
+    unlink_at(&mut nodes, 7);
+    unlink_at(&mut nodes, 2055);
+    link_detached(&mut nodes);
+    assert!(rt; are_first(&nodes, None, Some(1), Some(0)));
+    Ok(())
+}
+
+// Makes a node at each of these places.
+fn add_at(nodes: &mut Nodes, places: &[u32]) -> Result<(), TakeError> {
+    for place in places {
+        nodes.find_or_insert(*place, &[(*place, 1)])?;
+    }
+    Ok(())
+}
+
+// Whether the first nodes at two places and the first detached one are these.
+fn are_first(nodes: &Nodes, at: Option<u32>, other: Option<u32>, detached: Option<u32>) -> bool {
+    nodes.first_at(7) == at && nodes.first_at(2055) == other && nodes.first_detached() == detached
+}
+
+// Unlinks a node of this place.
+fn unlink_at(nodes: &mut Nodes, place: u32) {
+    if let Some(node) = nodes.first_at(place) {
+        nodes.unlink(node);
+    }
+}
+
+// Links a detached node again.
+fn link_detached(nodes: &mut Nodes) {
+    if let Some(node) = nodes.first_detached() {
+        link_again(nodes, node);
+    }
+}
+
+// Removes a detached node, if it has no uses.
+fn remove_detached(nodes: &mut Nodes) {
+    if let Some(node) = nodes.first_detached() {
+        if nodes.uses(node) == 0 {
+            nodes.remove(node);
+        }
+    }
 }
 
 // Links a detached node, where no linked node has its key.

@@ -1,7 +1,7 @@
 use Rattle.std.proofs.Common.{◌≡◌, ◌+◌, bit_and, [], ◌∷◌, ◌++◌, length, take, drop, refl, sym, ap, subst, ◌∙◌, arith}
 use Rattle.std.proofs.lemmas.List.{nil_from_length}
 use Rattle.sd_runs.proofs.Places.{pushed}
-use Rattle.sd_unique.specs.Chains.{bucket_of, kept_hash, list_under, AreInLists, AreStacked, KeepsLists, KeepsStack}
+use Rattle.sd_unique.specs.Chains.{bucket_of, kept_hash, list_under, AreListed, AreStacked, KeepsLists, KeepsStack}
 use Rattle.sd_unique.specs.Chains.{no_record, IsPushed}
 use Rattle.sd_unique.specs.Inserting.{IsFull, IsRefusal}
 use Rattle.sd_unique.specs.Record.{AreRecordsStored}
@@ -118,9 +118,9 @@ invariant_of-self-2 c =
     c.self.inside.heads.items c.self.inside.places.items c.self.inside.candidates c.self.invariant c.args.self.now
     c.self.view_is c.requires.all) refl c.requires.at_least_one c.len-number.result
     (omega (arith, ap length c.in_ok-reserve.ensures.items)))
-    (subst (λ l. AreInLists l c.deref_mut-2.result.now (list_under (c.self.inside.records.items ++ blank ∷ [])))
+    (subst (λ l. AreListed l c.deref_mut-2.result.now (list_under (c.self.inside.records.items ++ blank ∷ [])))
     (sym (c.deref_mut.ensures.value ∙ linked))
-    (subst (λ p. AreInLists (c.self.inside.links.items ++ c.new.result ∷ []) p
+    (subst (λ p. AreListed (c.self.inside.links.items ++ c.new.result ∷ []) p
     (list_under (c.self.inside.records.items ++ blank ∷ [])))
     (sym c.deref_mut-2.ensures.value)
     (appended_lists c.self.inside.runs c.take.new.self c.self.inside.records.items c.self.inside.links.items

@@ -2,7 +2,7 @@ use Rattle.std.proofs.Common.{◌≡◌, ◌+◌, ◌-◌, bit_and, ℕ, List, S
 use Rattle.std.proofs.Common.{sym, ap, subst}
 use Rattle.std.proofs.Common.{◌∙◌, arith}
 use Rattle.std.specs.FinMap.{get}
-use Rattle.sd_unique.specs.Chains.{bucket_of, hash_of, AreInLists, AreStacked, KeepsLists, KeepsStack, IsPushed}
+use Rattle.sd_unique.specs.Chains.{bucket_of, hash_of, AreListed, AreStacked, KeepsLists, KeepsStack, IsPushed}
 use Rattle.sd_unique.specs.Chains.{list_under, kept_hash}
 use Rattle.sd_unique.specs.Occupying.{IsFreeNumber, occupied}
 use Rattle.sd_unique.specs.Relinking.{IsAbsent, IsLoose}
@@ -62,8 +62,8 @@ put_first-requires-clause-listed c =
       ready.0,
       ready.1,
       λ n b e. omega (arith, ap length c.deref_mut.ensures.value, ready.2 n b e),
-      subst (λ l. AreInLists l c.deref_mut-2.result.now ready.0) (sym c.deref_mut.ensures.value)
-          (subst (λ p. AreInLists c.self.inside.links.items p ready.0) (sym c.deref_mut-2.ensures.value) ready.3),
+      subst (λ l. AreListed l c.deref_mut-2.result.now ready.0) (sym c.deref_mut.ensures.value)
+          (subst (λ p. AreListed c.self.inside.links.items p ready.0) (sym c.deref_mut-2.ensures.value) ready.3),
     )
 
 pub push-self-inside-requires-clause-inside : goal.push-self-inside-requires-clause-inside
@@ -139,9 +139,9 @@ invariant_of-self c =
     c.put_first.new.links c.push-self-inside.new.links c.put_first.new.places c.push-self-inside.result
     (bit_and c.args.place 2047 + 1) (omega arith)
     (c.put_first.ensures.listed (list_under c.self.inside.records.items) unlisted
-    (subst (λ l. AreInLists l c.deref_mut-2.result.now (list_under c.self.inside.records.items))
+    (subst (λ l. AreListed l c.deref_mut-2.result.now (list_under c.self.inside.records.items))
     (sym c.deref_mut.ensures.value)
-    (subst (λ p. AreInLists c.self.inside.links.items p (list_under c.self.inside.records.items))
+    (subst (λ p. AreListed c.self.inside.links.items p (list_under c.self.inside.records.items))
     (sym c.deref_mut-2.ensures.value) c.self.invariant.in_lists)))
     (subst (λ l. KeepsStack l c.put_first.new.links) c.deref_mut.ensures.value c.put_first.ensures.stack)
     (c.put_first.auto.places ∙ ap length c.deref_mut-2.ensures.value)
