@@ -228,21 +228,21 @@ module _ (input : Groups) (seen : State) (code : RunState) (work : CompiledPrefi
       → StopsAt input seen (Input name) t (error_of_compiling e)
   growth_stops name t (compiling.OverLimit group size most) bound left h =
       let next : group ≡ suc work.groups = let e = h.0 in omega (arith, e) in
+      let passes = passes_with (without code work.root) here numbered was.represents law (prefix_of input group)
+      code.limit size refl h.1.total h.1.passes in
       subst (λ l. Step input seen (Input name) (OverLimit (Some group) size l)) (was.represents.limit ∙ sym h.1.most_is)
       (inr (
         group,
         size,
-        record {
-          done = work.groups;
-          next = next;
-          most = omega (arith, next, left);
-          tree = plain_tree code.manager.vtree;
-          before = was.course;
-          passes =
-              passes_with (without code work.root) here numbered was.represents law (prefix_of input group)
-              code.limit size
-              refl h.1.total h.1.passes;
-        },
+        (
+          work.groups,
+          plain_tree code.manager.vtree,
+          next,
+          omega (arith, next, left),
+          was.course,
+          passes.total,
+          passes.passes,
+        ),
         refl,
       ))
   growth_stops name t (compiling.ArenaFull elements) bound left h = (tt, record { whole = bound; rule = h })

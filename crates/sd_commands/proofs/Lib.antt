@@ -5,6 +5,7 @@ pub mod MovedState
 pub mod Names
 pub mod Outcomes
 pub mod Searched
+pub mod Settling
 pub mod Standing
 pub mod Stepping
 pub mod Values

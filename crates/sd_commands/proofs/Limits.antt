@@ -119,15 +119,16 @@ module _ (code : RunState) (seen : State) (numbered : IsNumbered code.manager.vt
       → seen.every ≡ None → IsFormulaRefused code.manager new input limit 0 (compiling.OverLimit group size most)
       → PassesAtGroup input seen group size
   group_passes input new limit zero size most same none h = let low = h.0 in absurd (omega (arith, low))
-  group_passes input new limit (suc done) size most same none h = record {
-    done = done;
-    next = refl;
-    most = h.1;
-    tree = seen.tree;
-    before =
-        groups_within input limit done same none (λ n low high. h.3 n low (omega (arith, high))) done (omega arith);
-    passes = passes_with (prefix_of input (suc done)) limit size same h.2.total h.2.passes;
-  }
+  group_passes input new limit (suc done) size most same none h =
+      let passes = passes_with (prefix_of input (suc done)) limit size same h.2.total h.2.passes in (
+        done,
+        seen.tree,
+        refl,
+        h.1,
+        groups_within input limit done same none (λ n low high. h.3 n low (omega (arith, high))) done (omega arith),
+        passes.total,
+        passes.passes,
+      )
 
   -- so the command stops
   pub input_stops : (input : Groups) (name : ℕ) (new : Table) (e : CompileError) → new.bound ≡ 2147483647

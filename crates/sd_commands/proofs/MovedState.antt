@@ -32,7 +32,8 @@ use Rattle.sd_compile.specs.Compiling.{KeepsAll}
 use Rattle.sd_compile.proofs.Holding.{held_among, among_held, same_size}
 use Rattle.sd_compile.proofs.Kept.{kept_holds}
 use Rattle.sd_formula.specs.Dimacs.{Groups}
-use Rattle.sd_commands.specs.Commands.{State, Moves, Done, OverLimit, NotMovable, formulas_of, AreWithin}
+use Rattle.sd_commands.specs.Commands.{State, Moves, Settles, Done, OverLimit, NotMovable, formulas_of, AreWithin}
+use Rattle.sd_commands.proofs.Settling.{settles_within, settles_past}
 use Rattle.sd_commands.specs.Standing.{Represents, IsOfName, HoldsName, HoldsValue, IsAsBefore, StepsTo, StopsAt}
 use Rattle.sd_commands.specs.Standing.{error_of_move}
 use Rattle.sd_commands.specs.declared.command.RunCommand.TheVariants as commands
@@ -222,7 +223,8 @@ module _ (input : Groups) (code : RunState) (seen : State) (kind : Move) (p plac
       record {
         next = record seen { tree = plain_tree mid.vtree };
         step = subst (λ o. Moves seen o (Done (record seen { tree = plain_tree mid.vtree }) []))
-            (sym (state_tree (Some mid.vtree) moved)) (inl (in_, refl));
+            (sym (state_tree (Some mid.vtree) moved))
+            (settles_within (record seen { tree = plain_tree mid.vtree }) in_);
         represents = represents;
       }
 
@@ -233,16 +235,13 @@ module _ (input : Groups) (code : RunState) (seen : State) (kind : Move) (p plac
   turn_stops new refusals.NotMovable numbered bound h =
       subst (λ o. Moves seen o NotMovable) (sym (state_tree None h)) refl
   turn_stops new (refusals.OverMost size limit) numbered bound h =
+      let next : State = record seen { tree = plain_tree h.2.tree } in
       subst (λ o. Moves seen o (OverLimit None size limit)) (sym (state_tree (Some h.2.tree) h.2.turned))
-      (inr (
-        size,
-        record {
-          total = size_moved code seen kind place size numbered was h.2
-              (plain_reordered kind code.manager.vtree h.2.tree p place law h.2.turned);
-          passes = subst (λ l. l < size) (sym was.limit) h.1;
-        },
-        ap (λ l. OverLimit None size l) (h.0 ∙ sym was.limit),
-      ))
+      (subst (λ l. Settles next (OverLimit None size l)) (sym (h.0 ∙ sym was.limit)) (settles_past next size (record {
+        total = size_moved code seen kind place size numbered was h.2
+            (plain_reordered kind code.manager.vtree h.2.tree p place law h.2.turned);
+        passes = subst (λ l. l < size) (sym was.limit) h.1;
+      })))
   turn_stops new (refusals.ArenaFull elements) numbered bound h = (tt, record { whole = bound; rule = h.1 })
   turn_stops new refusals.OutOfMemory numbered bound h = tt
 

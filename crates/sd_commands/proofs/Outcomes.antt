@@ -1,15 +1,17 @@
 -- A command has one outcome; where it is done the tree is a vtree, and the bound names are those that are expected.
-use Rattle.std.proofs.Common.{◌≡◌, ℕ, Bool, true, false, not, eqb, List, [], ◌∷◌, filter, map}
+use Rattle.std.proofs.Common.{◌≡◌, ◌↔◌, ℕ, Bool, true, false, not, eqb, if◌then◌else◌, List, [], ◌∷◌, filter, map}
 use Rattle.std.proofs.Common.{zero, suc, ◌≤◌, ◌+◌, ◌<◌, length, get_or, drop}
 use Rattle.std.proofs.Common.{add-one, refl, sym, ap, subst, ◌∙◌, inl, inr}
 use Rattle.std.proofs.Common.{Option, Some, None, arith}
+use Rattle.std.specs.Prelude.{nat_le}
 use Rattle.std.proofs.Math.Seq.{drop-cons}
 use Rattle.std.proofs.lemmas.Bool.{cases_eq, cases_order, eq-eqb, ne_eqb}
-use Rattle.sd_model.specs.Tree.{Tree, IsVtree}
+use Rattle.sd_model.specs.Tree.{Tree, IsVtree, leaves}
 use Rattle.sd_model.specs.Moves.{moved_at}
 use Rattle.sd_model.specs.declared.trees.Move.{Move}
 use Rattle.sd_model.specs.Text.{roots_text}
 use Rattle.sd_model.specs.Expression.{Expression, Constant, Atom, Combined, Negated, Conditioned, Forgotten}
+use Rattle.sd_model.specs.Expression.{AreOneFunction}
 use Rattle.sd_model.specs.Size.{HasSize}
 use Rattle.sd_model.proofs.Determined.{diagrams_determined, size_determined}
 use Rattle.sd_formula.specs.Dimacs.{Groups}
@@ -17,7 +19,7 @@ use Rattle.sd_formula.specs.Formulas.{expression_of}
 use Rattle.sd_file.specs.Reads.{expression_of_file}
 use Rattle.sd_search.proofs.Determined.{search_determined}
 use Rattle.sd_commands.specs.Effects.{Effect, Write, Print}
-use Rattle.sd_commands.specs.Commands.{State, Outcome, Done, OverLimit, Step, Settles, Binds, BindsInput, Compares}
+use Rattle.sd_commands.specs.Commands.{State, Outcome, Done, OverLimit, Step, Settles, Binds, BindsInput}
 use Rattle.sd_commands.specs.Commands.{Moves, AreWithin, PassLimit, PassesAtGroup, IsTextOf, formulas_of, with_groups}
 use Rattle.sd_commands.specs.Commands.{Grows, Follows, is_due}
 use Rattle.sd_commands.specs.Commands.{with_name, formula_named, size_line, same_line, search_line}
@@ -38,29 +40,23 @@ one_text tree fs a b valid p q =
     p.is ∙ ap roots_text (diagrams_determined tree fs p.diagrams q.diagrams valid p.of_values q.of_values) ∙ sym q.is
 
 -- a comparison has one answer
-one_answer : (tree : Tree) (f g : Expression) (a b : Bool) → Compares tree f g a → Compares tree f g b → a ≡ b
-one_answer tree f g true true p q = refl
-one_answer tree f g true false p q = absurd (q p)
-one_answer tree f g false true p q = absurd (p q)
-one_answer tree f g false false p q = refl
+one_answer : (P : Type 0) (a b : Bool) → (a ≡ true) ↔ P → (b ≡ true) ↔ P → a ≡ b
+one_answer P true b p q = sym (q.1 (p.0 refl))
+one_answer P false true p q = p.1 (q.0 refl)
+one_answer P false false p q = refl
 
 -- a size within a limit does not pass it
 not_both : (fs : List Expression) (tree : Tree) (limit size : ℕ) → IsVtree tree → AreWithin fs tree limit
-    → PassLimit fs tree limit size → ⊥
-not_both fs tree limit size valid in_ out =
-    let same = size_determined tree fs in_.size size valid in_.total out.total in
-    omega (arith, in_.within, out.passes, same)
+    → HasSize fs tree size → limit < size → ⊥
+not_both fs tree limit size valid in_ total passes =
+    let same = size_determined tree fs in_.size size valid in_.total total in
+    omega (arith, in_.within, passes, same)
 
 -- a command that leads to a state has one outcome
 one_settled : (next : State) (a b : Outcome) → IsVtree next.tree → Settles next a → Settles next b → a ≡ b
-one_settled next a b valid (inl p) (inl q) = p.1 ∙ sym q.1
-one_settled next a b valid (inl p) (inr q) =
-    absurd (not_both (formulas_of next) next.tree next.limit q.0 valid p.0 q.1)
-one_settled next a b valid (inr p) (inl q) =
-    absurd (not_both (formulas_of next) next.tree next.limit p.0 valid q.0 p.1)
-one_settled next a b valid (inr p) (inr q) =
-    p.2 ∙ ap (λ n. OverLimit None n next.limit)
-    (size_determined next.tree (formulas_of next) p.0 q.0 valid p.1.total q.1.total)
+one_settled next a b valid p q =
+    p.2 ∙ ap (λ n. if nat_le n next.limit then Done next [] else OverLimit None n next.limit)
+    (size_determined next.tree (formulas_of next) p.0 q.0 valid p.1 q.1)
     ∙ sym q.2
 
 -- a tree after groups of the input is a vtree
@@ -102,16 +98,16 @@ plain_growth input state (suc n) tree none p =
 -- a group that passes the limit is not among groups that lead to a tree
 not_grown : (input : Groups) (state : State) (g m n : ℕ) (tree : Tree) → IsVtree state.tree
     → PassesAtGroup input state g m → Grows input state n tree → g ≤ n → ⊥
-not_grown input state g m zero tree valid p grows low = let e = p.next in omega (arith, low, e)
+not_grown input state g m zero tree valid p grows low = let e = p.2 in omega (arith, low, e)
 not_grown input state g m (suc n) tree valid p grows low = elim (cases_order g (suc n)) [
   | inl same ↦
-      let done : p.done ≡ n = let e = p.next in omega (arith, e, same) in
-      let one : p.tree ≡ grows.0 =
-      one_growth input state n p.tree grows.0 valid (subst (λ k. Grows input state k p.tree) done p.before) grows.1 in
+      let done : p.0 ≡ n = let e = p.2 in omega (arith, e, same) in
+      let one : p.1 ≡ grows.0 =
+      one_growth input state n p.1 grows.0 valid (subst (λ k. Grows input state k p.1) done p.4) grows.1 in
       not_both (with_groups input state (suc n)) grows.0 state.limit m (grows_valid input state n grows.0 valid grows.1)
       grows.2
-      (subst (λ t. PassLimit (with_groups input state (suc n)) t state.limit m) one
-      (subst (λ k. PassLimit (with_groups input state k) p.tree state.limit m) same p.passes))
+      (subst (λ t. HasSize (with_groups input state (suc n)) t m) one
+      (subst (λ k. HasSize (with_groups input state k) p.1 m) same p.5)) p.6
   | inr (inl less) ↦ not_grown input state g m n grows.0 valid p grows.1 (omega (arith, less))
   | inr (inr more) ↦ omega (arith, low, more)
 ]
@@ -120,21 +116,20 @@ not_grown input state g m (suc n) tree valid p grows low = elim (cases_order g (
 no_later : (input : Groups) (state : State) (g h m n : ℕ) → IsVtree state.tree → PassesAtGroup input state g m
     → PassesAtGroup input state h n → g < h → ⊥
 no_later input state g h m n valid p q less =
-    not_grown input state g m q.done q.tree valid p q.before (let e = q.next in omega (arith, less, e))
+    not_grown input state g m q.0 q.1 valid p q.4 (let e = q.2 in omega (arith, less, e))
 
 -- so there is one
 pub one_group : (input : Groups) (state : State) (g h m n : ℕ) → IsVtree state.tree → PassesAtGroup input state g m
     → PassesAtGroup input state h n → (g ≡ h) × (m ≡ n)
 one_group input state g h m n valid p q = elim (cases_order g h) [
   | inl same ↦
-      let done : p.done ≡ q.done = let e = p.next in let f = q.next in omega (arith, e, f, same) in
-      let one : p.tree ≡ q.tree =
-      one_growth input state q.done p.tree q.tree valid (subst (λ k. Grows input state k p.tree) done p.before)
-      q.before in (
+      let done : p.0 ≡ q.0 = let e = p.2 in let f = q.2 in omega (arith, e, f, same) in
+      let one : p.1 ≡ q.1 =
+      one_growth input state q.0 p.1 q.1 valid (subst (λ k. Grows input state k p.1) done p.4) q.4 in (
         same,
-        size_determined q.tree (with_groups input state h) m n (grows_valid input state q.done q.tree valid q.before)
+        size_determined q.1 (with_groups input state h) m n (grows_valid input state q.0 q.1 valid q.4)
             (subst (λ t. HasSize (with_groups input state h) t m) one
-            (subst (λ k. HasSize (with_groups input state k) p.tree m) same p.passes.total)) q.passes.total,
+            (subst (λ k. HasSize (with_groups input state k) p.1 m) same p.5)) q.5,
       )
   | inr (inl less) ↦ absurd (no_later input state g h m n valid p q less)
   | inr (inr more) ↦ absurd (no_later input state h g n m valid q p more)
@@ -148,9 +143,9 @@ one_input input state name a b valid (inl p) (inl q) =
     (one_growth input state (length input.groups) p.0 q.0 valid p.1 q.1)
     ∙ sym q.2
 one_input input state name a b valid (inl p) (inr q) =
-    absurd (not_grown input state q.0 q.1 (length input.groups) p.0 valid q.2 p.1 q.2.most)
+    absurd (not_grown input state q.0 q.1 (length input.groups) p.0 valid q.2 p.1 q.2.3)
 one_input input state name a b valid (inr p) (inl q) =
-    absurd (not_grown input state p.0 p.1 (length input.groups) q.0 valid p.2 q.1 p.2.most)
+    absurd (not_grown input state p.0 p.1 (length input.groups) q.0 valid p.2 q.1 p.2.3)
 one_input input state name a b valid (inr p) (inr q) =
     let same = one_group input state p.0 q.0 p.1 q.1 valid p.2 q.2 in
     p.3 ∙ ap (λ g. OverLimit (Some g) p.1 state.limit) same.0 ∙ ap (λ n. OverLimit (Some q.0) n state.limit) same.1
@@ -194,7 +189,7 @@ one_outcome input state (commands.Limit limit) a b valid p q =
     one_settled (record state { limit = limit }) a b valid p q
 one_outcome input state (commands.Same x y) a b valid p q =
     p.2 ∙ ap (λ r. Done state (Print (same_line r) ∷ []))
-    (one_answer state.tree (formula_named state x) (formula_named state y) p.0 q.0 p.1 q.1)
+    (one_answer (AreOneFunction (leaves state.tree) (formula_named state x) (formula_named state y)) p.0 q.0 p.1 q.1)
     ∙ sym q.2
 one_outcome input state (commands.Size x) a b valid p q =
     p.2 ∙ ap (λ n. Done state (Print (size_line n) ∷ []))
@@ -231,8 +226,12 @@ names_left (e ∷ es) a = elim (cases_eq e.0 a) [
 -- a command that is done leads to its state, without an effect
 pub settled_done : (state next : State) (effects : List Effect) → Settles state (Done next effects)
     → (next ≡ state) × (effects ≡ [])
-settled_done state next effects (inl p) = let e = p.1 in let same : next ≡ state = cc in (same, cc)
-settled_done state next effects (inr p) = let e = p.2 in let bad : ⊥ = cc in absurd bad
+settled_done state next effects p = go (nat_le p.0 state.limit) p.2
+  where
+    go : (b : Bool) → Done next effects ≡ (if b then Done state [] else OverLimit None p.0 state.limit)
+        → (next ≡ state) × (effects ≡ [])
+    go true e = let same : next ≡ state = cc in (same, cc)
+    go false e = let bad : ⊥ = cc in absurd bad
 
 -- and so does the input, over the tree to which its groups lead
 pub record IsInputDone (input : Groups) (state next : State) (name : ℕ) (effects : List Effect) : Type 0 where

@@ -28,6 +28,7 @@ use Rattle.sd_commands.specs.declared.error.CommandError.{CommandError}
 use Rattle.sd_commands.specs.declared.error.CommandError.TheVariants as errors
 use Rattle.sd_commands.specs.declared.state.RunState.{RunState}
 use Rattle.sd_commands.proofs.Names.{named_not}
+use Rattle.sd_commands.proofs.Settling.{settles_within, settles_past}
 use Rattle.sd_commands.proofs.Outcomes.{fit_at}
 
 -- ---- the total size settles a command
@@ -42,7 +43,7 @@ settled_steps input seen next command code (Err e) step settles = tt
 settled_steps input seen next command code (Ok effect) step settles = record {
   next = next;
   step = subst (λ a. Step input seen command (Done next (effects_of a))) (sym settles.quiet)
-      (step (Done next []) (inl (settles.within, refl)));
+      (step (Done next []) (settles_within next settles.within));
   represents = settles.represents;
 }
 
@@ -55,7 +56,7 @@ settled_stops input seen next command t (Ok effect) step h = tt
 settled_stops input seen next command t (Err (errors.OverLimit group size limit)) step h =
     subst (λ g. Step input seen command (OverLimit g size limit)) (sym h.0)
     (subst (λ l. Step input seen command (OverLimit None size l)) (sym h.2)
-    (step (OverLimit None size next.limit) (inr (size, h.1, refl))))
+    (step (OverLimit None size next.limit) (settles_past next size h.1)))
 settled_stops input seen next command t (Err (errors.ArenaFull elements)) step h = absurd h
 settled_stops input seen next command t (Err errors.NotMovable) step h = absurd h
 settled_stops input seen next command t (Err errors.OutOfMemory) step h = tt

@@ -1,5 +1,6 @@
 -- What a node shows after an operation, and what a root answers.
 use Rattle.std.proofs.Common.{◌≡◌, ◌↔◌, ℕ, zero, suc, ◌≤◌, ◌<◌, Bool, true, false, not, ◌||◌, IsTrue}
+use Rattle.std.specs.Prelude.{codes, if◌then◌else◌}
 use Rattle.std.specs.List.{AllByRecursion, AllZip}
 use Rattle.std.proofs.lemmas.List.{take_more}
 use Rattle.std.proofs.lemmas.List.Elements.{AllZip-push}
@@ -10,9 +11,9 @@ use Rattle.sd_model.specs.Tree.{Tree, leaves}
 use Rattle.sd_model.specs.Assignment.{literal_holds, with_entry, with_value, with_literal}
 use Rattle.sd_model.specs.Diagram.{Diagram, meaning}
 use Rattle.sd_model.specs.Expression.{Expression, Constant, Atom, Combined, Negated, Conditioned, Forgotten}
-use Rattle.sd_model.specs.Expression.{combine, expression_value}
+use Rattle.sd_model.specs.Expression.{combine, expression_value, AreOneFunction}
 use Rattle.sd_model.specs.Size.{IsDiagramOf, HasSize, size_of}
-use Rattle.sd_model.specs.Text.{roots_text}
+use Rattle.sd_model.specs.Text.{number_text, roots_text}
 use Rattle.sd_vtree.specs.Numbered.{plain_tree}
 use Rattle.sd_manager.specs.Literals.{IsLiteralTo}
 use Rattle.sd_manager.specs.Table.{Table}
@@ -20,7 +21,7 @@ use Rattle.sd_manager.specs.Shown.{ShowsCanonical, IsNodeOf, HoldsDiagram, const
 use Rattle.sd_manager.specs.Making.{Extends}
 use Rattle.sd_apply.specs.Answers.{HasAnswer, Combines, Negates}
 use Rattle.sd_cond.specs.Answers.{Conditions, Forgets}
-use Rattle.sd_commands.specs.Commands.{State, Compares, IsTextOf, formula_named}
+use Rattle.sd_commands.specs.Commands.{State, IsTextOf, formula_named, told_line, value_line}
 use Rattle.sd_commands.specs.Standing.{HoldsValue, ShowsFormula, ShowsNamed}
 
 -- a node that shows a formula is a node of the manager
@@ -153,18 +154,19 @@ pub compared : (t : Table) (tree : Tree) (r s : ℕ) (f g : Expression) (answer 
     → HoldsValue t r f → HoldsValue t s g
     → ((x y : Diagram) → HoldsDiagram t r x → HoldsDiagram t s y → IsTrue answer ↔ ((assignment : List Bool)
     → length assignment ≡ leaves (plain_tree t.vtree) → meaning x assignment ≡ meaning y assignment))
-    → Compares tree f g answer
-compared t tree r s f g answer same p q says = subst (λ u. Compares u f g answer) (sym same)
-    (here answer (says p.diagram q.diagram p.is q.is))
-  where
-    here : (b : Bool) → IsTrue b ↔ ((assignment : List Bool) → length assignment ≡ leaves (plain_tree t.vtree)
-        → meaning p.diagram assignment ≡ meaning q.diagram assignment) → Compares (plain_tree t.vtree) f g b
-    here true iff = λ a fits.
-        sym (p.of_value.same_value a fits) ∙ iff.0 refl a fits ∙ q.of_value.same_value a fits
-    here false iff = λ one.
-        let bad : IsTrue false = iff.1 (λ a fits.
-        p.of_value.same_value a fits ∙ one a fits ∙ sym (q.of_value.same_value a fits)) in
-        absurd cc
+    → (answer ≡ true) ↔ AreOneFunction (leaves tree) f g
+compared t tree r s f g answer same p q says =
+    let iff = says p.diagram q.diagram p.is q.is in
+    subst (λ u. (answer ≡ true) ↔ AreOneFunction (leaves u) f g) (sym same) (
+      λ is a fits. sym (p.of_value.same_value a fits) ∙ iff.0 is a fits ∙ q.of_value.same_value a fits,
+      λ one. iff.1 (λ a fits. p.of_value.same_value a fits ∙ one a fits ∙ sym (q.of_value.same_value a fits)),
+    )
+
+-- the line with a truth value is a word and a number
+pub value_told : (value : Bool) → value_line value ≡ told_line (codes "value") ((if value then 1 else 0) ∷ [])
+unfolding number_text
+value_told true = refl
+value_told false = refl
 
 -- the value of a root
 pub evaluated : (t : Table) (root : ℕ) (f : Expression) (bits : List Bool) (value : Bool)

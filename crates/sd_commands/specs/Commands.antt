@@ -1,14 +1,15 @@
 -- The commands of a run, and what each comes to. A later command is a case more of `RunCommand` and of `Step`.
-use Rattle.std.specs.Prelude.{◌≡◌, ◌⊎◌, ℕ, zero, suc, ◌%◌, ◌<◌, ◌≤◌, Bool, true, false, not, ◌==◌, List, [], ◌∷◌, ◌++◌}
-use Rattle.std.specs.Prelude.{map, filter, length, codes, Option, Some, None, unwrap_or, if◌then◌else◌}
+use Rattle.std.specs.Prelude.{◌≡◌, ◌⊎◌, ◌↔◌, ℕ, zero, suc, ◌%◌, ◌<◌, ◌≤◌, nat_le, Bool, true, false, not, ◌==◌}
+use Rattle.std.specs.Prelude.{List, [], ◌∷◌, ◌++◌, map, filter, length, codes, Option, Some, None, unwrap_or, if◌then◌else◌}
 use Rattle.sd_model.specs.Expression.{Expression, Constant, Atom, Combined, Negated, Conditioned, Forgotten}
 use Rattle.sd_model.specs.Expression.{expression_value, AreOneFunction}
 use Rattle.sd_model.specs.Tree.{Tree, leaves}
 use Rattle.sd_model.specs.Moves.{moved_at}
 use Rattle.sd_model.specs.Diagram.{Diagram}
 use Rattle.sd_model.specs.Size.{IsDiagramOf, HasSize}
-use Rattle.sd_model.specs.Text.{number_text, roots_text, vtree_text}
+use Rattle.sd_model.specs.Text.{number_text, line_of_words, roots_text, vtree_text}
 use Rattle.std.specs.List.{AllZip}
+use Rattle.std.specs.Option.{option_map_or}
 use Rattle.sd_formula.specs.Dimacs.{Groups}
 use Rattle.sd_formula.specs.Formulas.{expression_of}
 use Rattle.sd_file.specs.Reads.{expression_of_file}
@@ -63,18 +64,11 @@ pub record AreWithin (fs : List Expression) (tree : Tree) (limit : ℕ) : Type 0
   pub total : HasSize fs tree size
   pub within : size ≤ limit
 
--- that size passes the limit
-pub record PassLimit (fs : List Expression) (tree : Tree) (limit size : ℕ) : Type 0 where
-  pub total : HasSize fs tree size
-  pub passes : limit < size
-
 -- A command leads to this state, and does nothing outside, where the total size there is within the limit. Else it is
 -- refused.
 abbrev pub Settles : State → Outcome → Type 0
-Settles next outcome =
-    (AreWithin (formulas_of next) next.tree next.limit × (outcome ≡ Done next []))
-    ⊎ ((size : ℕ) × PassLimit (formulas_of next) next.tree next.limit size
-    × (outcome ≡ OverLimit None size next.limit))
+Settles next outcome = (size : ℕ) × HasSize (formulas_of next) next.tree size
+    × (outcome ≡ (if nat_le size next.limit then Done next [] else OverLimit None size next.limit))
 
 -- the name is bound to the formula, if the total size is then within the limit
 abbrev pub Binds : State → ℕ → Expression → Outcome → Type 0
@@ -86,8 +80,7 @@ with_groups input state count = prefix_of input count ∷ formulas_of state
 
 -- a search follows the group of this number, counted from 1
 abbrev pub is_due : Option ℕ → ℕ → Bool
-is_due None group = false
-is_due (Some every) group = group % every == 0
+is_due every group = option_map_or (λ number. group % number == 0) every false
 
 -- the tree after a group: where a search is due, one of one round finds it, and else it stays
 abbrev pub Follows : Bool → List Expression → ℕ → Tree → Tree → Type 0
@@ -104,13 +97,10 @@ Grows input state (suc done) tree =
     × Follows (is_due state.every (suc done)) (with_groups input state (suc done)) state.slack before tree
 
 -- this group is the first with which the total size passes the limit, under the tree to which those before it lead
-pub record PassesAtGroup (input : Groups) (state : State) (group size : ℕ) : Type 0 where
-  pub done : ℕ
-  pub next : group ≡ suc done
-  pub most : group ≤ length input.groups
-  pub tree : Tree
-  pub before : Grows input state done tree
-  pub passes : PassLimit (with_groups input state group) tree state.limit size
+abbrev pub PassesAtGroup : Groups → State → (group size : ℕ) → Type 0
+PassesAtGroup input state group size = (done : ℕ) × (tree : Tree) × (group ≡ suc done)
+    × (group ≤ length input.groups) × Grows input state done tree
+    × HasSize (with_groups input state group) tree size × (state.limit < size)
 
 -- The name is bound to the input, over the tree to which all groups lead, if with each of them the total size is within
 -- the limit. Else the command is refused at the first group with which it is not.
@@ -131,26 +121,9 @@ pub record IsTextOf (tree : Tree) (fs : List Expression) (text : List ℕ) : Typ
   pub of_values : AllZip (IsDiagramOf tree) fs diagrams
   pub is : text ≡ roots_text diagrams
 
--- the answer says whether two formulas are one function over the variables of the tree
-abbrev pub Compares : Tree → Expression → Expression → Bool → Type 0
-Compares tree f g true = AreOneFunction (leaves tree) f g
-Compares tree f g false = ¬ (AreOneFunction (leaves tree) f g)
-
--- the line of a generated formula: how many variables and groups it has
-abbrev pub generated_line : ℕ → ℕ → List ℕ
-generated_line variables groups = codes "generated " ++ number_text variables ++ 32 ∷ number_text groups ++ 10 ∷ []
-
--- the line with the size of a diagram
-abbrev pub size_line : ℕ → List ℕ
-size_line n = codes "size " ++ number_text n ++ 10 ∷ []
-
--- the line that says whether two formulas are one function
-abbrev pub same_line : Bool → List ℕ
-same_line same = (if same then codes "same" else codes "differ") ++ 10 ∷ []
-
--- the line with a truth value
-abbrev pub value_line : Bool → List ℕ
-value_line value = (if value then codes "value 1" else codes "value 0") ++ 10 ∷ []
+-- a line that is printed: a word and numbers
+abbrev pub told_line : List ℕ → List ℕ → List ℕ
+told_line word numbers = line_of_words (word ∷ map number_text numbers)
 
 -- The names keep their formulas over the moved tree, if the total size is then within the limit; where there is no such
 -- tree, the place is not movable.
@@ -158,23 +131,18 @@ abbrev pub Moves : State → Option Tree → Outcome → Type 0
 Moves state None outcome = outcome ≡ NotMovable
 Moves state (Some tree) outcome = Settles (record state { tree = tree }) outcome
 
--- the line of a search: the total size at its start and at its end, and the number of rounds
-abbrev pub search_line : (before after rounds : ℕ) → List ℕ
-search_line before after rounds =
-    codes "minimise " ++ number_text before ++ 32 ∷ number_text after ++ 32 ∷ number_text rounds ++ 10 ∷ []
-
--- The names keep their formulas over the tree that a search over all of them finds, of at most so many rounds; its
--- sizes and rounds are printed.
+-- The names keep their formulas over the tree that a search over all of them finds, of at most so many rounds; the size
+-- at its start, the one at its end and its rounds are printed.
 abbrev pub Searches : State → ℕ → Outcome → Type 0
 Searches state rounds outcome =
     (found : Found) × IsSearch (formulas_of state) state.slack rounds state.tree found
     × (outcome ≡ Done (record state { tree = found.tree })
-    (Print (search_line found.before found.after found.rounds) ∷ []))
+    (Print (told_line (codes "minimise") (found.before ∷ found.after ∷ found.rounds ∷ [])) ∷ []))
 
 -- what a command comes to in a state, where this formula is the input
 abbrev pub Step : Groups → State → RunCommand → Outcome → Type 0
 Step input state (commands.Generated variables groups) outcome =
-    Does state (Print (generated_line variables groups)) outcome
+    Does state (Print (told_line (codes "generated") (variables ∷ groups ∷ []))) outcome
 Step input state (commands.Input n) outcome = BindsInput input state n outcome
 Step input state (commands.Load n file) outcome = Binds state n (expression_of_file file) outcome
 Step input state (commands.Literal n literal) outcome = Binds state n (Atom literal) outcome
@@ -190,12 +158,15 @@ Step input state (commands.Turn kind p) outcome = Moves state (moved_at kind sta
 Step input state (commands.Minimise rounds) outcome = Searches state rounds outcome
 Step input state (commands.Limit limit) outcome = Settles (record state { limit = limit }) outcome
 Step input state (commands.Same a b) outcome =
-    (answer : Bool) × Compares state.tree (formula_named state a) (formula_named state b) answer
-    × Does state (Print (same_line answer)) outcome
+    (answer : Bool)
+    × ((answer ≡ true) ↔ AreOneFunction (leaves state.tree) (formula_named state a) (formula_named state b))
+    × Does state (Print (told_line (if answer then codes "same" else codes "differ") [])) outcome
 Step input state (commands.Size a) outcome =
-    (n : ℕ) × HasSize (formula_named state a ∷ []) state.tree n × Does state (Print (size_line n)) outcome
+    (n : ℕ) × HasSize (formula_named state a ∷ []) state.tree n
+    × Does state (Print (told_line (codes "size") (n ∷ []))) outcome
 Step input state (commands.Value a bits) outcome =
-    Does state (Print (value_line (expression_value (formula_named state a) bits))) outcome
+    Does state (Print (told_line (codes "value")
+    ((if expression_value (formula_named state a) bits then 1 else 0) ∷ []))) outcome
 Step input state (commands.Write names file) outcome =
     (text : List ℕ) × IsTextOf state.tree (map (formula_named state) names) text
     × Does state (Write file text) outcome
@@ -220,3 +191,30 @@ Steps input old (command ∷ commands) effects new =
     (mid : State) × (first : List Effect) × (others : List Effect)
     × Step input old command.command (Done mid first) × Steps input mid commands others new
     × (effects ≡ first ++ others)
+
+-- ---- for the contracts of private functions, and for proofs
+
+-- that size passes the limit
+pub record PassLimit (fs : List Expression) (tree : Tree) (limit size : ℕ) : Type 0 where
+  pub total : HasSize fs tree size
+  pub passes : limit < size
+
+-- the line of a generated formula: how many variables and groups it has
+abbrev pub generated_line : ℕ → ℕ → List ℕ
+generated_line variables groups = told_line (codes "generated") (variables ∷ groups ∷ [])
+
+-- the line with the size of a diagram
+abbrev pub size_line : ℕ → List ℕ
+size_line n = told_line (codes "size") (n ∷ [])
+
+-- the line that says whether two formulas are one function
+abbrev pub same_line : Bool → List ℕ
+same_line same = told_line (if same then codes "same" else codes "differ") []
+
+-- the line with a truth value
+abbrev pub value_line : Bool → List ℕ
+value_line value = (if value then codes "value 1" else codes "value 0") ++ 10 ∷ []
+
+-- the line of a search: the total size at its start and at its end, and the number of rounds
+abbrev pub search_line : (before after rounds : ℕ) → List ℕ
+search_line before after rounds = told_line (codes "minimise") (before ∷ after ∷ rounds ∷ [])

@@ -1,8 +1,8 @@
-use Rattle.std.proofs.Common.{◌+◌, drop, sym, ap, subst, ◌∙◌, arith, None}
+use Rattle.std.proofs.Common.{◌+◌, ◌/◌, drop, sym, ap, subst, ◌∙◌, arith, None}
 use Rattle.sd_model.specs.Tree.{leaves}
 use Rattle.sd_model.specs.StartTrees.{balanced_tree}
 use Rattle.sd_vtree.specs.Numbered.{plain_tree}
-use Rattle.sd_vtree.proofs.Starting.{vtree_in_order, variables_balanced_from}
+use Rattle.sd_vtree.proofs.Starting.{vtree_in_order, variables_start, half}
 use Rattle.sd_commands.specs.Fits.{Fits, AllFit, unnumbered}
 use Rattle.sd_commands.specs.Standing.{names_of, start}
 use Rattle.sd_commands.proofs.Outcomes.{names_after}
@@ -30,7 +30,7 @@ loop-command-init c = record {
   tree =
       ap (λ v. leaves (plain_tree v)) c.in-Ok-new.ensures.vtree ∙ ap leaves c.in-Ok.ensures.tree
       ∙ (vtree_in_order (balanced_tree c.args.variables) c.args.variables
-      (variables_balanced_from c.args.variables 1 c.args.variables c.requires.at_least_one (omega arith))).1;
+      (variables_start (λ m. m / 2) half c.args.variables c.requires.at_least_one)).1;
   room = omega (arith, c.in-Ok-new.ensures.roots);
 }
 
