@@ -2,8 +2,9 @@
 use Rattle.std.proofs.Common.{◌≡◌, ℕ, ◌≤◌, Bool, true, false, List, [], ◌∷◌, Option, Some, None, Ok, Err, is_none}
 use Rattle.std.proofs.Common.{refl, ap, subst, sym, ◌∙◌, arith, drop}
 use Rattle.std.specs.Bool.{then_some}
-use Rattle.std.specs.Prelude.{◌&&◌, ◌==◌, option_map, option_and_then, if◌then◌else◌, is_some, nat_le, count_by}
+use Rattle.std.specs.Prelude.{◌==◌, option_map, option_and_then, if◌then◌else◌, is_some, nat_le, count_by}
 use Rattle.std.specs.Option.{option_map_or}
+use Rattle.std.specs.List.{after_first, before_first}
 use Rattle.std.proofs.lemmas.Bool.{leb-true, and_parts}
 use Rattle.sd_formula.specs.Generated.{IsGenerable}
 use Rattle.sd_words.specs.Command.{accepts, parsed_by}
@@ -58,8 +59,8 @@ both_there None b p is = let bad : ⊥ = cc in absurd bad
 numbers_fit : (text : List ℕ) (p : ℕ × ℕ) → count_and_seed text ≡ Some p → IsGenerable p.0 p.1
 numbers_fit text p is =
     let two = both_there _ _ p is in
-    let count = in_range_number 3 1024 _ p.0 two.0 in
-    let seed = in_range_number 0 4294967295 _ p.1 two.1 in
+    let count = in_range_number 3 1024 (before_first (λ byte. byte == 58) text) p.0 two.0 in
+    let seed = in_range_number 0 4294967295 (after_first (λ byte. byte == 58) text) p.1 two.1 in
     record { at_least_three = count.0; within_limit = count.1; seed_fits = let e = seed.1 in omega arith }
 
 -- ---- a job that no row refuses
