@@ -4,9 +4,9 @@ use Rattle.std.specs.Prelude.{List, [], ◌∷◌, map, length, position, Option
 use Rattle.std.specs.Prelude.{option_and_then, is_some, Result, Ok, Err, ℤ, unsigned_abs, codes, bytes_eq}
 use Rattle.std.specs.Option.{option_zip}
 use Rattle.sd_base.specs.Lines.{TextLine, content_of}
-use Rattle.sd_base.specs.Numbers.{natural_value, integer_value}
-use Rattle.sd_base.specs.Reading.{◌>>=◌, ◌>>◌, fault_if, each, each_after}
-pub use Rattle.sd_vfile.specs.Reads.{all_values, stated_behind}
+use Rattle.sd_base.specs.Numbers.{is_within, natural_value, integer_value}
+use Rattle.sd_base.specs.Reading.{◌>>=◌, ◌>>◌, fault_if, each}
+pub use Rattle.sd_vfile.specs.Reads.{all_values, of_nodes, stated_behind}
 use Rattle.sd_model.specs.Expression.{FileNode, FileConstant, FileLiteral, FileDecomposition, Expression, OfFile}
 use Rattle.sd_file.specs.declared.fault.SddFault.{SddFault}
 use Rattle.sd_file.specs.declared.fault.SddFault.TheVariants.{NoHeader, BadLine, IdTwice, ChildUnknown}
@@ -72,10 +72,6 @@ form_of (letter ∷ words) =
 abbrev pub index_of_id : ℕ → List ℕ → Option ℕ
 index_of_id id ids = position (λ i. i == id) ids
 
--- the literal is one of a variable of 1 to v
-abbrev pub is_literal : ℕ → ℤ → Bool
-is_literal v z = nat_le 1 (unsigned_abs z) && nat_le (unsigned_abs z) v
-
 -- the places of a prime and a sub
 abbrev pub pair_at : List ℕ → ℕ → ℕ × ℕ → Result (ℕ × ℕ) SddFault
 pair_at ids line (prime, sub) = do
@@ -87,7 +83,7 @@ pair_at ids line (prime, sub) = do
 abbrev pub node_of : ℕ → List ℕ → ℕ → Node → Result Node SddFault
 node_of v ids line (Constant value) = Ok (Constant value)
 node_of v ids line (Literal vtree literal) = do
-  fault_if (not (is_literal v literal)) (LiteralRange line)
+  fault_if (not (is_within 1 v (unsigned_abs literal))) (LiteralRange line)
   Ok (Literal vtree literal)
 node_of v ids line (Decomposition vtree pairs) = do
   places ← each (pair_at ids line) pairs
@@ -107,25 +103,17 @@ entry_of v earlier line = entry_with v (map (λ e. e.id) earlier) line
 
 -- ---- the text
 
--- the file of all node lines, where the header states a number of them
-abbrev pub finish : ℕ → ℕ → List Entry → Result File SddFault
-finish v stated entries = do
-  fault_if (not (stated == length entries)) (CountDiffers stated (length entries))
+-- the file of these nodes, of which one is there
+abbrev pub file_of : ℕ → List Entry → Result File SddFault
+file_of v entries = do
   fault_if (length entries == 0) Empty
   Ok (record { variables = v; nodes = entries })
-
--- the file of a header `sdd N` and the lines after it
-abbrev pub file_of_lines : ℕ → List TextLine → Result File SddFault
-file_of_lines v [] = Err NoHeader
-file_of_lines v (header ∷ lines) = do
-  stated ← ok_or (stated_behind (codes "sdd") header.words) NoHeader
-  entries ← each_after (entry_of v) [] lines
-  finish v stated entries
 
 -- The file of a text over the variables 1 to v, or the text's first fault. Blank lines and comments, which begin with
 -- c, are passed over.
 unfoldable pub sdd_file : ℕ → List ℕ → Result File SddFault
-sdd_file v bytes = file_of_lines v (content_of 99 bytes)
+sdd_file v bytes =
+    of_nodes (codes "sdd") NoHeader CountDiffers (entry_of v) (file_of v) (content_of 99 bytes)
 
 -- ---- the value of a file
 
@@ -140,6 +128,20 @@ abbrev pub expression_of_file : File → Expression
 expression_of_file f = OfFile (map (λ e. without_ids e.node) f.nodes)
 
 -- ---- for the contracts of private functions
+
+-- the literal is one of a variable of 1 to v
+abbrev pub is_literal : ℕ → ℤ → Bool
+is_literal v z = is_within 1 v (unsigned_abs z)
+
+-- the file of all node lines, where the header states a number of them
+abbrev pub finish : ℕ → ℕ → List Entry → Result File SddFault
+finish v stated entries = do
+  fault_if (not (stated == length entries)) (CountDiffers stated (length entries))
+  file_of v entries
+
+-- the file of a header `sdd N` and the lines after it
+abbrev pub file_of_lines : ℕ → List TextLine → Result File SddFault
+file_of_lines v lines = of_nodes (codes "sdd") NoHeader CountDiffers (entry_of v) (file_of v) lines
 
 -- the id of a line
 abbrev pub id_of : Entry → ℕ

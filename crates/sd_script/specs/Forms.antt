@@ -4,6 +4,7 @@ use Rattle.std.specs.Prelude.{List, [], ◌∷◌, length, map, Option, Some, No
 use Rattle.std.specs.Char.{is_ascii_alphabetic, is_ascii_alphanumeric}
 use Rattle.std.specs.List.{list_all}
 use Rattle.sd_base.specs.Numbers.{integer_value}
+pub use Rattle.sd_base.specs.Numbers.{is_within}
 
 -- a word, as its bytes
 abbrev pub Word : Type 0
@@ -19,10 +20,6 @@ is_name (b ∷ bs) =
 -- a word that is a name
 abbrev pub name_of : Word → Option Word
 name_of word = if is_name word then Some word else None
-
--- a number from one to another
-abbrev pub is_within : ℕ → ℕ → ℕ → Bool
-is_within low high n = nat_le low n && nat_le n high
 
 -- a word that names a file: at most 255 bytes, each of 33 to 126
 abbrev pub file_name_of : Word → Option Word

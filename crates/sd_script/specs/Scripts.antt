@@ -2,9 +2,8 @@
 use Rattle.std.specs.Prelude.{◌≡◌, ℕ, ◌-◌, ◌*◌, Bool, true, not, ◌&&◌, nat_le, nat_lt, if◌then◌else◌}
 use Rattle.std.specs.Prelude.{List, [], ◌∷◌, ◌++◌, ok_or, Result, Ok, Err, unsigned_abs}
 use Rattle.std.specs.List.{list_any, list_all}
-use Rattle.sd_base.specs.Words.{lines_of}
-use Rattle.sd_base.specs.Lines.{TextLine, numbered_lines_from, is_content}
-use Rattle.sd_base.specs.Reading.{◌>>=◌, ◌>>◌, fault_if}
+use Rattle.sd_base.specs.Lines.{TextLine, numbered_lines, is_content}
+use Rattle.sd_base.specs.Reading.{◌>>=◌, ◌>>◌, fault_if, each_to}
 use Rattle.sd_script.specs.declared.command.Action.{Action}
 use Rattle.sd_script.specs.declared.command.Action.TheVariants.{Lit, Given, Forget, Turn, Minimise, Limit}
 use Rattle.sd_script.specs.declared.command.Command.{Command}
@@ -61,18 +60,15 @@ after_line v script line = do
   fault_if (nat_lt 100000 line.number) TooManyLines
   if is_content 35 line then with_line v script line else Ok script
 
--- a script after more lines, of which the first with a fault decides
-abbrev pub after_lines : ℕ → Script → List TextLine → Result Script ScriptFault
-after_lines v script [] = Ok script
-after_lines v script (line ∷ lines) = do
-  next ← after_line v script line
-  after_lines v next lines
-
--- the script that a text stands for over the variables 1 to v, or the text's first fault
+-- the script that a text stands for over the variables 1 to v, or the fault of the first line that has one
 unfoldable pub script_of : ℕ → List ℕ → Result Script ScriptFault
-script_of v bytes = after_lines v empty (numbered_lines_from 1 (lines_of bytes))
+script_of v bytes = each_to (after_line v) empty (numbered_lines bytes)
 
 -- ---- for the contracts of private functions
+
+-- a script after more lines
+abbrev pub after_lines : ℕ → Script → List TextLine → Result Script ScriptFault
+after_lines v = each_to (after_line v)
 
 -- a script with one more command behind the others
 abbrev pub with_action : ℕ → ℕ → Action → Script → Result Script ScriptFault

@@ -1,15 +1,14 @@
 -- OutOfMemory is never the fault of the words: no row of the table of refusals gives it.
-use Rattle.std.proofs.Common.{◌≡◌, ℕ, Bool, true, false, List, [], ◌∷◌, Option, Some, None, Err, subst, sym}
+use Rattle.std.proofs.Common.{◌≡◌, ℕ, Bool, true, false, List, [], ◌∷◌, Option, Some, None, Err, sym, ◌∙◌}
 use Rattle.std.specs.Prelude.{option_map, if◌then◌else◌, count_by, find, nat_le, ◌&&◌, ◌==◌}
 use Rattle.std.specs.Str.{bytes_eq}
 use Rattle.sd_words.specs.Command.{accepts, parsed_by}
 use Rattle.sd_words.specs.ParsedOptions.{ParsedOptions, fails, first_beside, has_option, has_bad_number, start_of}
 use Rattle.sd_words.specs.Options.{inputs, number_options, replaced_by_script}
-use Rattle.sd_words.specs.JobOf.{job_of, job_from, job_of_parsed, first_some, unless}
-use Rattle.sd_words.specs.Refusals.{refusals, fault_where, same_name}
-use Rattle.sd_words.specs.Rows.{rows, no_input, two_inputs, two_vtrees, number_range}
+use Rattle.sd_words.specs.JobOf.{job_of, job_of_parsed, first_some, unless}
+use Rattle.sd_words.specs.Rows.{fault_where, same_name, rows, no_input, two_inputs, two_vtrees, number_range}
 use Rattle.sd_words.specs.Rows.{with_script, file_twice, start_unknown, empty_name}
-use Rattle.sd_words.proofs.JobLemmas.{refusals_are}
+use Rattle.sd_words.proofs.JobLemmas.{job_of_rows}
 use Rattle.sd_words.specs.declared.faults.WordsFault.{WordsFault}
 use Rattle.sd_words.specs.declared.faults.WordsFault.TheVariants as words
 use Rattle.sd_words.specs.declared.jobs.Job.{Job}
@@ -86,10 +85,9 @@ row_empty_name : (parsed : ParsedOptions) → IsNotOutOfMemory (empty_name parse
 unfolding empty_name
 row_empty_name parsed = not_out_of_memory_made _ (λ o. words.EmptyName o) (λ o e. cc)
 
-not_out_of_memory_rows : (parsed : ParsedOptions) → IsNotOutOfMemory (first_some (refusals parsed))
+not_out_of_memory_rows : (parsed : ParsedOptions) → IsNotOutOfMemory (first_some (rows parsed))
 not_out_of_memory_rows parsed =
-    subst (λ (l : List (Option WordsFault)). IsNotOutOfMemory (first_some l)) (sym (refusals_are parsed))
-    (not_out_of_memory_first (rows parsed) (
+    not_out_of_memory_first (rows parsed) (
       row_no_input parsed,
       (
         row_two_inputs parsed,
@@ -101,7 +99,7 @@ not_out_of_memory_rows parsed =
           ),
         ),
       ),
-    ))
+    )
 
 not_out_of_memory_unless : (found : Option WordsFault) (job : Job) → IsNotOutOfMemory found
     → unless found job ≡ Err words.OutOfMemory → ⊥
@@ -110,12 +108,11 @@ not_out_of_memory_unless None job differs is = cc
 
 -- OutOfMemory is not the fault of the words
 pub not_out_of_memory_words : (ws : List (List ℕ)) → job_of ws ≡ Err words.OutOfMemory → ⊥
-unfolding job_of job_from
-not_out_of_memory_words ws is = by (accepts ws) is
+not_out_of_memory_words ws is = by (accepts ws) (sym (job_of_rows ws) ∙ is)
   where
-    by : (b : Bool) → (if b then unless (first_some (refusals (parsed_by ws))) (job_of_parsed (parsed_by ws))
+    by : (b : Bool) → (if b then unless (first_some (rows (parsed_by ws))) (job_of_parsed (parsed_by ws))
         else Err words.Usage) ≡ Err words.OutOfMemory → ⊥
     by true is =
-        not_out_of_memory_unless (first_some (refusals (parsed_by ws))) (job_of_parsed (parsed_by ws))
+        not_out_of_memory_unless (first_some (rows (parsed_by ws))) (job_of_parsed (parsed_by ws))
         (not_out_of_memory_rows (parsed_by ws)) is
     by false is = cc

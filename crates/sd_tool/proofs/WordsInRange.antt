@@ -1,17 +1,19 @@
 -- The numbers of a generated formula are in their ranges where the words are a job.
 use Rattle.std.proofs.Common.{◌≡◌, ℕ, ◌≤◌, Bool, true, false, List, [], ◌∷◌, Option, Some, None, Ok, Err, is_none}
-use Rattle.std.proofs.Common.{refl, ap, subst, arith, drop}
-use Rattle.std.specs.Prelude.{◌&&◌, ◌==◌, option_map, option_and_then, if◌then◌else◌, is_some, nat_le, count_by}
+use Rattle.std.proofs.Common.{refl, ap, subst, sym, ◌∙◌, arith, drop}
+use Rattle.std.specs.Bool.{then_some}
+use Rattle.std.specs.Prelude.{◌==◌, option_map, option_and_then, if◌then◌else◌, is_some, nat_le, count_by}
 use Rattle.std.specs.Option.{option_map_or}
+use Rattle.std.specs.List.{after_first, before_first}
 use Rattle.std.proofs.lemmas.Bool.{leb-true, and_parts}
 use Rattle.sd_formula.specs.Generated.{IsGenerable}
 use Rattle.sd_words.specs.Command.{accepts, parsed_by}
-use Rattle.sd_words.specs.Numbers.{natural, within, number_within, both, count_and_seed}
+use Rattle.sd_base.specs.Numbers.{is_within, natural_to}
+use Rattle.sd_words.specs.Numbers.{number_within, both, count_and_seed}
 use Rattle.sd_words.specs.ParsedOptions.{ParsedOptions, fails, has_bad_number, generated}
-use Rattle.sd_words.specs.JobOf.{job_of, job_from, job_of_parsed, input_of, first_some, unless}
-use Rattle.sd_words.specs.Refusals.{refusals, fault_where}
-use Rattle.sd_words.specs.Rows.{rows, no_input, two_inputs, two_vtrees, number_range}
-use Rattle.sd_words.proofs.JobLemmas.{refusals_are}
+use Rattle.sd_words.specs.JobOf.{job_of, job_of_parsed, input_of, first_some, unless}
+use Rattle.sd_words.specs.Rows.{fault_where, rows, no_input, two_inputs, two_vtrees, number_range}
+use Rattle.sd_words.proofs.JobLemmas.{job_of_rows}
 use Rattle.sd_words.specs.declared.faults.WordsFault.{WordsFault}
 use Rattle.sd_words.specs.declared.faults.WordsFault.TheVariants as words
 use Rattle.sd_words.specs.declared.jobs.Job.{Job}
@@ -28,11 +30,10 @@ IsInRange word = Unit {0}
 -- ---- two numbers
 
 -- a number that is there is in its range
-within_range : (least most n m : ℕ) → within least most n ≡ Some m → (least ≤ m) × (m ≤ most)
-within_range least most n m = go (nat_le least n && nat_le n most) refl
+within_range : (least most n m : ℕ) → then_some (is_within least most n) n ≡ Some m → (least ≤ m) × (m ≤ most)
+within_range least most n m = go (is_within least most n) refl
   where
-    go : (b : Bool) → (nat_le least n && nat_le n most) ≡ b → (if b then Some n else None) ≡ Some m
-        → (least ≤ m) × (m ≤ most)
+    go : (b : Bool) → is_within least most n ≡ b → then_some b n ≡ Some m → (least ≤ m) × (m ≤ most)
     go true both_hold is =
         let same : n ≡ m = cc in
         let parts = and_parts (nat_le least n) (nat_le n most) both_hold in
@@ -41,9 +42,10 @@ within_range least most n m = go (nat_le least n && nat_le n most) refl
 
 in_range_number : (least most : ℕ) (text : List ℕ) (m : ℕ) → number_within least most text ≡ Some m
     → (least ≤ m) × (m ≤ most)
-in_range_number least most text m = go (natural text)
+in_range_number least most text m = go (natural_to 10 text)
   where
-    go : (n : Option ℕ) → option_and_then (within least most) n ≡ Some m → (least ≤ m) × (m ≤ most)
+    go : (n : Option ℕ) → option_and_then (λ n. then_some (is_within least most n) n) n ≡ Some m
+        → (least ≤ m) × (m ≤ most)
     go (Some n) is = within_range least most n m is
     go None is = let bad : ⊥ = cc in absurd bad
 
@@ -57,8 +59,8 @@ both_there None b p is = let bad : ⊥ = cc in absurd bad
 numbers_fit : (text : List ℕ) (p : ℕ × ℕ) → count_and_seed text ≡ Some p → IsGenerable p.0 p.1
 numbers_fit text p is =
     let two = both_there _ _ p is in
-    let count = in_range_number 3 1024 _ p.0 two.0 in
-    let seed = in_range_number 0 4294967295 _ p.1 two.1 in
+    let count = in_range_number 3 1024 (before_first (λ byte. byte == 58) text) p.0 two.0 in
+    let seed = in_range_number 0 4294967295 (after_first (λ byte. byte == 58) text) p.1 two.1 in
     record { at_least_three = count.0; within_limit = count.1; seed_fits = let e = seed.1 in omega arith }
 
 -- ---- a job that no row refuses
@@ -103,24 +105,22 @@ input_fits None None (Some text) some reads = go (count_and_seed text) refl read
     go (Some p) is there = numbers_fit text p is
     go None is there = let bad : ⊥ = cc in absurd bad
 
-parsed_fits : (parsed : ParsedOptions) → first_some (refusals parsed) ≡ None
+parsed_fits : (parsed : ParsedOptions) → first_some (rows parsed) ≡ None
     → IsInRange (input_of parsed (generated parsed))
 parsed_fits parsed none =
-    let by_rows : first_some (rows parsed) ≡ None = subst (λ (l : List (Option WordsFault)). first_some l ≡ None)
-    (refusals_are parsed) none in
-    let first = none_here (no_input parsed) (drop 1 (rows parsed)) by_rows in
+    let first = none_here (no_input parsed) (drop 1 (rows parsed)) none in
     let second = none_here (two_inputs parsed) (drop 2 (rows parsed)) first.1 in
     let third = none_here (two_vtrees parsed) (drop 3 (rows parsed)) second.1 in
     let fourth = none_here (number_range parsed) (drop 4 (rows parsed)) third.1 in
     input_fits (parsed option.Cnf) (parsed option.Dnf) (parsed option.Generate) (some_input parsed first.0)
     (generate_reads parsed fourth.0)
 
-job_fits : (parsed : ParsedOptions) (job : Job) → unless (first_some (refusals parsed)) (job_of_parsed parsed) ≡ Ok job
+job_fits : (parsed : ParsedOptions) (job : Job) → unless (first_some (rows parsed)) (job_of_parsed parsed) ≡ Ok job
     → IsInRange job.input
 unfolding job_of_parsed
-job_fits parsed job is = go (first_some (refusals parsed)) refl is
+job_fits parsed job is = go (first_some (rows parsed)) refl is
   where
-    go : (found : Option WordsFault) → first_some (refusals parsed) ≡ found
+    go : (found : Option WordsFault) → first_some (rows parsed) ≡ found
         → unless found (job_of_parsed parsed) ≡ Ok job → IsInRange job.input
     go (Some fault) first is = let bad : ⊥ = cc in absurd bad
     go None first is =
@@ -129,10 +129,9 @@ job_fits parsed job is = go (first_some (refusals parsed)) refl is
 
 -- the numbers of a job are in their ranges
 pub in_range : (ws : List (List ℕ)) (job : Job) → job_of ws ≡ Ok job → IsInRange job.input
-unfolding job_of job_from
-in_range ws job is = by (accepts ws) is
+in_range ws job is = by (accepts ws) (sym (job_of_rows ws) ∙ is)
   where
-    by : (b : Bool) → (if b then unless (first_some (refusals (parsed_by ws))) (job_of_parsed (parsed_by ws))
+    by : (b : Bool) → (if b then unless (first_some (rows (parsed_by ws))) (job_of_parsed (parsed_by ws))
         else Err words.Usage) ≡ Ok job → IsInRange job.input
     by true is = job_fits (parsed_by ws) job is
     by false is = let bad : ⊥ = cc in absurd bad

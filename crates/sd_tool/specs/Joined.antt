@@ -1,6 +1,6 @@
 -- What a script of four lines writes, said without the course of the run.
 use Rattle.std.specs.Prelude.{◌≡◌, ℕ, List, [], ◌∷◌, map, Option, Some, None}
-use Rattle.sd_base.specs.Files.{with_file}
+use Rattle.std.specs.FinMap.{insert}
 use Rattle.sd_model.specs.declared.trees.Operation.{Operation}
 use Rattle.sd_model.specs.Expression.{Expression, Constant, Atom, Combined}
 use Rattle.sd_model.specs.Diagram.{Diagram}
@@ -57,5 +57,5 @@ pub record WritesJoined {words : List (List ℕ)} {seen : Seen} (run : FourLines
   pub of_formulas :
       IsDiagramOf run.given.tree (Combined run.lines.operation run.lines.left run.lines.right) diagram
   pub files_are : seen.new.contents.files
-      ≡ Some (with_file run.given.files (file_name run.script run.lines.number) (sdd_text diagram))
+      ≡ Some (insert run.given.files (file_name run.script run.lines.number) (sdd_text diagram))
   pub printed_is : seen.new.contents.printed ≡ seen.old.contents.printed

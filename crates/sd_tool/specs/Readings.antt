@@ -2,9 +2,10 @@
 use Rattle.std.specs.Prelude.{◌≡◌, ℕ, ◌+◌, ◌<◌, ◌≤◌}
 use Rattle.std.specs.Prelude.{List, [], ◌∷◌, ◌++◌, length, map, slice_index_or}
 use Rattle.std.specs.List.{enumerate_from}
+use Rattle.std.specs.FinMap.{get}
 use Rattle.std.specs.Option.{option_to_list}
 use Rattle.std.specs.Prelude.{Option, Some, None, Result, Ok, Err}
-use Rattle.sd_base.specs.Files.{Files, bytes_at}
+use Rattle.sd_base.specs.Files.{Files}
 use Rattle.sd_model.specs.Tree.{Tree}
 use Rattle.sd_model.specs.StartTrees.{balanced_tree, right_tree, left_tree}
 use Rattle.sd_formula.specs.declared.formula.Kind.{Kind}
@@ -164,9 +165,9 @@ reading_of words = or_refused BadWords (λ job. with_input_word job job.input) (
 -- where the files are told, the file of this name reads so
 abbrev pub IsText : Option Files → List ℕ → Text → Type 0
 IsText None file text = Unit {0}
-IsText (Some files) file (Whole bytes) = (bytes_at files file ≡ Some bytes) × (length bytes ≤ 67108864)
+IsText (Some files) file (Whole bytes) = (get files file ≡ Some bytes) × (length bytes ≤ 67108864)
 IsText (Some files) file TooLong =
-    (bytes : List ℕ) × (bytes_at files file ≡ Some bytes) × (67108864 < length bytes)
+    (bytes : List ℕ) × (get files file ≡ Some bytes) × (67108864 < length bytes)
 
 -- over these files, the readings ask for files of these names, in order, each of which is read, and come to this point
 abbrev pub ReadsBy : Option Files → Reading → List (List ℕ) → Reading → Type 0

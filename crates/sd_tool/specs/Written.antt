@@ -1,7 +1,8 @@
 -- What the words and told files give, and what the written files are, said without the course of the run.
 use Rattle.std.specs.Prelude.{◌≡◌, ℕ, ◌≤◌, List, [], ◌∷◌, map, length, Option, Some, None, Result, Ok}
+use Rattle.std.specs.FinMap.{get, insert}
 use Rattle.std.specs.Option.{option_map_or}
-use Rattle.sd_base.specs.Files.{Files, bytes_at, with_file}
+use Rattle.sd_base.specs.Files.{Files}
 use Rattle.sd_base.specs.Sink.{told_then}
 use Rattle.sd_model.specs.Expression.{Expression}
 use Rattle.sd_model.specs.Diagram.{Diagram}
@@ -36,7 +37,7 @@ use Rattle.sd_tool.specs.Ends.{OverLimit}
 -- the file is there and not too long, and its text reads so
 abbrev pub ReadsAs : {A E : Type 0} → Files → List ℕ → (List ℕ → Result A E) → A → Type 0
 ReadsAs files file read value =
-    (bytes : List ℕ) × (bytes_at files file ≡ Some bytes) × (length bytes ≤ 67108864) × (read bytes ≡ Ok value)
+    (bytes : List ℕ) × (get files file ≡ Some bytes) × (length bytes ≤ 67108864) × (read bytes ≡ Ok value)
 
 -- the formula of the words: that of a file, or the generated one
 abbrev pub IsFormulaOf : Files → InputWord → Groups → Type 0
@@ -74,7 +75,7 @@ IsPlain words seen = (files : Files) × (job : Job) × (seen.old.contents.files 
 
 -- the files with these bytes under a name that is there
 abbrev pub with_output : Option (List ℕ) → List ℕ → Files → Files
-with_output name bytes files = option_map_or (λ own. with_file files own bytes) name files
+with_output name bytes files = option_map_or (λ own. insert files own bytes) name files
 
 -- what is printed with the line of a generated formula behind it
 abbrev pub with_announcement : InputWord → Groups → Option (List ℕ) → Option (List ℕ)

@@ -1,8 +1,8 @@
 -- A tree that was read is a vtree over the variables 1 to v.
 use Rattle.std.proofs.Common.{◌≡◌, ℕ, zero, suc, ◌+◌, ◌<◌, ◌≤◌, Bool, true, false, not, ◌==◌, cond}
-use Rattle.std.proofs.Common.{List, [], ◌∷◌, length, filter, Result, Ok, Err}
+use Rattle.std.proofs.Common.{List, [], ◌∷◌, length, filter, Option, Some, None, Result, Ok, Err}
 use Rattle.std.proofs.Common.{refl, sym, ap, ◌∙◌, subst, arith, inl, inr}
-use Rattle.std.specs.Prelude.{ok_or}
+use Rattle.std.specs.Prelude.{find, ok_or}
 use Rattle.std.specs.List.{range_with_len, AllByRecursion}
 use Rattle.std.proofs.lemmas.Bool.{cases_Bool, cases_eq}
 use Rattle.sd_base.specs.Lines.{TextLine, content_of}
@@ -49,22 +49,21 @@ one_tally x (root ∷ []) t e =
     omega (arith, here)
 one_tally x (root ∷ other ∷ roots) t e = cc
 
--- where nothing is missing the list of what is missing is empty
-nothing_missing : (xs : List ℕ) → none_missing xs ≡ Ok tt → xs ≡ []
-nothing_missing [] e = refl
-nothing_missing (x ∷ xs) e = cc
+-- where nothing is missing none was found
+nothing_missing : (found : Option ℕ) → none_missing found ≡ Ok tt → found ≡ None
+nothing_missing None e = refl
+nothing_missing (Some x) e = cc
 
 -- and each variable of the range has a leaf
-each_there : (p : ℕ → Bool) (a n x : ℕ) → filter (λ y. not (p y)) (range_with_len a n) ≡ [] → a ≤ x → x < a + n
+each_there : (p : ℕ → Bool) (a n x : ℕ) → find (λ y. not (p y)) (range_with_len a n) ≡ None → a ≤ x → x < a + n
     → p x ≡ true
 each_there p a zero x e low high = absurd (omega arith)
 each_there p a (suc n) x e low high =
     go (p a) refl e (each_there p (a + 1) n x)
   where
     go : (b : Bool) → p a ≡ b
-        → cond (not b) (a ∷ filter (λ y. not (p y)) (range_with_len (a + 1) n))
-        (filter (λ y. not (p y)) (range_with_len (a + 1) n)) ≡ []
-        → (filter (λ y. not (p y)) (range_with_len (a + 1) n) ≡ [] → a + 1 ≤ x → x < a + 1 + n → p x ≡ true)
+        → cond (not b) (Some a) (find (λ y. not (p y)) (range_with_len (a + 1) n)) ≡ None
+        → (find (λ y. not (p y)) (range_with_len (a + 1) n) ≡ None → a + 1 ≤ x → x < a + 1 + n → p x ≡ true)
         → p x ≡ true
     go false is e later = cc
     go true is e later = elim (cases_eq a x) [

@@ -1,8 +1,8 @@
 -- The text of a vtree is read back as the vtree.
 use Rattle.std.proofs.Common.{◌≡◌, ℕ, zero, suc, ◌+◌, ◌-◌, ◌*◌, ◌^◌, ◌<◌, ◌≤◌, Bool, true, not}
-use Rattle.std.proofs.Common.{List, [], ◌∷◌, ◌++◌, length, filter, Ok, refl, sym, ap, ◌∙◌, arith}
+use Rattle.std.proofs.Common.{List, [], ◌∷◌, ◌++◌, length, None, Ok, refl, sym, ap, ◌∙◌, arith}
 use Rattle.std.proofs.Common.{eq-eqb, append-nil}
-use Rattle.std.specs.Prelude.{codes}
+use Rattle.std.specs.Prelude.{codes, find}
 use Rattle.std.specs.List.{AllByRecursion, range_with_len}
 use Rattle.sd_base.specs.Reading.{each_after}
 use Rattle.sd_model.specs.Text.{number_text, vtree_node_lines, vtree_text}
@@ -63,7 +63,7 @@ tree_lines (Node l r) base small within_limit =
 
 -- where each number of a range passes a test none is left out
 none_left : (p : ℕ → Bool) (a n : ℕ) → ((x : ℕ) → a ≤ x → x < a + n → p x ≡ true)
-    → filter (λ x. not (p x)) (range_with_len a n) ≡ []
+    → find (λ x. not (p x)) (range_with_len a n) ≡ None
 none_left p a zero h = refl
 none_left p a (suc n) h =
     rw (h a (omega arith) (omega arith)) (none_left p (a + 1) n (λ x low high. h x (omega arith) (omega arith)))
@@ -75,7 +75,7 @@ whole_back t vtree =
     let count : (2 * leaves t - 1) ≡ length nodes = omega (arith, length_entries_in t 0) in
     let roots : roots_of nodes ≡ root_entry t 0 ∷ [] =
     root_kept t 0 (λ i. is_child i nodes) (λ i h. h) (root_free t 0) in
-    let full : missing (leaves t) nodes ≡ [] =
+    let full : missing (leaves t) nodes ≡ None =
     none_left (λ x. has_leaf x nodes) 1 (leaves t)
     (λ x low high. a_leaf t 0 x (has_variable t vtree x low (omega arith))) in
     rw (eq-eqb (2 * leaves t - 1) (length nodes) count, roots, full) (ap Ok (root_tree t))

@@ -87,9 +87,9 @@ never_root [] = λ is. cc
 never_root (root ∷ []) = λ is. cc
 never_root (root ∷ next ∷ roots) = λ is. cc
 
-never_missing : (xs : List ℕ) → Never vtree.OutOfMemory (none_missing xs)
-never_missing [] = λ is. cc
-never_missing (x ∷ xs) = λ is. cc
+never_missing : (found : Option ℕ) → Never vtree.OutOfMemory (none_missing found)
+never_missing None = λ is. cc
+never_missing (Some x) = λ is. cc
 
 -- what is tested after the last line
 never_whole : (v stated : ℕ) (entries : List Entry) → Never vtree.OutOfMemory (whole_tree v stated entries)

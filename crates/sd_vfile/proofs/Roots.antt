@@ -2,6 +2,7 @@
 use Rattle.std.proofs.Common.{◌≡◌, ℕ, zero, suc, ◌+◌, ◌-◌, ◌<◌, ◌≤◌, Bool, true, false, not}
 use Rattle.std.proofs.Common.{List, [], ◌∷◌, ◌++◌, length, take, get_or, filter, Ok, Err, refl, sym, ap, ◌∙◌}
 use Rattle.std.proofs.Common.{arith, append-nil, length-append}
+use Rattle.std.specs.Prelude.{Option, find}
 use Rattle.std.specs.List.{range_with_len}
 use Rattle.std.proofs.lemmas.List.{take_all}
 use Rattle.std.proofs.lemmas.List.Elements.{filter_more}
@@ -84,9 +85,9 @@ roots_are es p n q so_far h several =
 
 -- ---- variables
 
--- what is missing from a variable on
-abbrev pub missing_from : List Entry → ℕ → ℕ → List ℕ
-missing_from es x v = filter (λ y. not (has_leaf y es)) (range_with_len x (v + 1 - x))
+-- the first that is missing from a variable on
+abbrev pub missing_from : List Entry → ℕ → ℕ → Option ℕ
+missing_from es x v = find (λ y. not (has_leaf y es)) (range_with_len x (v + 1 - x))
 
 range_step : (x n : ℕ) → 0 < n → range_with_len x n ≡ x ∷ range_with_len (x + 1) (n - 1)
 range_step x zero h = absurd (omega arith)

@@ -1,11 +1,11 @@
 -- The tree that a vtree file stands for, or its first fault.
-use Rattle.std.specs.Prelude.{◌≡◌, ℕ, Bool, false, not, ◌&&◌, ◌||◌, ◌==◌, nat_le, if◌then◌else◌, codes, bytes_eq}
+use Rattle.std.specs.Prelude.{◌≡◌, ℕ, Bool, false, not, ◌||◌, ◌==◌, if◌then◌else◌, codes, bytes_eq}
 use Rattle.std.specs.Prelude.{List, [], ◌∷◌, length, filter, find}
 use Rattle.std.specs.Prelude.{Option, Some, None, ok_or, option_and_then, option_map, Result, Ok, Err}
 use Rattle.std.specs.List.{list_any, range_with_len}
 use Rattle.sd_base.specs.Lines.{TextLine, content_of}
-use Rattle.sd_base.specs.Numbers.{natural_value}
-use Rattle.sd_base.specs.Reading.{◌>>=◌, ◌>>◌, fault_if, each_after}
+use Rattle.sd_base.specs.Numbers.{is_within, natural_value}
+use Rattle.sd_base.specs.Reading.{◌>>=◌, ◌>>◌, fault_if, fault_for, each_after}
 use Rattle.sd_model.specs.Tree.{Tree, Leaf, Node}
 use Rattle.sd_vfile.specs.declared.fault.VtreeFault.{VtreeFault}
 use Rattle.sd_vfile.specs.declared.fault.VtreeFault.TheVariants.{NoHeader, BadLine, IdTwice, ChildUnknown}
@@ -67,7 +67,7 @@ has_leaf x entries = list_any (λ e. is_leaf x e.tree) entries
 abbrev pub placed : ℕ → List Entry → ℕ → Form → Result Entry VtreeFault
 placed v earlier line (LeafLine id x) = do
   fault_if (has_id id earlier) (IdTwice line)
-  fault_if (not (nat_le 1 x && nat_le x v) || has_leaf x earlier) (VariableWrong line)
+  fault_if (not (is_within 1 v x) || has_leaf x earlier) (VariableWrong line)
   Ok (record { id = id; tree = Leaf x; children = [] })
 placed v earlier line (InnerLine id left right) = do
   fault_if (has_id id earlier) (IdTwice line)
@@ -84,30 +84,16 @@ entry_of v earlier line = do
 
 -- ---- after the last line
 
--- the variables from 1 to v that have no leaf, in order
-abbrev pub missing : ℕ → List Entry → List ℕ
-missing v entries = filter (λ x. not (has_leaf x entries)) (range_with_len 1 v)
-
--- the first that is missing is the fault
-abbrev pub none_missing : List ℕ → Result (Unit {0}) VtreeFault
-none_missing [] = Ok tt
-none_missing (x ∷ xs) = Err (VariableMissing x)
-
--- the roots
-abbrev pub roots_of : List Entry → List Entry
-roots_of entries = filter (λ e. not (is_child e.id entries)) entries
-
 -- the tree of the only one
 abbrev pub one_root : List Entry → Result Tree VtreeFault
 one_root (root ∷ []) = Ok root.tree
 one_root roots = Err (NotOneRoot (length roots))
 
--- the tree of all node lines, where the header states a number of them
-abbrev pub whole_tree : ℕ → ℕ → List Entry → Result Tree VtreeFault
-whole_tree v stated entries = do
-  fault_if (not (stated == length entries)) (CountDiffers stated (length entries))
-  tree ← one_root (roots_of entries)
-  none_missing (missing v entries)
+-- the tree of all node lines: of those of which no other is the parent there is one, and each variable has a leaf
+abbrev pub tree_of_nodes : ℕ → List Entry → Result Tree VtreeFault
+tree_of_nodes v entries = do
+  tree ← one_root (filter (λ e. not (is_child e.id entries)) entries)
+  fault_for VariableMissing (find (λ x. not (has_leaf x entries)) (range_with_len 1 v))
   Ok tree
 
 -- ---- the text
@@ -117,20 +103,47 @@ abbrev pub stated_behind : List ℕ → List (List ℕ) → Option ℕ
 stated_behind own (name ∷ number ∷ []) = if bytes_eq name own then natural_value number else None
 stated_behind own words = None
 
--- the tree of a header `vtree N` and the lines after it
-abbrev pub tree_of_lines : ℕ → List TextLine → Result Tree VtreeFault
-tree_of_lines v [] = Err NoHeader
-tree_of_lines v (header ∷ lines) = do
-  stated ← ok_or (stated_behind (codes "vtree") header.words) NoHeader
-  entries ← each_after (entry_of v) [] lines
-  whole_tree v stated entries
+-- What is made of the nodes of a file, where its lines are a header of a word and the number of the nodes, and the
+-- nodes, each in the light of the earlier ones. Without the header, and where the number differs, it has these faults.
+abbrev pub of_nodes : {A B E : Type 0} → List ℕ → E → (ℕ → ℕ → E)
+    → (List A → TextLine → Result A E) → (List A → Result B E) → List TextLine → Result B E
+of_nodes word no_header differs node made [] = Err no_header
+of_nodes word no_header differs node made (header ∷ lines) = do
+  stated ← ok_or (stated_behind word header.words) no_header
+  nodes ← each_after node [] lines
+  fault_if (not (stated == length nodes)) (differs stated (length nodes))
+  made nodes
 
 -- The tree of a text over the variables 1 to v, or the text's first fault. Blank lines and comments, which begin with
 -- c, are passed over.
 unfoldable pub vtree_file : ℕ → List ℕ → Result Tree VtreeFault
-vtree_file v bytes = tree_of_lines v (content_of 99 bytes)
+vtree_file v bytes =
+    of_nodes (codes "vtree") NoHeader CountDiffers (entry_of v) (tree_of_nodes v) (content_of 99 bytes)
 
 -- ---- for the contracts of private functions
+
+-- the first variable from 1 to v that has no leaf
+abbrev pub missing : ℕ → List Entry → Option ℕ
+missing v entries = find (λ x. not (has_leaf x entries)) (range_with_len 1 v)
+
+-- its fault, where there is one
+abbrev pub none_missing : Option ℕ → Result (Unit {0}) VtreeFault
+none_missing found = fault_for VariableMissing found
+
+-- the roots
+abbrev pub roots_of : List Entry → List Entry
+roots_of entries = filter (λ e. not (is_child e.id entries)) entries
+
+-- the tree of all node lines, where the header states a number of them
+abbrev pub whole_tree : ℕ → ℕ → List Entry → Result Tree VtreeFault
+whole_tree v stated entries = do
+  fault_if (not (stated == length entries)) (CountDiffers stated (length entries))
+  tree_of_nodes v entries
+
+-- the tree of a header `vtree N` and the lines after it
+abbrev pub tree_of_lines : ℕ → List TextLine → Result Tree VtreeFault
+tree_of_lines v lines =
+    of_nodes (codes "vtree") NoHeader CountDiffers (entry_of v) (tree_of_nodes v) lines
 
 -- the number of a header `vtree N`
 abbrev pub stated_by : List (List ℕ) → Option ℕ

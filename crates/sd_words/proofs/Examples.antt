@@ -2,23 +2,16 @@
 use Rattle.std.proofs.Common.{◌≡◌, refl, [], ◌∷◌, Ok, Err, codes, None}
 use Rattle.std.specs.Prelude.{⊤}
 use Rattle.clap.proofs.OnLiterals.{clap_on_literals}
-use Rattle.sd_words.specs.Command.{rows_found, sddc, usage_faults}
+use Rattle.sd_words.specs.Command.{parsed_by, sddc}
 use Rattle.sd_words.specs.JobOf.{job_from, job_of_parsed, job_of}
-use Rattle.sd_words.specs.Numbers.{natural}
-use Rattle.sd_words.specs.Refusals.{refusals}
 use Rattle.sd_words.specs.declared.faults.WordsFault.TheVariants as fault
 use Rattle.sd_words.specs.declared.jobs.InputWord.TheVariants as input
 use Rattle.sd_words.specs.declared.jobs.TreeWord.TheVariants as tree
 use Rattle.sd_words.specs.declared.options.OptionName.TheVariants as option
 
--- all that has to unfold for the table of refusals to compute
-unfoldable table_on_literals : ⊤
-unfolding refusals
-table_on_literals = tt
-
--- and for all words of an example
+-- all that has to unfold for the words of an example
 unfoldable job_on_literals : ⊤
-unfolding clap_on_literals table_on_literals job_of usage_faults rows_found sddc natural job_from job_of_parsed
+unfolding clap_on_literals job_of parsed_by sddc job_from job_of_parsed
 job_on_literals = tt
 
 no_words : job_of [] ≡ Err fault.NoInput

@@ -1,8 +1,10 @@
 -- How a reading that goes from check to check comes to the answer.
 use Rattle.std.proofs.Common.{rules, ◌≡◌, ◌≢◌, ◌∙◌, ◌==◌, ap, sym, refl, inl, inr}
-use Rattle.std.proofs.Common.{Bool, true, false, true≢false, List, [], ◌∷◌}
+use Rattle.std.proofs.Common.{Bool, true, false, true≢false, List, [], ◌∷◌, drop}
 use Rattle.std.proofs.Common.{None, Option, Result, Some, Err, is_none, is_some}
-use Rattle.std.specs.Prelude.{count_by, option_and_then}
+use Rattle.std.specs.Prelude.{count_by, if◌then◌else◌, not, option_and_then, option_map}
+use Rattle.std.specs.Bool.{then_some}
+use Rattle.std.specs.Str.{bytes_eq}
 use Rattle.std.specs.List.{list_any}
 use Rattle.std.specs.Option.{option_or}
 use Rattle.std.specs.Result.{IsErrAnd}
@@ -12,16 +14,17 @@ use Rattle.clap.specs.Walk.{Row, Text, is_empty, rows_of}
 use Rattle.clap.specs.Kinds.{Kinds}
 use Rattle.clap.specs.Matches.{found_of}
 use Rattle.clap.specs.declared.parser.matches.ArgMatches.{ArgMatches}
-use Rattle.sd_words.specs.Command.{parsed_in, parsed_of, handed, rows_found, usage_faults}
+use Rattle.sd_base.specs.Reading.{◌>>◌, fault_if, fault_for}
+use Rattle.sd_words.specs.Command.{accepts, parsed_by, parsed_in, parsed_of, handed, rows_found, usage_faults}
 use Rattle.sd_words.specs.ParsedOptions.{ParsedOptions, fails, has_option}
-use Rattle.sd_words.specs.JobOf.{Answers, first_some, job_from, job_of}
+use Rattle.sd_words.specs.JobOf.{Answers, first_some, job_from, job_of, job_of_parsed, name_of_both, unless}
 use Rattle.sd_words.specs.Options.{inputs}
-use Rattle.sd_words.specs.Refusals.{fault_where, refusals}
-use Rattle.sd_words.specs.Rows.{empty_name, file_twice, no_input, number_range, rows}
+use Rattle.sd_words.specs.Rows.{empty_name, fault_where, file_twice, no_input, number_range, rows, same_name}
 use Rattle.sd_words.specs.Rows.{start_unknown, two_inputs, two_vtrees, with_script}
 use Rattle.sd_words.specs.declared.faults.WordsFault.{WordsFault}
 use Rattle.sd_words.specs.declared.faults.WordsFault.TheVariants as fault
 use Rattle.sd_words.specs.declared.jobs.Job.{Job}
+use Rattle.sd_words.specs.declared.options.OptionName.TheVariants as option
 
 -- the first check of the code makes two tests of the table
 pub first_two : (a b : Option WordsFault) (rest : List (Option WordsFault))
@@ -29,18 +32,56 @@ pub first_two : (a b : Option WordsFault) (rest : List (Option WordsFault))
 first_two None b rest = refl
 first_two (Some f) b rest = refl
 
--- the table has its rows
-pub refusals_are : (parsed : ParsedOptions) → refusals parsed ≡ rows parsed
-unfolding refusals no_input two_inputs two_vtrees number_range with_script file_twice start_unknown empty_name
-refusals_are parsed = refl
+-- ---- the tests one by one, as rows of a table
+
+-- a test, and then others
+tested : (test : Bool) (f : WordsFault) (later : Result Job WordsFault) (others : List (Option WordsFault)) (job : Job)
+    → later ≡ unless (first_some others) job
+    → (fault_if test f >> later) ≡ unless (first_some (fault_where test f ∷ others)) job
+tested true f later others job is = refl
+tested false f later others job is = is
+
+-- the same of something that is looked for
+looked_for : {A : Type 0} (fault : A → WordsFault) (found : Option A) (later : Result Job WordsFault)
+    (others : List (Option WordsFault)) (job : Job) → later ≡ unless (first_some others) job
+    → (fault_for fault found >> later) ≡ unless (first_some (option_map fault found ∷ others)) job
+looked_for fault (Some x) later others job is = refl
+looked_for fault None later others job is = is
+
+-- the name that both are is that of the fault
+twice : (a b : Option Text) → option_map (λ x. fault.FileTwice x) (name_of_both a b) ≡ same_name a b
+twice None b = refl
+twice (Some x) None = refl
+twice (Some x) (Some y) = go (bytes_eq x y)
+  where
+    go : (same : Bool) → option_map (λ x. fault.FileTwice x) (then_some same x) ≡ fault_where same (fault.FileTwice x)
+    go true = refl
+    go false = refl
+
+-- the job, or the first fault of the rows
+pub job_from_rows : (parsed : ParsedOptions)
+    → job_from parsed ≡ unless (first_some (rows parsed)) (job_of_parsed parsed)
+unfolding job_from no_input two_inputs two_vtrees number_range with_script file_twice start_unknown empty_name
+job_from_rows parsed =
+    let job = job_of_parsed parsed in
+    let names = name_of_both (parsed option.OutVtree) (parsed option.OutSdd) in
+    tested _ _ _ (drop 1 (rows parsed)) job
+    (tested _ _ _ (drop 2 (rows parsed)) job
+    (tested _ _ _ (drop 3 (rows parsed)) job
+    (looked_for fault.NumberRange _ _ (drop 4 (rows parsed)) job
+    (looked_for fault.WithScript _ _ (drop 5 (rows parsed)) job
+    (looked_for fault.FileTwice names _ (drop 6 (rows parsed)) job
+    (tested _ _ _ (drop 7 (rows parsed)) job
+    (looked_for fault.EmptyName _ _ [] job refl))
+    ∙ ap (λ (f : Option WordsFault). unless (first_some (f ∷ drop 6 (rows parsed))) job)
+    (twice (parsed option.OutVtree) (parsed option.OutSdd)))))))
 
 -- the exit of a `?` at the first fault
 pub refused : (parsed : ParsedOptions) (r : Result Job WordsFault) (f : WordsFault) → IsErrAnd r (λ e. e ≡ f)
     → first_some (rows parsed) ≡ Some f → Answers (job_from parsed) r
-unfolding job_from
 refused parsed r f is first =
     let p = err_from_is_err_and r is in
-    rw (p.1, p.2) (inr (rw (refusals_are parsed, first) refl))
+    rw (p.1, p.2) (inr (rw (job_from_rows parsed, first) refl))
 
 -- and where memory ran out
 pub ran_out : (parsed : ParsedOptions) (r : Result Job WordsFault) (f : WordsFault) → IsErrAnd r (λ e. e ≡ f)
@@ -89,16 +130,45 @@ not_empty : (kinds : Kinds) → kinds ≢ [] → is_empty kinds ≡ false
 not_empty [] some = absurd (some refl)
 not_empty (k ∷ ks) some = search (rules, nat_tests)
 
+by_test : (taken : Bool) (job : Result Job WordsFault)
+    → (fault_if (not taken) fault.Usage >> job) ≡ (if taken then job else Err fault.Usage)
+by_test true job = refl
+by_test false job = refl
+
+-- the job of the words, where `clap` takes them
+job_of_taken : (words : List Text)
+    → job_of words ≡ (if accepts words then job_from (parsed_by words) else Err fault.Usage)
+unfolding job_of usage_faults
+job_of_taken words = by_test (accepts words) (job_from (parsed_by words))
+
+-- and by the rows
+pub job_of_rows : (words : List Text)
+    → job_of words ≡ (if accepts words
+    then unless (first_some (rows (parsed_by words))) (job_of_parsed (parsed_by words)) else Err fault.Usage)
+job_of_rows words =
+    job_of_taken words
+    ∙ ap (λ (job : Result Job WordsFault). if accepts words then job else Err fault.Usage)
+    (job_from_rows (parsed_by words))
+
+parsed_rows : (words : List Text) → parsed_by words ≡ parsed_in (rows_found (handed words))
+unfolding parsed_by rows_found
+parsed_rows words = refl
+
 -- words that `clap` refuses are `Usage`
 pub usage : (words all : List Text) → all ≡ handed words → usage_faults all ≢ [] → job_of words ≡ Err fault.Usage
-unfolding job_of
 usage words all is some =
-    rw (not_empty (usage_faults (handed words)) (λ e. some (ap usage_faults is ∙ e))) refl
+    job_of_taken words
+    ∙ rw (not_empty (usage_faults (handed words)) (λ e. some (ap usage_faults is ∙ e))) refl
+
+-- words that `clap` takes are their values' job
+pub taken : (words : List Text) → usage_faults (handed words) ≡ [] → job_of words ≡ job_from (parsed_by words)
+taken words none = job_of_taken words ∙ rw none refl
 
 -- of others the answer goes by what the parse gave
 pub accepted : (words all : List Text) (m : ArgMatches) → all ≡ handed words → usage_faults all ≡ []
     → rows_of (found_of m) ≡ rows_found all → job_of words ≡ job_from (parsed_of m)
-unfolding job_of parsed_of
+unfolding parsed_of
 accepted words all m is none found =
-    rw (ap usage_faults (sym is) ∙ none)
-    (ap (λ (rows : List Row). job_from (parsed_in rows)) (sym (found ∙ ap rows_found is)))
+    taken words (ap usage_faults (sym is) ∙ none)
+    ∙ ap job_from (parsed_rows words)
+    ∙ ap (λ (rows : List Row). job_from (parsed_in rows)) (sym (found ∙ ap rows_found is))

@@ -7,13 +7,14 @@ use Rattle.std.specs.Str.{bytes_eq}
 use Rattle.clap.specs.Walk.{Row, Rule, Text, first_of, has_row, with_default}
 use Rattle.clap.specs.Faults.{default_fault, defaults_fault, given_default_fault}
 use Rattle.clap.proofs.WalkLemmas.{both}
-use Rattle.sd_words.specs.Command.{parsed_by, handed, rows_found, sddc, usage_faults}
+use Rattle.sd_words.specs.Command.{parsed_by, handed, sddc, usage_faults}
 use Rattle.sd_words.specs.JobOf.{Answers, job_from, job_of}
 use Rattle.sd_words.specs.Options.{word_of}
 use Rattle.sd_words.specs.Ordinary.{Setting, Spells, has_each_once, is_spelled, setting_of, words_of_settings}
 use Rattle.sd_words.specs.declared.faults.WordsFault.{WordsFault}
 use Rattle.sd_words.specs.declared.jobs.Job.{Job}
 use Rattle.sd_words.specs.declared.options.OptionName.{OptionName}
+use Rattle.sd_words.proofs.JobLemmas.{taken}
 use Rattle.sd_words.proofs.OptionSteps.{left_passes, left_used, row_of, the_rules, with_left}
 use Rattle.sd_words.proofs.OrdinaryWalk.{faults_all, fresh_in, row_for, walk_all}
 
@@ -105,7 +106,7 @@ ordinary_accepted settings once spelled =
 -- and each option has the value that they give it
 ordinary_values : (settings : List Setting) (o : OptionName) → has_each_once settings ≡ true
     → list_all is_spelled settings ≡ true → parsed_by (words_of_settings settings) o ≡ setting_of settings o
-unfolding rows_found sddc
+unfolding parsed_by sddc
 ordinary_values settings o once spelled =
     let ends = walk_all settings [] None tt (all_fresh settings) once spelled in
     rw (
@@ -117,11 +118,10 @@ ordinary_values settings o once spelled =
 
 job_of_words_of : (settings : List Setting) → has_each_once settings ≡ true
     → list_all is_spelled settings ≡ true → job_of (words_of_settings settings) ≡ job_from (setting_of settings)
-unfolding job_of
 job_of_words_of settings once spelled =
     let parsed : parsed_by (words_of_settings settings) ≡ setting_of settings =
     λ i o. ordinary_values settings o once spelled i in
-    rw (ordinary_accepted settings once spelled) (ap job_from parsed)
+    taken (words_of_settings settings) (ordinary_accepted settings once spelled) ∙ ap job_from parsed
 
 -- so an answer at such words is the one at the settings' values
 pub answers_ordinary : (words : List Text) (r : Result Job WordsFault) → Answers (job_of words) r

@@ -27,6 +27,12 @@ with_option app o = with_rule app (text_option (word_of o))
 unfoldable pub sddc : App
 sddc = fold with_option bare_sddc all_options
 
+-- what the words after the program's name give: the first value of each option, among what `clap` finds in them
+unfoldable pub parsed_by : List Text → ParsedOptions
+parsed_by words o = first_of (word_of o) (matches_of sddc (codes "sddc" ∷ words))
+
+-- ---- for the contracts of private functions
+
 -- the words as `clap` is handed them: the program's name comes first
 abbrev pub handed : List Text → List Text
 handed words = codes "sddc" ∷ words
@@ -35,19 +41,13 @@ handed words = codes "sddc" ∷ words
 unfoldable pub usage_faults : List Text → Kinds
 usage_faults = fault_of sddc
 
--- what `clap` finds in them
-unfoldable pub rows_found : List Text → List Row
-rows_found = matches_of sddc
-
 -- `clap` takes the words
 abbrev pub accepts : List Text → Bool
 accepts words = is_empty (usage_faults (handed words))
 
--- what the words give: the first value of each option, among what was found
-abbrev pub parsed_by : List Text → ParsedOptions
-parsed_by words o = first_of (word_of o) (rows_found (handed words))
-
--- ---- for the contracts of private functions
+-- what `clap` finds in them
+unfoldable pub rows_found : List Text → List Row
+rows_found = matches_of sddc
 
 -- the first value of each option, among some rows
 abbrev pub parsed_in : List Row → ParsedOptions

@@ -1,11 +1,16 @@
 -- The job that the words of a call stand for, or the first fault in them.
-use Rattle.std.specs.Prelude.{◌≡◌, ◌⊎◌, ℕ, List, Result, Ok, Err, MatchResult}
-use Rattle.std.specs.Prelude.{find, is_some, Option, Some, None, unwrap_or, option_and_then, if◌then◌else◌}
-use Rattle.std.specs.Option.{option_flatten, option_map_or}
-use Rattle.clap.specs.Walk.{Text}
-use Rattle.sd_words.specs.Command.{accepts, parsed_by}
-use Rattle.sd_words.specs.ParsedOptions.{ParsedOptions, generated, option_number, start_of}
-use Rattle.sd_words.specs.Refusals.{refusals}
+use Rattle.std.specs.Prelude.{◌≡◌, ◌⊎◌, ℕ, false, not, ◌&&◌, ◌==◌, nat_le, codes, List, ◌∷◌, count_by, find}
+use Rattle.std.specs.Prelude.{Result, Ok, Err, MatchResult, is_some, Option, Some, None, unwrap_or}
+use Rattle.std.specs.Bool.{then_some}
+use Rattle.std.specs.Option.{option_and_then, option_flatten, option_map_or, option_zip}
+use Rattle.std.specs.Str.{bytes_eq}
+use Rattle.clap.specs.Walk.{Text, is_empty}
+use Rattle.clap.specs.Faults.{fault_of}
+use Rattle.sd_base.specs.Reading.{◌>>◌, fault_if, fault_for}
+use Rattle.sd_words.specs.Command.{parsed_by, sddc}
+use Rattle.sd_words.specs.ParsedOptions.{ParsedOptions, fails, first_beside, generated, has_bad_number}
+use Rattle.sd_words.specs.ParsedOptions.{has_option, option_number, start_of}
+use Rattle.sd_words.specs.Options.{files, inputs, number_options, replaced_by_script}
 use Rattle.sd_words.specs.declared.jobs.InputWord.{InputWord}
 use Rattle.sd_words.specs.declared.jobs.InputWord.TheVariants as input
 use Rattle.sd_words.specs.declared.jobs.TreeWord.{TreeWord}
@@ -40,6 +45,43 @@ job_of_parsed parsed = record {
   limit = unwrap_or (option_number parsed option.Limit) 16777216;
 }
 
+-- the name that both are
+abbrev pub name_of_both : Option Text → Option Text → Option Text
+name_of_both a b = option_and_then (λ (x, y). then_some (bytes_eq x y) x) (option_zip a b)
+
+-- The job, or the first fault of the values. Where several options have the same fault, the first is named.
+unfoldable pub job_from : ParsedOptions → Result Job WordsFault
+job_from parsed = do
+  -- of `--cnf`, `--dnf` and `--generate` one is there
+  fault_if (count_by (has_option parsed) inputs == 0) fault.NoInput
+  fault_if (nat_le 2 (count_by (has_option parsed) inputs)) fault.TwoInputs
+  -- `--vtree` and `--start` are not both there
+  fault_if (has_option parsed option.Vtree && has_option parsed option.Start) fault.TwoVtrees
+  -- each number is as it has to be
+  fault_for fault.NumberRange (find (has_bad_number parsed) number_options)
+  -- `--script` is not there with an option that it stands in place of
+  fault_for fault.WithScript (first_beside option.Script replaced_by_script parsed)
+  -- `--out-vtree` and `--out-sdd` do not name the same bytes
+  fault_for fault.FileTwice (name_of_both (parsed option.OutVtree) (parsed option.OutSdd))
+  -- the value of `--start` is `balanced`, `right` or `left`
+  fault_if (fails start_of (parsed option.Start)) fault.StartUnknown
+  -- no name of a file is empty
+  fault_for fault.EmptyName (find (λ o. option_map_or is_empty (parsed o) false) files)
+  Ok (job_of_parsed parsed)
+
+-- the same of the words, where `clap` finds nothing wrong with them behind the program's name
+unfoldable pub job_of : List Text → Result Job WordsFault
+job_of words = do
+  fault_if (not (is_empty (fault_of sddc (codes "sddc" ∷ words)))) fault.Usage
+  job_from (parsed_by words)
+
+-- the result is this answer, or memory ran out
+abbrev pub Answers : {T : Type 0} → Result T WordsFault → Result T WordsFault → Type 0
+Answers answer result = MatchResult result (λ x. answer ≡ Ok x)
+    (λ f. (f ≡ fault.OutOfMemory) ⊎ (answer ≡ Err f))
+
+-- ---- for the contracts of private functions
+
 -- the first fault of a list that is there
 abbrev pub first_some : List (Option WordsFault) → Option WordsFault
 first_some faults = option_flatten (find is_some faults)
@@ -48,16 +90,3 @@ first_some faults = option_flatten (find is_some faults)
 abbrev pub unless : {T : Type 0} → Option WordsFault → T → Result T WordsFault
 unless (Some f) _ = Err f
 unless None x = Ok x
-
--- the job, or the first refusal of the table
-unfoldable pub job_from : ParsedOptions → Result Job WordsFault
-job_from parsed = unless (first_some (refusals parsed)) (job_of_parsed parsed)
-
--- the same of the words, where `clap` takes them
-unfoldable pub job_of : List Text → Result Job WordsFault
-job_of words = if accepts words then job_from (parsed_by words) else Err fault.Usage
-
--- the result is this answer, or memory ran out
-abbrev pub Answers : {T : Type 0} → Result T WordsFault → Result T WordsFault → Type 0
-Answers answer result = MatchResult result (λ x. answer ≡ Ok x)
-    (λ f. (f ≡ fault.OutOfMemory) ⊎ (answer ≡ Err f))

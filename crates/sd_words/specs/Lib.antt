@@ -2,7 +2,6 @@ pub mod Options
 pub mod ParsedOptions
 pub mod Command
 pub mod Numbers
-pub mod Refusals
 pub mod Rows
 pub mod JobOf
 pub mod Ordinary

@@ -1,29 +1,19 @@
 -- Numbers as values on the command line: one to ten digits and nothing else.
-use Rattle.std.specs.Prelude.{ℕ, ◌&&◌, ◌==◌, Bool, Option, Some, None, if◌then◌else◌, length}
+use Rattle.std.specs.Prelude.{ℕ, ◌&&◌, ◌==◌, Bool, Option, length}
 use Rattle.std.specs.Prelude.{nat_le, not, option_and_then}
+use Rattle.std.specs.Bool.{then_some}
 use Rattle.std.specs.Char.{is_ascii_digit}
 use Rattle.std.specs.Option.{option_zip}
 use Rattle.std.specs.List.{after_first, before_first, list_all}
-use Rattle.std.specs.Str.Parse.{digits_value}
+use Rattle.sd_base.specs.Numbers.{is_within, natural_to}
 use Rattle.clap.specs.Walk.{Text, is_empty}
 use Rattle.sd_words.specs.Options.{range_of}
 use Rattle.sd_words.specs.declared.options.OptionName.{OptionName}
 
--- one to ten digits; leading zeros count as digits
-abbrev pub is_number : Text → Bool
-is_number text = not (is_empty text) && (nat_le (length text) 10 && list_all is_ascii_digit text)
-
--- the number that they write
-unfoldable pub natural : Text → Option ℕ
-natural text = if is_number text then Some (digits_value 10 text) else None
-
--- a number, where it is from `least` to `most`
-abbrev pub within : ℕ → ℕ → ℕ → Option ℕ
-within least most n = if nat_le least n && nat_le n most then Some n else None
-
--- the number that a text writes, where it is from `least` to `most`
+-- the number of one to ten digits that a text writes, where it is from `least` to `most`
 abbrev pub number_within : ℕ → ℕ → Text → Option ℕ
-number_within least most text = option_and_then (within least most) (natural text)
+number_within least most text =
+    option_and_then (λ n. then_some (is_within least most n) n) (natural_to 10 text)
 
 -- the number that an option has, where the text writes one in its range
 abbrev pub number_of_text : OptionName → Text → Option ℕ
@@ -36,6 +26,10 @@ count_and_seed text = option_zip
     (number_within 0 4294967295 (after_first (λ byte. byte == 58) text))
 
 -- ---- for the contracts of private functions
+
+-- one to ten digits
+abbrev pub is_number : Text → Bool
+is_number text = not (is_empty text) && (nat_le (length text) 10 && list_all is_ascii_digit text)
 
 -- both, where both are there
 abbrev pub both : Option ℕ → Option ℕ → Option (ℕ × ℕ)

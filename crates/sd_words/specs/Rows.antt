@@ -1,14 +1,29 @@
--- The rows of the table of refusals, one by one, for the contracts of private functions.
-use Rattle.std.specs.Prelude.{◌&&◌, ◌==◌, List, [], ◌∷◌, count_by, nat_le}
-use Rattle.std.specs.Prelude.{Option, option_map}
-use Rattle.clap.specs.Walk.{is_empty}
+-- The tests of the values, one by one, for the contracts of private functions.
+use Rattle.std.specs.Prelude.{◌&&◌, ◌==◌, Bool, List, [], ◌∷◌, count_by, find, if◌then◌else◌, nat_le}
+use Rattle.std.specs.Prelude.{Option, Some, None, option_map}
+use Rattle.std.specs.Option.{option_and_then, option_zip}
+use Rattle.std.specs.Str.{bytes_eq}
+use Rattle.clap.specs.Walk.{Text, is_empty}
 use Rattle.sd_words.specs.ParsedOptions.{ParsedOptions, fails, first_beside, has_option, has_bad_number}
 use Rattle.sd_words.specs.ParsedOptions.{has_that, start_of}
 use Rattle.sd_words.specs.Options.{files, inputs, number_options, replaced_by_script}
+use Rattle.sd_words.specs.declared.options.OptionName.{OptionName}
 use Rattle.sd_words.specs.declared.options.OptionName.TheVariants as option
 use Rattle.sd_words.specs.declared.faults.WordsFault.{WordsFault}
 use Rattle.sd_words.specs.declared.faults.WordsFault.TheVariants as fault
-use Rattle.sd_words.specs.Refusals.{fault_where, fault_at_first, same_name}
+
+-- the fault, where the test says so
+abbrev pub fault_where : Bool → WordsFault → Option WordsFault
+fault_where test f = if test then Some f else None
+
+-- the fault of the first option of a list that passes the test
+abbrev pub fault_at_first : (OptionName → Bool) → List OptionName → (OptionName → WordsFault)
+    → Option WordsFault
+fault_at_first test options fault = option_map fault (find test options)
+
+-- two names that are there are the same bytes
+abbrev pub same_name : Option Text → Option Text → Option WordsFault
+same_name a b = option_and_then (λ (x, y). fault_where (bytes_eq x y) (fault.FileTwice x)) (option_zip a b)
 
 -- none of `--cnf`, `--dnf` and `--generate` is there
 unfoldable pub no_input : ParsedOptions → Option WordsFault

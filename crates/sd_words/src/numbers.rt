@@ -2,7 +2,8 @@
 ghost use Rattle.std.specs.Prelude.{◌≡◌};
 ghost use Rattle.std.specs.Char.{is_ascii_digit};
 ghost use Rattle.std.specs.List.{list_all};
-ghost use Rattle.sd_words.specs.Numbers.{count_and_seed, is_number, natural};
+ghost use Rattle.sd_base.specs.Numbers.{natural_to};
+ghost use Rattle.sd_words.specs.Numbers.{count_and_seed, is_number};
 ghost use Rattle.sd_words.specs.Numbers.{number_of_text, number_within};
 
 use crate::options::OptionName;
@@ -40,7 +41,7 @@ fn number_within(text: &str, least: u32, most: u32) -> Option<u32>
 
 // The number that one to ten digits write. Ten digits may pass 32 bits.
 fn natural(text: &str) -> Option<u64>
-    ensures { result ≡ natural text.now }
+    ensures { result ≡ natural_to 10 text.now }
 {
     if is_number(text) {
         text.parse::<u64>().ok()

@@ -2,7 +2,7 @@
 use Rattle.std.proofs.Common.{arith, ◌≡◌, ◌==◌, ◌∙◌, refl, sym, ℕ, Option, Some, None, [], length}
 use Rattle.std.proofs.Common.{drop_of_length-le}
 use Rattle.std.specs.List.{after_first, position_or_len}
-use Rattle.sd_words.specs.Numbers.{both, natural, number_within}
+use Rattle.sd_words.specs.Numbers.{both, number_within}
 use Rattle.sd_words.proofs.numbers.count_and_seed.Goals as goal
 
 both_none : (o : Option ℕ) → both o None ≡ None
@@ -10,7 +10,6 @@ both_none None = refl
 both_none (Some n) = refl
 
 no_seed : number_within 0 4294967295 [] ≡ None
-unfolding natural
 no_seed = refl
 
 pub returns-in_err-count : goal.returns-in_err-count

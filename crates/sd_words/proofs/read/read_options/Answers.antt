@@ -1,11 +1,10 @@
 -- Each exit is the first refusal of the table, since the checks before it found none.
 use Rattle.std.proofs.Common.{◌∙◌, is_some, Ok, ap, inl, inr, refl, sym}
 use Rattle.sd_words.specs.Command.{parsed_of}
-use Rattle.sd_words.specs.JobOf.{job_from}
 use Rattle.sd_words.specs.Numbers.{count_and_seed}
 use Rattle.sd_words.specs.declared.options.OptionName.TheVariants as option
 use Rattle.sd_words.specs.declared.jobs.Job.{Job}
-use Rattle.sd_words.proofs.JobLemmas.{first_two, ran_out, refusals_are, refused, some_reads, some_input}
+use Rattle.sd_words.proofs.JobLemmas.{first_two, job_from_rows, ran_out, refused, some_reads, some_input}
 use Rattle.sd_words.proofs.read.read_options.Goals as goal
 
 pub returns-in_err-check_inputs : goal.returns-in_err-check_inputs
@@ -90,10 +89,9 @@ job-requires-clause-generated c =
 
 -- no check found a fault, so the answer is the job
 pub returns : goal.returns
-unfolding job_from
 returns c =
     rw (
-      refusals_are (parsed_of c.args.options.now),
+      job_from_rows (parsed_of c.args.options.now),
       first_two,
       c.in_ok-check_inputs.ensures,
       c.in_ok-check_vtrees.ensures,
