@@ -114,13 +114,15 @@ def sources():
 
 
 def check_answers():
-    """Each clause of a row is one of its calls, and each edit one of a crate that has such a call."""
-    clauses, homes, edits = {}, {}, {}
+    """Each clause of a row is one of its calls, each law and edit one of a crate that has such a call."""
+    clauses, homes, laws, edits = {}, {}, {}, {}
     for crate, text in sources():
         parts = re.split(r"\bfn (\w+)", text)
         for name, rest in zip(parts[1::2], parts[2::2]):
             clauses.setdefault(name, set()).update(re.findall(r"ensures (\w+) {", rest))
             homes.setdefault(name, set()).add(crate)
+            if re.search(r"^{}$", rest, re.M):
+                laws.setdefault(name, set()).add(crate)
     for path in glob.glob(TOP + "/crates/*/must-fail/*.edit"):
         edits.setdefault(os.path.basename(path)[:-5], set()).add(path.split("/")[-3])
     calls = []
@@ -129,7 +131,8 @@ def check_answers():
         known = set().union(*(clauses[name] for name in calls))
         crates = set().union(*(homes[name] for name in calls))
         for name in re.findall(r"`(\w+)`", row[3]):
-            expect(name in known, "docs/ANSWERS.md: %s: no clause is named %s" % (row[0], name))
+            expect(name in known or laws.get(name, set()) & crates,
+                   "docs/ANSWERS.md: %s: no clause or law is named %s" % (row[0], name))
         for name in re.findall(r"`(\w+)`", row[4]):
             expect(name in homes or edits.get(name, set()) & crates,
                    "docs/ANSWERS.md: %s: no edit or test is named %s" % (row[0], name))

@@ -33,7 +33,7 @@ use Rattle.sd_commands.specs.declared.command.RunCommand.{RunCommand}
 use Rattle.sd_commands.specs.declared.command.RunCommand.TheVariants as commands
 use Rattle.sd_tool.specs.Asks.{GoesTo, writings, begun}
 use Rattle.sd_tool.specs.Readings.{ReadsBy, Reading, Refuses, Begins, Reads, Text, Whole, TooLong}
-use Rattle.sd_tool.specs.Theorem.{HasAsked}
+use Rattle.sd_tool.specs.Laws.{HasAsked}
 use Rattle.sd_tool.specs.Devices.{Seen}
 use Rattle.sd_tool.specs.Ends.{End, Finished, Refused, Unreadable, Unwritable, OutOfMemory, ArenaFull, OverLimit}
 use Rattle.sd_tool.specs.Ends.{NotMovable, status_of}
@@ -211,7 +211,7 @@ order_of asks words files effects (NotMovable l) (inl p) = absurd p.0
 
 -- what is asked of the shelf, status by status
 pub asked_at : (words : List (List ℕ)) (status : ℕ) (kept : Option Table) (seen : Seen)
-    → IsOneCourse words status kept seen → HasAsked status seen
+    → IsOneCourse words status kept seen → HasAsked words status seen
 asked_at words status kept seen went = (
   none went.end went.goes went.status_is,
   alone went.end went.goes went.status_is,

@@ -157,6 +157,20 @@ course_of words status kept seen went =
     (λ effects end. Leaves effects end seen.old.contents seen.new.contents × EndsSo words effects end kept seen)
     went (went.leaves, (went.reason, went.keeps, went.line))
 
+-- and back: the course with a name for each part
+pub one_course : (words : List (List ℕ)) (status : ℕ) (kept : Option Table) (seen : Seen)
+    → IsCourse words status kept seen → IsOneCourse words status kept seen
+one_course words status kept seen (effects, end, status_is, goes, (leaves, (reason, keeps, line))) = record {
+  effects = effects;
+  end = end;
+  goes = goes;
+  status_is = status_is;
+  leaves = leaves;
+  reason = reason;
+  keeps = keeps;
+  line = line;
+}
+
 -- ---- status by status
 
 -- the effects, status by status

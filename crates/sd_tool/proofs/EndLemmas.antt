@@ -20,7 +20,7 @@ use Rattle.sd_tool.specs.Refusals.{refusal_status}
 use Rattle.sd_tool.specs.KeptManager.{KeepsManager}
 use Rattle.sd_tool.specs.Stops.{KeepsOf}
 use Rattle.sd_tool.specs.Devices.{Moment, Seen, Faults, HasReason, WritesLine, WritesEndLine}
-use Rattle.sd_tool.specs.inside.Devices.{NotFewer}
+use Rattle.sd_tool.specs.inside.Devices.{NotFewer, AppendsLine}
 use Rattle.sd_tool.specs.Stops.{stop_status, stop_text, StandsFor, StopsReading, RunsToEnd, CarriesOut, Attempts}
 use Rattle.sd_tool.specs.Stops.{IsFullAt, is_full}
 use Rattle.sd_tool.specs.declared.refusal.Refusal.{Refusal}
@@ -30,6 +30,7 @@ use Rattle.sd_tool.specs.declared.stop.Stop.TheVariants as stops
 use Rattle.sd_tool.specs.declared.stop.Stop.TheVariants.{ReadFault, WriteFault, OutputFault, OutOfMemory, ArenaFull}
 use Rattle.sd_tool.specs.declared.stop.Stop.TheVariants.{OverLimit, NotMovable}
 use Rattle.sd_tool.proofs.AskLemmas.{Joins, comes_reads}
+use Rattle.sd_tool.proofs.Fronts.{writes_line}
 use Rattle.sd_tool.proofs.NotOutOfMemory.{refused_of_text}
 use Rattle.sd_tool.proofs.StepLemmas.{cause_since}
 
@@ -255,7 +256,7 @@ pub went_to_stop : (words : List (List ℕ)) (stop : Stop) (status : ℕ) (text 
     (seen : Seen)
     → Attempts seen.asked words kept (Err stop) seen.old.contents seen.new.contents seen.old.faults seen.new.faults
     → status ≡ stop_status stop → text ≡ stop_text stop
-    → WritesLine (line_of text) seen.old.errors seen.new.errors seen.old.err_faults seen.new.err_faults
+    → AppendsLine (line_of text) seen.old.errors seen.new.errors seen.old.err_faults seen.new.err_faults
     → IsOneCourse words status kept seen
 went_to_stop words stop status text kept seen attempt is text_is says = record {
   effects = attempt.effects;
@@ -267,5 +268,6 @@ went_to_stop words stop status text kept seen attempt is text_is says = record {
   keeps = attempt.keeps;
   line = says_end stop attempt.end seen.old seen.new attempt.at
       (subst (λ t. WritesLine (line_of t) seen.old.errors seen.new.errors seen.old.err_faults seen.new.err_faults)
-      text_is says);
+      text_is
+      (writes_line (line_of text) seen.old.errors seen.new.errors seen.old.err_faults seen.new.err_faults says));
 }

@@ -37,7 +37,7 @@ use Rattle.sd_tool.specs.inside.Readings.{in_line}
 use Rattle.sd_tool.specs.inside.Readings.{with_script_reading, script_reading}
 use Rattle.sd_tool.specs.Ends.{Finished}
 use Rattle.sd_tool.specs.Devices.{Seen}
-use Rattle.sd_tool.specs.Theorem.{HasJoined}
+use Rattle.sd_tool.specs.Laws.{HasJoined}
 use Rattle.sd_tool.specs.inside.ByStatus.{IsOneCourse}
 use Rattle.sd_tool.specs.Written.{IsStartTree}
 use Rattle.sd_tool.specs.Joined.{own_formula, JoinsTwo, FourLines}

@@ -3,6 +3,8 @@ pub mod AskedAt
 pub mod ByStatus
 pub mod EndLemmas
 pub mod FormulaFaults
+pub mod FromCourse
+pub mod Fronts
 pub mod Joined
 pub mod Limited
 pub mod NotOutOfMemory

@@ -17,7 +17,7 @@ use Rattle.sd_tool.specs.Course.{EndsAmong}
 use Rattle.sd_tool.specs.inside.Course.{MayEnd}
 use Rattle.sd_tool.specs.Devices.{Seen, WritesEndLine}
 use Rattle.sd_tool.specs.Ends.{OverLimit}
-use Rattle.sd_tool.specs.Theorem.{HasLimit}
+use Rattle.sd_tool.specs.Laws.{HasLimit}
 use Rattle.sd_tool.specs.inside.ByStatus.{IsOneCourse}
 use Rattle.sd_tool.specs.Asks.{GoesTo}
 use Rattle.sd_tool.specs.Readings.{Plan, Begins, reading_of, plan_for, announcement, default_of, in_lines}

@@ -25,6 +25,7 @@ use Rattle.sd_tool.specs.Devices.{Seen, Faults, IsCalm, HasReason, WritesEndLine
 use Rattle.sd_tool.specs.inside.Devices.{NoneRose}
 use Rattle.sd_tool.specs.Course.{EndsAmong, Leaves}
 use Rattle.sd_tool.specs.Asks.{OwnEnd, CameTo, LacksRoom}
+use Rattle.sd_tool.specs.Laws.{IsDoneOrOverLimit}
 use Rattle.sd_tool.specs.Theorem.{IsComplete}
 use Rattle.sd_tool.specs.inside.ByStatus.{IsOneCourse}
 use Rattle.sd_tool.specs.Written.{IsFormulaOf, IsStartTree, PlainRun}
@@ -304,12 +305,14 @@ plain_input run = record { named = run.given.named; alone = run.alone; input = r
 -- a run that went somewhere is complete
 pub completes : (words : List (List ℕ)) (status : ℕ) (kept : Option Table) (seen : Seen)
     → IsOneCourse words status kept seen → IsComplete words status seen
-completes words status kept seen went = λ calm. (
-  λ run.
-      let given = run.given in
-      ends_at_plan words status kept seen went given.files
-      (plan_for given.job given.formula given.tree (default_of given.job)) given.told
-      (leads_to_plan words given.files given.job given.formula given.tree (plain_input run) given.starts)
-      (default_still given.job given.formula) calm,
-  comes_to_own words status kept seen went calm,
-)
+completes words status kept seen went = λ calm own. comes_to_own words status kept seen went calm own
+
+-- without a script it is done or passes its limit, or there was no memory
+pub done_or_over : (words : List (List ℕ)) (status : ℕ) (kept : Option Table) (seen : Seen)
+    → IsOneCourse words status kept seen → IsDoneOrOverLimit words status seen
+done_or_over words status kept seen went = λ run calm.
+    let given = run.given in
+    ends_at_plan words status kept seen went given.files
+    (plan_for given.job given.formula given.tree (default_of given.job)) given.told
+    (leads_to_plan words given.files given.job given.formula given.tree (plain_input run) given.starts)
+    (default_still given.job given.formula) calm

@@ -34,6 +34,7 @@ use Rattle.sd_tool.specs.Stops.{FailsAt, RunsToEnd, stop_of}
 use Rattle.sd_tool.specs.declared.stop.Stop.{Stop}
 use Rattle.sd_tool.specs.declared.stop.Stop.TheVariants.{OutOfMemory, ArenaFull, OverLimit, NotMovable}
 use Rattle.sd_tool.proofs.AskLemmas.{Joins}
+use Rattle.sd_tool.proofs.Fronts.{does_part}
 
 -- the contents after two lists of effects
 pub after_append : (first others : List Effect) (old : Contents)
@@ -314,7 +315,8 @@ goes_to_fault {c = c} plan v index code code' t old now new first before after_ 
           ∙ ap (λ (l : List Effect). writings (so_far.effects ++ l)) fails.one)
           (join.meets _ _ so_far.asked asks);
       full_at = tt;
-      leaves = subst (λ (o : Contents). DoesPart fails.effect o new) so_far.is fails.part;
+      leaves = subst (λ (o : Contents). DoesPart fails.effect o new) so_far.is
+          (does_part fails.effect now new fails.part);
       reason = cause_since fails.effect now.files old.files first before after_ fewer fails.reason;
     }
 

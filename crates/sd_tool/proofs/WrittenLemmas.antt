@@ -48,7 +48,8 @@ use Rattle.sd_tool.specs.Readings.{announcement, in_lines}
 use Rattle.sd_tool.specs.inside.Readings.{search_of}
 use Rattle.sd_tool.specs.Ends.{Finished}
 use Rattle.sd_tool.specs.Devices.{Seen}
-use Rattle.sd_tool.specs.Theorem.{HasWritten, HasEqualTexts}
+use Rattle.sd_tool.specs.Laws.{HasWritten}
+use Rattle.sd_tool.specs.Theorem.{HasEqualTexts}
 use Rattle.sd_tool.specs.inside.ByStatus.{IsOneCourse}
 use Rattle.sd_tool.specs.Written.{ReadsAs, IsFormulaOf, IsStartTree, IsWritten, PlainRun, WritesInput}
 use Rattle.sd_tool.specs.Written.{with_output, with_announcement, IsFound}

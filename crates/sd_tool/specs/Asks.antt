@@ -84,11 +84,3 @@ CameTo {seen = seen} own status = (status ≡ status_of own.end)
 -- there was no memory, or no room in the arena
 abbrev pub LacksRoom : ℕ → Type 0
 LacksRoom status = (status ≡ 7) ⊎ (status ≡ 8)
-
--- only readings are asked for
-abbrev pub ReadsAlone : (List Request → Type 0) → Type 0
-ReadsAlone asks = (names : List (List ℕ)) × asks (map ToRead names)
-
--- no file is read after one is written
-abbrev pub ReadsFirst : (List Request → Type 0) → Type 0
-ReadsFirst asks = (names files : List (List ℕ)) × asks (map ToRead names ++ map ToWrite files)

@@ -1,9 +1,9 @@
 -- The devices of a run at a moment: the files, what was printed, what stands on `err`, and the counts of their faults.
-use Rattle.std.specs.Prelude.{◌≡◌, ◌⊎◌, ℕ, List, Option}
+use Rattle.std.specs.Prelude.{◌≡◌, ◌⊎◌, ℕ, List, take, Option}
 use Rattle.sd_base.specs.Asked.{Request, Adds}
 use Rattle.sd_base.specs.Faults.{Rose}
 use Rattle.sd_base.specs.Files.{Files, Lacks}
-use Rattle.sd_base.specs.Sink.{told_then, AppendsPart}
+use Rattle.sd_base.specs.Sink.{told_then}
 use Rattle.sd_base.specs.declared.shelf.Shelf as shelves
 use Rattle.sd_base.specs.declared.sink.Sink as sinks
 use Rattle.sd_commands.specs.Effects.{Write, Print}
@@ -62,9 +62,10 @@ HasReason (Unwritable (Write file bytes)) files before now = Rose before.write n
 HasReason (Unwritable (Print line)) files before now = Rose before.print now.print
 HasReason end files before now = Unit {0}
 
--- This line was appended, or a prefix of it where the sink has failed.
+-- This line was appended, or its first n bytes where the sink has failed.
 abbrev pub WritesLine : List ℕ → Option (List ℕ) → Option (List ℕ) → ℕ → ℕ → Type 0
-WritesLine line old new before now = (new ≡ told_then old line) ⊎ (AppendsPart old line new × Rose before now)
+WritesLine line old new before now =
+    (new ≡ told_then old line) ⊎ ((n : ℕ) × (new ≡ told_then old (take n line)) × Rose before now)
 
 -- At the end of all commands `err` is unchanged; each other end has its one line there.
 abbrev pub WritesEndLine : End → Moment → Moment → Type 0

@@ -1,7 +1,7 @@
 -- What the effects of a run leave outside.
-use Rattle.std.specs.Prelude.{◌≡◌, ℕ, List, fold, Option}
-use Rattle.sd_base.specs.Files.{Files, told_with, WritesPart}
-use Rattle.sd_base.specs.Sink.{told_then, AppendsPart}
+use Rattle.std.specs.Prelude.{◌≡◌, ◌⊎◌, ℕ, List, fold, take, Option}
+use Rattle.sd_base.specs.Files.{Files, told_with}
+use Rattle.sd_base.specs.Sink.{told_then}
 use Rattle.sd_commands.specs.Effects.{Effect, Write, Print}
 
 -- the files of the shelf and what was printed, as far as they are told
@@ -18,7 +18,11 @@ after_effect (Print line) contents = record contents { printed = told_then conte
 abbrev pub after : List Effect → Contents → Contents
 after effects contents = fold (λ before effect. after_effect effect before) contents effects
 
--- the file of the effect is unchanged or holds a prefix of its bytes, or a prefix of its line was printed
+-- the effect with its first n bytes alone
+abbrev pub cut : ℕ → Effect → Effect
+cut n (Write file bytes) = Write file (take n bytes)
+cut n (Print line) = Print (take n line)
+
+-- of the effect nothing was done, or so much as its first n bytes tell
 abbrev pub DoesPart : Effect → Contents → Contents → Type 0
-DoesPart (Write file bytes) old new = WritesPart old.files file bytes new.files × (new.printed ≡ old.printed)
-DoesPart (Print line) old new = AppendsPart old.printed line new.printed × (new.files ≡ old.files)
+DoesPart effect old new = (new ≡ old) ⊎ ((n : ℕ) × (new ≡ after_effect (cut n effect) old))

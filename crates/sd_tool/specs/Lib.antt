@@ -7,10 +7,12 @@ pub mod Ends
 pub mod inside
 pub mod Joined
 pub mod KeptManager
+pub mod Laws
 pub mod Parts
 pub mod PlanViews
 pub mod Readings
 pub mod Refusals
 pub mod Stops
+pub mod Texts
 pub mod Theorem
 pub mod Written

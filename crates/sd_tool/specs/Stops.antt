@@ -9,12 +9,13 @@ use Rattle.sd_commands.specs.Effects.{Effect, Write, Print}
 use Rattle.sd_commands.specs.Standing.{IsFilled}
 use Rattle.sd_commands.specs.declared.error.CommandError.{CommandError}
 use Rattle.sd_commands.specs.declared.error.CommandError.TheVariants as errors
-use Rattle.sd_tool.specs.Effects.{Contents, DoesPart}
+use Rattle.sd_tool.specs.Effects.{Contents}
 use Rattle.sd_tool.specs.Readings.{Plan, Reading, Refuses, Text, Whole, TooLong}
 use Rattle.sd_tool.specs.Ends.{End, Finished, Refused, Unreadable, Unwritable, OutOfMemory as NoMemory}
 use Rattle.sd_tool.specs.Ends.{ArenaFull as NoRoom, OverLimit, NotMovable, status_of, text_of}
 use Rattle.sd_tool.specs.KeptManager.{HoldsAt, KeepsManager}
 use Rattle.sd_tool.specs.Devices.{HasReason, Faults}
+use Rattle.sd_tool.specs.inside.Devices.{LeavesPart}
 use Rattle.sd_tool.specs.Asks.{ComesTo, AsksLast, BreaksOff, GoesTo, begun, writings}
 use Rattle.sd_tool.specs.Course.{EndsAmong, Leaves}
 use Rattle.sd_tool.specs.declared.refusal.Refusal.{Refusal}
@@ -110,7 +111,7 @@ pub record FailsAt (stop : Stop) (effects : List Effect) (old new : Contents) (b
   pub effect : Effect
   pub one : effects ≡ effect ∷ []
   pub at : StandsFor stop (Unwritable effect)
-  pub part : DoesPart effect old new
+  pub part : LeavesPart effect old new
   pub reason : HasReason (Unwritable effect) old.files before now
 
 -- the readings and the commands come to an end, with the result of the code and what is kept

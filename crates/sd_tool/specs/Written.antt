@@ -1,5 +1,5 @@
 -- What the words and told files give, and what the written files are, said without the course of the run.
-use Rattle.std.specs.Prelude.{◌≡◌, ℕ, ◌≤◌, List, [], ◌∷◌, map, length, Option, Some, None, Result, Ok}
+use Rattle.std.specs.Prelude.{◌≡◌, ℕ, ◌≤◌, List, [], ◌∷◌, length, Option, Some, None, Result, Ok}
 use Rattle.std.specs.FinMap.{get, insert}
 use Rattle.std.specs.Option.{option_map_or}
 use Rattle.sd_base.specs.Files.{Files}
@@ -22,14 +22,8 @@ use Rattle.sd_words.specs.declared.jobs.InputWord.{InputWord}
 use Rattle.sd_words.specs.declared.jobs.InputWord.TheVariants as inputs
 use Rattle.sd_words.specs.declared.jobs.TreeWord.{TreeWord}
 use Rattle.sd_words.specs.declared.jobs.TreeWord.TheVariants as trees
-use Rattle.sd_commands.specs.Effects.{Effect}
 use Rattle.sd_commands.specs.Standing.{start}
-use Rattle.sd_commands.specs.Commands.{State, Grows, PassesAtGroup, IsTextOf}
-use Rattle.sd_commands.specs.Commands.{formula_named, generated_line, size_line, search_line}
-use Rattle.sd_commands.specs.declared.command.NumberedCommand.{NumberedCommand}
-use Rattle.sd_commands.specs.declared.command.RunCommand.TheVariants as commands
-use Rattle.sd_tool.specs.Readings.{Plan, Begins, reading_of, MayComeTo}
-use Rattle.sd_tool.specs.Course.{IsAtCommand}
+use Rattle.sd_commands.specs.Commands.{Grows, PassesAtGroup, generated_line, size_line, search_line}
 use Rattle.sd_tool.specs.Effects.{Contents}
 use Rattle.sd_tool.specs.Devices.{Seen, WritesEndLine}
 use Rattle.sd_tool.specs.Ends.{OverLimit}
@@ -123,20 +117,3 @@ PassesAt run group size = let job = run.given.job in
 abbrev pub TellsGroup : {words : List (List ℕ)} {seen : Seen} → PlainRun words seen → Type 0
 TellsGroup {seen = seen} run = (group size : ℕ) × PassesAt run group size
     × WritesEndLine (OverLimit 1 (Some group) size run.given.job.limit) seen.old seen.new
-
--- A command that writes diagrams is reached, of the plan to which the words and the files lead: the formulas of its
--- names and the tree there, and the text that it writes.
-pub record Writes (words : List (List ℕ)) (seen : Seen) (tree : Tree) (fs : List Expression) (text : List ℕ)
-    : Type 0 where
-  pub plan : Plan
-  pub led : MayComeTo seen.old.contents.files (reading_of words) (Begins plan)
-  pub names : List ℕ
-  pub file : List ℕ
-  pub effects : List Effect
-  pub state : State
-  pub next : NumberedCommand
-  pub at : IsAtCommand plan effects state next
-  pub writes : next.command ≡ commands.Write names file
-  pub formulas : fs ≡ map (formula_named state) names
-  pub tree_is : tree ≡ state.tree
-  pub text_is : IsTextOf tree fs text

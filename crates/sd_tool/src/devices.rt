@@ -3,10 +3,10 @@ ghost use Rattle.std.specs.Prelude.{◌≡◌, [], ◌∷◌, OnOk, IfErr};
 ghost use Rattle.sd_base.specs.Asked.{Adds};
 ghost use Rattle.sd_base.specs.Shelf.{NoFile};
 ghost use Rattle.sd_tool.specs.Asks.{writings};
-ghost use Rattle.sd_tool.specs.Effects.{after, after_effect, DoesPart};
+ghost use Rattle.sd_tool.specs.Effects.{after, after_effect};
 ghost use Rattle.sd_tool.specs.Ends.{Unwritable};
 ghost use Rattle.sd_tool.specs.Devices.{HasReason};
-ghost use Rattle.sd_tool.specs.inside.Devices.{contents, faults, NotFewer};
+ghost use Rattle.sd_tool.specs.inside.Devices.{contents, faults, NotFewer, LeavesPart};
 ghost use Rattle.sd_commands.specs.Standing.{effect_of, effects_of};
 ghost use Rattle.sd_tool.specs.Stops.{StandsFor, FailsAt};
 
@@ -45,7 +45,7 @@ fn write_effect<F: Shelf, O: Sink>(shelf: &mut F, out: &mut O, effect: Effect) -
     ensures hand { F.hand shelf.new ≡ NoFile }
     ensures ok { OnOk result (contents F.files O.written shelf.new out.new
         ≡ after_effect (effect_of effect) (contents F.files O.written shelf.old out.old)) }
-    ensures part { IfErr result (λ stop. DoesPart (effect_of effect)
+    ensures part { IfErr result (λ stop. LeavesPart (effect_of effect)
         (contents F.files O.written shelf.old out.old)
         (contents F.files O.written shelf.new out.new)) }
     ensures stop { IfErr result (λ stop. StandsFor stop (Unwritable (effect_of effect))) }

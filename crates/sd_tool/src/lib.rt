@@ -4,10 +4,12 @@
 //!
 //! `run` (`whole_run.rt`) is the one door. It reads all inputs first (`reading.rt`, `scripts.rt`), which makes a plan
 //! (`plan.rt`), then does the plan's commands one by one with what each asks for outside (`devices.rt`), and ends with
-//! a status and at most one line (`stop.rt`, `refusal.rt`, `parts.rt`). What it promises is `specs/Theorem.antt`.
+//! a status and at most one line (`stop.rt`, `refusal.rt`, `parts.rt`). What it promises is `specs/Theorem.antt`, and
+//! what follows from that stands in `laws`.
 #![tactic(auto)]
 
 mod devices;
+pub mod laws;
 mod parts;
 mod plan;
 mod reading;

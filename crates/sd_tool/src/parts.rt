@@ -4,7 +4,7 @@ ghost use Rattle.std.specs.Prelude.{◌≡◌, ◌≤◌, ◌++◌, OnOk, OnErr,
 ghost use Rattle.sd_base.specs.Faults.{Rose};
 ghost use Rattle.sd_base.specs.Sink.{told_then, AppendsPart};
 ghost use Rattle.sd_model.specs.Text.{number_text};
-ghost use Rattle.sd_tool.specs.Devices.{WritesLine};
+ghost use Rattle.sd_tool.specs.inside.Devices.{AppendsLine};
 ghost use Rattle.sd_tool.specs.Ends.{OverLimit, text_of, group_text, line_of};
 ghost use Rattle.sd_tool.specs.Parts.{parts_text, line_text, number_seen};
 ghost use Rattle.sd_tool.specs.Refusals.{at_line, counts, signed_text};
@@ -166,7 +166,7 @@ pub fn counts(file: &[u8], stated: u64, found: u64) -> Parts<'_>
 
 /// Writes the line, as far as it goes.
 pub fn write_line<E: Sink>(err: &mut E, line: &LineParts<'_>)
-    ensures { WritesLine (line_of (line_text line.now))
+    ensures { AppendsLine (line_of (line_text line.now))
         (E.written err.old) (E.written err.new) (E.faults err.old) (E.faults err.new) }
 {
     let _ = write_halves(err, line);

@@ -5,8 +5,7 @@ ghost use Rattle.sd_base.specs.Shelf.{NoFile};
 ghost use Rattle.sd_tool.specs.Devices.{seen};
 ghost use Rattle.sd_tool.specs.inside.Devices.{contents, faults, NotFewer};
 ghost use Rattle.sd_tool.specs.PlanViews.{plan_of, plan_with, IsReady, IsReadyWith};
-ghost use Rattle.sd_tool.specs.Theorem.{HasEffects, HasEqualTexts, HasWritten, HasLimit, HasJoined};
-ghost use Rattle.sd_tool.specs.Theorem.{HasLine, HasEnd, IsComplete, HasAsked, IsCourse};
+ghost use Rattle.sd_tool.specs.Theorem.{IsCourse, HasEffects, HasEqualTexts, HasLine, HasEnd, IsComplete};
 ghost use Rattle.sd_tool.specs.inside.ByStatus.{IsOneCourse};
 ghost use Rattle.sd_tool.specs.Stops.{RunsToEnd, CarriesOut, Attempts, is_full, stop_of};
 
@@ -37,6 +36,11 @@ use std::thread::Threads;
 /// The words are read first, then the formula file, the vtree file, the script, and the files that it loads; no other
 /// is asked for, and none after an output. At every status but 0 the one line that says so is written to `err`. At 8
 /// the manager that refused is put into `kept`, which is empty before.
+///
+/// `course` says all of this, and the other clauses are what it says of one thing. What follows from it without
+/// speaking of a course is stated by the laws of [`laws`](crate::laws): what a run without a script writes (`written`),
+/// when it passes its limit (`limited`) and that it is done or does so (`done_or_over_limit`), what a script of four
+/// lines writes (`joined`), and in which order files are asked for (`asked`).
 pub fn run<R: Threads + Sync, F: Shelf, O: Sink, E: Sink>(
     _rt: &R,
     alloc: Global,
@@ -58,14 +62,6 @@ pub fn run<R: Threads + Sync, F: Shelf, O: Sink, E: Sink>(
     ensures ends { HasEnd (map string_bytes words.now) result kept.new
         (seen F.Shelf O.Sink E.Sink shelf.old out.old err.old shelf.new out.new err.new) }
     ensures complete { IsComplete (map string_bytes words.now) result
-        (seen F.Shelf O.Sink E.Sink shelf.old out.old err.old shelf.new out.new err.new) }
-    ensures written { HasWritten (map string_bytes words.now) result
-        (seen F.Shelf O.Sink E.Sink shelf.old out.old err.old shelf.new out.new err.new) }
-    ensures limited { HasLimit (map string_bytes words.now) result
-        (seen F.Shelf O.Sink E.Sink shelf.old out.old err.old shelf.new out.new err.new) }
-    ensures joined { HasJoined (map string_bytes words.now) result
-        (seen F.Shelf O.Sink E.Sink shelf.old out.old err.old shelf.new out.new err.new) }
-    ensures asked { HasAsked result
         (seen F.Shelf O.Sink E.Sink shelf.old out.old err.old shelf.new out.new err.new) }
     ensures equal_texts { HasEqualTexts (map string_bytes words.now)
         (seen F.Shelf O.Sink E.Sink shelf.old out.old err.old shelf.new out.new err.new) }
