@@ -118,7 +118,8 @@ of_nodes word no_header differs node made (header ∷ lines) = do
 -- c, are passed over.
 unfoldable pub vtree_file : ℕ → List ℕ → Result Tree VtreeFault
 vtree_file v bytes =
-    of_nodes (codes "vtree") NoHeader CountDiffers (entry_of v) (tree_of_nodes v) (content_of 99 bytes)
+    of_nodes (codes "vtree") NoHeader CountDiffers (entry_of v) (tree_of_nodes v)
+    (content_of 99 bytes)
 
 -- ---- for the contracts of private functions
 
