@@ -1,7 +1,9 @@
 -- The lists are made: each record that is that of a node is put in its list, one after another. What is found without
 -- lists is a linked or detached node.
-use Rattle.std.proofs.Common.{◌≡◌, ◌+◌, ◌-◌, ◌<◌, ◌==◌, true, false, ℕ, zero, suc, Bool, if◌then◌else◌, bit_and, List, [], ◌∷◌, ◌++◌, length}
-use Rattle.std.proofs.Common.{take, replicate, get_or, slice_get, Option, Some, None, IfNone, refl, sym, ap, subst, ◌∙◌, arith}
+use Rattle.std.proofs.Common.{◌≡◌, ◌+◌, ◌-◌, ◌<◌, ◌==◌, true, false, ℕ, zero, suc, Bool, if◌then◌else◌}
+use Rattle.std.proofs.Common.{bit_and, List, [], ◌∷◌, ◌++◌, length}
+use Rattle.std.proofs.Common.{take, replicate, get_or, slice_get, Option, Some, None, IfNone}
+use Rattle.std.proofs.Common.{refl, sym, ap, subst, ◌∙◌, arith}
 use Rattle.std.proofs.lemmas.Bool.{cases_eq, eqb-true}
 use Rattle.std.proofs.lemmas.List.{nil_from_length, take_more, length-take-le}
 use Rattle.std.proofs.lemmas.Option.{slice_get_past}
@@ -102,7 +104,8 @@ module _ (rs : List Record) (n : ℕ) (d : Record) (inside : n < length rs) wher
         (λ m. ap (λ l. list_under l m) (take_more rs n d inside)
         ∙ by_cases
         (λ e. ap (λ k. list_under (take n rs ++ get_or rs n d ∷ []) k) (e ∙ sym size)
-        ∙ ap (option_and_then (λ x. list_by x.state (bit_and x.place 2047))) (slice_get_push (take n rs) (get_or rs n d))
+        ∙ ap (option_and_then (λ x. list_by x.state (bit_and x.place 2047)))
+        (slice_get_push (take n rs) (get_or rs n d))
         ∙ some ∙ sym (filed_here n b (list_under (take n rs)) m e))
         (λ ne. ap (option_and_then (λ x. list_by x.state (bit_and x.place 2047)))
         (slice_get_before (take n rs) (get_or rs n d) m (λ e. ne (e ∙ size)))

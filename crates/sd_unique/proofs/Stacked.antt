@@ -121,8 +121,8 @@ kept_queued arena rs links new heads places top top' lists stacked others k =
       at_least_one = k.at_least_one;
       places_all = k.places_all;
       in_chains = k.in_chains;
-      in_lists = λ some. both_same _ _ _ _ no_record _ _ _ _ (λ b i e. lists.after i) (λ b i e. lists.before i) (λ b. refl)
-          (λ i. refl) (k.in_lists some);
+      in_lists = λ some. both_same _ _ _ _ no_record _ _ _ _ (λ b i e. lists.after i) (λ b i e. lists.before i)
+          (λ b. refl) (λ i. refl) (k.in_lists some);
       in_stack = stacked;
       hashed = λ i r e linked. lists.hashes i ∙ k.hashed i r e linked;
       queued = λ i r e linked none. others i r e linked none (k.queued i r e linked none);

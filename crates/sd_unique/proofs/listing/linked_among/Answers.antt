@@ -11,7 +11,8 @@ blank = record { place = 0; start = 0; length = 0; next = 0; uses = 0; mark = 0;
 
 pub returns-then-is_at-clause-some : goal.returns-then-is_at-clause-some
 returns-then-is_at-clause-some c = λ arena.
-    found_at arena c.args.records.now c.args.place c.loop-number.number (get_or c.args.records.now c.loop-number.number blank)
+    found_at arena c.args.records.now c.args.place c.loop-number.number
+    (get_or c.args.records.now c.loop-number.number blank)
     (slice_get_at c.args.records.now c.loop-number.number blank (omega arith)) c.if-is_at.ensures
 
 pub returns-clause-none : goal.returns-clause-none

@@ -18,7 +18,11 @@ pub link_first-requires-clause-listed : goal.link_first-requires-clause-listed
 link_first-requires-clause-listed c = (
   list_under (take c.args.number c.args.records.now),
   next_unlisted c.args.records.now c.args.number blank c.requires.inside,
-  (λ i b e. omega (arith, listed_inside c.args.records.now c.args.number blank c.requires.inside i b e, c.requires.size)),
+  (λ i b e. omega (
+    arith,
+    listed_inside c.args.records.now c.args.number blank c.requires.inside i b e,
+    c.requires.size,
+  )),
   c.requires.listed,
 )
 
