@@ -26,7 +26,7 @@ use Rattle.sd_manager.specs.Valid.{IsTable}
 use Rattle.sd_apply.specs.Places.{IsNodeUnder, IsBelow, HasPlace}
 use Rattle.sd_apply.specs.Elements.{ListsElements}
 use Rattle.sd_apply.specs.Group.{group_value}
-use Rattle.sd_apply.specs.GroupCalls.{HasHalves, Halves, MakesHalves, IsFork}
+use Rattle.sd_apply.specs.GroupCalls.{HasHalves, Halves, MakesHalves, IsLeafFork}
 use Rattle.sd_apply.specs.GroupCalls.{deciding, between}
 use Rattle.sd_apply.proofs.Trees.{bottom_under, top_under}
 use Rattle.sd_apply.proofs.Standing.{shown}
@@ -150,7 +150,7 @@ count_pairs t c place n code e =
     go (Some k) e = cc
 
 -- the subs of a decomposition of two elements, of which the first has the variable as its prime, are its halves
-pub decomposed_halves : (t : Table) (at u w x c : ℕ) (e f : ℕ × ℕ) → IsTable t → IsFork t.vtree at u w x →
+pub decomposed_halves : (t : Table) (at u w x c : ℕ) (e f : ℕ × ℕ) → IsTable t → IsLeafFork t.vtree at u w x →
     ((d : Diagram) → ShowsCanonical t c d → HasPlace t.vtree at d) → 2050 ≤ c → length (pairs_at t c) ≡ 2 →
     slice_get (pairs_at t c) 0 ≡ Some e → slice_get (pairs_at t c) 1 ≡ Some f → e.0 ≡ 2 * x →
     Halves t at w x c (e.1, f.1)
@@ -208,7 +208,7 @@ pub record ListsHalves (t : Table) (u w x a b : ℕ) (f : List Bool → Bool) : 
   pub lists : ListsElements t u w ((2 * x, a) ∷ (2 * x + 1, b) ∷ []) shown
   pub value : (g : List Bool) → answers g shown ≡ f g ∷ []
 
-pub lists_halves : (t : Table) → IsTable t → (at u w x a b : ℕ) → IsFork t.vtree at u w x → (f : List Bool → Bool) →
+pub lists_halves : (t : Table) → IsTable t → (at u w x a b : ℕ) → IsLeafFork t.vtree at u w x → (f : List Bool → Bool) →
     HasHalves t w x a b f → ListsHalves t u w x a b f
 lists_halves t i at u w x a b fork f h =
     let p = fork_literal t i at u w x fork true in
@@ -252,7 +252,7 @@ some_halves t w x a b p q = record {
   value = λ g. refl;
 }
 
-pub halves_partition : (t : Table) → IsTable t → (at u w x a b : ℕ) → IsFork t.vtree at u w x → IsBelow t w a →
+pub halves_partition : (t : Table) → IsTable t → (at u w x a b : ℕ) → IsLeafFork t.vtree at u w x → IsBelow t w a →
     IsBelow t w b → (ds : List (Diagram × Diagram)) × IsPartitionAt t at ((2 * x, a) ∷ (2 * x + 1, b) ∷ []) ds
 halves_partition t i at u w x a b fork p q =
     let l = lists_halves t i at u w x a b fork _ (some_halves t w x a b p q) in (
@@ -262,7 +262,7 @@ halves_partition t i at u w x a b fork p q =
     )
 
 -- what is made of the two elements
-pub halves_made : (old new : Table) → IsTable old → (at u w x a b c : ℕ) → IsFork old.vtree at u w x →
+pub halves_made : (old new : Table) → IsTable old → (at u w x a b c : ℕ) → IsLeafFork old.vtree at u w x →
     ((ds : List (Diagram × Diagram)) → IsPartitionAt old at ((2 * x, a) ∷ (2 * x + 1, b) ∷ []) ds → IsMade new c ds) →
     MakesHalves old new w x a b c
 halves_made old new i at u w x a b c fork made = record {

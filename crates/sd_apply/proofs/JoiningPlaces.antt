@@ -35,7 +35,7 @@ use Rattle.sd_apply.specs.Answers.{HasAnswer}
 use Rattle.sd_apply.specs.Places.{plain, tree_at, width, IsCanonicalUnder, IsNodeUnder, IsBelow, IsThere, HasChildren}
 use Rattle.sd_apply.specs.Places.{HasPlace}
 use Rattle.sd_apply.specs.Group.{group_value}
-use Rattle.sd_apply.specs.GroupCalls.{IsLiteralBelow, AreLiteralsBelow, IsFork, joined_value}
+use Rattle.sd_apply.specs.GroupCalls.{IsLiteralBelow, AreLiteralsBelow, IsLeafFork, joined_value}
 use Rattle.sd_apply.specs.GroupCalls.{StandsFrom, StandLower}
 use Rattle.sd_apply.proofs.Trees.{children_of, canonical_below, below_canonical, right_tree, right_part}
 use Rattle.sd_apply.proofs.Trees.{children_width, width_positive, there_inner, right_there, bottom_under, top_under}
@@ -62,14 +62,14 @@ leaf_tree t u x e = go (subtree t u) e
     go (Some (NumberedNode m l r)) e = absurd (none-some x e)
 
 -- the variable of a leaf is one of at most 1,024
-pub fork_range : (t : Numbered) → IsNumbered t → (at u w x : ℕ) → IsFork t at u w x → (1 ≤ x) × (x ≤ 1024)
+pub fork_range : (t : Numbered) → IsNumbered t → (at u w x : ℕ) → IsLeafFork t at u w x → (1 ≤ x) × (x ≤ 1024)
 fork_range t v at u w x f =
     let n = leaf_number t v u x f.leaf in
     let r = leaf_range (plain_tree t) v.vtree 0 x n.0 n.2 in
     (r.0, omega (arith, r.1, v.within_limit))
 
 -- both literals of the variable stand at the leaf
-pub fork_literal : (t : Table) → IsTable t → (at u w x : ℕ) → IsFork t.vtree at u w x → (s : Bool) →
+pub fork_literal : (t : Table) → IsTable t → (at u w x : ℕ) → IsLeafFork t.vtree at u w x → (s : Bool) →
     (p : ℕ) × IsNodeUnder t u (literal_code x s) (Literal p x s)
 fork_literal t i at u w x f s =
     let n = leaf_number t.vtree i.numbered u x f.leaf in

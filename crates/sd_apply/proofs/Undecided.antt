@@ -20,7 +20,7 @@ use Rattle.sd_apply.specs.Recent.{Knows}
 use Rattle.sd_apply.specs.Terminal.{deciding_code}
 use Rattle.sd_apply.specs.Places.{IsBelow}
 use Rattle.sd_apply.specs.Elements.{IsPair, ListsElements, IsPaired, IsPartitionUnder, IsPartitionBelow, row, products}
-use Rattle.sd_apply.specs.Elements.{HasDeciding}
+use Rattle.sd_apply.specs.Elements.{HasDecidingSub}
 use Rattle.sd_apply.specs.Calls.{Applies, Multiplies, MultipliesElement}
 use Rattle.sd_apply.specs.Classes.{IsDisjointUnder, AreDisjointBelow}
 use Rattle.sd_apply.proofs.Trees.{answer_under}
@@ -288,7 +288,7 @@ split t u w l fs (suc (suc k)) n lt h = absurd (omega (arith, lt))
 pub undecided_below : (m0 m : Table) (c : Recent) (o : Operation) (u w : ℕ) (l k : List (ℕ × ℕ)) (n : ℕ)
     (r : List (ℕ × ℕ)) (union i : ℕ) →
     InUndecided m0 m c o u w l (get_or k (1 - n) (0, 0)) (get_or k n (0, 0)) r union i → IsPartitionBelow m0 u w l →
-    IsPartitionBelow m0 u w k → HasDeciding o k n → IsBelow m u union
+    IsPartitionBelow m0 u w k → HasDecidingSub o k n → IsBelow m u union
 undecided_below m0 m c o u w l k n r union i h part second two =
     let q = split m0 u w k second.shown n two.two two.within second.is in
     let z = h.made part.shown q.x q.y
@@ -299,7 +299,7 @@ undecided_below m0 m c o u w l k n r union i h part second two =
 pub undecided_done : (m0 m : Table) (c : Recent) (o : Operation) (u w : ℕ) (l k : List (ℕ × ℕ)) (n : ℕ)
     (r r1 : List (ℕ × ℕ)) (union i : ℕ) → IsTable m0 →
     InUndecided m0 m c o u w l (get_or k (1 - n) (0, 0)) (get_or k n (0, 0)) r union i → length l ≤ i →
-    i ≤ length l → IsPartitionBelow m0 u w l → HasDeciding o k n → r1 ≡ r ++ (union, (get_or k n (0, 0)).1) ∷ [] →
+    i ≤ length l → IsPartitionBelow m0 u w l → HasDecidingSub o k n → r1 ≡ r ++ (union, (get_or k n (0, 0)).1) ∷ [] →
     Multiplies m0 m o u w l k r1
 undecided_done m0 m c o u w l k n r r1 union i table h lo hi part two pushed = record {
   each = λ ds fs hd hf.

@@ -1,6 +1,7 @@
 -- Elements with one sub apart from the others, and what is made of their primes.
 use Rattle.std.specs.Prelude.{◌≡◌, ◌⊎◌, ℕ, ◌≤◌, ◌<◌, Bool, true, false, List, [], ◌∷◌, length}
 use Rattle.std.proofs.Common.{get_or}
+use Rattle.std.specs.List.{AllByRecursion}
 use Rattle.sd_model.specs.Diagram.{Diagram, meaning}
 use Rattle.sd_laws.specs.Pairs.{answers}
 use Rattle.sd_manager.specs.Table.{Table}
@@ -26,6 +27,10 @@ pub record MergesDisjoint (old new : Table) (u w : ℕ) (l r : List (ℕ × ℕ)
 -- no pair has this sub
 pub record LackSub (l : List (ℕ × ℕ)) (s : ℕ) : Type 0 where
   pub each : (i : ℕ) → i < length l → ¬ ((get_or l i (0, 0)).1 ≡ s)
+
+-- each sub of the second list is one of the first
+abbrev pub AddsNoSub : List (ℕ × ℕ) → List (ℕ × ℕ) → Type 0
+AddsNoSub l r = (s : ℕ) → LackSub l s → AllByRecursion (λ (e : ℕ × ℕ). ¬ (e.1 ≡ s)) r
 
 -- some pair has this sub
 pub record HasSub (l : List (ℕ × ℕ)) (s : ℕ) : Type 0 where

@@ -74,7 +74,7 @@ pub record IsGroupNode (t : Table) (o : Operation) (v from : ℕ) (literals : Li
   pub value : (a : List Bool) → meaning diagram a ≡ group_value o (drop from literals) a
 
 -- the vtree node has these children, and the left one is the leaf of the variable
-pub record IsFork (t : Numbered) (at left right variable : ℕ) : Type 0 where
+pub record IsLeafFork (t : Numbered) (at left right variable : ℕ) : Type 0 where
   pub children : HasChildren t at left right
   pub leaf : variable_at t left ≡ Some variable
 

@@ -8,6 +8,7 @@ use Rattle.sd_laws.specs.Parts.{HasPosition}
 use Rattle.sd_laws.specs.Depends.{DependsOn}
 use Rattle.sd_manager.specs.Table.{Table}
 use Rattle.sd_manager.specs.Shown.{Shows}
+use Rattle.sd_apply.specs.declared.places.Fork.{Fork}
 
 -- the plain tree of a subtree that is there
 abbrev pub plain : Option Numbered → Tree
@@ -46,6 +47,10 @@ pub record HasPlace (t : Numbered) (u : ℕ) (d : Diagram) : Type 0 where
 -- the vtree node p has the children u and w
 abbrev pub HasChildren : Numbered → ℕ → ℕ → ℕ → Type 0
 HasChildren t p u w = Some (u, w) ≡ children_at t p
+
+-- the same of the three that stand together
+abbrev pub IsFork : Numbered → Fork → Type 0
+IsFork t f = HasChildren t f.node f.left f.right
 
 -- the vtree node with this number is there
 pub record IsThere (t : Numbered) (u : ℕ) : Type 0 where

@@ -94,7 +94,7 @@ fn look_up_or_apply(
     if are_opposite(m, c, a, b) {
         return Ok(at_opposites(operation));
     }
-    let over = lca_with_children(m, at, a, b).0;
+    let over = lca_with_children(m, at, a, b).node;
     let mut recent = Recent::lent(alloc, m, c);
     let found = apply(alloc, m, &mut recent, operation, over, a, b);
     recent.give_back(m, c);
@@ -128,7 +128,7 @@ pub(crate) fn negate_cached(
     if let Some(code) = c.look(epoch, NEGATION, a.0, 0) {
         return Ok(NodeId(code));
     }
-    let over = place_with_children(m, at, a).0;
+    let over = place_with_children(m, at, a).node;
     let mut recent = Recent::lent(alloc, m, c);
     let found = negate_at(alloc, m, &mut recent, over, a);
     recent.give_back(m, c);

@@ -15,7 +15,7 @@ ghost use Rattle.sd_apply.specs.Serving.{Serves};
 ghost use Rattle.sd_apply.specs.Places.{width, IsBelow, IsThere, HasChildren, HasPlace};
 ghost use Rattle.sd_apply.specs.Group.{AreOrdered, JoinsGroup, GrowsBelowGroup};
 ghost use Rattle.sd_apply.specs.GroupCalls.{deciding, between, AreLiteralsBelow, JoinsFrom, IsGroupNode};
-ghost use Rattle.sd_apply.specs.GroupCalls.{StandLower, StandsFrom, IsFork, Halves, JoinsHalves, MakesHalves};
+ghost use Rattle.sd_apply.specs.GroupCalls.{StandLower, StandsFrom, IsLeafFork, Halves, JoinsHalves, MakesHalves};
 ghost use Rattle.sd_apply.specs.GroupCalls.{Remembers};
 
 use crate::calls::apply;
@@ -455,7 +455,7 @@ fn between_literals(operation: Operation) -> Operation
 #[inline(always)]
 fn fork_at(m: &Manager, at: VNode) -> Option<(VNode, VNode, u32)>
     requires { IsThere m.now.vtree at }
-    ensures { IfSome result (λ f. IsFork m.now.vtree at f.0 f.1 f.2) }
+    ensures { IfSome result (λ f. IsLeafFork m.now.vtree at f.0 f.1 f.2) }
 {
     let vtree = m.vtree();
     let Some((left, right)) = vtree.children(at) else {
@@ -586,7 +586,7 @@ fn halves_of(
     variable: u32,
     node: NodeId,
 ) -> Option<(NodeId, NodeId)>
-    requires fork { IsFork m.now.vtree at left right variable }
+    requires fork { IsLeafFork m.now.vtree at left right variable }
     requires node { IsBelow m.now at node }
     requires table { IsTable m.now }
     ensures { IfSome result (λ r. Halves m.now at right variable node r) }
@@ -645,7 +645,7 @@ fn own_halves(
     variable: u32,
     node: NodeId,
 ) -> Option<(NodeId, NodeId)>
-    requires fork { IsFork m.now.vtree at left right variable }
+    requires fork { IsLeafFork m.now.vtree at left right variable }
     requires node { IsBelow m.now at node }
     requires code { 2050 ≤ node }
     requires table { IsTable m.now }
@@ -680,7 +680,7 @@ fn make_halves(
     first: NodeId,
     second: NodeId,
 ) -> Result<NodeId, TakeError>
-    requires fork { IsFork m.old.vtree at left right variable }
+    requires fork { IsLeafFork m.old.vtree at left right variable }
     requires first { IsBelow m.old right first }
     requires second { IsBelow m.old right second }
     requires table { IsTable m.old }

@@ -4,31 +4,29 @@ ghost use Rattle.sd_model.specs.Tree.{AreDistinct};
 ghost use Rattle.sd_manager.specs.Valid.{IsTable};
 ghost use Rattle.sd_manager.specs.Making.{Extends, KeepsRule};
 ghost use Rattle.sd_apply.specs.Growing.{GrowsBelow};
-ghost use Rattle.sd_apply.specs.Places.{HasChildren};
+ghost use Rattle.sd_apply.specs.Places.{IsFork};
 ghost use Rattle.sd_apply.specs.Elements.{IsPartitionBelow};
 ghost use Rattle.sd_apply.specs.Calls.{Joins};
 
+use crate::places::Fork;
 use sd_manager::{Manager, NodeId};
 use sd_runs::TakeError;
-use sd_vtree::VNode;
 
 /// The node of a partition, no two subs of which are equal.
 pub(crate) fn make_apart(
     m: &mut Manager,
-    place: VNode,
-    left: VNode,
-    right: VNode,
+    fork: &Fork,
     pairs: &[(NodeId, NodeId)],
 ) -> Result<NodeId, TakeError>
-    requires children { HasChildren m.old.vtree place left right }
-    requires pairs { IsPartitionBelow m.old left right pairs.now }
+    requires children { IsFork m.old.vtree fork.now }
+    requires pairs { IsPartitionBelow m.old fork.now.left fork.now.right pairs.now }
     requires differ { AreDistinct (map (λ e. e.1) pairs.now) }
     requires table { IsTable m.old }
-    ensures ok { IfOk result (λ r. Joins m.old m.new left right pairs.now r) }
+    ensures ok { IfOk result (λ r. Joins m.old m.new fork.now.left fork.now.right pairs.now r) }
     ensures kept { Extends m.old m.new }
-    ensures grown { GrowsBelow m.old m.new place }
+    ensures grown { GrowsBelow m.old m.new fork.now.node }
     ensures rule { IfErr result (λ e. KeepsRule m.new e) }
     ensures table { IsTable m.new }
 {
-    m.make(place, pairs)
+    m.make(fork.node, pairs)
 }

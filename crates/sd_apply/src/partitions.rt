@@ -16,7 +16,7 @@ ghost use Rattle.sd_apply.specs.Recent.{Knows};
 
 use crate::calls::{merge, multiply, negate_at};
 use crate::lists::{Pairs, below_left, below_right, by_sub, elements_of};
-use crate::places::place_of;
+use crate::places::{Fork, place_of};
 use crate::recent::Recent;
 use sd_manager::{Manager, NodeId};
 use sd_model::Operation;
@@ -88,8 +88,12 @@ pub fn multiply_at(
     let Some(children) = m.vtree().children(place) else {
         unreachable!()
     };
-    let (left, right) = (children.0, children.1);
-    multiply(alloc, m, recent, operation, left, right, first, second)
+    let fork = Fork {
+        node: place,
+        left: children.0,
+        right: children.1,
+    };
+    multiply(alloc, m, recent, operation, &fork, first, second)
 }
 
 /// A partition of a vtree node with the primes of equal subs joined: the list that a node there has. It refuses as
@@ -114,6 +118,11 @@ pub fn merge_at(
     let Some(children) = m.vtree().children(place) else {
         unreachable!()
     };
+    let fork = Fork {
+        node: place,
+        left: children.0,
+        right: children.1,
+    };
     let sorted = by_sub(alloc, pairs)?;
-    merge(alloc, m, recent, children.0, children.1, sorted.as_slice())
+    merge(alloc, m, recent, &fork, sorted.as_slice())
 }

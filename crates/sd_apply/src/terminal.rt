@@ -80,8 +80,8 @@ pub(crate) fn at_opposites(operation: Operation) -> NodeId
     }
 }
 
-/// The value that decides a connective: beside it, it comes out.
-pub(crate) fn deciding(operation: Operation) -> Option<u32>
+/// The code of the value that decides a connective: beside it, it comes out.
+pub(crate) fn deciding_code(operation: Operation) -> Option<u32>
     ensures { result ≡ deciding_code operation }
 {
     match operation {
@@ -91,7 +91,8 @@ pub(crate) fn deciding(operation: Operation) -> Option<u32>
     }
 }
 
-/// Whether a conjunction or a disjunction leaves every other node as it is beside this one.
+/// Whether a conjunction or a disjunction leaves every other node as it is beside this one; false for an exclusive or.
+/// It decides speed alone.
 pub(crate) fn is_neutral(operation: Operation, node: NodeId) -> bool {
     match operation {
         Operation::And => node.0 == 1,

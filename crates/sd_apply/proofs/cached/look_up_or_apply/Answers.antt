@@ -64,35 +64,37 @@ returns-clause-serves c =
     (applies_right m n c.args.operation kind epoch c.args.at c.args.a c.args.b c.in_ok-code.code
     c.a-2.inside.0 c.b-2.inside.0 c.code.inside.0 x c.number-kind.ensures c.a-2.view_is
     c.b-2.view_is c.code.view_is c.requires.a c.requires.b
-    (applies_over m n c.args.operation c.args.at c.lca_with_children-over.result.0 c.args.a c.args.b c.in_ok-code.code
+    (applies_over m n c.args.operation c.args.at c.lca_with_children-over.result.node c.args.a c.args.b
+    c.in_ok-code.code
     c.lca_with_children-over.ensures.first c.lca_with_children-over.ensures.second c.in_ok-code.ensures.ok))
 
 -- new nodes stand below the lowest vtree node over both
 pub returns-in_err-code-clause-grown : goal.returns-in_err-code-clause-grown
 returns-in_err-code-clause-grown c =
     both_lowest c.args.m.now c.apply-found.new.m c.apply-found.ensures.kept c.epoch-epoch.ensures.table.numbered
-    c.lca_with_children-over.result.0 c.args.a c.args.b
+    c.lca_with_children-over.result.node c.args.a c.args.b
     c.lca_with_children-over.ensures.lowest c.apply-found.ensures.grown
 
 pub returns-clause-grown : goal.returns-clause-grown
 returns-clause-grown c =
     both_lowest c.args.m.now c.apply-found.new.m c.apply-found.ensures.kept c.epoch-epoch.ensures.table.numbered
-    c.lca_with_children-over.result.0 c.args.a c.args.b
+    c.lca_with_children-over.result.node c.args.a c.args.b
     c.lca_with_children-over.ensures.lowest c.apply-found.ensures.grown
 
 pub returns-clause-ok : goal.returns-clause-ok
 returns-clause-ok c =
-    applies_over c.args.m.now c.apply-found.new.m c.args.operation c.args.at c.lca_with_children-over.result.0 c.args.a
+    applies_over c.args.m.now c.apply-found.new.m c.args.operation c.args.at c.lca_with_children-over.result.node
+    c.args.a
     c.args.b
     c.in_ok-code.code c.lca_with_children-over.ensures.first c.lca_with_children-over.ensures.second
     c.in_ok-code.ensures.ok
 
 pub apply-found-requires-clause-a : goal.apply-found-requires-clause-a
 apply-found-requires-clause-a c =
-    below_at c.args.m.now c.args.at c.lca_with_children-over.result.0 c.args.a
+    below_at c.args.m.now c.args.at c.lca_with_children-over.result.node c.args.a
     c.lca_with_children-over.ensures.first c.requires.a
 
 pub apply-found-requires-clause-b : goal.apply-found-requires-clause-b
 apply-found-requires-clause-b c =
-    below_at c.args.m.now c.args.at c.lca_with_children-over.result.0 c.args.b
+    below_at c.args.m.now c.args.at c.lca_with_children-over.result.node c.args.b
     c.lca_with_children-over.ensures.second c.requires.b

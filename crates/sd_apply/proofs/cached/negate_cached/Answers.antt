@@ -51,7 +51,7 @@ pub keep_opposites-requires-clause-opposite : goal.keep_opposites-requires-claus
 keep_opposites-requires-clause-opposite c =
     negates_opposite c.args.m.now c.negate_at-found.new.m c.negate_at-found.ensures.table
     c.negate_at-found.ensures.kept c.args.at c.args.a c.in_ok-code.code
-    (negates_over c.args.m.now c.negate_at-found.new.m c.args.at c.place_with_children-over.result.0 c.args.a
+    (negates_over c.args.m.now c.negate_at-found.new.m c.args.at c.place_with_children-over.result.node c.args.a
     c.in_ok-code.code c.place_with_children-over.ensures.node c.in_ok-code.ensures.ok)
     c.requires.a
 
@@ -59,21 +59,21 @@ keep_opposites-requires-clause-opposite c =
 pub returns-in_err-code-clause-grown : goal.returns-in_err-code-clause-grown
 returns-in_err-code-clause-grown c =
     both_lowest c.args.m.now c.negate_at-found.new.m c.negate_at-found.ensures.kept c.epoch-epoch.ensures.table.numbered
-    c.place_with_children-over.result.0 c.args.a c.args.a
+    c.place_with_children-over.result.node c.args.a c.args.a
     (λ n there x y. c.place_with_children-over.ensures.lowest n there x) c.negate_at-found.ensures.grown
 
 pub returns-clause-grown : goal.returns-clause-grown
 returns-clause-grown c =
     both_lowest c.args.m.now c.negate_at-found.new.m c.negate_at-found.ensures.kept c.epoch-epoch.ensures.table.numbered
-    c.place_with_children-over.result.0 c.args.a c.args.a
+    c.place_with_children-over.result.node c.args.a c.args.a
     (λ n there x y. c.place_with_children-over.ensures.lowest n there x) c.negate_at-found.ensures.grown
 
 pub returns-clause-ok : goal.returns-clause-ok
 returns-clause-ok c =
-    negates_over c.args.m.now c.negate_at-found.new.m c.args.at c.place_with_children-over.result.0 c.args.a
+    negates_over c.args.m.now c.negate_at-found.new.m c.args.at c.place_with_children-over.result.node c.args.a
     c.in_ok-code.code c.place_with_children-over.ensures.node c.in_ok-code.ensures.ok
 
 pub negate_at-found-requires-clause-a : goal.negate_at-found-requires-clause-a
 negate_at-found-requires-clause-a c =
-    below_at c.args.m.now c.args.at c.place_with_children-over.result.0 c.args.a
+    below_at c.args.m.now c.args.at c.place_with_children-over.result.node c.args.a
     c.place_with_children-over.ensures.node c.requires.a

@@ -13,7 +13,7 @@ pub make-requires-clause-partition : goal.make-requires-clause-partition
 make-requires-clause-partition c =
     let h = c.requires.pairs in (
       h.shown,
-      partition_at c.args.m.now c.requires.table c.args.place c.args.left c.args.right
+      partition_at c.args.m.now c.requires.table c.args.fork.now.node c.args.fork.now.left c.args.fork.now.right
           c.requires.children c.args.pairs.now h.shown h.is.lists h.is.one_true,
     )
 
@@ -23,9 +23,9 @@ returns-clause-ok c =
     let n = c.make.new.self in
     let l = c.args.pairs.now in
     IfOk-weaker c.make.result
-    (λ d. (ds : List (Diagram × Diagram)) → IsPartitionAt m c.args.place l ds → IsMade n d ds)
-    (λ d. Joins m n c.args.left c.args.right l d)
-    (λ d h. made_joins m n c.args.place c.args.left c.args.right l d c.requires.table
+    (λ d. (ds : List (Diagram × Diagram)) → IsPartitionAt m c.args.fork.now.node l ds → IsMade n d ds)
+    (λ d. Joins m n c.args.fork.now.left c.args.fork.now.right l d)
+    (λ d h. made_joins m n c.args.fork.now.node c.args.fork.now.left c.args.fork.now.right l d c.requires.table
     c.requires.children h)
     c.make.ensures.ok
 
@@ -33,7 +33,8 @@ pub returns-clause-grown : goal.returns-clause-grown
 returns-clause-grown c =
     let m = c.args.m.now in
     let n = c.make.new.self in
-    grows_answer m n c.make.ensures.table.numbered c.args.place c.args.left c.args.right
+    grows_answer m n c.make.ensures.table.numbered c.args.fork.now.node c.args.fork.now.left c.args.fork.now.right
     c.args.pairs.now
-    (children_on m n c.make.ensures.kept c.args.place c.args.left c.args.right c.requires.children)
+    (children_on m n c.make.ensures.kept c.args.fork.now.node c.args.fork.now.left c.args.fork.now.right
+    c.requires.children)
     c.make.result c.make.ensures.grown c.make.ensures.err

@@ -5,7 +5,6 @@ use Rattle.sd_apply.specs.Places.{HasChildren}
 use Rattle.sd_apply.specs.Elements.{IsPartitionBelow, Ascend, sub_then_prime}
 use Rattle.sd_apply.specs.Calls.{Merges}
 use Rattle.sd_apply.specs.Partitions.{MergesAt}
-use Rattle.sd_apply.proofs.Trees.{left_there}
 use Rattle.sd_apply.proofs.Merging.{permuted_partition}
 use Rattle.sd_apply.proofs.Whole.{inner_children, inner_there}
 use Rattle.sd_apply.proofs.Growing.{strictly_either}
@@ -25,12 +24,10 @@ unreachable-requires c =
     (subst (λ t. children_at t c.args.place ≡ None) c.vtree.ensures.vtree
     (sym c.children.ensures.children ∙ c.in_default.is))
 
-pub merge-requires-clause-left : goal.merge-requires-clause-left
-merge-requires-clause-left c =
-    left_there c.args.m.now.vtree c.vtree.ensures.table.numbered c.args.place c.in-Some.children.0
-    c.in-Some.children.1
-    (subst (λ t. HasChildren t c.args.place c.in-Some.children.0 c.in-Some.children.1) c.vtree.ensures.vtree
-    (sym c.in-Some.is ∙ c.children.ensures.children))
+pub merge-requires-clause-children : goal.merge-requires-clause-children
+merge-requires-clause-children c =
+    subst (λ t. HasChildren t c.args.place c.in-Some.children.0 c.in-Some.children.1) c.vtree.ensures.vtree
+    (sym c.in-Some.is ∙ c.children.ensures.children)
 
 -- the list is a partition in another order
 pub merge-requires-clause-pairs : goal.merge-requires-clause-pairs

@@ -4,7 +4,6 @@ use Rattle.sd_vtree.specs.Numbered.{numbers, children_at}
 use Rattle.sd_apply.specs.Places.{HasChildren}
 use Rattle.sd_apply.specs.Calls.{Multiplies}
 use Rattle.sd_apply.specs.Partitions.{MultipliesAt}
-use Rattle.sd_apply.proofs.Trees.{left_there, right_there}
 use Rattle.sd_apply.proofs.Whole.{inner_children, inner_there}
 use Rattle.sd_apply.proofs.Growing.{strictly_either}
 use Rattle.sd_apply.proofs.AtNode.{disjoint_below, partition_below, multiplies_at}
@@ -23,19 +22,10 @@ unreachable-requires c =
     (subst (λ t. children_at t c.args.place ≡ None) c.vtree.ensures.vtree
     (sym c.children.ensures.children ∙ c.in_default.is))
 
-pub multiply-requires-clause-left : goal.multiply-requires-clause-left
-multiply-requires-clause-left c =
-    left_there c.args.m.now.vtree c.vtree.ensures.table.numbered c.args.place c.in-Some.children.0
-    c.in-Some.children.1
-    (subst (λ t. HasChildren t c.args.place c.in-Some.children.0 c.in-Some.children.1) c.vtree.ensures.vtree
-    (sym c.in-Some.is ∙ c.children.ensures.children))
-
-pub multiply-requires-clause-right : goal.multiply-requires-clause-right
-multiply-requires-clause-right c =
-    right_there c.args.m.now.vtree c.vtree.ensures.table.numbered c.args.place c.in-Some.children.0
-    c.in-Some.children.1
-    (subst (λ t. HasChildren t c.args.place c.in-Some.children.0 c.in-Some.children.1) c.vtree.ensures.vtree
-    (sym c.in-Some.is ∙ c.children.ensures.children))
+pub multiply-requires-clause-children : goal.multiply-requires-clause-children
+multiply-requires-clause-children c =
+    subst (λ t. HasChildren t c.args.place c.in-Some.children.0 c.in-Some.children.1) c.vtree.ensures.vtree
+    (sym c.in-Some.is ∙ c.children.ensures.children)
 
 -- lists at the vtree node are lists below its children
 
