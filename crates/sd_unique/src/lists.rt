@@ -30,6 +30,7 @@ pub(crate) fn take_out(links: &mut [Links], places: &mut [u32], head: usize, num
 }
 
 // Lets what stands before a number in the list of this head lead to what stands behind it.
+#[inline(never)]
 fn lead_past(links: &mut [Links], places: &mut [u32], head: usize, number: u32)
     requires inside { number < length links.old }
     requires head { head < length places.old }
@@ -108,6 +109,7 @@ pub(crate) fn put_first(
 }
 
 // Puts a number that is in no list first in the list of this head, and keeps this hash for it.
+#[inline(never)]
 pub(crate) fn link_first(
     links: &mut [Links],
     places: &mut [u32],

@@ -559,6 +559,7 @@ impl Nodes {
 
     /// Removes a linked node without uses, as `unlink` and then `remove` do: its number and its run are
     /// free then.
+    #[inline(always)]
     pub fn retire(&mut self, node: u32)
         requires node { IsIdle self.old node }
         ensures retired { (k : ℕ × List (ℕ × ℕ)) → get self.old.linked node ≡ Some k
