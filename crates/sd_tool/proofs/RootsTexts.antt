@@ -10,6 +10,7 @@ use Rattle.sd_model.specs.Listing.{is_among}
 use Rattle.sd_model.specs.Size.{IsDiagramOf, completed}
 use Rattle.sd_model.specs.Text.{number_text, line_text, spaced, node_words, naming_lines, roots_text}
 use Rattle.sd_model.proofs.ClosedLists.{roots_among}
+use Rattle.sd_model.proofs.PlainTexts.{roots_text_plain}
 use Rattle.sd_model.proofs.Determined.{roots_texts_equal}
 
 -- a line has its line feed
@@ -53,8 +54,7 @@ lines_of roots = map (node_words (completed roots)) (completed roots) ++ naming_
 text_begins : (roots : List Diagram) → roots_text roots
     ≡ 115 ∷ 100 ∷ 100 ∷ 32
     ∷ (((number_text (length (completed roots)) ++ []) ++ 10 ∷ []) ++ flat_map line_text (lines_of roots))
-unfolding roots_text
-text_begins roots = refl
+text_begins roots = roots_text_plain roots
 
 -- roots have a line
 some_lines : (d : Diagram) (ds : List Diagram) → 1 ≤ length (flat_map line_text (lines_of (d ∷ ds)))

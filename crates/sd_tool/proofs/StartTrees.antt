@@ -1,5 +1,5 @@
 -- The start trees of the three shapes are vtrees over the variables in order.
-use Rattle.std.proofs.Common.{◌≡◌, ℕ, suc, ◌-◌, ◌≤◌, Result, Ok, Err, IfOk, MatchResult, ap, sym, subst, ◌∙◌, arith}
+use Rattle.std.proofs.Common.{◌≡◌, ℕ, ◌-◌, ◌/◌, ◌≤◌, Result, Ok, Err, IfOk, MatchResult, ap, sym, subst, ◌∙◌}
 use Rattle.std.specs.declared.alloc.AllocError.{AllocError}
 use Rattle.std.specs.List.{range_with_len}
 use Rattle.sd_model.specs.StartTrees.{balanced_tree, right_tree, left_tree}
@@ -7,26 +7,20 @@ use Rattle.sd_model.specs.Tree.{Tree, variables, leaves}
 use Rattle.sd_vtree.specs.Numbered.{Numbered, plain_tree}
 use Rattle.sd_tool.specs.declared.stop.Stop.{Stop}
 use Rattle.sd_tool.specs.declared.stop.Stop.TheVariants.{OutOfMemory}
-use Rattle.sd_vtree.proofs.Starting.{vtree_in_order, variables_right_from, variables_left_to, variables_balanced_from}
+use Rattle.sd_vtree.proofs.Starting.{vtree_in_order, variables_start, half, one, all_but_one}
 use Rattle.sd_vfile.proofs.Accepted.{IsVtreeOver}
 
 in_order : (tree : Tree) (v : ℕ) → variables tree ≡ range_with_len 1 v → IsVtreeOver v tree
 in_order tree v is = let both = vtree_in_order tree v is in record { vtree = both.0; count = both.1 }
 
--- one more than one less
-counted : (v : ℕ) → 1 ≤ v → suc (v - 1) ≡ v
-counted v some = omega arith
-
 pub balanced_fits : (v : ℕ) → 1 ≤ v → IsVtreeOver v (balanced_tree v)
-balanced_fits v some = in_order (balanced_tree v) v (variables_balanced_from v 1 v some (omega arith))
+balanced_fits v some = in_order (balanced_tree v) v (variables_start (λ m. m / 2) half v some)
 
 pub right_fits : (v : ℕ) → 1 ≤ v → IsVtreeOver v (right_tree v)
-right_fits v some =
-    in_order (right_tree v) v (variables_right_from 1 (v - 1) ∙ ap (range_with_len 1) (counted v some))
+right_fits v some = in_order (right_tree v) v (variables_start (λ m. 1) one v some)
 
 pub left_fits : (v : ℕ) → 1 ≤ v → IsVtreeOver v (left_tree v)
-left_fits v some =
-    in_order (left_tree v) v (variables_left_to (v - 1) ∙ ap (range_with_len 1) (counted v some))
+left_fits v some = in_order (left_tree v) v (variables_start (λ m. m - 1) all_but_one v some)
 
 -- ---- a start that was kept, in the code
 

@@ -10,6 +10,7 @@ use Rattle.sd_commands.specs.Commands.{State, NotMovable as Unmoved, Step, Settl
 use Rattle.sd_commands.specs.declared.command.NumberedCommand.{NumberedCommand}
 use Rattle.sd_commands.specs.declared.command.RunCommand.{RunCommand}
 use Rattle.sd_commands.specs.declared.command.RunCommand.TheVariants as commands
+use Rattle.sd_commands.proofs.Settling.{never_unmoved as never_settled}
 use Rattle.sd_tool.specs.Readings.{Plan, announcement, default_of, in_lines}
 use Rattle.sd_tool.specs.inside.Readings.{for_file, search_of}
 use Rattle.sd_tool.specs.Ends.{NotMovable}
@@ -27,8 +28,7 @@ AreStill (command ∷ commands) = (is_move command.command ≡ false) × AreStil
 
 -- a command that leads to a state is not refused so
 not_settled : (next : State) → Settles next Unmoved → ⊥
-not_settled next (inl p) = let e = p.1 in cc
-not_settled next (inr p) = let e = p.2 in cc
+not_settled next p = never_settled next p
 
 -- a command that does not is no place that is not movable
 not_unmoved : (input : Groups) (state : State) (command : RunCommand) → is_move command ≡ false
