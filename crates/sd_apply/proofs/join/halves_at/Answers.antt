@@ -1,4 +1,4 @@
-use Rattle.std.proofs.Common.{◌≡◌, ◌+◌, subst}
+use Rattle.std.proofs.Common.{◌+◌, subst}
 use Rattle.sd_apply.specs.GroupCalls.{AreLiteralsBelow}
 use Rattle.sd_apply.proofs.Trees.{right_there}
 use Rattle.sd_apply.proofs.JoiningPlaces.{literals_after, fork_range}
