@@ -265,8 +265,8 @@ join_halves-returns-then-unsigned_abs-split-clause-ok t c =
     let below = c.requires.right.past e c.literal_at-literal.ensures (λ q. c.if-unsigned_abs-split.true
     (c.unsigned_abs.ensures.value ∙ ap unsigned_abs (to_z-of_z w32 e.1 fits) ∙ q)) in
     joins_both m n k c.join_from.ensures.kept c.join_from-then-unsigned_abs-split.ensures.kept c.args.operation
-    c.args.split.now.right c.args.split.now.variable c.args.halves.now.0 c.args.halves.now.1 c.args.from c.in_ok-first.first
-    c.in_ok-second.second
+    c.args.split.now.right c.args.split.now.variable c.args.halves.now.0 c.args.halves.now.1 c.args.from
+    c.in_ok-first.first c.in_ok-second.second
     c.args.literals.now below c.in_ok-first.ensures.ok c.in_ok-second.ensures.ok
 
 pub join_halves-returns-then-unsigned_abs-split-clause-kept :
