@@ -1,5 +1,6 @@
 -- What the calls answer that join a node with the literals of a group.
-use Rattle.std.specs.Prelude.{◌≡◌, ℕ, suc, ◌≤◌, ℤ, Bool, true, false, cond, List, drop, Some, slice_get}
+use Rattle.std.specs.Prelude.{◌≡◌, ◌≢◌, ℕ, suc, ◌+◌, ◌≤◌, ℤ, Bool, true, false, cond, List, drop, Some}
+use Rattle.std.specs.Prelude.{slice_get, unsigned_abs}
 use Rattle.std.specs.List.{All}
 use Rattle.sd_model.specs.declared.trees.Operation.{Operation}
 use Rattle.sd_model.specs.declared.trees.Operation.TheVariants.{And, Or, Xor}
@@ -13,6 +14,7 @@ use Rattle.sd_laws.specs.Parts.{HasPosition}
 use Rattle.sd_manager.specs.Literals.{IsLiteralTo, code_of_literal}
 use Rattle.sd_manager.specs.Table.{Table}
 use Rattle.sd_manager.specs.Shown.{ShowsCanonical}
+use Rattle.sd_apply.specs.declared.join.Split.{Split}
 use Rattle.sd_apply.specs.declared.node_answers.NodeEntry.{NodeEntry}
 use Rattle.sd_apply.specs.declared.node_answers.NodeAnswers.{NodeAnswers}
 use Rattle.sd_apply.specs.Answers.{HasAnswer}
@@ -77,6 +79,19 @@ pub record IsGroupNode (t : Table) (o : Operation) (v from : ℕ) (literals : Li
 pub record IsLeafFork (t : Numbered) (at left right variable : ℕ) : Type 0 where
   pub children : HasChildren t at left right
   pub leaf : variable_at t left ≡ Some variable
+
+-- the same of what a join has of a vtree node
+abbrev pub IsSplit : Numbered → ℕ → Split → Type 0
+IsSplit t at s = IsLeafFork t at s.left s.right s.variable
+
+-- the right child is there, and the literals from an index on are below it, but for the first where that is of the
+-- variable
+pub record GoesRight (t : Table) (s : Split) (from : ℕ) (literals : List (ℕ × ℤ)) : Type 0 where
+  pub there : IsThere t.vtree s.right
+  pub variable : 1 ≤ s.variable
+  pub rest : AreLiteralsBelow t s.right (from + 1) literals
+  pub past : (e : ℕ × ℤ) → slice_get literals from ≡ Some e → unsigned_abs e.1 ≢ s.variable →
+      AreLiteralsBelow t s.right from literals
 
 -- the first node has the value f where the variable is true, the second where it is false; both are below w
 pub record HasHalves (t : Table) (w variable a b : ℕ) (f : List Bool → Bool) : Type 0 where

@@ -15,8 +15,8 @@ ghost use Rattle.sd_apply.specs.Serving.{Serves};
 ghost use Rattle.sd_apply.specs.Places.{width, IsBelow, IsThere, HasChildren, HasPlace};
 ghost use Rattle.sd_apply.specs.Group.{AreOrdered, JoinsGroup, GrowsBelowGroup};
 ghost use Rattle.sd_apply.specs.GroupCalls.{deciding, between, AreLiteralsBelow, JoinsFrom, IsGroupNode};
-ghost use Rattle.sd_apply.specs.GroupCalls.{StandLower, StandsFrom, IsLeafFork, Halves, JoinsHalves, MakesHalves};
-ghost use Rattle.sd_apply.specs.GroupCalls.{Remembers};
+ghost use Rattle.sd_apply.specs.GroupCalls.{StandLower, StandsFrom, IsSplit, GoesRight, Halves, JoinsHalves};
+ghost use Rattle.sd_apply.specs.GroupCalls.{MakesHalves, Remembers};
 
 use crate::calls::apply;
 use crate::node_answers::NodeAnswers;
@@ -28,6 +28,22 @@ use sd_model::Operation;
 use sd_runs::TakeError;
 use sd_vtree::{VNode, Vtree};
 use std::alloc::Global;
+
+// What a join asks on its way: what operations found, and what it found itself at nodes.
+#[derive(Drop)]
+struct Tables {
+    recent: Recent,
+    found: NodeAnswers,
+}
+
+// The children of a vtree node, of which the left one is the leaf of the variable: by the value of that, a node there
+// is split into two halves below the right one.
+#[derive(Clone, Copy, Drop)]
+struct Split {
+    left: VNode,
+    right: VNode,
+    variable: u32,
+}
 
 /// A node joined with a group of literals, in one pass along the node: for And a clause, the disjunction of the
 /// literals, is conjoined, and for Or a term, their conjunction, is disjoined. The literals stand behind the positions
@@ -56,19 +72,11 @@ pub fn join_group(
         return Ok(m.constant(deciding_value(operation)));
     }
     let over = lowest_over(m, node, literals);
-    let mut recent = Recent::lent(alloc, m, c);
-    let mut found = NodeAnswers::new(alloc);
-    let joined = join_from(
-        alloc,
-        m,
-        &mut recent,
-        &mut found,
-        operation,
-        over,
-        node,
-        literals,
-        0,
-    );
+    let recent = Recent::lent(alloc, m, c);
+    let found = NodeAnswers::new(alloc);
+    let mut tables = Tables { recent, found };
+    let joined = join_from(alloc, m, &mut tables, operation, over, node, literals, 0);
+    let Tables { recent, found: _ } = tables;
     recent.give_back(m, c);
     joined
 }
@@ -141,8 +149,7 @@ fn leaf_of(m: &Manager, literals: &[(u32, i32)], index: usize) -> VNode
 fn join_from(
     alloc: Global,
     m: &mut Manager,
-    recent: &mut Recent,
-    found: &mut NodeAnswers,
+    tables: &mut Tables,
     operation: Operation,
     at: VNode,
     node: NodeId,
@@ -153,13 +160,13 @@ fn join_from(
     requires at { IsThere m.old.vtree at }
     requires node { IsBelow m.old at node }
     requires literals { AreLiteralsBelow m.old at from literals.now }
-    requires knows { Knows recent.old m.old }
-    requires remembers { Remembers found.old m.old operation literals.now }
+    requires knows { Knows tables.old.recent m.old }
+    requires remembers { Remembers tables.old.found m.old operation literals.now }
     ensures ok { IfOk result (λ r. JoinsFrom m.old m.new operation at node from literals.now r) }
     ensures kept { Extends m.old m.new }
     ensures grown { GrowsBelow m.old m.new at }
-    ensures knows { Knows recent.new m.new }
-    ensures remembers { Remembers found.new m.new operation literals.now }
+    ensures knows { Knows tables.new.recent m.new }
+    ensures remembers { Remembers tables.new.found m.new operation literals.now }
     ensures rule { IfErr result (λ e. KeepsRule m.new e) }
     ensures table { IsTable m.new }
 {
@@ -171,11 +178,11 @@ fn join_from(
         return Ok(decided);
     }
     if is_shared(m, at, node) {
-        if let Some(code) = found.look(node.0, from + 1) {
+        if let Some(code) = tables.found.look(node.0, from + 1) {
             return Ok(NodeId(code));
         }
     }
-    join_below(alloc, m, recent, found, operation, at, node, literals, from)
+    join_below(alloc, m, tables, operation, at, node, literals, from)
 }
 
 // The same where some literals are left, and where no answer is kept.
@@ -183,8 +190,7 @@ fn join_from(
 fn join_below(
     alloc: Global,
     m: &mut Manager,
-    recent: &mut Recent,
-    found: &mut NodeAnswers,
+    tables: &mut Tables,
     operation: Operation,
     at: VNode,
     node: NodeId,
@@ -196,26 +202,24 @@ fn join_below(
     requires node { IsBelow m.old at node }
     requires literals { AreLiteralsBelow m.old at from literals.now }
     requires some { from < length literals.now }
-    requires knows { Knows recent.old m.old }
-    requires remembers { Remembers found.old m.old operation literals.now }
+    requires knows { Knows tables.old.recent m.old }
+    requires remembers { Remembers tables.old.found m.old operation literals.now }
     requires table { IsTable m.old }
     ensures ok { IfOk result (λ r. JoinsFrom m.old m.new operation at node from literals.now r) }
     ensures kept { Extends m.old m.new }
     ensures grown { GrowsBelow m.old m.new at }
-    ensures knows { Knows recent.new m.new }
-    ensures remembers { Remembers found.new m.new operation literals.now }
+    ensures knows { Knows tables.new.recent m.new }
+    ensures remembers { Remembers tables.new.found m.new operation literals.now }
     ensures rule { IfErr result (λ e. KeepsRule m.new e) }
     ensures table { IsTable m.new }
 {
     let lower = lower_right(m, at, node, literals, from);
     let shared = is_shared(m, lower, node);
-    let code = join_at(
-        alloc, m, recent, found, operation, lower, node, literals, from,
-    )?;
+    let code = join_at(alloc, m, tables, operation, lower, node, literals, from)?;
     if !shared {
         return Ok(code);
     }
-    found.keep(alloc, node.0, from + 1, code.0);
+    tables.found.keep(alloc, node.0, from + 1, code.0);
     Ok(code)
 }
 
@@ -235,8 +239,7 @@ fn is_shared(m: &Manager, at: VNode, node: NodeId) -> bool
 fn join_at(
     alloc: Global,
     m: &mut Manager,
-    recent: &mut Recent,
-    found: &mut NodeAnswers,
+    tables: &mut Tables,
     operation: Operation,
     at: VNode,
     node: NodeId,
@@ -248,34 +251,27 @@ fn join_at(
     requires node { IsBelow m.old at node }
     requires literals { AreLiteralsBelow m.old at from literals.now }
     requires some { from < length literals.now }
-    requires knows { Knows recent.old m.old }
-    requires remembers { Remembers found.old m.old operation literals.now }
+    requires knows { Knows tables.old.recent m.old }
+    requires remembers { Remembers tables.old.found m.old operation literals.now }
     requires table { IsTable m.old }
     ensures ok { IfOk result (λ r. JoinsFrom m.old m.new operation at node from literals.now r) }
     ensures kept { Extends m.old m.new }
     ensures grown { GrowsBelow m.old m.new at }
-    ensures knows { Knows recent.new m.new }
-    ensures remembers { Remembers found.new m.new operation literals.now }
+    ensures knows { Knows tables.new.recent m.new }
+    ensures remembers { Remembers tables.new.found m.new operation literals.now }
     ensures rule { IfErr result (λ e. KeepsRule m.new e) }
     ensures table { IsTable m.new }
 {
-    let Some(fork) = fork_at(m, at) else {
+    let Some(found) = halves_at(m, at, node, literals, from) else {
+        let recent = &mut tables.recent;
         return join_by_node(alloc, m, recent, operation, at, node, literals, from);
     };
-    let next = next_right(literals, from, fork.2);
-    if !are_right(m, at, fork.0, fork.1, literals, from, next) {
-        return join_by_node(alloc, m, recent, operation, at, node, literals, from);
-    }
-    let Some(halves) = halves_of(m, at, fork.0, fork.1, fork.2, node) else {
-        return join_by_node(alloc, m, recent, operation, at, node, literals, from);
-    };
-    let joined = join_halves(
-        alloc, m, recent, found, operation, fork.1, fork.2, halves.0, halves.1, literals, from,
-    )?;
-    if is_same(joined.0, halves.0) && is_same(joined.1, halves.1) {
+    let (split, halves) = (&found.0, &found.1);
+    let joined = join_halves(alloc, m, tables, operation, split, halves, literals, from)?;
+    if is_same(&joined.0, &halves.0) && is_same(&joined.1, &halves.1) {
         return Ok(node);
     }
-    make_halves(m, at, fork.0, fork.1, fork.2, joined.0, joined.1)
+    make_halves(m, at, split, joined.0, joined.1)
 }
 
 // The halves of a node, joined with the literals from an index on. Of a literal of the variable one half is decided:
@@ -285,73 +281,46 @@ fn join_at(
 fn join_halves(
     alloc: Global,
     m: &mut Manager,
-    recent: &mut Recent,
-    found: &mut NodeAnswers,
+    tables: &mut Tables,
     operation: Operation,
-    right: VNode,
-    variable: u32,
-    first: NodeId,
-    second: NodeId,
+    split: &Split,
+    halves: &(NodeId, NodeId),
     literals: &[(u32, i32)],
     from: usize,
 ) -> Result<(NodeId, NodeId), TakeError>
     requires operation { operation ≢ Xor }
-    requires right { IsThere m.old.vtree right }
-    requires variable { 1 ≤ variable }
-    requires first { IsBelow m.old right first }
-    requires second { IsBelow m.old right second }
+    requires right { GoesRight m.old split.now from literals.now }
+    requires first { IsBelow m.old split.now.right halves.now.0 }
+    requires second { IsBelow m.old split.now.right halves.now.1 }
     requires some { from < length literals.now }
-    requires rest { AreLiteralsBelow m.old right (from + 1) literals.now }
-    requires past { (e : ℕ × ℤ) → slice_get literals.now from ≡ Some e → unsigned_abs e.1 ≢ variable →
-        AreLiteralsBelow m.old right from literals.now }
-    requires knows { Knows recent.old m.old }
-    requires remembers { Remembers found.old m.old operation literals.now }
+    requires knows { Knows tables.old.recent m.old }
+    requires remembers { Remembers tables.old.found m.old operation literals.now }
     requires table { IsTable m.old }
-    ensures ok { IfOk result
-        (λ r. JoinsHalves m.old m.new operation right variable first second from literals.now r) }
+    ensures ok { IfOk result (λ r. JoinsHalves m.old m.new operation split.now.right
+        split.now.variable halves.now.0 halves.now.1 from literals.now r) }
     ensures kept { Extends m.old m.new }
-    ensures grown { GrowsBelow m.old m.new right }
-    ensures knows { Knows recent.new m.new }
-    ensures remembers { Remembers found.new m.new operation literals.now }
+    ensures grown { GrowsBelow m.old m.new split.now.right }
+    ensures knows { Knows tables.new.recent m.new }
+    ensures remembers { Remembers tables.new.found m.new operation literals.now }
     ensures rule { IfErr result (λ e. KeepsRule m.new e) }
     ensures table { IsTable m.new }
 {
     let (_, literal) = literal_at(literals, from);
-    if literal.unsigned_abs() != variable {
-        let one = join_from(
-            alloc, m, recent, found, operation, right, first, literals, from,
-        )?;
-        let other = join_from(
-            alloc, m, recent, found, operation, right, second, literals, from,
-        )?;
-        return Ok((one, other));
+    let right = split.right;
+    let one = halves.0;
+    let other = halves.1;
+    if literal.unsigned_abs() != split.variable {
+        let first = join_from(alloc, m, tables, operation, right, one, literals, from)?;
+        let second = join_from(alloc, m, tables, operation, right, other, literals, from)?;
+        return Ok((first, second));
     }
+    let next = from + 1;
     if (literal > 0) == deciding_value(operation) {
-        let one = join_from(
-            alloc,
-            m,
-            recent,
-            found,
-            operation,
-            right,
-            first,
-            literals,
-            from + 1,
-        )?;
-        Ok((one, second))
-    } else {
-        let other = join_from(
-            alloc,
-            m,
-            recent,
-            found,
-            operation,
-            right,
-            second,
-            literals,
-            from + 1,
-        )?;
+        let first = join_from(alloc, m, tables, operation, right, one, literals, next)?;
         Ok((first, other))
+    } else {
+        let second = join_from(alloc, m, tables, operation, right, other, literals, next)?;
+        Ok((one, second))
     }
 }
 
@@ -451,11 +420,42 @@ fn between_literals(operation: Operation) -> Operation
     }
 }
 
+// The leaf and the right child of a vtree node, and the halves of the node, where the literals go on below that child.
+#[inline(always)]
+fn halves_at(
+    m: &Manager,
+    at: VNode,
+    node: NodeId,
+    literals: &[(u32, i32)],
+    from: usize,
+) -> Option<(Split, (NodeId, NodeId))>
+    requires at { IsThere m.now.vtree at }
+    requires node { IsBelow m.now at node }
+    requires literals { AreLiteralsBelow m.now at from literals.now }
+    requires some { from < length literals.now }
+    requires table { IsTable m.now }
+    ensures split { IfSome result (λ r. IsSplit m.now.vtree at r.0) }
+    ensures halves { IfSome result (λ r. Halves m.now at r.0.right r.0.variable node r.1) }
+    ensures right { IfSome result (λ r. GoesRight m.now r.0 from literals.now) }
+{
+    let Some(split) = split_at(m, at) else {
+        return None;
+    };
+    let next = next_right(literals, from, split.variable);
+    if !are_right(m, at, &split, literals, from, next) {
+        return None;
+    }
+    let Some(halves) = halves_of(m, at, &split, node) else {
+        return None;
+    };
+    Some((split, halves))
+}
+
 // The children of a vtree node and the variable of the left one, where that is a leaf.
 #[inline(always)]
-fn fork_at(m: &Manager, at: VNode) -> Option<(VNode, VNode, u32)>
+fn split_at(m: &Manager, at: VNode) -> Option<Split>
     requires { IsThere m.now.vtree at }
-    ensures { IfSome result (λ f. IsLeafFork m.now.vtree at f.0 f.1 f.2) }
+    ensures { IfSome result (λ s. IsSplit m.now.vtree at s) }
 {
     let vtree = m.vtree();
     let Some((left, right)) = vtree.children(at) else {
@@ -464,7 +464,11 @@ fn fork_at(m: &Manager, at: VNode) -> Option<(VNode, VNode, u32)>
     let Some(variable) = vtree.variable(left) else {
         return None;
     };
-    Some((left, right, variable))
+    Some(Split {
+        left,
+        right,
+        variable,
+    })
 }
 
 // The index of the first literal from an index on that is not of the variable, where it is this or the next one.
@@ -489,17 +493,16 @@ fn next_right(literals: &[(u32, i32)], from: usize, variable: u32) -> usize
 fn are_right(
     m: &Manager,
     at: VNode,
-    left: VNode,
-    right: VNode,
+    split: &Split,
     literals: &[(u32, i32)],
     from: usize,
     next: usize,
 ) -> bool
-    requires children { HasChildren m.now.vtree at left right }
+    requires children { HasChildren m.now.vtree at split.now.left split.now.right }
     requires literals { AreLiteralsBelow m.now at from literals.now }
     requires order { from ≤ next }
     requires table { IsTable m.now }
-    ensures { IsTrue result → AreLiteralsBelow m.now right next literals.now }
+    ensures { IsTrue result → AreLiteralsBelow m.now split.now.right next literals.now }
 {
     if next >= literals.len() {
         return true;
@@ -509,11 +512,11 @@ fn are_right(
 }
 
 // Whether a node stands below the right child.
-fn is_right(m: &Manager, at: VNode, left: VNode, right: VNode, node: NodeId) -> bool
-    requires children { HasChildren m.now.vtree at left right }
+fn is_right(m: &Manager, at: VNode, split: &Split, node: NodeId) -> bool
+    requires children { HasChildren m.now.vtree at split.now.left split.now.right }
     requires node { IsBelow m.now at node }
     requires table { IsTable m.now }
-    ensures { IsTrue result → IsBelow m.now right node }
+    ensures { IsTrue result → IsBelow m.now split.now.right node }
 {
     if node.is_constant() {
         return true;
@@ -578,47 +581,34 @@ fn least_position(m: &Manager, at: VNode, node: NodeId, first: u32) -> u32
 
 // What a node is where the variable of the left child is true, and where it is false.
 #[inline(always)]
-fn halves_of(
-    m: &Manager,
-    at: VNode,
-    left: VNode,
-    right: VNode,
-    variable: u32,
-    node: NodeId,
-) -> Option<(NodeId, NodeId)>
-    requires fork { IsLeafFork m.now.vtree at left right variable }
+fn halves_of(m: &Manager, at: VNode, split: &Split, node: NodeId) -> Option<(NodeId, NodeId)>
+    requires split { IsSplit m.now.vtree at split.now }
     requires node { IsBelow m.now at node }
     requires table { IsTable m.now }
-    ensures { IfSome result (λ r. Halves m.now at right variable node r) }
+    ensures { IfSome result (λ r. Halves m.now at split.now.right split.now.variable node r) }
 {
     if node.is_decomposition() {
-        if let Some(halves) = own_halves(m, at, left, right, variable, node) {
+        if let Some(halves) = own_halves(m, at, split, node) {
             return Some(halves);
         }
     }
-    if is_right(m, at, left, right, node) {
+    if is_right(m, at, split, node) {
         return Some((node, node));
     }
     if node.is_constant() || node.is_decomposition() {
         return None;
     }
-    literal_halves(m, at, right, variable, node)
+    literal_halves(m, at, split, node)
 }
 
 // The halves of a literal of the variable.
-fn literal_halves(
-    m: &Manager,
-    at: VNode,
-    right: VNode,
-    variable: u32,
-    node: NodeId,
-) -> Option<(NodeId, NodeId)>
+fn literal_halves(m: &Manager, at: VNode, split: &Split, node: NodeId) -> Option<(NodeId, NodeId)>
     requires least { 2 ≤ node }
     requires code { node < 2050 }
     requires table { IsTable m.now }
-    ensures { IfSome result (λ r. Halves m.now at right variable node r) }
+    ensures { IfSome result (λ r. Halves m.now at split.now.right split.now.variable node r) }
 {
-    if node.variable() != variable {
+    if node.variable() != split.variable {
         return None;
     }
     if node.is_positive() {
@@ -629,27 +619,20 @@ fn literal_halves(
 }
 
 // Whether two nodes are one.
-fn is_same(a: NodeId, b: NodeId) -> bool
-    ensures { IsTrue result → (a ≡ b) }
+fn is_same(a: &NodeId, b: &NodeId) -> bool
+    ensures { IsTrue result → (a.now ≡ b.now) }
 {
     a.0 == b.0
 }
 
 // The halves of a decomposition of two elements, of which the first has the variable as its prime.
 #[inline(always)]
-fn own_halves(
-    m: &Manager,
-    at: VNode,
-    left: VNode,
-    right: VNode,
-    variable: u32,
-    node: NodeId,
-) -> Option<(NodeId, NodeId)>
-    requires fork { IsLeafFork m.now.vtree at left right variable }
+fn own_halves(m: &Manager, at: VNode, split: &Split, node: NodeId) -> Option<(NodeId, NodeId)>
+    requires split { IsSplit m.now.vtree at split.now }
     requires node { IsBelow m.now at node }
     requires code { 2050 ≤ node }
     requires table { IsTable m.now }
-    ensures { IfSome result (λ r. Halves m.now at right variable node r) }
+    ensures { IfSome result (λ r. Halves m.now at split.now.right split.now.variable node r) }
 {
     if place_of(m, node).0 != at.0 {
         return None;
@@ -662,7 +645,7 @@ fn own_halves(
     }
     let (prime, sub) = m.element(node, 0);
     let (_, other) = m.element(node, 1);
-    if prime.0 == 2 * variable {
+    if prime.0 == 2 * split.variable {
         Some((sub, other))
     } else {
         None
@@ -674,17 +657,16 @@ fn own_halves(
 fn make_halves(
     m: &mut Manager,
     at: VNode,
-    left: VNode,
-    right: VNode,
-    variable: u32,
+    split: &Split,
     first: NodeId,
     second: NodeId,
 ) -> Result<NodeId, TakeError>
-    requires fork { IsLeafFork m.old.vtree at left right variable }
-    requires first { IsBelow m.old right first }
-    requires second { IsBelow m.old right second }
+    requires split { IsSplit m.old.vtree at split.now }
+    requires first { IsBelow m.old split.now.right first }
+    requires second { IsBelow m.old split.now.right second }
     requires table { IsTable m.old }
-    ensures ok { IfOk result (λ r. MakesHalves m.old m.new right variable first second r) }
+    ensures ok { IfOk result
+        (λ r. MakesHalves m.old m.new split.now.right split.now.variable first second r) }
     ensures kept { Extends m.old m.new }
     ensures grown { GrowsBelow m.old m.new at }
     ensures rule { IfErr result (λ e. KeepsRule m.new e) }
@@ -693,6 +675,6 @@ fn make_halves(
     if first.0 == second.0 {
         return Ok(first);
     }
-    let (one, other) = (NodeId(2 * variable), NodeId(2 * variable + 1));
+    let (one, other) = (NodeId(2 * split.variable), NodeId(2 * split.variable + 1));
     m.make(at, &[(one, first), (other, second)])
 }

@@ -6,13 +6,12 @@ use Rattle.sd_model.specs.Assignment.{value_in}
 use Rattle.std.proofs.lemmas.Int.{to_z-of_z}
 use Rattle.std.proofs.lemmas.Result.{IfOk-weaker}
 use Rattle.sd_apply.specs.Places.{width}
-use Rattle.sd_apply.specs.GroupCalls.{AreLiteralsBelow, JoinsFrom, MakesHalves, IsFoundBefore, deciding}
-use Rattle.sd_apply.proofs.Trees.{right_there}
+use Rattle.sd_apply.specs.GroupCalls.{IsSplit, JoinsFrom, MakesHalves, IsFoundBefore, deciding}
 use Rattle.sd_apply.proofs.Listed.{below_on, there_on, width_on}
 use Rattle.sd_manager.proofs.Extending.{extends_on}
 use Rattle.sd_apply.proofs.RightEntries.{knows_on}
 use Rattle.sd_apply.proofs.Growing.{grows_both}
-use Rattle.sd_apply.proofs.JoiningPlaces.{literals_on, literals_after, right_narrower, fork_range}
+use Rattle.sd_apply.proofs.JoiningPlaces.{literals_on, right_narrower}
 use Rattle.sd_apply.proofs.JoiningSteps.{remembers_on, grows_up, grows_lower}
 use Rattle.sd_apply.proofs.JoiningSteps.{joins_decided, joins_over, joins_found, found_joined}
 use Rattle.sd_apply.proofs.JoiningSteps.{first_half, second_half, first_joined, second_joined, joins_made, joins_same}
@@ -24,60 +23,38 @@ use Rattle.sd_apply.proofs.join.+join.Goals as goal
 
 pub join_at-returns-in_default-clause-remembers : goal.join_at-returns-in_default-clause-remembers
 join_at-returns-in_default-clause-remembers t c =
-    remembers_on c.args.found.now c.args.m.now c.join_by_node.new.m c.join_by_node.ensures.kept c.args.operation
+    remembers_on c.args.tables.now.found c.args.m.now c.join_by_node.new.m c.join_by_node.ensures.kept c.args.operation
     c.args.literals.now c.requires.remembers
-
-pub join_at-returns-then-not-are_right-clause-remembers :
-    goal.join_at-returns-then-not-are_right-clause-remembers
-join_at-returns-then-not-are_right-clause-remembers t c =
-    remembers_on c.args.found.now c.args.m.now c.join_by_node-then-not-are_right.new.m
-    c.join_by_node-then-not-are_right.ensures.kept c.args.operation c.args.literals.now c.requires.remembers
-
-pub join_at-returns-in_default-halves_of-clause-remembers :
-    goal.join_at-returns-in_default-halves_of-clause-remembers
-join_at-returns-in_default-halves_of-clause-remembers t c =
-    remembers_on c.args.found.now c.args.m.now c.join_by_node-in_default-halves_of.new.m
-    c.join_by_node-in_default-halves_of.ensures.kept c.args.operation c.args.literals.now c.requires.remembers
 
 pub join_at-join_halves-requires : goal.join_at-join_halves-requires
 join_at-join_halves-requires t c =
     let m = c.args.m.now in
     let i = c.requires.table in
-    let f = c.in-Some.fork in
-    let l = c.args.literals.now in
-    let fork = c.in-Some.ensures in
-    let halves = c.in-Some-halves_of.ensures in
-    let h = c.in-Some-halves_of.halves in
-    let below : AreLiteralsBelow m f.1 c.next_right-next.result l = c.are_right.ensures c.if-not-are_right.false in
-    let small : 4 * width m.vtree f.1 + 4 < t =
-    omega (arith, right_narrower m.vtree i.numbered c.args.at f.0 f.1 fork.children, c.decreases) in (
+    let f = c.in-Some.found.0 in
+    let h = c.in-Some.found.1 in
+    let halves = c.in-Some.ensures.halves in
+    let small : 4 * width m.vtree f.right + 4 < t =
+    omega (
+      arith,
+      right_narrower m.vtree i.numbered c.args.at f.left f.right c.in-Some.ensures.split.children,
+      c.decreases,
+    ) in (
       small,
       (
         c.requires.operation,
         (
-          right_there m.vtree i.numbered c.args.at f.0 f.1 fork.children,
+          c.in-Some.ensures.right,
           (
-            (fork_range m.vtree i.numbered c.args.at f.0 f.1 f.2 fork).0,
+            first_half m c.args.at f.right f.variable c.args.node h halves c.requires.node,
             (
-              first_half m c.args.at f.1 f.2 c.args.node h halves c.requires.node,
+              second_half m c.args.at f.right f.variable c.args.node h halves c.requires.node,
               (
-                second_half m c.args.at f.1 f.2 c.args.node h halves c.requires.node,
+                c.requires.some,
                 (
-                  c.requires.some,
+                  c.requires.knows,
                   (
-                    literals_after m f.1 c.next_right-next.result (c.args.from + 1) l
-                        c.next_right-next.ensures.most below,
-                    (
-                      (λ e s differ. subst (λ k. AreLiteralsBelow m f.1 k l)
-                          (c.next_right-next.ensures.begins e s differ) below),
-                      (
-                        c.requires.knows,
-                        (
-                          c.requires.remembers,
-                          i,
-                        ),
-                      ),
-                    ),
+                    c.requires.remembers,
+                    i,
                   ),
                 ),
               ),
@@ -89,38 +66,44 @@ join_at-join_halves-requires t c =
 
 pub join_at-returns-in_err-joined-clause-grown : goal.join_at-returns-in_err-joined-clause-grown
 join_at-returns-in_err-joined-clause-grown t c =
-    let f = c.in-Some.fork in
-    grows_up c.args.m.now c.join_halves.new.m c.join_halves.ensures.kept c.requires.table.numbered c.args.at f.0 f.1
-    c.in-Some.ensures.children c.join_halves.ensures.grown
+    let f = c.in-Some.found.0 in
+    grows_up c.args.m.now c.join_halves.new.m c.join_halves.ensures.kept c.requires.table.numbered c.args.at f.left
+    f.right
+    c.in-Some.ensures.split.children c.join_halves.ensures.grown
 
 pub join_at-returns-then-is_same-2-clause-ok :
     goal.join_at-returns-then-is_same-2-clause-ok
 join_at-returns-then-is_same-2-clause-ok t c =
-    let f = c.in-Some.fork in
+    let f = c.in-Some.found.0 in
     joins_same c.args.m.now c.join_halves.new.m c.join_halves.ensures.table c.join_halves.ensures.kept c.args.operation
-    c.args.at f.1 f.2 c.args.node c.args.from c.args.literals.now c.in-Some-halves_of.halves c.in_ok-joined.joined
-    c.in-Some-halves_of.ensures c.in_ok-joined.ensures.ok (c.is_same.ensures c.if-is_same.true)
+    c.args.at f.right f.variable c.args.node c.args.from c.args.literals.now c.in-Some.found.1 c.in_ok-joined.joined
+    c.in-Some.ensures.halves c.in_ok-joined.ensures.ok (c.is_same.ensures c.if-is_same.true)
     (c.is_same-then-is_same.ensures c.if-is_same-2.true)
 
 pub join_at-returns-then-is_same-2-clause-grown :
     goal.join_at-returns-then-is_same-2-clause-grown
 join_at-returns-then-is_same-2-clause-grown t c =
-    let f = c.in-Some.fork in
-    grows_up c.args.m.now c.join_halves.new.m c.join_halves.ensures.kept c.requires.table.numbered c.args.at f.0 f.1
-    c.in-Some.ensures.children c.join_halves.ensures.grown
+    let f = c.in-Some.found.0 in
+    grows_up c.args.m.now c.join_halves.new.m c.join_halves.ensures.kept c.requires.table.numbered c.args.at f.left
+    f.right
+    c.in-Some.ensures.split.children c.join_halves.ensures.grown
+
+pub join_at-make_halves-requires-clause-split : goal.join_at-make_halves-requires-clause-split
+join_at-make_halves-requires-clause-split t c =
+    subst (λ v. IsSplit v c.args.at c.in-Some.found.0) (sym c.join_halves.ensures.kept.vtree) c.in-Some.ensures.split
 
 pub join_at-make_halves-requires-clause-first : goal.join_at-make_halves-requires-clause-first
 join_at-make_halves-requires-clause-first t c =
-    let f = c.in-Some.fork in
-    first_joined c.args.m.now c.join_halves.new.m c.args.operation c.args.at f.1 f.2 c.args.node c.args.from
-    c.args.literals.now c.in-Some-halves_of.halves c.in_ok-joined.joined c.in-Some-halves_of.ensures c.requires.node
+    let f = c.in-Some.found.0 in
+    first_joined c.args.m.now c.join_halves.new.m c.args.operation c.args.at f.right f.variable c.args.node c.args.from
+    c.args.literals.now c.in-Some.found.1 c.in_ok-joined.joined c.in-Some.ensures.halves c.requires.node
     c.in_ok-joined.ensures.ok
 
 pub join_at-make_halves-requires-clause-second : goal.join_at-make_halves-requires-clause-second
 join_at-make_halves-requires-clause-second t c =
-    let f = c.in-Some.fork in
-    second_joined c.args.m.now c.join_halves.new.m c.args.operation c.args.at f.1 f.2 c.args.node c.args.from
-    c.args.literals.now c.in-Some-halves_of.halves c.in_ok-joined.joined c.in-Some-halves_of.ensures c.requires.node
+    let f = c.in-Some.found.0 in
+    second_joined c.args.m.now c.join_halves.new.m c.args.operation c.args.at f.right f.variable c.args.node c.args.from
+    c.args.literals.now c.in-Some.found.1 c.in_ok-joined.joined c.in-Some.ensures.halves c.requires.node
     c.in_ok-joined.ensures.ok
 
 pub join_at-returns-clause-ok : goal.join_at-returns-clause-ok
@@ -128,12 +111,12 @@ join_at-returns-clause-ok t c =
     let m = c.args.m.now in
     let n = c.join_halves.new.m in
     let k = c.make_halves.new.m in
-    let f = c.in-Some.fork in
+    let f = c.in-Some.found.0 in
     let r = c.in_ok-joined.joined in
-    IfOk-weaker c.make_halves.result (λ d. MakesHalves n k f.1 f.2 r.0 r.1 d)
+    IfOk-weaker c.make_halves.result (λ d. MakesHalves n k f.right f.variable r.0 r.1 d)
     (λ d. JoinsFrom m k c.args.operation c.args.at c.args.node c.args.from c.args.literals.now d)
-    (λ d h. joins_made m n k c.args.operation c.args.at f.1 f.2 c.args.node c.args.from d c.args.literals.now
-    c.in-Some-halves_of.halves r c.in-Some-halves_of.ensures c.in_ok-joined.ensures.ok h)
+    (λ d h. joins_made m n k c.args.operation c.args.at f.right f.variable c.args.node c.args.from d c.args.literals.now
+    c.in-Some.found.1 r c.in-Some.ensures.halves c.in_ok-joined.ensures.ok h)
     c.make_halves.ensures.ok
 
 pub join_at-returns-clause-kept : goal.join_at-returns-clause-kept
@@ -143,19 +126,20 @@ join_at-returns-clause-kept t c =
 
 pub join_at-returns-clause-grown : goal.join_at-returns-clause-grown
 join_at-returns-clause-grown t c =
-    let f = c.in-Some.fork in
+    let f = c.in-Some.found.0 in
     grows_both c.args.m.now c.join_halves.new.m c.make_halves.new.m c.args.at c.make_halves.ensures.kept
-    (grows_up c.args.m.now c.join_halves.new.m c.join_halves.ensures.kept c.requires.table.numbered c.args.at f.0 f.1
-    c.in-Some.ensures.children c.join_halves.ensures.grown) c.make_halves.ensures.grown
+    (grows_up c.args.m.now c.join_halves.new.m c.join_halves.ensures.kept c.requires.table.numbered c.args.at f.left
+    f.right
+    c.in-Some.ensures.split.children c.join_halves.ensures.grown) c.make_halves.ensures.grown
 
 pub join_at-returns-clause-knows : goal.join_at-returns-clause-knows
 join_at-returns-clause-knows t c =
-    knows_on c.join_halves.new.recent c.join_halves.new.m c.make_halves.new.m c.make_halves.ensures.kept
+    knows_on c.join_halves.new.tables.recent c.join_halves.new.m c.make_halves.new.m c.make_halves.ensures.kept
     c.join_halves.ensures.knows
 
 pub join_at-returns-clause-remembers : goal.join_at-returns-clause-remembers
 join_at-returns-clause-remembers t c =
-    remembers_on c.join_halves.new.found c.join_halves.new.m c.make_halves.new.m c.make_halves.ensures.kept
+    remembers_on c.join_halves.new.tables.found c.join_halves.new.m c.make_halves.new.m c.make_halves.ensures.kept
     c.args.operation c.args.literals.now c.join_halves.ensures.remembers
 
 -- ---- at a node
@@ -219,27 +203,41 @@ join_below-returns-clause-remembers t c =
 
 -- ---- the halves
 
-pub join_halves-join_from-requires-then-unsigned_abs-variable :
-    goal.join_halves-join_from-requires-then-unsigned_abs-variable
-join_halves-join_from-requires-then-unsigned_abs-variable t c =
+pub join_halves-join_from-requires : goal.join_halves-join_from-requires
+join_halves-join_from-requires t c =
+    let e = c.literal_at-literal.result in
+    let fits : SFits w32 e.1 = search rules in
+    let below = c.requires.right.past e c.literal_at-literal.ensures (λ q. c.if-unsigned_abs-split.true
+    (c.unsigned_abs.ensures.value ∙ ap unsigned_abs (to_z-of_z w32 e.1 fits) ∙ q)) in
+    let small : 4 * width c.args.m.now.vtree c.args.split.now.right + 3 < t = omega (arith, c.decreases) in (
+      small,
+      (
+        c.requires.operation,
+        (c.requires.right.there, (c.requires.first, (below, (c.requires.knows, c.requires.remembers)))),
+      ),
+    )
+
+pub join_halves-join_from-requires-then-unsigned_abs-split :
+    goal.join_halves-join_from-requires-then-unsigned_abs-split
+join_halves-join_from-requires-then-unsigned_abs-split t c =
     let m = c.args.m.now in
     let n = c.join_from.new.m in
     let x = c.join_from.ensures.kept in
     let e = c.literal_at-literal.result in
     let fits : SFits w32 e.1 = search rules in
-    let below = c.requires.past e c.literal_at-literal.ensures (λ q. c.if-unsigned_abs-variable.true
+    let below = c.requires.right.past e c.literal_at-literal.ensures (λ q. c.if-unsigned_abs-split.true
     (c.unsigned_abs.ensures.value ∙ ap unsigned_abs (to_z-of_z w32 e.1 fits) ∙ q)) in
-    let small : 4 * width n.vtree c.args.right + 3 < t =
-    omega (arith, width_on m n x c.args.right, c.decreases) in (
+    let small : 4 * width n.vtree c.args.split.now.right + 3 < t =
+    omega (arith, width_on m n x c.args.split.now.right, c.decreases) in (
       small,
       (
         c.requires.operation,
         (
-          there_on m n x c.args.right c.requires.right,
+          there_on m n x c.args.split.now.right c.requires.right.there,
           (
-            below_on m n x c.args.right c.args.second c.requires.second,
+            below_on m n x c.args.split.now.right c.args.halves.now.1 c.requires.second,
             (
-              literals_on m n x c.args.right c.args.from c.args.literals.now below,
+              literals_on m n x c.args.split.now.right c.args.from c.args.literals.now below,
               (
                 c.join_from.ensures.knows,
                 c.join_from.ensures.remembers,
@@ -250,63 +248,97 @@ join_halves-join_from-requires-then-unsigned_abs-variable t c =
       ),
     )
 
-pub join_halves-returns-in_err-other-clause-kept :
-    goal.join_halves-returns-in_err-other-clause-kept
-join_halves-returns-in_err-other-clause-kept t c =
-    extends_on c.args.m.now c.join_from.new.m c.join_from-then-unsigned_abs-variable.new.m c.join_from.ensures.kept
-    c.join_from-then-unsigned_abs-variable.ensures.kept
+pub join_halves-returns-in_err-second-clause-kept :
+    goal.join_halves-returns-in_err-second-clause-kept
+join_halves-returns-in_err-second-clause-kept t c =
+    extends_on c.args.m.now c.join_from.new.m c.join_from-then-unsigned_abs-split.new.m c.join_from.ensures.kept
+    c.join_from-then-unsigned_abs-split.ensures.kept
 
-pub join_halves-returns-then-unsigned_abs-variable-clause-ok :
-    goal.join_halves-returns-then-unsigned_abs-variable-clause-ok
-join_halves-returns-then-unsigned_abs-variable-clause-ok t c =
+pub join_halves-returns-then-unsigned_abs-split-clause-ok :
+    goal.join_halves-returns-then-unsigned_abs-split-clause-ok
+join_halves-returns-then-unsigned_abs-split-clause-ok t c =
     let m = c.args.m.now in
     let n = c.join_from.new.m in
-    let k = c.join_from-then-unsigned_abs-variable.new.m in
+    let k = c.join_from-then-unsigned_abs-split.new.m in
     let e = c.literal_at-literal.result in
     let fits : SFits w32 e.1 = search rules in
-    let below = c.requires.past e c.literal_at-literal.ensures (λ q. c.if-unsigned_abs-variable.true
+    let below = c.requires.right.past e c.literal_at-literal.ensures (λ q. c.if-unsigned_abs-split.true
     (c.unsigned_abs.ensures.value ∙ ap unsigned_abs (to_z-of_z w32 e.1 fits) ∙ q)) in
-    joins_both m n k c.join_from.ensures.kept c.join_from-then-unsigned_abs-variable.ensures.kept c.args.operation
-    c.args.right c.args.variable c.args.first c.args.second c.args.from c.in_ok-one.one c.in_ok-other.other
-    c.args.literals.now below c.in_ok-one.ensures.ok c.in_ok-other.ensures.ok
+    joins_both m n k c.join_from.ensures.kept c.join_from-then-unsigned_abs-split.ensures.kept c.args.operation
+    c.args.split.now.right c.args.split.now.variable c.args.halves.now.0 c.args.halves.now.1 c.args.from
+    c.in_ok-first.first c.in_ok-second.second
+    c.args.literals.now below c.in_ok-first.ensures.ok c.in_ok-second.ensures.ok
 
-pub join_halves-returns-then-unsigned_abs-variable-clause-kept :
-    goal.join_halves-returns-then-unsigned_abs-variable-clause-kept
-join_halves-returns-then-unsigned_abs-variable-clause-kept t c =
-    extends_on c.args.m.now c.join_from.new.m c.join_from-then-unsigned_abs-variable.new.m c.join_from.ensures.kept
-    c.join_from-then-unsigned_abs-variable.ensures.kept
+pub join_halves-returns-then-unsigned_abs-split-clause-kept :
+    goal.join_halves-returns-then-unsigned_abs-split-clause-kept
+join_halves-returns-then-unsigned_abs-split-clause-kept t c =
+    extends_on c.args.m.now c.join_from.new.m c.join_from-then-unsigned_abs-split.new.m c.join_from.ensures.kept
+    c.join_from-then-unsigned_abs-split.ensures.kept
 
-pub join_halves-returns-in_ok-one-2-clause-ok : goal.join_halves-returns-in_ok-one-2-clause-ok
-join_halves-returns-in_ok-one-2-clause-ok t c =
+pub join_halves-join_from-requires-then-literal-deciding_value :
+    goal.join_halves-join_from-requires-then-literal-deciding_value
+join_halves-join_from-requires-then-literal-deciding_value t c =
+    let small : 4 * width c.args.m.now.vtree c.args.split.now.right + 3 < t = omega (arith, c.decreases) in (
+      small,
+      (
+        c.requires.operation,
+        (
+          c.requires.right.there,
+          (c.requires.first, (c.requires.right.rest, (c.requires.knows, c.requires.remembers))),
+        ),
+      ),
+    )
+
+pub join_halves-join_from-requires-else-literal-deciding_value :
+    goal.join_halves-join_from-requires-else-literal-deciding_value
+join_halves-join_from-requires-else-literal-deciding_value t c =
+    let small : 4 * width c.args.m.now.vtree c.args.split.now.right + 3 < t = omega (arith, c.decreases) in (
+      small,
+      (
+        c.requires.operation,
+        (
+          c.requires.right.there,
+          (c.requires.second, (c.requires.right.rest, (c.requires.knows, c.requires.remembers))),
+        ),
+      ),
+    )
+
+pub join_halves-returns-in_ok-first-2-clause-ok : goal.join_halves-returns-in_ok-first-2-clause-ok
+join_halves-returns-in_ok-first-2-clause-ok t c =
     let m = c.args.m.now in
     let a = c.join_from-then-literal-deciding_value in
     let e = c.literal_at-literal.result in
     let fits : SFits w32 e.1 = search rules in
     let read = to_z-of_z w32 e.1 fits in
-    let same : unsigned_abs e.1 ≡ c.args.variable =
-    sym (c.unsigned_abs.ensures.value ∙ ap unsigned_abs read) ∙ c.if-unsigned_abs-variable.false in
+    let same : unsigned_abs e.1 ≡ c.args.split.now.variable =
+    sym (c.unsigned_abs.ensures.value ∙ ap unsigned_abs read) ∙ c.if-unsigned_abs-split.false in
     let sign : lt_z (pos 0) e.1 ≡ deciding c.args.operation =
     sym (ap (lt_z (pos 0)) read) ∙ same_sign (lt_z (pos 0) (to_z w32 (of_z w32 e.1))) c.deciding_value.result
     c.if-literal-deciding_value.true ∙ c.deciding_value.ensures in
-    joins_first m a.new.m a.ensures.kept c.args.operation c.requires.operation c.args.right c.args.variable c.args.first
-    c.args.second c.args.from c.in_ok-one-2.one c.args.literals.now e c.literal_at-literal.ensures
-    (literal_sign c.args.variable e.1 (deciding c.args.operation) c.requires.variable same sign) c.requires.rest
-    c.in_ok-one-2.ensures.ok
+    joins_first m a.new.m a.ensures.kept c.args.operation c.requires.operation c.args.split.now.right
+    c.args.split.now.variable c.args.halves.now.0
+    c.args.halves.now.1 c.args.from c.in_ok-first-2.first c.args.literals.now e c.literal_at-literal.ensures
+    (literal_sign c.args.split.now.variable e.1 (deciding c.args.operation) c.requires.right.variable same sign)
+    c.requires.right.rest
+    c.in_ok-first-2.ensures.ok
 
-pub join_halves-returns-in_ok-other-2-clause-ok : goal.join_halves-returns-in_ok-other-2-clause-ok
-join_halves-returns-in_ok-other-2-clause-ok t c =
+pub join_halves-returns-in_ok-second-2-clause-ok : goal.join_halves-returns-in_ok-second-2-clause-ok
+join_halves-returns-in_ok-second-2-clause-ok t c =
     let m = c.args.m.now in
     let a = c.join_from-else-literal-deciding_value in
     let e = c.literal_at-literal.result in
     let fits : SFits w32 e.1 = search rules in
     let read = to_z-of_z w32 e.1 fits in
-    let same : unsigned_abs e.1 ≡ c.args.variable =
-    sym (c.unsigned_abs.ensures.value ∙ ap unsigned_abs read) ∙ c.if-unsigned_abs-variable.false in
+    let same : unsigned_abs e.1 ≡ c.args.split.now.variable =
+    sym (c.unsigned_abs.ensures.value ∙ ap unsigned_abs read) ∙ c.if-unsigned_abs-split.false in
     let sign : lt_z (pos 0) e.1 ≡ not (deciding c.args.operation) =
     sym (ap (lt_z (pos 0)) read) ∙ other_sign (lt_z (pos 0) (to_z w32 (of_z w32 e.1))) c.deciding_value.result
     c.if-literal-deciding_value.false ∙ ap not c.deciding_value.ensures in
-    joins_second m a.new.m a.ensures.kept c.args.operation c.requires.operation c.args.right c.args.variable
-    c.args.first c.args.second c.args.from c.in_ok-other-2.other c.args.literals.now e c.literal_at-literal.ensures
-    (λ g. literal_sign c.args.variable e.1 (not (deciding c.args.operation)) c.requires.variable same sign g
-    ∙ not_first (deciding c.args.operation) (value_in g c.args.variable)) c.requires.rest
-    c.in_ok-other-2.ensures.ok
+    joins_second m a.new.m a.ensures.kept c.args.operation c.requires.operation c.args.split.now.right
+    c.args.split.now.variable
+    c.args.halves.now.0 c.args.halves.now.1 c.args.from c.in_ok-second-2.second c.args.literals.now e
+    c.literal_at-literal.ensures
+    (λ g. literal_sign c.args.split.now.variable e.1 (not (deciding c.args.operation)) c.requires.right.variable same
+    sign g
+    ∙ not_first (deciding c.args.operation) (value_in g c.args.split.now.variable)) c.requires.right.rest
+    c.in_ok-second-2.ensures.ok

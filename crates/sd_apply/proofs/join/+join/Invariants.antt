@@ -13,4 +13,4 @@ abbrev pub decreases-join_at : goal.decreases-join_at
 decreases-join_at l = 4 * width l.m.now.vtree l.at + 1
 
 abbrev pub decreases-join_halves : goal.decreases-join_halves
-decreases-join_halves l = 4 * width l.m.now.vtree l.right + 4
+decreases-join_halves l = 4 * width l.m.now.vtree l.split.now.right + 4

@@ -7,7 +7,8 @@ use Rattle.sd_apply.proofs.join.are_right.Goals as goal
 
 pub returns-then-next-literals : goal.returns-then-next-literals
 returns-then-next-literals c = λ yes.
-    literals_none c.args.m.now c.args.at c.args.right c.args.from c.args.next c.args.literals.now c.requires.literals
+    literals_none c.args.m.now c.args.at c.args.split.now.right c.args.from c.args.next c.args.literals.now
+    c.requires.literals
     c.if-next-literals.true
 
 pub position-requires : goal.position-requires
@@ -15,12 +16,14 @@ position-requires c =
     let t = c.args.m.now.vtree in
     subst (λ t. c.args.at < length (numbers t)) (sym c.vtree.ensures.vtree)
     (there_within t c.requires.table.numbered c.args.at
-    (there_inner t c.requires.table.numbered c.args.at c.args.left c.args.right c.requires.children))
+    (there_inner t c.requires.table.numbered c.args.at c.args.split.now.left c.args.split.now.right
+    c.requires.children))
 
 pub returns : goal.returns
 returns c = λ yes.
     let before : c.position.result < c.literal_at-position.result.0 = grind (arith, nat_tests, yes) in
-    literals_behind c.args.m.now c.requires.table c.args.at c.args.left c.args.right c.position.result c.args.from
+    literals_behind c.args.m.now c.requires.table c.args.at c.args.split.now.left c.args.split.now.right
+    c.position.result c.args.from
     c.args.next c.args.literals.now c.literal_at-position.result c.requires.children c.requires.literals
     c.requires.order c.literal_at-position.ensures
     (subst (λ t. slice_get (numbers t) c.position.result ≡ Some c.args.at) c.vtree.ensures.vtree

@@ -9,14 +9,15 @@ use Rattle.sd_apply.proofs.join.is_right.Goals as goal
 
 pub returns-then-is_constant : goal.returns-then-is_constant
 returns-then-is_constant c = λ yes.
-    constant_under c.args.m.now c.args.right c.args.node (search rules)
+    constant_under c.args.m.now c.args.split.now.right c.args.node (search rules)
 
 pub position-requires : goal.position-requires
 position-requires c =
     let t = c.args.m.now.vtree in
     subst (λ t. c.args.at < length (numbers t)) (sym c.vtree-vtree.ensures.vtree)
     (there_within t c.requires.table.numbered c.args.at
-    (there_inner t c.requires.table.numbered c.args.at c.args.left c.args.right c.requires.children))
+    (there_inner t c.requires.table.numbered c.args.at c.args.split.now.left c.args.split.now.right
+    c.requires.children))
 
 pub returns : goal.returns
 returns c = λ yes.
@@ -32,7 +33,8 @@ returns c = λ yes.
       diagram = x.diagram;
       is = record {
         shows = x.is.shows;
-        under = right_under m i c.args.at c.args.left c.args.right c.place_of-own.result c.position.result
+        under = right_under m i c.args.at c.args.split.now.left c.args.split.now.right c.place_of-own.result
+            c.position.result
             c.position-2.result c.requires.children x.diagram x.is.under
             (c.place_of-own.ensures.place x.diagram (shown m c.args.at c.args.node x.diagram x.is)) here there before;
       };

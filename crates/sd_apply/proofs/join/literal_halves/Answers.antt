@@ -4,12 +4,12 @@ use Rattle.sd_apply.proofs.join.literal_halves.Goals as goal
 
 pub returns-then-is_positive : goal.returns-then-is_positive
 returns-then-is_positive c =
-    positive_halves c.args.m.now c.args.at c.args.right c.args.variable c.args.node c.requires.table
+    positive_halves c.args.m.now c.args.at c.args.split.now.right c.args.split.now.variable c.args.node c.requires.table
     c.requires.least c.requires.code
-    (sym c.variable.ensures ∙ c.if-variable.false) (search rules)
+    (sym c.variable.ensures ∙ c.if-variable-split.false) (search rules)
 
 pub returns-else-is_positive : goal.returns-else-is_positive
 returns-else-is_positive c =
-    negative_halves c.args.m.now c.args.at c.args.right c.args.variable c.args.node c.requires.table
+    negative_halves c.args.m.now c.args.at c.args.split.now.right c.args.split.now.variable c.args.node c.requires.table
     c.requires.least c.requires.code
-    (sym c.variable.ensures ∙ c.if-variable.false) (search rules)
+    (sym c.variable.ensures ∙ c.if-variable-split.false) (search rules)

@@ -12,55 +12,62 @@ use Rattle.sd_apply.proofs.join.make_halves.Goals as goal
 
 pub returns-then-first-second-clause-ok : goal.returns-then-first-second-clause-ok
 returns-then-first-second-clause-ok c =
-    same_made c.args.m.now c.args.right c.args.variable c.args.first c.args.second c.requires.table
+    same_made c.args.m.now c.args.split.now.right c.args.split.now.variable c.args.first c.args.second c.requires.table
     (sym c.first.view_is ∙ c.if-first-second.true ∙ c.second.view_is)
 
 pub overflow_mul-one : goal.overflow_mul-one
 overflow_mul-one c =
     omega (
       arith,
-      fork_range c.args.m.now.vtree c.requires.table.numbered c.args.at c.args.left c.args.right c.args.variable
-          c.requires.fork,
+      fork_range c.args.m.now.vtree c.requires.table.numbered c.args.at c.args.split.now.left c.args.split.now.right
+          c.args.split.now.variable
+          c.requires.split,
     )
 
 pub overflow_mul-other : goal.overflow_mul-other
 overflow_mul-other c =
     omega (
       arith,
-      fork_range c.args.m.now.vtree c.requires.table.numbered c.args.at c.args.left c.args.right c.args.variable
-          c.requires.fork,
+      fork_range c.args.m.now.vtree c.requires.table.numbered c.args.at c.args.split.now.left c.args.split.now.right
+          c.args.split.now.variable
+          c.requires.split,
     )
 
 pub overflow_add-other : goal.overflow_add-other
 overflow_add-other c =
     omega (
       arith,
-      fork_range c.args.m.now.vtree c.requires.table.numbered c.args.at c.args.left c.args.right c.args.variable
-          c.requires.fork,
+      fork_range c.args.m.now.vtree c.requires.table.numbered c.args.at c.args.split.now.left c.args.split.now.right
+          c.args.split.now.variable
+          c.requires.split,
     )
 
 pub make-requires-clause-partition : goal.make-requires-clause-partition
 make-requires-clause-partition c =
-    halves_partition c.args.m.now c.requires.table c.args.at c.args.left c.args.right c.args.variable c.args.first
-    c.args.second c.requires.fork c.requires.first c.requires.second
+    halves_partition c.args.m.now c.requires.table c.args.at c.args.split.now.left c.args.split.now.right
+    c.args.split.now.variable c.args.first
+    c.args.second c.requires.split c.requires.first c.requires.second
 
 pub returns-clause-ok : goal.returns-clause-ok
 returns-clause-ok c =
     let m = c.args.m.now in
     let n = c.make.new.self in
-    let l : List (ℕ × ℕ) = (2 * c.args.variable, c.args.first) ∷ (2 * c.args.variable + 1, c.args.second) ∷ [] in
+    let l : List (ℕ × ℕ) = (2 * c.args.split.now.variable, c.args.first) ∷
+    (2 * c.args.split.now.variable + 1, c.args.second) ∷ [] in
     IfOk-weaker c.make.result
     (λ d. (ds : List (Diagram × Diagram)) → IsPartitionAt m c.args.at l ds → IsMade n d ds)
-    (λ d. MakesHalves m n c.args.right c.args.variable c.args.first c.args.second d)
-    (λ d h. halves_made m n c.requires.table c.args.at c.args.left c.args.right c.args.variable c.args.first
-    c.args.second d c.requires.fork h)
+    (λ d. MakesHalves m n c.args.split.now.right c.args.split.now.variable c.args.first c.args.second d)
+    (λ d h. halves_made m n c.requires.table c.args.at c.args.split.now.left c.args.split.now.right
+    c.args.split.now.variable c.args.first
+    c.args.second d c.requires.split h)
     c.make.ensures.ok
 
 pub returns-clause-grown : goal.returns-clause-grown
 returns-clause-grown c =
     let m = c.args.m.now in
     let n = c.make.new.self in
-    grows_answer m n c.make.ensures.table.numbered c.args.at c.args.left c.args.right
-    ((2 * c.args.variable, c.args.first) ∷ (2 * c.args.variable + 1, c.args.second) ∷ [])
-    (children_on m n c.make.ensures.kept c.args.at c.args.left c.args.right c.requires.fork.children) c.make.result
+    grows_answer m n c.make.ensures.table.numbered c.args.at c.args.split.now.left c.args.split.now.right
+    ((2 * c.args.split.now.variable, c.args.first) ∷ (2 * c.args.split.now.variable + 1, c.args.second) ∷ [])
+    (children_on m n c.make.ensures.kept c.args.at c.args.split.now.left c.args.split.now.right
+    c.requires.split.children) c.make.result
     c.make.ensures.grown c.make.ensures.err
