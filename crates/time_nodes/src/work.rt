@@ -36,10 +36,12 @@ pub(crate) fn found(nodes: &Nodes, count: u32) -> u64
     sum
 }
 
-// The sum of the numbers of the nodes, unlinked and removed in a random order.
+// The sum of the numbers of the nodes, unlinked and removed in a random order. The lists of the places are kept from
+// here on, as in a move: without them each look for a detached node would go over all records.
 pub(crate) fn removed(nodes: &mut Nodes, count: u32) -> u64
     requires { 0 < count }
 {
+    nodes.list_places();
     let mut sum: u64 = 0;
     let mut number: u32 = 0;
     for _step in 0..count {
