@@ -1,6 +1,7 @@
 -- The commands of a run, and what each comes to. A later command is a case more of `RunCommand` and of `Step`.
 use Rattle.std.specs.Prelude.{◌≡◌, ◌⊎◌, ◌↔◌, ℕ, zero, suc, ◌%◌, ◌<◌, ◌≤◌, nat_le, Bool, true, false, not, ◌==◌}
-use Rattle.std.specs.Prelude.{List, [], ◌∷◌, ◌++◌, map, filter, length, codes, Option, Some, None, unwrap_or, if◌then◌else◌}
+use Rattle.std.specs.Prelude.{List, [], ◌∷◌, ◌++◌, map, filter, length, codes, Option, Some, None, unwrap_or}
+use Rattle.std.specs.Prelude.{if◌then◌else◌}
 use Rattle.sd_model.specs.Expression.{Expression, Constant, Atom, Combined, Negated, Conditioned, Forgotten}
 use Rattle.sd_model.specs.Expression.{expression_value, AreOneFunction}
 use Rattle.sd_model.specs.Tree.{Tree, leaves}
@@ -80,7 +81,7 @@ with_groups input state count = prefix_of input count ∷ formulas_of state
 
 -- a search follows the group of this number, counted from 1
 abbrev pub is_due : Option ℕ → ℕ → Bool
-is_due every group = option_map_or (λ number. group % number == 0) every false
+is_due every group = option_map_or (λ k. group % k == 0) every false
 
 -- the tree after a group: where a search is due, one of one round finds it, and else it stays
 abbrev pub Follows : Bool → List Expression → ℕ → Tree → Tree → Type 0
@@ -192,7 +193,7 @@ Steps input old (command ∷ commands) effects new =
     × Step input old command.command (Done mid first) × Steps input mid commands others new
     × (effects ≡ first ++ others)
 
--- ---- for the contracts of private functions, and for proofs
+-- ---- for laws, the contracts of private functions, and proofs
 
 -- that size passes the limit
 pub record PassLimit (fs : List Expression) (tree : Tree) (limit size : ℕ) : Type 0 where

@@ -23,6 +23,6 @@ abbrev pub cut : ℕ → Effect → Effect
 cut n (Write file bytes) = Write file (take n bytes)
 cut n (Print line) = Print (take n line)
 
--- of the effect nothing was done, or so much as its first n bytes tell
+-- nothing of the effect was done, or the effect with some first bytes alone
 abbrev pub DoesPart : Effect → Contents → Contents → Type 0
 DoesPart effect old new = (new ≡ old) ⊎ ((n : ℕ) × (new ≡ after_effect (cut n effect) old))

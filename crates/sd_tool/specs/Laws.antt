@@ -29,13 +29,14 @@ abbrev pub HasLimit : List (List ℕ) → ℕ → Seen → Type 0
 HasLimit words status seen = (run : PlainRun words seen) → (status ≡ 4 → TellsGroup run)
     × ((group size : ℕ) → PassesAt run group size → IsCalm seen → (status ≡ 4) ⊎ LacksRoom status)
 
--- done_or_over_limit: without a script, over told files, 0, 4, 7 or 8 comes where neither the shelf nor `out` fails
+-- done_or_over_limit: without a script, where the words are accepted and the told files read as a formula and a
+-- vtree, 0, 4, 7 or 8 comes if neither the shelf nor `out` fails
 abbrev pub IsDoneOrOverLimit : List (List ℕ) → ℕ → Seen → Type 0
 IsDoneOrOverLimit words status seen = PlainRun words seen → IsCalm seen
     → (status ≡ 0) ⊎ (status ≡ 4) ⊎ LacksRoom status
 
--- joined: over told files, a script of four lines wrote at 0 the diagram of two formulas, joined; where neither the
--- shelf nor `out` fails, 0, 4, 7 or 8 comes
+-- joined: over told files, a script of four lines (`FourLines`) wrote at 0 the diagram of two formulas, joined; where
+-- neither the shelf nor `out` fails, 0, 4, 7 or 8 comes
 abbrev pub HasJoined : List (List ℕ) → ℕ → Seen → Type 0
 HasJoined words status seen = (run : FourLines words seen) → (status ≡ 0 → WritesJoined run)
     × (IsCalm seen → (status ≡ 0) ⊎ (status ≡ 4) ⊎ LacksRoom status)

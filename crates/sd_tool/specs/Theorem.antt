@@ -12,7 +12,7 @@ use Rattle.sd_tool.specs.Devices.{Seen, IsCalm, WritesEndLine}
 use Rattle.sd_tool.specs.KeptManager.{EndsSo}
 use Rattle.sd_tool.specs.Texts.{Writes}
 
--- course: the effects, the end and what is asked are those of one run; all that follows is said of its parts
+-- course: the effects, the end and what is asked are those of one run; `effects`, `line` and `ends` are its parts
 abbrev pub IsCourse : List (List ℕ) → ℕ → Option Table → Seen → Type 0
 IsCourse words status kept seen = Went words status seen
     (λ effects end. Leaves effects end seen.old.contents seen.new.contents × EndsSo words effects end kept seen)

@@ -18,14 +18,15 @@ pub fn limited<F: Shelf, O: Sink, E: Sink>()
     ensures { FollowsCourse F.Shelf O.Sink E.Sink HasLimit }
 {}
 
-/// A run without a script whose words are accepted, and whose told files read as a formula and a vtree, ends with status
-/// 0, 4, 7 or 8 where no device failed.
+/// A run without a script whose words are accepted, and whose told files read as a formula and a vtree, ends with
+/// status 0, 4, 7 or 8 where no device failed.
 pub fn done_or_over_limit<F: Shelf, O: Sink, E: Sink>()
     ensures { FollowsCourse F.Shelf O.Sink E.Sink IsDoneOrOverLimit }
 {}
 
-/// A script of four lines, of which two bind names, the third joins these and the last writes the joined one, wrote at
-/// status 0 the canonical diagram of both formulas joined, over told files. Where no device failed, 0, 4, 7 or 8 comes.
+/// A script of four lines, of which two bind two names to the input, a literal or a constant, the third joins these
+/// and the last writes the joined one, wrote at status 0 the canonical diagram of both formulas joined. The formula is
+/// that of a told file, and the words have no `--every`. Where no device failed, 0, 4, 7 or 8 comes.
 pub fn joined<F: Shelf, O: Sink, E: Sink>()
     ensures { FollowsCourse F.Shelf O.Sink E.Sink HasJoined }
 {}
