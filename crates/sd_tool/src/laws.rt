@@ -31,7 +31,8 @@ pub fn joined<F: Shelf, O: Sink, E: Sink>()
     ensures { FollowsCourse F.Shelf O.Sink E.Sink HasJoined }
 {}
 
-/// At status 1 no file is asked for, at 2 and 5 none is written, and at no status is one read after another was written.
+/// At status 1 no file is asked for, at 2 and 5 none is written, and at no status is one read after another was
+/// written.
 pub fn asked<F: Shelf, O: Sink, E: Sink>()
     ensures { FollowsCourse F.Shelf O.Sink E.Sink HasAsked }
 {}
