@@ -12,7 +12,7 @@ use sd_cache::Cache;
 use sd_formula::{Formula, Kind, generate, read_dimacs};
 use sd_manager::{Manager, Root};
 use sd_vtree::Vtree;
-use std::alloc::Global;
+use std::alloc::{AllocError, Global};
 use std::test::Fail;
 
 // A formula over four variables, as terms.
@@ -171,13 +171,25 @@ fn wide_clause(alloc: Global) -> Result<Formula, CompileError>
     Ok(f)
 }
 
+// A left vtree, of which a caller's proof sees the number of variables and not the tree.
+fn left_vtree(alloc: Global, variables: u32) -> Result<Vtree, AllocError>
+    requires at_least_one { 1 ≤ variables }
+    requires within_limit { variables ≤ 1024 }
+    ensures { IfOk result (λ t. leaves (plain_tree t) ≡ variables) }
+{
+    let Ok(vtree) = Vtree::left(alloc, variables) else {
+        return Err(AllocError);
+    };
+    Ok(vtree)
+}
+
 /// On the left vtree the room that a clause takes is in proportion to its width: 4,000 elements are enough for 64
 /// literals, where one literal joined after another would take twice as many.
 #[test]
 fn a_wide_clause_on_the_left_vtree(rt: HostRuntime) -> Result<(), Fail> {
     let alloc = rt.alloc();
     let f = wide_clause(alloc)?;
-    let mut m = Manager::new(alloc, Vtree::left(alloc, 64)?, 4000)?;
+    let mut m = Manager::new(alloc, left_vtree(alloc, 64)?, 4000)?;
     let mut c = Cache::new(alloc)?;
     let root = compile(alloc, &mut m, &mut c, &f, 1000)?;
     assert!(rt; m.same(&root, &root));

@@ -47,7 +47,7 @@ loop-command-preserved c =
         subst
             (λ names. AllFit c.args.variables names
             (drop (c.loop-command.command-index + 1) (unnumbered c.args.commands.now)))
-            (sym (names_after _ was.fit.0 done.next c.command-item.result _ done.step)) next.1,
+            (sym (names_after c.args.input.now was.fit.0 done.next c.command-item.result _ done.step)) next.1,
       );
       tree = c.in-Ok-step.ensures.variables ∙ was.tree;
       room = let more = c.in-Ok-step.ensures.roots in let room = was.room in omega arith;
