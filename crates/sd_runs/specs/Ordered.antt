@@ -1,10 +1,10 @@
--- A chain of free runs over the starts that are marked.
+-- A chain of the free runs of two elements, over the starts that are marked so.
 use Rattle.std.specs.Prelude.{◌≡◌, ℕ, ◌≤◌, List, get_or, length}
 use Rattle.sd_runs.specs.Arena.{IsMember, HasNoCopies}
 use Rattle.sd_runs.specs.Stored.{IsFreeChain}
 
--- The starts that are marked as free, from this one on, are those of the free runs from `head` on; the elements at the
--- other ones are as before.
+-- The starts that are marked as those of free runs of two elements, from this one on, are those of the chain from
+-- `head` on; the elements at all other starts are as before.
 pub record IsRechained (marks : List ℕ) (from : ℕ) (old new : List (ℕ × ℕ)) (head : ℕ) : Type 0 where
   pub starts : List ℕ
   pub chained : IsFreeChain new head starts

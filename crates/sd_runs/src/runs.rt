@@ -7,8 +7,8 @@ use crate::writing::write;
 use std::alloc::Global;
 use std::marker::Model;
 
-/// Runs of pairs in one arena. A free run is used again for a list of its own length only, the last
-/// given first.
+/// Runs of pairs in one arena. A free run is used again for a list of its own length only: the last
+/// given first, or, of two elements, in order where they were put in order.
 ///
 /// A run keeps its start and its length for good: runs are neither split nor joined. A free run keeps
 /// the start of the next free run of its length in its own first element, so whether a run is live is
@@ -174,12 +174,13 @@ impl Runs {
     }
 
     /// Puts the free runs of two elements in the order of their starts, so that the least is taken next.
-    /// Takes no memory and cannot fail, and takes a step for each element.
+    /// Takes no memory and cannot fail. Takes a step for each element of the arena, and none where no run
+    /// of two is free.
     pub fn order_twos(&mut self)
         ensures reordered { IsReordered self.old self.new 2 }
         ensures arena { IsArena self.new }
     {
-        if self.heads.len() > 2 {
+        if self.heads.len() > 2 && self.heads[2] != NONE {
             self.heads[2] = chain_marked(&self.marks, &mut self.elements);
         }
     }

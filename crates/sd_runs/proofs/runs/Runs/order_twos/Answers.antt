@@ -35,8 +35,8 @@ invariant_of-self c =
           c.chain_marked.result c.self.invariant.1.marked rechained c.self.invariant.1,
     )
 
-pub returns-then-len-gt2-clause-reordered : goal.returns-then-len-gt2-clause-reordered
-returns-then-len-gt2-clause-reordered c =
+pub returns-then-index-clause-reordered : goal.returns-then-index-clause-reordered
+returns-then-index-clause-reordered c =
     let rechained = subst (λ e. IsRechained c.self.inside.marks.items 0 e c.chain_marked.new.elements
     c.chain_marked.result) c.deref_mut.ensures.value
     (subst (λ m. IsRechained m 0 c.deref_mut.result.now c.chain_marked.new.elements c.chain_marked.result)
@@ -65,5 +65,5 @@ returns-then-len-gt2-clause-reordered c =
     c.chain_marked.new.elements c.chain_marked.result c.self.invariant.1.marked
     rechained))
 
-pub returns-then-len-gt2-clause-arena : goal.returns-then-len-gt2-clause-arena
-returns-then-len-gt2-clause-arena c = is_arena (invariant_of-self c).0.stored
+pub returns-then-index-clause-arena : goal.returns-then-index-clause-arena
+returns-then-index-clause-arena c = is_arena (invariant_of-self c).0.stored
