@@ -29,19 +29,23 @@ use sd_runs::TakeError;
 use sd_vtree::{VNode, Vtree};
 use std::alloc::Global;
 
-// What a join asks on its way: what operations found, and what it found itself at nodes.
+// What a join asks on its way.
 #[derive(Drop)]
 struct Tables {
+    // what operations on two nodes answered in this epoch: the cache's own table, lent until the join ends
     recent: Recent,
+    // what this join answered at each node, for the literals from an index on
     found: NodeAnswers,
 }
 
-// The children of a vtree node, of which the left one is the leaf of the variable: by the value of that, a node there
-// is split into two halves below the right one.
+// A vtree node whose left child is a leaf: a node there has two halves, one for each value of the leaf's variable.
 #[derive(Clone, Copy, Drop)]
 struct Split {
+    // the left child, which is the leaf
     left: VNode,
+    // the right child: both halves stand below it
     right: VNode,
+    // the variable of the leaf
     variable: u32,
 }
 
@@ -142,7 +146,7 @@ fn leaf_of(m: &Manager, literals: &[(u32, i32)], index: usize) -> VNode
     m.vtree().leaf(literal.unsigned_abs())
 }
 
-// The same at a node below a vtree node, with the literals from an index on. Most calls are decided at once or were
+// What `join_group` does at a node below a vtree node, with the literals from an index on. Most calls are decided at once or were
 // answered before, so that much is told where the call stands.
 #[cycle(join)]
 #[inline(always)]
