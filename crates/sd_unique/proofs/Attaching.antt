@@ -87,7 +87,8 @@ module _ (arena : Arena) (rs : List Record) (n : ℕ) (r t : Record) (there : sl
             (chain_under arena (h - 1) (set rs n t))) (sym (length-set heads (b + 1) n))
             (chained heads b (is_record n k.stored (slice_get_inside rs n r there)) at inside next k.in_chains);
         in_lists = λ some. both_same _ _ _ _ no_record _ _
-            (filed_at n (bit_and r.place 2047 + 1) (unfiled n (list_under rs))) (list_under (set rs n t)) (λ b i e. refl) (λ b i e. refl) (λ b. refl)
+            (filed_at n (bit_and r.place 2047 + 1) (unfiled n (list_under rs))) (list_under (set rs n t))
+            (λ b i e. refl) (λ b i e. refl) (λ b. refl)
             (listed_at arena rs rs n r t (all_kept rs) there (bit_and r.place 2047 + 1) list_new) (lists some);
         in_stack = stacked_kept links new top stack k.in_stack;
         hashed = λ i x e linked. by_cases

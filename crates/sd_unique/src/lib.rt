@@ -16,8 +16,8 @@
 //! A look-up reads a head, then the records of its bucket until one has the key, and of these the list
 //! where place and length agree: it takes the length of the list and of the chain. `insert`, `relink`
 //! and `take_run` take the length of the list, `unlink` and `retire` that of the chain, and `first_at`
-//! goes along the list of the place's remainder. Before `list_places` there are no lists, and no call
-//! pays for them: `places` has no heads, and `first_at` and `first_detached` go over all records.
+//! goes along the list of the place's remainder. Before `list_places` there are no lists, and a call
+//! pays a test for them: `places` has no heads, and `first_at` and `first_detached` go over all records.
 //! `list_places` makes the lists, a step for each record, once. `idle` takes candidates off the stack
 //! until it finds one, each of them once for each time that it was put there; `retire` takes the node
 //! off that `idle` just answered. Where `idle` finds none in a large table, and `retire` freed more

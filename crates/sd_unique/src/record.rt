@@ -33,9 +33,10 @@ pub(crate) struct Record {
 /// The links of a record that no look-up follows.
 #[derive(Clone, Copy, Drop)]
 pub(crate) struct Links {
-    /// The number before in the list of the node's place, or in that of the detached.
+    /// From `list_places` on, the number before in the list of the node's place, or in that of the
+    /// detached.
     pub(crate) before: u32,
-    /// The number after in that list.
+    /// From then on, the number after in that list.
     pub(crate) after: u32,
     /// The number that follows in the stack of candidates, or `NOT_WAITING` where this number does not
     /// stand there. That of a linked node without uses does, and that of another record may.

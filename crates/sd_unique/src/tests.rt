@@ -66,8 +66,8 @@ fn many_nodes(rt: HostRuntime) -> Result<(), Fail> {
     Ok(())
 }
 
-/// A node that gets another place, in the list of the same remainder, is found there and not where
-/// it was, with its number, its list and its mark. No lists are kept.
+/// A node that gets another place, of the same remainder, is found there and not where it was, with
+/// its number, its list and its mark. No lists are kept, so the records tell where it stands.
 #[test]
 fn another_place(rt: HostRuntime) -> Result<(), Fail> {
     let mut nodes = Nodes::new(rt.alloc(), 100)?;

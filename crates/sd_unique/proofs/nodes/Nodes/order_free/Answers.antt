@@ -20,7 +20,8 @@ invariant_of-self c =
       c.self.invariant.at_least_one,
     ) in
     kept_reordered c.self.inside.runs c.order_twos.new.self 2 c.order_twos.ensures.reordered
-    c.self.invariant.stored.well c.order_twos.ensures.arena _ c.self.inside.links.items _ c.self.inside.places.items c.self.inside.candidates
+    c.self.invariant.stored.well c.order_twos.ensures.arena _ c.self.inside.links.items _
+    c.self.inside.places.items c.self.inside.candidates
     (kept_tables c.self.inside.runs c.order_free.new.records _ c.self.inside.links.items c.order_free.new.heads _
     c.self.inside.places.items c.self.inside.candidates records heads
     (kept_rechained c.self.inside.runs c.self.inside.records.items c.order_free.new.records
