@@ -21,7 +21,7 @@
 //! `list_places` makes the lists, a step for each record, once. `idle` takes candidates off the stack
 //! until it finds one, each of them once for each time that it was put there; `retire` takes the node
 //! off that `idle` just answered. Where `idle` finds none in a large table, and `retire` freed more
-//! than a sixteenth of the records since that was last done, it puts the free numbers and the free
+//! than a quarter of the records since that was last done, it puts the free numbers and the free
 //! runs of two elements in order, the smallest first, a step for each record and each element: nodes
 //! that are made behind a large sweep then stand next to one another, in the order in which they are
 //! made, as those of a new table do. The other calls are a few loads and stores, but for `new`, which

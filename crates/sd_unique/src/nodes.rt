@@ -19,9 +19,9 @@ const FIRST_RECORDS: usize = 65_536;
 
 // The free numbers are put in order once more than this part of the records was freed since they were
 // last put in order. That reads each record and the mark of each element once: a number that was freed
-// pays for fewer than sixteen records, 512 bytes in a row, and their elements' marks, and small sweeps of
-// a large table go on without a pass until it pays.
-const PART_FREED: usize = 16;
+// pays for fewer than four records, 128 bytes in a row, and their elements' marks. Small sweeps of a
+// large table go on without a pass until then: what they scramble costs less than a pass for each.
+const PART_FREED: usize = 4;
 
 // So many records at least, as fewer stay near in any order: those of a table that is put in order do
 // not fit the cache of a processor.
