@@ -31,7 +31,7 @@ sddc = fold with_option bare_sddc all_options
 unfoldable pub parsed_by : List Text → ParsedOptions
 parsed_by words o = first_of (word_of o) (matches_of sddc (codes "sddc" ∷ words))
 
--- ---- for the contracts of private functions
+-- ---- for the contracts of private functions, and for proofs
 
 -- the words as `clap` is handed them: the program's name comes first
 abbrev pub handed : List Text → List Text

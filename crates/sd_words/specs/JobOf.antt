@@ -80,7 +80,7 @@ abbrev pub Answers : {T : Type 0} → Result T WordsFault → Result T WordsFaul
 Answers answer result = MatchResult result (λ x. answer ≡ Ok x)
     (λ f. (f ≡ fault.OutOfMemory) ⊎ (answer ≡ Err f))
 
--- ---- for the contracts of private functions
+-- ---- for the contracts of private functions, and for proofs
 
 -- the first fault of a list that is there
 abbrev pub first_some : List (Option WordsFault) → Option WordsFault

@@ -1,6 +1,6 @@
 //! The command line: the job that the words after the program's name stand for.
-//! `clap` says which words are accepted and which value each option has. A table of refusals
-//! follows, and where none holds, the job.
+//! `clap` says which words are accepted and which value each option has. The tests of the values
+//! follow, and where none fails, the job.
 #![tactic(auto)]
 
 mod checks;

@@ -1,4 +1,4 @@
--- Each exit is the first refusal of the table, since the checks before it found none.
+-- Each exit is the fault of the first test that fails, since the checks before it found none.
 use Rattle.std.proofs.Common.{◌∙◌, is_some, Ok, ap, inl, inr, refl, sym}
 use Rattle.sd_words.specs.Command.{parsed_of}
 use Rattle.sd_words.specs.Numbers.{count_and_seed}
