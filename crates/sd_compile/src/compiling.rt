@@ -9,7 +9,7 @@
 // `add_group` sweeps behind each answer. `compile`, which adds all groups, and `add_group_past` sweep only where the
 // elements in use pass twice what the last sweep left, and at least `LEAST_GARBAGE`: a sweep that takes a node away
 // raises the epoch, and the kept answers are lost. Where each left child of the vtree is a leaf no group but an
-// exclusive one asks for them, and they sweep at each, or on a large diagram each time that a quarter more is in use
+// exclusive one asks for them, and they sweep where a quarter more is in use, and at least 8,192 elements more
 // (`room_over`).
 ghost use Rattle.std.specs.Prelude.{◌≡◌, ◌↔◌, ℕ, ◌+◌, ◌-◌, ◌^◌, ◌<◌, ◌≤◌, None, IfOk, IfErr, OnOk, OnErr, IsTrue};
 ghost use Rattle.std.specs.Prelude.{length};
@@ -136,9 +136,9 @@ pub fn add_group_past(
     ensures unmarked { AreUnmarked m.new }
     ensures table { IsTable m.new }
 {
-    let at_each = is_right_linear(m.vtree());
+    let often = is_right_linear(m.vtree());
     let answer = join_next(alloc, m, c, f, work, limit);
-    sweep_past(m, c, most, at_each, limit);
+    sweep_past(m, c, most, often, limit);
     answer
 }
 
@@ -285,14 +285,14 @@ fn add_groups(
     ensures unmarked { AreUnmarked m.new }
     ensures table { IsTable m.new }
 {
-    let at_each = is_right_linear(m.vtree());
-    let mut most = room_over(m.used(), at_each);
+    let often = is_right_linear(m.vtree());
+    let mut most = room_over(m.used(), often);
     'left: while is_left(f, work) {
         if let Err(error) = join_next(alloc, m, c, f, work, limit) {
             sweep_kept(m, c);
             return Err(error);
         }
-        sweep_past(m, c, &mut most, at_each, limit);
+        sweep_past(m, c, &mut most, often, limit);
     }
     Ok(())
 }

@@ -23,23 +23,21 @@ use sd_sweep::{size, sweep};
 /// The least number of elements in use that a sweep between groups or commands is for, where they use kept answers.
 pub const LEAST_GARBAGE: u32 = 262_144;
 
-// Below so many elements all that a sweep reads is near, and one after each group makes room for what comes next.
-const LEAST_SPARED: u32 = 16_384;
+// So many elements may come between two sweeps on any diagram: what is made and dropped there is still near.
+const LEAST_ROOM: u32 = 8_192;
 
 // How many elements may be in use before the next sweep, where so many are now. A sweep that takes a node away raises
 // the epoch, and what the cache keeps and lends is lost: twice as many, so that what is swept pays for the sweep, and a
-// small diagram is left alone. `at_each`, where hardly a group uses kept answers, no more, as a sweep costs what died,
-// and what just died is near; but a quarter more for a large diagram, which pays with memory for rarer sweeps.
-pub(crate) fn room_over(used: u32, at_each: bool) -> u32
+// small diagram is left alone. `often`, where hardly a group uses kept answers, a quarter more: what just died is near,
+// and rarer sweeps are paid for with memory.
+pub(crate) fn room_over(used: u32, often: bool) -> u32
     ensures { used ≤ result }
 {
-    if !at_each {
-        return used.saturating_mul(2).max(LEAST_GARBAGE);
+    if often {
+        used.saturating_add((used / 4).max(LEAST_ROOM))
+    } else {
+        used.saturating_mul(2).max(LEAST_GARBAGE)
     }
-    if used < LEAST_SPARED {
-        return used;
-    }
-    used.saturating_add(used / 4)
 }
 
 // Takes away what no root and no loose run needs. The cache still serves.
@@ -59,9 +57,9 @@ pub(crate) fn sweep_kept(m: &mut Manager, c: &Cache)
 }
 
 /// Sweeps where more elements are in use than `most` or than the limit. Then `most` becomes what may be in use before
-/// the next sweep: `at_each` what is left, or for a large diagram a quarter more, and else twice that, and at least
-/// `LEAST_GARBAGE`.
-pub fn sweep_past(m: &mut Manager, c: &Cache, most: &mut u32, at_each: bool, limit: u32)
+/// the next sweep: `often` a quarter more than what is left, and at least 8,192 elements more, and else twice that,
+/// and at least `LEAST_GARBAGE`.
+pub fn sweep_past(m: &mut Manager, c: &Cache, most: &mut u32, often: bool, limit: u32)
     requires no_move { m.old.moving ≡ None }
     requires unmarked { AreUnmarked m.old }
     requires serves { Serves c.now m.old }
@@ -77,7 +75,7 @@ pub fn sweep_past(m: &mut Manager, c: &Cache, most: &mut u32, at_each: bool, lim
         return;
     }
     sweep_kept(m, c);
-    *most = room_over(m.used(), at_each);
+    *most = room_over(m.used(), often);
 }
 
 /// A new root that holds a node, if the total size is then within the limit. Else nothing is changed.
