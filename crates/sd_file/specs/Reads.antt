@@ -103,7 +103,7 @@ entry_of v earlier line = entry_with v (map (λ e. e.id) earlier) line
 
 -- ---- the text
 
--- the file of these nodes, of which one is there
+-- the file of these nodes, where there is at least one
 abbrev pub file_of : ℕ → List Entry → Result File SddFault
 file_of v entries = do
   fault_if (length entries == 0) Empty
@@ -127,7 +127,7 @@ without_ids (Decomposition vtree pairs) = FileDecomposition pairs
 abbrev pub expression_of_file : File → Expression
 expression_of_file f = OfFile (map (λ e. without_ids e.node) f.nodes)
 
--- ---- for the contracts of private functions
+-- ---- for the contracts of private functions, and for proofs
 
 -- the literal is one of a variable of 1 to v
 abbrev pub is_literal : ℕ → ℤ → Bool

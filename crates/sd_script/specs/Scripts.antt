@@ -64,7 +64,7 @@ after_line v script line = do
 unfoldable pub script_of : ℕ → List ℕ → Result Script ScriptFault
 script_of v bytes = each_to (after_line v) empty (numbered_lines bytes)
 
--- ---- for the contracts of private functions
+-- ---- for the contracts of private functions, and for proofs
 
 -- a script after more lines
 abbrev pub after_lines : ℕ → Script → List TextLine → Result Script ScriptFault

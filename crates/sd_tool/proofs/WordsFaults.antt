@@ -1,4 +1,4 @@
--- OutOfMemory is never the fault of the words: no row of the table of refusals gives it.
+-- OutOfMemory is never the fault of the words: no test of the values gives it.
 use Rattle.std.proofs.Common.{◌≡◌, ℕ, Bool, true, false, List, [], ◌∷◌, Option, Some, None, Err, sym, ◌∙◌}
 use Rattle.std.specs.Prelude.{option_map, if◌then◌else◌, count_by, find, nat_le, ◌&&◌, ◌==◌}
 use Rattle.std.specs.Str.{bytes_eq}

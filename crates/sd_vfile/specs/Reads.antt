@@ -84,7 +84,7 @@ entry_of v earlier line = do
 
 -- ---- after the last line
 
--- the tree of the only one
+-- the tree of the only root
 abbrev pub one_root : List Entry → Result Tree VtreeFault
 one_root (root ∷ []) = Ok root.tree
 one_root roots = Err (NotOneRoot (length roots))
@@ -121,7 +121,7 @@ vtree_file v bytes =
     of_nodes (codes "vtree") NoHeader CountDiffers (entry_of v) (tree_of_nodes v)
     (content_of 99 bytes)
 
--- ---- for the contracts of private functions
+-- ---- for the contracts of private functions, and for proofs
 
 -- the first variable from 1 to v that has no leaf
 abbrev pub missing : ℕ → List Entry → Option ℕ
