@@ -146,8 +146,8 @@ fn leaf_of(m: &Manager, literals: &[(u32, i32)], index: usize) -> VNode
     m.vtree().leaf(literal.unsigned_abs())
 }
 
-// What `join_group` does at a node below a vtree node, with the literals from an index on. Most calls are decided at once or were
-// answered before, so that much is told where the call stands.
+// What `join_group` does at a node below a vtree node, with the literals from an index on. Most calls are decided at
+// once or were answered before, so that much is told where the call stands.
 #[cycle(join)]
 #[inline(always)]
 fn join_from(

@@ -117,13 +117,14 @@ module _ (fs : List Expression) (slack size : ℕ) (t : Tree) (path : List Side)
         start = start;
         states = h.states;
         through = subst (λ l. LeadWithin fs (size * slack / 100) t path l h.states) is h.through;
-        end = ap (λ s. s.tree) (least_found (record { tree = t; size = size }) h.states (record { tree = u; size = least }) (record {
-          before = record { tree = t; size = size } ∷ first.before;
-          behind = first.behind;
-          parts = ap with_start first.parts;
-          larger = (h.finds.1, first.larger);
-          not_smaller = first.not_smaller;
-        }));
+        end = ap (λ s. s.tree) (least_found (record { tree = t; size = size }) h.states
+            (record { tree = u; size = least }) (record {
+              before = record { tree = t; size = size } ∷ first.before;
+              behind = first.behind;
+              parts = ap with_start first.parts;
+              larger = (h.finds.1, first.larger);
+              not_smaller = first.not_smaller;
+            }));
       }
 
   -- the start is

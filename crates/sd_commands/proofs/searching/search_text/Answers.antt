@@ -14,7 +14,8 @@ spaced : (line a b : List ℕ) (space end : ℕ)
     ≡ (line ++ space ∷ (a ++ space ∷ b)) ++ end ∷ []
 spaced line a b space end =
     ap (λ l. ((l ++ space ∷ []) ++ b) ++ end ∷ []) (append_assoc line (space ∷ []) a)
-    ∙ ap (λ l. l ++ end ∷ []) (append_assoc (line ++ space ∷ a) (space ∷ []) b ∙ append_assoc line (space ∷ a) (space ∷ b))
+    ∙ ap (λ l. l ++ end ∷ [])
+    (append_assoc (line ++ space ∷ a) (space ∷ []) b ∙ append_assoc line (space ∷ a) (space ∷ b))
 
 pub returns : goal.returns
 returns c =
