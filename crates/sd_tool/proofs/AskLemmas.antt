@@ -1,6 +1,6 @@
 -- What readings ask for, one after another.
 use Rattle.std.proofs.Common.{◌≡◌, ℕ, List, [], ◌∷◌, ◌++◌, map, Option}
-use Rattle.std.proofs.Common.{inl, inr, refl, sym, ap, subst, ◌∙◌, append_assoc}
+use Rattle.std.proofs.Common.{inl, inr, refl, sym, ap, subst, append_assoc}
 use Rattle.std.proofs.lemmas.List.{append-nil, map-append}
 use Rattle.sd_base.specs.Asked.{Request, ToRead, Adds}
 use Rattle.sd_base.specs.Files.{Files}
@@ -9,7 +9,8 @@ use Rattle.sd_commands.specs.Effects.{Effect}
 use Rattle.sd_tool.specs.Asks.{IsNone, ComesTo, AsksLast, BreaksOff, EndsAsking, GoesTo}
 use Rattle.sd_tool.specs.Ends.{End, Finished, Refused, Unreadable, Unwritable, OutOfMemory, ArenaFull, OverLimit}
 use Rattle.sd_tool.specs.Ends.{NotMovable}
-use Rattle.sd_tool.specs.Readings.{Reading, Refuses, Begins, Reads, Text, IsText, ReadsBy, MayComeTo, reading_of}
+use Rattle.sd_tool.specs.Readings.{Reading, Refuses, Begins, Reads, IsText, ReadsBy, MayComeTo, reading_of}
+use Rattle.sd_tool.specs.inside.Readings.{Text}
 use Rattle.sd_tool.specs.inside.Course.{ReadsTo, EndsReading, MayEnd}
 
 -- what is asked in two parts of a time, one after another, is asked in the whole
@@ -38,7 +39,7 @@ asks_none asked shelf = adds_none asked shelf shelf (λ before had. had)
 by_on : (files : Option Files) (reading mid point : Reading) (xs ys : List (List ℕ)) → ReadsBy files reading xs mid
     → ReadsBy files mid ys point → ReadsBy files reading (xs ++ ys) point
 by_on files reading mid point [] ys a b = subst (λ r. ReadsBy files r ys point) a b
-by_on files (Refuses refusal) mid point (x ∷ xs) ys a b = absurd a
+by_on files (Refuses answer) mid point (x ∷ xs) ys a b = absurd a
 by_on files (Begins plan) mid point (x ∷ xs) ys a b = absurd a
 by_on files (Reads file next) mid point (x ∷ xs) ys a b =
     (a.0, a.1, a.2, by_on files (next a.0) mid point xs ys a.3 b)
@@ -107,17 +108,17 @@ breaks_at_file asks files file next asked = inr (file, last_here asks files file
 -- the point to which the readings come, without what they ask
 pub by_reads_to : (files : Option Files) (reading point : Reading) (names : List (List ℕ))
     → ReadsBy files reading names point → ReadsTo files reading point
-by_reads_to files (Refuses refusal) point [] a = a
+by_reads_to files (Refuses answer) point [] a = a
 by_reads_to files (Begins plan) point [] a = a
 by_reads_to files (Reads file next) point [] a = inl a
-by_reads_to files (Refuses refusal) point (x ∷ xs) a = absurd a
+by_reads_to files (Refuses answer) point (x ∷ xs) a = absurd a
 by_reads_to files (Begins plan) point (x ∷ xs) a = absurd a
 by_reads_to files (Reads file next) point (x ∷ xs) a = inr (a.0, a.2, by_reads_to files (next a.0) point xs a.3)
 
 -- readings that come to a point have read some files on the way
 pub reads_by : (files : Option Files) (reading point : Reading) → ReadsTo files reading point
     → MayComeTo files reading point
-reads_by files (Refuses refusal) point a = ([], a)
+reads_by files (Refuses answer) point a = ([], a)
 reads_by files (Begins plan) point a = ([], a)
 reads_by files (Reads file next) point (inl a) = ([], a)
 reads_by files (Reads file next) point (inr a) =
@@ -136,7 +137,7 @@ last_reads asks files reading file p = (p.0, comes_reads files reading (Reads fi
 ends_asking : (asks : List Request → Type 0) (files : Option Files) (reading : Reading) (end : End)
     → EndsAsking asks files reading end → EndsReading files reading end
 ends_asking asks files reading Finished p = absurd p
-ends_asking asks files reading (Refused refusal) p = comes_reads files reading (Refuses refusal) p
+ends_asking asks files reading (Refused answer) p = comes_reads files reading (Refuses answer) p
 ends_asking asks files reading (Unreadable file) p = last_reads asks files reading file p
 ends_asking asks files reading (Unwritable effect) p = absurd p
 ends_asking asks files reading OutOfMemory p = tt

@@ -32,7 +32,8 @@ use Rattle.sd_commands.specs.declared.command.NumberedCommand.{NumberedCommand}
 use Rattle.sd_commands.specs.declared.command.RunCommand.{RunCommand}
 use Rattle.sd_commands.specs.declared.command.RunCommand.TheVariants as commands
 use Rattle.sd_tool.specs.Asks.{GoesTo, writings, begun}
-use Rattle.sd_tool.specs.Readings.{ReadsBy, Reading, Refuses, Begins, Reads, Text, Whole, TooLong}
+use Rattle.sd_tool.specs.Readings.{ReadsBy, Reading, Refuses, Begins, Reads}
+use Rattle.sd_tool.specs.inside.Readings.{Text}
 use Rattle.sd_tool.specs.Laws.{HasAsked}
 use Rattle.sd_tool.specs.Devices.{Seen}
 use Rattle.sd_tool.specs.Ends.{End, Finished, Refused, Unreadable, Unwritable, OutOfMemory, ArenaFull, OverLimit}
@@ -44,21 +45,19 @@ use Rattle.sd_tool.specs.inside.Readings.{with_vtree_text, with_vtree_reading, s
 use Rattle.sd_tool.specs.Readings.{with_lines, with_action, file_name, plan_for}
 use Rattle.sd_tool.specs.inside.Readings.{in_line}
 use Rattle.sd_tool.specs.inside.Readings.{with_script_text, with_script_reading, with_sdd, with_sdd_reading}
-use Rattle.sd_tool.specs.Refusals.{refusal_status}
-use Rattle.sd_tool.specs.declared.refusal.Refusal.{Refusal}
 use Rattle.sd_tool.proofs.ByStatus.{no_idle}
 
 -- ---- the words are refused before any reading
 
 -- whatever the texts, the words are not refused from here on
 abbrev pub AreAccepted : Reading → Type 0
-AreAccepted (Refuses refusal) = refusal_status refusal ≡ 1 → ⊥
+AreAccepted (Refuses refusal) = refusal.0 ≡ 1 → ⊥
 AreAccepted (Begins plan) = Unit {0}
 AreAccepted (Reads file next) = (text : Text) → AreAccepted (next text)
 
 -- so they are not at any point
-accepted_on : (files : Option Files) (reading : Reading) (names : List (List ℕ)) (refusal : Refusal)
-    → AreAccepted reading → ReadsBy files reading names (Refuses refusal) → refusal_status refusal ≡ 1 → ⊥
+accepted_on : (files : Option Files) (reading : Reading) (names : List (List ℕ)) (refusal : ℕ × List ℕ)
+    → AreAccepted reading → ReadsBy files reading names (Refuses refusal) → refusal.0 ≡ 1 → ⊥
 accepted_on files reading [] refusal accepted a = subst AreAccepted (sym a) accepted
 accepted_on files (Refuses found) (x ∷ xs) refusal accepted a = absurd a
 accepted_on files (Begins plan) (x ∷ xs) refusal accepted a = absurd a
@@ -67,8 +66,8 @@ accepted_on files (Reads file next) (x ∷ xs) refusal accepted a =
 
 accepted_sdd : (v : ℕ) (file : List ℕ) (next : File → Reading) (text : Text) → ((read : File) → AreAccepted (next read))
     → AreAccepted (with_sdd v file next text)
-accepted_sdd v file next TooLong accepted = λ e. cc
-accepted_sdd v file next (Whole bytes) accepted = go (sdd_file v bytes)
+accepted_sdd v file next None accepted = λ e. cc
+accepted_sdd v file next (Some bytes) accepted = go (sdd_file v bytes)
   where
     go : (read : Result File SddFault) → AreAccepted (with_sdd_reading file next read)
     go (Ok read) = accepted read
@@ -110,8 +109,8 @@ accepted_script v s begin accepted = accepted_lines v s begin [] s.commands acce
 
 accepted_script_text : (file : List ℕ) (v : ℕ) (begin : List NumberedCommand → Reading) (text : Text)
     → ((cs : List NumberedCommand) → AreAccepted (begin cs)) → AreAccepted (with_script_text file v begin text)
-accepted_script_text file v begin TooLong accepted = λ e. cc
-accepted_script_text file v begin (Whole bytes) accepted = go (script_of v bytes)
+accepted_script_text file v begin None accepted = λ e. cc
+accepted_script_text file v begin (Some bytes) accepted = go (script_of v bytes)
   where
     go : (read : Result Script ScriptFault) → AreAccepted (with_script_reading file v begin read)
     go (Ok s) = accepted_script v s begin accepted
@@ -140,12 +139,12 @@ accepted_tree_word job f (trees.File file) = λ text. read text
     go (Err fault) = λ e. cc
 
     read : (text : Text) → AreAccepted (with_vtree_text job f file text)
-    read TooLong = λ e. cc
-    read (Whole bytes) = go (vtree_file f.variables bytes)
+    read None = λ e. cc
+    read (Some bytes) = go (vtree_file f.variables bytes)
 
 accepted_input : (job : Job) (input : Input) (text : Text) → AreAccepted (with_input job input text)
-accepted_input job input TooLong = λ e. cc
-accepted_input job input (Whole bytes) = go (dimacs input.kind bytes)
+accepted_input job input None = λ e. cc
+accepted_input job input (Some bytes) = go (dimacs input.kind bytes)
   where
     go : (read : Result Groups FormulaError) → AreAccepted (with_formula job input.file read)
     go (Ok f) = accepted_tree_word job f job.tree
@@ -157,12 +156,12 @@ accepted_input_word job (inputs.Dnf file) = λ text. accepted_input job (record 
 accepted_input_word job (inputs.Generate count seed) = accepted_tree_word job (generated_formula count seed) job.tree
 
 -- where the words are refused, no file was read before
-none_read : (files : Option Files) (words : List (List ℕ)) (names : List (List ℕ)) (refusal : Refusal)
-    → ReadsBy files (reading_of words) names (Refuses refusal) → refusal_status refusal ≡ 1 → names ≡ []
+none_read : (files : Option Files) (words : List (List ℕ)) (names : List (List ℕ)) (refusal : ℕ × List ℕ)
+    → ReadsBy files (reading_of words) names (Refuses refusal) → refusal.0 ≡ 1 → names ≡ []
 none_read files words names refusal = go (job_of words) names
   where
     go : (job : Result Job WordsFault) (names : List (List ℕ)) → ReadsBy files (with_job job) names (Refuses refusal)
-        → refusal_status refusal ≡ 1 → names ≡ []
+        → refusal.0 ≡ 1 → names ≡ []
     go (Err fault) [] a e = refl
     go (Err fault) (x ∷ xs) a e = absurd a
     go (Ok job) names a e =

@@ -1,13 +1,12 @@
 -- What the clauses of `run` say, from its course; and what they say of each status.
 use Rattle.std.proofs.Common.{◌≡◌, ◌⊎◌, ℕ, Bool, true, false, ◌==◌, ◌||◌, List, [], Option, None, inl, inr}
-use Rattle.std.proofs.Common.{refl, sym, ap, ◌∙◌}
+use Rattle.std.proofs.Common.{refl, sym, ap, subst, ◌∙◌}
 use Rattle.sd_base.specs.Files.{Files}
 use Rattle.sd_manager.specs.Table.{Table}
 use Rattle.sd_commands.specs.Effects.{Effect}
 use Rattle.sd_tool.specs.Effects.{Contents, after}
 use Rattle.sd_tool.specs.Readings.{Refuses, Begins, Reads, reading_of}
 use Rattle.sd_tool.specs.inside.Course.{ReadsTo, MayEnd}
-use Rattle.sd_tool.specs.Refusals.{refusal_status}
 use Rattle.sd_tool.specs.Ends.{End, Finished, Refused, Unreadable, Unwritable, OutOfMemory, ArenaFull, OverLimit}
 use Rattle.sd_tool.specs.Ends.{NotMovable, status_of}
 use Rattle.sd_tool.specs.Devices.{Moment, Seen, HasReason, WritesEndLine}
@@ -17,9 +16,8 @@ use Rattle.sd_tool.specs.Theorem.{HasEffects, HasLine, HasEnd, IsCourse}
 use Rattle.sd_tool.specs.inside.ByStatus.{IsOneCourse, EffectsByStatus, EndByStatus, WasFull}
 use Rattle.sd_tool.specs.inside.ByStatus.{IsRefused, PassedLimit, WasNotMovable, CouldNotRead, CouldNotWrite}
 use Rattle.sd_tool.specs.KeptManager.{KeepsManager, EndsSo}
-use Rattle.sd_tool.specs.declared.refusal.Refusal.{Refusal}
-use Rattle.sd_tool.specs.declared.refusal.Refusal.TheVariants as refusals
 use Rattle.sd_tool.proofs.AskLemmas.{goes_may_end, by_reads_to}
+use Rattle.sd_tool.proofs.SoundReadings.{IsRefusedWith, refused_with}
 
 -- the statuses of refusals, those of them that come before the commands alone, and with these that of a file that was
 -- not read
@@ -32,16 +30,10 @@ is_early n = n == 1 || n == 2
 abbrev pub is_idle : ℕ → Bool
 is_idle n = n == 5 || is_early n
 
--- a refusal has one of its statuses
-one_of_three : (refusal : Refusal) (status : ℕ) → status ≡ refusal_status refusal
-    → (status ≡ 1) ⊎ (status ≡ 2) ⊎ (status ≡ 3)
-one_of_three (refusals.BadWords fault) status is = inl is
-one_of_three (refusals.TooLong file) status is = inr (inl is)
-one_of_three (refusals.BadFormula file fault) status is = inr (inl is)
-one_of_three (refusals.BadVtree file fault) status is = inr (inl is)
-one_of_three (refusals.BadSdd file fault) status is = inr (inl is)
-one_of_three (refusals.LongScript file) status is = inr (inr is)
-one_of_three (refusals.BadScript file fault) status is = inr (inr is)
+-- a run that is refused has one of the statuses of refusals
+one_of_three : (told : Option Files) (words : List (List ℕ)) (refusal : ℕ × List ℕ) (status : ℕ)
+    → ReadsTo told (reading_of words) (Refuses refusal) → status ≡ refusal.0 → IsRefusedWith status
+one_of_three told words refusal status led is = subst IsRefusedWith (sym is) (refused_with told words refusal led)
 
 -- a test tells two statuses apart
 apart : {A : Type 0} (test : ℕ → Bool) (status a b : ℕ) → status ≡ a → status ≡ b → test a ≡ false → test b ≡ true → A
@@ -70,17 +62,12 @@ no_idle status a other is (inl s) = apart is_idle status a 1 is s other refl
 no_idle status a other is (inr (inl s)) = apart is_idle status a 2 is s other refl
 no_idle status a other is (inr (inr s)) = apart is_idle status a 5 is s other refl
 
--- a refusal has no other status
-pub other_status : {A : Type 0} (refusal : Refusal) (status a : ℕ) → status ≡ refusal_status refusal
-    → is_refused a ≡ false → status ≡ a → A
-other_status refusal status a is other same = no_refused status a other same (one_of_three refusal status is)
-
 -- another number
 no_same : {A : Type 0} (status a b : ℕ) → status ≡ a → (a == b) ≡ false → (b == b) ≡ true → status ≡ b → A
 no_same status a b is differ same other = apart (λ n. n == b) status a b is other differ same
 
 -- a run is refused before its commands
-refused_early : (words : List (List ℕ)) (told : Option Files) (effects : List Effect) (refusal : Refusal)
+refused_early : (words : List (List ℕ)) (told : Option Files) (effects : List Effect) (refusal : ℕ × List ℕ)
     → MayEnd words told effects (Refused refusal) → ReadsTo told (reading_of words) (Refuses refusal) × (effects ≡ [])
 refused_early words told effects refusal (inl p) = p
 refused_early words told effects refusal (inr p) = absurd p.2
@@ -190,18 +177,18 @@ effects_at words status seen (effects, end, status_is, goes, left) =
       over = λ s. cc;
       in_hand = λ s. cc;
     }
-    go (Refused refusal) may_end is leaves = record {
-      all = λ s. other_status refusal status 0 is refl s;
-      none = λ s. nothing_done effects seen.old.contents seen.new.contents
-          (refused_early words seen.old.contents.files effects refusal may_end).1 leaves;
-      script = λ s.
-          let early = refused_early words seen.old.contents.files effects refusal may_end in
-          inl (refusal, early.0, nothing_done effects seen.old.contents seen.new.contents early.1 leaves);
-      first = λ s. other_status refusal status 7 is refl s;
-      full = λ s. other_status refusal status 8 is refl s;
-      over = λ s. other_status refusal status 4 is refl s;
-      in_hand = λ s. other_status refusal status 6 is refl s;
-    }
+    go (Refused refusal) may_end is leaves =
+        let early = refused_early words seen.old.contents.files effects refusal may_end in
+        let three = one_of_three seen.old.contents.files words refusal status early.0 is in
+        record {
+          all = λ s. no_refused status 0 refl s three;
+          none = λ s. nothing_done effects seen.old.contents seen.new.contents early.1 leaves;
+          script = λ s. inl (refusal, early.0, nothing_done effects seen.old.contents seen.new.contents early.1 leaves);
+          first = λ s. no_refused status 7 refl s three;
+          full = λ s. no_refused status 8 refl s three;
+          over = λ s. no_refused status 4 refl s three;
+          in_hand = λ s. no_refused status 6 refl s three;
+        }
     go (Unreadable file) may_end is leaves = record {
       all = λ s. cc;
       none = λ s. nothing_done effects seen.old.contents seen.new.contents
@@ -280,17 +267,16 @@ among_all status (inr (inl s)) = inr (inr (inl s))
 among_all status (inr (inr s)) = inr (inr (inr (inl s)))
 
 -- where the words or a text were refused
-end_refused : (words : List (List ℕ)) (status : ℕ) (kept : Option Table) (old new : Moment) (refusal : Refusal)
-    → status ≡ refusal_status refusal → kept ≡ None → IsRefused words status old new → EndByStatus words status kept
-    old new
-end_refused words status kept old new refusal is keeps refused = record {
-  one_of = among_all status (one_of_three refusal status is);
+end_refused : (words : List (List ℕ)) (status : ℕ) (kept : Option Table) (old new : Moment) → IsRefusedWith status
+    → kept ≡ None → IsRefused words status old new → EndByStatus words status kept old new
+end_refused words status kept old new three keeps refused = record {
+  one_of = among_all status three;
   refused = λ s. refused;
   script = λ s. inl refused;
-  over_limit = λ s. other_status refusal status 4 is refl s;
-  read_fault = λ s. other_status refusal status 5 is refl s;
-  write_fault = λ s. other_status refusal status 6 is refl s;
-  arena_full = λ s. other_status refusal status 8 is refl s;
+  over_limit = λ s. no_refused status 4 refl s three;
+  read_fault = λ s. no_refused status 5 refl s three;
+  write_fault = λ s. no_refused status 6 refl s three;
+  arena_full = λ s. no_refused status 8 refl s three;
   none_kept = λ s. keeps;
 }
 
@@ -392,11 +378,11 @@ end_at words status kept seen (effects, end, status_is, goes, (reason, keeps, li
     go effects Finished may_end is cause keeps line = end_finished words status kept seen.old seen.new is keeps
     go effects (Refused refusal) may_end is cause keeps line =
         let early = refused_early words seen.old.contents.files effects refusal may_end in
-        end_refused words status kept seen.old seen.new refusal is keeps record {
-          refusal = refusal;
+        end_refused words status kept seen.old seen.new
+        (one_of_three seen.old.contents.files words refusal status early.0 is) keeps record {
+          answer = refusal;
           status_is = is;
           led = early.0;
-          of_text = cause;
           line = line;
         }
     go effects (Unreadable file) may_end is cause keeps line =

@@ -9,14 +9,14 @@ use Rattle.sd_commands.specs.Effects.{Effect}
 use Rattle.sd_commands.specs.declared.command.NumberedCommand.{NumberedCommand}
 use Rattle.sd_commands.specs.declared.state.RunState.{RunState}
 use Rattle.sd_tool.specs.Effects.{Contents}
-use Rattle.sd_tool.specs.Readings.{Plan, Begins, Refuses, MayComeTo, reading_of}
+use Rattle.sd_tool.specs.Readings.{Plan, Begins, MayComeTo, reading_of}
 use Rattle.sd_tool.specs.Asks.{ComesTo}
 use Rattle.sd_tool.specs.Course.{EndsAmong, Leaves}
 use Rattle.sd_tool.specs.PlanViews.{plan_with}
 use Rattle.sd_tool.specs.inside.ByStatus.{IsOneCourse}
 use Rattle.sd_tool.specs.Ends.{End, Finished, Refused, Unreadable, Unwritable, OutOfMemory as NoMemory}
 use Rattle.sd_tool.specs.Ends.{ArenaFull as NoRoom, OverLimit as Passes, NotMovable as Unmoved, line_of, status_of}
-use Rattle.sd_tool.specs.Refusals.{refusal_status}
+use Rattle.sd_tool.specs.Refusals.{refusal_status, refusal_answer}
 use Rattle.sd_tool.specs.KeptManager.{KeepsManager}
 use Rattle.sd_tool.specs.Stops.{KeepsOf}
 use Rattle.sd_tool.specs.Devices.{Moment, Seen, Faults, HasReason, WritesLine, WritesEndLine}
@@ -29,9 +29,8 @@ use Rattle.sd_tool.specs.declared.stop.Stop.{Stop}
 use Rattle.sd_tool.specs.declared.stop.Stop.TheVariants as stops
 use Rattle.sd_tool.specs.declared.stop.Stop.TheVariants.{ReadFault, WriteFault, OutputFault, OutOfMemory, ArenaFull}
 use Rattle.sd_tool.specs.declared.stop.Stop.TheVariants.{OverLimit, NotMovable}
-use Rattle.sd_tool.proofs.AskLemmas.{Joins, comes_reads}
+use Rattle.sd_tool.proofs.AskLemmas.{Joins}
 use Rattle.sd_tool.proofs.Fronts.{writes_line}
-use Rattle.sd_tool.proofs.NotOutOfMemory.{refused_of_text}
 use Rattle.sd_tool.proofs.StepLemmas.{cause_since}
 
 -- the readings stop, and nothing was done
@@ -41,13 +40,13 @@ pub reading_stops : {asks : List Request → Type 0} (words : List (List ℕ)) (
     → StopsReading asks stop old.files (reading_of words) before.read now.read
     → Attempts asks words kept (Err stop) old new before now
 reading_stops words (stops.Refused refusal) kept old new before now none same stops = record {
-  end = Refused refusal;
+  end = Refused (refusal_answer refusal);
   at = record { status = refl; text = refl; stopped = λ e. cc };
   effects = [];
   goes = inl (stops, refl);
   keeps = none;
   leaves = same;
-  reason = refused_of_text old.files words refusal (comes_reads old.files (reading_of words) (Refuses refusal) stops);
+  reason = tt;
 }
 reading_stops words (ReadFault file) kept old new before now none same stops = record {
   end = Unreadable file;
@@ -98,16 +97,16 @@ no_refusal (refusals.LongScript file) e = let bad : ⊥ = cc in bad
 no_refusal (refusals.BadScript file fault) e = let bad : ⊥ = cc in bad
 
 -- the manager of a full arena is kept
-kept_full : (plan : Plan) (effects : List Effect) (end : End) (t : Table) → 8 ≡ status_of end
-    → IsFullAt plan effects end t → KeepsOf plan effects end (Some t)
-kept_full plan effects Finished t is full_at = cc
-kept_full plan effects (Refused refusal) t is full_at = absurd (no_refusal refusal (sym is))
-kept_full plan effects (Unreadable file) t is full_at = cc
-kept_full plan effects (Unwritable effect) t is full_at = cc
-kept_full plan effects NoMemory t is full_at = cc
-kept_full plan effects (NoRoom n) t is full_at = full_at
-kept_full plan effects (Passes l g n k) t is full_at = cc
-kept_full plan effects (Unmoved l) t is full_at = cc
+kept_full : (plan : Plan) (effects : List Effect) (end : End) (t : Table) → EndsAmong plan effects end
+    → 8 ≡ status_of end → IsFullAt plan effects end t → KeepsOf plan effects end (Some t)
+kept_full plan effects Finished t ends is full_at = cc
+kept_full plan effects (Refused answer) t ends is full_at = absurd ends
+kept_full plan effects (Unreadable file) t ends is full_at = cc
+kept_full plan effects (Unwritable effect) t ends is full_at = cc
+kept_full plan effects NoMemory t ends is full_at = cc
+kept_full plan effects (NoRoom n) t ends is full_at = full_at
+kept_full plan effects (Passes l g n k) t ends is full_at = cc
+kept_full plan effects (Unmoved l) t ends is full_at = cc
 
 -- at each other end nothing is kept
 kept_none : (plan : Plan) (effects : List Effect) (end : End) → (status_of end ≡ 8 → ⊥) → KeepsOf plan effects end None
@@ -165,23 +164,23 @@ kept_other plan effects stop end kept was none is status other =
 
 -- what is kept after a stop is what its end keeps
 keeps_at : (plan : Plan) (effects : List Effect) (stop : Stop) (end : End) (t : Table) (kept was : Option Table)
-    → was ≡ None → kept ≡ cond (is_full stop) (Some t) was → stop_status stop ≡ status_of end
-    → IsFullAt plan effects end t → KeepsOf plan effects end kept
-keeps_at plan effects (ArenaFull n) end t kept was none is status full_at =
-    subst (KeepsOf plan effects end) (sym is) (kept_full plan effects end t status full_at)
-keeps_at plan effects (stops.Refused refusal) end t kept was none is status full_at =
+    → was ≡ None → kept ≡ cond (is_full stop) (Some t) was → EndsAmong plan effects end
+    → stop_status stop ≡ status_of end → IsFullAt plan effects end t → KeepsOf plan effects end kept
+keeps_at plan effects (ArenaFull n) end t kept was none is ends status full_at =
+    subst (KeepsOf plan effects end) (sym is) (kept_full plan effects end t ends status full_at)
+keeps_at plan effects (stops.Refused refusal) end t kept was none is ends status full_at =
     kept_other plan effects (stops.Refused refusal) end kept was none is status (no_refusal refusal)
-keeps_at plan effects (ReadFault file) end t kept was none is status full_at =
+keeps_at plan effects (ReadFault file) end t kept was none is ends status full_at =
     kept_other plan effects (ReadFault file) end kept was none is status (λ e. cc)
-keeps_at plan effects (WriteFault file) end t kept was none is status full_at =
+keeps_at plan effects (WriteFault file) end t kept was none is ends status full_at =
     kept_other plan effects (WriteFault file) end kept was none is status (λ e. cc)
-keeps_at plan effects OutputFault end t kept was none is status full_at =
+keeps_at plan effects OutputFault end t kept was none is ends status full_at =
     kept_other plan effects OutputFault end kept was none is status (λ e. cc)
-keeps_at plan effects OutOfMemory end t kept was none is status full_at =
+keeps_at plan effects OutOfMemory end t kept was none is ends status full_at =
     kept_other plan effects OutOfMemory end kept was none is status (λ e. cc)
-keeps_at plan effects (OverLimit l g n k) end t kept was none is status full_at =
+keeps_at plan effects (OverLimit l g n k) end t kept was none is ends status full_at =
     kept_other plan effects (OverLimit l g n k) end kept was none is status (λ e. cc)
-keeps_at plan effects (NotMovable l) end t kept was none is status full_at =
+keeps_at plan effects (NotMovable l) end t kept was none is ends status full_at =
     kept_other plan effects (NotMovable l) end kept was none is status (λ e. cc)
 
 -- the commands stopped, and the manager is kept if it was full
@@ -194,8 +193,8 @@ pub carried_stop : {asks : List Request → Type 0} (formula : Groups) (state : 
 carried_stop {asks = asks} formula state done commands t kept was stop old new before now all none is goes =
     subst (with_own asks formula state kept (Err stop) old new before now) all
     (carried (plan_with formula state done) t kept (Err stop) old new before now goes
-    (keeps_at (plan_with formula state done) goes.effects stop goes.end t kept was none is goes.at.status
-    goes.full_at))
+    (keeps_at (plan_with formula state done) goes.effects stop goes.end t kept was none is goes.ends
+    goes.at.status goes.full_at))
 
 -- what is kept is that of the plan to which the readings led
 keeps_led : (words : List (List ℕ)) (files : Option Files) (plan : Plan) (effects : List Effect) (end : End)

@@ -28,7 +28,7 @@ use Rattle.sd_commands.specs.declared.command.RunCommand.{RunCommand}
 use Rattle.sd_commands.specs.declared.command.RunCommand.TheVariants as commands
 use Rattle.sd_commands.proofs.Outcomes.{settled_done, input_done, plain_growth}
 use Rattle.sd_tool.specs.Effects.{Contents, after}
-use Rattle.sd_tool.specs.Readings.{Plan, Reading, Begins, Reads, Whole, reading_of}
+use Rattle.sd_tool.specs.Readings.{Plan, Reading, Begins, Reads, reading_of}
 use Rattle.sd_tool.specs.inside.Course.{ReadsTo, MayEnd}
 use Rattle.sd_tool.specs.inside.Readings.{with_job, with_vtree_text, with_vtree_reading, with_script_text}
 use Rattle.sd_tool.specs.Readings.{with_input_word, with_tree_word, with_tree, with_commands, with_lines}
@@ -168,9 +168,9 @@ tree_follows files job f tree point trees.Left is led =
     subst (λ t. ReadsTo (Some files) (with_tree job f t) point) is led
 tree_follows files job f tree point (trees.File file) (bytes, there, short, reads) led =
     inr (
-      Whole bytes,
+      Some bytes,
       (there, short),
-      reads_on (Some files) (with_vtree_text job f file (Whole bytes)) (with_tree job f tree) point
+      reads_on (Some files) (with_vtree_text job f file (Some bytes)) (with_tree job f tree) point
           (reads_same (Some files) _ _ (ap (with_vtree_reading job f file) reads)) led,
     )
 
@@ -190,7 +190,7 @@ module _ {words : List (List ℕ)} {seen : Seen} (run : FourLines words seen) wh
       let asks = Reads run.script_file (with_script_text run.script_file formula.variables begin) in
       let read : ReadsTo told asks (begin cs) =
       inr (
-        Whole run.reads.0,
+        Some run.reads.0,
         (run.reads.1, run.reads.2),
         reads_same told _ _
             (ap (with_script_reading run.script_file formula.variables begin) run.reads.3 ∙ becomes begin),

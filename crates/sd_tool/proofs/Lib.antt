@@ -7,7 +7,6 @@ pub mod FromCourse
 pub mod Fronts
 pub mod Joined
 pub mod Limited
-pub mod NotOutOfMemory
 pub mod OneCourse
 pub mod OnePoint
 pub mod OneRun
@@ -18,6 +17,7 @@ pub mod RootsTexts
 pub mod ScriptFaults
 pub mod ScriptLemmas
 pub mod SddFaults
+pub mod SoundReadings
 pub mod StartTrees
 pub mod Starts
 pub mod StepLemmas

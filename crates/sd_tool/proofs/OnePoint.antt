@@ -2,31 +2,32 @@
 use Rattle.std.proofs.Common.{◌≡◌, ◌⊎◌, ℕ, List, length, Some, None}
 use Rattle.std.proofs.Common.{inl, inr, refl, sym, ap, subst, ◌∙◌, arith}
 use Rattle.sd_base.specs.Files.{Files, Lacks}
-use Rattle.sd_tool.specs.Readings.{Reading, Refuses, Begins, Reads, Text, Whole, TooLong, IsText}
+use Rattle.sd_tool.specs.Readings.{Reading, Refuses, Begins, Reads, IsText}
+use Rattle.sd_tool.specs.inside.Readings.{Text}
 use Rattle.sd_tool.specs.inside.Course.{ReadsTo}
 
 -- a told file reads in one way
 one_text : (files : Files) (file : List ℕ) (a b : Text) → IsText (Some files) file a → IsText (Some files) file b
     → a ≡ b
-one_text files file (Whole x) (Whole y) p q = let e : Some x ≡ Some y = sym p.0 ∙ q.0 in ap Whole (cc)
-one_text files file (Whole x) TooLong p q =
+one_text files file (Some x) (Some y) p q = let e : Some x ≡ Some y = sym p.0 ∙ q.0 in ap Some (cc)
+one_text files file (Some x) None p q =
     let e : Some x ≡ Some q.0 = sym p.0 ∙ q.1 in
     let same : x ≡ q.0 = cc in
     absurd (omega (arith, p.1, q.2, ap length same))
-one_text files file TooLong (Whole y) p q =
+one_text files file None (Some y) p q =
     let e : Some y ≡ Some p.0 = sym q.0 ∙ p.1 in
     let same : y ≡ p.0 = cc in
     absurd (omega (arith, q.1, p.2, ap length same))
-one_text files file TooLong TooLong p q = refl
+one_text files file None None p q = refl
 
 -- and is there
 there : (files : Files) (file : List ℕ) (text : Text) → IsText (Some files) file text → Lacks (Some files) file → ⊥
-there files file (Whole x) p lacks = let e : Some x ≡ None = sym p.0 ∙ lacks in let bad : ⊥ = cc in bad
-there files file TooLong p lacks = let e : Some p.0 ≡ None = sym p.1 ∙ lacks in let bad : ⊥ = cc in bad
+there files file (Some x) p lacks = let e : Some x ≡ None = sym p.0 ∙ lacks in let bad : ⊥ = cc in bad
+there files file None p lacks = let e : Some p.0 ≡ None = sym p.1 ∙ lacks in let bad : ⊥ = cc in bad
 
 -- the readings are over here
 abbrev pub IsOver : Reading → Type 0
-IsOver (Refuses refusal) = Unit {0}
+IsOver (Refuses answer) = Unit {0}
 IsOver (Begins plan) = Unit {0}
 IsOver (Reads file next) = ⊥
 

@@ -14,11 +14,11 @@ use Rattle.sd_words.specs.declared.jobs.TreeWord.{TreeWord}
 use Rattle.sd_words.specs.declared.jobs.TreeWord.TheVariants as trees
 use Rattle.sd_commands.specs.Effects.{Effect, Write, Print}
 use Rattle.sd_tool.specs.Effects.{after}
-use Rattle.sd_tool.specs.Readings.{Plan, Reading, Refuses, Begins, Reads, Text, Whole, reading_of}
+use Rattle.sd_tool.specs.Readings.{Plan, Reading, Refuses, Begins, Reads, reading_of}
+use Rattle.sd_tool.specs.inside.Readings.{Text}
 use Rattle.sd_tool.specs.inside.Course.{ReadsTo, MayEnd, IsOwn}
 use Rattle.sd_tool.specs.Readings.{with_input_word, with_tree_word, with_tree, with_commands, plan_for, default_of}
 use Rattle.sd_tool.specs.inside.Readings.{with_job, with_formula, with_vtree_text, with_vtree_reading, IsInput}
-use Rattle.sd_tool.specs.declared.refusal.Refusal.{Refusal}
 use Rattle.sd_tool.specs.Ends.{End, Finished, Refused, Unreadable, Unwritable, OutOfMemory, ArenaFull, OverLimit}
 use Rattle.sd_tool.specs.Ends.{NotMovable, status_of}
 use Rattle.sd_tool.specs.Devices.{Seen, Faults, IsCalm, HasReason, WritesEndLine}
@@ -31,7 +31,7 @@ use Rattle.sd_tool.specs.inside.ByStatus.{IsOneCourse}
 use Rattle.sd_tool.specs.Written.{IsFormulaOf, IsStartTree, PlainRun}
 use Rattle.sd_tool.proofs.AskLemmas.{goes_may_end}
 use Rattle.sd_tool.proofs.OneCourse.{one_end_among}
-use Rattle.sd_tool.proofs.NotOutOfMemory.{valid_start}
+use Rattle.sd_tool.proofs.SoundReadings.{valid_start}
 use Rattle.sd_tool.proofs.OnePoint.{one_point}
 use Rattle.sd_tool.proofs.ReadingLemmas.{reads_on, reads_same}
 use Rattle.sd_tool.proofs.StillCommands.{AreStill, never_unmoved, default_still}
@@ -45,7 +45,7 @@ same_plan files reading a b p q = elim (one_point files reading (Begins a) (Begi
 ]
 
 -- a refusal and a plan exclude each other
-no_plan : (files : Files) (reading : Reading) (refusal : Refusal) (plan : Plan)
+no_plan : (files : Files) (reading : Reading) (refusal : ℕ × List ℕ) (plan : Plan)
     → ReadsTo (Some files) reading (Refuses refusal) → ReadsTo (Some files) reading (Begins plan) → ⊥
 no_plan files reading refusal plan p q = elim (one_point files reading (Refuses refusal) (Begins plan) tt p q) [
   | inl is ↦ let bad : ⊥ = cc in bad
@@ -53,7 +53,7 @@ no_plan files reading refusal plan p q = elim (one_point files reading (Refuses 
 ]
 
 -- or to one refusal
-same_refusal : (files : Files) (reading : Reading) (a b : Refusal) → ReadsTo (Some files) reading (Refuses a)
+same_refusal : (files : Files) (reading : Reading) (a b : ℕ × List ℕ) → ReadsTo (Some files) reading (Refuses a)
     → ReadsTo (Some files) reading (Refuses b) → Refused b ≡ Refused a
 same_refusal files reading a b p q = elim (one_point files reading (Refuses a) (Refuses b) tt p q) [
   | inl is ↦ let e : b ≡ a = cc in ap Refused e
@@ -217,9 +217,9 @@ leads_with_tree files job f tree trees.Left alone is =
     leads_at_tree (Some files) job f (left_tree f.variables) tree alone (sym is)
 leads_with_tree files job f tree (trees.File file) alone (bytes, there, short, reads) =
     inr (
-      Whole bytes,
+      Some bytes,
       (there, short),
-      reads_on (Some files) (with_vtree_text job f file (Whole bytes)) (with_tree job f tree) _
+      reads_on (Some files) (with_vtree_text job f file (Some bytes)) (with_tree job f tree) _
           (reads_same (Some files) _ _ (ap (with_vtree_reading job f file) reads))
           (leads_at_tree (Some files) job f tree tree alone refl),
     )
@@ -234,9 +234,9 @@ job_follows words files job f input =
 pub formula_follows : (files : Files) (job : Job) (f : Groups) (word : InputWord) → IsFormulaOf files word f
     → ReadsTo (Some files) (with_input_word job word) (with_tree_word job f job.tree)
 formula_follows files job f (inputs.Cnf file) (bytes, there, short, reads) =
-    inr (Whole bytes, (there, short), reads_same (Some files) _ _ (ap (with_formula job file) reads))
+    inr (Some bytes, (there, short), reads_same (Some files) _ _ (ap (with_formula job file) reads))
 formula_follows files job f (inputs.Dnf file) (bytes, there, short, reads) =
-    inr (Whole bytes, (there, short), reads_same (Some files) _ _ (ap (with_formula job file) reads))
+    inr (Some bytes, (there, short), reads_same (Some files) _ _ (ap (with_formula job file) reads))
 formula_follows files job f (inputs.Generate count seed) is =
     reads_same (Some files) _ _ (ap (λ g. with_tree_word job g job.tree) (sym is))
 

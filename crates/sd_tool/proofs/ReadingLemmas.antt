@@ -17,15 +17,16 @@ use Rattle.sd_words.specs.declared.jobs.InputWord.{InputWord}
 use Rattle.sd_words.specs.declared.jobs.InputWord.TheVariants as inputs
 use Rattle.sd_words.specs.declared.jobs.TreeWord.{TreeWord}
 use Rattle.sd_words.specs.declared.jobs.TreeWord.TheVariants as trees
-use Rattle.sd_tool.specs.Readings.{Reading, Refuses, Begins, Reads, Text, Whole, TooLong, IsText, with_commands}
+use Rattle.sd_tool.specs.Readings.{Reading, Refuses, Begins, Reads, IsText, with_commands}
+use Rattle.sd_tool.specs.Refusals.{refusal_answer}
 use Rattle.sd_tool.specs.inside.Course.{ReadsTo}
 use Rattle.sd_script.specs.Scripts.{Script}
 use Rattle.sd_commands.specs.declared.command.NumberedCommand.{NumberedCommand}
-use Rattle.sd_tool.specs.inside.Readings.{script_reading, with_script_text, Input, input_file, with_input}
+use Rattle.sd_tool.specs.inside.Readings.{Text, script_reading, with_script_text, Input, input_file, with_input}
 use Rattle.sd_tool.specs.Readings.{with_input_word, with_tree_word, with_tree}
 use Rattle.sd_tool.specs.inside.Readings.{with_vtree_text}
 use Rattle.sd_tool.specs.Asks.{ComesTo}
-use Rattle.sd_tool.specs.Stops.{StopsReading, LeadsTo, StopsFor, GivesText, text_read}
+use Rattle.sd_tool.specs.Stops.{StopsReading, LeadsTo, StopsFor, GivesText}
 use Rattle.sd_tool.proofs.AskLemmas.{Joins, comes_on, last_on, breaks_on, last_here, comes_same, breaks_here}
 use Rattle.sd_tool.specs.declared.refusal.Refusal.{Refusal}
 use Rattle.sd_tool.specs.declared.stop.Stop.{Stop}
@@ -34,25 +35,25 @@ use Rattle.sd_tool.specs.declared.stop.Stop.TheVariants.{ArenaFull, OverLimit, N
 
 -- what was read of a told file is its text
 pub is_text : (told : Option Files) (file bytes : List ℕ) → HasBytes told file bytes → length bytes ≤ 67108864
-    → IsText told file (Whole bytes)
+    → IsText told file (Some bytes)
 is_text None file bytes has short = tt
 is_text (Some files) file bytes has short = (has, short)
 
 -- a told file that is longer is too long
-pub is_long : (told : Option Files) (file : List ℕ) → HasLonger told file 67108864 → IsText told file TooLong
+pub is_long : (told : Option Files) (file : List ℕ) → HasLonger told file 67108864 → IsText told file None
 is_long None file longer = tt
 is_long (Some files) file longer = longer
 
 -- readings are where they are
 pub reads_here : (told : Option Files) (reading : Reading) → ReadsTo told reading reading
-reads_here told (Refuses refusal) = refl
+reads_here told (Refuses answer) = refl
 reads_here told (Begins plan) = refl
 reads_here told (Reads file next) = inl refl
 
 -- where the readings have come to a point, they go on from there
 pub reads_on : (told : Option Files) (reading mid point : Reading) → ReadsTo told reading mid → ReadsTo told mid point
     → ReadsTo told reading point
-reads_on told (Refuses refusal) mid point a b = subst (λ r. ReadsTo told r point) a b
+reads_on told (Refuses answer) mid point a b = subst (λ r. ReadsTo told r point) a b
 reads_on told (Begins plan) mid point a b = subst (λ r. ReadsTo told r point) a b
 reads_on told (Reads file next) mid point (inl a) b = subst (λ r. ReadsTo told r point) a b
 reads_on told (Reads file next) mid point (inr a) b = inr (a.0, a.1, reads_on told (next a.0) mid point a.2 b)
@@ -117,14 +118,15 @@ leads_on {b = b} told now reading mid next (Err stop) first before last join sam
 
 -- the stop at a refusal to which the readings lead
 pub stops_for : (asks : List Request → Type 0) (told : Option Files) (reading : Reading) (refusal : Refusal)
-    (stop : Stop) (before now : ℕ) → ComesTo asks told reading (Refuses refusal) → StopsFor refusal stop
+    (stop : Stop) (before now : ℕ) → ComesTo asks told reading (Refuses (refusal_answer refusal))
+    → StopsFor refusal stop
     → StopsReading asks stop told reading before now
 stops_for asks told reading refusal (Refused found) before now a is =
-    subst (λ r. ComesTo asks told reading (Refuses r)) (sym is) a
+    subst (λ r. ComesTo asks told reading (Refuses (refusal_answer r))) (sym is) a
 stops_for asks told reading refusal (ReadFault file) before now a is = absurd is
 stops_for asks told reading refusal (WriteFault file) before now a is = absurd is
 stops_for asks told reading refusal OutputFault before now a is = absurd is
-stops_for asks told reading refusal OutOfMemory before now a is = inl (Refuses refusal, a)
+stops_for asks told reading refusal OutOfMemory before now a is = inl (Refuses (refusal_answer refusal), a)
 stops_for asks told reading refusal (ArenaFull n) before now a is = absurd is
 stops_for asks told reading refusal (OverLimit l g n k) before now a is = absurd is
 stops_for asks told reading refusal (NotMovable l) before now a is = absurd is
@@ -133,13 +135,13 @@ stops_for asks told reading refusal (NotMovable l) before now a is = absurd is
 pub text_leads : {X Y E : Type 0} (asks : List Request → Type 0) (told : Option Files) (reading : Reading)
     (after : Result Y E → Reading) (view : X → Y) (refuse : E → Refusal) (parsed : Result Y E)
     (result : Result X Stop) (before now : ℕ)
-    → ((fault : E) → after (Err fault) ≡ Refuses (refuse fault))
+    → ((fault : E) → after (Err fault) ≡ Refuses (refusal_answer (refuse fault)))
     → ComesTo asks told reading (after parsed) → GivesText view refuse parsed result
     → LeadsTo asks told reading (λ x. after (Ok (view x))) result before now
 text_leads asks told reading after view refuse parsed (Ok x) before now refused a is =
     subst (λ r. ComesTo asks told reading (after r)) is a
 text_leads asks told reading after view refuse parsed (Err (Refused refusal)) before now refused a (fault, is, named) =
-    subst (λ r. ComesTo asks told reading (Refuses r)) (sym named)
+    subst (λ r. ComesTo asks told reading (Refuses (refusal_answer r))) (sym named)
     (subst (λ r. ComesTo asks told reading r) (refused fault) (subst (λ r. ComesTo asks told reading (after r)) is a))
 text_leads asks told reading after view refuse parsed (Err (ReadFault file)) before now refused a is = absurd is
 text_leads asks told reading after view refuse parsed (Err (WriteFault file)) before now refused a is = absurd is
@@ -154,18 +156,18 @@ text_leads asks told reading after view refuse parsed (Err (NotMovable l)) befor
 -- the bytes that were read
 pub text_given : (asks : List Request → Type 0) (told : Option Files) (file : List ℕ) (next : Text → Reading)
     (field : Option (List ℕ)) (bytes slice : List ℕ) → field ≡ Some bytes → slice ≡ bytes
-    → ComesTo asks told (Reads file next) (next (text_read field))
-    → ComesTo asks told (Reads file next) (next (Whole slice))
+    → ComesTo asks told (Reads file next) (next field)
+    → ComesTo asks told (Reads file next) (next (Some slice))
 text_given asks told file next field bytes slice is same a =
-    subst (λ (b : List ℕ). ComesTo asks told (Reads file next) (next (Whole b))) (sym same)
-    (subst (λ f. ComesTo asks told (Reads file next) (next (text_read f))) is a)
+    subst (λ (b : List ℕ). ComesTo asks told (Reads file next) (next (Some b))) (sym same)
+    (subst (λ f. ComesTo asks told (Reads file next) (next f)) is a)
 
 -- none, where the file is too long
 pub text_lacking : (asks : List Request → Type 0) (told : Option Files) (file : List ℕ) (next : Text → Reading)
-    (field : Option (List ℕ)) → field ≡ None → ComesTo asks told (Reads file next) (next (text_read field))
-    → ComesTo asks told (Reads file next) (next TooLong)
+    (field : Option (List ℕ)) → field ≡ None → ComesTo asks told (Reads file next) (next field)
+    → ComesTo asks told (Reads file next) (next None)
 text_lacking asks told file next field is a =
-    subst (λ f. ComesTo asks told (Reads file next) (next (text_read f))) is a
+    subst (λ f. ComesTo asks told (Reads file next) (next f)) is a
 
 -- ---- the words for the input and for the tree
 

@@ -38,7 +38,8 @@ use Rattle.sd_commands.proofs.Outcomes.{input_done, grows_valid}
 use Rattle.sd_commands.proofs.Searched.{search_valid}
 use Rattle.sd_search.specs.Search.{Found, IsSearch}
 use Rattle.sd_tool.specs.Effects.{Contents, after}
-use Rattle.sd_tool.specs.Readings.{Plan, Begins, Text, Whole, TooLong, IsText}
+use Rattle.sd_tool.specs.Readings.{Plan, Begins, IsText}
+use Rattle.sd_tool.specs.inside.Readings.{Text}
 use Rattle.sd_tool.specs.inside.Course.{ReadsTo, MayEnd}
 use Rattle.sd_tool.specs.inside.Readings.{Input, with_job, with_input, with_formula, with_vtree_reading, IsInput}
 use Rattle.sd_tool.specs.Readings.{reading_of, with_input_word, with_tree_word}
@@ -56,7 +57,7 @@ use Rattle.sd_tool.specs.Written.{with_output, with_announcement, IsFound}
 use Rattle.sd_tool.proofs.AskLemmas.{by_reads_to}
 use Rattle.sd_tool.proofs.ByStatus.{effects_of, effects_at}
 use Rattle.sd_tool.proofs.OneCourse.{steps_valid, whole_plan}
-use Rattle.sd_tool.proofs.NotOutOfMemory.{valid_start}
+use Rattle.sd_tool.proofs.SoundReadings.{valid_start}
 use Rattle.sd_tool.proofs.RootsTexts.{texts_of_roots}
 
 -- a plan is that of an input and its tree, with the stated commands
@@ -101,8 +102,8 @@ from_word files job f plan trees.Right e alone p =
 from_word files job f plan trees.Left e alone p =
     found_tree files job f plan trees.Left (left_tree f.variables) e alone refl p
 from_word files job f plan (trees.File file) e alone (inl p) = let bad : ⊥ = cc in absurd bad
-from_word files job f plan (trees.File file) e alone (inr (TooLong, has, p)) = let bad : ⊥ = cc in absurd bad
-from_word files job f plan (trees.File file) e alone (inr (Whole bytes, has, p)) =
+from_word files job f plan (trees.File file) e alone (inr (None, has, p)) = let bad : ⊥ = cc in absurd bad
+from_word files job f plan (trees.File file) e alone (inr (Some bytes, has, p)) =
     go (vtree_file f.variables bytes) refl p
   where
     go : (reading : Result Tree VtreeFault) → vtree_file f.variables bytes ≡ reading
@@ -129,8 +130,8 @@ record FromWord (files : Files) (job : Job) (word : InputWord) (plan : Plan) : T
 from_text : (files : Files) (job : Job) (input : Input) (plan : Plan) (text : Text) → job.script ≡ None
     → IsText (Some files) input.file text → ReadsTo (Some files) (with_input job input text) (Begins plan)
     → (formula : Groups) × ReadsAs files input.file (dimacs input.kind) formula × FromTree files job formula plan
-from_text files job input plan TooLong alone has p = let bad : ⊥ = cc in absurd bad
-from_text files job input plan (Whole bytes) alone has p =
+from_text files job input plan None alone has p = let bad : ⊥ = cc in absurd bad
+from_text files job input plan (Some bytes) alone has p =
     let found = from_formula files job input.file (dimacs input.kind bytes) plan alone p in (
       found.0,
       (bytes, has.0, has.1, found.1),

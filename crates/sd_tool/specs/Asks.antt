@@ -4,7 +4,7 @@ use Rattle.std.specs.Prelude.{◌≡◌, ◌⊎◌, ℕ, ◌≤◌, List, [], �
 use Rattle.sd_base.specs.Asked.{Request, ToRead, ToWrite}
 use Rattle.sd_base.specs.Files.{Files}
 use Rattle.sd_commands.specs.Effects.{Effect, Write, Print}
-use Rattle.sd_tool.specs.Readings.{Plan, Reading, Refuses, Begins, Reads, Text, ReadsBy, reading_of}
+use Rattle.sd_tool.specs.Readings.{Plan, Reading, Refuses, Begins, Reads, ReadsBy, reading_of}
 use Rattle.sd_tool.specs.Devices.{Seen, WritesEndLine}
 use Rattle.sd_tool.specs.Effects.{after}
 use Rattle.sd_tool.specs.Ends.{End, Refused, Unreadable, Unwritable, OutOfMemory, status_of}
@@ -24,7 +24,7 @@ pub record ComesTo (asks : List Request → Type 0) (files : Option Files) (read
 
 -- the readings come to this file, and it is the last that is asked for
 abbrev pub AsksLast : (List Request → Type 0) → Option Files → Reading → List ℕ → Type 0
-AsksLast asks files reading file = (next : Text → Reading)
+AsksLast asks files reading file = (next : Option (List ℕ) → Reading)
     × ComesTo (λ earlier. asks (earlier ++ ToRead file ∷ [])) files reading (Reads file next)
 
 -- the readings break off between two files, or at a file that is asked for
@@ -47,7 +47,7 @@ begun effects end = effects
 
 -- the run ends at its readings, before any command, and asks for no more than they do
 abbrev pub EndsAsking : (List Request → Type 0) → Option Files → Reading → End → Type 0
-EndsAsking asks files reading (Refused refusal) = ComesTo asks files reading (Refuses refusal)
+EndsAsking asks files reading (Refused answer) = ComesTo asks files reading (Refuses answer)
 EndsAsking asks files reading (Unreadable file) = AsksLast asks files reading file
 EndsAsking asks files reading OutOfMemory = BreaksOff asks files reading
 EndsAsking asks files reading end = ⊥

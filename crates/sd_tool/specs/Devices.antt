@@ -8,8 +8,7 @@ use Rattle.sd_base.specs.declared.shelf.Shelf as shelves
 use Rattle.sd_base.specs.declared.sink.Sink as sinks
 use Rattle.sd_commands.specs.Effects.{Write, Print}
 use Rattle.sd_tool.specs.Effects.{Contents}
-use Rattle.sd_tool.specs.Ends.{End, Finished, Refused, Unreadable, Unwritable, text_of, line_of}
-use Rattle.sd_tool.specs.Refusals.{IsOfText}
+use Rattle.sd_tool.specs.Ends.{End, Finished, Unreadable, Unwritable, text_of, line_of}
 
 -- how often each device has failed
 pub record Faults : Type 0 where
@@ -53,10 +52,8 @@ pub record IsCalm (seen : Seen) : Type 0 where
   pub write : ¬ (Rose seen.old.faults.write seen.new.faults.write)
   pub print : ¬ (Rose seen.old.faults.print seen.new.faults.print)
 
--- An end has its reason. A refusal is for a fault of the words or of a text; at a device fault its count rose, or the
--- shelf tells that there is no such file.
+-- An end has its reason: at a device fault its count rose, or the shelf tells that there is no such file.
 abbrev pub HasReason : End → Option Files → Faults → Faults → Type 0
-HasReason (Refused refusal) files before now = IsOfText refusal
 HasReason (Unreadable file) files before now = Lacks files file ⊎ Rose before.read now.read
 HasReason (Unwritable (Write file bytes)) files before now = Rose before.write now.write
 HasReason (Unwritable (Print line)) files before now = Rose before.print now.print

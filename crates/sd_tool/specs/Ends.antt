@@ -3,15 +3,13 @@ use Rattle.std.specs.Prelude.{ℕ, List, [], ◌∷◌, ◌++◌, Option, codes}
 use Rattle.std.specs.Option.{option_map_or}
 use Rattle.sd_model.specs.Text.{number_text}
 use Rattle.sd_commands.specs.Effects.{Effect, Write, Print}
-use Rattle.sd_tool.specs.Refusals.{refusal_parts}
-use Rattle.sd_tool.specs.declared.refusal.Refusal.{Refusal}
 
 -- how a run ends
 pub data End : Type 0 where
   -- all commands were done
   Finished : End
-  -- the words or a text were refused
-  Refused : Refusal → End
+  -- the words or a text were refused, with this status and this text of the line
+  Refused : ℕ × List ℕ → End
   -- an input file was not read
   Unreadable : (file : List ℕ) → End
   -- the effect in hand failed
@@ -37,7 +35,7 @@ target_of (Print line) = codes "output"
 -- The table of ends: the status of each, and the text of its line after the name of the program.
 abbrev pub answer_of : End → ℕ × List ℕ
 answer_of Finished = (0, [])
-answer_of (Refused refusal) = ((refusal_parts refusal).0, (refusal_parts refusal).1 ++ (refusal_parts refusal).2)
+answer_of (Refused answer) = answer
 answer_of (Unreadable file) = (5, file ++ codes ": read fault")
 answer_of (Unwritable effect) = (6, target_of effect ++ codes ": write fault")
 answer_of OutOfMemory = (7, codes "out of memory")

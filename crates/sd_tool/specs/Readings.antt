@@ -1,9 +1,9 @@
 -- What a run reads before its first command, and when that is refused. A later reading is one more `Reads`.
 use Rattle.std.specs.Prelude.{◌≡◌, ℕ, ◌+◌, ◌<◌, ◌≤◌}
-use Rattle.std.specs.Prelude.{List, [], ◌∷◌, ◌++◌, length, map, slice_index_or}
+use Rattle.std.specs.Prelude.{List, [], ◌∷◌, ◌++◌, codes, length, map, slice_index_or}
 use Rattle.std.specs.List.{enumerate_from}
 use Rattle.std.specs.FinMap.{get}
-use Rattle.std.specs.Option.{option_to_list}
+use Rattle.std.specs.Option.{option_map_or, option_to_list}
 use Rattle.std.specs.Prelude.{Option, Some, None, Result, Ok, Err}
 use Rattle.sd_base.specs.Files.{Files}
 use Rattle.sd_model.specs.Tree.{Tree}
@@ -29,9 +29,8 @@ use Rattle.sd_commands.specs.Standing.{start}
 use Rattle.sd_commands.specs.declared.command.NumberedCommand.{NumberedCommand}
 use Rattle.sd_commands.specs.declared.command.RunCommand.{RunCommand}
 use Rattle.sd_commands.specs.declared.command.RunCommand.TheVariants as commands
-use Rattle.sd_tool.specs.declared.refusal.Refusal.{Refusal}
-use Rattle.sd_tool.specs.declared.refusal.Refusal.TheVariants.{BadWords, BadFormula, BadVtree, BadSdd}
-use Rattle.sd_tool.specs.declared.refusal.Refusal.TheVariants.{BadScript, LongScript, TooLong as LongFile}
+use Rattle.sd_tool.specs.Refusals.{words_fault_text, formula_fault_text, vtree_fault_text, sdd_fault_text}
+use Rattle.sd_tool.specs.Refusals.{script_fault_text}
 
 -- what the commands begin with
 pub record Plan : Type 0 where
@@ -39,16 +38,12 @@ pub record Plan : Type 0 where
   pub start : State
   pub commands : List NumberedCommand
 
--- what reading a file gives: its bytes, or that it is too long
-pub data Text : Type 0 where
-  Whole : (bytes : List ℕ) → Text
-  TooLong : Text
-
--- the course of the readings: refused, all accepted, or a file is read next
+-- The course of the readings: refused, with the status and the text of the line; all accepted; or a file is read next,
+-- whose bytes are there unless it is too long.
 pub data Reading : Type 0 where
-  Refuses : Refusal → Reading
+  Refuses : ℕ × List ℕ → Reading
   Begins : Plan → Reading
-  Reads : (file : List ℕ) (next : Text → Reading) → Reading
+  Reads : (file : List ℕ) (next : Option (List ℕ) → Reading) → Reading
 
 -- ---- the commands
 
@@ -69,22 +64,23 @@ default_of job =
 abbrev pub file_name : Script → ℕ → List ℕ
 file_name script n = slice_index_or script.files n []
 
--- what was read of a text, or the refusal of its fault
-abbrev pub or_refused : {A E : Type 0} → (E → Refusal) → (A → Reading) → Result A E → Reading
-or_refused refuse next (Ok read) = next read
-or_refused refuse next (Err fault) = Refuses (refuse fault)
+-- what was read of a text, or the refusal of its fault, with this status and, behind the name of the file, the text of
+-- the fault
+abbrev pub or_refused : {A E : Type 0} → ℕ → List ℕ → (E → List ℕ) → (A → Reading) → Result A E → Reading
+or_refused status file fault_text next (Ok read) = next read
+or_refused status file fault_text next (Err fault) = Refuses (status, file ++ fault_text fault)
 
--- A file is read by this reading of texts. It is refused where it is too long, and where its text has a fault.
-abbrev pub parsed : {A E : Type 0} → Refusal → (E → Refusal) → (List ℕ → Result A E) → (A → Reading) → Text → Reading
-parsed long refuse read next TooLong = Refuses long
-parsed long refuse read next (Whole bytes) = or_refused refuse next (read bytes)
+-- A file is read next, by this reading of texts. It is refused where it is too long, and where its text has a fault.
+abbrev pub reads : {A E : Type 0} → ℕ → (E → List ℕ) → (List ℕ → Result A E) → List ℕ → (A → Reading) → Reading
+reads status fault_text read file next =
+    let long = Refuses (status, file ++ codes ": too long") in
+    Reads file (λ text. option_map_or (λ bytes. or_refused status file fault_text next (read bytes)) text long)
 
 -- a command of a script as one of the run; a file that it loads is read
 abbrev pub with_action : ℕ → Script → (RunCommand → Reading) → Action → Reading
 with_action v script next (actions.Input n) = next (commands.Input n)
 with_action v script next (actions.Load n file) =
-    let name = file_name script file in
-    Reads name (parsed (LongFile name) (BadSdd name) (sdd_file v) (λ read. next (commands.Load n read)))
+    reads 2 sdd_fault_text (sdd_file v) (file_name script file) (λ read. next (commands.Load n read))
 with_action v script next (actions.Lit n literal) = next (commands.Literal n literal)
 with_action v script next (actions.Constant n value) = next (commands.Constant n value)
 with_action v script next (actions.Binary operation n a b) = next (commands.Combine operation n a b)
@@ -112,8 +108,7 @@ with_lines v script begin done (line ∷ lines) = with_action v script
 abbrev pub with_commands : Job → ℕ → (List NumberedCommand → Reading) → Option (List ℕ) → Reading
 with_commands job v begin None = begin (default_of job)
 with_commands job v begin (Some file) =
-    Reads file (parsed (LongScript file) (BadScript file) (script_of v)
-    (λ script. with_lines v script begin [] script.commands))
+    reads 3 script_fault_text (script_of v) file (λ script. with_lines v script begin [] script.commands)
 
 -- ---- the formula and its tree
 
@@ -142,13 +137,12 @@ with_tree_word job formula trees.Balanced = with_tree job formula (balanced_tree
 with_tree_word job formula trees.Right = with_tree job formula (right_tree formula.variables)
 with_tree_word job formula trees.Left = with_tree job formula (left_tree formula.variables)
 with_tree_word job formula (trees.File file) =
-    Reads file (parsed (LongFile file) (BadVtree file) (vtree_file formula.variables) (with_tree job formula))
+    reads 2 vtree_fault_text (vtree_file formula.variables) file (with_tree job formula)
 
 -- a formula file of this kind
 abbrev pub with_formula_file : Job → Kind → List ℕ → Reading
 with_formula_file job kind file =
-    Reads file
-    (parsed (LongFile file) (BadFormula file) (dimacs kind) (λ formula. with_tree_word job formula job.tree))
+    reads 2 formula_fault_text (dimacs kind) file (λ formula. with_tree_word job formula job.tree)
 
 -- a formula file is read; a generated formula is there
 abbrev pub with_input_word : Job → InputWord → Reading
@@ -158,22 +152,21 @@ with_input_word job (inputs.Generate count seed) = with_tree_word job (generated
 
 -- the readings of a run, in order
 abbrev pub reading_of : List (List ℕ) → Reading
-reading_of words = or_refused BadWords (λ job. with_input_word job job.input) (job_of words)
+reading_of words = or_refused 1 [] words_fault_text (λ job. with_input_word job job.input) (job_of words)
 
 -- ---- how far the files lead
 
 -- where the files are told, the file of this name reads so
-abbrev pub IsText : Option Files → List ℕ → Text → Type 0
+abbrev pub IsText : Option Files → List ℕ → Option (List ℕ) → Type 0
 IsText None file text = Unit {0}
-IsText (Some files) file (Whole bytes) = (get files file ≡ Some bytes) × (length bytes ≤ 67108864)
-IsText (Some files) file TooLong =
-    (bytes : List ℕ) × (get files file ≡ Some bytes) × (67108864 < length bytes)
+IsText (Some files) file (Some bytes) = (get files file ≡ Some bytes) × (length bytes ≤ 67108864)
+IsText (Some files) file None = (bytes : List ℕ) × (get files file ≡ Some bytes) × (67108864 < length bytes)
 
 -- over these files, the readings ask for files of these names, in order, each of which is read, and come to this point
 abbrev pub ReadsBy : Option Files → Reading → List (List ℕ) → Reading → Type 0
 ReadsBy files reading [] point = point ≡ reading
 ReadsBy files (Reads file next) (name ∷ names) point =
-    (text : Text) × (name ≡ file) × IsText files file text × ReadsBy files (next text) names point
+    (text : Option (List ℕ)) × (name ≡ file) × IsText files file text × ReadsBy files (next text) names point
 ReadsBy files reading (name ∷ names) point = ⊥
 
 -- they come to it by some files

@@ -1,5 +1,5 @@
--- What the words and the texts of a run are refused for: the status and the text of each refusal.
-use Rattle.std.specs.Prelude.{◌≢◌, ℕ, suc, true, false, List, [], ◌++◌, codes, ℤ, pos, negsuc}
+-- What the words and the texts of a run are refused for: the text of each fault.
+use Rattle.std.specs.Prelude.{ℕ, suc, true, false, List, [], ◌++◌, codes, ℤ, pos, negsuc}
 use Rattle.sd_model.specs.Text.{number_text, literal_text}
 use Rattle.sd_formula.specs.declared.error.FormulaError.{FormulaError}
 use Rattle.sd_formula.specs.declared.error.FormulaError.TheVariants as formula
@@ -90,27 +90,22 @@ script_fault_text script.TooManyLines = codes ": too many lines"
 script_fault_text (script.TooManyLoads n) = at_line n (codes ": too many loads")
 script_fault_text script.OutOfMemory = []
 
--- The table of refusals: the status, which is 1 for the words, 3 for the script and 2 for each other file, the name of
--- the file, and the text of the fault behind it.
-abbrev pub refusal_parts : Refusal → ℕ × List ℕ × List ℕ
-refusal_parts (BadWords fault) = (1, [], words_fault_text fault)
-refusal_parts (TooLong file) = (2, file, codes ": too long")
-refusal_parts (BadFormula file fault) = (2, file, formula_fault_text fault)
-refusal_parts (BadVtree file fault) = (2, file, vtree_fault_text fault)
-refusal_parts (BadSdd file fault) = (2, file, sdd_fault_text fault)
-refusal_parts (LongScript file) = (3, file, codes ": too long")
-refusal_parts (BadScript file fault) = (3, file, script_fault_text fault)
-
--- the fault is one of the words or of a text, and so it has a text: OutOfMemory is none, and has none
-abbrev pub IsOfText : Refusal → Type 0
-IsOfText refusal = (refusal_parts refusal).2 ≢ []
-
 -- ---- for the contracts of private functions
 
--- the status of a refusal
-abbrev pub refusal_status : Refusal → ℕ
-refusal_status refusal = (refusal_parts refusal).0
+-- the status of a refusal, and the text of its line after the name of the program
+abbrev pub refusal_answer : Refusal → ℕ × List ℕ
+refusal_answer (BadWords fault) = (1, words_fault_text fault)
+refusal_answer (TooLong file) = (2, file ++ codes ": too long")
+refusal_answer (BadFormula file fault) = (2, file ++ formula_fault_text fault)
+refusal_answer (BadVtree file fault) = (2, file ++ vtree_fault_text fault)
+refusal_answer (BadSdd file fault) = (2, file ++ sdd_fault_text fault)
+refusal_answer (LongScript file) = (3, file ++ codes ": too long")
+refusal_answer (BadScript file fault) = (3, file ++ script_fault_text fault)
 
--- the text of its line, after the name of the program
+-- the status
+abbrev pub refusal_status : Refusal → ℕ
+refusal_status refusal = (refusal_answer refusal).0
+
+-- the text
 abbrev pub refusal_text : Refusal → List ℕ
-refusal_text refusal = (refusal_parts refusal).1 ++ (refusal_parts refusal).2
+refusal_text refusal = (refusal_answer refusal).1

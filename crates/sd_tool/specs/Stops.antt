@@ -10,7 +10,8 @@ use Rattle.sd_commands.specs.Standing.{IsFilled}
 use Rattle.sd_commands.specs.declared.error.CommandError.{CommandError}
 use Rattle.sd_commands.specs.declared.error.CommandError.TheVariants as errors
 use Rattle.sd_tool.specs.Effects.{Contents}
-use Rattle.sd_tool.specs.Readings.{Plan, Reading, Refuses, Text, Whole, TooLong}
+use Rattle.sd_tool.specs.Readings.{Plan, Reading, Refuses}
+use Rattle.sd_tool.specs.Refusals.{refusal_answer}
 use Rattle.sd_tool.specs.Ends.{End, Finished, Refused, Unreadable, Unwritable, OutOfMemory as NoMemory}
 use Rattle.sd_tool.specs.Ends.{ArenaFull as NoRoom, OverLimit, NotMovable, status_of, text_of}
 use Rattle.sd_tool.specs.KeptManager.{HoldsAt, KeepsManager}
@@ -24,7 +25,7 @@ use Rattle.sd_tool.specs.declared.stop.Stop.TheVariants as stops
 
 -- the end that a stop stands for, as far as its status and its line go
 abbrev pub end_of : Stop → End
-end_of (stops.Refused refusal) = Refused refusal
+end_of (stops.Refused refusal) = Refused (refusal_answer refusal)
 end_of (stops.ReadFault file) = Unreadable file
 end_of (stops.WriteFault file) = Unwritable (Write file [])
 end_of stops.OutputFault = Unwritable (Print [])
@@ -76,7 +77,8 @@ KeepsOf plan effects end kept = kept ≡ None
 
 -- the readings stop so, and ask for no more
 abbrev pub StopsReading : (List Request → Type 0) → Stop → Option Files → Reading → ℕ → ℕ → Type 0
-StopsReading asks (stops.Refused refusal) files reading before now = ComesTo asks files reading (Refuses refusal)
+StopsReading asks (stops.Refused refusal) files reading before now =
+    ComesTo asks files reading (Refuses (refusal_answer refusal))
 StopsReading asks (stops.ReadFault file) files reading before now =
     AsksLast asks files reading file × (Lacks files file ⊎ Rose before now)
 StopsReading asks stops.OutOfMemory files reading before now = BreaksOff asks files reading
@@ -133,11 +135,6 @@ abbrev pub LeadsTo : {A : Type 0} → (List Request → Type 0) → Option Files
     → ℕ → Type 0
 LeadsTo asks files reading next (Ok read) before now = ComesTo asks files reading (next read)
 LeadsTo asks files reading next (Err stop) before now = StopsReading asks stop files reading before now
-
--- what was read of a file: its bytes, or that it is too long
-abbrev pub text_read : Option (List ℕ) → Text
-text_read None = TooLong
-text_read (Some bytes) = Whole bytes
 
 -- bytes that were read are not too long
 abbrev pub IsShort : Option (List ℕ) → Type 0

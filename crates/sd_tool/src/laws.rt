@@ -1,8 +1,9 @@
 //! What follows from the clause `course` of [`run`](crate::run), said without a course: functions whose contracts state
-//! a fact of every run, and that do nothing. Each holds of whatever shelf and sinks a run was over.
+//! a fact of every run, and that do nothing. Each holds of whatever shelf and sinks a run was over; the last speaks of
+//! words and texts alone.
 
 ghost use Rattle.sd_tool.specs.Laws.{FollowsCourse, HasWritten, HasLimit, IsDoneOrOverLimit};
-ghost use Rattle.sd_tool.specs.Laws.{HasJoined, HasAsked};
+ghost use Rattle.sd_tool.specs.Laws.{HasJoined, HasAsked, AreNeverOutOfMemory};
 
 use sd_base::{Shelf, Sink};
 
@@ -35,4 +36,9 @@ pub fn joined<F: Shelf, O: Sink, E: Sink>()
 /// written.
 pub fn asked<F: Shelf, O: Sink, E: Sink>()
     ensures { FollowsCourse F.Shelf O.Sink E.Sink HasAsked }
+{}
+
+/// No words and no text have the fault that memory ran out, so that no refusal of a run is for it.
+pub fn refused_for_faults()
+    ensures { AreNeverOutOfMemory }
 {}

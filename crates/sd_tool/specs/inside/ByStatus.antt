@@ -6,8 +6,6 @@ use Rattle.sd_commands.specs.Standing.{IsFilled}
 use Rattle.sd_tool.specs.Effects.{after, DoesPart}
 use Rattle.sd_tool.specs.Readings.{Plan, Refuses, Begins, Reads, reading_of}
 use Rattle.sd_tool.specs.inside.Course.{ReadsTo, MayEnd}
-use Rattle.sd_tool.specs.Refusals.{IsOfText, refusal_status}
-use Rattle.sd_tool.specs.declared.refusal.Refusal.{Refusal}
 use Rattle.sd_tool.specs.Ends.{End, Finished, Refused, Unreadable, Unwritable, OutOfMemory, ArenaFull, OverLimit}
 use Rattle.sd_tool.specs.Ends.{NotMovable, status_of}
 use Rattle.sd_tool.specs.Devices.{Moment, Seen, HasReason, WritesEndLine}
@@ -34,7 +32,7 @@ pub record EffectsByStatus (words : List (List ℕ)) (status : ℕ) (old new : M
       × MayEnd words old.contents.files effects Finished × (new.contents ≡ after effects old.contents)
   pub none : (status ≡ 1) ⊎ (status ≡ 2) ⊎ (status ≡ 5) → new.contents ≡ old.contents
   pub script : status ≡ 3 →
-      ((refusal : Refusal) × ReadsTo old.contents.files (reading_of words) (Refuses refusal)
+      ((answer : ℕ × List ℕ) × ReadsTo old.contents.files (reading_of words) (Refuses answer)
       × (new.contents ≡ old.contents))
       ⊎ ((effects : List Effect) × (line : ℕ) × MayEnd words old.contents.files effects (NotMovable line)
       × (new.contents ≡ after effects old.contents))
@@ -49,13 +47,12 @@ pub record EffectsByStatus (words : List (List ℕ)) (status : ℕ) (old new : M
       × MayEnd words old.contents.files effects (Unwritable effect)
       × DoesPart effect (after effects old.contents) new.contents
 
--- The words or a text were refused; the line says why, and running out of memory is no such reason.
+-- The words or a text were refused; the line says why.
 pub record IsRefused (words : List (List ℕ)) (status : ℕ) (old new : Moment) : Type 0 where
-  pub refusal : Refusal
-  pub status_is : status ≡ refusal_status refusal
-  pub led : ReadsTo old.contents.files (reading_of words) (Refuses refusal)
-  pub of_text : IsOfText refusal
-  pub line : WritesEndLine (Refused refusal) old new
+  pub answer : ℕ × List ℕ
+  pub status_is : status ≡ answer.0
+  pub led : ReadsTo old.contents.files (reading_of words) (Refuses answer)
+  pub line : WritesEndLine (Refused answer) old new
 
 -- An input file was asked for and not read; the line names it.
 pub record CouldNotRead (words : List (List ℕ)) (old new : Moment) : Type 0 where

@@ -1,6 +1,6 @@
 -- The readings step by step, for the contracts of private functions and for proofs.
-use Rattle.std.specs.Prelude.{◌≡◌, ℕ, List, [], map, Option, Some, None, Result, Ok}
-use Rattle.std.specs.Option.{option_to_list}
+use Rattle.std.specs.Prelude.{◌≡◌, ℕ, List, [], ◌++◌, codes, map, Option, Some, None, Result, Ok}
+use Rattle.std.specs.Option.{option_map_or, option_to_list}
 use Rattle.sd_base.specs.Files.{Files}
 use Rattle.sd_model.specs.Tree.{Tree}
 use Rattle.sd_formula.specs.declared.error.FormulaError.{FormulaError}
@@ -22,11 +22,11 @@ use Rattle.sd_commands.specs.declared.command.NumberedCommand.{NumberedCommand}
 use Rattle.sd_commands.specs.declared.command.RunCommand.{RunCommand}
 use Rattle.sd_commands.specs.declared.command.RunCommand.TheVariants as commands
 use Rattle.sd_script.specs.declared.command.Command.{Command as Line}
-use Rattle.sd_tool.specs.Readings.{Reading, Text, or_refused, parsed, with_lines, with_tree, with_tree_word}
+use Rattle.sd_tool.specs.Readings.{Reading, Refuses, or_refused, with_lines, with_tree, with_tree_word}
 use Rattle.sd_tool.specs.Readings.{with_input_word}
 use Rattle.sd_tool.specs.Written.{IsFormulaOf}
-use Rattle.sd_tool.specs.declared.refusal.Refusal.TheVariants.{BadWords, BadFormula, BadVtree, BadSdd}
-use Rattle.sd_tool.specs.declared.refusal.Refusal.TheVariants.{BadScript, LongScript, TooLong}
+use Rattle.sd_tool.specs.Refusals.{words_fault_text, formula_fault_text, vtree_fault_text, sdd_fault_text}
+use Rattle.sd_tool.specs.Refusals.{script_fault_text}
 
 -- a command for a file that is there
 abbrev pub for_file : (List ℕ → RunCommand) → Option (List ℕ) → List RunCommand
@@ -51,13 +51,23 @@ input_file (inputs.Cnf file) = Some record { kind = kinds.Cnf; file = file }
 input_file (inputs.Dnf file) = Some record { kind = kinds.Dnf; file = file }
 input_file (inputs.Generate count seed) = None
 
+-- what reading a file gives: its bytes, or none where it is too long
+abbrev pub Text : Type 0
+Text = Option (List ℕ)
+
+-- a text is read so, and refused where it is too long or has a fault
+abbrev pub parsed : {A E : Type 0} → ℕ → (E → List ℕ) → (List ℕ → Result A E) → List ℕ → (A → Reading) → Text → Reading
+parsed status fault_text read file next text =
+    option_map_or (λ bytes. or_refused status file fault_text next (read bytes)) text
+    (Refuses (status, file ++ codes ": too long"))
+
 -- a loaded file that was read
 abbrev pub with_sdd_reading : List ℕ → (File → Reading) → Result File SddFault → Reading
-with_sdd_reading file next read = or_refused (BadSdd file) next read
+with_sdd_reading file next read = or_refused 2 file sdd_fault_text next read
 
 -- the text of one over v variables
 abbrev pub with_sdd : ℕ → List ℕ → (File → Reading) → Text → Reading
-with_sdd v file next text = parsed (TooLong file) (BadSdd file) (sdd_file v) next text
+with_sdd v file next text = parsed 2 sdd_fault_text (sdd_file v) file next text
 
 -- the commands of a script
 abbrev pub script_reading : ℕ → (List NumberedCommand → Reading) → Script → Reading
@@ -65,35 +75,34 @@ script_reading v begin script = with_lines v script begin [] script.commands
 
 -- a script that was read
 abbrev pub with_script_reading : List ℕ → ℕ → (List NumberedCommand → Reading) → Result Script ScriptFault → Reading
-with_script_reading file v begin read = or_refused (BadScript file) (script_reading v begin) read
+with_script_reading file v begin read = or_refused 3 file script_fault_text (script_reading v begin) read
 
 -- the text of one over v variables
 abbrev pub with_script_text : List ℕ → ℕ → (List NumberedCommand → Reading) → Text → Reading
-with_script_text file v begin text =
-    parsed (LongScript file) (BadScript file) (script_of v) (script_reading v begin) text
+with_script_text file v begin text = parsed 3 script_fault_text (script_of v) file (script_reading v begin) text
 
 -- a vtree file that was read
 abbrev pub with_vtree_reading : Job → Groups → List ℕ → Result Tree VtreeFault → Reading
-with_vtree_reading job formula file read = or_refused (BadVtree file) (with_tree job formula) read
+with_vtree_reading job formula file read = or_refused 2 file vtree_fault_text (with_tree job formula) read
 
 -- the text of one
 abbrev pub with_vtree_text : Job → Groups → List ℕ → Text → Reading
 with_vtree_text job formula file text =
-    parsed (TooLong file) (BadVtree file) (vtree_file formula.variables) (with_tree job formula) text
+    parsed 2 vtree_fault_text (vtree_file formula.variables) file (with_tree job formula) text
 
 -- a formula file that was read
 abbrev pub with_formula : Job → List ℕ → Result Groups FormulaError → Reading
-with_formula job file read = or_refused (BadFormula file) (λ formula. with_tree_word job formula job.tree) read
+with_formula job file read =
+    or_refused 2 file formula_fault_text (λ formula. with_tree_word job formula job.tree) read
 
 -- the text of one
 abbrev pub with_input : Job → Input → Text → Reading
 with_input job input text =
-    parsed (TooLong input.file) (BadFormula input.file) (dimacs input.kind)
-    (λ formula. with_tree_word job formula job.tree) text
+    parsed 2 formula_fault_text (dimacs input.kind) input.file (λ formula. with_tree_word job formula job.tree) text
 
 -- words that were read
 abbrev pub with_job : Result Job WordsFault → Reading
-with_job read = or_refused BadWords (λ job. with_input_word job job.input) read
+with_job read = or_refused 1 [] words_fault_text (λ job. with_input_word job job.input) read
 
 -- the words, without a script, ask for this formula
 pub record IsInput (words : List (List ℕ)) (files : Files) (job : Job) (formula : Groups) : Type 0 where
