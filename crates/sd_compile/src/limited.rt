@@ -23,8 +23,9 @@ use sd_sweep::{size, sweep};
 /// The least number of elements in use that a sweep between groups or commands is for, where they use kept answers.
 pub const LEAST_GARBAGE: u32 = 262_144;
 
-// So many elements may come between two sweeps on any diagram: what is made and dropped there is still near.
-const LEAST_ROOM: u32 = 8_192;
+// So many elements may come between two sweeps on any diagram where these are often: what is made and dropped there
+// is still near.
+const LEAST_ROOM: u32 = 4_096;
 
 // How many elements may be in use before the next sweep, where so many are now. A sweep that takes a node away raises
 // the epoch, and what the cache keeps and lends is lost: twice as many, so that what is swept pays for the sweep, and a
@@ -57,8 +58,8 @@ pub(crate) fn sweep_kept(m: &mut Manager, c: &Cache)
 }
 
 /// Sweeps where more elements are in use than `most` or than the limit. Then `most` becomes what may be in use before
-/// the next sweep: `often` a quarter more than what is left, and at least 8,192 elements more, and else twice that,
-/// and at least `LEAST_GARBAGE`.
+/// the next sweep: `often` a quarter more than what is left, and at least 4,096 elements more, and else twice what is
+/// left, and at least `LEAST_GARBAGE`.
 pub fn sweep_past(m: &mut Manager, c: &Cache, most: &mut u32, often: bool, limit: u32)
     requires no_move { m.old.moving ≡ None }
     requires unmarked { AreUnmarked m.old }

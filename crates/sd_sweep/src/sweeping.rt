@@ -7,7 +7,7 @@
 //! is not reached.
 //!
 //! So a sweep costs what died and what is new since the last one, and no visit of what stays. Clearing all marks and
-//! walking from the roots, which is the usual form, would cost the whole table after each group of a formula.
+//! walking from the roots, which is the usual form, would cost the whole table each time.
 
 ghost use Rattle.std.specs.Prelude.{◌≡◌, ℕ, None};
 ghost use Rattle.std.specs.Option.{IsSome};

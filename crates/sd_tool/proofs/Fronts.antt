@@ -30,7 +30,8 @@ does_part (Write file bytes) old new (inr held, printed) =
 does_part (Print line) old new (part, files) =
     inr (
       length part.front,
-      contents_are new _ files (part.written ∙ ap (told_then old.printed) (first_of part.front part.rest line part.of_bytes)),
+      contents_are new _ files
+          (part.written ∙ ap (told_then old.printed) (first_of part.front part.rest line part.of_bytes)),
     )
 
 -- so does the line of an end

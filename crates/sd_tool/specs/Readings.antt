@@ -70,7 +70,8 @@ abbrev pub or_refused : {A E : Type 0} → ℕ → List ℕ → (E → List ℕ)
 or_refused status file fault_text next (Ok read) = next read
 or_refused status file fault_text next (Err fault) = Refuses (status, file ++ fault_text fault)
 
--- A file is read next, by this reading of texts. It is refused where it is too long, and where its text has a fault.
+-- A file is read next, by this reading of texts. It is refused, with this status, where it is too long, and where its
+-- text has a fault.
 abbrev pub reads : {A E : Type 0} → ℕ → (E → List ℕ) → (List ℕ → Result A E) → List ℕ → (A → Reading) → Reading
 reads status fault_text read file next =
     let long = Refuses (status, file ++ codes ": too long") in

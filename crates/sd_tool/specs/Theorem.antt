@@ -1,6 +1,7 @@
 -- What `run` promises, clause by clause, of the words, its status, and what the shelf, `out` and `err` show (`seen`).
--- The status of an end is `status_of` in Ends.antt, and that of a refusal `refusal_status` in Refusals.antt. What
--- follows for runs without a script, for a script of four lines and for the files that are asked for is in Laws.antt.
+-- The status of an end is `status_of` in Ends.antt; that of a refusal stands at its reading (`reads`, `reading_of`) in
+-- Readings.antt. What follows for runs without a script, for a script of four lines and for the files that are asked
+-- for is in Laws.antt.
 use Rattle.std.specs.Prelude.{◌≡◌, ◌⊎◌, ◌↔◌, ℕ, List, Option}
 use Rattle.std.specs.List.{AllZip}
 use Rattle.sd_model.specs.Expression.{Expression, AreOneFunction}

@@ -1,6 +1,6 @@
 //! What follows from the clause `course` of [`run`](crate::run), said without a course: functions whose contracts state
-//! a fact of every run, and that do nothing. Each holds of whatever shelf and sinks a run was over; the last speaks of
-//! words and texts alone.
+//! a fact of every run, and that do nothing. Each holds of whatever shelf and sinks a run was over; the last follows
+//! from no course, and speaks of words and texts alone.
 
 ghost use Rattle.sd_tool.specs.Laws.{FollowsCourse, HasWritten, HasLimit, IsDoneOrOverLimit};
 ghost use Rattle.sd_tool.specs.Laws.{HasJoined, HasAsked, AreNeverOutOfMemory};
