@@ -26,7 +26,6 @@ use Rattle.sd_words.specs.declared.jobs.InputWord.{InputWord}
 use Rattle.sd_words.specs.declared.jobs.InputWord.TheVariants as inputs
 use Rattle.sd_words.specs.declared.jobs.TreeWord.{TreeWord}
 use Rattle.sd_words.specs.declared.jobs.TreeWord.TheVariants as trees
-use Rattle.sd_words.specs.declared.faults.WordsFault.{WordsFault}
 use Rattle.sd_commands.specs.Effects.{Effect, Write, Print}
 use Rattle.sd_commands.specs.declared.command.NumberedCommand.{NumberedCommand}
 use Rattle.sd_commands.specs.declared.command.RunCommand.{RunCommand}
@@ -160,7 +159,7 @@ none_read : (files : Option Files) (words : List (List ℕ)) (names : List (List
     → ReadsBy files (reading_of words) names (Refuses refusal) → refusal.0 ≡ 1 → names ≡ []
 none_read files words names refusal = go (job_of words) names
   where
-    go : (job : Result Job WordsFault) (names : List (List ℕ)) → ReadsBy files (with_job job) names (Refuses refusal)
+    go : (job : Result Job (List ℕ)) (names : List (List ℕ)) → ReadsBy files (with_job job) names (Refuses refusal)
         → refusal.0 ≡ 1 → names ≡ []
     go (Err fault) [] a e = refl
     go (Err fault) (x ∷ xs) a e = absurd a

@@ -21,7 +21,6 @@ pub mod SoundReadings
 pub mod StartTrees
 pub mod Starts
 pub mod StepLemmas
-pub mod WordsFaults
 pub mod WordsInRange
 pub mod WrittenLemmas
 pub mod StillCommands

@@ -25,7 +25,6 @@ use Rattle.sd_words.specs.declared.jobs.InputWord.{InputWord}
 use Rattle.sd_words.specs.declared.jobs.InputWord.TheVariants as inputs
 use Rattle.sd_words.specs.declared.jobs.TreeWord.{TreeWord}
 use Rattle.sd_words.specs.declared.jobs.TreeWord.TheVariants as trees
-use Rattle.sd_words.specs.declared.faults.WordsFault.{WordsFault}
 use Rattle.sd_commands.specs.declared.command.NumberedCommand.{NumberedCommand}
 use Rattle.sd_commands.specs.declared.command.RunCommand.{RunCommand}
 use Rattle.sd_commands.specs.declared.command.RunCommand.TheVariants as commands
@@ -172,7 +171,7 @@ sound_input_word job (inputs.Generate count seed) fits =
 sound_words : (ws : List (List ℕ)) → AreSound (reading_of ws)
 sound_words ws = go (job_of ws) refl
   where
-    go : (job : Result Job WordsFault) → job_of ws ≡ job → AreSound (with_job job)
+    go : (job : Result Job (List ℕ)) → job_of ws ≡ job → AreSound (with_job job)
     go (Ok job) is = sound_input_word job job.input (in_range ws job is)
     go (Err fault) is = inl refl
 

@@ -2,7 +2,7 @@
 use Rattle.std.proofs.Common.{◌≡◌, ℕ, ◌≤◌, Bool, true, false, List, [], ◌∷◌, Option, Some, None, Ok, Err, is_none}
 use Rattle.std.proofs.Common.{refl, ap, subst, sym, ◌∙◌, arith, drop}
 use Rattle.std.specs.Bool.{then_some}
-use Rattle.std.specs.Prelude.{◌==◌, option_map, option_and_then, if◌then◌else◌, is_some, nat_le, count_by}
+use Rattle.std.specs.Prelude.{codes, ◌==◌, option_map, option_and_then, if◌then◌else◌, is_some, nat_le, count_by}
 use Rattle.std.specs.Option.{option_map_or}
 use Rattle.std.specs.List.{after_first, before_first}
 use Rattle.std.proofs.lemmas.Bool.{leb-true, and_parts}
@@ -132,6 +132,6 @@ pub in_range : (ws : List (List ℕ)) (job : Job) → job_of ws ≡ Ok job → I
 in_range ws job is = by (accepts ws) (sym (job_of_rows ws) ∙ is)
   where
     by : (b : Bool) → (if b then unless (first_some (rows (parsed_by ws))) (job_of_parsed (parsed_by ws))
-        else Err words.Usage) ≡ Ok job → IsInRange job.input
+        else Err (codes "usage")) ≡ Ok job → IsInRange job.input
     by true is = job_fits (parsed_by ws) job is
     by false is = let bad : ⊥ = cc in absurd bad

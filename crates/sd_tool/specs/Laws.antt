@@ -14,8 +14,6 @@ use Rattle.sd_file.specs.Reads.{sdd_file}
 use Rattle.sd_file.specs.declared.fault.SddFault.TheVariants as sdd_faults
 use Rattle.sd_script.specs.Scripts.{script_of}
 use Rattle.sd_script.specs.declared.fault.ScriptFault.TheVariants as script_faults
-use Rattle.sd_words.specs.JobOf.{job_of}
-use Rattle.sd_words.specs.declared.faults.WordsFault.TheVariants as words_faults
 use Rattle.sd_manager.specs.Table.{Table}
 use Rattle.sd_tool.specs.Asks.{LacksRoom}
 use Rattle.sd_tool.specs.Devices.{Seen, IsCalm, seen}
@@ -66,9 +64,8 @@ abbrev pub HasAsked : List (List ℕ) → ℕ → Seen → Type 0
 HasAsked words status seen = (status ≡ 1 → seen.asked [])
     × ((status ≡ 1) ⊎ (status ≡ 2) ⊎ (status ≡ 5) → ReadsAlone seen.asked) × ReadsFirst seen.asked
 
--- refused_for_faults: no words and no text have the fault that memory ran out, so that no refusal of a run is for it
+-- refused_for_faults: no text has the fault that memory ran out, so that no refusal of a run is for it
 pub record AreNeverOutOfMemory : Type 0 where
-  pub words : (given : List (List ℕ)) → job_of given ≢ Err words_faults.OutOfMemory
   pub formula : (kind : Kind) (bytes : List ℕ) → dimacs kind bytes ≢ Err formula_faults.OutOfMemory
   pub vtree : (v : ℕ) (bytes : List ℕ) → vtree_file v bytes ≢ Err vtree_faults.OutOfMemory
   pub sdd : (v : ℕ) (bytes : List ℕ) → sdd_file v bytes ≢ Err sdd_faults.OutOfMemory

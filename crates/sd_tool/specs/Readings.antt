@@ -29,8 +29,7 @@ use Rattle.sd_commands.specs.Standing.{start}
 use Rattle.sd_commands.specs.declared.command.NumberedCommand.{NumberedCommand}
 use Rattle.sd_commands.specs.declared.command.RunCommand.{RunCommand}
 use Rattle.sd_commands.specs.declared.command.RunCommand.TheVariants as commands
-use Rattle.sd_tool.specs.Refusals.{words_fault_text, formula_fault_text, vtree_fault_text, sdd_fault_text}
-use Rattle.sd_tool.specs.Refusals.{script_fault_text}
+use Rattle.sd_tool.specs.Refusals.{formula_fault_text, vtree_fault_text, sdd_fault_text, script_fault_text}
 
 -- what the commands begin with
 pub record Plan : Type 0 where
@@ -153,7 +152,7 @@ with_input_word job (inputs.Generate count seed) = with_tree_word job (generated
 
 -- the readings of a run, in order
 abbrev pub reading_of : List (List ℕ) → Reading
-reading_of words = or_refused 1 [] words_fault_text (λ job. with_input_word job job.input) (job_of words)
+reading_of words = or_refused 1 [] (λ text. text) (λ job. with_input_word job job.input) (job_of words)
 
 -- ---- how far the files lead
 

@@ -9,9 +9,7 @@ use Rattle.sd_file.specs.declared.fault.SddFault.{SddFault}
 use Rattle.sd_file.specs.declared.fault.SddFault.TheVariants as sdd
 use Rattle.sd_script.specs.declared.fault.ScriptFault.{ScriptFault}
 use Rattle.sd_script.specs.declared.fault.ScriptFault.TheVariants as script
-use Rattle.sd_words.specs.Options.{word_of}
-use Rattle.sd_words.specs.declared.faults.WordsFault.{WordsFault}
-use Rattle.sd_words.specs.declared.faults.WordsFault.TheVariants as words
+use Rattle.sd_words.specs.Rows.{words_fault_text}
 use Rattle.sd_tool.specs.declared.refusal.Refusal.{Refusal}
 use Rattle.sd_tool.specs.declared.refusal.Refusal.TheVariants.{BadWords, TooLong, BadFormula, BadVtree}
 use Rattle.sd_tool.specs.declared.refusal.Refusal.TheVariants.{LongScript, BadScript, BadSdd}
@@ -28,19 +26,6 @@ counts stated found = codes ": " ++ number_text stated ++ codes " stated, " ++ n
 abbrev pub signed_text : ℤ → List ℕ
 signed_text (pos n) = literal_text n true
 signed_text (negsuc i) = literal_text (suc i) false
-
--- the text of a fault of the words
-abbrev pub words_fault_text : WordsFault → List ℕ
-words_fault_text words.Usage = codes "usage"
-words_fault_text words.NoInput = codes "no input"
-words_fault_text words.TwoInputs = codes "two inputs"
-words_fault_text words.TwoVtrees = codes "two vtrees"
-words_fault_text (words.NumberRange option) = codes "number out of range: --" ++ word_of option
-words_fault_text (words.WithScript option) = codes "not with --script: --" ++ word_of option
-words_fault_text (words.FileTwice name) = codes "file named twice: " ++ name
-words_fault_text words.StartUnknown = codes "start unknown"
-words_fault_text (words.EmptyName option) = codes "empty name: --" ++ word_of option
-words_fault_text words.OutOfMemory = []
 
 -- the text of a fault of a formula file, after the file's name
 abbrev pub formula_fault_text : FormulaError → List ℕ

@@ -38,7 +38,7 @@ pub fn asked<F: Shelf, O: Sink, E: Sink>()
     ensures { FollowsCourse F.Shelf O.Sink E.Sink HasAsked }
 {}
 
-/// No words and no text have the fault that memory ran out, so that no refusal of a run is for it.
+/// No text has the fault that memory ran out, so that no refusal of a run is for it.
 pub fn refused_for_faults()
     ensures { AreNeverOutOfMemory }
 {}

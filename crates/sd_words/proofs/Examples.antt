@@ -4,7 +4,6 @@ use Rattle.std.specs.Prelude.{⊤}
 use Rattle.clap.proofs.OnLiterals.{clap_on_literals}
 use Rattle.sd_words.specs.Command.{parsed_by, sddc}
 use Rattle.sd_words.specs.JobOf.{job_from, job_of_parsed, job_of}
-use Rattle.sd_words.specs.declared.faults.WordsFault.TheVariants as fault
 use Rattle.sd_words.specs.declared.jobs.InputWord.TheVariants as input
 use Rattle.sd_words.specs.declared.jobs.TreeWord.TheVariants as tree
 use Rattle.sd_words.specs.declared.options.OptionName.TheVariants as option
@@ -14,33 +13,33 @@ unfoldable job_on_literals : ⊤
 unfolding clap_on_literals job_of parsed_by sddc job_from job_of_parsed
 job_on_literals = tt
 
-no_words : job_of [] ≡ Err fault.NoInput
+no_words : job_of [] ≡ Err (codes "no input")
 unfolding job_on_literals
 no_words = refl
 
-two : job_of (codes "--cnf" ∷ codes "a" ∷ codes "--dnf" ∷ codes "b" ∷ []) ≡ Err fault.TwoInputs
+two : job_of (codes "--cnf" ∷ codes "a" ∷ codes "--dnf" ∷ codes "b" ∷ []) ≡ Err (codes "two inputs")
 unfolding job_on_literals
 two = refl
 
 limit_zero : job_of (codes "--cnf" ∷ codes "a" ∷ codes "--limit" ∷ codes "0" ∷ [])
-    ≡ Err (fault.NumberRange option.Limit)
+    ≡ Err (codes "number out of range: --limit")
 unfolding job_on_literals
 limit_zero = refl
 
 beside_script : job_of (codes "--cnf" ∷ codes "a" ∷ codes "--script" ∷ codes "s" ∷ codes "--minimise" ∷ codes "2" ∷ [])
-    ≡ Err (fault.WithScript option.Minimise)
+    ≡ Err (codes "not with --script: --minimise")
 unfolding job_on_literals
 beside_script = refl
 
-unknown_option : job_of (codes "--cnf" ∷ codes "a" ∷ codes "--colour" ∷ codes "x" ∷ []) ≡ Err fault.Usage
+unknown_option : job_of (codes "--cnf" ∷ codes "a" ∷ codes "--colour" ∷ codes "x" ∷ []) ≡ Err (codes "usage")
 unfolding job_on_literals
 unknown_option = refl
 
-option_twice : job_of (codes "--cnf" ∷ codes "a" ∷ codes "--cnf" ∷ codes "b" ∷ []) ≡ Err fault.Usage
+option_twice : job_of (codes "--cnf" ∷ codes "a" ∷ codes "--cnf" ∷ codes "b" ∷ []) ≡ Err (codes "usage")
 unfolding job_on_literals
 option_twice = refl
 
-dashed_value : job_of (codes "--cnf" ∷ codes "-a" ∷ []) ≡ Err fault.Usage
+dashed_value : job_of (codes "--cnf" ∷ codes "-a" ∷ []) ≡ Err (codes "usage")
 unfolding job_on_literals
 dashed_value = refl
 

@@ -2,7 +2,7 @@
 use Rattle.std.proofs.Common.{rules, ◌≡◌, ◌≢◌, ◌∙◌, ◌==◌, ap, sym, refl, inl, inr}
 use Rattle.std.proofs.Common.{Bool, true, false, true≢false, List, [], ◌∷◌, drop}
 use Rattle.std.proofs.Common.{None, Option, Result, Some, Err, is_none, is_some}
-use Rattle.std.specs.Prelude.{count_by, if◌then◌else◌, not, option_and_then, option_map}
+use Rattle.std.specs.Prelude.{ℕ, codes, count_by, if◌then◌else◌, not, option_and_then, option_map}
 use Rattle.std.specs.Bool.{then_some}
 use Rattle.std.specs.Str.{bytes_eq}
 use Rattle.std.specs.List.{list_any}
@@ -20,7 +20,7 @@ use Rattle.sd_words.specs.ParsedOptions.{ParsedOptions, fails, has_option}
 use Rattle.sd_words.specs.JobOf.{Answers, first_some, job_from, job_of, job_of_parsed, name_of_both, unless}
 use Rattle.sd_words.specs.Options.{inputs}
 use Rattle.sd_words.specs.Rows.{empty_name, fault_where, file_twice, no_input, number_range, rows, same_name}
-use Rattle.sd_words.specs.Rows.{start_unknown, two_inputs, two_vtrees, with_script}
+use Rattle.sd_words.specs.Rows.{words_fault_text, start_unknown, two_inputs, two_vtrees, with_script}
 use Rattle.sd_words.specs.declared.faults.WordsFault.{WordsFault}
 use Rattle.sd_words.specs.declared.faults.WordsFault.TheVariants as fault
 use Rattle.sd_words.specs.declared.jobs.Job.{Job}
@@ -35,16 +35,16 @@ first_two (Some f) b rest = refl
 -- ---- the tests one by one, as rows of a table
 
 -- a test, and then others
-tested : (test : Bool) (f : WordsFault) (later : Result Job WordsFault) (others : List (Option WordsFault)) (job : Job)
-    → later ≡ unless (first_some others) job
-    → (fault_if test f >> later) ≡ unless (first_some (fault_where test f ∷ others)) job
+tested : (test : Bool) (f : WordsFault) (later : Result Job (List ℕ)) (others : List (Option WordsFault))
+    (job : Job) → later ≡ unless (first_some others) job
+    → (fault_if test (words_fault_text f) >> later) ≡ unless (first_some (fault_where test f ∷ others)) job
 tested true f later others job is = refl
 tested false f later others job is = is
 
 -- the same of something that is looked for
-looked_for : {A : Type 0} (fault : A → WordsFault) (found : Option A) (later : Result Job WordsFault)
+looked_for : {A : Type 0} (fault : A → WordsFault) (found : Option A) (later : Result Job (List ℕ))
     (others : List (Option WordsFault)) (job : Job) → later ≡ unless (first_some others) job
-    → (fault_for fault found >> later) ≡ unless (first_some (option_map fault found ∷ others)) job
+    → (fault_for (λ x. words_fault_text (fault x)) found >> later) ≡ unless (first_some (option_map fault found ∷ others)) job
 looked_for fault (Some x) later others job is = refl
 looked_for fault None later others job is = is
 
@@ -65,13 +65,13 @@ unfolding job_from no_input two_inputs two_vtrees number_range with_script file_
 job_from_rows parsed =
     let job = job_of_parsed parsed in
     let names = name_of_both (parsed option.OutVtree) (parsed option.OutSdd) in
-    tested _ _ _ (drop 1 (rows parsed)) job
-    (tested _ _ _ (drop 2 (rows parsed)) job
-    (tested _ _ _ (drop 3 (rows parsed)) job
+    tested _ fault.NoInput _ (drop 1 (rows parsed)) job
+    (tested _ fault.TwoInputs _ (drop 2 (rows parsed)) job
+    (tested _ fault.TwoVtrees _ (drop 3 (rows parsed)) job
     (looked_for fault.NumberRange _ _ (drop 4 (rows parsed)) job
     (looked_for fault.WithScript _ _ (drop 5 (rows parsed)) job
     (looked_for fault.FileTwice names _ (drop 6 (rows parsed)) job
-    (tested _ _ _ (drop 7 (rows parsed)) job
+    (tested _ fault.StartUnknown _ (drop 7 (rows parsed)) job
     (looked_for fault.EmptyName _ _ [] job refl))
     ∙ ap (λ (f : Option WordsFault). unless (first_some (f ∷ drop 6 (rows parsed))) job)
     (twice (parsed option.OutVtree) (parsed option.OutSdd)))))))
@@ -130,24 +130,24 @@ not_empty : (kinds : Kinds) → kinds ≢ [] → is_empty kinds ≡ false
 not_empty [] some = absurd (some refl)
 not_empty (k ∷ ks) some = search (rules, nat_tests)
 
-by_test : (taken : Bool) (job : Result Job WordsFault)
-    → (fault_if (not taken) fault.Usage >> job) ≡ (if taken then job else Err fault.Usage)
+by_test : (taken : Bool) (job : Result Job (List ℕ))
+    → (fault_if (not taken) (codes "usage") >> job) ≡ (if taken then job else Err (codes "usage"))
 by_test true job = refl
 by_test false job = refl
 
 -- the job of the words, where `clap` takes them
 job_of_taken : (words : List Text)
-    → job_of words ≡ (if accepts words then job_from (parsed_by words) else Err fault.Usage)
+    → job_of words ≡ (if accepts words then job_from (parsed_by words) else Err (codes "usage"))
 unfolding job_of usage_faults
 job_of_taken words = by_test (accepts words) (job_from (parsed_by words))
 
 -- and by the rows
 pub job_of_rows : (words : List Text)
     → job_of words ≡ (if accepts words
-    then unless (first_some (rows (parsed_by words))) (job_of_parsed (parsed_by words)) else Err fault.Usage)
+    then unless (first_some (rows (parsed_by words))) (job_of_parsed (parsed_by words)) else Err (codes "usage"))
 job_of_rows words =
     job_of_taken words
-    ∙ ap (λ (job : Result Job WordsFault). if accepts words then job else Err fault.Usage)
+    ∙ ap (λ (job : Result Job (List ℕ)). if accepts words then job else Err (codes "usage"))
     (job_from_rows (parsed_by words))
 
 parsed_rows : (words : List Text) → parsed_by words ≡ parsed_in (rows_found (handed words))
@@ -155,7 +155,7 @@ unfolding parsed_by rows_found
 parsed_rows words = refl
 
 -- words that `clap` refuses are `Usage`
-pub usage : (words all : List Text) → all ≡ handed words → usage_faults all ≢ [] → job_of words ≡ Err fault.Usage
+pub usage : (words all : List Text) → all ≡ handed words → usage_faults all ≢ [] → job_of words ≡ Err (codes "usage")
 usage words all is some =
     job_of_taken words
     ∙ rw (not_empty (usage_faults (handed words)) (λ e. some (ap usage_faults is ∙ e))) refl

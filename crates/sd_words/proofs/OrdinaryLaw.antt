@@ -1,5 +1,5 @@
 -- The ordinary words are accepted, and each option has the value that they give it.
-use Rattle.std.proofs.Common.{◌≡◌, ◌∙◌, ◌||◌, Bool, cond, ap, refl, true, false, subst}
+use Rattle.std.proofs.Common.{◌≡◌, ◌∙◌, ◌||◌, ℕ, Bool, cond, ap, refl, true, false, subst}
 use Rattle.std.proofs.Common.{List, [], ◌∷◌, map, None, Result}
 use Rattle.std.specs.Prelude.{fold}
 use Rattle.std.specs.List.{list_all}
@@ -127,5 +127,5 @@ job_of_words_of settings once spelled =
 pub answers_ordinary : (words : List Text) (r : Result Job WordsFault) → Answers (job_of words) r
     → (settings : List Setting) → Spells settings words → Answers (job_from (setting_of settings)) r
 answers_ordinary words r answer settings spells =
-    subst (λ (a : Result Job WordsFault). Answers a r)
+    subst (λ (a : Result Job (List ℕ)). Answers a r)
     (ap job_of spells.written ∙ job_of_words_of settings spells.once spells.spelled) answer

@@ -1,5 +1,5 @@
--- The job that the words of a call stand for, or the first fault in them.
-use Rattle.std.specs.Prelude.{◌≡◌, ◌⊎◌, ℕ, false, not, ◌&&◌, ◌==◌, nat_le, codes, List, ◌∷◌, count_by, find}
+-- The job that the words of a call stand for, or the text of the first fault in them.
+use Rattle.std.specs.Prelude.{◌≡◌, ◌⊎◌, ℕ, false, not, ◌&&◌, ◌==◌, nat_le, codes, List, ◌∷◌, ◌++◌, count_by, find}
 use Rattle.std.specs.Prelude.{Result, Ok, Err, MatchResult, is_some, Option, Some, None, unwrap_or}
 use Rattle.std.specs.Bool.{then_some}
 use Rattle.std.specs.Option.{option_and_then, option_flatten, option_map_or, option_zip}
@@ -10,7 +10,8 @@ use Rattle.sd_base.specs.Reading.{◌>>◌, fault_if, fault_for}
 use Rattle.sd_words.specs.Command.{parsed_by, sddc}
 use Rattle.sd_words.specs.ParsedOptions.{ParsedOptions, fails, first_beside, generated, has_bad_number}
 use Rattle.sd_words.specs.ParsedOptions.{has_option, option_number, start_of}
-use Rattle.sd_words.specs.Options.{files, inputs, number_options, replaced_by_script}
+use Rattle.sd_words.specs.Options.{files, inputs, number_options, replaced_by_script, word_of}
+use Rattle.sd_words.specs.Rows.{words_fault_text}
 use Rattle.sd_words.specs.declared.jobs.InputWord.{InputWord}
 use Rattle.sd_words.specs.declared.jobs.InputWord.TheVariants as input
 use Rattle.sd_words.specs.declared.jobs.TreeWord.{TreeWord}
@@ -49,36 +50,37 @@ job_of_parsed parsed = record {
 abbrev pub name_of_both : Option Text → Option Text → Option Text
 name_of_both a b = option_and_then (λ (x, y). then_some (bytes_eq x y) x) (option_zip a b)
 
--- The job, or the first fault of the values. Where several options have the same fault, the first is named.
-unfoldable pub job_from : ParsedOptions → Result Job WordsFault
+-- The job, or the first fault of the values, as the line of the end tells it. Where several options have the same
+-- fault, the first is named.
+unfoldable pub job_from : ParsedOptions → Result Job (List ℕ)
 job_from parsed = do
   -- of `--cnf`, `--dnf` and `--generate` one is there
-  fault_if (count_by (has_option parsed) inputs == 0) fault.NoInput
-  fault_if (nat_le 2 (count_by (has_option parsed) inputs)) fault.TwoInputs
+  fault_if (count_by (has_option parsed) inputs == 0) (codes "no input")
+  fault_if (nat_le 2 (count_by (has_option parsed) inputs)) (codes "two inputs")
   -- `--vtree` and `--start` are not both there
-  fault_if (has_option parsed option.Vtree && has_option parsed option.Start) fault.TwoVtrees
+  fault_if (has_option parsed option.Vtree && has_option parsed option.Start) (codes "two vtrees")
   -- each number is as it has to be
-  fault_for fault.NumberRange (find (has_bad_number parsed) number_options)
+  fault_for (λ o. codes "number out of range: --" ++ word_of o) (find (has_bad_number parsed) number_options)
   -- `--script` is not there with an option that it stands in place of
-  fault_for fault.WithScript (first_beside option.Script replaced_by_script parsed)
+  fault_for (λ o. codes "not with --script: --" ++ word_of o) (first_beside option.Script replaced_by_script parsed)
   -- `--out-vtree` and `--out-sdd` do not name the same bytes
-  fault_for fault.FileTwice (name_of_both (parsed option.OutVtree) (parsed option.OutSdd))
+  fault_for (λ name. codes "file named twice: " ++ name) (name_of_both (parsed option.OutVtree) (parsed option.OutSdd))
   -- the value of `--start` is `balanced`, `right` or `left`
-  fault_if (fails start_of (parsed option.Start)) fault.StartUnknown
+  fault_if (fails start_of (parsed option.Start)) (codes "start unknown")
   -- no name of a file is empty
-  fault_for fault.EmptyName (find (λ o. option_map_or is_empty (parsed o) false) files)
+  fault_for (λ o. codes "empty name: --" ++ word_of o) (find (λ o. option_map_or is_empty (parsed o) false) files)
   Ok (job_of_parsed parsed)
 
 -- the same of the words, where `clap` finds nothing wrong with them behind the program's name
-unfoldable pub job_of : List Text → Result Job WordsFault
+unfoldable pub job_of : List Text → Result Job (List ℕ)
 job_of words = do
-  fault_if (not (is_empty (fault_of sddc (codes "sddc" ∷ words)))) fault.Usage
+  fault_if (not (is_empty (fault_of sddc (codes "sddc" ∷ words)))) (codes "usage")
   job_from (parsed_by words)
 
--- the result is this answer, or memory ran out
-abbrev pub Answers : {T : Type 0} → Result T WordsFault → Result T WordsFault → Type 0
+-- the result is this answer, where a fault has its text, or memory ran out
+abbrev pub Answers : {T : Type 0} → Result T (List ℕ) → Result T WordsFault → Type 0
 Answers answer result = MatchResult result (λ x. answer ≡ Ok x)
-    (λ f. (f ≡ fault.OutOfMemory) ⊎ (answer ≡ Err f))
+    (λ f. (f ≡ fault.OutOfMemory) ⊎ (answer ≡ Err (words_fault_text f)))
 
 -- ---- for the contracts of private functions, and for proofs
 
@@ -86,7 +88,7 @@ Answers answer result = MatchResult result (λ x. answer ≡ Ok x)
 abbrev pub first_some : List (Option WordsFault) → Option WordsFault
 first_some faults = option_flatten (find is_some faults)
 
--- the fault, or where there is none the value
-abbrev pub unless : {T : Type 0} → Option WordsFault → T → Result T WordsFault
-unless (Some f) _ = Err f
+-- the text of the fault, or where there is none the value
+abbrev pub unless : {T : Type 0} → Option WordsFault → T → Result T (List ℕ)
+unless (Some f) _ = Err (words_fault_text f)
 unless None x = Ok x

@@ -1,16 +1,29 @@
--- The tests of the values, one by one, for the contracts of private functions.
-use Rattle.std.specs.Prelude.{◌&&◌, ◌==◌, Bool, List, [], ◌∷◌, count_by, find, if◌then◌else◌, nat_le}
+-- The tests of the values, one by one, and the texts of their faults, for the contracts of private functions.
+use Rattle.std.specs.Prelude.{◌&&◌, ◌==◌, ℕ, Bool, List, [], ◌∷◌, ◌++◌, codes, count_by, find, if◌then◌else◌, nat_le}
 use Rattle.std.specs.Prelude.{Option, Some, None, option_map}
 use Rattle.std.specs.Option.{option_and_then, option_zip}
 use Rattle.std.specs.Str.{bytes_eq}
 use Rattle.clap.specs.Walk.{Text, is_empty}
 use Rattle.sd_words.specs.ParsedOptions.{ParsedOptions, fails, first_beside, has_option, has_bad_number}
 use Rattle.sd_words.specs.ParsedOptions.{has_that, start_of}
-use Rattle.sd_words.specs.Options.{files, inputs, number_options, replaced_by_script}
+use Rattle.sd_words.specs.Options.{files, inputs, number_options, replaced_by_script, word_of}
 use Rattle.sd_words.specs.declared.options.OptionName.{OptionName}
 use Rattle.sd_words.specs.declared.options.OptionName.TheVariants as option
 use Rattle.sd_words.specs.declared.faults.WordsFault.{WordsFault}
 use Rattle.sd_words.specs.declared.faults.WordsFault.TheVariants as fault
+
+-- the text of a fault of the words
+abbrev pub words_fault_text : WordsFault → List ℕ
+words_fault_text fault.Usage = codes "usage"
+words_fault_text fault.NoInput = codes "no input"
+words_fault_text fault.TwoInputs = codes "two inputs"
+words_fault_text fault.TwoVtrees = codes "two vtrees"
+words_fault_text (fault.NumberRange option) = codes "number out of range: --" ++ word_of option
+words_fault_text (fault.WithScript option) = codes "not with --script: --" ++ word_of option
+words_fault_text (fault.FileTwice name) = codes "file named twice: " ++ name
+words_fault_text fault.StartUnknown = codes "start unknown"
+words_fault_text (fault.EmptyName option) = codes "empty name: --" ++ word_of option
+words_fault_text fault.OutOfMemory = []
 
 -- the fault, where the test says so
 abbrev pub fault_where : Bool → WordsFault → Option WordsFault

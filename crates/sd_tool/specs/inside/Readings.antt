@@ -17,7 +17,6 @@ use Rattle.sd_words.specs.JobOf.{job_of}
 use Rattle.sd_words.specs.declared.jobs.Job.{Job}
 use Rattle.sd_words.specs.declared.jobs.InputWord.{InputWord}
 use Rattle.sd_words.specs.declared.jobs.InputWord.TheVariants as inputs
-use Rattle.sd_words.specs.declared.faults.WordsFault.{WordsFault}
 use Rattle.sd_commands.specs.declared.command.NumberedCommand.{NumberedCommand}
 use Rattle.sd_commands.specs.declared.command.RunCommand.{RunCommand}
 use Rattle.sd_commands.specs.declared.command.RunCommand.TheVariants as commands
@@ -25,8 +24,7 @@ use Rattle.sd_script.specs.declared.command.Command.{Command as Line}
 use Rattle.sd_tool.specs.Readings.{Reading, Refuses, or_refused, with_lines, with_tree, with_tree_word}
 use Rattle.sd_tool.specs.Readings.{with_input_word}
 use Rattle.sd_tool.specs.Written.{IsFormulaOf}
-use Rattle.sd_tool.specs.Refusals.{words_fault_text, formula_fault_text, vtree_fault_text, sdd_fault_text}
-use Rattle.sd_tool.specs.Refusals.{script_fault_text}
+use Rattle.sd_tool.specs.Refusals.{formula_fault_text, vtree_fault_text, sdd_fault_text, script_fault_text}
 
 -- a command for a file that is there
 abbrev pub for_file : (List ℕ → RunCommand) → Option (List ℕ) → List RunCommand
@@ -101,8 +99,8 @@ with_input job input text =
     parsed 2 formula_fault_text (dimacs input.kind) input.file (λ formula. with_tree_word job formula job.tree) text
 
 -- words that were read
-abbrev pub with_job : Result Job WordsFault → Reading
-with_job read = or_refused 1 [] words_fault_text (λ job. with_input_word job job.input) read
+abbrev pub with_job : Result Job (List ℕ) → Reading
+with_job read = or_refused 1 [] (λ text. text) (λ job. with_input_word job job.input) read
 
 -- the words, without a script, ask for this formula
 pub record IsInput (words : List (List ℕ)) (files : Files) (job : Job) (formula : Groups) : Type 0 where

@@ -5,6 +5,7 @@ use Rattle.std.proofs.lemmas.Result.{err_from_is_err_and}
 use Rattle.clap.specs.Walk.{Text}
 use Rattle.sd_words.specs.Command.{handed}
 use Rattle.sd_words.specs.JobOf.{Answers, job_of}
+use Rattle.sd_words.specs.Rows.{words_fault_text}
 use Rattle.sd_words.specs.declared.faults.WordsFault.{WordsFault}
 use Rattle.sd_words.proofs.JobLemmas.{accepted, usage}
 use Rattle.sd_words.proofs.OrdinaryLaw.{answers_ordinary}
@@ -29,7 +30,7 @@ returns-in_err-options c =
     let answer : Answers (job_of words) r = rw p.1 (elim c.in_err-options.ensures.refused [
       | inl memory ↦ inl (p.2 ∙ memory)
       | inr (is_usage, some) ↦
-          inr (usage words all is some ∙ ap (λ (f : WordsFault). Err f) (sym (p.2 ∙ is_usage)))
+          inr (usage words all is some ∙ ap (λ (f : WordsFault). Err (words_fault_text f)) (sym (p.2 ∙ is_usage)))
     ]) in
     record { answer = answer; ordinary = answers_ordinary words r answer }
 
