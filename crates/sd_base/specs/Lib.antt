@@ -1,5 +1,6 @@
 pub mod Asked
 pub mod Faults
+pub mod FaultTexts
 pub mod Files
 pub mod Lines
 pub mod Memory
