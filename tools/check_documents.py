@@ -55,10 +55,20 @@ def check_options():
         expect(said in table.get("`--%s`" % name.lower(), ["", ""])[1], "README.md: --%s, %s" % (name.lower(), said))
 
 
+# The functions by cases over faults that give their texts, and the files in which they stand.
+FAULT_TEXTS = {
+    "formula_fault_text": "crates/sd_formula/specs/Dimacs.antt",
+    "vtree_fault_text": "crates/sd_vfile/specs/Reads.antt",
+    "sdd_fault_text": "crates/sd_file/specs/Reads.antt",
+    "script_fault_text": "crates/sd_script/specs/Faults.antt",
+    "words_fault_text": "crates/sd_words/specs/Rows.antt",
+}
+
+
 def texts_defined(definition):
-    """The texts of a function by cases over faults, with # for each number."""
+    """The texts of such a function, with # for each number."""
     texts = set()
-    specs = text_of("crates/sd_tool/specs/Refusals.antt")
+    specs = text_of(FAULT_TEXTS[definition])
     for line in re.findall(r"^%s .*? = (.*)$" % definition, specs, re.M):
         if line == "[]":
             continue

@@ -1,17 +1,17 @@
 -- What a reader keeps are literals in range.
 use Rattle.std.proofs.Common.{◌≡◌, ℕ, ◌≤◌, true, not, ◌&&◌, ltb, List, [], ◌∷◌, ◌++◌, ℤ, unsigned_abs}
-use Rattle.std.proofs.Common.{Option, Some, None, ok_or, Result, Ok, Err, refl, subst, arith, inl, inr}
+use Rattle.std.proofs.Common.{Option, Some, None, Result, Ok, Err, refl, subst, arith, inl, inr}
 use Rattle.std.specs.List.{AllByRecursion}
 use Rattle.std.proofs.lemmas.Bool.{cases_Bool, and_parts, ltb-false, eqb-false}
 use Rattle.sd_base.specs.Numbers.{integer_value}
-use Rattle.sd_base.specs.Reading.{◌>>=◌, ◌>>◌, fault_if}
-use Rattle.sd_formula.specs.declared.error.FormulaError.{FormulaError}
-use Rattle.sd_formula.specs.declared.error.FormulaError.TheVariants.{BadWord, LiteralRange}
+use Rattle.sd_base.specs.Reading.{◌>>=◌}
+use Rattle.sd_formula.specs.declared.error.FormulaError.TheVariants.{LiteralRange}
 use Rattle.sd_formula.specs.declared.formula.Kind.{Kind}
 use Rattle.sd_formula.specs.declared.formula.Kind.TheVariants.{Cnf, Dnf}
-use Rattle.sd_formula.specs.Dimacs.{BodyWord, literal_of_word, is_zero, is_mark, has_begun}
+use Rattle.sd_formula.specs.Dimacs.{BodyWord, literal_of_word, is_zero, is_mark, has_begun, formula_fault_text}
 use Rattle.sd_formula.specs.Formulas.{IsLiteral, IsGroup}
 use Rattle.sd_formula.specs.Steps.{Parts, no_group, marked, put_literal, literal_read, put_word, put_words, PartsFit}
+use Rattle.sd_formula.proofs.PartsLaws.{done, in_range}
 
 -- what holds of each element of a list, and of one more
 pub all_push : {X : Type 0} (P : X → Type 0) (xs : List X) (x : X) → AllByRecursion P xs → P x
@@ -40,16 +40,11 @@ put_fits kind v p z small fit = elim (cases_Bool (is_zero z)) [
       })
 ]
 
-abbrev done : {A : Type 0} → A → Result A FormulaError
-done x = Ok x
-
 -- a literal that was read is in range
-small_after : (v line : ℕ) (o : Option ℤ) (z : ℤ)
-    → (ok_or o (BadWord line) >>= λ y. fault_if (ltb v (unsigned_abs y)) (LiteralRange line y) >> Ok y) ≡ Ok z
-    → unsigned_abs z ≤ v
+small_after : (v line : ℕ) (o : Option ℤ) (z : ℤ) → in_range v line o ≡ Ok z → unsigned_abs z ≤ v
 small_after v line None z e = absurd cc
 small_after v line (Some y) z e = elim (cases_Bool (ltb v (unsigned_abs y))) [
-  | inl past ↦ let refused : Err (LiteralRange line y) ≡ Ok z = rw past at e in absurd cc
+  | inl past ↦ let refused : Err (formula_fault_text (LiteralRange line y)) ≡ Ok z = rw past at e in absurd cc
   | inr within ↦
       let same : done y ≡ done z = rw within at e in
       let is : y ≡ z = cc in
@@ -57,7 +52,7 @@ small_after v line (Some y) z e = elim (cases_Bool (ltb v (unsigned_abs y))) [
 ]
 
 -- what is put of a literal that was read fits
-read_fits : (kind : Kind) (v : ℕ) (p q : Parts) (r : Result ℤ FormulaError) → PartsFit kind v p
+read_fits : (kind : Kind) (v : ℕ) (p q : Parts) (r : Result ℤ (List ℕ)) → PartsFit kind v p
     → ((z : ℤ) → r ≡ Ok z → unsigned_abs z ≤ v) → (r >>= λ z. Ok (put_literal p z)) ≡ Ok q → PartsFit kind v q
 read_fits kind v p q (Ok z) fit small e =
     let same : done (put_literal p z) ≡ done q = e in
@@ -87,7 +82,7 @@ word_fits kind v p q word fit e = elim (cases_Bool (is_mark kind word && not (ha
       (λ z is. small_after v word.line (integer_value word.bytes) z is) read
 ]
 
-words_fit_after : (kind : Kind) (v : ℕ) (p q : Parts) (r : Result Parts FormulaError) (words : List BodyWord)
+words_fit_after : (kind : Kind) (v : ℕ) (p q : Parts) (r : Result Parts (List ℕ)) (words : List BodyWord)
     → ((x : Parts) → r ≡ Ok x → PartsFit kind v x)
     → ((x : Parts) → PartsFit kind v x → put_words kind v x words ≡ Ok q → PartsFit kind v q)
     → (r >>= λ x. put_words kind v x words) ≡ Ok q → PartsFit kind v q

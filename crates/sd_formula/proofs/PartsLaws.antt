@@ -12,17 +12,22 @@ use Rattle.sd_base.specs.Numbers.{integer_value}
 use Rattle.sd_base.specs.Reading.{◌>>=◌, ◌>>◌, fault_if, each}
 use Rattle.sd_base.proofs.Pieces.{split_is_filled}
 use Rattle.sd_model.specs.Expression.{Group}
-use Rattle.sd_formula.specs.declared.error.FormulaError.{FormulaError}
 use Rattle.sd_formula.specs.declared.error.FormulaError.TheVariants.{BadWord, LiteralRange}
 use Rattle.sd_formula.specs.declared.formula.Kind.{Kind}
 use Rattle.sd_formula.specs.declared.formula.Kind.TheVariants.{Cnf, Dnf}
 use Rattle.sd_formula.specs.Dimacs.{BodyWord, literal_of_word, group_of_words, has_begun}
-use Rattle.sd_formula.specs.Dimacs.{is_mark, is_zero, ends, is_end}
+use Rattle.sd_formula.specs.Dimacs.{is_mark, is_zero, ends, is_end, formula_fault_text}
 use Rattle.sd_formula.specs.Steps.{Parts, no_group, no_parts, ended, put_literal}
 use Rattle.sd_formula.specs.Steps.{put_word, put_words, all_groups}
 
-abbrev done : {A : Type 0} → A → Result A FormulaError
+abbrev pub done : {A : Type 0} → A → Result A (List ℕ)
 done x = Ok x
+
+-- the literal, or the zero, of what was read of a word of a line
+abbrev pub in_range : ℕ → ℕ → Option ℤ → Result ℤ (List ℕ)
+in_range v line read =
+    ok_or read (formula_fault_text (BadWord line))
+    >>= λ z. fault_if (ltb v (unsigned_abs z)) (formula_fault_text (LiteralRange line z)) >> Ok z
 
 -- ---- the group in hand, and the words behind it
 
@@ -52,12 +57,12 @@ begun_more false (x ∷ zs) z =
     ]
 
 -- the words as further literals of a group
-abbrev literals_behind : ℕ → Group → List BodyWord → Result Group FormulaError
+abbrev literals_behind : ℕ → Group → List BodyWord → Result Group (List ℕ)
 literals_behind v o words =
     each (literal_of_word v) words >>= λ zs. Ok (record { exclusive = o.exclusive; literals = o.literals ++ zs })
 
 -- the group in hand with the words up to the next zero
-abbrev goes_on : Kind → ℕ → Group → List BodyWord → Result Group FormulaError
+abbrev goes_on : Kind → ℕ → Group → List BodyWord → Result Group (List ℕ)
 goes_on kind v o words = if has_begun o then literals_behind v o words else group_of_words kind v words
 
 -- no words are left for it
@@ -88,18 +93,18 @@ go_literal kind v o w ws other = elim (cases_Bool (has_begun o)) [
 -- ---- the parts so far, and the words behind them
 
 -- the groups before, one more, and those after it
-abbrev with_more : List Group → Result Group FormulaError → Result (List Group) FormulaError
-    → Result (List Group) FormulaError
+abbrev with_more : List Group → Result Group (List ℕ) → Result (List Group) (List ℕ)
+    → Result (List Group) (List ℕ)
 with_more closed r rs = r >>= λ g. rs >>= λ gs. Ok (closed ++ g ∷ gs)
 
 -- the parts with the words behind them, which are cut at zeros
-abbrev resumed : Kind → ℕ → Parts → List (List BodyWord) → Result (List Group) FormulaError
+abbrev resumed : Kind → ℕ → Parts → List (List BodyWord) → Result (List Group) (List ℕ)
 resumed kind v p [] = Ok p.closed
 resumed kind v p (part ∷ parts) =
     with_more p.closed (goes_on kind v p.open_part part) (each (group_of_words kind v) parts)
 
 -- a literal that was read is put before the others
-literal_more : (kind : Kind) (v : ℕ) (p : Parts) (r : Result ℤ FormulaError) (part : List BodyWord)
+literal_more : (kind : Kind) (v : ℕ) (p : Parts) (r : Result ℤ (List ℕ)) (part : List BodyWord)
     (parts : List (List BodyWord)) → ((z : ℤ) → r ≡ Ok z → is_zero z ≡ false)
     → ((r >>= λ z. done (put_literal p z)) >>= λ q. resumed kind v q (part ∷ parts))
     ≡ with_more p.closed ((r >>= λ z. each (literal_of_word v) part >>= λ zs. done (z ∷ zs)) >>= λ zs.
@@ -110,7 +115,7 @@ literal_more kind v p (Ok z) part parts other =
     rw (other z refl, begun_more p.open_part.exclusive p.open_part.literals z)
     (regroup (each (literal_of_word v) part))
   where
-    regroup : (r : Result (List ℤ) FormulaError) →
+    regroup : (r : Result (List ℤ) (List ℕ)) →
         with_more p.closed (r >>= λ zs.
         done (record { exclusive = p.open_part.exclusive; literals = (p.open_part.literals ++ z ∷ []) ++ zs }))
         (each (group_of_words kind v) parts)
@@ -123,12 +128,10 @@ literal_more kind v p (Ok z) part parts other =
         (each (group_of_words kind v) parts)) (append_assoc p.open_part.literals (z ∷ []) zs)
 
 -- what was read of a word that ends no group is not zero
-not_zero : (v line : ℕ) (o : Option ℤ) (z : ℤ) → ends o ≡ false
-    → (ok_or o (BadWord line) >>= λ y. fault_if (ltb v (unsigned_abs y)) (LiteralRange line y) >> done y) ≡ Ok z
-    → is_zero z ≡ false
+not_zero : (v line : ℕ) (o : Option ℤ) (z : ℤ) → ends o ≡ false → in_range v line o ≡ Ok z → is_zero z ≡ false
 not_zero v line None z other e = absurd cc
 not_zero v line (Some y) z other e = elim (cases_Bool (ltb v (unsigned_abs y))) [
-  | inl past ↦ let refused : Err (LiteralRange line y) ≡ Ok z = rw past at e in absurd cc
+  | inl past ↦ let refused : Err (formula_fault_text (LiteralRange line y)) ≡ Ok z = rw past at e in absurd cc
   | inr within ↦
       let same : done y ≡ done z = rw within at e in
       let is : y ≡ z = cc in
@@ -158,8 +161,7 @@ word_more kind v p w part parts other = elim (cases_Bool (is_mark kind w && not 
 -- ---- a zero
 
 zero_read : (v line : ℕ) (o : Option ℤ) (p : Parts) → ends o ≡ true
-    → ((ok_or o (BadWord line) >>= λ y. fault_if (ltb v (unsigned_abs y)) (LiteralRange line y) >> done y)
-    >>= λ z. done (put_literal p z)) ≡ Ok (ended p)
+    → (in_range v line o >>= λ z. done (put_literal p z)) ≡ Ok (ended p)
 zero_read v line None p is = absurd cc
 zero_read v line (Some z) p is = elim (cases_Bool (ltb v (unsigned_abs z))) [
   | inl past ↦ absurd (omega (arith, eqb-true (unsigned_abs z) 0 is, ltb-true v (unsigned_abs z) past))
@@ -191,7 +193,7 @@ end_more kind v p (part ∷ parts) h =
     ∙ sym (ap (λ g. with_more p.closed g (each (group_of_words kind v) (part ∷ parts)))
     (goes_nowhere kind v p.open_part))
   where
-    go : (r : Result Group FormulaError) (rs : Result (List Group) FormulaError)
+    go : (r : Result Group (List ℕ)) (rs : Result (List Group) (List ℕ))
         → with_more (p.closed ++ p.open_part ∷ []) r rs
         ≡ with_more p.closed (Ok p.open_part) (r >>= λ g. rs >>= λ gs. done (g ∷ gs))
     go (Err e) rs = refl
@@ -208,7 +210,7 @@ onto_more kind v p w [] h other = absurd (omega arith)
 onto_more kind v p w (part ∷ parts) h other = word_more kind v p w part parts other
 
 -- the groups of the parts with these words
-abbrev all_put : Kind → ℕ → Parts → List BodyWord → Result (List Group) FormulaError
+abbrev all_put : Kind → ℕ → Parts → List BodyWord → Result (List Group) (List ℕ)
 all_put kind v p words = put_words kind v p words >>= λ q. Ok (all_groups q)
 
 -- putting word by word is reading the parts between zeros
@@ -227,7 +229,7 @@ puts_are kind v p (w ∷ ws) = elim (cases_Bool (is_end w)) [
       rw other (later ∙ behind)
 ]
   where
-    after : (r : Result Parts FormulaError)
+    after : (r : Result Parts (List ℕ))
         → ((q : Parts) → all_put kind v q ws ≡ resumed kind v q (slice_split is_end ws))
         → ((r >>= λ q. put_words kind v q ws) >>= λ q. done (all_groups q))
         ≡ (r >>= λ q. resumed kind v q (slice_split is_end ws))
@@ -242,14 +244,14 @@ from_none kind v (part ∷ parts) h = refl
 
 -- what comes after the words sees the groups of the whole list of words
 pub by_parts : {Y : Type 0} (kind : Kind) (v : ℕ) (words : List BodyWord)
-    (next : List Group → Result Y FormulaError) → (each (group_of_words kind v) (slice_split is_end words) >>= next)
+    (next : List Group → Result Y (List ℕ)) → (each (group_of_words kind v) (slice_split is_end words) >>= next)
     ≡ (put_words kind v no_parts words >>= λ p. next (all_groups p))
 by_parts kind v words next =
     let filled = split_is_filled is_end words in
     let whole = puts_are kind v no_parts words ∙ from_none kind v (slice_split is_end words) filled in
     sym (ap (λ r. r >>= next) whole) ∙ at (put_words kind v no_parts words)
   where
-    at : (r : Result Parts FormulaError)
+    at : (r : Result Parts (List ℕ))
         → ((r >>= λ p. done (all_groups p)) >>= next) ≡ (r >>= λ p. next (all_groups p))
     at (Ok p) = refl
     at (Err e) = refl

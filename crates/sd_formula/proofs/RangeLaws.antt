@@ -8,10 +8,9 @@ use Rattle.std.specs.List.{AllByRecursion, flat_map, last_or}
 use Rattle.sd_base.specs.Lines.{TextLine, content_of}
 use Rattle.sd_base.specs.Reading.{◌>>=◌, ◌>>◌, fault_if}
 use Rattle.sd_formula.specs.declared.formula.Kind.{Kind}
-use Rattle.sd_formula.specs.declared.error.FormulaError.TheVariants.{NoHeader, BadHeader, VariablesRange}
-use Rattle.sd_formula.specs.declared.error.FormulaError.TheVariants.{Unterminated, CountDiffers, TooManyGroups}
+use Rattle.sd_formula.specs.declared.error.FormulaError.TheVariants.{BadHeader}
 use Rattle.sd_formula.specs.Dimacs.{Groups, Stated, dimacs, formula_of, header_of, counts_in_range}
-use Rattle.sd_formula.specs.Dimacs.{numbers_of, is_header}
+use Rattle.sd_formula.specs.Dimacs.{numbers_of, is_header, formula_fault_text}
 use Rattle.sd_formula.specs.Dimacs.{groups_of, body_of, all_but_last, has_begun, pieces_of}
 use Rattle.sd_formula.specs.Formulas.{IsGroup, IsFormula}
 use Rattle.sd_formula.specs.Steps.{Parts, no_parts, put_words, all_groups, InRange, PartsFit}
@@ -41,9 +40,8 @@ numbers_fit : (s t : Stated) → counts_in_range s ≡ Ok t → InRange t
 numbers_fit s t e =
     let low = nat_le 1 s.variables in
     let high = nat_le s.variables 1024 in
-    let first = past (not (low && high)) (VariablesRange s.variables)
-    (fault_if (nat_lt 1000000 s.groups) (TooManyGroups s.groups) >> Ok s) t e in
-    let second = past (nat_lt 1000000 s.groups) (TooManyGroups s.groups) (Ok s) t first.1 in
+    let first = past (not (low && high)) _ _ t e in
+    let second = past (nat_lt 1000000 s.groups) _ (Ok s) t first.1 in
     let within = and_parts low high (not-false (low && high) first.0) in
     let is : s ≡ t = (let same = second.1 in cc) in
     let fits : InRange s = record {
@@ -55,8 +53,8 @@ numbers_fit s t e =
 
 header_fits : (kind : Kind) (line : TextLine) (t : Stated) → header_of kind line ≡ Ok t → InRange t
 header_fits kind line t e =
-    let numbers = ok_or (numbers_of kind (drop 1 line.words)) (BadHeader line.number) in
-    let first = past (not (is_header line.words)) NoHeader (numbers >>= counts_in_range) t e in
+    let numbers = ok_or (numbers_of kind (drop 1 line.words)) (formula_fault_text (BadHeader line.number)) in
+    let first = past (not (is_header line.words)) _ (numbers >>= counts_in_range) t e in
     let second = through numbers counts_in_range t first.1 in
     numbers_fit second.middle t second.led
 
@@ -67,9 +65,8 @@ groups_fit kind s p f range fit e =
     let groups = all_but_last (all_groups p) in
     let formula : Groups = record { kind = kind; variables = s.variables; groups = groups } in
     let same = s.groups == length groups in
-    let first = past (option_map_or has_begun (last_or None (all_groups p)) false) Unterminated
-    (fault_if (not same) (CountDiffers s.groups (length groups)) >> Ok formula) f e in
-    let second = past (not same) (CountDiffers s.groups (length groups)) (Ok formula) f first.1 in
+    let first = past (option_map_or has_begun (last_or None (all_groups p)) false) _ _ f e in
+    let second = past (not same) _ (Ok formula) f first.1 in
     let whole : Ok formula ≡ Ok f = second.1 in
     let is : formula ≡ f = cc in
     let count = eqb-true s.groups (length groups) (not-false same second.0) in

@@ -45,7 +45,7 @@ pub put_words_append : (kind : Kind) (v : ℕ) (p : Parts) (xs ys : List BodyWor
 put_words_append kind v p [] ys = refl
 put_words_append kind v p (x ∷ xs) ys = after (put_word kind v p x) (λ q. put_words_append kind v q xs ys)
   where
-    after : (r : Result Parts FormulaError)
+    after : (r : Result Parts (List ℕ))
         → ((q : Parts) → put_words kind v q (xs ++ ys) ≡ (put_words kind v q xs >>= λ q. put_words kind v q ys))
         → (r >>= λ q. put_words kind v q (xs ++ ys))
         ≡ ((r >>= λ q. put_words kind v q xs) >>= λ q. put_words kind v q ys)
@@ -77,7 +77,7 @@ mark_joined Cnf v p line bytes (byte ∷ rest) mark fresh filled =
     rw (mark, fresh) second
   where
     -- no mark may stand behind the mark
-    put_joined : (mark : Bool) (r : Result Parts FormulaError)
+    put_joined : (mark : Bool) (r : Result Parts (List ℕ))
         → ((if mark && false then Ok (marked (marked p)) else r) >>= λ q. Ok q) ≡ r
     put_joined true (Ok q) = refl
     put_joined true (Err e) = refl
@@ -110,17 +110,17 @@ body_length line lines other =
 -- ---- the whole text
 
 -- a fault decides, whatever would come after it
-pub fails_then : {A B : Type 0} (e : FormulaError) (r : Result A FormulaError) (f : A → Result B FormulaError)
+pub fails_then : {A B : Type 0} (e : FormulaError) (r : Result A (List ℕ)) (f : A → Result B (List ℕ))
     → Fails e r → Fails e (r >>= f)
 fails_then OutOfMemory r f h = tt
 fails_then e r f h = ap (λ x. x >>= f) h
 
 -- what the lines of a body give
-abbrev body_parts : Kind → List TextLine → Stated → Result Parts FormulaError
+abbrev body_parts : Kind → List TextLine → Stated → Result Parts (List ℕ)
 body_parts kind lines s = put_pieces kind s.variables no_parts (body_of lines)
 
 -- the formula of a header and a body that was read into parts
-abbrev of_parts : Kind → Stated → Result Parts FormulaError → Result Groups FormulaError
+abbrev of_parts : Kind → Stated → Result Parts (List ℕ) → Result Groups (List ℕ)
 of_parts kind s reading = reading >>= λ p. groups_of kind s (all_groups p)
 
 -- the formula by way of the parts
@@ -128,7 +128,7 @@ formula_by_parts : (kind : Kind) (header : TextLine) (lines : List TextLine)
     → formula_of kind (header ∷ lines) ≡ (header_of kind header >>= λ s. of_parts kind s (body_parts kind lines s))
 formula_by_parts kind header lines = at (header_of kind header)
   where
-    at : (r : Result Stated FormulaError)
+    at : (r : Result Stated (List ℕ))
         → (r >>= λ s. each (group_of_words kind s.variables) (slice_split is_end (flat_map (pieces_of kind)
         (body_of lines))) >>= groups_of kind s)
         ≡ (r >>= λ s. of_parts kind s (body_parts kind lines s))
@@ -140,7 +140,7 @@ after_header : (kind : Kind) (content : List TextLine) (header : TextLine) (line
     → content ≡ header ∷ lines → header_of kind header ≡ Ok s
     → formula_of kind content ≡ of_parts kind s (body_parts kind lines s)
 after_header kind content header lines s at header_is =
-    let go_on = λ (r : Result Stated FormulaError). r >>= λ t. of_parts kind t (body_parts kind lines t) in
+    let go_on = λ (r : Result Stated (List ℕ)). r >>= λ t. of_parts kind t (body_parts kind lines t) in
     ap (formula_of kind) at ∙ formula_by_parts kind header lines ∙ ap go_on header_is
 
 -- the reading, where header and body have no fault

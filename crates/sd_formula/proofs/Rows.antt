@@ -2,11 +2,10 @@
 use Rattle.std.proofs.Common.{◌≡◌, true, false, ℤ, List, [], ◌∷◌, ◌++◌, refl, Ok, Err, pos, negsuc}
 use Rattle.std.specs.Prelude.{codes}
 use Rattle.sd_model.specs.Expression.{Group}
+use Rattle.sd_model.specs.Text.{number_text}
 use Rattle.sd_formula.specs.declared.formula.Kind.TheVariants.{Cnf, Dnf}
-use Rattle.sd_formula.specs.declared.error.FormulaError.TheVariants.{NoHeader, BadHeader, VariablesRange, BadWord}
-use Rattle.sd_formula.specs.declared.error.FormulaError.TheVariants.{LiteralRange, Unterminated, CountDiffers}
-use Rattle.sd_formula.specs.declared.error.FormulaError.TheVariants.{TooManyGroups}
 use Rattle.sd_formula.specs.Dimacs.{dimacs}
+use Rattle.sd_base.specs.FaultTexts.{at_line}
 use Rattle.sd_formula.specs.Generated.{generated_formula}
 
 -- literals as a group without a mark
@@ -70,146 +69,146 @@ exclusive_groups = refl
 
 -- ---- faults of the header
 
-empty : dimacs Cnf [] ≡ Err NoHeader
+empty : dimacs Cnf [] ≡ Err (codes ": no header")
 unfolding dimacs
 empty = refl
 
 -- only a comment and a blank line
-no_line : dimacs Cnf (codes "c p cnf 1 0\n \n") ≡ Err NoHeader
+no_line : dimacs Cnf (codes "c p cnf 1 0\n \n") ≡ Err (codes ": no header")
 unfolding dimacs
 no_line = refl
 
 -- compressed data
-packed : dimacs Cnf (31 ∷ codes "p cnf 2 1\n") ≡ Err NoHeader
+packed : dimacs Cnf (31 ∷ codes "p cnf 2 1\n") ≡ Err (codes ": no header")
 unfolding dimacs
 packed = refl
 
 -- a percent sign before any header
-percent_first : dimacs Cnf (codes "%\np cnf 2 0\n") ≡ Err NoHeader
+percent_first : dimacs Cnf (codes "%\np cnf 2 0\n") ≡ Err (codes ": no header")
 unfolding dimacs
 percent_first = refl
 
-other_kind : dimacs Dnf (codes "c x\np cnf 2 1\n1 2 0\n") ≡ Err (BadHeader 2)
-unfolding dimacs
+other_kind : dimacs Dnf (codes "c x\np cnf 2 1\n1 2 0\n") ≡ Err (codes ": line 2: bad header")
+unfolding dimacs number_text
 other_kind = refl
 
-five_words : dimacs Cnf (codes "p cnf 2 1 0\n") ≡ Err (BadHeader 1)
-unfolding dimacs
+five_words : dimacs Cnf (codes "p cnf 2 1 0\n") ≡ Err (codes ": line 1: bad header")
+unfolding dimacs number_text
 five_words = refl
 
-negative : dimacs Cnf (codes "p cnf 2 -1\n") ≡ Err (BadHeader 1)
-unfolding dimacs
+negative : dimacs Cnf (codes "p cnf 2 -1\n") ≡ Err (codes ": line 1: bad header")
+unfolding dimacs number_text
 negative = refl
 
-no_variables : dimacs Cnf (codes "p cnf 0 0\n") ≡ Err (VariablesRange 0)
-unfolding dimacs
+no_variables : dimacs Cnf (codes "p cnf 0 0\n") ≡ Err (codes ": variables out of range: 0")
+unfolding dimacs number_text
 no_variables = refl
 
-too_many_variables : dimacs Cnf (codes "p cnf 1025 0\n") ≡ Err (VariablesRange 1025)
-unfolding dimacs
+too_many_variables : dimacs Cnf (codes "p cnf 1025 0\n") ≡ Err (codes ": variables out of range: 1025")
+unfolding dimacs number_text
 too_many_variables = refl
 
-too_many_groups : dimacs Cnf (codes "p cnf 2 1000001\n") ≡ Err (TooManyGroups 1000001)
+too_many_groups : dimacs Cnf (codes "p cnf 2 1000001\n") ≡ Err (codes ": too many groups: " ++ number_text 1000001)
 unfolding dimacs
 too_many_groups = refl
 
 -- the number of variables is tested before that of groups, and both before the body
-variables_first : dimacs Cnf (codes "p cnf 0 1000001\n") ≡ Err (VariablesRange 0)
-unfolding dimacs
+variables_first : dimacs Cnf (codes "p cnf 0 1000001\n") ≡ Err (codes ": variables out of range: 0")
+unfolding dimacs number_text
 variables_first = refl
 
-groups_before_body : dimacs Cnf (codes "p cnf 2 1000001\nq\n") ≡ Err (TooManyGroups 1000001)
+groups_before_body : dimacs Cnf (codes "p cnf 2 1000001\nq\n") ≡ Err (codes ": too many groups: " ++ number_text 1000001)
 unfolding dimacs
 groups_before_body = refl
 
 -- ---- faults of the body
 
-out_of_range : dimacs Cnf (codes "p cnf 4 1\n1 5 0\n") ≡ Err (LiteralRange 2 (pos 5))
-unfolding dimacs
+out_of_range : dimacs Cnf (codes "p cnf 4 1\n1 5 0\n") ≡ Err (codes ": line 2: literal out of range: 5")
+unfolding dimacs number_text
 out_of_range = refl
 
 eighteen_digits : dimacs Cnf (codes "p cnf 2 1\n1 999999999999999999 0\n")
-    ≡ Err (LiteralRange 2 (pos 999999999999999999))
+    ≡ Err (at_line 2 (codes ": literal out of range: " ++ number_text 999999999999999999))
 unfolding dimacs
 eighteen_digits = refl
 
-nineteen_digits : dimacs Cnf (codes "p cnf 2 1\n1 1000000000000000000 0\n") ≡ Err (BadWord 2)
-unfolding dimacs
+nineteen_digits : dimacs Cnf (codes "p cnf 2 1\n1 1000000000000000000 0\n") ≡ Err (codes ": line 2: bad word")
+unfolding dimacs number_text
 nineteen_digits = refl
 
-second_header : dimacs Cnf (codes "p cnf 2 1\np cnf 2 1\n1 2 0\n") ≡ Err (BadWord 2)
-unfolding dimacs
+second_header : dimacs Cnf (codes "p cnf 2 1\np cnf 2 1\n1 2 0\n") ≡ Err (codes ": line 2: bad word")
+unfolding dimacs number_text
 second_header = refl
 
 -- a percent sign that is not first in its line is no integer
-percent_inside : dimacs Cnf (codes "p cnf 2 1\n1 % 0\n") ≡ Err (BadWord 2)
-unfolding dimacs
+percent_inside : dimacs Cnf (codes "p cnf 2 1\n1 % 0\n") ≡ Err (codes ": line 2: bad word")
+unfolding dimacs number_text
 percent_inside = refl
 
 -- no integer begins with a plus
-plus : dimacs Cnf (codes "p cnf 2 1\n+1 0\n") ≡ Err (BadWord 2)
-unfolding dimacs
+plus : dimacs Cnf (codes "p cnf 2 1\n+1 0\n") ≡ Err (codes ": line 2: bad word")
+unfolding dimacs number_text
 plus = refl
 
 -- the first word with a fault decides, in the order of the text
-word_by_word : dimacs Cnf (codes "p cnf 2 1\n1 -3 +2\nq\n") ≡ Err (LiteralRange 2 (negsuc 2))
-unfolding dimacs
+word_by_word : dimacs Cnf (codes "p cnf 2 1\n1 -3 +2\nq\n") ≡ Err (codes ": line 2: literal out of range: -3")
+unfolding dimacs number_text
 word_by_word = refl
 
-bad_word_first : dimacs Cnf (codes "p cnf 2 1\n1 +2 -3\n") ≡ Err (BadWord 2)
-unfolding dimacs
+bad_word_first : dimacs Cnf (codes "p cnf 2 1\n1 +2 -3\n") ≡ Err (codes ": line 2: bad word")
+unfolding dimacs number_text
 bad_word_first = refl
 
 -- a mark stands only where a group begins, and only under cnf
-mark_inside : dimacs Cnf (codes "p cnf 2 1\n1 x 2 0\n") ≡ Err (BadWord 2)
-unfolding dimacs
+mark_inside : dimacs Cnf (codes "p cnf 2 1\n1 x 2 0\n") ≡ Err (codes ": line 2: bad word")
+unfolding dimacs number_text
 mark_inside = refl
 
-two_marks : dimacs Cnf (codes "p cnf 2 1\nx x 2 0\n") ≡ Err (BadWord 2)
-unfolding dimacs
+two_marks : dimacs Cnf (codes "p cnf 2 1\nx x 2 0\n") ≡ Err (codes ": line 2: bad word")
+unfolding dimacs number_text
 two_marks = refl
 
-two_joined_marks : dimacs Cnf (codes "p cnf 2 1\nxx2 0\n") ≡ Err (BadWord 2)
-unfolding dimacs
+two_joined_marks : dimacs Cnf (codes "p cnf 2 1\nxx2 0\n") ≡ Err (codes ": line 2: bad word")
+unfolding dimacs number_text
 two_joined_marks = refl
 
-mark_of_terms : dimacs Dnf (codes "p dnf 2 1\nx 1 0\n") ≡ Err (BadWord 2)
-unfolding dimacs
+mark_of_terms : dimacs Dnf (codes "p dnf 2 1\nx 1 0\n") ≡ Err (codes ": line 2: bad word")
+unfolding dimacs number_text
 mark_of_terms = refl
 
 -- also where the number that is joined to it is out of range; at the beginning that number decides
-mark_before_number : dimacs Cnf (codes "p cnf 2 1\n1 x3 0\n") ≡ Err (BadWord 2)
-unfolding dimacs
+mark_before_number : dimacs Cnf (codes "p cnf 2 1\n1 x3 0\n") ≡ Err (codes ": line 2: bad word")
+unfolding dimacs number_text
 mark_before_number = refl
 
-number_after_mark : dimacs Cnf (codes "p cnf 2 1\nx3 0\n") ≡ Err (LiteralRange 2 (pos 3))
-unfolding dimacs
+number_after_mark : dimacs Cnf (codes "p cnf 2 1\nx3 0\n") ≡ Err (codes ": line 2: literal out of range: 3")
+unfolding dimacs number_text
 number_after_mark = refl
 
 -- a mark alone begins a group
-mark_not_ended : dimacs Cnf (codes "p cnf 2 1\nx\n%\n0\n") ≡ Err Unterminated
+mark_not_ended : dimacs Cnf (codes "p cnf 2 1\nx\n%\n0\n") ≡ Err (codes ": last group is not ended")
 unfolding dimacs
 mark_not_ended = refl
 
-not_ended : dimacs Cnf (codes "p cnf 2 1\n1 2\n") ≡ Err Unterminated
+not_ended : dimacs Cnf (codes "p cnf 2 1\n1 2\n") ≡ Err (codes ": last group is not ended")
 unfolding dimacs
 not_ended = refl
 
 -- the end is tested before the count, and a zero after a percent sign ends nothing
-not_ended_first : dimacs Cnf (codes "p cnf 2 3\n1 2 0 1\n%\n0\n") ≡ Err Unterminated
+not_ended_first : dimacs Cnf (codes "p cnf 2 3\n1 2 0 1\n%\n0\n") ≡ Err (codes ": last group is not ended")
 unfolding dimacs
 not_ended_first = refl
 
-three_stated : dimacs Cnf (codes "p cnf 2 3\n1 2 0\n-1 0\n") ≡ Err (CountDiffers 3 2)
-unfolding dimacs
+three_stated : dimacs Cnf (codes "p cnf 2 3\n1 2 0\n-1 0\n") ≡ Err (codes ": 3 stated, 2 found")
+unfolding dimacs number_text
 three_stated = refl
 
-none_found : dimacs Cnf (codes "p cnf 2 1") ≡ Err (CountDiffers 1 0)
-unfolding dimacs
+none_found : dimacs Cnf (codes "p cnf 2 1") ≡ Err (codes ": 1 stated, 0 found")
+unfolding dimacs number_text
 none_found = refl
 
-more_found : dimacs Dnf (codes "p dnf 2 0\n0 0\n") ≡ Err (CountDiffers 0 2)
-unfolding dimacs
+more_found : dimacs Dnf (codes "p dnf 2 0\n0 0\n") ≡ Err (codes ": 0 stated, 2 found")
+unfolding dimacs number_text
 more_found = refl
 
 -- ---- generated formulas

@@ -1,8 +1,8 @@
--- The formula that a text of DIMACS stands for, or its first fault.
+-- The formula that a text of DIMACS stands for, or the text of its first fault, behind the name of the file.
 use Rattle.std.specs.Prelude.{◌≡◌, ℕ, ◌-◌, Bool, true, false, not, ◌&&◌, ◌||◌, ◌==◌, nat_lt, nat_le, if◌then◌else◌}
 use Rattle.std.specs.Prelude.{codes, bytes_eq}
-use Rattle.std.specs.Prelude.{List, [], ◌∷◌, length, take, drop, filter, map, flat_map, take_while, ℤ, unsigned_abs}
-use Rattle.std.specs.Prelude.{Option, Some, None, ok_or, Result, Ok, Err}
+use Rattle.std.specs.Prelude.{List, [], ◌∷◌, ◌++◌, length, take, drop, filter, map, flat_map, take_while}
+use Rattle.std.specs.Prelude.{ℤ, unsigned_abs, Option, Some, None, ok_or, Result, Ok, Err}
 use Rattle.std.specs.Option.{option_map, option_map_or, option_zip}
 use Rattle.std.specs.List.{last_or, slice_split}
 use Rattle.sd_base.specs.Words.{is_filled}
@@ -10,12 +10,12 @@ use Rattle.sd_base.specs.Lines.{TextLine, content_of, begins_with}
 use Rattle.sd_base.specs.Numbers.{natural_value, integer_value}
 use Rattle.sd_base.specs.Reading.{◌>>=◌, ◌>>◌, fault_if, each}
 use Rattle.sd_model.specs.Expression.{Group}
+use Rattle.sd_model.specs.Text.{number_text}
+use Rattle.sd_base.specs.FaultTexts.{at_line, counts, signed_text}
 use Rattle.sd_formula.specs.declared.formula.Kind.{Kind}
 use Rattle.sd_formula.specs.declared.formula.Kind.TheVariants.{Cnf, Dnf}
 use Rattle.sd_formula.specs.declared.error.FormulaError.{FormulaError}
-use Rattle.sd_formula.specs.declared.error.FormulaError.TheVariants.{NoHeader, BadHeader, VariablesRange, BadWord}
-use Rattle.sd_formula.specs.declared.error.FormulaError.TheVariants.{LiteralRange, Unterminated, CountDiffers}
-use Rattle.sd_formula.specs.declared.error.FormulaError.TheVariants.{TooManyGroups, OutOfMemory}
+use Rattle.sd_formula.specs.declared.error.FormulaError.TheVariants as fault
 
 -- A formula as it is seen: a literal is a number of DIMACS, n or -n, and each group is a clause, an exclusive group
 -- or a term.
@@ -51,12 +51,13 @@ numbers_of kind (name ∷ variables ∷ groups ∷ []) =
 numbers_of kind words = None
 
 -- the numbers of a header line, 1 to 1,024 variables and at most 1,000,000 groups, or its fault
-abbrev pub header_of : Kind → TextLine → Result Stated FormulaError
+abbrev pub header_of : Kind → TextLine → Result Stated (List ℕ)
 header_of kind line = do
-  fault_if (not (is_header line.words)) NoHeader
-  stated ← ok_or (numbers_of kind (drop 1 line.words)) (BadHeader line.number)
-  fault_if (not (nat_le 1 stated.variables && nat_le stated.variables 1024)) (VariablesRange stated.variables)
-  fault_if (nat_lt 1000000 stated.groups) (TooManyGroups stated.groups)
+  fault_if (not (is_header line.words)) (codes ": no header")
+  stated ← ok_or (numbers_of kind (drop 1 line.words)) (at_line line.number (codes ": bad header"))
+  fault_if (not (nat_le 1 stated.variables && nat_le stated.variables 1024))
+      (codes ": variables out of range: " ++ number_text stated.variables)
+  fault_if (nat_lt 1000000 stated.groups) (codes ": too many groups: " ++ number_text stated.groups)
   Ok stated
 
 -- ---- the body: the lines before the first that begins with %, which ends the files of the collection SATLIB;
@@ -76,10 +77,10 @@ abbrev pub body_of : List TextLine → List BodyWord
 body_of lines = flat_map words_at (take_while (λ line. not (begins_with 37 line.words)) lines)
 
 -- the literal, or the zero, of a word
-abbrev pub literal_of_word : ℕ → BodyWord → Result ℤ FormulaError
+abbrev pub literal_of_word : ℕ → BodyWord → Result ℤ (List ℕ)
 literal_of_word variables word = do
-  z ← ok_or (integer_value word.bytes) (BadWord word.line)
-  fault_if (nat_lt variables (unsigned_abs z)) (LiteralRange word.line z)
+  z ← ok_or (integer_value word.bytes) (at_line word.line (codes ": bad word"))
+  fault_if (nat_lt variables (unsigned_abs z)) (at_line word.line (codes ": literal out of range: " ++ signed_text z))
   Ok z
 
 -- ---- the groups: the parts of the words between zeros, where nothing stands after the last zero; under cnf a part
@@ -106,13 +107,13 @@ abbrev pub is_end : BodyWord → Bool
 is_end word = option_map_or (λ z. unsigned_abs z == 0) (integer_value word.bytes) false
 
 -- the literals of words, as a group
-abbrev pub literals_group : ℕ → Bool → List BodyWord → Result Group FormulaError
+abbrev pub literals_group : ℕ → Bool → List BodyWord → Result Group (List ℕ)
 literals_group variables exclusive words = do
   literals ← each (literal_of_word variables) words
   Ok (record { exclusive = exclusive; literals = literals })
 
 -- the group of the words between two zeros; a mark that is not the first is no literal
-abbrev pub group_of_words : Kind → ℕ → List BodyWord → Result Group FormulaError
+abbrev pub group_of_words : Kind → ℕ → List BodyWord → Result Group (List ℕ)
 group_of_words kind variables [] = literals_group variables false []
 group_of_words kind variables (word ∷ words) =
     if is_mark kind word then literals_group variables true words else literals_group variables false (word ∷ words)
@@ -122,35 +123,36 @@ abbrev pub has_begun : Group → Bool
 has_begun group = group.exclusive || not (length group.literals == 0)
 
 -- the formula of the parts, of which the last is empty and the others are as many as was stated
-abbrev pub groups_of : Kind → Stated → List Group → Result Groups FormulaError
+abbrev pub groups_of : Kind → Stated → List Group → Result Groups (List ℕ)
 groups_of kind stated parts =
     let groups = take (length parts - 1) parts in
     let found = length groups in do
-      fault_if (option_map_or has_begun (last_or None parts) false) Unterminated
-      fault_if (not (stated.groups == found)) (CountDiffers stated.groups found)
+      fault_if (option_map_or has_begun (last_or None parts) false) (codes ": last group is not ended")
+      fault_if (not (stated.groups == found)) (counts stated.groups found)
       Ok (record { kind = kind; variables = stated.variables; groups = groups })
 
 -- ---- the text
 
 -- the formula of a header and the lines after it
-abbrev pub formula_of : Kind → List TextLine → Result Groups FormulaError
-formula_of kind [] = Err NoHeader
+abbrev pub formula_of : Kind → List TextLine → Result Groups (List ℕ)
+formula_of kind [] = Err (codes ": no header")
 formula_of kind (header ∷ lines) = do
   stated ← header_of kind header
   parts ← each (group_of_words kind stated.variables) (slice_split is_end (flat_map (pieces_of kind) (body_of lines)))
   groups_of kind stated parts
 
 -- The formula of a text, or its first fault. Blank lines and comments, which begin with c, are passed over.
-unfoldable pub dimacs : Kind → List ℕ → Result Groups FormulaError
+unfoldable pub dimacs : Kind → List ℕ → Result Groups (List ℕ)
 dimacs kind bytes = formula_of kind (content_of 99 bytes)
 
 -- ---- for the contracts of private functions
 
 -- 1 to 1,024 variables, and at most 1,000,000 groups
-abbrev pub counts_in_range : Stated → Result Stated FormulaError
+abbrev pub counts_in_range : Stated → Result Stated (List ℕ)
 counts_in_range s = do
-  fault_if (not (nat_le 1 s.variables && nat_le s.variables 1024)) (VariablesRange s.variables)
-  fault_if (nat_lt 1000000 s.groups) (TooManyGroups s.groups)
+  fault_if (not (nat_le 1 s.variables && nat_le s.variables 1024))
+      (codes ": variables out of range: " ++ number_text s.variables)
+  fault_if (nat_lt 1000000 s.groups) (codes ": too many groups: " ++ number_text s.groups)
   Ok s
 
 -- the parts that a zero ends
@@ -165,14 +167,26 @@ is_zero z = unsigned_abs z == 0
 abbrev pub ends : Option ℤ → Bool
 ends z = option_map_or is_zero z false
 
--- ---- what a reader answers
+-- ---- what a reader answers, for its contract and for proofs
 
--- a reading has this fault; OutOfMemory says nothing of it
-abbrev pub Fails : {Y : Type 0} → FormulaError → Result Y FormulaError → Type 0
-Fails OutOfMemory reading = Unit {0}
-Fails fault reading = reading ≡ Err fault
+-- the text of a fault, after the file's name
+abbrev pub formula_fault_text : FormulaError → List ℕ
+formula_fault_text fault.NoHeader = codes ": no header"
+formula_fault_text (fault.BadHeader n) = at_line n (codes ": bad header")
+formula_fault_text (fault.VariablesRange v) = codes ": variables out of range: " ++ number_text v
+formula_fault_text (fault.TooManyGroups s) = codes ": too many groups: " ++ number_text s
+formula_fault_text (fault.BadWord n) = at_line n (codes ": bad word")
+formula_fault_text (fault.LiteralRange n z) = at_line n (codes ": literal out of range: " ++ signed_text z)
+formula_fault_text fault.Unterminated = codes ": last group is not ended"
+formula_fault_text (fault.CountDiffers s f) = counts s f
+formula_fault_text fault.OutOfMemory = []
+
+-- a reading has the text of this fault; OutOfMemory says nothing of it
+abbrev pub Fails : {Y : Type 0} → FormulaError → Result Y (List ℕ) → Type 0
+Fails fault.OutOfMemory reading = Unit {0}
+Fails found reading = reading ≡ Err (formula_fault_text found)
 
 -- The answer, as view sees it, is what the reading gives, unless memory ran out.
-abbrev pub Gives : {X Y : Type 0} → (X → Y) → Result X FormulaError → Result Y FormulaError → Type 0
+abbrev pub Gives : {X Y : Type 0} → (X → Y) → Result X FormulaError → Result Y (List ℕ) → Type 0
 Gives view (Ok x) reading = reading ≡ Ok (view x)
 Gives view (Err e) reading = Fails e reading

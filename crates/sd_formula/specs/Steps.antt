@@ -4,7 +4,6 @@ use Rattle.std.specs.Prelude.{List, [], ◌∷◌, ◌++◌, drop, flat_map, Res
 use Rattle.std.specs.List.{AllByRecursion}
 use Rattle.sd_base.specs.Reading.{◌>>=◌}
 use Rattle.sd_model.specs.Expression.{Group}
-use Rattle.sd_formula.specs.declared.error.FormulaError.{FormulaError}
 use Rattle.sd_formula.specs.declared.flat.End.{End}
 use Rattle.sd_formula.specs.declared.formula.Kind.{Kind}
 use Rattle.sd_formula.specs.declared.header.Header.{Header}
@@ -68,25 +67,25 @@ abbrev pub put_literal : Parts → ℤ → Parts
 put_literal p z = if is_zero z then ended p else extended p z
 
 -- the literal or the zero of a word is put
-abbrev pub literal_read : ℕ → Parts → BodyWord → Result Parts FormulaError
+abbrev pub literal_read : ℕ → Parts → BodyWord → Result Parts (List ℕ)
 literal_read variables p word = do
   z ← literal_of_word variables word
   Ok (put_literal p z)
 
 -- a word is put: the mark where a group begins, or a literal or a zero
-abbrev pub put_word : Kind → ℕ → Parts → BodyWord → Result Parts FormulaError
+abbrev pub put_word : Kind → ℕ → Parts → BodyWord → Result Parts (List ℕ)
 put_word kind variables p word =
     if is_mark kind word && not (has_begun p.open_part) then Ok (marked p) else literal_read variables p word
 
 -- words are put, up to the first that has a fault
-abbrev pub put_words : Kind → ℕ → Parts → List BodyWord → Result Parts FormulaError
+abbrev pub put_words : Kind → ℕ → Parts → List BodyWord → Result Parts (List ℕ)
 put_words kind variables p [] = Ok p
 put_words kind variables p (word ∷ words) = do
   q ← put_word kind variables p word
   put_words kind variables q words
 
 -- the words of lines are put, without the marks that are joined to them
-abbrev pub put_pieces : Kind → ℕ → Parts → List BodyWord → Result Parts FormulaError
+abbrev pub put_pieces : Kind → ℕ → Parts → List BodyWord → Result Parts (List ℕ)
 put_pieces kind variables p words = put_words kind variables p (flat_map (pieces_of kind) words)
 
 -- the parts as one list

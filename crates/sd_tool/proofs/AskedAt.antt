@@ -7,19 +7,15 @@ use Rattle.sd_base.specs.Files.{Files}
 use Rattle.sd_model.specs.StartTrees.{balanced_tree, right_tree, left_tree}
 use Rattle.sd_model.specs.Tree.{Tree}
 use Rattle.sd_manager.specs.Table.{Table}
-use Rattle.sd_formula.specs.declared.error.FormulaError.{FormulaError}
 use Rattle.sd_formula.specs.Dimacs.{Groups, dimacs}
 use Rattle.sd_formula.specs.Generated.{generated_formula}
 use Rattle.sd_formula.specs.declared.formula.Kind.TheVariants as kinds
 use Rattle.sd_vfile.specs.Reads.{vtree_file}
-use Rattle.sd_vfile.specs.declared.fault.VtreeFault.{VtreeFault}
 use Rattle.sd_file.specs.Reads.{File, sdd_file}
-use Rattle.sd_file.specs.declared.fault.SddFault.{SddFault}
 use Rattle.sd_script.specs.Scripts.{Script, script_of}
 use Rattle.sd_script.specs.declared.command.Action.{Action}
 use Rattle.sd_script.specs.declared.command.Action.TheVariants as actions
 use Rattle.sd_script.specs.declared.command.Command.{Command as Line}
-use Rattle.sd_script.specs.declared.fault.ScriptFault.{ScriptFault}
 use Rattle.sd_words.specs.JobOf.{job_of}
 use Rattle.sd_words.specs.declared.jobs.Job.{Job}
 use Rattle.sd_words.specs.declared.jobs.InputWord.{InputWord}
@@ -38,7 +34,7 @@ use Rattle.sd_tool.specs.Devices.{Seen}
 use Rattle.sd_tool.specs.Ends.{End, Finished, Refused, Unreadable, Unwritable, OutOfMemory, ArenaFull, OverLimit}
 use Rattle.sd_tool.specs.Ends.{NotMovable, status_of}
 use Rattle.sd_tool.specs.inside.ByStatus.{IsOneCourse}
-use Rattle.sd_tool.specs.inside.Readings.{Input, with_job, with_input, with_formula}
+use Rattle.sd_tool.specs.inside.Readings.{Input, with_job, with_input, with_formula_reading}
 use Rattle.sd_tool.specs.Readings.{reading_of, with_input_word, with_tree_word, with_tree, with_commands}
 use Rattle.sd_tool.specs.inside.Readings.{with_vtree_text, with_vtree_reading, script_reading}
 use Rattle.sd_tool.specs.Readings.{with_lines, with_action, file_name, plan_for}
@@ -68,7 +64,7 @@ accepted_sdd : (v : ℕ) (file : List ℕ) (next : File → Reading) (text : Tex
 accepted_sdd v file next None accepted = λ e. cc
 accepted_sdd v file next (Some bytes) accepted = go (sdd_file v bytes)
   where
-    go : (read : Result File SddFault) → AreAccepted (with_sdd_reading file next read)
+    go : (read : Result File (List ℕ)) → AreAccepted (with_sdd_reading file next read)
     go (Ok read) = accepted read
     go (Err fault) = λ e. cc
 
@@ -111,7 +107,7 @@ accepted_script_text : (file : List ℕ) (v : ℕ) (begin : List NumberedCommand
 accepted_script_text file v begin None accepted = λ e. cc
 accepted_script_text file v begin (Some bytes) accepted = go (script_of v bytes)
   where
-    go : (read : Result Script ScriptFault) → AreAccepted (with_script_reading file v begin read)
+    go : (read : Result Script (List ℕ)) → AreAccepted (with_script_reading file v begin read)
     go (Ok s) = accepted_script v s begin accepted
     go (Err fault) = λ e. cc
 
@@ -133,7 +129,7 @@ accepted_tree_word job f trees.Right = accepted_tree job f (right_tree f.variabl
 accepted_tree_word job f trees.Left = accepted_tree job f (left_tree f.variables)
 accepted_tree_word job f (trees.File file) = λ text. read text
   where
-    go : (read : Result Tree VtreeFault) → AreAccepted (with_vtree_reading job f file read)
+    go : (read : Result Tree (List ℕ)) → AreAccepted (with_vtree_reading job f file read)
     go (Ok tree) = accepted_tree job f tree
     go (Err fault) = λ e. cc
 
@@ -145,7 +141,7 @@ accepted_input : (job : Job) (input : Input) (text : Text) → AreAccepted (with
 accepted_input job input None = λ e. cc
 accepted_input job input (Some bytes) = go (dimacs input.kind bytes)
   where
-    go : (read : Result Groups FormulaError) → AreAccepted (with_formula job input.file read)
+    go : (read : Result Groups (List ℕ)) → AreAccepted (with_formula_reading job input.file read)
     go (Ok f) = accepted_tree_word job f job.tree
     go (Err fault) = λ e. cc
 

@@ -2,7 +2,6 @@ pub mod AskLemmas
 pub mod AskedAt
 pub mod ByStatus
 pub mod EndLemmas
-pub mod FormulaFaults
 pub mod FromCourse
 pub mod Fronts
 pub mod Joined
@@ -14,9 +13,7 @@ pub mod PartLemmas
 pub mod PlanLemmas
 pub mod ReadingLemmas
 pub mod RootsTexts
-pub mod ScriptFaults
 pub mod ScriptLemmas
-pub mod SddFaults
 pub mod SoundReadings
 pub mod StartTrees
 pub mod Starts

@@ -20,8 +20,8 @@ use Rattle.sd_tool.specs.Ends.{OverLimit}
 use Rattle.sd_tool.specs.Laws.{HasLimit}
 use Rattle.sd_tool.specs.inside.ByStatus.{IsOneCourse}
 use Rattle.sd_tool.specs.Asks.{GoesTo}
-use Rattle.sd_tool.specs.Readings.{Plan, Begins, reading_of, plan_for, announcement, default_of, in_lines}
-use Rattle.sd_tool.specs.inside.Readings.{for_file}
+use Rattle.sd_tool.specs.Readings.{Plan, Begins, reading_of, plan_for, announcement, default_of}
+use Rattle.sd_tool.specs.inside.Readings.{in_lines, for_file}
 use Rattle.sd_tool.specs.inside.Readings.{search_of}
 use Rattle.sd_tool.specs.Written.{IsStartTree}
 use Rattle.sd_tool.specs.inside.Readings.{IsInput}

@@ -18,7 +18,7 @@ use Rattle.sd_tool.specs.Readings.{Plan, Reading, Refuses, Begins, Reads, readin
 use Rattle.sd_tool.specs.inside.Readings.{Text}
 use Rattle.sd_tool.specs.inside.Course.{ReadsTo, MayEnd, IsOwn}
 use Rattle.sd_tool.specs.Readings.{with_input_word, with_tree_word, with_tree, with_commands, plan_for, default_of}
-use Rattle.sd_tool.specs.inside.Readings.{with_job, with_formula, with_vtree_text, with_vtree_reading, IsInput}
+use Rattle.sd_tool.specs.inside.Readings.{with_job, with_formula_reading, with_vtree_text, with_vtree_reading, IsInput}
 use Rattle.sd_tool.specs.Ends.{End, Finished, Refused, Unreadable, Unwritable, OutOfMemory, ArenaFull, OverLimit}
 use Rattle.sd_tool.specs.Ends.{NotMovable, status_of}
 use Rattle.sd_tool.specs.Devices.{Seen, Faults, IsCalm, HasReason, WritesEndLine}
@@ -234,9 +234,9 @@ job_follows words files job f input =
 pub formula_follows : (files : Files) (job : Job) (f : Groups) (word : InputWord) → IsFormulaOf files word f
     → ReadsTo (Some files) (with_input_word job word) (with_tree_word job f job.tree)
 formula_follows files job f (inputs.Cnf file) (bytes, there, short, reads) =
-    inr (Some bytes, (there, short), reads_same (Some files) _ _ (ap (with_formula job file) reads))
+    inr (Some bytes, (there, short), reads_same (Some files) _ _ (ap (with_formula_reading job file) reads))
 formula_follows files job f (inputs.Dnf file) (bytes, there, short, reads) =
-    inr (Some bytes, (there, short), reads_same (Some files) _ _ (ap (with_formula job file) reads))
+    inr (Some bytes, (there, short), reads_same (Some files) _ _ (ap (with_formula_reading job file) reads))
 formula_follows files job f (inputs.Generate count seed) is =
     reads_same (Some files) _ _ (ap (λ g. with_tree_word job g job.tree) (sym is))
 

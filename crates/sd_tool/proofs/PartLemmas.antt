@@ -4,7 +4,7 @@ use Rattle.std.specs.Prelude.{codes}
 use Rattle.std.proofs.lemmas.List.{append-nil}
 use Rattle.sd_model.specs.Text.{number_text}
 use Rattle.sd_formula.specs.declared.error.FormulaError.TheVariants.{VariablesRange}
-use Rattle.sd_tool.specs.Refusals.{formula_fault_text}
+use Rattle.sd_formula.specs.Dimacs.{formula_fault_text}
 use Rattle.sd_tool.specs.Ends.{line_of}
 use Rattle.sd_tool.specs.Parts.{parts_text, number_seen}
 use Rattle.sd_tool.specs.declared.parts.Parts.{Parts}

@@ -13,8 +13,8 @@ use Rattle.sd_commands.specs.declared.command.NumberedCommand.{NumberedCommand}
 use Rattle.sd_commands.specs.declared.command.RunCommand.TheVariants as commands
 use Rattle.sd_commands.specs.declared.state.RunState.{RunState}
 use Rattle.sd_tool.specs.PlanViews.{IsReadyWith, plan_with, behind}
-use Rattle.sd_tool.specs.Readings.{Begins, announcement, plan_for, in_lines}
-use Rattle.sd_tool.specs.inside.Readings.{for_file, search_of}
+use Rattle.sd_tool.specs.Readings.{Begins, announcement, plan_for}
+use Rattle.sd_tool.specs.inside.Readings.{in_lines, for_file, search_of}
 
 -- the plan of the state's vtree, limit, slack and number for searches
 pub plan_made : (job : Job) (formula : Groups) (vtree : Numbered) (state : RunState)

@@ -1,5 +1,5 @@
 -- The readings of a run, one after another.
-use Rattle.std.proofs.Common.{◌≡◌, ◌⊎◌, ℕ, ◌≤◌, List, [], ◌∷◌, length, Option, Some, None, Result, Ok, Err}
+use Rattle.std.proofs.Common.{◌≡◌, ◌⊎◌, ℕ, ◌≤◌, List, [], ◌∷◌, ◌++◌, length, Option, Some, None, Result, Ok, Err}
 use Rattle.std.proofs.Common.{IfOk, MatchResult, ◌∙◌}
 use Rattle.std.proofs.Common.{inl, inr, refl, sym, ap, subst, arith}
 use Rattle.std.specs.declared.alloc.AllocError.{AllocError}
@@ -132,24 +132,26 @@ stops_for asks told reading refusal (OverLimit l g n k) before now a is = absurd
 stops_for asks told reading refusal (NotMovable l) before now a is = absurd is
 
 -- what a text gives leads on, and its fault is where the readings stop
-pub text_leads : {X Y E : Type 0} (asks : List Request → Type 0) (told : Option Files) (reading : Reading)
-    (after : Result Y E → Reading) (view : X → Y) (refuse : E → Refusal) (parsed : Result Y E)
+pub text_leads : {X Y : Type 0} (asks : List Request → Type 0) (told : Option Files) (reading : Reading)
+    (after : Result Y (List ℕ) → Reading) (view : X → Y) (status : ℕ) (file : List ℕ) (parsed : Result Y (List ℕ))
     (result : Result X Stop) (before now : ℕ)
-    → ((fault : E) → after (Err fault) ≡ Refuses (refusal_answer (refuse fault)))
-    → ComesTo asks told reading (after parsed) → GivesText view refuse parsed result
+    → ((text : List ℕ) → after (Err text) ≡ Refuses (status, file ++ text))
+    → ComesTo asks told reading (after parsed) → GivesText view status file parsed result
     → LeadsTo asks told reading (λ x. after (Ok (view x))) result before now
-text_leads asks told reading after view refuse parsed (Ok x) before now refused a is =
+text_leads asks told reading after view status file parsed (Ok x) before now refused a is =
     subst (λ r. ComesTo asks told reading (after r)) is a
-text_leads asks told reading after view refuse parsed (Err (Refused refusal)) before now refused a (fault, is, named) =
-    subst (λ r. ComesTo asks told reading (Refuses (refusal_answer r))) (sym named)
-    (subst (λ r. ComesTo asks told reading r) (refused fault) (subst (λ r. ComesTo asks told reading (after r)) is a))
-text_leads asks told reading after view refuse parsed (Err (ReadFault file)) before now refused a is = absurd is
-text_leads asks told reading after view refuse parsed (Err (WriteFault file)) before now refused a is = absurd is
-text_leads asks told reading after view refuse parsed (Err OutputFault) before now refused a is = absurd is
-text_leads asks told reading after view refuse parsed (Err OutOfMemory) before now refused a is = inl (after parsed, a)
-text_leads asks told reading after view refuse parsed (Err (ArenaFull n)) before now refused a is = absurd is
-text_leads asks told reading after view refuse parsed (Err (OverLimit l g n k)) before now refused a is = absurd is
-text_leads asks told reading after view refuse parsed (Err (NotMovable l)) before now refused a is = absurd is
+text_leads asks told reading after view status file parsed (Err (Refused refusal)) before now refused a
+    (text, is, answer) =
+    subst (λ (r : ℕ × List ℕ). ComesTo asks told reading (Refuses r)) (sym answer)
+    (subst (λ r. ComesTo asks told reading r) (refused text) (subst (λ r. ComesTo asks told reading (after r)) is a))
+text_leads asks told reading after view status file parsed (Err (ReadFault name)) before now refused a is = absurd is
+text_leads asks told reading after view status file parsed (Err (WriteFault name)) before now refused a is = absurd is
+text_leads asks told reading after view status file parsed (Err OutputFault) before now refused a is = absurd is
+text_leads asks told reading after view status file parsed (Err OutOfMemory) before now refused a is =
+    inl (after parsed, a)
+text_leads asks told reading after view status file parsed (Err (ArenaFull n)) before now refused a is = absurd is
+text_leads asks told reading after view status file parsed (Err (OverLimit l g n k)) before now refused a is = absurd is
+text_leads asks told reading after view status file parsed (Err (NotMovable l)) before now refused a is = absurd is
 
 -- ---- the text of a file, as the code has it
 

@@ -24,8 +24,7 @@ use Rattle.sd_tool.specs.Actions.{plain_of, bound_by, IsCommandOf, AreCommandsOf
 use Rattle.sd_file.specs.Reads.{File}
 use Rattle.sd_tool.specs.Readings.{Reading, Reads, with_action, with_lines, file_name, default_of}
 use Rattle.sd_tool.specs.inside.Readings.{with_sdd}
-use Rattle.sd_tool.specs.Readings.{in_lines}
-use Rattle.sd_tool.specs.inside.Readings.{search_of, for_file, in_line}
+use Rattle.sd_tool.specs.inside.Readings.{in_lines, search_of, for_file, in_line}
 use Rattle.sd_tool.specs.Asks.{ComesTo}
 use Rattle.sd_tool.specs.Stops.{LeadsTo}
 use Rattle.sd_tool.specs.declared.stop.Stop.{Stop}

@@ -4,21 +4,17 @@ use Rattle.std.proofs.Common.{inl, inr, refl, sym, subst, arith}
 use Rattle.sd_base.specs.Files.{Files}
 use Rattle.sd_model.specs.Tree.{Tree, IsVtree}
 use Rattle.sd_model.specs.StartTrees.{balanced_tree, right_tree, left_tree}
-use Rattle.sd_formula.specs.declared.error.FormulaError.{FormulaError}
 use Rattle.sd_formula.specs.Dimacs.{Groups, dimacs}
 use Rattle.sd_formula.specs.Generated.{IsGenerable, generated_formula}
 use Rattle.sd_formula.specs.declared.formula.Kind.TheVariants as kinds
 use Rattle.sd_formula.proofs.RangeLaws.{accepted_fits}
 use Rattle.sd_vfile.specs.Reads.{vtree_file}
-use Rattle.sd_vfile.specs.declared.fault.VtreeFault.{VtreeFault}
 use Rattle.sd_vfile.proofs.Accepted.{accepted}
 use Rattle.sd_file.specs.Reads.{File, sdd_file}
-use Rattle.sd_file.specs.declared.fault.SddFault.{SddFault}
 use Rattle.sd_script.specs.Scripts.{Script, script_of}
 use Rattle.sd_script.specs.declared.command.Action.{Action}
 use Rattle.sd_script.specs.declared.command.Action.TheVariants as actions
 use Rattle.sd_script.specs.declared.command.Command.{Command as Line}
-use Rattle.sd_script.specs.declared.fault.ScriptFault.{ScriptFault}
 use Rattle.sd_words.specs.JobOf.{job_of}
 use Rattle.sd_words.specs.declared.jobs.Job.{Job}
 use Rattle.sd_words.specs.declared.jobs.InputWord.{InputWord}
@@ -30,7 +26,7 @@ use Rattle.sd_commands.specs.declared.command.RunCommand.{RunCommand}
 use Rattle.sd_commands.specs.declared.command.RunCommand.TheVariants as commands
 use Rattle.sd_tool.specs.Readings.{Plan, Reading, Refuses, Begins, Reads}
 use Rattle.sd_tool.specs.inside.Course.{ReadsTo}
-use Rattle.sd_tool.specs.inside.Readings.{Text, Input, with_job, with_input, with_formula}
+use Rattle.sd_tool.specs.inside.Readings.{Text, Input, with_job, with_input, with_formula_reading}
 use Rattle.sd_tool.specs.Readings.{reading_of, with_input_word, with_tree_word, with_tree, with_commands}
 use Rattle.sd_tool.specs.inside.Readings.{with_vtree_text, with_vtree_reading, script_reading}
 use Rattle.sd_tool.specs.Readings.{with_lines, with_action, file_name, plan_for, default_of}
@@ -74,7 +70,7 @@ sound_sdd : (v : ℕ) (file : List ℕ) (next : File → Reading) (text : Text) 
 sound_sdd v file next None sound = inr (inl refl)
 sound_sdd v file next (Some bytes) sound = go (sdd_file v bytes)
   where
-    go : (read : Result File SddFault) → AreSound (with_sdd_reading file next read)
+    go : (read : Result File (List ℕ)) → AreSound (with_sdd_reading file next read)
     go (Ok read) = sound read
     go (Err fault) = inr (inl refl)
 
@@ -117,7 +113,7 @@ sound_script_text : (file : List ℕ) (v : ℕ) (begin : List NumberedCommand �
 sound_script_text file v begin None sound = inr (inr refl)
 sound_script_text file v begin (Some bytes) sound = go (script_of v bytes)
   where
-    go : (read : Result Script ScriptFault) → AreSound (with_script_reading file v begin read)
+    go : (read : Result Script (List ℕ)) → AreSound (with_script_reading file v begin read)
     go (Ok s) = sound_script v s begin sound
     go (Err fault) = inr (inr refl)
 
@@ -139,7 +135,7 @@ sound_tree_word job f trees.Right some = sound_tree job f (right_tree f.variable
 sound_tree_word job f trees.Left some = sound_tree job f (left_tree f.variables) (left_fits f.variables some).vtree
 sound_tree_word job f (trees.File file) some = λ text. read text
   where
-    go : (bytes : List ℕ) (read : Result Tree VtreeFault) → vtree_file f.variables bytes ≡ read
+    go : (bytes : List ℕ) (read : Result Tree (List ℕ)) → vtree_file f.variables bytes ≡ read
         → AreSound (with_vtree_reading job f file read)
     go bytes (Ok tree) is = sound_tree job f tree (accepted f.variables bytes tree is).vtree
     go bytes (Err fault) is = inr (inl refl)
@@ -152,8 +148,8 @@ sound_input : (job : Job) (input : Input) (text : Text) → AreSound (with_input
 sound_input job input None = inr (inl refl)
 sound_input job input (Some bytes) = go (dimacs input.kind bytes) refl
   where
-    go : (read : Result Groups FormulaError) → dimacs input.kind bytes ≡ read
-        → AreSound (with_formula job input.file read)
+    go : (read : Result Groups (List ℕ)) → dimacs input.kind bytes ≡ read
+        → AreSound (with_formula_reading job input.file read)
     go (Ok f) is = sound_tree_word job f job.tree (accepted_fits input.kind bytes f is).at_least_one
     go (Err fault) is = inr (inl refl)
 

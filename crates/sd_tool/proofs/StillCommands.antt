@@ -11,8 +11,8 @@ use Rattle.sd_commands.specs.declared.command.NumberedCommand.{NumberedCommand}
 use Rattle.sd_commands.specs.declared.command.RunCommand.{RunCommand}
 use Rattle.sd_commands.specs.declared.command.RunCommand.TheVariants as commands
 use Rattle.sd_commands.proofs.Settling.{never_unmoved as never_settled}
-use Rattle.sd_tool.specs.Readings.{Plan, announcement, default_of, in_lines}
-use Rattle.sd_tool.specs.inside.Readings.{for_file, search_of}
+use Rattle.sd_tool.specs.Readings.{Plan, announcement, default_of}
+use Rattle.sd_tool.specs.inside.Readings.{in_lines, for_file, search_of}
 use Rattle.sd_tool.specs.Ends.{NotMovable}
 use Rattle.sd_tool.specs.Course.{EndsAmong}
 

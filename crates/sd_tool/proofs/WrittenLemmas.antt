@@ -13,13 +13,11 @@ use Rattle.sd_model.specs.Diagram.{Diagram}
 use Rattle.sd_model.specs.Size.{IsDiagramOf, size_of}
 use Rattle.sd_model.specs.Text.{sdd_text, roots_text, vtree_text}
 use Rattle.sd_model.proofs.Determined.{diagram_determined}
-use Rattle.sd_formula.specs.declared.error.FormulaError.{FormulaError}
 use Rattle.sd_formula.specs.Dimacs.{Groups, dimacs}
 use Rattle.sd_formula.specs.Formulas.{expression_of}
 use Rattle.sd_formula.specs.Generated.{generated_formula}
 use Rattle.sd_formula.specs.declared.formula.Kind.TheVariants as kinds
 use Rattle.sd_vfile.specs.Reads.{vtree_file}
-use Rattle.sd_vfile.specs.declared.fault.VtreeFault.{VtreeFault}
 use Rattle.sd_manager.specs.Table.{Table}
 use Rattle.sd_words.specs.JobOf.{job_of}
 use Rattle.sd_words.specs.declared.jobs.Job.{Job}
@@ -41,11 +39,11 @@ use Rattle.sd_tool.specs.Effects.{Contents, after}
 use Rattle.sd_tool.specs.Readings.{Plan, Begins, IsText}
 use Rattle.sd_tool.specs.inside.Readings.{Text}
 use Rattle.sd_tool.specs.inside.Course.{ReadsTo, MayEnd}
-use Rattle.sd_tool.specs.inside.Readings.{Input, with_job, with_input, with_formula, with_vtree_reading, IsInput}
+use Rattle.sd_tool.specs.inside.Readings.{Input, with_job, with_input, with_formula_reading, with_vtree_reading, IsInput}
 use Rattle.sd_tool.specs.Readings.{reading_of, with_input_word, with_tree_word}
 use Rattle.sd_tool.specs.Readings.{with_tree, with_commands, plan_for, default_of}
-use Rattle.sd_tool.specs.inside.Readings.{for_file}
-use Rattle.sd_tool.specs.Readings.{announcement, in_lines}
+use Rattle.sd_tool.specs.inside.Readings.{in_lines, for_file}
+use Rattle.sd_tool.specs.Readings.{announcement}
 use Rattle.sd_tool.specs.inside.Readings.{search_of}
 use Rattle.sd_tool.specs.Ends.{Finished}
 use Rattle.sd_tool.specs.Devices.{Seen}
@@ -106,15 +104,15 @@ from_word files job f plan (trees.File file) e alone (inr (None, has, p)) = let 
 from_word files job f plan (trees.File file) e alone (inr (Some bytes, has, p)) =
     go (vtree_file f.variables bytes) refl p
   where
-    go : (reading : Result Tree VtreeFault) → vtree_file f.variables bytes ≡ reading
+    go : (reading : Result Tree (List ℕ)) → vtree_file f.variables bytes ≡ reading
         → ReadsTo (Some files) (with_vtree_reading job f file reading) (Begins plan) → FromTree files job f plan
     go (Err fault) is p = let bad : ⊥ = cc in absurd bad
     go (Ok tree) is p =
         found_tree files job f plan (trees.File file) tree e alone (bytes, has.0, has.1, is) p
 
 -- a plan is made of a formula
-from_formula : (files : Files) (job : Job) (file : List ℕ) (formula : Result Groups FormulaError) (plan : Plan)
-    → job.script ≡ None → ReadsTo (Some files) (with_formula job file formula) (Begins plan)
+from_formula : (files : Files) (job : Job) (file : List ℕ) (formula : Result Groups (List ℕ)) (plan : Plan)
+    → job.script ≡ None → ReadsTo (Some files) (with_formula_reading job file formula) (Begins plan)
     → (f : Groups) × (formula ≡ Ok f) × FromTree files job f plan
 from_formula files job file (Err fault) plan alone p = let bad : ⊥ = cc in absurd bad
 from_formula files job file (Ok formula) plan alone p =

@@ -1,19 +1,9 @@
 -- What follows from the course of a run, without speaking of it: of runs without a script, of a script of four lines,
--- and of what is asked of the shelf. The last law speaks of the readers alone. The functions of src/laws.rt state them;
--- a reader of `run` need believe none of it.
+-- and of what is asked of the shelf. The functions of src/laws.rt state it; a reader of `run` need believe none of it.
 use Rattle.std.specs.Prelude.{◌≡◌, ◌≢◌, ◌⊎◌, ℕ, List, [], ◌++◌, map, Option, Err}
 use Rattle.sd_base.specs.Asked.{Request, ToRead, ToWrite}
 use Rattle.sd_base.specs.declared.shelf.Shelf as shelves
 use Rattle.sd_base.specs.declared.sink.Sink as sinks
-use Rattle.sd_formula.specs.Dimacs.{dimacs}
-use Rattle.sd_formula.specs.declared.error.FormulaError.TheVariants as formula_faults
-use Rattle.sd_formula.specs.declared.formula.Kind.{Kind}
-use Rattle.sd_vfile.specs.Reads.{vtree_file}
-use Rattle.sd_vfile.specs.declared.fault.VtreeFault.TheVariants as vtree_faults
-use Rattle.sd_file.specs.Reads.{sdd_file}
-use Rattle.sd_file.specs.declared.fault.SddFault.TheVariants as sdd_faults
-use Rattle.sd_script.specs.Scripts.{script_of}
-use Rattle.sd_script.specs.declared.fault.ScriptFault.TheVariants as script_faults
 use Rattle.sd_manager.specs.Table.{Table}
 use Rattle.sd_tool.specs.Asks.{LacksRoom}
 use Rattle.sd_tool.specs.Devices.{Seen, IsCalm, seen}
@@ -63,10 +53,3 @@ ReadsFirst asks = (names files : List (List ℕ)) × asks (map ToRead names ++ m
 abbrev pub HasAsked : List (List ℕ) → ℕ → Seen → Type 0
 HasAsked words status seen = (status ≡ 1 → seen.asked [])
     × ((status ≡ 1) ⊎ (status ≡ 2) ⊎ (status ≡ 5) → ReadsAlone seen.asked) × ReadsFirst seen.asked
-
--- refused_for_faults: no text has the fault that memory ran out, so that no refusal of a run is for it
-pub record AreNeverOutOfMemory : Type 0 where
-  pub formula : (kind : Kind) (bytes : List ℕ) → dimacs kind bytes ≢ Err formula_faults.OutOfMemory
-  pub vtree : (v : ℕ) (bytes : List ℕ) → vtree_file v bytes ≢ Err vtree_faults.OutOfMemory
-  pub sdd : (v : ℕ) (bytes : List ℕ) → sdd_file v bytes ≢ Err sdd_faults.OutOfMemory
-  pub script : (v : ℕ) (bytes : List ℕ) → script_of v bytes ≢ Err script_faults.OutOfMemory

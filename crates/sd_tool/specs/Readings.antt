@@ -1,5 +1,5 @@
 -- What a run reads before its first command, and when that is refused. A later reading is one more `Reads`.
-use Rattle.std.specs.Prelude.{◌≡◌, ℕ, ◌+◌, ◌<◌, ◌≤◌}
+use Rattle.std.specs.Prelude.{◌≡◌, ℕ, ◌+◌, ◌-◌, ◌/◌, ◌<◌, ◌≤◌}
 use Rattle.std.specs.Prelude.{List, [], ◌∷◌, ◌++◌, codes, length, map, slice_index_or}
 use Rattle.std.specs.List.{enumerate_from}
 use Rattle.std.specs.FinMap.{get}
@@ -7,7 +7,7 @@ use Rattle.std.specs.Option.{option_map_or, option_to_list}
 use Rattle.std.specs.Prelude.{Option, Some, None, Result, Ok, Err}
 use Rattle.sd_base.specs.Files.{Files}
 use Rattle.sd_model.specs.Tree.{Tree}
-use Rattle.sd_model.specs.StartTrees.{balanced_tree, right_tree, left_tree}
+use Rattle.sd_model.specs.StartTrees.{start_tree}
 use Rattle.sd_formula.specs.declared.formula.Kind.{Kind}
 use Rattle.sd_formula.specs.declared.formula.Kind.TheVariants as kinds
 use Rattle.sd_formula.specs.Dimacs.{Groups, dimacs}
@@ -29,7 +29,6 @@ use Rattle.sd_commands.specs.Standing.{start}
 use Rattle.sd_commands.specs.declared.command.NumberedCommand.{NumberedCommand}
 use Rattle.sd_commands.specs.declared.command.RunCommand.{RunCommand}
 use Rattle.sd_commands.specs.declared.command.RunCommand.TheVariants as commands
-use Rattle.sd_tool.specs.Refusals.{formula_fault_text, vtree_fault_text, sdd_fault_text, script_fault_text}
 
 -- what the commands begin with
 pub record Plan : Type 0 where
@@ -46,18 +45,13 @@ pub data Reading : Type 0 where
 
 -- ---- the commands
 
--- commands in lines that follow one another, from this one on
-abbrev pub in_lines : ℕ → List RunCommand → List NumberedCommand
-in_lines first commands = map (λ (n, command). record { line = n; command = command }) (enumerate_from first commands)
-
 -- Without a script the formula is compiled, a search is done where the words ask for one, the vtree and the diagram are
 -- written, and then its size is printed: a script of two to five lines.
 abbrev pub default_of : Job → List NumberedCommand
-default_of job =
-    in_lines 1
+default_of job = map (λ (n, command). record { line = n; command = command }) (enumerate_from 1
     (commands.Input 0 ∷ map commands.Minimise (option_to_list job.minimise)
     ++ map commands.WriteVtree (option_to_list job.out_vtree)
-    ++ map (commands.Write (0 ∷ [])) (option_to_list job.out_sdd) ++ commands.Size 0 ∷ [])
+    ++ map (commands.Write (0 ∷ [])) (option_to_list job.out_sdd) ++ commands.Size 0 ∷ []))
 
 -- the name of a file of a script
 abbrev pub file_name : Script → ℕ → List ℕ
@@ -65,22 +59,21 @@ file_name script n = slice_index_or script.files n []
 
 -- what was read of a text, or the refusal of its fault, with this status and, behind the name of the file, the text of
 -- the fault
-abbrev pub or_refused : {A E : Type 0} → ℕ → List ℕ → (E → List ℕ) → (A → Reading) → Result A E → Reading
-or_refused status file fault_text next (Ok read) = next read
-or_refused status file fault_text next (Err fault) = Refuses (status, file ++ fault_text fault)
+abbrev pub or_refused : {A : Type 0} → ℕ → List ℕ → (A → Reading) → Result A (List ℕ) → Reading
+or_refused status file next (Ok read) = next read
+or_refused status file next (Err text) = Refuses (status, file ++ text)
 
 -- A file is read next, by this reading of texts. It is refused, with this status, where it is too long, and where its
 -- text has a fault.
-abbrev pub reads : {A E : Type 0} → ℕ → (E → List ℕ) → (List ℕ → Result A E) → List ℕ → (A → Reading) → Reading
-reads status fault_text read file next =
-    let long = Refuses (status, file ++ codes ": too long") in
-    Reads file (λ text. option_map_or (λ bytes. or_refused status file fault_text next (read bytes)) text long)
+abbrev pub reads : {A : Type 0} → ℕ → (List ℕ → Result A (List ℕ)) → List ℕ → (A → Reading) → Reading
+reads status read file next = let long = Refuses (status, file ++ codes ": too long") in
+    Reads file (λ text. option_map_or (λ bytes. or_refused status file next (read bytes)) text long)
 
 -- a command of a script as one of the run; a file that it loads is read
 abbrev pub with_action : ℕ → Script → (RunCommand → Reading) → Action → Reading
 with_action v script next (actions.Input n) = next (commands.Input n)
 with_action v script next (actions.Load n file) =
-    reads 2 sdd_fault_text (sdd_file v) (file_name script file) (λ read. next (commands.Load n read))
+    reads 2 (sdd_file v) (file_name script file) (λ read. next (commands.Load n read))
 with_action v script next (actions.Lit n literal) = next (commands.Literal n literal)
 with_action v script next (actions.Constant n value) = next (commands.Constant n value)
 with_action v script next (actions.Binary operation n a b) = next (commands.Combine operation n a b)
@@ -108,7 +101,7 @@ with_lines v script begin done (line ∷ lines) = with_action v script
 abbrev pub with_commands : Job → ℕ → (List NumberedCommand → Reading) → Option (List ℕ) → Reading
 with_commands job v begin None = begin (default_of job)
 with_commands job v begin (Some file) =
-    reads 3 script_fault_text (script_of v) file (λ script. with_lines v script begin [] script.commands)
+    reads 3 (script_of v) file (λ script. with_lines v script begin [] script.commands)
 
 -- ---- the formula and its tree
 
@@ -131,28 +124,28 @@ abbrev pub with_tree : Job → Groups → Tree → Reading
 with_tree job formula tree =
     with_commands job formula.variables (λ commands. Begins (plan_for job formula tree commands)) job.script
 
--- the start tree of a shape over the variables in order, or that of a vtree file
+-- the start tree over the variables in order of which each left child gets half, one, or all but one of what is there,
+-- or the tree of a vtree file
 abbrev pub with_tree_word : Job → Groups → TreeWord → Reading
-with_tree_word job formula trees.Balanced = with_tree job formula (balanced_tree formula.variables)
-with_tree_word job formula trees.Right = with_tree job formula (right_tree formula.variables)
-with_tree_word job formula trees.Left = with_tree job formula (left_tree formula.variables)
+with_tree_word job formula trees.Balanced = with_tree job formula (start_tree (λ m. m / 2) formula.variables)
+with_tree_word job formula trees.Right = with_tree job formula (start_tree (λ m. 1) formula.variables)
+with_tree_word job formula trees.Left = with_tree job formula (start_tree (λ m. m - 1) formula.variables)
 with_tree_word job formula (trees.File file) =
-    reads 2 vtree_fault_text (vtree_file formula.variables) file (with_tree job formula)
+    reads 2 (vtree_file formula.variables) file (with_tree job formula)
 
--- a formula file of this kind
-abbrev pub with_formula_file : Job → Kind → List ℕ → Reading
-with_formula_file job kind file =
-    reads 2 formula_fault_text (dimacs kind) file (λ formula. with_tree_word job formula job.tree)
+-- the same over the tree of the words
+abbrev pub with_formula : Job → Groups → Reading
+with_formula job formula = with_tree_word job formula job.tree
 
 -- a formula file is read; a generated formula is there
 abbrev pub with_input_word : Job → InputWord → Reading
-with_input_word job (inputs.Cnf file) = with_formula_file job kinds.Cnf file
-with_input_word job (inputs.Dnf file) = with_formula_file job kinds.Dnf file
-with_input_word job (inputs.Generate count seed) = with_tree_word job (generated_formula count seed) job.tree
+with_input_word job (inputs.Cnf file) = reads 2 (dimacs kinds.Cnf) file (with_formula job)
+with_input_word job (inputs.Dnf file) = reads 2 (dimacs kinds.Dnf) file (with_formula job)
+with_input_word job (inputs.Generate count seed) = with_formula job (generated_formula count seed)
 
 -- the readings of a run, in order
 abbrev pub reading_of : List (List ℕ) → Reading
-reading_of words = or_refused 1 [] (λ text. text) (λ job. with_input_word job job.input) (job_of words)
+reading_of words = or_refused 1 [] (λ job. with_input_word job job.input) (job_of words)
 
 -- ---- how far the files lead
 

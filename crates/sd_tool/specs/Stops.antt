@@ -1,6 +1,6 @@
 -- What the stops and the effects of the code say, for the contracts of its private functions.
-use Rattle.std.specs.Prelude.{Bool, true, false, ◌≡◌, ◌≢◌, ◌⊎◌, ℕ, ◌≤◌, List, [], ◌∷◌, length, Option, Some, None}
-use Rattle.std.specs.Prelude.{Result, Ok, Err}
+use Rattle.std.specs.Prelude.{Bool, true, false, ◌≡◌, ◌≢◌, ◌⊎◌, ℕ, ◌≤◌, List, [], ◌∷◌, ◌++◌, length, Option, Some}
+use Rattle.std.specs.Prelude.{None, Result, Ok, Err}
 use Rattle.sd_base.specs.Asked.{Request}
 use Rattle.sd_base.specs.Faults.{Rose}
 use Rattle.sd_base.specs.Files.{Files, Lacks}
@@ -147,10 +147,11 @@ StopsFor refusal (stops.Refused found) = found ≡ refusal
 StopsFor refusal stops.OutOfMemory = Unit {0}
 StopsFor refusal stop = ⊥
 
--- The answer, as view sees it, is what the text gives, or the stop at the text's fault, unless memory ran out.
-abbrev pub GivesText : {X Y E : Type 0} → (X → Y) → (E → Refusal) → Result Y E → Result X Stop → Type 0
-GivesText view refuse reading (Ok x) = reading ≡ Ok (view x)
-GivesText view refuse reading (Err (stops.Refused refusal)) =
-    (fault : _) × (reading ≡ Err fault) × (refusal ≡ refuse fault)
-GivesText view refuse reading (Err stops.OutOfMemory) = Unit {0}
-GivesText view refuse reading (Err stop) = ⊥
+-- The answer, as view sees it, is what the reading gives. Where it has a fault the refusal has this status and, behind
+-- the name of the file, the text of the fault; or memory ran out.
+abbrev pub GivesText : {X Y : Type 0} → (X → Y) → ℕ → List ℕ → Result Y (List ℕ) → Result X Stop → Type 0
+GivesText view status file reading (Ok x) = reading ≡ Ok (view x)
+GivesText view status file reading (Err (stops.Refused refusal)) =
+    (text : List ℕ) × (reading ≡ Err text) × (refusal_answer refusal ≡ (status, file ++ text))
+GivesText view status file reading (Err stops.OutOfMemory) = Unit {0}
+GivesText view status file reading (Err stop) = ⊥

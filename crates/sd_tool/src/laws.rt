@@ -1,9 +1,8 @@
 //! What follows from the clause `course` of [`run`](crate::run), said without a course: functions whose contracts state
-//! a fact of every run, and that do nothing. Each holds of whatever shelf and sinks a run was over; the last follows
-//! from no course, and speaks of words and texts alone.
+//! a fact of every run, and that do nothing. Each holds of whatever shelf and sinks a run was over.
 
 ghost use Rattle.sd_tool.specs.Laws.{FollowsCourse, HasWritten, HasLimit, IsDoneOrOverLimit};
-ghost use Rattle.sd_tool.specs.Laws.{HasJoined, HasAsked, AreNeverOutOfMemory};
+ghost use Rattle.sd_tool.specs.Laws.{HasJoined, HasAsked};
 
 use sd_base::{Shelf, Sink};
 
@@ -36,9 +35,4 @@ pub fn joined<F: Shelf, O: Sink, E: Sink>()
 /// written.
 pub fn asked<F: Shelf, O: Sink, E: Sink>()
     ensures { FollowsCourse F.Shelf O.Sink E.Sink HasAsked }
-{}
-
-/// No text has the fault that memory ran out, so that no refusal of a run is for it.
-pub fn refused_for_faults()
-    ensures { AreNeverOutOfMemory }
 {}

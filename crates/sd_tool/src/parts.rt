@@ -7,7 +7,7 @@ ghost use Rattle.sd_model.specs.Text.{number_text};
 ghost use Rattle.sd_tool.specs.inside.Devices.{AppendsLine};
 ghost use Rattle.sd_tool.specs.Ends.{OverLimit, text_of, group_text, line_of};
 ghost use Rattle.sd_tool.specs.Parts.{parts_text, line_text, number_seen};
-ghost use Rattle.sd_tool.specs.Refusals.{at_line, counts, signed_text};
+ghost use Rattle.sd_base.specs.FaultTexts.{at_line, counts, signed_text};
 
 use itoa::Buffer;
 use sd_base::{Sink, WriteFault, write_all};

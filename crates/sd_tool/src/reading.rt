@@ -16,7 +16,6 @@ ghost use Rattle.sd_tool.specs.Readings.{reading_of, Begins, Reads, plan_for};
 ghost use Rattle.sd_tool.specs.Readings.{with_input_word, with_tree_word, with_tree};
 ghost use Rattle.sd_tool.specs.inside.Readings.{with_input, with_vtree_text};
 ghost use Rattle.sd_tool.specs.Stops.{LeadsTo, GivesText};
-ghost use Rattle.sd_tool.specs.declared.refusal.Refusal.TheVariants as refusals;
 ghost use Rattle.sd_tool.specs.declared.stop.Stop.TheVariants as stops;
 
 use crate::plan::{RunPlan, announced};
@@ -216,8 +215,7 @@ fn read_groups<F: Shelf>(
 // The formula of the text of this file.
 fn formula_in(alloc: Global, file: &str, bytes: &[u8], kind: Kind) -> Result<Formula, Stop>
     requires { length bytes.now ≤ 67108864 }
-    ensures { GivesText (λ formula. formula) (refusals.BadFormula file.now) (dimacs kind bytes.now)
-        result }
+    ensures { GivesText (λ formula. formula) 2 file.now (dimacs kind bytes.now) result }
 {
     match read_dimacs(alloc, bytes, kind) {
         Ok(formula) => Ok(formula),
@@ -296,8 +294,7 @@ fn vtree_in(alloc: Global, file: &str, bytes: &[u8], variables: u32) -> Result<V
     requires fits { length bytes.now ≤ 67108864 }
     requires at_least_one { 1 ≤ variables }
     requires within_limit { variables ≤ 1024 }
-    ensures gives { GivesText plain_tree (refusals.BadVtree file.now)
-        (vtree_file variables bytes.now) result }
+    ensures gives { GivesText plain_tree 2 file.now (vtree_file variables bytes.now) result }
     ensures variables { IfOk result (λ vtree. leaves (plain_tree vtree) ≡ variables) }
 {
     match read_vtree(alloc, bytes, variables) {

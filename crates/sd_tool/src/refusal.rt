@@ -1,8 +1,11 @@
 // What the words and the texts of a run are refused for, and the line that says so.
 ghost use Rattle.std.specs.Prelude.{◌≡◌, ◌++◌};
 ghost use Rattle.sd_tool.specs.Parts.{parts_text};
-ghost use Rattle.sd_tool.specs.Refusals.{refusal_status, refusal_text, formula_fault_text, vtree_fault_text};
-ghost use Rattle.sd_tool.specs.Refusals.{sdd_fault_text, script_fault_text};
+ghost use Rattle.sd_tool.specs.Refusals.{refusal_status, refusal_text};
+ghost use Rattle.sd_file.specs.Reads.{sdd_fault_text};
+ghost use Rattle.sd_script.specs.Faults.{script_fault_text};
+ghost use Rattle.sd_formula.specs.Dimacs.{formula_fault_text};
+ghost use Rattle.sd_vfile.specs.Reads.{vtree_fault_text};
 ghost use Rattle.sd_words.specs.Rows.{words_fault_text};
 
 use crate::parts::{Parts, at_line, counts, literal_at_line, numbered, plain};

@@ -105,8 +105,7 @@ fn script_in(alloc: Global, file: &str, bytes: &[u8], variables: u32) -> Result<
     requires fits { length bytes.now ≤ 67108864 }
     requires at_least_one { 1 ≤ variables }
     requires within_limit { variables ≤ 1024 }
-    ensures gives { GivesText (λ script. script) (refusals.BadScript file.now)
-        (script_of variables bytes.now) result }
+    ensures gives { GivesText (λ script. script) 3 file.now (script_of variables bytes.now) result }
     ensures script { IfOk result (IsScript variables) }
     ensures within_limit { IfOk result (λ script. length script.commands ≤ 100000) }
 {
@@ -305,8 +304,7 @@ fn sdd_in(alloc: Global, file: &str, bytes: &[u8], variables: u32) -> Result<Sdd
     requires fits { length bytes.now ≤ 67108864 }
     requires at_least_one { 1 ≤ variables }
     requires within_limit { variables ≤ 1024 }
-    ensures gives { GivesText (λ read. read) (refusals.BadSdd file.now)
-        (sdd_file variables bytes.now) result }
+    ensures gives { GivesText (λ read. read) 2 file.now (sdd_file variables bytes.now) result }
     ensures variables { IfOk result (λ read. read.variables ≡ variables) }
 {
     match read_sdd(alloc, bytes, variables) {

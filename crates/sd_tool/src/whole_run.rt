@@ -40,8 +40,7 @@ use std::thread::Threads;
 /// `course` says all of this: `effects`, `line` and `ends` are its parts, and `complete` follows from it. So do the
 /// laws of [`laws`](crate::laws), which speak of no course: what a run without a script writes (`written`), when it
 /// passes its limit (`limited`) and that it is done or does so (`done_or_over_limit`), what a script of four lines
-/// writes (`joined`), and in which order files are asked for (`asked`). That no fault of the words or of a text is want
-/// of memory is the law `refused_for_faults`.
+/// writes (`joined`), and in which order files are asked for (`asked`).
 pub fn run<R: Threads + Sync, F: Shelf, O: Sink, E: Sink>(
     _rt: &R,
     alloc: Global,

@@ -11,10 +11,9 @@ use Rattle.sd_model.specs.Tree.{Tree, variables, leaves, IsVtree}
 use Rattle.sd_vtree.specs.Numbered.{times}
 use Rattle.sd_vtree.proofs.Times.{times_same, times_other}
 use Rattle.sd_vtree.proofs.Pigeons.{distinct_times, all_times}
-use Rattle.sd_vfile.specs.declared.fault.VtreeFault.{VtreeFault}
-use Rattle.sd_vfile.specs.declared.fault.VtreeFault.TheVariants.{NoHeader, CountDiffers}
+use Rattle.sd_vfile.specs.declared.fault.VtreeFault.TheVariants.{NoHeader}
 use Rattle.sd_vfile.specs.Reads.{Entry, is_child, has_leaf, missing, none_missing, roots_of, one_root, whole_tree}
-use Rattle.sd_vfile.specs.Reads.{entry_of, stated_by, tree_of_lines, vtree_file}
+use Rattle.sd_vfile.specs.Reads.{entry_of, stated_by, tree_of_lines, vtree_fault_text, vtree_file}
 use Rattle.sd_vfile.proofs.Forests.{leaf_count, below, leaf_none, leaf_some}
 use Rattle.sd_vfile.proofs.AreRead.{AreRead, none_read}
 use Rattle.sd_vfile.proofs.OneMore.{read_one_more}
@@ -157,11 +156,11 @@ whole_over : (v stated : ℕ) (es : List Entry) (t : Tree) → AreRead v es → 
 whole_over v stated es t read e =
     let differs = not (stated == length es) in
     let rest = λ (tree : Tree). none_missing (missing v es) >> done tree in
-    let first = past differs (CountDiffers stated (length es)) (one_root (roots_of es) >>= rest) t e in
+    let first = past differs _ (one_root (roots_of es) >>= rest) t e in
     let second = through (one_root (roots_of es)) rest t first.1 in
     over second.middle second.gave (none_missing (missing v es)) refl second.led
   where
-    over : (tree : Tree) → one_root (roots_of es) ≡ Ok tree → (r : Result (Unit {0}) VtreeFault)
+    over : (tree : Tree) → one_root (roots_of es) ≡ Ok tree → (r : Result (Unit {0}) (List ℕ))
         → r ≡ none_missing (missing v es) → (r >> done tree) ≡ Ok t → IsVtreeOver v t
     over tree root (Ok tt) is e =
         let same : done tree ≡ done t = e in
@@ -178,7 +177,7 @@ accepted_lines : (v : ℕ) (content : List TextLine) (t : Tree) → tree_of_line
 accepted_lines v [] t e = cc
 accepted_lines v (header ∷ lines) t e =
     let rest = λ (stated : ℕ). each_after (entry_of v) [] lines >>= λ es. whole_tree v stated es in
-    let first = through (ok_or (stated_by header.words) NoHeader) rest t e in
+    let first = through (ok_or (stated_by header.words) (vtree_fault_text NoHeader)) rest t e in
     let second = through (each_after (entry_of v) [] lines) (λ es. whole_tree v first.middle es) t first.led in
     whole_over v first.middle second.middle t (lines_read v lines second.middle second.gave) second.led
 

@@ -6,12 +6,11 @@ use Rattle.std.proofs.lemmas.Bool.{leb-true}
 use Rattle.sd_base.specs.Lines.{TextLine}
 use Rattle.sd_base.specs.Reading.{◌>>=◌, ◌>>◌, fault_if, each_after, read_more}
 use Rattle.sd_model.specs.Tree.{Tree, Leaf, Node}
-use Rattle.sd_vfile.specs.declared.fault.VtreeFault.{VtreeFault}
-use Rattle.sd_vfile.specs.declared.fault.VtreeFault.TheVariants.{BadLine, IdTwice, ChildUnknown, ChildTwice}
-use Rattle.sd_vfile.specs.declared.fault.VtreeFault.TheVariants.{VariableWrong}
+use Rattle.sd_vfile.specs.declared.fault.VtreeFault.TheVariants.{BadLine, ChildUnknown, ChildTwice}
 use Rattle.sd_vfile.specs.declared.form.Form.{Form}
 use Rattle.sd_vfile.specs.declared.form.Form.TheVariants.{LeafLine, InnerLine}
 use Rattle.sd_vfile.specs.Reads.{Entry, tree_with_id, has_id, is_child, has_leaf, form_of, placed, entry_of}
+use Rattle.sd_vfile.specs.Reads.{vtree_fault_text}
 
 -- ---- steps that came to an end
 
@@ -38,7 +37,7 @@ had (Some y) fault x e = let same : y ≡ x = cc in ap Some same
 had None fault x e = cc
 
 -- an end without a fault
-abbrev pub done : {A : Type 0} → A → Result A VtreeFault
+abbrev pub done : {A : Type 0} → A → Result A (List ℕ)
 done x = Ok x
 
 -- ---- the two forms
@@ -71,8 +70,8 @@ pub is_placed : (v : ℕ) (earlier : List Entry) (line : ℕ) (form : Form) (e :
 is_placed v earlier line (LeafLine id x) e h =
     let entry : Entry = record { id = id; tree = Leaf x; children = [] } in
     let wrong : Bool = not (nat_le 1 x && nat_le x v) || has_leaf x earlier in
-    let first = past (has_id id earlier) (IdTwice line) (fault_if wrong (VariableWrong line) >> Ok entry) e h in
-    let second = past wrong (VariableWrong line) (Ok entry) e first.1 in
+    let first = past (has_id id earlier) _ _ e h in
+    let second = past wrong _ (Ok entry) e first.1 in
     let tests = leaf_tests (nat_le 1 x) (nat_le x v) (has_leaf x earlier) second.0 in
     let whole : done entry ≡ done e = second.1 in
     let is : entry ≡ e = cc in
@@ -80,24 +79,25 @@ is_placed v earlier line (LeafLine id x) e h =
     (leaf_placed id x first.0 (leb-true 1 x tests.0) (leb-true x v tests.1) tests.2)
 is_placed v earlier line (InnerLine id left right) e h =
     let twice : Bool = left == right || is_child left earlier || is_child right earlier in
-    let rest : Tree → Tree → Result Entry VtreeFault =
-    λ l r. fault_if twice (ChildTwice line)
+    let rest : Tree → Tree → Result Entry (List ℕ) =
+    λ l r. fault_if twice (vtree_fault_text (ChildTwice line))
     >> Ok (record { id = id; tree = Node l r; children = left ∷ right ∷ [] }) in
-    let l_known : Result Tree VtreeFault = ok_or (tree_with_id left earlier) (ChildUnknown line) in
-    let r_known : Result Tree VtreeFault = ok_or (tree_with_id right earlier) (ChildUnknown line) in
-    let first = past (has_id id earlier) (IdTwice line) (l_known >>= λ l. r_known >>= λ r. rest l r) e h in
+    let unknown = vtree_fault_text (ChildUnknown line) in
+    let l_known : Result Tree (List ℕ) = ok_or (tree_with_id left earlier) unknown in
+    let r_known : Result Tree (List ℕ) = ok_or (tree_with_id right earlier) unknown in
+    let first = past (has_id id earlier) _ (l_known >>= λ l. r_known >>= λ r. rest l r) e h in
     let second = through l_known (λ l. r_known >>= λ r. rest l r) e first.1 in
     let l = second.middle in
     let third = through r_known (λ r. rest l r) e second.led in
     let r = third.middle in
     let entry : Entry = record { id = id; tree = Node l r; children = left ∷ right ∷ [] } in
-    let fourth = past twice (ChildTwice line) (Ok entry) e third.led in
+    let fourth = past twice _ (Ok entry) e third.led in
     let tests = child_tests (left == right) (is_child left earlier) (is_child right earlier) fourth.0 in
     let whole : done entry ≡ done e = fourth.1 in
     let is : entry ≡ e = cc in
     subst (IsPlaced v earlier) is
-    (inner_placed id left right l r first.0 (had (tree_with_id left earlier) (ChildUnknown line) l second.gave)
-    (had (tree_with_id right earlier) (ChildUnknown line) r third.gave) tests.0 tests.1 tests.2)
+    (inner_placed id left right l r first.0 (had (tree_with_id left earlier) unknown l second.gave)
+    (had (tree_with_id right earlier) unknown r third.gave) tests.0 tests.1 tests.2)
 
 -- what holds of no line, and of one more line that was placed, holds of all lines that were read
 pub read_keeps : (v : ℕ) (P : List Entry → Type 0)
@@ -112,7 +112,8 @@ read_keeps v P step es (line ∷ lines) all h p =
     let one = through (read_more (entry_of v) es line) (λ now. each_after (entry_of v) now lines) all h in
     let placed_one = through (entry_of v es line) (λ e. Ok (es ++ e ∷ [])) one.middle one.gave in
     let e = placed_one.middle in
-    let form = through (ok_or (form_of line.words) (BadLine line.number)) (placed v es line.number) e placed_one.gave in
+    let form_known = ok_or (form_of line.words) (vtree_fault_text (BadLine line.number)) in
+    let form = through form_known (placed v es line.number) e placed_one.gave in
     let here = is_placed v es line.number form.middle e form.led in
     let same : done (es ++ e ∷ []) ≡ done one.middle = placed_one.led in
     let is : es ++ e ∷ [] ≡ one.middle = cc in

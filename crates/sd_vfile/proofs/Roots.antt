@@ -7,7 +7,7 @@ use Rattle.std.specs.List.{range_with_len}
 use Rattle.std.proofs.lemmas.List.{take_all}
 use Rattle.std.proofs.lemmas.List.Elements.{filter_more}
 use Rattle.sd_vfile.specs.declared.fault.VtreeFault.TheVariants.{NotOneRoot, VariableMissing}
-use Rattle.sd_vfile.specs.Reads.{Entry, is_child, has_leaf, roots_of, one_root, none_missing}
+use Rattle.sd_vfile.specs.Reads.{Entry, is_child, has_leaf, roots_of, one_root, none_missing, vtree_fault_text}
 use Rattle.sd_vfile.specs.Steps.{no_entry, entry_tree}
 
 -- a node is a root
@@ -74,14 +74,14 @@ root_is es p n q so_far h one = ap one_root (sym (all_roots es p h) ∙ so_far.o
 
 -- there was none, or several
 pub roots_are : (es : List Entry) (p n q : ℕ) → RootsTo es p n q → length es ≤ p → (n ≡ 1 → ⊥)
-    → one_root (roots_of es) ≡ Err (NotOneRoot n)
+    → one_root (roots_of es) ≡ Err (vtree_fault_text (NotOneRoot n))
 roots_are es p n q so_far h several =
     go (roots_of es) (ap length (sym (all_roots es p h)) ∙ so_far.count)
   where
-    go : (roots : List Entry) → length roots ≡ n → one_root roots ≡ Err (NotOneRoot n)
-    go [] e = ap (λ k. Err (NotOneRoot k)) e
+    go : (roots : List Entry) → length roots ≡ n → one_root roots ≡ Err (vtree_fault_text (NotOneRoot n))
+    go [] e = ap (λ k. Err (vtree_fault_text (NotOneRoot k))) e
     go (root ∷ []) e = absurd (several (sym e))
-    go (root ∷ other ∷ roots) e = ap (λ k. Err (NotOneRoot k)) e
+    go (root ∷ other ∷ roots) e = ap (λ k. Err (vtree_fault_text (NotOneRoot k))) e
 
 -- ---- variables
 
@@ -103,7 +103,7 @@ leaf_there es x v h there =
 
 -- a variable that has none
 pub leaf_gone : (es : List Entry) (x v : ℕ) → x ≤ v → has_leaf x es ≡ false
-    → none_missing (missing_from es x v) ≡ Err (VariableMissing x)
+    → none_missing (missing_from es x v) ≡ Err (vtree_fault_text (VariableMissing x))
 leaf_gone es x v h gone =
     let step = range_step x (v + 1 - x) (omega arith) in
     rw (step, gone) refl

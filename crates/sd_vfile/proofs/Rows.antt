@@ -1,8 +1,7 @@
 -- Worked examples of vtree files, with their trees or their first faults.
 use Rattle.std.proofs.Common.{◌≡◌, refl, Ok, Err}
 use Rattle.std.specs.Prelude.{codes}
-use Rattle.sd_vfile.specs.declared.fault.VtreeFault.TheVariants.{IdTwice, ChildUnknown, ChildTwice, VariableWrong}
-use Rattle.sd_vfile.specs.declared.fault.VtreeFault.TheVariants.{CountDiffers, NotOneRoot, VariableMissing}
+use Rattle.sd_model.specs.Text.{number_text}
 use Rattle.sd_model.specs.Tree.{Leaf, Node}
 use Rattle.sd_vfile.specs.Reads.{vtree_file}
 
@@ -11,8 +10,8 @@ with_comment : vtree_file 2 (codes "c a comment\nvtree 3\nL 2 1\nL 0 2\nI 1 2 0\
 unfolding vtree_file
 with_comment = refl
 
-leaf_twice : vtree_file 2 (codes "vtree 3\nL 0 1\nL 1 1\nI 2 0 1\n") ≡ Err (VariableWrong 3)
-unfolding vtree_file
+leaf_twice : vtree_file 2 (codes "vtree 3\nL 0 1\nL 1 1\nI 2 0 1\n") ≡ Err (codes ": line 3: variable wrong")
+unfolding vtree_file number_text
 leaf_twice = refl
 
 -- ids need not be below the number of nodes
@@ -21,12 +20,12 @@ unfolding vtree_file
 any_ids = refl
 
 -- no node, as was stated
-no_nodes : vtree_file 2 (codes "vtree 0\n") ≡ Err (NotOneRoot 0)
-unfolding vtree_file
+no_nodes : vtree_file 2 (codes "vtree 0\n") ≡ Err (codes ": 0 roots")
+unfolding vtree_file number_text
 no_nodes = refl
 
-none_found : vtree_file 2 (codes "vtree 3\n") ≡ Err (CountDiffers 3 0)
-unfolding vtree_file
+none_found : vtree_file 2 (codes "vtree 3\n") ≡ Err (codes ": 3 stated, 0 found")
+unfolding vtree_file number_text
 none_found = refl
 
 -- a balanced tree, as it is written
@@ -37,23 +36,23 @@ unfolding vtree_file
 four_variables = refl
 
 -- a child stands on a later line
-later_child : vtree_file 2 (codes "vtree 3\nL 0 1\nI 1 0 2\nL 2 2\n") ≡ Err (ChildUnknown 3)
-unfolding vtree_file
+later_child : vtree_file 2 (codes "vtree 3\nL 0 1\nI 1 0 2\nL 2 2\n") ≡ Err (codes ": line 3: child unknown")
+unfolding vtree_file number_text
 later_child = refl
 
-child_twice : vtree_file 2 (codes "vtree 3\nL 0 1\nL 2 2\nI 1 0 0\n") ≡ Err (ChildTwice 4)
-unfolding vtree_file
+child_twice : vtree_file 2 (codes "vtree 3\nL 0 1\nL 2 2\nI 1 0 0\n") ≡ Err (codes ": line 4: child twice")
+unfolding vtree_file number_text
 child_twice = refl
 
-two_roots : vtree_file 2 (codes "vtree 2\nL 0 1\nL 2 2\n") ≡ Err (NotOneRoot 2)
-unfolding vtree_file
+two_roots : vtree_file 2 (codes "vtree 2\nL 0 1\nL 2 2\n") ≡ Err (codes ": 2 roots")
+unfolding vtree_file number_text
 two_roots = refl
 
-one_missing : vtree_file 2 (codes "vtree 1\nL 0 2\n") ≡ Err (VariableMissing 1)
-unfolding vtree_file
+one_missing : vtree_file 2 (codes "vtree 1\nL 0 2\n") ≡ Err (codes ": variable missing: 1")
+unfolding vtree_file number_text
 one_missing = refl
 
 -- blank lines are counted
-id_twice : vtree_file 2 (codes "vtree 3\nL 0 1\n\nL 0 7\n") ≡ Err (IdTwice 4)
-unfolding vtree_file
+id_twice : vtree_file 2 (codes "vtree 3\nL 0 1\n\nL 0 7\n") ≡ Err (codes ": line 4: id twice")
+unfolding vtree_file number_text
 id_twice = refl

@@ -1,16 +1,16 @@
--- The tree that a vtree file stands for, or its first fault.
+-- The tree that a vtree file stands for, or the text of its first fault, behind the name of the file.
 use Rattle.std.specs.Prelude.{◌≡◌, ℕ, Bool, false, not, ◌||◌, ◌==◌, if◌then◌else◌, codes, bytes_eq}
-use Rattle.std.specs.Prelude.{List, [], ◌∷◌, length, filter, find}
+use Rattle.std.specs.Prelude.{List, [], ◌∷◌, ◌++◌, length, filter, find}
 use Rattle.std.specs.Prelude.{Option, Some, None, ok_or, option_and_then, option_map, Result, Ok, Err}
 use Rattle.std.specs.List.{list_any, range_with_len}
 use Rattle.sd_base.specs.Lines.{TextLine, content_of}
 use Rattle.sd_base.specs.Numbers.{is_within, natural_value}
 use Rattle.sd_base.specs.Reading.{◌>>=◌, ◌>>◌, fault_if, fault_for, each_after}
+use Rattle.sd_model.specs.Text.{number_text}
 use Rattle.sd_model.specs.Tree.{Tree, Leaf, Node}
+use Rattle.sd_base.specs.FaultTexts.{at_line, counts}
 use Rattle.sd_vfile.specs.declared.fault.VtreeFault.{VtreeFault}
-use Rattle.sd_vfile.specs.declared.fault.VtreeFault.TheVariants.{NoHeader, BadLine, IdTwice, ChildUnknown}
-use Rattle.sd_vfile.specs.declared.fault.VtreeFault.TheVariants.{ChildTwice, VariableWrong, CountDiffers, NotOneRoot}
-use Rattle.sd_vfile.specs.declared.fault.VtreeFault.TheVariants.{VariableMissing, OutOfMemory}
+use Rattle.sd_vfile.specs.declared.fault.VtreeFault.TheVariants as fault
 use Rattle.sd_vfile.specs.declared.form.Form.{Form}
 use Rattle.sd_vfile.specs.declared.form.Form.TheVariants.{LeafLine, InnerLine}
 
@@ -64,36 +64,37 @@ has_leaf x entries = list_any (λ e. is_leaf x e.tree) entries
 -- ---- a node line after earlier ones
 
 -- the node of a form on a line, over the variables 1 to v
-abbrev pub placed : ℕ → List Entry → ℕ → Form → Result Entry VtreeFault
+abbrev pub placed : ℕ → List Entry → ℕ → Form → Result Entry (List ℕ)
 placed v earlier line (LeafLine id x) = do
-  fault_if (has_id id earlier) (IdTwice line)
-  fault_if (not (is_within 1 v x) || has_leaf x earlier) (VariableWrong line)
+  fault_if (has_id id earlier) (at_line line (codes ": id twice"))
+  fault_if (not (is_within 1 v x) || has_leaf x earlier) (at_line line (codes ": variable wrong"))
   Ok (record { id = id; tree = Leaf x; children = [] })
 placed v earlier line (InnerLine id left right) = do
-  fault_if (has_id id earlier) (IdTwice line)
-  l ← ok_or (tree_with_id left earlier) (ChildUnknown line)
-  r ← ok_or (tree_with_id right earlier) (ChildUnknown line)
-  fault_if (left == right || is_child left earlier || is_child right earlier) (ChildTwice line)
+  fault_if (has_id id earlier) (at_line line (codes ": id twice"))
+  l ← ok_or (tree_with_id left earlier) (at_line line (codes ": child unknown"))
+  r ← ok_or (tree_with_id right earlier) (at_line line (codes ": child unknown"))
+  fault_if (left == right || is_child left earlier || is_child right earlier) (at_line line (codes ": child twice"))
   Ok (record { id = id; tree = Node l r; children = left ∷ right ∷ [] })
 
 -- the node of a line
-abbrev pub entry_of : ℕ → List Entry → TextLine → Result Entry VtreeFault
+abbrev pub entry_of : ℕ → List Entry → TextLine → Result Entry (List ℕ)
 entry_of v earlier line = do
-  form ← ok_or (form_of line.words) (BadLine line.number)
+  form ← ok_or (form_of line.words) (at_line line.number (codes ": bad line"))
   placed v earlier line.number form
 
 -- ---- after the last line
 
 -- the tree of the only root
-abbrev pub one_root : List Entry → Result Tree VtreeFault
+abbrev pub one_root : List Entry → Result Tree (List ℕ)
 one_root (root ∷ []) = Ok root.tree
-one_root roots = Err (NotOneRoot (length roots))
+one_root roots = Err (codes ": " ++ number_text (length roots) ++ codes " roots")
 
 -- the tree of all node lines: of those of which no other is the parent there is one, and each variable has a leaf
-abbrev pub tree_of_nodes : ℕ → List Entry → Result Tree VtreeFault
+abbrev pub tree_of_nodes : ℕ → List Entry → Result Tree (List ℕ)
 tree_of_nodes v entries = do
   tree ← one_root (filter (λ e. not (is_child e.id entries)) entries)
-  fault_for VariableMissing (find (λ x. not (has_leaf x entries)) (range_with_len 1 v))
+  fault_for (λ x. codes ": variable missing: " ++ number_text x)
+      (find (λ x. not (has_leaf x entries)) (range_with_len 1 v))
   Ok tree
 
 -- ---- the text
@@ -116,9 +117,9 @@ of_nodes word no_header differs node made (header ∷ lines) = do
 
 -- The tree of a text over the variables 1 to v, or the text's first fault. Blank lines and comments, which begin with
 -- c, are passed over.
-unfoldable pub vtree_file : ℕ → List ℕ → Result Tree VtreeFault
+unfoldable pub vtree_file : ℕ → List ℕ → Result Tree (List ℕ)
 vtree_file v bytes =
-    of_nodes (codes "vtree") NoHeader CountDiffers (entry_of v) (tree_of_nodes v)
+    of_nodes (codes "vtree") (codes ": no header") counts (entry_of v) (tree_of_nodes v)
     (content_of 99 bytes)
 
 -- ---- for the contracts of private functions, and for proofs
@@ -128,36 +129,49 @@ abbrev pub missing : ℕ → List Entry → Option ℕ
 missing v entries = find (λ x. not (has_leaf x entries)) (range_with_len 1 v)
 
 -- its fault, where there is one
-abbrev pub none_missing : Option ℕ → Result (Unit {0}) VtreeFault
-none_missing found = fault_for VariableMissing found
+abbrev pub none_missing : Option ℕ → Result (Unit {0}) (List ℕ)
+none_missing found = fault_for (λ x. codes ": variable missing: " ++ number_text x) found
 
 -- the roots
 abbrev pub roots_of : List Entry → List Entry
 roots_of entries = filter (λ e. not (is_child e.id entries)) entries
 
 -- the tree of all node lines, where the header states a number of them
-abbrev pub whole_tree : ℕ → ℕ → List Entry → Result Tree VtreeFault
+abbrev pub whole_tree : ℕ → ℕ → List Entry → Result Tree (List ℕ)
 whole_tree v stated entries = do
-  fault_if (not (stated == length entries)) (CountDiffers stated (length entries))
+  fault_if (not (stated == length entries)) (counts stated (length entries))
   tree_of_nodes v entries
 
 -- the tree of a header `vtree N` and the lines after it
-abbrev pub tree_of_lines : ℕ → List TextLine → Result Tree VtreeFault
+abbrev pub tree_of_lines : ℕ → List TextLine → Result Tree (List ℕ)
 tree_of_lines v lines =
-    of_nodes (codes "vtree") NoHeader CountDiffers (entry_of v) (tree_of_nodes v) lines
+    of_nodes (codes "vtree") (codes ": no header") counts (entry_of v) (tree_of_nodes v) lines
 
 -- the number of a header `vtree N`
 abbrev pub stated_by : List (List ℕ) → Option ℕ
 stated_by words = stated_behind (codes "vtree") words
 
--- ---- what a reader answers
+-- ---- what a reader answers, for its contract and for proofs
 
--- a reading has this fault; OutOfMemory says nothing of it
-abbrev pub Fails : {Y : Type 0} → VtreeFault → Result Y VtreeFault → Type 0
-Fails OutOfMemory reading = Unit {0}
-Fails fault reading = reading ≡ Err fault
+-- the text of a fault, after the file's name
+abbrev pub vtree_fault_text : VtreeFault → List ℕ
+vtree_fault_text fault.NoHeader = codes ": no header"
+vtree_fault_text (fault.BadLine n) = at_line n (codes ": bad line")
+vtree_fault_text (fault.IdTwice n) = at_line n (codes ": id twice")
+vtree_fault_text (fault.ChildUnknown n) = at_line n (codes ": child unknown")
+vtree_fault_text (fault.ChildTwice n) = at_line n (codes ": child twice")
+vtree_fault_text (fault.VariableWrong n) = at_line n (codes ": variable wrong")
+vtree_fault_text (fault.CountDiffers s f) = counts s f
+vtree_fault_text (fault.NotOneRoot r) = codes ": " ++ number_text r ++ codes " roots"
+vtree_fault_text (fault.VariableMissing x) = codes ": variable missing: " ++ number_text x
+vtree_fault_text fault.OutOfMemory = []
+
+-- a reading has the text of this fault; OutOfMemory says nothing of it
+abbrev pub Fails : {Y : Type 0} → VtreeFault → Result Y (List ℕ) → Type 0
+Fails fault.OutOfMemory reading = Unit {0}
+Fails found reading = reading ≡ Err (vtree_fault_text found)
 
 -- The answer, as view sees it, is what the reading gives, unless memory ran out.
-abbrev pub Gives : {X Y : Type 0} → (X → Y) → Result X VtreeFault → Result Y VtreeFault → Type 0
+abbrev pub Gives : {X Y : Type 0} → (X → Y) → Result X VtreeFault → Result Y (List ℕ) → Type 0
 Gives view (Ok x) reading = reading ≡ Ok (view x)
 Gives view (Err e) reading = Fails e reading

@@ -95,7 +95,8 @@ fn check_inner(forms: &[Form], line: u32, id: u64, left: u64, right: u64) -> Res
 #[tactic(auto, using(crate::proofs::Growing::tree_found))]
 fn check_child(forms: &[Form], line: u32, id: u64) -> Result<(), VtreeFault>
     ensures { Gives (λ _. tree_with id (entries_of forms.now)) result
-        (ok_or (texts.tree_with_id id (entries_of forms.now)) (VtreeFault.ChildUnknown line)) }
+        (ok_or (texts.tree_with_id id (entries_of forms.now))
+        (texts.vtree_fault_text (VtreeFault.ChildUnknown line))) }
 {
     if !has_id(forms, id) {
         return Err(VtreeFault::ChildUnknown { line });

@@ -1,18 +1,15 @@
 -- The readings step by step, for the contracts of private functions and for proofs.
 use Rattle.std.specs.Prelude.{◌≡◌, ℕ, List, [], ◌++◌, codes, map, Option, Some, None, Result, Ok}
+use Rattle.std.specs.List.{enumerate_from}
 use Rattle.std.specs.Option.{option_map_or, option_to_list}
 use Rattle.sd_base.specs.Files.{Files}
 use Rattle.sd_model.specs.Tree.{Tree}
-use Rattle.sd_formula.specs.declared.error.FormulaError.{FormulaError}
 use Rattle.sd_formula.specs.declared.formula.Kind.{Kind}
 use Rattle.sd_formula.specs.declared.formula.Kind.TheVariants as kinds
 use Rattle.sd_formula.specs.Dimacs.{Groups, dimacs}
 use Rattle.sd_vfile.specs.Reads.{vtree_file}
-use Rattle.sd_vfile.specs.declared.fault.VtreeFault.{VtreeFault}
 use Rattle.sd_file.specs.Reads.{File, sdd_file}
-use Rattle.sd_file.specs.declared.fault.SddFault.{SddFault}
 use Rattle.sd_script.specs.Scripts.{Script, script_of}
-use Rattle.sd_script.specs.declared.fault.ScriptFault.{ScriptFault}
 use Rattle.sd_words.specs.JobOf.{job_of}
 use Rattle.sd_words.specs.declared.jobs.Job.{Job}
 use Rattle.sd_words.specs.declared.jobs.InputWord.{InputWord}
@@ -24,7 +21,10 @@ use Rattle.sd_script.specs.declared.command.Command.{Command as Line}
 use Rattle.sd_tool.specs.Readings.{Reading, Refuses, or_refused, with_lines, with_tree, with_tree_word}
 use Rattle.sd_tool.specs.Readings.{with_input_word}
 use Rattle.sd_tool.specs.Written.{IsFormulaOf}
-use Rattle.sd_tool.specs.Refusals.{formula_fault_text, vtree_fault_text, sdd_fault_text, script_fault_text}
+
+-- commands in lines that follow one another, from this one on
+abbrev pub in_lines : ℕ → List RunCommand → List NumberedCommand
+in_lines first commands = map (λ (n, command). record { line = n; command = command }) (enumerate_from first commands)
 
 -- a command for a file that is there
 abbrev pub for_file : (List ℕ → RunCommand) → Option (List ℕ) → List RunCommand
@@ -54,53 +54,53 @@ abbrev pub Text : Type 0
 Text = Option (List ℕ)
 
 -- a text is read so, and refused where it is too long or has a fault
-abbrev pub parsed : {A E : Type 0} → ℕ → (E → List ℕ) → (List ℕ → Result A E) → List ℕ → (A → Reading) → Text → Reading
-parsed status fault_text read file next text =
-    option_map_or (λ bytes. or_refused status file fault_text next (read bytes)) text
+abbrev pub parsed : {A : Type 0} → ℕ → (List ℕ → Result A (List ℕ)) → List ℕ → (A → Reading) → Text → Reading
+parsed status read file next text =
+    option_map_or (λ bytes. or_refused status file next (read bytes)) text
     (Refuses (status, file ++ codes ": too long"))
 
 -- a loaded file that was read
-abbrev pub with_sdd_reading : List ℕ → (File → Reading) → Result File SddFault → Reading
-with_sdd_reading file next read = or_refused 2 file sdd_fault_text next read
+abbrev pub with_sdd_reading : List ℕ → (File → Reading) → Result File (List ℕ) → Reading
+with_sdd_reading file next read = or_refused 2 file next read
 
 -- the text of one over v variables
 abbrev pub with_sdd : ℕ → List ℕ → (File → Reading) → Text → Reading
-with_sdd v file next text = parsed 2 sdd_fault_text (sdd_file v) file next text
+with_sdd v file next text = parsed 2 (sdd_file v) file next text
 
 -- the commands of a script
 abbrev pub script_reading : ℕ → (List NumberedCommand → Reading) → Script → Reading
 script_reading v begin script = with_lines v script begin [] script.commands
 
 -- a script that was read
-abbrev pub with_script_reading : List ℕ → ℕ → (List NumberedCommand → Reading) → Result Script ScriptFault → Reading
-with_script_reading file v begin read = or_refused 3 file script_fault_text (script_reading v begin) read
+abbrev pub with_script_reading : List ℕ → ℕ → (List NumberedCommand → Reading) → Result Script (List ℕ) → Reading
+with_script_reading file v begin read = or_refused 3 file (script_reading v begin) read
 
 -- the text of one over v variables
 abbrev pub with_script_text : List ℕ → ℕ → (List NumberedCommand → Reading) → Text → Reading
-with_script_text file v begin text = parsed 3 script_fault_text (script_of v) file (script_reading v begin) text
+with_script_text file v begin text = parsed 3 (script_of v) file (script_reading v begin) text
 
 -- a vtree file that was read
-abbrev pub with_vtree_reading : Job → Groups → List ℕ → Result Tree VtreeFault → Reading
-with_vtree_reading job formula file read = or_refused 2 file vtree_fault_text (with_tree job formula) read
+abbrev pub with_vtree_reading : Job → Groups → List ℕ → Result Tree (List ℕ) → Reading
+with_vtree_reading job formula file read = or_refused 2 file (with_tree job formula) read
 
 -- the text of one
 abbrev pub with_vtree_text : Job → Groups → List ℕ → Text → Reading
 with_vtree_text job formula file text =
-    parsed 2 vtree_fault_text (vtree_file formula.variables) file (with_tree job formula) text
+    parsed 2 (vtree_file formula.variables) file (with_tree job formula) text
 
 -- a formula file that was read
-abbrev pub with_formula : Job → List ℕ → Result Groups FormulaError → Reading
-with_formula job file read =
-    or_refused 2 file formula_fault_text (λ formula. with_tree_word job formula job.tree) read
+abbrev pub with_formula_reading : Job → List ℕ → Result Groups (List ℕ) → Reading
+with_formula_reading job file read =
+    or_refused 2 file (λ formula. with_tree_word job formula job.tree) read
 
 -- the text of one
 abbrev pub with_input : Job → Input → Text → Reading
 with_input job input text =
-    parsed 2 formula_fault_text (dimacs input.kind) input.file (λ formula. with_tree_word job formula job.tree) text
+    parsed 2 (dimacs input.kind) input.file (λ formula. with_tree_word job formula job.tree) text
 
 -- words that were read
 abbrev pub with_job : Result Job (List ℕ) → Reading
-with_job read = or_refused 1 [] (λ text. text) (λ job. with_input_word job job.input) read
+with_job read = or_refused 1 [] (λ job. with_input_word job job.input) read
 
 -- the words, without a script, ask for this formula
 pub record IsInput (words : List (List ℕ)) (files : Files) (job : Job) (formula : Groups) : Type 0 where

@@ -1,8 +1,8 @@
 use Rattle.std.proofs.Common.{refl}
 use Rattle.sd_formula.specs.Dimacs.{dimacs}
 use Rattle.sd_tool.specs.Readings.{Reads}
-use Rattle.sd_tool.specs.inside.Readings.{Input, with_input, with_formula}
-use Rattle.sd_tool.specs.declared.refusal.Refusal.TheVariants.{BadFormula, TooLong}
+use Rattle.sd_tool.specs.inside.Readings.{Input, with_input, with_formula_reading}
+use Rattle.sd_tool.specs.declared.refusal.Refusal.TheVariants.{TooLong}
 use Rattle.sd_tool.proofs.ReadingLemmas.{text_given, text_lacking, text_leads, stops_for}
 use Rattle.sd_tool.proofs.reading.read_groups.Goals as goal
 
@@ -12,7 +12,7 @@ returns-in-Ok-Some-clause-leads g c = λ job.
     let file = c.args.file.now in
     let input : Input = record { kind = c.args.kind; file = file } in
     let bytes = c.as_slice.result.now in
-    text_leads _ told (Reads file (with_input job input)) (with_formula job file) (λ f. f) (BadFormula file)
+    text_leads _ told (Reads file (with_input job input)) (with_formula_reading job file) (λ f. f) 2 file
     (dimacs c.args.kind bytes) c.formula_in.result (g.F.Shelf.read_faults c.args.shelf.now)
     (g.F.Shelf.read_faults c.read_text.new.shelf) (λ fault. refl)
     (text_given _ told file (with_input job input) _ c.in-Ok-Some.bytes bytes c.in-Ok-Some.field-0-is c.as_slice.ensures

@@ -5,7 +5,7 @@ use Rattle.sd_base.specs.Asked.{Adds}
 use Rattle.sd_tool.specs.Asks.{ComesTo}
 use Rattle.sd_tool.specs.Readings.{Reads}
 use Rattle.sd_tool.specs.inside.Readings.{with_vtree_text, with_vtree_reading}
-use Rattle.sd_tool.specs.declared.refusal.Refusal.TheVariants.{BadVtree, TooLong}
+use Rattle.sd_tool.specs.declared.refusal.Refusal.TheVariants.{TooLong}
 use Rattle.sd_tool.proofs.ReadingLemmas.{text_given, text_lacking, text_leads, stops_for}
 use Rattle.sd_tool.proofs.reading.read_vtree_file.Goals as goal
 
@@ -16,7 +16,7 @@ returns-in-Ok-Some-clause-leads g c = λ job formula same.
     let next = with_vtree_text job formula file in
     let bytes = c.as_slice.result.now in
     let asks = Adds g.F.Shelf.asked c.args.shelf.now c.read_text.new.shelf in
-    text_leads _ told (Reads file next) (with_vtree_reading job formula file) plain_tree (BadVtree file)
+    text_leads _ told (Reads file next) (with_vtree_reading job formula file) plain_tree 2 file
     (vtree_file c.args.variables bytes) c.vtree_in.result (g.F.Shelf.read_faults c.args.shelf.now)
     (g.F.Shelf.read_faults c.read_text.new.shelf) (λ fault. refl)
     (subst (λ (v : ℕ). ComesTo asks told (Reads file next)

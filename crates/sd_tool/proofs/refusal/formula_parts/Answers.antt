@@ -1,5 +1,5 @@
 use Rattle.std.proofs.Common.{◌++◌, sym, ap, ◌∙◌}
-use Rattle.sd_tool.specs.Refusals.{formula_fault_text}
+use Rattle.sd_formula.specs.Dimacs.{formula_fault_text}
 use Rattle.sd_tool.proofs.PartLemmas.{variables_text}
 use Rattle.sd_tool.proofs.refusal.formula_parts.Goals as goal
 

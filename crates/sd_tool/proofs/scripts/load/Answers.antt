@@ -2,7 +2,7 @@ use Rattle.std.proofs.Common.{refl}
 use Rattle.sd_file.specs.Reads.{sdd_file}
 use Rattle.sd_tool.specs.Readings.{Reads}
 use Rattle.sd_tool.specs.inside.Readings.{with_sdd, with_sdd_reading}
-use Rattle.sd_tool.specs.declared.refusal.Refusal.TheVariants.{BadSdd, TooLong}
+use Rattle.sd_tool.specs.declared.refusal.Refusal.TheVariants.{TooLong}
 use Rattle.sd_tool.proofs.ReadingLemmas.{text_given, text_lacking, text_leads, stops_for}
 use Rattle.sd_tool.proofs.scripts.load.Goals as goal
 
@@ -12,7 +12,7 @@ returns-in-Ok-Some-clause-leads g c = λ next.
     let file = c.args.file.now in
     let text = with_sdd c.args.variables file next in
     let bytes = c.as_slice.result.now in
-    text_leads _ told (Reads file text) (with_sdd_reading file next) (λ read. read) (BadSdd file)
+    text_leads _ told (Reads file text) (with_sdd_reading file next) (λ read. read) 2 file
     (sdd_file c.args.variables bytes) c.sdd_in.result (g.F.Shelf.read_faults c.args.shelf.now)
     (g.F.Shelf.read_faults c.read_text.new.shelf) (λ fault. refl)
     (text_given _ told file text _ c.in-Ok-Some.bytes bytes c.in-Ok-Some.field-0-is c.as_slice.ensures

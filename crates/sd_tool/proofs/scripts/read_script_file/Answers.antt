@@ -2,7 +2,7 @@ use Rattle.std.proofs.Common.{refl}
 use Rattle.sd_script.specs.Scripts.{script_of}
 use Rattle.sd_tool.specs.Readings.{Reads}
 use Rattle.sd_tool.specs.inside.Readings.{with_script_text, with_script_reading}
-use Rattle.sd_tool.specs.declared.refusal.Refusal.TheVariants.{BadScript, LongScript}
+use Rattle.sd_tool.specs.declared.refusal.Refusal.TheVariants.{LongScript}
 use Rattle.sd_tool.proofs.ReadingLemmas.{text_given, text_lacking, text_leads, stops_for}
 use Rattle.sd_tool.proofs.scripts.read_script_file.Goals as goal
 
@@ -12,8 +12,8 @@ returns-in-Ok-Some-clause-leads g c = λ begin.
     let file = c.args.file.now in
     let text = with_script_text file c.args.variables begin in
     let bytes = c.as_slice.result.now in
-    text_leads _ told (Reads file text) (with_script_reading file c.args.variables begin) (λ script. script)
-    (BadScript file) (script_of c.args.variables bytes) c.script_in.result (g.F.Shelf.read_faults c.args.shelf.now)
+    text_leads _ told (Reads file text) (with_script_reading file c.args.variables begin) (λ script. script) 3
+    file (script_of c.args.variables bytes) c.script_in.result (g.F.Shelf.read_faults c.args.shelf.now)
     (g.F.Shelf.read_faults c.read_text.new.shelf) (λ fault. refl)
     (text_given _ told file text _ c.in-Ok-Some.bytes bytes c.in-Ok-Some.field-0-is c.as_slice.ensures
     (c.in-Ok-Some.ensures.leads text)) c.script_in.ensures.gives
