@@ -13,14 +13,10 @@ pub record IsGenerable (count seed : ℕ) : Type 0 where
   pub within_limit : count ≤ 1024
   pub seed_fits : seed < 2 ^ 32
 
--- the state after another one, with the multiplier and the increment of Numerical Recipes
-abbrev pub next_state : ℕ → ℕ
-next_state x = (1664525 * x + 1013904223) % 4294967296
-
--- the state of a number, where the seed has the number 0
+-- the state of a number, where the seed has the number 0, with the multiplier and the increment of Numerical Recipes
 abbrev pub state_at : ℕ → ℕ → ℕ
 state_at seed zero = seed
-state_at seed (suc n) = next_state (state_at seed n)
+state_at seed (suc n) = (1664525 * state_at seed n + 1013904223) % 4294967296
 
 -- the literal of a variable, which is positive where the state is in the lower half
 abbrev pub literal_by : ℕ → ℕ → ℤ
@@ -30,8 +26,7 @@ literal_by x variable = if nat_lt x 2147483648 then pos variable else neg_ℤ (p
 abbrev pub generated_clause : ℕ → ℕ → Group
 generated_clause seed i = record {
   exclusive = false;
-  literals = literal_by (state_at seed (3 * i + 1)) (i + 1) ∷ literal_by (state_at seed (3 * i + 2)) (i + 2)
-      ∷ literal_by (state_at seed (3 * i + 3)) (i + 3) ∷ [];
+  literals = map (λ j. literal_by (state_at seed (3 * i + j)) (i + j)) (1 ∷ 2 ∷ 3 ∷ []);
 }
 
 -- the formula of so many variables: a clause begins at each variable but the last two
@@ -40,6 +35,10 @@ generated_formula count seed =
     record { kind = Cnf; variables = count; groups = map (generated_clause seed) (range_with_len 0 (count - 2)) }
 
 -- ---- for the contracts of private functions
+
+-- the state after another one
+abbrev pub next_state : ℕ → ℕ
+next_state x = (1664525 * x + 1013904223) % 4294967296
 
 -- the first clauses
 abbrev pub generated_clauses : ℕ → ℕ → List Group

@@ -10,10 +10,10 @@ use Rattle.sd_base.specs.Words.{lines_of}
 use Rattle.sd_base.specs.Lines.{TextLine, numbered_lines_from, is_content}
 use Rattle.sd_base.specs.Reading.{◌>>=◌, ◌>>◌, fault_if}
 use Rattle.sd_script.specs.declared.command.Command.{Command}
-use Rattle.sd_script.specs.declared.fault.ScriptFault.{ScriptFault}
 use Rattle.sd_script.specs.declared.fault.ScriptFault.TheVariants as faults
 use Rattle.sd_script.specs.declared.command.Action.{Action}
 use Rattle.sd_script.specs.Commands.{uses, binds, writes, has, bound, written_files}
+use Rattle.sd_script.specs.Faults.{script_fault_text}
 use Rattle.sd_script.specs.Phrases as p
 use Rattle.sd_script.specs.Phrases.{Phrase, Word, phrase_of, names_in, files_in, renamed, action_of, seen}
 use Rattle.sd_script.specs.Phrases.{numbered_phrase, with_phrase, with_command}
@@ -27,25 +27,25 @@ use Rattle.sd_script.proofs.WithLine.{with_line_is}
 -- ---- steps of a reading that has no fault
 
 -- a test that passed, and what follows
-pub passed : {B : Type 0} (b : Bool) (e : ScriptFault) (rest : Result B ScriptFault) (x : B)
+pub passed : {B : Type 0} (b : Bool) (e : List ℕ) (rest : Result B (List ℕ)) (x : B)
     → (fault_if b e >> rest) ≡ Ok x → (b ≡ false) × (rest ≡ Ok x)
 passed true e rest x h = cc
 passed false e rest x h = (refl, h)
 
 -- a step that gave a value, and what follows
-pub gave : {A B : Type 0} (r : Result A ScriptFault) (f : A → Result B ScriptFault) (x : B)
+pub gave : {A B : Type 0} (r : Result A (List ℕ)) (f : A → Result B (List ℕ)) (x : B)
     → (r >>= f) ≡ Ok x → (a : A) × (r ≡ Ok a) × (f a ≡ Ok x)
 gave (Ok a) f x h = (a, refl, h)
 gave (Err e) f x h = cc
 
 -- a step, and what follows
-pub went_on : {A B : Type 0} (r : Result A ScriptFault) (rest : Result B ScriptFault) (x : B)
+pub went_on : {A B : Type 0} (r : Result A (List ℕ)) (rest : Result B (List ℕ)) (x : B)
     → (r >> rest) ≡ Ok x → (a : A) × (r ≡ Ok a) × (rest ≡ Ok x)
 went_on (Ok a) rest x h = (a, refl, h)
 went_on (Err e) rest x h = cc
 
 -- an option that was there
-was_there : {A : Type 0} (o : Option A) (e : ScriptFault) (a : A) → ok_or o e ≡ Ok a → o ≡ Some a
+was_there : {A : Type 0} (o : Option A) (e : List ℕ) (a : A) → ok_or o e ≡ Ok a → o ≡ Some a
 was_there (Some b) e a h = let same : b ≡ a = cc in ap Some same
 was_there None e a h = cc
 
@@ -66,11 +66,11 @@ record Passes (v : ℕ) (earlier : List Command) (action : Action) : Type 0 wher
 passes : (v : ℕ) (earlier : List Command) (line : ℕ) (action : Action)
     → checked v earlier line action ≡ Ok tt → Passes v earlier action
 passes v earlier line action h =
-    let one = passed _ (faults.NameUnknown line) _ tt h in
-    let two = passed _ (faults.NameTaken line) _ tt one.1 in
-    let three = passed _ (faults.LiteralRange line) _ tt two.1 in
-    let four = passed _ (faults.NumberRange line) _ tt three.1 in
-    let five = passed _ (faults.FileTwice line) _ tt four.1 in
+    let one = passed _ (script_fault_text (faults.NameUnknown line)) _ tt h in
+    let two = passed _ (script_fault_text (faults.NameTaken line)) _ tt one.1 in
+    let three = passed _ (script_fault_text (faults.LiteralRange line)) _ tt two.1 in
+    let four = passed _ (script_fault_text (faults.NumberRange line)) _ tt three.1 in
+    let five = passed _ (script_fault_text (faults.FileTwice line)) _ tt four.1 in
     record {
       used_bound = not_not _ one.0;
       free = two.0;
@@ -210,7 +210,7 @@ more v s line phrase bits h tested =
 command_keeps : (v : ℕ) (s t : Script) (line : TextLine)
     → IsScript v s → with_line v s line ≡ Ok t → IsScript v t
 command_keeps v s t line h e =
-    let fault = faults.BadLine line.number in
+    let fault = script_fault_text (faults.BadLine line.number) in
     let found = gave (ok_or (phrase_of v line.words) fault)
     (λ phrase. with_phrase v (seen s phrase) line.number (numbered_phrase (seen s phrase) phrase)) t
     (sym (with_line_is v s line) ∙ e) in
@@ -228,7 +228,7 @@ command_keeps v s t line h e =
 line_keeps : (v : ℕ) (s t : Script) (line : TextLine)
     → IsScript v s → after_line v s line ≡ Ok t → IsScript v t
 line_keeps v s t line h e =
-    by (is_content 35 line) (passed (nat_lt 100000 line.number) faults.TooManyLines _ t e).1
+    by (is_content 35 line) (passed (nat_lt 100000 line.number) (script_fault_text faults.TooManyLines) _ t e).1
   where
     by : (b : Bool) → (if b then with_line v s line else Ok s) ≡ Ok t → IsScript v t
     by true g = command_keeps v s t line h g

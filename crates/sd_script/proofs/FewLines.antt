@@ -8,6 +8,7 @@ use Rattle.sd_base.specs.Words.{lines_of, words_of}
 use Rattle.sd_base.specs.Lines.{TextLine, numbered_lines_from, is_content}
 use Rattle.sd_script.specs.declared.command.Command.{Command}
 use Rattle.sd_script.specs.declared.fault.ScriptFault.TheVariants as faults
+use Rattle.sd_script.specs.Faults.{script_fault_text}
 use Rattle.sd_script.specs.Phrases.{phrase_of, action_of, seen, numbered_phrase, with_phrase, with_command}
 use Rattle.sd_script.specs.Scripts.{Script, empty, checked, with_line}
 use Rattle.sd_script.specs.Scripts.{after_line, after_lines, script_of}
@@ -22,7 +23,7 @@ within n h = grind (arith, nat_tests)
 one_more : (v : ℕ) (s t : Script) (line : TextLine) → with_line v s line ≡ Ok t
     → length t.commands ≡ length s.commands + 1
 one_more v s t line e =
-    let found = gave (ok_or (phrase_of v line.words) (faults.BadLine line.number))
+    let found = gave (ok_or (phrase_of v line.words) (script_fault_text (faults.BadLine line.number)))
     (λ phrase. with_phrase v (seen s phrase) line.number (numbered_phrase (seen s phrase) phrase)) t
     (sym (with_line_is v s line) ∙ e) in
     let phrase = found.0 in
@@ -36,7 +37,7 @@ one_more v s t line e =
 one_at_most : (v : ℕ) (s t : Script) (line : TextLine) → after_line v s line ≡ Ok t
     → (line.number ≤ 100000) × (length t.commands ≤ length s.commands + 1)
 one_at_most v s t line e =
-    let test = passed (nat_lt 100000 line.number) faults.TooManyLines _ t e in
+    let test = passed (nat_lt 100000 line.number) (script_fault_text faults.TooManyLines) _ t e in
     (within line.number test.0, by (is_content 35 line) test.1)
   where
     by : (b : Bool) → (if b then with_line v s line else Ok s) ≡ Ok t → length t.commands ≤ length s.commands + 1

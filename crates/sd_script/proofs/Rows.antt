@@ -1,98 +1,102 @@
 -- Worked examples of scripts, with their commands or their first faults.
 use Rattle.std.proofs.Common.{◌≡◌, [], ◌∷◌, ◌++◌, refl, Ok, Err, pos, negsuc, true, false}
 use Rattle.std.specs.Prelude.{codes}
+use Rattle.sd_model.specs.Text.{number_text}
 use Rattle.sd_model.specs.declared.trees.Operation.TheVariants.{Xor}
 use Rattle.sd_script.specs.declared.command.Action.TheVariants.{Load, Lit, Constant, Binary, Not}
 use Rattle.sd_script.specs.declared.command.Action.TheVariants.{Drop, Same, Value, Write}
-use Rattle.sd_script.specs.declared.fault.ScriptFault.TheVariants.{BadLine, NameUnknown, NameTaken}
-use Rattle.sd_script.specs.declared.fault.ScriptFault.TheVariants.{LiteralRange}
-use Rattle.sd_script.specs.declared.fault.ScriptFault.TheVariants.{NumberRange, FileTwice}
-use Rattle.sd_script.specs.declared.fault.ScriptFault.TheVariants.{TooManyLines}
 use Rattle.sd_base.specs.Lines.{numbered_lines_from}
 use Rattle.sd_base.specs.Words.{lines_of}
+use Rattle.sd_base.specs.FaultTexts.{at_line}
 use Rattle.sd_script.specs.Scripts.{script_of, empty, after_lines, see, number_of_word, command_of}
 
 -- ---- the first fault
 
-unknown : script_of 2 (codes "and g a b\n") ≡ Err (NameUnknown 1)
+-- its text, as the line of the end has it behind the name of the file
+text_of_a_fault : at_line 12 (codes ": name unknown") ≡ codes ": line 12: name unknown"
+unfolding number_text
+text_of_a_fault = refl
+
+unknown : script_of 2 (codes "and g a b\n") ≡ Err (at_line 1 (codes ": name unknown"))
 unfolding script_of see number_of_word command_of
 unknown = refl
 
-taken : script_of 2 (codes "lit a 1\nlit a 2\n") ≡ Err (NameTaken 2)
+taken : script_of 2 (codes "lit a 1\nlit a 2\n") ≡ Err (at_line 2 (codes ": name taken"))
 unfolding script_of see number_of_word command_of
 taken = refl
 
-out_of_range : script_of 2 (codes "lit a 3\n") ≡ Err (LiteralRange 1)
+out_of_range : script_of 2 (codes "lit a 3\n") ≡ Err (at_line 1 (codes ": literal out of range"))
 unfolding script_of see number_of_word command_of
 out_of_range = refl
 
-file_twice : script_of 2 (codes "vtree v\nvtree v\n") ≡ Err (FileTwice 2)
+file_twice : script_of 2 (codes "vtree v\nvtree v\n") ≡ Err (at_line 2 (codes ": file named twice"))
 unfolding script_of see number_of_word command_of
 file_twice = refl
 
 -- positions over four variables are 0 to 6
-no_position : script_of 4 (codes "rotr 7\n") ≡ Err (NumberRange 1)
+no_position : script_of 4 (codes "rotr 7\n") ≡ Err (at_line 1 (codes ": number out of range"))
 unfolding script_of see number_of_word command_of
 no_position = refl
 
 -- blank lines and comments are counted
-too_many_words : script_of 2 (codes "# a comment\n\nlit a 1 1\n") ≡ Err (BadLine 3)
+too_many_words : script_of 2 (codes "# a comment\n\nlit a 1 1\n") ≡ Err (at_line 3 (codes ": bad line"))
 unfolding script_of see number_of_word command_of
 too_many_words = refl
 
 -- the form of a word is tested before its name
-bits_of_a_wrong_length : script_of 2 (codes "value a 011\n") ≡ Err (BadLine 1)
+bits_of_a_wrong_length : script_of 2 (codes "value a 011\n") ≡ Err (at_line 1 (codes ": bad line"))
 unfolding script_of see number_of_word command_of
 bits_of_a_wrong_length = refl
 
 -- an unknown name is told before one that is taken
-unknown_before_taken : script_of 2 (codes "lit a 1\nnot a b\n") ≡ Err (NameUnknown 2)
+unknown_before_taken : script_of 2 (codes "lit a 1\nnot a b\n") ≡ Err (at_line 2 (codes ": name unknown"))
 unfolding script_of see number_of_word command_of
 unknown_before_taken = refl
 
 -- a name that is taken is told before a literal
-taken_before_range : script_of 2 (codes "lit a 1\nlit a 9\n") ≡ Err (NameTaken 2)
+taken_before_range : script_of 2 (codes "lit a 1\nlit a 9\n") ≡ Err (at_line 2 (codes ": name taken"))
 unfolding script_of see number_of_word command_of
 taken_before_range = refl
 
 -- a name is not bound on its own line
-unknown_itself : script_of 2 (codes "not a a\n") ≡ Err (NameUnknown 1)
+unknown_itself : script_of 2 (codes "not a a\n") ≡ Err (at_line 1 (codes ": name unknown"))
 unfolding script_of see number_of_word command_of
 unknown_itself = refl
 
-forgets_no_negation : script_of 2 (codes "lit a 1\nforget b a -1\n") ≡ Err (LiteralRange 2)
+forgets_no_negation : script_of 2 (codes "lit a 1\nforget b a -1\n") ≡ Err (at_line 2 (codes ": literal out of range"))
 unfolding script_of see number_of_word command_of
 forgets_no_negation = refl
 
-zero_is_no_literal : script_of 2 (codes "lit a -0\n") ≡ Err (LiteralRange 1)
+zero_is_no_literal : script_of 2 (codes "lit a -0\n") ≡ Err (at_line 1 (codes ": literal out of range"))
 unfolding script_of see number_of_word command_of
 zero_is_no_literal = refl
 
-no_natural : script_of 2 (codes "swap -1\n") ≡ Err (BadLine 1)
+no_natural : script_of 2 (codes "swap -1\n") ≡ Err (at_line 1 (codes ": bad line"))
 unfolding script_of see number_of_word command_of
 no_natural = refl
 
-no_natural_zero : script_of 2 (codes "swap -0\n") ≡ Err (BadLine 1)
+no_natural_zero : script_of 2 (codes "swap -0\n") ≡ Err (at_line 1 (codes ": bad line"))
 unfolding script_of see number_of_word command_of
 no_natural_zero = refl
 
 -- a byte past 126 stands in no command
-no_such_byte : script_of 2 (codes "vtree " ++ 127 ∷ []) ≡ Err (BadLine 1)
+no_such_byte : script_of 2 (codes "vtree " ++ 127 ∷ []) ≡ Err (at_line 1 (codes ": bad line"))
 unfolding script_of see number_of_word command_of
 no_such_byte = refl
 
-unknown_once_dropped : script_of 2 (codes "lit a 1\ndrop a\nsize a\n") ≡ Err (NameUnknown 3)
+unknown_once_dropped : script_of 2 (codes "lit a 1\ndrop a\nsize a\n") ≡ Err (at_line 3 (codes ": name unknown"))
 unfolding script_of see number_of_word command_of
 unknown_once_dropped = refl
 
 -- line 100,001 is too many where it is blank too
 line_past_the_last :
-    after_lines 2 empty (numbered_lines_from 100000 (lines_of (codes "# one\n\n"))) ≡ Err TooManyLines
+    after_lines 2 empty (numbered_lines_from 100000 (lines_of (codes "# one\n\n"))) ≡ Err (codes ": too many lines")
 line_past_the_last = refl
 
 -- an earlier line with a fault decides
 fault_before_the_last_line :
-    after_lines 2 empty (numbered_lines_from 100000 (lines_of (codes "one\n\n"))) ≡ Err (BadLine 100000)
+    after_lines 2 empty (numbered_lines_from 100000 (lines_of (codes "one\n\n")))
+    ≡ Err (at_line 100000 (codes ": bad line"))
 unfolding command_of
 fault_before_the_last_line = refl
 
@@ -157,11 +161,11 @@ unfolding script_of see number_of_word command_of
 written_together = refl
 
 -- a write has a name
-no_name : script_of 2 (codes "write f\n") ≡ Err (BadLine 1)
+no_name : script_of 2 (codes "write f\n") ≡ Err (at_line 1 (codes ": bad line"))
 unfolding script_of see number_of_word command_of
 no_name = refl
 
 -- each name of a write is bound
-one_unknown : script_of 2 (codes "lit a 1\nwrite a b f\n") ≡ Err (NameUnknown 2)
+one_unknown : script_of 2 (codes "lit a 1\nwrite a b f\n") ≡ Err (at_line 2 (codes ": name unknown"))
 unfolding script_of see number_of_word command_of
 one_unknown = refl

@@ -1,27 +1,27 @@
 -- A line is read by its phrase.
-use Rattle.std.proofs.Common.{◌≡◌, ℕ, refl, ap, ◌∙◌, Result}
-use Rattle.std.specs.Prelude.{Option, Some, None, option_map, ok_or}
+use Rattle.std.proofs.Common.{◌≡◌, ℕ, List, refl, ap, ◌∙◌, Result}
+use Rattle.std.specs.Prelude.{Option, Some, None, codes, option_map, ok_or}
 use Rattle.sd_base.specs.Lines.{TextLine}
 use Rattle.sd_base.specs.Reading.{◌>>=◌}
 use Rattle.sd_script.specs.declared.command.Action.{Action}
-use Rattle.sd_script.specs.declared.fault.ScriptFault.{ScriptFault}
-use Rattle.sd_script.specs.declared.fault.ScriptFault.TheVariants.{BadLine}
+use Rattle.sd_base.specs.FaultTexts.{at_line}
 use Rattle.sd_script.specs.Phrases.{Phrase, Word, phrase_of, said, by_phrase}
 use Rattle.sd_script.specs.Scripts.{Script, with_line, with_action}
 use Rattle.sd_script.proofs.Phrases.{command_of_phrase}
 
 -- what follows a phrase, where there is one
-abbrev after : (v : ℕ) (s : Script) (line : TextLine) → Action × Script → Result Script ScriptFault
+abbrev after : (v : ℕ) (s : Script) (line : TextLine) → Action × Script → Result Script (List ℕ)
 after v s line = λ (action, seen). with_action v line.number action seen
 
 -- a line is read as its phrase says
 pub with_line_is : (v : ℕ) (s : Script) (line : TextLine) → with_line v s line ≡ by_phrase v s line
 with_line_is v s line =
-    ap (λ o. ok_or o (BadLine line.number) >>= after v s line) (command_of_phrase v s line.words)
-    ∙ by (phrase_of v line.words)
+    ap (λ o. ok_or o (at_line line.number (codes ": bad line")) >>= after v s line)
+    (command_of_phrase v s line.words)
+    ∙ by (phrase_of v line.words) (at_line line.number (codes ": bad line"))
   where
-    by : (o : Option (Phrase Word))
-        → (ok_or (option_map (said s) o) (BadLine line.number) >>= after v s line)
-        ≡ (ok_or o (BadLine line.number) >>= (λ phrase. after v s line (said s phrase)))
-    by (Some phrase) = refl
-    by None = refl
+    by : (o : Option (Phrase Word)) (text : List ℕ)
+        → (ok_or (option_map (said s) o) text >>= after v s line)
+        ≡ (ok_or o text >>= (λ phrase. after v s line (said s phrase)))
+    by (Some phrase) text = refl
+    by None text = refl

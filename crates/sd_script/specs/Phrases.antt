@@ -16,8 +16,7 @@ use Rattle.sd_model.specs.declared.trees.Operation.TheVariants.{And, Or, Xor}
 use Rattle.sd_script.specs.declared.command.Action.{Action}
 use Rattle.sd_script.specs.declared.command.Action.TheVariants as actions
 use Rattle.sd_script.specs.declared.command.Command.{Command}
-use Rattle.sd_script.specs.declared.fault.ScriptFault.{ScriptFault}
-use Rattle.sd_script.specs.declared.fault.ScriptFault.TheVariants.{BadLine}
+use Rattle.sd_base.specs.FaultTexts.{at_line}
 use Rattle.sd_script.specs.Scripts.{Script, see_all, number_of_word, with_action}
 pub use Rattle.sd_script.specs.Forms.{Word, is_name, name_of, file_name_of, is_bit, is_within, bits_of, names_of}
 
@@ -223,11 +222,11 @@ abbrev pub with_command : List Command → ℕ → Phrase ℕ → List Command
 with_command earlier line phrase = earlier ++ record { line = line; action = action_of phrase } ∷ []
 
 -- a script with one more command, over the names and files so far
-abbrev pub with_phrase : ℕ → Script → ℕ → Phrase ℕ → Result Script ScriptFault
+abbrev pub with_phrase : ℕ → Script → ℕ → Phrase ℕ → Result Script (List ℕ)
 with_phrase v script line phrase = with_action v line (action_of phrase) script
 
 -- a script with the phrase of a line
-abbrev pub by_phrase : ℕ → Script → TextLine → Result Script ScriptFault
+abbrev pub by_phrase : ℕ → Script → TextLine → Result Script (List ℕ)
 by_phrase v script line = do
-  phrase ← ok_or (phrase_of v line.words) (BadLine line.number)
+  phrase ← ok_or (phrase_of v line.words) (at_line line.number (codes ": bad line"))
   with_phrase v (seen script phrase) line.number (numbered_phrase (seen script phrase) phrase)

@@ -1,6 +1,6 @@
--- The commands that the text of a script stands for, or its first fault.
+-- The commands that the text of a script stands for, or the text of its first fault.
 use Rattle.std.specs.Prelude.{◌≡◌, ℕ, ◌-◌, ◌*◌, Bool, true, not, ◌&&◌, nat_le, nat_lt, if◌then◌else◌}
-use Rattle.std.specs.Prelude.{List, [], ◌∷◌, ◌++◌, ok_or, Result, Ok, Err, unsigned_abs}
+use Rattle.std.specs.Prelude.{List, [], ◌∷◌, ◌++◌, codes, ok_or, Result, Ok, Err, unsigned_abs}
 use Rattle.std.specs.List.{list_any, list_all}
 use Rattle.sd_base.specs.Lines.{TextLine, numbered_lines, is_content}
 use Rattle.sd_base.specs.Reading.{◌>>=◌, ◌>>◌, fault_if, each_to}
@@ -8,11 +8,9 @@ use Rattle.sd_script.specs.declared.command.Action.{Action}
 use Rattle.sd_script.specs.declared.command.Action.TheVariants.{Lit, Given, Forget, Turn, Minimise, Limit}
 use Rattle.sd_script.specs.declared.command.Command.{Command}
 use Rattle.sd_script.specs.declared.fault.ScriptFault.{ScriptFault}
-use Rattle.sd_script.specs.declared.fault.ScriptFault.TheVariants.{BadLine, NameUnknown, NameTaken}
-use Rattle.sd_script.specs.declared.fault.ScriptFault.TheVariants.{LiteralRange}
-use Rattle.sd_script.specs.declared.fault.ScriptFault.TheVariants.{NumberRange, FileTwice}
-use Rattle.sd_script.specs.declared.fault.ScriptFault.TheVariants.{TooManyLines, TooManyLoads}
 use Rattle.sd_script.specs.declared.fault.ScriptFault.TheVariants.{OutOfMemory}
+use Rattle.sd_base.specs.FaultTexts.{at_line}
+use Rattle.sd_script.specs.Faults.{script_fault_text}
 use Rattle.sd_script.specs.Footprints.{footprint, has, bound, written_files, loads}
 pub use Rattle.sd_script.specs.Forms.{is_within}
 pub use Rattle.sd_script.specs.Table.{Script, empty, see_all}
@@ -34,56 +32,58 @@ numbers_fit v (Minimise rounds) = is_within 1 100 rounds
 numbers_fit v (Limit k) = is_within 1 268435456 k
 numbers_fit v action = true
 
--- the tests of a command, in their order
-abbrev pub checked : ℕ → List Command → ℕ → Action → Result (Unit {0}) ScriptFault
+-- the tests of a command, in their order, each with the text of its fault
+abbrev pub checked : ℕ → List Command → ℕ → Action → Result (Unit {0}) (List ℕ)
 checked v earlier line action = do
-  fault_if (not (list_all (has (bound earlier)) (footprint action).uses)) (NameUnknown line)
-  fault_if (list_any (has (bound earlier)) (footprint action).binds) (NameTaken line)
-  fault_if (not (literals_fit v action)) (LiteralRange line)
-  fault_if (not (numbers_fit v action)) (NumberRange line)
-  fault_if (list_any (has (written_files earlier)) (footprint action).writes) (FileTwice line)
-  fault_if ((footprint action).loads && nat_le 64 (loads earlier)) (TooManyLoads line)
+  fault_if (not (list_all (has (bound earlier)) (footprint action).uses)) (at_line line (codes ": name unknown"))
+  fault_if (list_any (has (bound earlier)) (footprint action).binds) (at_line line (codes ": name taken"))
+  fault_if (not (literals_fit v action)) (at_line line (codes ": literal out of range"))
+  fault_if (not (numbers_fit v action)) (at_line line (codes ": number out of range"))
+  fault_if (list_any (has (written_files earlier)) (footprint action).writes)
+      (at_line line (codes ": file named twice"))
+  fault_if ((footprint action).loads && nat_le 64 (loads earlier)) (at_line line (codes ": too many loads"))
   Ok tt
 
 -- a script with the command of a line behind the others
-abbrev pub with_line : ℕ → Script → TextLine → Result Script ScriptFault
+abbrev pub with_line : ℕ → Script → TextLine → Result Script (List ℕ)
 with_line v s line = do
-  (action, seen) ← ok_or (command_of v s line.words) (BadLine line.number)
+  (action, seen) ← ok_or (command_of v s line.words) (at_line line.number (codes ": bad line"))
   checked v seen.commands line.number action
   Ok (record seen { commands = seen.commands ++ record { line = line.number; action = action } ∷ [] })
 
 -- ---- the lines of a text
 
 -- a script after one more line: blank lines and comments, which begin with # (byte 35), say nothing
-abbrev pub after_line : ℕ → Script → TextLine → Result Script ScriptFault
+abbrev pub after_line : ℕ → Script → TextLine → Result Script (List ℕ)
 after_line v script line = do
-  fault_if (nat_lt 100000 line.number) TooManyLines
+  fault_if (nat_lt 100000 line.number) (codes ": too many lines")
   if is_content 35 line then with_line v script line else Ok script
 
--- the script that a text stands for over the variables 1 to v, or the fault of the first line that has one
-unfoldable pub script_of : ℕ → List ℕ → Result Script ScriptFault
+-- The script that a text stands for over the variables 1 to v, or the fault of the first line that has one, as the
+-- line of the end tells it after the file's name.
+unfoldable pub script_of : ℕ → List ℕ → Result Script (List ℕ)
 script_of v bytes = each_to (after_line v) empty (numbered_lines bytes)
 
 -- ---- for the contracts of private functions, and for proofs
 
 -- a script after more lines
-abbrev pub after_lines : ℕ → Script → List TextLine → Result Script ScriptFault
+abbrev pub after_lines : ℕ → Script → List TextLine → Result Script (List ℕ)
 after_lines v = each_to (after_line v)
 
 -- a script with one more command behind the others
-abbrev pub with_action : ℕ → ℕ → Action → Script → Result Script ScriptFault
+abbrev pub with_action : ℕ → ℕ → Action → Script → Result Script (List ℕ)
 with_action v line action s = do
   checked v s.commands line action
   Ok (record s { commands = s.commands ++ record { line = line; action = action } ∷ [] })
 
 -- ---- what a reader answers
 
--- a reading has this fault; OutOfMemory says nothing of it
-abbrev pub Fails : {Y : Type 0} → ScriptFault → Result Y ScriptFault → Type 0
+-- a reading has this fault, by its text; OutOfMemory says nothing of it
+abbrev pub Fails : {Y : Type 0} → ScriptFault → Result Y (List ℕ) → Type 0
 Fails OutOfMemory reading = Unit {0}
-Fails fault reading = reading ≡ Err fault
+Fails fault reading = reading ≡ Err (script_fault_text fault)
 
 -- The answer, as view sees it, is what the reading gives, unless memory ran out.
-abbrev pub Gives : {X Y : Type 0} → (X → Y) → Result X ScriptFault → Result Y ScriptFault → Type 0
+abbrev pub Gives : {X Y : Type 0} → (X → Y) → Result X ScriptFault → Result Y (List ℕ) → Type 0
 Gives view (Ok x) reading = reading ≡ Ok (view x)
 Gives view (Err e) reading = Fails e reading

@@ -10,7 +10,7 @@ use Rattle.sd_formula.specs.Generated.{IsGenerable}
 use Rattle.sd_words.specs.Command.{accepts, parsed_by}
 use Rattle.sd_base.specs.Numbers.{is_within, natural_to}
 use Rattle.sd_words.specs.Numbers.{number_within, both, count_and_seed}
-use Rattle.sd_words.specs.ParsedOptions.{ParsedOptions, fails, has_bad_number, generated}
+use Rattle.sd_words.specs.ParsedOptions.{ParsedOptions, fails, has_bad_number}
 use Rattle.sd_words.specs.JobOf.{job_of, job_of_parsed, input_of, first_some, unless}
 use Rattle.sd_words.specs.Rows.{fault_where, rows, no_input, two_inputs, two_vtrees, number_range}
 use Rattle.sd_words.proofs.JobLemmas.{job_of_rows}
@@ -106,7 +106,7 @@ input_fits None None (Some text) some reads = go (count_and_seed text) refl read
     go None is there = let bad : ⊥ = cc in absurd bad
 
 parsed_fits : (parsed : ParsedOptions) → first_some (rows parsed) ≡ None
-    → IsInRange (input_of parsed (generated parsed))
+    → IsInRange (input_of parsed)
 parsed_fits parsed none =
     let first = none_here (no_input parsed) (drop 1 (rows parsed)) none in
     let second = none_here (two_inputs parsed) (drop 2 (rows parsed)) first.1 in

@@ -15,23 +15,25 @@ use Rattle.sd_words.specs.declared.options.OptionName.{OptionName}
 abbrev pub text_option : Text → Rule
 text_option word = record (new_rule word) { long = Some word; action = Some Set }
 
--- `Command::new("sddc")` with `disable_help_flag(true)` and `disable_version_flag(true)`
-abbrev pub bare_sddc : App
-bare_sddc = on_top (λ s. record s { disable_help_flag = true; disable_version_flag = true }) (new_app (codes "sddc"))
-
--- `Command::arg` with such an option
-abbrev pub with_option : App → OptionName → App
-with_option app o = with_rule app (text_option (word_of o))
-
--- the command with its options
+-- `Command::new("sddc")` with `disable_help_flag(true)` and `disable_version_flag(true)`, and with `arg` of each option
 unfoldable pub sddc : App
-sddc = fold with_option bare_sddc all_options
+sddc = fold (λ app o. with_rule app (text_option (word_of o))) (on_top
+    (λ s. record s { disable_help_flag = true; disable_version_flag = true })
+    (new_app (codes "sddc"))) all_options
 
 -- what the words after the program's name give: the first value of each option, among what `clap` finds in them
 unfoldable pub parsed_by : List Text → ParsedOptions
 parsed_by words o = first_of (word_of o) (matches_of sddc (codes "sddc" ∷ words))
 
 -- ---- for the contracts of private functions, and for proofs
+
+-- the command before it has options
+abbrev pub bare_sddc : App
+bare_sddc = on_top (λ s. record s { disable_help_flag = true; disable_version_flag = true }) (new_app (codes "sddc"))
+
+-- the command with one option more
+abbrev pub with_option : App → OptionName → App
+with_option app o = with_rule app (text_option (word_of o))
 
 -- the words as `clap` is handed them: the program's name comes first
 abbrev pub handed : List Text → List Text

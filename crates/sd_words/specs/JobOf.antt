@@ -8,7 +8,8 @@ use Rattle.clap.specs.Walk.{Text, is_empty}
 use Rattle.clap.specs.Faults.{fault_of}
 use Rattle.sd_base.specs.Reading.{◌>>◌, fault_if, fault_for}
 use Rattle.sd_words.specs.Command.{parsed_by, sddc}
-use Rattle.sd_words.specs.ParsedOptions.{ParsedOptions, fails, first_beside, generated, has_bad_number}
+use Rattle.sd_words.specs.Numbers.{count_and_seed}
+use Rattle.sd_words.specs.ParsedOptions.{ParsedOptions, fails, first_beside, has_bad_number}
 use Rattle.sd_words.specs.ParsedOptions.{has_option, option_number, start_of}
 use Rattle.sd_words.specs.Options.{files, inputs, number_options, replaced_by_script, word_of}
 use Rattle.sd_words.specs.Rows.{words_fault_text}
@@ -22,21 +23,18 @@ use Rattle.sd_words.specs.declared.faults.WordsFault.{WordsFault}
 use Rattle.sd_words.specs.declared.faults.WordsFault.TheVariants as fault
 
 -- the input that is there; where none is, the words were refused before
-abbrev pub input_of : ParsedOptions → Option (ℕ × ℕ) → InputWord
-input_of parsed numbers = option_map_or input.Cnf (parsed option.Cnf)
-    (option_map_or input.Dnf (parsed option.Dnf)
-    (option_map_or (λ g. input.Generate g.0 g.1) numbers (input.Generate 0 0)))
+abbrev pub input_of : ParsedOptions → InputWord
+input_of parsed = option_map_or input.Cnf (parsed option.Cnf)
+    (option_map_or input.Dnf (parsed option.Dnf) (option_map_or (λ g. input.Generate g.0 g.1)
+    (option_and_then count_and_seed (parsed option.Generate)) (input.Generate 0 0)))
 
--- by the values of `--vtree` and `--start`: balanced, where neither is there
-abbrev pub tree_word_of : Option Text → Option Text → TreeWord
-tree_word_of (Some name) _ = tree.File name
-tree_word_of None start = unwrap_or (option_and_then start_of start) tree.Balanced
-
--- the job, where nothing is refused; where they are not there, the slack is 200 percent, and the limit 16,777,216
+-- The job, where nothing is refused. The vtree is that of `--vtree`, else the shape of `--start`, and balanced where
+-- neither is there. Where they are not there, the slack is 200 percent, and the limit 16,777,216.
 unfoldable pub job_of_parsed : ParsedOptions → Job
 job_of_parsed parsed = record {
-  input = input_of parsed (generated parsed);
-  tree = tree_word_of (parsed option.Vtree) (parsed option.Start);
+  input = input_of parsed;
+  tree = option_map_or tree.File (parsed option.Vtree)
+      (unwrap_or (option_and_then start_of (parsed option.Start)) tree.Balanced);
   script = parsed option.Script;
   out_vtree = parsed option.OutVtree;
   out_sdd = parsed option.OutSdd;
@@ -83,6 +81,16 @@ Answers answer result = MatchResult result (λ x. answer ≡ Ok x)
     (λ f. (f ≡ fault.OutOfMemory) ⊎ (answer ≡ Err (words_fault_text f)))
 
 -- ---- for the contracts of private functions, and for proofs
+
+-- the input, by the numbers of `--generate`
+abbrev pub input_by : ParsedOptions → Option (ℕ × ℕ) → InputWord
+input_by parsed numbers = option_map_or input.Cnf (parsed option.Cnf)
+    (option_map_or input.Dnf (parsed option.Dnf)
+    (option_map_or (λ g. input.Generate g.0 g.1) numbers (input.Generate 0 0)))
+
+-- the vtree, by the values of `--vtree` and `--start`
+abbrev pub tree_word_of : Option Text → Option Text → TreeWord
+tree_word_of vtree start = option_map_or tree.File vtree (unwrap_or (option_and_then start_of start) tree.Balanced)
 
 -- the first fault of a list that is there
 abbrev pub first_some : List (Option WordsFault) → Option WordsFault

@@ -18,10 +18,6 @@ ParsedOptions = OptionName → Option Text
 abbrev pub has_option : ParsedOptions → OptionName → Bool
 has_option parsed o = is_some (parsed o)
 
--- the option is there and its value passes the test
-abbrev pub has_that : (Text → Bool) → ParsedOptions → OptionName → Bool
-has_that test parsed o = option_map_or test (parsed o) false
-
 -- the first option of a list that is there beside another
 abbrev pub first_beside : OptionName → List OptionName → ParsedOptions → Option OptionName
 first_beside o others parsed = if has_option parsed o then find (has_option parsed) others else None
@@ -34,10 +30,6 @@ fails read value = option_map_or (λ text. is_none (read text)) value false
 abbrev pub option_number : ParsedOptions → OptionName → Option ℕ
 option_number parsed o = option_and_then (number_of_text o) (parsed o)
 
--- the number of variables and the seed of `--generate`, where it is there and has them
-abbrev pub generated : ParsedOptions → Option (ℕ × ℕ)
-generated parsed = option_and_then count_and_seed (parsed option.Generate)
-
 -- the option is there and its number is not as it has to be
 abbrev pub has_bad_number : ParsedOptions → OptionName → Bool
 has_bad_number parsed option.Generate = fails count_and_seed (parsed option.Generate)
@@ -48,3 +40,13 @@ abbrev pub start_of : Text → Option TreeWord
 start_of text = if bytes_eq text (codes "balanced") then Some tree.Balanced
     else (if bytes_eq text (codes "right") then Some tree.Right
     else (if bytes_eq text (codes "left") then Some tree.Left else None))
+
+-- ---- for the contracts of private functions, and for proofs
+
+-- the option is there and its value passes the test
+abbrev pub has_that : (Text → Bool) → ParsedOptions → OptionName → Bool
+has_that test parsed o = option_map_or test (parsed o) false
+
+-- the number of variables and the seed of `--generate`, where it is there and has them
+abbrev pub generated : ParsedOptions → Option (ℕ × ℕ)
+generated parsed = option_and_then count_and_seed (parsed option.Generate)

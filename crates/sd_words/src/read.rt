@@ -3,7 +3,7 @@ ghost use Rattle.std.specs.Prelude.{◌≡◌, IfOk, List, None, is_some, map, s
 ghost use Rattle.std.specs.List.{list_any};
 ghost use Rattle.sd_words.specs.Command.{parsed_of};
 ghost use Rattle.sd_words.specs.ParsedOptions.{has_option};
-ghost use Rattle.sd_words.specs.JobOf.{Answers, input_of, job_from, job_of_parsed, job_of, tree_word_of};
+ghost use Rattle.sd_words.specs.JobOf.{Answers, input_by, job_from, job_of_parsed, job_of, tree_word_of};
 ghost use Rattle.sd_words.specs.Options.{inputs};
 ghost use Rattle.sd_words.specs.Ordinary.{Setting, Spells, setting_of};
 ghost use Rattle.sd_words.specs.Reading.{HasNumbers};
@@ -100,7 +100,7 @@ fn input_word(
     requires input { list_any (has_option (parsed_of options.now)) inputs ≡ true }
     requires generated { is_some generated
         ≡ has_option (parsed_of options.now) OptionName.Generate }
-    ensures { IfOk result (λ w. w ≡ input_of (parsed_of options.now) generated) }
+    ensures { IfOk result (λ w. w ≡ input_by (parsed_of options.now) generated) }
 {
     if let Some(text) = value(options, OptionName::Cnf) {
         return Ok(InputWord::Cnf(Name::copy_of(alloc, text)?));
