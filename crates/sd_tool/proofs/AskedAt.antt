@@ -26,8 +26,9 @@ use Rattle.sd_commands.specs.Effects.{Effect, Write, Print}
 use Rattle.sd_commands.specs.declared.command.NumberedCommand.{NumberedCommand}
 use Rattle.sd_commands.specs.declared.command.RunCommand.{RunCommand}
 use Rattle.sd_commands.specs.declared.command.RunCommand.TheVariants as commands
-use Rattle.sd_tool.specs.Asks.{GoesTo, writings, begun}
-use Rattle.sd_tool.specs.Readings.{ReadsBy, Reading, Refuses, Begins, Reads}
+use Rattle.sd_tool.specs.inside.Asks.{ReadsBy, GoesTo, writings, begun}
+use Rattle.sd_tool.specs.Readings.{Point, Refuses, Reads, Stands}
+use Rattle.sd_tool.specs.inside.Plans.{point_of, plan_for}
 use Rattle.sd_tool.specs.inside.Readings.{Text}
 use Rattle.sd_tool.specs.Laws.{HasAsked}
 use Rattle.sd_tool.specs.Devices.{Seen}
@@ -37,7 +38,7 @@ use Rattle.sd_tool.specs.inside.ByStatus.{IsOneCourse}
 use Rattle.sd_tool.specs.inside.Readings.{Input, with_job, with_input, with_formula_reading}
 use Rattle.sd_tool.specs.Readings.{reading_of, with_input_word, with_tree_word, with_tree, with_commands}
 use Rattle.sd_tool.specs.inside.Readings.{with_vtree_text, with_vtree_reading, script_reading}
-use Rattle.sd_tool.specs.Readings.{with_lines, with_action, file_name, plan_for}
+use Rattle.sd_tool.specs.Readings.{with_lines, with_action, file_name}
 use Rattle.sd_tool.specs.inside.Readings.{in_line}
 use Rattle.sd_tool.specs.inside.Readings.{with_script_text, with_script_reading, with_sdd, with_sdd_reading}
 use Rattle.sd_tool.proofs.ByStatus.{no_idle}
@@ -45,21 +46,21 @@ use Rattle.sd_tool.proofs.ByStatus.{no_idle}
 -- ---- the words are refused before any reading
 
 -- whatever the texts, the words are not refused from here on
-abbrev pub AreAccepted : Reading → Type 0
+abbrev pub AreAccepted : Point → Type 0
 AreAccepted (Refuses refusal) = refusal.0 ≡ 1 → ⊥
-AreAccepted (Begins plan) = Unit {0}
+AreAccepted (Stands input state left) = Unit {0}
 AreAccepted (Reads file next) = (text : Text) → AreAccepted (next text)
 
 -- so they are not at any point
-accepted_on : (files : Option Files) (reading : Reading) (names : List (List ℕ)) (refusal : ℕ × List ℕ)
+accepted_on : (files : Option Files) (reading : Point) (names : List (List ℕ)) (refusal : ℕ × List ℕ)
     → AreAccepted reading → ReadsBy files reading names (Refuses refusal) → refusal.0 ≡ 1 → ⊥
 accepted_on files reading [] refusal accepted a = subst AreAccepted (sym a) accepted
 accepted_on files (Refuses found) (x ∷ xs) refusal accepted a = absurd a
-accepted_on files (Begins plan) (x ∷ xs) refusal accepted a = absurd a
+accepted_on files (Stands input state left) (x ∷ xs) refusal accepted a = absurd a
 accepted_on files (Reads file next) (x ∷ xs) refusal accepted a =
     accepted_on files (next a.0) xs refusal (accepted a.0) a.3
 
-accepted_sdd : (v : ℕ) (file : List ℕ) (next : File → Reading) (text : Text) → ((read : File) → AreAccepted (next read))
+accepted_sdd : (v : ℕ) (file : List ℕ) (next : File → Point) (text : Text) → ((read : File) → AreAccepted (next read))
     → AreAccepted (with_sdd v file next text)
 accepted_sdd v file next None accepted = λ e. cc
 accepted_sdd v file next (Some bytes) accepted = go (sdd_file v bytes)
@@ -68,7 +69,7 @@ accepted_sdd v file next (Some bytes) accepted = go (sdd_file v bytes)
     go (Ok read) = accepted read
     go (Err fault) = λ e. cc
 
-accepted_action : (v : ℕ) (s : Script) (next : RunCommand → Reading) (action : Action)
+accepted_action : (v : ℕ) (s : Script) (next : RunCommand → Point) (action : Action)
     → ((command : RunCommand) → AreAccepted (next command)) → AreAccepted (with_action v s next action)
 accepted_action v s next (actions.Input n) accepted = accepted (commands.Input n)
 accepted_action v s next (actions.Load n file) accepted = λ text.
@@ -90,7 +91,7 @@ accepted_action v s next (actions.Value a bits) accepted = accepted (commands.Va
 accepted_action v s next (actions.Write names file) accepted = accepted (commands.Write names (file_name s file))
 accepted_action v s next (actions.Vtree file) accepted = accepted (commands.WriteVtree (file_name s file))
 
-accepted_lines : (v : ℕ) (s : Script) (begin : List NumberedCommand → Reading) (done : List NumberedCommand)
+accepted_lines : (v : ℕ) (s : Script) (begin : List NumberedCommand → Point) (done : List NumberedCommand)
     (lines : List Line)
     → ((cs : List NumberedCommand) → AreAccepted (begin cs)) → AreAccepted (with_lines v s begin done lines)
 accepted_lines v s begin done [] accepted = accepted done
@@ -98,11 +99,11 @@ accepted_lines v s begin done (line ∷ lines) accepted =
     accepted_action v s (λ command. with_lines v s begin (done ++ in_line line command ∷ []) lines) line.action
     (λ command. accepted_lines v s begin (done ++ in_line line command ∷ []) lines accepted)
 
-accepted_script : (v : ℕ) (s : Script) (begin : List NumberedCommand → Reading)
+accepted_script : (v : ℕ) (s : Script) (begin : List NumberedCommand → Point)
     → ((cs : List NumberedCommand) → AreAccepted (begin cs)) → AreAccepted (script_reading v begin s)
 accepted_script v s begin accepted = accepted_lines v s begin [] s.commands accepted
 
-accepted_script_text : (file : List ℕ) (v : ℕ) (begin : List NumberedCommand → Reading) (text : Text)
+accepted_script_text : (file : List ℕ) (v : ℕ) (begin : List NumberedCommand → Point) (text : Text)
     → ((cs : List NumberedCommand) → AreAccepted (begin cs)) → AreAccepted (with_script_text file v begin text)
 accepted_script_text file v begin None accepted = λ e. cc
 accepted_script_text file v begin (Some bytes) accepted = go (script_of v bytes)
@@ -114,14 +115,14 @@ accepted_script_text file v begin (Some bytes) accepted = go (script_of v bytes)
 accepted_tree : (job : Job) (f : Groups) (tree : Tree) → AreAccepted (with_tree job f tree)
 accepted_tree job f tree = go job.script
   where
-    begin : List NumberedCommand → Reading
-    begin cs = Begins (plan_for job f tree cs)
+    begin : List NumberedCommand → Point
+    begin cs = point_of (plan_for job f tree cs)
 
     go : (file : Option (List ℕ))
-        → AreAccepted (with_commands job f.variables (λ cs. Begins (plan_for job f tree cs)) file)
+        → AreAccepted (with_commands job f.variables (λ cs. point_of (plan_for job f tree cs)) file)
     go None = tt
     go (Some file) = λ text.
-        accepted_script_text file f.variables (λ cs. Begins (plan_for job f tree cs)) text (λ cs. tt)
+        accepted_script_text file f.variables (λ cs. point_of (plan_for job f tree cs)) text (λ cs. tt)
 
 accepted_tree_word : (job : Job) (f : Groups) (word : TreeWord) → AreAccepted (with_tree_word job f word)
 accepted_tree_word job f trees.Balanced = accepted_tree job f (balanced_tree f.variables)
@@ -184,22 +185,22 @@ only_readings asks names asked = (names, [], subst asks (sym (append-nil (map To
 
 -- no file is read after one is written
 order_of : (asks : List Request → Type 0) (words : List (List ℕ)) (files : Option Files) (effects : List Effect)
-    (end : End) → GoesTo asks words files effects end
+    (end : End) (kept : Option Table) → GoesTo asks words files effects end kept
     → (names files : List (List ℕ)) × asks (map ToRead names ++ map ToWrite files)
-order_of asks words files effects end (inr p) =
+order_of asks words files effects end kept (inr p) =
     let written = writings_names (begun effects end) in
     (p.1.names, written.0, subst (λ l. asks (map ToRead p.1.names ++ l)) written.1 p.1.asked)
-order_of asks words files effects Finished (inl p) = absurd p.0
-order_of asks words files effects (Refused refusal) (inl p) = only_readings asks p.0.names p.0.asked
-order_of asks words files effects (Unreadable file) (inl p) =
+order_of asks words files effects Finished kept (inl p) = absurd p.0
+order_of asks words files effects (Refused refusal) kept (inl p) = only_readings asks p.0.names p.0.asked
+order_of asks words files effects (Unreadable file) kept (inl p) =
     only_readings asks (p.0.1.names ++ file ∷ []) (with_last asks p.0.1.names file p.0.1.asked)
-order_of asks words files effects (Unwritable effect) (inl p) = absurd p.0
-order_of asks words files effects OutOfMemory (inl (inl p, none)) = only_readings asks p.1.names p.1.asked
-order_of asks words files effects OutOfMemory (inl (inr p, none)) =
+order_of asks words files effects (Unwritable effect) kept (inl p) = absurd p.0
+order_of asks words files effects OutOfMemory kept (inl (inl p, none, free)) = only_readings asks p.1.names p.1.asked
+order_of asks words files effects OutOfMemory kept (inl (inr p, none, free)) =
     only_readings asks (p.1.1.names ++ p.0 ∷ []) (with_last asks p.1.1.names p.0 p.1.1.asked)
-order_of asks words files effects (ArenaFull n) (inl p) = absurd p.0
-order_of asks words files effects (OverLimit l g n k) (inl p) = absurd p.0
-order_of asks words files effects (NotMovable l) (inl p) = absurd p.0
+order_of asks words files effects (ArenaFull n) kept (inl p) = absurd p.0
+order_of asks words files effects (OverLimit l g n k) kept (inl p) = absurd p.0
+order_of asks words files effects (NotMovable l) kept (inl p) = absurd p.0
 
 -- ---- status by status
 
@@ -209,12 +210,11 @@ pub asked_at : (words : List (List ℕ)) (status : ℕ) (kept : Option Table) (s
 asked_at words status kept seen went = (
   none went.end went.goes went.status_is,
   alone went.end went.goes went.status_is,
-  order_of seen.asked words seen.old.contents.files went.effects went.end went.goes,
+  order_of seen.asked words seen.old.contents.files went.effects went.end kept went.goes,
 )
   where
-    none : (end : End) → GoesTo seen.asked words seen.old.contents.files went.effects end → status ≡ status_of end →
-        status ≡ 1
-        → seen.asked []
+    none : (end : End) → GoesTo seen.asked words seen.old.contents.files went.effects end kept
+        → status ≡ status_of end → status ≡ 1 → seen.asked []
     none Finished goes is s = cc
     none (Refused refusal) (inl p) is s =
         subst (λ (l : List (List ℕ)). seen.asked (map ToRead l))
@@ -227,8 +227,8 @@ asked_at words status kept seen went = (
     none (OverLimit l g n k) goes is s = cc
     none (NotMovable l) goes is s = cc
 
-    alone : (end : End) → GoesTo seen.asked words seen.old.contents.files went.effects end → status ≡ status_of end
-        → (status ≡ 1) ⊎ (status ≡ 2) ⊎ (status ≡ 5)
+    alone : (end : End) → GoesTo seen.asked words seen.old.contents.files went.effects end kept
+        → status ≡ status_of end → (status ≡ 1) ⊎ (status ≡ 2) ⊎ (status ≡ 5)
         → (names : List (List ℕ)) × seen.asked (map ToRead names)
     alone Finished goes is s = no_idle status 0 refl is s
     alone (Refused refusal) (inl p) is s = (p.0.names, p.0.asked)

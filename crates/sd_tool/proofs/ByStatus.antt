@@ -1,23 +1,25 @@
 -- What the clauses of `run` say, from its course; and what they say of each status.
-use Rattle.std.proofs.Common.{◌≡◌, ◌⊎◌, ℕ, Bool, true, false, ◌==◌, ◌||◌, List, [], Option, None, inl, inr}
+use Rattle.std.proofs.Common.{◌≡◌, ◌⊎◌, ℕ, Bool, true, false, ◌==◌, ◌||◌, List, [], Option, Some, None, inl, inr}
 use Rattle.std.proofs.Common.{refl, sym, ap, subst, ◌∙◌}
+use Rattle.sd_base.specs.Asked.{Request}
 use Rattle.sd_base.specs.Files.{Files}
 use Rattle.sd_manager.specs.Table.{Table}
 use Rattle.sd_commands.specs.Effects.{Effect}
-use Rattle.sd_tool.specs.Effects.{Contents, after}
-use Rattle.sd_tool.specs.Readings.{Refuses, Begins, Reads, reading_of}
-use Rattle.sd_tool.specs.inside.Course.{ReadsTo, MayEnd}
+use Rattle.sd_tool.specs.Effects.{Contents}
+use Rattle.sd_tool.specs.Readings.{Refuses, Reads, reading_of}
 use Rattle.sd_tool.specs.Ends.{End, Finished, Refused, Unreadable, Unwritable, OutOfMemory, ArenaFull, OverLimit}
 use Rattle.sd_tool.specs.Ends.{NotMovable, status_of}
 use Rattle.sd_tool.specs.Devices.{Moment, Seen, HasReason, WritesEndLine}
 use Rattle.sd_tool.specs.Course.{Leaves}
-use Rattle.sd_tool.specs.Asks.{Went}
 use Rattle.sd_tool.specs.Theorem.{HasEffects, HasLine, HasEnd, IsCourse}
+use Rattle.sd_tool.specs.inside.Asks.{GoesTo}
 use Rattle.sd_tool.specs.inside.ByStatus.{IsOneCourse, EffectsByStatus, EndByStatus, WasFull}
 use Rattle.sd_tool.specs.inside.ByStatus.{IsRefused, PassedLimit, WasNotMovable, CouldNotRead, CouldNotWrite}
-use Rattle.sd_tool.specs.KeptManager.{KeepsManager, EndsSo}
-use Rattle.sd_tool.proofs.AskLemmas.{goes_may_end, by_reads_to}
+use Rattle.sd_tool.specs.inside.Course.{ReadsTo, MayEnd, after_effects}
+use Rattle.sd_tool.specs.inside.Plans.{point_of}
+use Rattle.sd_tool.proofs.AskLemmas.{goes_may_end, comes_reads}
 use Rattle.sd_tool.proofs.SoundReadings.{IsRefusedWith, refused_with}
+use Rattle.sd_tool.proofs.Walks.{IsNotFull, course_of}
 
 -- the statuses of refusals, those of them that come before the commands alone, and with these that of a file that was
 -- not read
@@ -84,91 +86,80 @@ asked words told effects file (inl p) = p.0
 asked words told effects file (inr p) = absurd p.2
 
 -- the manager that refused was kept
-full_at : (words : List (List ℕ)) (n : ℕ) (effects : List Effect) (kept : Option Table) (old new : Moment)
-    → KeepsManager words old.contents.files effects (ArenaFull n) kept
-    → MayEnd words old.contents.files effects (ArenaFull n)
-    → WritesEndLine (ArenaFull n) old new
-    → WasFull words kept old new
-full_at words n effects kept old new (t, plan, is_kept, filled, led, holds) may_end line = record {
-  elements = n;
-  effects = effects;
-  in_hand = may_end;
-  manager = t;
-  is_kept = is_kept;
-  filled = filled;
-  plan = plan;
-  led = by_reads_to old.contents.files (reading_of words) (Begins plan) led.0 led.1;
-  holds = holds;
-  line = line;
-}
+full_at : (words : List (List ℕ)) (n : ℕ) (effects : List Effect) (kept : Option Table) (seen : Seen)
+    → GoesTo seen.asked words seen.old.contents.files effects (ArenaFull n) kept
+    → WritesEndLine (ArenaFull n) seen.old seen.new → WasFull words kept seen.old seen.new
+full_at words n effects kept seen (inl p) line = absurd p.0
+full_at words n effects None seen (inr p) line = absurd p.3
+full_at words n effects (Some t) seen (inr p) line =
+    let led = comes_reads seen.old.contents.files (reading_of words) (point_of p.0) p.1 in
+    record {
+      elements = n;
+      effects = effects;
+      in_hand = inr (p.0, led, p.2);
+      manager = t;
+      is_kept = refl;
+      filled = p.3.0;
+      plan = p.0;
+      led = led;
+      holds = p.3.1;
+      line = line;
+    }
+
+-- at each other end none is
+none_kept : (words : List (List ℕ)) (files : Option Files) (asks : List Request → Type 0) (effects : List Effect)
+    (end : End) (kept : Option Table) → IsNotFull end → GoesTo asks words files effects end kept → kept ≡ None
+none_kept words files asks effects end kept other (inl p) = p.2
+none_kept words files asks effects Finished kept other (inr p) = p.3
+none_kept words files asks effects (Refused answer) kept other (inr p) = absurd p.2
+none_kept words files asks effects (Unreadable file) kept other (inr p) = absurd p.2
+none_kept words files asks effects (Unwritable effect) kept other (inr p) = p.3
+none_kept words files asks effects OutOfMemory kept other (inr p) = p.3
+none_kept words files asks effects (ArenaFull n) kept other (inr p) = absurd other
+none_kept words files asks effects (OverLimit l g n k) kept other (inr p) = p.3
+none_kept words files asks effects (NotMovable l) kept other (inr p) = p.3
 
 -- without effects nothing changed
-nothing_done : (effects : List Effect) (old new : Contents) → effects ≡ [] → new ≡ after effects old → new ≡ old
-nothing_done effects old new none is = is ∙ ap (λ l. after l old) none
+nothing_done : (effects : List Effect) (old new : Contents) → effects ≡ [] → new ≡ after_effects effects old → new ≡ old
+nothing_done effects old new none is = is ∙ ap (λ l. after_effects l old) none
 
 -- ---- from the course
 
--- what holds of the course of a run
-pub went_so : (words : List (List ℕ)) (status : ℕ) (kept : Option Table) (seen : Seen)
-    (holds : List Effect → End → Type 0) → (went : IsOneCourse words status kept seen) → holds went.effects went.end
-    → Went words status seen holds
-went_so words status kept seen holds went so = (
-  went.effects,
-  went.end,
-  went.status_is,
-  went.goes,
-  so,
-)
-
 pub effects_of : (words : List (List ℕ)) (status : ℕ) (kept : Option Table) (seen : Seen)
     → IsOneCourse words status kept seen → HasEffects words status seen
-effects_of words status kept seen went =
-    went_so words status kept seen (λ effects end. Leaves effects end seen.old.contents seen.new.contents) went
-    went.leaves
+effects_of words status kept seen went = part (course_of words status kept seen went)
+  where
+    part : IsCourse words status kept seen → HasEffects words status seen
+    part (course, is, asked, (leaves, ends)) = (course, is, asked, leaves)
 
 pub line_of_run : (words : List (List ℕ)) (status : ℕ) (kept : Option Table) (seen : Seen)
     → IsOneCourse words status kept seen → HasLine words status seen
-line_of_run words status kept seen went =
-    went_so words status kept seen (λ effects end. WritesEndLine end seen.old seen.new) went went.line
+line_of_run words status kept seen went = part (course_of words status kept seen went)
+  where
+    part : IsCourse words status kept seen → HasLine words status seen
+    part (course, is, asked, (leaves, ends)) = (course, is, asked, ends.2)
 
 pub ends_of : (words : List (List ℕ)) (status : ℕ) (kept : Option Table) (seen : Seen)
     → IsOneCourse words status kept seen → HasEnd words status kept seen
-ends_of words status kept seen went =
-    went_so words status kept seen (λ effects end. EndsSo words effects end kept seen) went
-    (went.reason, went.keeps, went.line)
-
-pub course_of : (words : List (List ℕ)) (status : ℕ) (kept : Option Table) (seen : Seen)
-    → IsOneCourse words status kept seen → IsCourse words status kept seen
-course_of words status kept seen went =
-    went_so words status kept seen
-    (λ effects end. Leaves effects end seen.old.contents seen.new.contents × EndsSo words effects end kept seen)
-    went (went.leaves, (went.reason, went.keeps, went.line))
-
--- and back: the course with a name for each part
-pub one_course : (words : List (List ℕ)) (status : ℕ) (kept : Option Table) (seen : Seen)
-    → IsCourse words status kept seen → IsOneCourse words status kept seen
-one_course words status kept seen (effects, end, status_is, goes, (leaves, (reason, keeps, line))) = record {
-  effects = effects;
-  end = end;
-  goes = goes;
-  status_is = status_is;
-  leaves = leaves;
-  reason = reason;
-  keeps = keeps;
-  line = line;
-}
+ends_of words status kept seen went = part (course_of words status kept seen went)
+  where
+    part : IsCourse words status kept seen → HasEnd words status kept seen
+    part (course, is, asked, (leaves, ends)) = (course, is, asked, ends)
 
 -- ---- status by status
 
 -- the effects, status by status
-pub effects_at : (words : List (List ℕ)) (status : ℕ) (seen : Seen)
-    → HasEffects words status seen → EffectsByStatus words status seen.old seen.new
-effects_at words status seen (effects, end, status_is, goes, left) =
-    go end (goes_may_end seen.asked words seen.old.contents.files effects end goes) status_is left
+pub effects_at : (words : List (List ℕ)) (status : ℕ) (kept : Option Table) (seen : Seen)
+    → IsOneCourse words status kept seen → EffectsByStatus words status seen.old seen.new
+effects_at words status kept seen went =
+    go went.effects went.end
+    (goes_may_end seen.asked words seen.old.contents.files went.effects went.end kept went.goes) went.status_is
+    went.leaves
   where
-    go : (end : End) → MayEnd words seen.old.contents.files effects end → status ≡ status_of end
-        → Leaves effects end seen.old.contents seen.new.contents → EffectsByStatus words status seen.old seen.new
-    go Finished may_end is leaves = record {
+    go : (effects : List Effect) (end : End) → MayEnd words seen.old.contents.files effects end → status ≡ status_of end
+        → Leaves end (after_effects effects seen.old.contents) seen.new.contents
+        → EffectsByStatus words status seen.old seen.new
+    go effects Finished may_end is leaves = record {
       all = λ s. (effects, may_end, leaves);
       none = λ s. no_idle status 0 refl is s;
       script = λ s. cc;
@@ -177,7 +168,7 @@ effects_at words status seen (effects, end, status_is, goes, left) =
       over = λ s. cc;
       in_hand = λ s. cc;
     }
-    go (Refused refusal) may_end is leaves =
+    go effects (Refused refusal) may_end is leaves =
         let early = refused_early words seen.old.contents.files effects refusal may_end in
         let three = one_of_three seen.old.contents.files words refusal status early.0 is in
         record {
@@ -189,7 +180,7 @@ effects_at words status seen (effects, end, status_is, goes, left) =
           over = λ s. no_refused status 4 refl s three;
           in_hand = λ s. no_refused status 6 refl s three;
         }
-    go (Unreadable file) may_end is leaves = record {
+    go effects (Unreadable file) may_end is leaves = record {
       all = λ s. cc;
       none = λ s. nothing_done effects seen.old.contents seen.new.contents
           (unread_early words seen.old.contents.files effects file may_end) leaves;
@@ -199,7 +190,7 @@ effects_at words status seen (effects, end, status_is, goes, left) =
       over = λ s. cc;
       in_hand = λ s. cc;
     }
-    go (Unwritable effect) may_end is leaves = record {
+    go effects (Unwritable effect) may_end is leaves = record {
       all = λ s. cc;
       none = λ s. no_idle status 6 refl is s;
       script = λ s. cc;
@@ -208,7 +199,7 @@ effects_at words status seen (effects, end, status_is, goes, left) =
       over = λ s. cc;
       in_hand = λ s. (effects, effect, may_end, leaves);
     }
-    go OutOfMemory may_end is leaves = record {
+    go effects OutOfMemory may_end is leaves = record {
       all = λ s. cc;
       none = λ s. no_idle status 7 refl is s;
       script = λ s. cc;
@@ -217,7 +208,7 @@ effects_at words status seen (effects, end, status_is, goes, left) =
       over = λ s. cc;
       in_hand = λ s. cc;
     }
-    go (ArenaFull n) may_end is leaves = record {
+    go effects (ArenaFull n) may_end is leaves = record {
       all = λ s. cc;
       none = λ s. no_idle status 8 refl is s;
       script = λ s. cc;
@@ -226,7 +217,7 @@ effects_at words status seen (effects, end, status_is, goes, left) =
       over = λ s. cc;
       in_hand = λ s. cc;
     }
-    go (OverLimit line group size limit) may_end is leaves = record {
+    go effects (OverLimit line group size limit) may_end is leaves = record {
       all = λ s. cc;
       none = λ s. no_idle status 4 refl is s;
       script = λ s. cc;
@@ -235,7 +226,7 @@ effects_at words status seen (effects, end, status_is, goes, left) =
       over = λ s. (effects, line, group, size, limit, may_end, leaves);
       in_hand = λ s. cc;
     }
-    go (NotMovable line) may_end is leaves = record {
+    go effects (NotMovable line) may_end is leaves = record {
       all = λ s. cc;
       none = λ s. no_idle status 3 refl is s;
       script = λ s. inr (effects, line, may_end, leaves);
@@ -366,58 +357,65 @@ end_full words status kept old new is full = record {
 
 -- the causes, status by status
 pub end_at : (words : List (List ℕ)) (status : ℕ) (kept : Option Table) (seen : Seen)
-    → HasEnd words status kept seen → EndByStatus words status kept seen.old seen.new
-end_at words status kept seen (effects, end, status_is, goes, (reason, keeps, line)) =
-    go effects end (goes_may_end seen.asked words seen.old.contents.files effects end goes) status_is reason keeps line
+    → IsOneCourse words status kept seen → EndByStatus words status kept seen.old seen.new
+end_at words status kept seen went = go went.effects went.end went.goes went.status_is went.reason went.line
   where
-    go : (effects : List Effect) (end : End) → MayEnd words seen.old.contents.files effects end
+    may : (effects : List Effect) (end : End) → GoesTo seen.asked words seen.old.contents.files effects end kept
+        → MayEnd words seen.old.contents.files effects end
+    may effects end goes = goes_may_end seen.asked words seen.old.contents.files effects end kept goes
+
+    free : (effects : List Effect) (end : End) → IsNotFull end
+        → GoesTo seen.asked words seen.old.contents.files effects end kept → kept ≡ None
+    free effects end other goes = none_kept words seen.old.contents.files seen.asked effects end kept other goes
+
+    go : (effects : List Effect) (end : End) → GoesTo seen.asked words seen.old.contents.files effects end kept
         → status ≡ status_of end → HasReason end seen.old.contents.files seen.old.faults seen.new.faults
-        → KeepsManager words seen.old.contents.files effects end kept
-        → WritesEndLine end seen.old seen.new
-        → EndByStatus words status kept seen.old seen.new
-    go effects Finished may_end is cause keeps line = end_finished words status kept seen.old seen.new is keeps
-    go effects (Refused refusal) may_end is cause keeps line =
-        let early = refused_early words seen.old.contents.files effects refusal may_end in
+        → WritesEndLine end seen.old seen.new → EndByStatus words status kept seen.old seen.new
+    go effects Finished goes is cause line =
+        end_finished words status kept seen.old seen.new is (free effects Finished tt goes)
+    go effects (Refused refusal) goes is cause line =
+        let early = refused_early words seen.old.contents.files effects refusal (may effects (Refused refusal) goes) in
         end_refused words status kept seen.old seen.new
-        (one_of_three seen.old.contents.files words refusal status early.0 is) keeps record {
+        (one_of_three seen.old.contents.files words refusal status early.0 is) (free effects (Refused refusal) tt goes)
+        record {
           answer = refusal;
           status_is = is;
           led = early.0;
           line = line;
         }
-    go effects (Unreadable file) may_end is cause keeps line =
-        end_unread words status kept seen.old seen.new is keeps record {
+    go effects (Unreadable file) goes is cause line =
+        end_unread words status kept seen.old seen.new is (free effects (Unreadable file) tt goes) record {
           file = file;
-          asked = asked words seen.old.contents.files effects file may_end;
+          asked = asked words seen.old.contents.files effects file (may effects (Unreadable file) goes);
           cause = cause;
           line = line;
         }
-    go effects (Unwritable effect) may_end is cause keeps line =
-        end_unwritten words status kept seen.old seen.new is keeps record {
+    go effects (Unwritable effect) goes is cause line =
+        end_unwritten words status kept seen.old seen.new is (free effects (Unwritable effect) tt goes) record {
           effects = effects;
           effect = effect;
-          in_hand = may_end;
+          in_hand = may effects (Unwritable effect) goes;
           cause = cause;
           line = line;
         }
-    go effects OutOfMemory may_end is cause keeps line = end_no_memory words status kept seen.old seen.new is keeps
-    go effects (ArenaFull n) may_end is cause keeps line =
-        end_full words status kept seen.old seen.new is
-        (full_at words n effects kept seen.old seen.new keeps may_end line)
-    go effects (OverLimit at group size limit) may_end is cause keeps line =
-        end_over words status kept seen.old seen.new is keeps record {
+    go effects OutOfMemory goes is cause line =
+        end_no_memory words status kept seen.old seen.new is (free effects OutOfMemory tt goes)
+    go effects (ArenaFull n) goes is cause line =
+        end_full words status kept seen.old seen.new is (full_at words n effects kept seen goes line)
+    go effects (OverLimit at group size limit) goes is cause line =
+        end_over words status kept seen.old seen.new is (free effects (OverLimit at group size limit) tt goes) record {
           at_line = at;
           group = group;
           size = size;
           limit = limit;
           effects = effects;
-          in_hand = may_end;
+          in_hand = may effects (OverLimit at group size limit) goes;
           line = line;
         }
-    go effects (NotMovable at) may_end is cause keeps line =
-        end_unmoved words status kept seen.old seen.new is keeps record {
+    go effects (NotMovable at) goes is cause line =
+        end_unmoved words status kept seen.old seen.new is (free effects (NotMovable at) tt goes) record {
           at_line = at;
           effects = effects;
-          in_hand = may_end;
+          in_hand = may effects (NotMovable at) goes;
           line = line;
         }

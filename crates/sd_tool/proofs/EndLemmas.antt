@@ -9,16 +9,17 @@ use Rattle.sd_commands.specs.Effects.{Effect}
 use Rattle.sd_commands.specs.declared.command.NumberedCommand.{NumberedCommand}
 use Rattle.sd_commands.specs.declared.state.RunState.{RunState}
 use Rattle.sd_tool.specs.Effects.{Contents}
-use Rattle.sd_tool.specs.Readings.{Plan, Begins, MayComeTo, reading_of}
-use Rattle.sd_tool.specs.Asks.{ComesTo}
-use Rattle.sd_tool.specs.Course.{EndsAmong, Leaves}
+use Rattle.sd_tool.specs.Readings.{reading_of}
+use Rattle.sd_tool.specs.inside.Plans.{Plan, point_of}
+use Rattle.sd_tool.specs.inside.Asks.{ComesTo}
+use Rattle.sd_tool.specs.Course.{Leaves}
+use Rattle.sd_tool.specs.inside.Course.{EndsAmong, after_effects}
 use Rattle.sd_tool.specs.PlanViews.{plan_with}
 use Rattle.sd_tool.specs.inside.ByStatus.{IsOneCourse}
 use Rattle.sd_tool.specs.Ends.{End, Finished, Refused, Unreadable, Unwritable, OutOfMemory as NoMemory}
 use Rattle.sd_tool.specs.Ends.{ArenaFull as NoRoom, OverLimit as Passes, NotMovable as Unmoved, line_of, status_of}
 use Rattle.sd_tool.specs.Refusals.{refusal_status, refusal_answer}
-use Rattle.sd_tool.specs.KeptManager.{KeepsManager}
-use Rattle.sd_tool.specs.Stops.{KeepsOf}
+use Rattle.sd_tool.specs.inside.Kept.{KeepsOf}
 use Rattle.sd_tool.specs.Devices.{Moment, Seen, Faults, HasReason, WritesLine, WritesEndLine}
 use Rattle.sd_tool.specs.inside.Devices.{NotFewer, AppendsLine}
 use Rattle.sd_tool.specs.Stops.{stop_status, stop_text, StandsFor, StopsReading, RunsToEnd, CarriesOut, Attempts}
@@ -43,8 +44,7 @@ reading_stops words (stops.Refused refusal) kept old new before now none same st
   end = Refused (refusal_answer refusal);
   at = record { status = refl; text = refl; stopped = λ e. cc };
   effects = [];
-  goes = inl (stops, refl);
-  keeps = none;
+  goes = inl (stops, refl, none);
   leaves = same;
   reason = tt;
 }
@@ -52,8 +52,7 @@ reading_stops words (ReadFault file) kept old new before now none same stops = r
   end = Unreadable file;
   at = record { status = refl; text = refl; stopped = λ e. cc };
   effects = [];
-  goes = inl (stops.0, refl);
-  keeps = none;
+  goes = inl (stops.0, refl, none);
   leaves = same;
   reason = stops.1;
 }
@@ -66,8 +65,7 @@ reading_stops words OutOfMemory kept old new before now none same stops = record
   end = NoMemory;
   at = record { status = refl; text = refl; stopped = λ e. cc };
   effects = [];
-  goes = inl (stops, refl);
-  keeps = none;
+  goes = inl (stops, refl, none);
   leaves = same;
   reason = tt;
 }
@@ -196,25 +194,11 @@ carried_stop {asks = asks} formula state done commands t kept was stop old new b
     (keeps_at (plan_with formula state done) goes.effects stop goes.end t kept was none is goes.ends
     goes.at.status goes.full_at))
 
--- what is kept is that of the plan to which the readings led
-keeps_led : (words : List (List ℕ)) (files : Option Files) (plan : Plan) (effects : List Effect) (end : End)
-    (kept : Option Table) → MayComeTo files (reading_of words) (Begins plan) → KeepsOf plan effects end kept
-    → KeepsManager words files effects end kept
-keeps_led words files plan effects Finished kept led keeps = keeps
-keeps_led words files plan effects (Refused refusal) kept led keeps = keeps
-keeps_led words files plan effects (Unreadable file) kept led keeps = keeps
-keeps_led words files plan effects (Unwritable effect) kept led keeps = keeps
-keeps_led words files plan effects NoMemory kept led keeps = keeps
-keeps_led words files plan effects (NoRoom n) None led keeps = absurd keeps
-keeps_led words files plan effects (NoRoom n) (Some t) led keeps = (t, plan, refl, keeps.0, led, keeps.1)
-keeps_led words files plan effects (Unmoved l) kept led keeps = keeps
-keeps_led words files plan effects (Passes l g n k) kept led keeps = keeps
-
 -- the commands go on from where the readings led
 pub commands_go : {a b c : List Request → Type 0} (words : List (List ℕ)) (plan : Plan) (kept : Option Table)
     (result : Result (Unit {0}) Stop)
     (old mid new : Contents) (first before last : Faults) → Joins a b c
-    → ComesTo a old.files (reading_of words) (Begins plan)
+    → ComesTo a old.files (reading_of words) (point_of plan)
     → mid ≡ old → NotFewer first before → CarriesOut b plan kept result mid new before last
     → Attempts c words kept result old new first last
 commands_go words plan kept result old mid new first before last join led same fewer goes = record {
@@ -225,9 +209,9 @@ commands_go words plan kept result old mid new first before last join led same f
     plan,
     record { names = led.names; asked = join.meets _ _ led.asked goes.asked; reads = led.reads },
     goes.ends,
+    goes.keeps,
   );
-  keeps = keeps_led words old.files plan goes.effects goes.end kept (led.names, led.reads) goes.keeps;
-  leaves = subst (λ (o : Contents). Leaves goes.effects goes.end o new) same goes.leaves;
+  leaves = subst (λ (o : Contents). Leaves goes.end (after_effects goes.effects o) new) same goes.leaves;
   reason = cause_from plan goes.effects goes.end mid.files old.files first before last goes.ends fewer goes.reason;
 }
 
@@ -264,7 +248,6 @@ went_to_stop words stop status text kept seen attempt is text_is says = record {
   status_is = is ∙ attempt.at.status;
   leaves = attempt.leaves;
   reason = attempt.reason;
-  keeps = attempt.keeps;
   line = says_end stop attempt.end seen.old seen.new attempt.at
       (subst (λ t. WritesLine (line_of t) seen.old.errors seen.new.errors seen.old.err_faults seen.new.err_faults)
       text_is

@@ -5,10 +5,10 @@ use Rattle.sd_tool.specs.Devices.{Seen}
 use Rattle.sd_tool.specs.Laws.{HasWritten, HasLimit, IsDoneOrOverLimit, HasJoined, HasAsked}
 use Rattle.sd_tool.specs.Theorem.{IsCourse}
 use Rattle.sd_tool.proofs.AskedAt.{asked_at}
-use Rattle.sd_tool.proofs.ByStatus.{one_course}
 use Rattle.sd_tool.proofs.Joined.{joined_at}
 use Rattle.sd_tool.proofs.Limited.{limited_at}
 use Rattle.sd_tool.proofs.OneRun.{done_or_over}
+use Rattle.sd_tool.proofs.Walks.{one_course}
 use Rattle.sd_tool.proofs.WrittenLemmas.{written_at}
 
 module _ (words : List (List ℕ)) (status : ℕ) (kept : Option Table) (seen : Seen)

@@ -27,12 +27,13 @@ use Rattle.sd_commands.specs.declared.command.NumberedCommand.{NumberedCommand}
 use Rattle.sd_commands.specs.declared.command.RunCommand.{RunCommand}
 use Rattle.sd_commands.specs.declared.command.RunCommand.TheVariants as commands
 use Rattle.sd_commands.proofs.Outcomes.{settled_done, input_done, plain_growth}
-use Rattle.sd_tool.specs.Effects.{Contents, after}
-use Rattle.sd_tool.specs.Readings.{Plan, Reading, Begins, Reads, reading_of}
-use Rattle.sd_tool.specs.inside.Course.{ReadsTo, MayEnd}
+use Rattle.sd_tool.specs.Effects.{Contents}
+use Rattle.sd_tool.specs.Readings.{Point, Reads, reading_of}
+use Rattle.sd_tool.specs.inside.Plans.{Plan, point_of, plan_for}
+use Rattle.sd_tool.specs.inside.Course.{ReadsTo, MayEnd, after_effects}
 use Rattle.sd_tool.specs.inside.Readings.{with_job, with_vtree_text, with_vtree_reading, with_script_text}
 use Rattle.sd_tool.specs.Readings.{with_input_word, with_tree_word, with_tree, with_commands, with_lines}
-use Rattle.sd_tool.specs.Readings.{with_action, announcement, plan_for, file_name}
+use Rattle.sd_tool.specs.Readings.{with_action, announcement, file_name}
 use Rattle.sd_tool.specs.inside.Readings.{in_line}
 use Rattle.sd_tool.specs.inside.Readings.{with_script_reading, script_reading}
 use Rattle.sd_tool.specs.Ends.{Finished}
@@ -42,9 +43,9 @@ use Rattle.sd_tool.specs.inside.ByStatus.{IsOneCourse}
 use Rattle.sd_tool.specs.Written.{IsStartTree}
 use Rattle.sd_tool.specs.Joined.{own_formula, JoinsTwo, FourLines}
 use Rattle.sd_tool.specs.inside.Joined.{HasLinesOf}
-use Rattle.sd_tool.proofs.ByStatus.{effects_of, effects_at}
+use Rattle.sd_tool.proofs.ByStatus.{effects_at}
 use Rattle.sd_tool.proofs.OneCourse.{whole_plan}
-use Rattle.sd_tool.proofs.OnePoint.{one_point}
+use Rattle.sd_tool.proofs.OnePoint.{one_point, one_plan_at}
 use Rattle.sd_tool.proofs.OneRun.{formula_follows, ends_at_plan}
 use Rattle.sd_tool.proofs.StillCommands.{is_move, AreStill}
 use Rattle.sd_tool.proofs.ReadingLemmas.{reads_on, reads_same}
@@ -61,7 +62,7 @@ BindsName input state command name f = (next : State) (effects : List Effect)
 record OwnLine (input : Groups) (action : Action) (name : ℕ) (f : Expression) : Type 0 where
   command : RunCommand
   still : is_move command ≡ false
-  acts : (v : ℕ) (script : Script) (next : RunCommand → Reading) → with_action v script next action ≡ next command
+  acts : (v : ℕ) (script : Script) (next : RunCommand → Point) → with_action v script next action ≡ next command
   binds : (state : State) → state.every ≡ None → BindsName input state command name f
 
 -- an equal name is bound to an equal formula
@@ -101,18 +102,18 @@ own_line input (actions.Constant n value) name f is = record {
 own_line input action name f is = let bad : ⊥ = cc in absurd bad
 
 -- the commands of four lines
-module _ (v : ℕ) (script : Script) (begin : List NumberedCommand → Reading) where
+module _ (v : ℕ) (script : Script) (begin : List NumberedCommand → Point) where
   -- one line more
   line_more : (done : List NumberedCommand) (l : Line) (ls : List Line) (c : RunCommand)
-      → ((next : RunCommand → Reading) → with_action v script next l.action ≡ next c)
+      → ((next : RunCommand → Point) → with_action v script next l.action ≡ next c)
       → with_lines v script begin done (l ∷ ls) ≡ with_lines v script begin (done ++ in_line l c ∷ []) ls
   line_more done l ls c acts = acts (λ command. with_lines v script begin (done ++ in_line l command ∷ []) ls)
 
   four_lines : (k l m n : Line) (a b c d : RunCommand)
-      → ((next : RunCommand → Reading) → with_action v script next k.action ≡ next a)
-      → ((next : RunCommand → Reading) → with_action v script next l.action ≡ next b)
-      → ((next : RunCommand → Reading) → with_action v script next m.action ≡ next c)
-      → ((next : RunCommand → Reading) → with_action v script next n.action ≡ next d)
+      → ((next : RunCommand → Point) → with_action v script next k.action ≡ next a)
+      → ((next : RunCommand → Point) → with_action v script next l.action ≡ next b)
+      → ((next : RunCommand → Point) → with_action v script next m.action ≡ next c)
+      → ((next : RunCommand → Point) → with_action v script next n.action ≡ next d)
       → with_lines v script begin [] (k ∷ l ∷ m ∷ n ∷ [])
       ≡ begin (in_line k a ∷ in_line l b ∷ in_line m c ∷ in_line n d ∷ [])
   four_lines k l m n a b c d p q r s =
@@ -143,7 +144,7 @@ module _ (input : Groups) (script : Script) (two : HasLinesOf (expression_of inp
   )
 
   -- the four lines become these commands
-  script_leads : (v : ℕ) (begin : List NumberedCommand → Reading)
+  script_leads : (v : ℕ) (begin : List NumberedCommand → Point)
       → script_reading v begin script ≡ begin four_commands
   script_leads v begin =
       let one = own_line input two.first.action two.f two.left two.binds_f in
@@ -157,7 +158,7 @@ module _ (input : Groups) (script : Script) (two : HasLinesOf (expression_of inp
 -- ---- the readings lead to the plan
 
 -- the start tree of the words is followed
-tree_follows : (files : Files) (job : Job) (f : Groups) (tree : Tree) (point : Reading) (word : TreeWord)
+tree_follows : (files : Files) (job : Job) (f : Groups) (tree : Tree) (point : Point) (word : TreeWord)
     → IsStartTree files word f.variables tree → ReadsTo (Some files) (with_tree job f tree) point
     → ReadsTo (Some files) (with_tree_word job f word) point
 tree_follows files job f tree point trees.Balanced is led =
@@ -177,16 +178,16 @@ tree_follows files job f tree point (trees.File file) (bytes, there, short, read
 module _ {words : List (List ℕ)} {seen : Seen} (run : FourLines words seen) where
   -- where the script becomes these commands, it is a plan
   script_follows : (cs : List NumberedCommand)
-      → ((begin : List NumberedCommand → Reading)
+      → ((begin : List NumberedCommand → Point)
       → script_reading run.given.formula.variables begin run.script ≡ begin cs)
       → ReadsTo (Some run.given.files) (with_tree run.given.job run.given.formula run.given.tree)
-      (Begins (plan_for run.given.job run.given.formula run.given.tree cs))
+      (point_of (plan_for run.given.job run.given.formula run.given.tree cs))
   script_follows cs becomes =
       let told = Some run.given.files in
       let job = run.given.job in
       let formula = run.given.formula in
       let tree = run.given.tree in
-      let begin = λ (l : List NumberedCommand). Begins (plan_for job formula tree l) in
+      let begin = λ (l : List NumberedCommand). point_of (plan_for job formula tree l) in
       let asks = Reads run.script_file (with_script_text run.script_file formula.variables begin) in
       let read : ReadsTo told asks (begin cs) =
       inr (
@@ -200,16 +201,16 @@ module _ {words : List (List ℕ)} {seen : Seen} (run : FourLines words seen) wh
 
   -- the words, the input, the tree and the script lead to it
   leads_to_script : (cs : List NumberedCommand)
-      → ((begin : List NumberedCommand → Reading)
+      → ((begin : List NumberedCommand → Point)
       → script_reading run.given.formula.variables begin run.script ≡ begin cs)
       → ReadsTo (Some run.given.files) (reading_of words)
-      (Begins (plan_for run.given.job run.given.formula run.given.tree cs))
+      (point_of (plan_for run.given.job run.given.formula run.given.tree cs))
   leads_to_script cs becomes =
       let told = Some run.given.files in
       let job = run.given.job in
       let formula = run.given.formula in
       let tree = run.given.tree in
-      let point = Begins (plan_for job formula tree cs) in
+      let point = point_of (plan_for job formula tree cs) in
       let named : ReadsTo told (reading_of words) (with_input_word job job.input) =
       reads_same told _ _ (ap with_job run.given.named) in
       reads_on told (reading_of words) (with_input_word job job.input) point named
@@ -291,11 +292,11 @@ four_done input script two state last effects none steps =
 -- ---- the run
 
 -- readings that lead to two plans lead to one
-one_plan : (words : List (List ℕ)) (files : Files) (a b : Plan) → ReadsTo (Some files) (reading_of words) (Begins a)
-    → ReadsTo (Some files) (reading_of words) (Begins b) → b ≡ a
+one_plan : (words : List (List ℕ)) (files : Files) (a b : Plan) → ReadsTo (Some files) (reading_of words) (point_of a)
+    → ReadsTo (Some files) (reading_of words) (point_of b) → b ≡ a
 one_plan words files a b p q =
-    elim (one_point files (reading_of words) (Begins a) (Begins b) tt p q) [
-      | inl is ↦ cc
+    elim (one_point files (reading_of words) (point_of a) (point_of b) tt p q) [
+      | inl is ↦ one_plan_at b a is
       | inr asks ↦ let e = asks.is in let bad : ⊥ = cc in absurd bad
     ]
 
@@ -310,9 +311,9 @@ record WritesDiagram (files : Files) (tree : Tree) (f : Expression) (file : List
 -- what this effect leaves
 leaves_text : (files : Files) (tree : Tree) (f : Expression) (file text : List ℕ) (effects : List Effect)
     (old new : Contents) → old.files ≡ Some files → effects ≡ Write file text ∷ [] → IsTextOf tree (f ∷ []) text
-    → new ≡ after effects old → WritesDiagram files tree f file old new
+    → new ≡ after_effects effects old → WritesDiagram files tree f file old new
 leaves_text files tree f file text effects old new told are is_text is =
-    let now : new ≡ after (Write file text ∷ []) old = is ∙ ap (λ l. after l old) are in
+    let now : new ≡ after_effects (Write file text ∷ []) old = is ∙ ap (λ l. after_effects l old) are in
     let one = single_text tree f text is_text in record {
       diagram = one.0;
       of_formula = one.1;
@@ -378,7 +379,7 @@ joined_at words status kept seen went = λ run.
     let plan = plan_for given.job given.formula given.tree cs in
     let led = leads_to_script run cs (script_leads given.formula run.script two given.formula.variables) in (
       λ zero_.
-          let all = (effects_at words status seen (effects_of words status kept seen went)).all zero_ in
+          let all = (effects_at words status kept seen went).all zero_ in
           let wrote = writes given.files given.job given.formula given.tree run.script two given.told run.of_file
           run.plain led all.0 (subst (λ f. MayEnd words f all.0 Finished) given.told all.1) all.2 in
           record {
@@ -395,9 +396,9 @@ joined_at words status kept seen went = λ run.
     writes : (files : Files) (job : Job) (formula : Groups) (tree : Tree) (script : Script)
         (two : HasLinesOf (expression_of formula) script) → seen.old.contents.files ≡ Some files
         → announcement job.input formula ≡ [] → job.every ≡ None → ReadsTo (Some files) (reading_of words)
-        (Begins (plan_for job formula tree (four_commands formula script two)))
+        (point_of (plan_for job formula tree (four_commands formula script two)))
         → (effects : List Effect) → MayEnd words (Some files) effects Finished
-        → seen.new.contents ≡ after effects seen.old.contents
+        → seen.new.contents ≡ after_effects effects seen.old.contents
         → WritesDiagram files tree (Combined two.operation two.left two.right) (file_name script two.number)
         seen.old.contents seen.new.contents
     writes files job formula tree script two told none plain led effects (inl p) is = absurd p.0

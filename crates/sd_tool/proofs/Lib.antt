@@ -18,6 +18,7 @@ pub mod SoundReadings
 pub mod StartTrees
 pub mod Starts
 pub mod StepLemmas
+pub mod Walks
 pub mod WordsInRange
 pub mod WrittenLemmas
 pub mod StillCommands

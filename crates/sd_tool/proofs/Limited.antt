@@ -13,20 +13,18 @@ use Rattle.sd_commands.specs.Commands.{State, Done, OverLimit as PassesLimit, St
 use Rattle.sd_commands.specs.Standing.{start}
 use Rattle.sd_commands.specs.declared.command.NumberedCommand.{NumberedCommand}
 use Rattle.sd_commands.specs.declared.command.RunCommand.TheVariants as commands
-use Rattle.sd_tool.specs.Course.{EndsAmong}
-use Rattle.sd_tool.specs.inside.Course.{MayEnd}
+use Rattle.sd_tool.specs.inside.Course.{EndsAmong, MayEnd}
 use Rattle.sd_tool.specs.Devices.{Seen, WritesEndLine}
 use Rattle.sd_tool.specs.Ends.{OverLimit}
 use Rattle.sd_tool.specs.Laws.{HasLimit}
 use Rattle.sd_tool.specs.inside.ByStatus.{IsOneCourse}
-use Rattle.sd_tool.specs.Asks.{GoesTo}
-use Rattle.sd_tool.specs.Readings.{Plan, Begins, reading_of, plan_for, announcement, default_of}
+use Rattle.sd_tool.specs.Readings.{reading_of, announcement, default_of}
+use Rattle.sd_tool.specs.inside.Plans.{Plan, plan_for}
 use Rattle.sd_tool.specs.inside.Readings.{in_lines, for_file}
 use Rattle.sd_tool.specs.inside.Readings.{search_of}
 use Rattle.sd_tool.specs.Written.{IsStartTree}
 use Rattle.sd_tool.specs.inside.Readings.{IsInput}
-use Rattle.sd_tool.proofs.AskLemmas.{reads_by}
-use Rattle.sd_tool.proofs.ByStatus.{ends_of, end_at}
+use Rattle.sd_tool.proofs.ByStatus.{end_at}
 use Rattle.sd_tool.proofs.OneRun.{comes_to_own, plain_input, leads_to_plan, same_plan}
 use Rattle.sd_tool.proofs.WrittenLemmas.{announces}
 
@@ -197,15 +195,12 @@ announced_steps formula state (inputs.Generate count seed) = (state, _, [], refl
 leads_to_limit : (words : List (List ℕ)) (files : Files) (job : Job) (formula : Groups) (tree : Tree) (group size : ℕ)
     → IsInput words files job formula → IsStartTree files job.tree formula.variables tree
     → PassesAtGroup formula (start tree job.limit job.slack job.every) group size
-    → GoesTo (λ requests. Unit {0}) words (Some files) (announces job.input formula)
-    (OverLimit 1 (Some group) size job.limit)
+    → MayEnd words (Some files) (announces job.input formula) (OverLimit 1 (Some group) size job.limit)
 leads_to_limit words files job formula tree group size input begins passes =
     let first = start tree job.limit job.slack job.every in
-    let by = reads_by (Some files) (reading_of words) (Begins (plan_of_input job formula tree))
-    (leads_to_plan words files job formula tree input begins) in
     inr (
       plan_of_input job formula tree,
-      record { names = by.0; asked = tt; reads = by.1 },
+      leads_to_plan words files job formula tree input begins,
       (
         first,
         input_line,
@@ -229,7 +224,7 @@ limited_at words status kept seen went = λ run.
     let given = run.given in
     let input = plain_input run in (
       λ four.
-          let passed = (end_at words status kept seen (ends_of words status kept seen went)).over_limit four in
+          let passed = (end_at words status kept seen went).over_limit four in
           let found = passes_input words given.files given.job given.formula given.tree passed.effects passed.at_line
           passed.group passed.size passed.limit input given.starts
           (subst (λ f. MayEnd words f passed.effects
@@ -240,15 +235,9 @@ limited_at words status kept seen went = λ run.
             subst (λ e. WritesEndLine e seen.old seen.new) found.2 passed.line,
           ),
       λ group size passes calm.
-          elim (comes_to_own words status kept seen went calm record {
-            files = given.files;
-            told = given.told;
-            effects = announces given.job.input given.formula;
-            end = OverLimit 1 (Some group) size given.job.limit;
-            own = lit≤ tt;
-            leads = leads_to_limit words given.files given.job given.formula given.tree group size input
-                given.starts passes;
-          }) [
+          elim (comes_to_own words status kept seen went calm given.files given.told
+          (announces given.job.input given.formula) (OverLimit 1 (Some group) size given.job.limit) (lit≤ tt)
+          (leads_to_limit words given.files given.job given.formula given.tree group size input given.starts passes)) [
             | inl own ↦ inl own.0
             | inr free ↦ inr free
           ],

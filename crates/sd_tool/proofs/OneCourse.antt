@@ -9,11 +9,10 @@ use Rattle.sd_commands.specs.Commands.{State, Outcome, Done, OverLimit as Passes
 use Rattle.sd_commands.specs.Commands.{Step, Steps}
 use Rattle.sd_commands.specs.declared.command.NumberedCommand.{NumberedCommand}
 use Rattle.sd_commands.proofs.Outcomes.{one_outcome, valid_after}
-use Rattle.sd_tool.specs.Readings.{Plan}
+use Rattle.sd_tool.specs.inside.Plans.{Plan}
 use Rattle.sd_tool.specs.Ends.{End, Finished, Refused, Unreadable, Unwritable, OutOfMemory, ArenaFull, OverLimit}
 use Rattle.sd_tool.specs.Ends.{NotMovable}
-use Rattle.sd_tool.specs.Course.{Reaches, IsAtCommand, EndsAmong}
-use Rattle.sd_tool.specs.inside.Course.{IsOwn}
+use Rattle.sd_tool.specs.inside.Course.{Reaches, IsAtCommand, EndsAmong, IsOwn}
 
 -- commands leave a vtree
 pub steps_valid : (input : Groups) (start last : State) (commands : List NumberedCommand) (effects : List Effect)

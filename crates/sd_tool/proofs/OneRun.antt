@@ -1,6 +1,6 @@
 -- Over told files there is one course: where the words and the files lead to an end of their own, a run in which no
 -- device fails comes to that end, or memory ran out.
-use Rattle.std.proofs.Common.{◌≡◌, ◌⊎◌, ℕ, ◌≤◌, arith, List, Option, Some, None, inl, inr, refl, sym}
+use Rattle.std.proofs.Common.{◌≡◌, ◌≢◌, ◌⊎◌, ℕ, ◌≤◌, arith, List, Option, Some, None, inl, inr, refl, sym}
 use Rattle.std.proofs.Common.{ap, subst, ◌∙◌}
 use Rattle.sd_base.specs.Files.{Files, Lacks}
 use Rattle.sd_model.specs.StartTrees.{balanced_tree, right_tree, left_tree}
@@ -13,47 +13,47 @@ use Rattle.sd_words.specs.declared.jobs.InputWord.TheVariants as inputs
 use Rattle.sd_words.specs.declared.jobs.TreeWord.{TreeWord}
 use Rattle.sd_words.specs.declared.jobs.TreeWord.TheVariants as trees
 use Rattle.sd_commands.specs.Effects.{Effect, Write, Print}
-use Rattle.sd_tool.specs.Effects.{after}
-use Rattle.sd_tool.specs.Readings.{Plan, Reading, Refuses, Begins, Reads, reading_of}
+use Rattle.sd_tool.specs.Readings.{Point, Refuses, Reads, reading_of}
+use Rattle.sd_tool.specs.inside.Plans.{Plan, point_of, plan_for}
 use Rattle.sd_tool.specs.inside.Readings.{Text}
-use Rattle.sd_tool.specs.inside.Course.{ReadsTo, MayEnd, IsOwn}
-use Rattle.sd_tool.specs.Readings.{with_input_word, with_tree_word, with_tree, with_commands, plan_for, default_of}
+use Rattle.sd_tool.specs.inside.Course.{EndsAmong, ReadsTo, MayEnd, IsOwn, after_effects}
+use Rattle.sd_tool.specs.Readings.{with_input_word, with_tree_word, with_tree, with_commands, default_of}
 use Rattle.sd_tool.specs.inside.Readings.{with_job, with_formula_reading, with_vtree_text, with_vtree_reading, IsInput}
 use Rattle.sd_tool.specs.Ends.{End, Finished, Refused, Unreadable, Unwritable, OutOfMemory, ArenaFull, OverLimit}
 use Rattle.sd_tool.specs.Ends.{NotMovable, status_of}
 use Rattle.sd_tool.specs.Devices.{Seen, Faults, IsCalm, HasReason, WritesEndLine}
 use Rattle.sd_tool.specs.inside.Devices.{NoneRose}
-use Rattle.sd_tool.specs.Course.{EndsAmong, Leaves}
-use Rattle.sd_tool.specs.Asks.{OwnEnd, CameTo, LacksRoom}
-use Rattle.sd_tool.specs.Laws.{IsDoneOrOverLimit}
+use Rattle.sd_tool.specs.Course.{Leaves}
+use Rattle.sd_tool.specs.Laws.{LacksRoom, IsDoneOrOverLimit}
 use Rattle.sd_tool.specs.Theorem.{IsComplete}
 use Rattle.sd_tool.specs.inside.ByStatus.{IsOneCourse}
 use Rattle.sd_tool.specs.Written.{IsFormulaOf, IsStartTree, PlainRun}
 use Rattle.sd_tool.proofs.AskLemmas.{goes_may_end}
 use Rattle.sd_tool.proofs.OneCourse.{one_end_among}
 use Rattle.sd_tool.proofs.SoundReadings.{valid_start}
-use Rattle.sd_tool.proofs.OnePoint.{one_point}
+use Rattle.sd_tool.proofs.OnePoint.{one_point, one_plan_at}
 use Rattle.sd_tool.proofs.ReadingLemmas.{reads_on, reads_same}
 use Rattle.sd_tool.proofs.StillCommands.{AreStill, never_unmoved, default_still}
+use Rattle.sd_tool.proofs.Walks.{all_of, after_all, course_may_end}
 
 -- the readings come to one plan
-pub same_plan : (files : Files) (reading : Reading) (a b : Plan) → ReadsTo (Some files) reading (Begins a)
-    → ReadsTo (Some files) reading (Begins b) → a ≡ b
-same_plan files reading a b p q = elim (one_point files reading (Begins a) (Begins b) tt p q) [
-  | inl is ↦ cc
+pub same_plan : (files : Files) (reading : Point) (a b : Plan) → ReadsTo (Some files) reading (point_of a)
+    → ReadsTo (Some files) reading (point_of b) → a ≡ b
+same_plan files reading a b p q = elim (one_point files reading (point_of a) (point_of b) tt p q) [
+  | inl is ↦ sym (one_plan_at b a is)
   | inr asks ↦ let e = asks.is in let bad : ⊥ = cc in absurd bad
 ]
 
 -- a refusal and a plan exclude each other
-no_plan : (files : Files) (reading : Reading) (refusal : ℕ × List ℕ) (plan : Plan)
-    → ReadsTo (Some files) reading (Refuses refusal) → ReadsTo (Some files) reading (Begins plan) → ⊥
-no_plan files reading refusal plan p q = elim (one_point files reading (Refuses refusal) (Begins plan) tt p q) [
+no_plan : (files : Files) (reading : Point) (refusal : ℕ × List ℕ) (plan : Plan)
+    → ReadsTo (Some files) reading (Refuses refusal) → ReadsTo (Some files) reading (point_of plan) → ⊥
+no_plan files reading refusal plan p q = elim (one_point files reading (Refuses refusal) (point_of plan) tt p q) [
   | inl is ↦ let bad : ⊥ = cc in bad
   | inr asks ↦ let e = asks.is in let bad : ⊥ = cc in bad
 ]
 
 -- or to one refusal
-same_refusal : (files : Files) (reading : Reading) (a b : ℕ × List ℕ) → ReadsTo (Some files) reading (Refuses a)
+same_refusal : (files : Files) (reading : Point) (a b : ℕ × List ℕ) → ReadsTo (Some files) reading (Refuses a)
     → ReadsTo (Some files) reading (Refuses b) → Refused b ≡ Refused a
 same_refusal files reading a b p q = elim (one_point files reading (Refuses a) (Refuses b) tt p q) [
   | inl is ↦ let e : b ≡ a = cc in ap Refused e
@@ -89,11 +89,11 @@ one_own words files effects done own OutOfMemory a b p q = absurd b
 one_own words files effects done own (ArenaFull n) a b p q = absurd b
 
 -- readings that come to a plan ask for no file that is not there
-asked_before : (plan : Plan) (files : Files) (reading : Reading) (file : List ℕ) (next : Text → Reading)
-    → ReadsTo (Some files) reading (Begins plan) → ReadsTo (Some files) reading (Reads file next)
+asked_before : (plan : Plan) (files : Files) (reading : Point) (file : List ℕ) (next : Text → Point)
+    → ReadsTo (Some files) reading (point_of plan) → ReadsTo (Some files) reading (Reads file next)
     → Lacks (Some files) file → ⊥
 asked_before plan files reading file next leads asked lacks =
-    elim (one_point files reading (Begins plan) (Reads file next) tt leads asked) [
+    elim (one_point files reading (point_of plan) (Reads file next) tt leads asked) [
       | inl is ↦ let bad : ⊥ = cc in bad
       | inr asks ↦
           let e = asks.is in
@@ -103,7 +103,7 @@ asked_before plan files reading file next leads asked lacks =
 
 -- the readings of an own end ask for no file that is not there
 none_missing : (words : List (List ℕ)) (files : Files) (effects : List Effect) (own : End) (file : List ℕ)
-    (next : Text → Reading) → IsOwn own → MayEnd words (Some files) effects own
+    (next : Text → Point) → IsOwn own → MayEnd words (Some files) effects own
     → ReadsTo (Some files) (reading_of words) (Reads file next) → Lacks (Some files) file → ⊥
 none_missing words files effects own file next a (inr p) q lacks =
     asked_before p.0 files (reading_of words) file next p.1 q lacks
@@ -163,31 +163,37 @@ own_end (NotMovable l) few = tt
 none_rose : (seen : Seen) → IsCalm seen → NoneRose seen.old.faults seen.new.faults
 none_rose seen calm = record { read = calm.read; write = calm.write; print = calm.print }
 
+-- the run came to this end, with these effects and its line
+abbrev pub CameTo : ℕ → Seen → List Effect → End → Type 0
+CameTo status seen effects end = (status ≡ status_of end)
+    × (seen.new.contents ≡ after_effects effects seen.old.contents) × WritesEndLine end seen.old seen.new
+
 -- where the words and the files lead to an end of their own, the run came to it, or there was no memory
 pub comes_to_own : (words : List (List ℕ)) (status : ℕ) (kept : Option Table) (seen : Seen)
-    → IsOneCourse words status kept seen → IsCalm seen → (own : OwnEnd words seen)
-    → CameTo own status ⊎ LacksRoom status
-comes_to_own words status kept seen went calm own =
-    let own_leads = goes_may_end (λ requests. Unit {0}) words (Some own.files) own.effects own.end own.leads in
-    let own_is = own_end own.end own.own in
-    let may_end = subst (λ f. MayEnd words f went.effects went.end) own.told
-    (goes_may_end seen.asked words seen.old.contents.files went.effects went.end went.goes) in
-    let reason = subst (λ f. HasReason went.end f seen.old.faults seen.new.faults) own.told went.reason in
-    elim (no_other_end words own.files own.effects went.effects own.end went.end seen.old.faults seen.new.faults own_is
-    own_leads may_end reason (none_rose seen calm)) [
+    → IsOneCourse words status kept seen → IsCalm seen → (files : Files) → seen.old.contents.files ≡ Some files
+    → (effects : List Effect) (end : End) → status_of end ≤ 4 → MayEnd words (Some files) effects end
+    → CameTo status seen effects end ⊎ LacksRoom status
+comes_to_own words status kept seen went calm files told effects own few leads =
+    let own_is = own_end own few in
+    let may_end = subst (λ f. MayEnd words f went.effects went.end) told
+    (goes_may_end seen.asked words seen.old.contents.files went.effects went.end kept went.goes) in
+    let reason = subst (λ f. HasReason went.end f seen.old.faults seen.new.faults) told went.reason in
+    elim (no_other_end words files effects went.effects own went.end seen.old.faults seen.new.faults own_is leads
+    may_end reason (none_rose seen calm)) [
       | inl whole ↦ inl (
         went.status_is ∙ ap status_of whole.0,
-        all_done own.end own_is
-            (subst (λ e. Leaves went.effects e seen.old.contents seen.new.contents) whole.0 went.leaves)
-            ∙ ap (λ l. after l seen.old.contents) whole.1,
+        all_done own own_is
+            (subst (λ e. Leaves e (after_effects went.effects seen.old.contents) seen.new.contents) whole.0 went.leaves)
+            ∙ ap (λ l. after_effects l seen.old.contents) whole.1,
         subst (λ e. WritesEndLine e seen.old seen.new) whole.0 went.line,
       )
       | inr (inl memory) ↦ inr (inl (went.status_is ∙ ap status_of memory))
       | inr (inr full) ↦ inr (inr (went.status_is ∙ ap status_of full.1))
     ]
   where
-    all_done : (end : End) → IsOwn end → Leaves went.effects end seen.old.contents seen.new.contents
-        → seen.new.contents ≡ after went.effects seen.old.contents
+    all_done : (end : End) → IsOwn end
+        → Leaves end (after_effects went.effects seen.old.contents) seen.new.contents
+        → seen.new.contents ≡ after_effects went.effects seen.old.contents
     all_done Finished is leaves = leaves
     all_done (Refused r) is leaves = leaves
     all_done (Unreadable file) is leaves = absurd is
@@ -199,16 +205,16 @@ comes_to_own words status kept seen went calm own =
 
 -- a tree leads to its plan, without a script
 leads_at_tree : (told : Option Files) (job : Job) (f : Groups) (own tree : Tree) → job.script ≡ None → own ≡ tree
-    → ReadsTo told (with_tree job f own) (Begins (plan_for job f tree (default_of job)))
+    → ReadsTo told (with_tree job f own) (point_of (plan_for job f tree (default_of job)))
 leads_at_tree told job f own tree alone is =
     reads_same told _ _
-    (ap (with_commands job f.variables (λ commands. Begins (plan_for job f own commands))) alone
-    ∙ ap (λ t. Begins (plan_for job f t (default_of job))) is)
+    (ap (with_commands job f.variables (λ commands. point_of (plan_for job f own commands))) alone
+    ∙ ap (λ t. point_of (plan_for job f t (default_of job))) is)
 
 -- a start tree of the words leads to its plan
 leads_with_tree : (files : Files) (job : Job) (f : Groups) (tree : Tree) (word : TreeWord) → job.script ≡ None
     → IsStartTree files word f.variables tree
-    → ReadsTo (Some files) (with_tree_word job f word) (Begins (plan_for job f tree (default_of job)))
+    → ReadsTo (Some files) (with_tree_word job f word) (point_of (plan_for job f tree (default_of job)))
 leads_with_tree files job f tree trees.Balanced alone is =
     leads_at_tree (Some files) job f (balanced_tree f.variables) tree alone (sym is)
 leads_with_tree files job f tree trees.Right alone is =
@@ -243,7 +249,7 @@ formula_follows files job f (inputs.Generate count seed) is =
 -- an input with a start tree leads to its plan
 pub leads_to_plan : (words : List (List ℕ)) (files : Files) (job : Job) (f : Groups) (tree : Tree)
     → IsInput words files job f → IsStartTree files job.tree f.variables tree
-    → ReadsTo (Some files) (reading_of words) (Begins (plan_for job f tree (default_of job)))
+    → ReadsTo (Some files) (reading_of words) (point_of (plan_for job f tree (default_of job)))
 leads_to_plan words files job f tree input start =
     let told = Some files in
     let asks = with_input_word job job.input in
@@ -254,7 +260,7 @@ leads_to_plan words files job f tree input start =
 -- where the readings lead to a plan and no device fails, all is done, or the size passes the limit, or there was no
 -- memory
 pub done_or_none : (words : List (List ℕ)) (files : Files) (plan : Plan) (effects : List Effect) (end : End)
-    (before now : Faults) → ReadsTo (Some files) (reading_of words) (Begins plan)
+    (before now : Faults) → ReadsTo (Some files) (reading_of words) (point_of plan)
     → AreStill plan.commands → MayEnd words (Some files) effects end
     → HasReason end (Some files) before now → NoneRose before now
     → (status_of end ≡ 0) ⊎ (status_of end ≡ 4) ⊎ (status_of end ≡ 7) ⊎ (status_of end ≡ 8)
@@ -283,11 +289,11 @@ done_or_none words files plan effects (NotMovable l) before now leads still (inr
 -- so a run in which no device failed ended so
 pub ends_at_plan : (words : List (List ℕ)) (status : ℕ) (kept : Option Table) (seen : Seen)
     (went : IsOneCourse words status kept seen) (files : Files) (plan : Plan) → seen.old.contents.files ≡ Some files
-    → ReadsTo (Some files) (reading_of words) (Begins plan) → AreStill plan.commands → IsCalm seen
+    → ReadsTo (Some files) (reading_of words) (point_of plan) → AreStill plan.commands → IsCalm seen
     → (status ≡ 0) ⊎ (status ≡ 4) ⊎ LacksRoom status
 ends_at_plan words status kept seen went files plan told leads still calm =
     let may_end = subst (λ f. MayEnd words f went.effects went.end) told
-    (goes_may_end seen.asked words seen.old.contents.files went.effects went.end went.goes) in
+    (goes_may_end seen.asked words seen.old.contents.files went.effects went.end kept went.goes) in
     let reason = subst (λ f. HasReason went.end f seen.old.faults seen.new.faults) told went.reason in
     elim (done_or_none words files plan went.effects went.end seen.old.faults seen.new.faults leads still may_end reason
     (none_rose seen calm)) [
@@ -302,10 +308,23 @@ pub plain_input : {words : List (List ℕ)} {seen : Seen} (run : PlainRun words 
     → IsInput words run.given.files run.given.job run.given.formula
 plain_input run = record { named = run.given.named; alone = run.alone; input = run.given.input }
 
+-- files that are told are some
+told_files : (told : Option Files) → told ≢ None → (files : Files) × (told ≡ Some files)
+told_files None some = absurd (some refl)
+told_files (Some files) some = (files, refl)
+
 -- a run that went somewhere is complete
 pub completes : (words : List (List ℕ)) (status : ℕ) (kept : Option Table) (seen : Seen)
     → IsOneCourse words status kept seen → IsComplete words status seen
-completes words status kept seen went = λ calm own. comes_to_own words status kept seen went calm own
+completes words status kept seen went = λ calm some own few.
+    let told = told_files seen.old.contents.files some in
+    let leads = subst (λ f. MayEnd words f (all_of own.effects) own.end) told.1
+    (course_may_end words seen.old.contents.files own few) in
+    elim (comes_to_own words status kept seen went calm told.0 told.1 (all_of own.effects) own.end few leads) [
+      | inl came ↦ inr (inr (came.0, came.1 ∙ after_all own.effects seen.old.contents, came.2))
+      | inr (inl memory) ↦ inl memory
+      | inr (inr full) ↦ inr (inl full)
+    ]
 
 -- without a script it is done or passes its limit, or there was no memory
 pub done_or_over : (words : List (List ℕ)) (status : ℕ) (kept : Option Table) (seen : Seen)

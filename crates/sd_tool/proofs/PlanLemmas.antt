@@ -13,7 +13,8 @@ use Rattle.sd_commands.specs.declared.command.NumberedCommand.{NumberedCommand}
 use Rattle.sd_commands.specs.declared.command.RunCommand.TheVariants as commands
 use Rattle.sd_commands.specs.declared.state.RunState.{RunState}
 use Rattle.sd_tool.specs.PlanViews.{IsReadyWith, plan_with, behind}
-use Rattle.sd_tool.specs.Readings.{Begins, announcement, plan_for}
+use Rattle.sd_tool.specs.Readings.{announcement}
+use Rattle.sd_tool.specs.inside.Plans.{point_of, plan_for}
 use Rattle.sd_tool.specs.inside.Readings.{in_lines, for_file, search_of}
 
 -- the plan of the state's vtree, limit, slack and number for searches
@@ -21,25 +22,25 @@ pub plan_made : (job : Job) (formula : Groups) (vtree : Numbered) (state : RunSt
     (all commands : List NumberedCommand)
     → all ≡ announcement job.input formula ++ commands → state.manager.vtree ≡ vtree
     → Represents state (start (plain_tree vtree) job.limit job.slack job.every)
-    → Begins (plan_with formula state all) ≡ Begins (plan_for job formula (plain_tree vtree) commands)
+    → point_of (plan_with formula state all) ≡ point_of (plan_for job formula (plain_tree vtree) commands)
 plan_made job formula vtree state all commands are same represents =
-    ap (λ (l : List NumberedCommand). Begins (plan_with formula state l)) are
-    ∙ ap (λ (k : ℕ). Begins (record {
+    ap (λ (l : List NumberedCommand). point_of (plan_with formula state l)) are
+    ∙ ap (λ (k : ℕ). point_of (record {
       input = formula;
       start = start (plain_tree state.manager.vtree) k state.slack state.every;
       commands = announcement job.input formula ++ commands;
     })) (sym represents.limit)
-    ∙ ap (λ (k : ℕ). Begins (record {
+    ∙ ap (λ (k : ℕ). point_of (record {
       input = formula;
       start = start (plain_tree state.manager.vtree) job.limit k state.every;
       commands = announcement job.input formula ++ commands;
     })) (sym represents.slack)
-    ∙ ap (λ (k : Option ℕ). Begins (record {
+    ∙ ap (λ (k : Option ℕ). point_of (record {
       input = formula;
       start = start (plain_tree state.manager.vtree) job.limit job.slack k;
       commands = announcement job.input formula ++ commands;
     })) (sym represents.every)
-    ∙ ap (λ (t : Numbered). Begins (plan_for job formula (plain_tree t) commands)) same
+    ∙ ap (λ (t : Numbered). point_of (plan_for job formula (plain_tree t) commands)) same
 
 -- the commands behind the line of a generated formula can be done where they can be without it
 pub announced_fit : (v : ℕ) (word : InputWord) (formula : Groups) (all commands : List NumberedCommand)

@@ -1,5 +1,5 @@
 -- The readings of a run, one after another.
-use Rattle.std.proofs.Common.{◌≡◌, ◌⊎◌, ℕ, ◌≤◌, List, [], ◌∷◌, ◌++◌, length, Option, Some, None, Result, Ok, Err}
+use Rattle.std.proofs.Common.{◌≡◌, ◌⊎◌, ℕ, ◌≤◌, List, [], ◌∷◌, length, Option, Some, None, Result, Ok, Err}
 use Rattle.std.proofs.Common.{IfOk, MatchResult, ◌∙◌}
 use Rattle.std.proofs.Common.{inl, inr, refl, sym, ap, subst, arith}
 use Rattle.std.specs.declared.alloc.AllocError.{AllocError}
@@ -17,7 +17,7 @@ use Rattle.sd_words.specs.declared.jobs.InputWord.{InputWord}
 use Rattle.sd_words.specs.declared.jobs.InputWord.TheVariants as inputs
 use Rattle.sd_words.specs.declared.jobs.TreeWord.{TreeWord}
 use Rattle.sd_words.specs.declared.jobs.TreeWord.TheVariants as trees
-use Rattle.sd_tool.specs.Readings.{Reading, Refuses, Begins, Reads, IsText, with_commands}
+use Rattle.sd_tool.specs.Readings.{Point, Refuses, Reads, Stands, IsText, with_commands}
 use Rattle.sd_tool.specs.Refusals.{refusal_answer}
 use Rattle.sd_tool.specs.inside.Course.{ReadsTo}
 use Rattle.sd_script.specs.Scripts.{Script}
@@ -25,7 +25,7 @@ use Rattle.sd_commands.specs.declared.command.NumberedCommand.{NumberedCommand}
 use Rattle.sd_tool.specs.inside.Readings.{Text, script_reading, with_script_text, Input, input_file, with_input}
 use Rattle.sd_tool.specs.Readings.{with_input_word, with_tree_word, with_tree}
 use Rattle.sd_tool.specs.inside.Readings.{with_vtree_text}
-use Rattle.sd_tool.specs.Asks.{ComesTo}
+use Rattle.sd_tool.specs.inside.Asks.{ComesTo}
 use Rattle.sd_tool.specs.Stops.{StopsReading, LeadsTo, StopsFor, GivesText}
 use Rattle.sd_tool.proofs.AskLemmas.{Joins, comes_on, last_on, breaks_on, last_here, comes_same, breaks_here}
 use Rattle.sd_tool.specs.declared.refusal.Refusal.{Refusal}
@@ -45,25 +45,25 @@ is_long None file longer = tt
 is_long (Some files) file longer = longer
 
 -- readings are where they are
-pub reads_here : (told : Option Files) (reading : Reading) → ReadsTo told reading reading
+pub reads_here : (told : Option Files) (reading : Point) → ReadsTo told reading reading
 reads_here told (Refuses answer) = refl
-reads_here told (Begins plan) = refl
+reads_here told (Stands input state left) = refl
 reads_here told (Reads file next) = inl refl
 
 -- where the readings have come to a point, they go on from there
-pub reads_on : (told : Option Files) (reading mid point : Reading) → ReadsTo told reading mid → ReadsTo told mid point
+pub reads_on : (told : Option Files) (reading mid point : Point) → ReadsTo told reading mid → ReadsTo told mid point
     → ReadsTo told reading point
 reads_on told (Refuses answer) mid point a b = subst (λ r. ReadsTo told r point) a b
-reads_on told (Begins plan) mid point a b = subst (λ r. ReadsTo told r point) a b
+reads_on told (Stands input state left) mid point a b = subst (λ r. ReadsTo told r point) a b
 reads_on told (Reads file next) mid point (inl a) b = subst (λ r. ReadsTo told r point) a b
 reads_on told (Reads file next) mid point (inr a) b = inr (a.0, a.1, reads_on told (next a.0) mid point a.2 b)
 
 -- a reading that is a point has come to it
-pub reads_same : (told : Option Files) (reading point : Reading) → reading ≡ point → ReadsTo told reading point
+pub reads_same : (told : Option Files) (reading point : Point) → reading ≡ point → ReadsTo told reading point
 reads_same told reading point is = subst (λ r. ReadsTo told reading r) is (reads_here told reading)
 
 -- a stop at a point of the readings, with counts that have not fallen since, is a stop of all of them
-pub stops_on : {a b c : List Request → Type 0} (stop : Stop) (told : Option Files) (reading mid : Reading)
+pub stops_on : {a b c : List Request → Type 0} (stop : Stop) (told : Option Files) (reading mid : Point)
     (first before now : ℕ) → Joins a b c → ComesTo a told reading mid
     → first ≤ before → StopsReading b stop told mid before now → StopsReading c stop told reading first now
 stops_on (Refused refusal) told reading mid first before now join a later b = comes_on told reading mid _ join a b
@@ -79,7 +79,7 @@ stops_on (OverLimit l g n k) told reading mid first before now join a later b = 
 stops_on (NotMovable l) told reading mid first before now join a later b = absurd b
 
 -- a stop with what is asked in it, said otherwise
-pub stops_with : {a c : List Request → Type 0} (stop : Stop) (told : Option Files) (reading : Reading) (before now : ℕ)
+pub stops_with : {a c : List Request → Type 0} (stop : Stop) (told : Option Files) (reading : Point) (before now : ℕ)
     → ((xs : List Request) → a xs → c xs) → StopsReading a stop told reading before now
     → StopsReading c stop told reading before now
 stops_with (Refused refusal) told reading before now said p =
@@ -97,7 +97,7 @@ stops_with (OverLimit l g n k) told reading before now said p = absurd p
 stops_with (NotMovable l) told reading before now said p = absurd p
 
 -- a read fault at the file that is asked for
-pub stops_at_file : (asks : List Request → Type 0) (told : Option Files) (file name : List ℕ) (next : Text → Reading)
+pub stops_at_file : (asks : List Request → Type 0) (told : Option Files) (file name : List ℕ) (next : Text → Point)
     (before now : ℕ) → asks (ToRead file ∷ []) → name ≡ file → Lacks told file ⊎ Rose before now
     → StopsReading asks (ReadFault name) told (Reads file next) before now
 stops_at_file asks told file name next before now asked same cause = (
@@ -106,8 +106,8 @@ stops_at_file asks told file name next before now asked same cause = (
 )
 
 -- a step that follows a point follows all that led there
-pub leads_on : {A : Type 0} {a b c : List Request → Type 0} (told now : Option Files) (reading mid : Reading)
-    (next : A → Reading) (result : Result A Stop) (first before last : ℕ) → Joins a b c → now ≡ told → first ≤ before
+pub leads_on : {A : Type 0} {a b c : List Request → Type 0} (told now : Option Files) (reading mid : Point)
+    (next : A → Point) (result : Result A Stop) (first before last : ℕ) → Joins a b c → now ≡ told → first ≤ before
     → ComesTo a told reading mid → LeadsTo b now mid next result before last
     → LeadsTo c told reading next result first last
 leads_on {b = b} told now reading mid next (Ok x) first before last join same later p q =
@@ -117,7 +117,7 @@ leads_on {b = b} told now reading mid next (Err stop) first before last join sam
     (subst (λ t. StopsReading b stop t mid before last) same q)
 
 -- the stop at a refusal to which the readings lead
-pub stops_for : (asks : List Request → Type 0) (told : Option Files) (reading : Reading) (refusal : Refusal)
+pub stops_for : (asks : List Request → Type 0) (told : Option Files) (reading : Point) (refusal : Refusal)
     (stop : Stop) (before now : ℕ) → ComesTo asks told reading (Refuses (refusal_answer refusal))
     → StopsFor refusal stop
     → StopsReading asks stop told reading before now
@@ -132,8 +132,8 @@ stops_for asks told reading refusal (OverLimit l g n k) before now a is = absurd
 stops_for asks told reading refusal (NotMovable l) before now a is = absurd is
 
 -- what a text gives leads on, and its fault is where the readings stop
-pub text_leads : {X Y : Type 0} (asks : List Request → Type 0) (told : Option Files) (reading : Reading)
-    (after : Result Y (List ℕ) → Reading) (view : X → Y) (status : ℕ) (file : List ℕ) (parsed : Result Y (List ℕ))
+pub text_leads : {X Y : Type 0} (asks : List Request → Type 0) (told : Option Files) (reading : Point)
+    (after : Result Y (List ℕ) → Point) (view : X → Y) (status : ℕ) (file : List ℕ) (parsed : Result Y (List ℕ))
     (result : Result X Stop) (before now : ℕ)
     → ((text : List ℕ) → after (Err text) ≡ Refuses (status, file ++ text))
     → ComesTo asks told reading (after parsed) → GivesText view status file parsed result
@@ -156,7 +156,7 @@ text_leads asks told reading after view status file parsed (Err (NotMovable l)) 
 -- ---- the text of a file, as the code has it
 
 -- the bytes that were read
-pub text_given : (asks : List Request → Type 0) (told : Option Files) (file : List ℕ) (next : Text → Reading)
+pub text_given : (asks : List Request → Type 0) (told : Option Files) (file : List ℕ) (next : Text → Point)
     (field : Option (List ℕ)) (bytes slice : List ℕ) → field ≡ Some bytes → slice ≡ bytes
     → ComesTo asks told (Reads file next) (next field)
     → ComesTo asks told (Reads file next) (next (Some slice))
@@ -165,7 +165,7 @@ text_given asks told file next field bytes slice is same a =
     (subst (λ f. ComesTo asks told (Reads file next) (next f)) is a)
 
 -- none, where the file is too long
-pub text_lacking : (asks : List Request → Type 0) (told : Option Files) (file : List ℕ) (next : Text → Reading)
+pub text_lacking : (asks : List Request → Type 0) (told : Option Files) (file : List ℕ) (next : Text → Point)
     (field : Option (List ℕ)) → field ≡ None → ComesTo asks told (Reads file next) (next field)
     → ComesTo asks told (Reads file next) (next None)
 text_lacking asks told file next field is a =
@@ -211,7 +211,7 @@ generated_leads asks told job word count seed (Err stop) before now is none give
     (breaks_here asks told _ none)
 
 -- the tree is a start tree that was made
-pub start_leads : (asks : List Request → Type 0) (told : Option Files) (reading : Reading) (job : Job)
+pub start_leads : (asks : List Request → Type 0) (told : Option Files) (reading : Point) (job : Job)
     (formula : Groups) (tree : Tree) (start : Result Numbered AllocError) (result : Result Numbered Stop)
     (before now : ℕ) → asks [] → reading ≡ with_tree job formula tree → IfOk start (λ t. plain_tree t ≡ tree)
     → MatchResult start (λ t. result ≡ Ok t) (λ _. result ≡ Err OutOfMemory)
@@ -242,7 +242,7 @@ vtree_file_leads asks told job formula word name file result before now is same 
 
 -- the commands are those of a script
 pub script_leads : (asks : List Request → Type 0) (told : Option Files) (job : Job) (v : ℕ)
-    (begin : List NumberedCommand → Reading)
+    (begin : List NumberedCommand → Point)
     (word : Option (List ℕ)) (name file : List ℕ) (result : Result Script Stop) (before now : ℕ)
     → word ≡ Some file → name ≡ file
     → LeadsTo asks told (Reads name (with_script_text name v begin)) (script_reading v begin) result before now

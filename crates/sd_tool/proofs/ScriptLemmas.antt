@@ -22,10 +22,10 @@ use Rattle.sd_commands.specs.declared.command.RunCommand.{RunCommand}
 use Rattle.sd_commands.specs.declared.command.RunCommand.TheVariants as commands
 use Rattle.sd_tool.specs.Actions.{plain_of, bound_by, IsCommandOf, AreCommandsOf}
 use Rattle.sd_file.specs.Reads.{File}
-use Rattle.sd_tool.specs.Readings.{Reading, Reads, with_action, with_lines, file_name, default_of}
+use Rattle.sd_tool.specs.Readings.{Point, Reads, with_action, with_lines, file_name, default_of}
 use Rattle.sd_tool.specs.inside.Readings.{with_sdd}
 use Rattle.sd_tool.specs.inside.Readings.{in_lines, search_of, for_file, in_line}
-use Rattle.sd_tool.specs.Asks.{ComesTo}
+use Rattle.sd_tool.specs.inside.Asks.{ComesTo}
 use Rattle.sd_tool.specs.Stops.{LeadsTo}
 use Rattle.sd_tool.specs.declared.stop.Stop.{Stop}
 use Rattle.sd_tool.proofs.AskLemmas.{Joins, comes_same}
@@ -39,12 +39,12 @@ OfSome holds None = Unit {0}
 OfSome holds (Some command) = holds command
 
 -- the command of an action without a file, and where the readings go
-pub record IsPlain (v : ℕ) (script : Script) (next : RunCommand → Reading) (action : Action) (command : RunCommand)
+pub record IsPlain (v : ℕ) (script : Script) (next : RunCommand → Point) (action : Action) (command : RunCommand)
     : Type 0 where
   pub same : IsCommandOf v action command
   pub leads : with_action v script next action ≡ next command
 
-plain : (v : ℕ) (script : Script) (next : RunCommand → Reading) (action : Action)
+plain : (v : ℕ) (script : Script) (next : RunCommand → Point) (action : Action)
     → OfSome (IsPlain v script next action) (plain_of action)
 plain v script next (actions.Input n) =
     record { same = record { uses = refl; binds = refl; frees = refl; in_range = λ h. h }; leads = refl }
@@ -77,7 +77,7 @@ plain v script next (actions.Value a bits) =
 plain v script next action = tt
 
 -- the same of a command that was found
-pub plain_found : (v : ℕ) (script : Script) (next : RunCommand → Reading) (action : Action) (command : RunCommand)
+pub plain_found : (v : ℕ) (script : Script) (next : RunCommand → Point) (action : Action) (command : RunCommand)
     → plain_of action ≡ Some command → IsPlain v script next action command
 plain_found v script next action command is =
     subst (OfSome (IsPlain v script next action)) is (plain v script next action)
@@ -224,8 +224,8 @@ pub load_leads : (asks : List Request → Type 0) (told : Option Files) (v : ℕ
     (n file : ℕ) (name : List ℕ)
     (result : Result File Stop) (before now : ℕ) → action ≡ actions.Load n file
     → slice_get script.files file ≡ Some name
-    → ((next : File → Reading) → LeadsTo asks told (Reads name (with_sdd v name next)) next result before now)
-    → (next : RunCommand → Reading)
+    → ((next : File → Point) → LeadsTo asks told (Reads name (with_sdd v name next)) next result before now)
+    → (next : RunCommand → Point)
     → LeadsTo asks told (with_action v script next action) (λ read. next (commands.Load n read)) result before now
 load_leads asks told v script action n file name result before now is there leads next =
     subst (λ a. LeadsTo asks told (with_action v script next a) (λ read. next (commands.Load n read)) result before now)
@@ -238,7 +238,7 @@ load_leads asks told v script action n file name result before now is there lead
 pub write_leads : (asks : List Request → Type 0) (told : Option Files) (v : ℕ) (script : Script) (action : Action)
     (names : List ℕ) (file : ℕ) (name : List ℕ) (command : RunCommand) → action ≡ actions.Write names file
     → slice_get script.files file ≡ Some name → command ≡ commands.Write names name → asks []
-    → (next : RunCommand → Reading)
+    → (next : RunCommand → Point)
     → ComesTo asks told (with_action v script next action) (next command)
 write_leads asks told v script action names file name command is there same none next =
     comes_same asks told _ _ none (ap (with_action v script next) is
@@ -259,7 +259,7 @@ write_same v action names file name command is same =
 pub vtree_leads : (asks : List Request → Type 0) (told : Option Files) (v : ℕ) (script : Script) (action : Action)
     (file : ℕ)
     (name copy : List ℕ) → action ≡ actions.Vtree file → slice_get script.files file ≡ Some name → copy ≡ name → asks []
-    → (next : RunCommand → Reading)
+    → (next : RunCommand → Point)
     → ComesTo asks told (with_action v script next action) (next (commands.WriteVtree copy))
 vtree_leads asks told v script action file name copy is there same none next =
     comes_same asks told _ _ none (ap (with_action v script next) is
@@ -269,19 +269,19 @@ vtree_leads asks told v script action file name copy is there same none next =
 
 -- the next line leads on where its command does
 pub line_leads : {a b c : List Request → Type 0} (told now : Option Files) (v : ℕ) (script : Script) (index : ℕ)
-    (line : Line) (done : List NumberedCommand) (begin : List NumberedCommand → Reading)
+    (line : Line) (done : List NumberedCommand) (begin : List NumberedCommand → Point)
     (result : Result RunCommand Stop)
     (first before last : ℕ)
     → Joins a b c → IsNext script.commands index line → now ≡ told → first ≤ before
     → ComesTo a told (with_lines v script begin [] script.commands)
     (with_lines v script begin done (drop index script.commands))
-    → ((next : RunCommand → Reading) → LeadsTo b now (with_action v script next line.action) next result before last)
+    → ((next : RunCommand → Point) → LeadsTo b now (with_action v script next line.action) next result before last)
     → LeadsTo c told (with_lines v script begin [] script.commands)
     (λ c. with_lines v script begin (done ++ in_line line c ∷ []) (drop (index + 1) script.commands)) result first last
 line_leads {a = a} told now v script index line done begin result first before last join at same later p leads =
     let reading = with_lines v script begin [] script.commands in
     let rest = drop (index + 1) script.commands in
-    let next : RunCommand → Reading = λ c. with_lines v script begin (done ++ in_line line c ∷ []) rest in
+    let next : RunCommand → Point = λ c. with_lines v script begin (done ++ in_line line c ∷ []) rest in
     leads_on told now reading (with_lines v script begin done (line ∷ rest)) next result first before last join same
     later
     (subst (λ (ls : List Line). ComesTo a told reading (with_lines v script begin done ls))

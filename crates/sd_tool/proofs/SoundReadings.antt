@@ -24,12 +24,13 @@ use Rattle.sd_words.specs.declared.jobs.TreeWord.TheVariants as trees
 use Rattle.sd_commands.specs.declared.command.NumberedCommand.{NumberedCommand}
 use Rattle.sd_commands.specs.declared.command.RunCommand.{RunCommand}
 use Rattle.sd_commands.specs.declared.command.RunCommand.TheVariants as commands
-use Rattle.sd_tool.specs.Readings.{Plan, Reading, Refuses, Begins, Reads}
+use Rattle.sd_tool.specs.Readings.{Point, Refuses, Reads, Stands}
+use Rattle.sd_tool.specs.inside.Plans.{Plan, point_of, plan_for}
 use Rattle.sd_tool.specs.inside.Course.{ReadsTo}
 use Rattle.sd_tool.specs.inside.Readings.{Text, Input, with_job, with_input, with_formula_reading}
 use Rattle.sd_tool.specs.Readings.{reading_of, with_input_word, with_tree_word, with_tree, with_commands}
 use Rattle.sd_tool.specs.inside.Readings.{with_vtree_text, with_vtree_reading, script_reading}
-use Rattle.sd_tool.specs.Readings.{with_lines, with_action, file_name, plan_for, default_of}
+use Rattle.sd_tool.specs.Readings.{with_lines, with_action, file_name, default_of}
 use Rattle.sd_tool.specs.inside.Readings.{in_line}
 use Rattle.sd_tool.specs.inside.Readings.{with_script_text, with_script_reading, with_sdd, with_sdd_reading}
 use Rattle.sd_tool.proofs.StartTrees.{balanced_fits, right_fits, left_fits}
@@ -42,30 +43,30 @@ abbrev pub IsRefusedWith : ℕ → Type 0
 IsRefusedWith status = (status ≡ 1) ⊎ (status ≡ 2) ⊎ (status ≡ 3)
 
 -- whatever the texts, the readings are over at a refusal with its status, or at a plan over a vtree
-abbrev pub AreSound : Reading → Type 0
+abbrev pub AreSound : Point → Type 0
 AreSound (Refuses answer) = IsRefusedWith answer.0
-AreSound (Begins plan) = IsVtree plan.start.tree
+AreSound (Stands input state left) = IsVtree state.tree
 AreSound (Reads file next) = (text : Text) → AreSound (next text)
 
 -- so is the point where they are over
-sound_refusal : (told : Option Files) (reading : Reading) (refusal : ℕ × List ℕ) → AreSound reading
+sound_refusal : (told : Option Files) (reading : Point) (refusal : ℕ × List ℕ) → AreSound reading
     → ReadsTo told reading (Refuses refusal) → IsRefusedWith refusal.0
 sound_refusal told (Refuses found) refusal sound is = subst AreSound (sym is) sound
-sound_refusal told (Begins plan) refusal sound is = subst AreSound (sym is) sound
+sound_refusal told (Stands input state left) refusal sound is = subst AreSound (sym is) sound
 sound_refusal told (Reads file next) refusal sound (inl is) = let bad : ⊥ = cc in absurd bad
 sound_refusal told (Reads file next) refusal sound (inr a) =
     sound_refusal told (next a.0) refusal (sound a.0) a.2
 
-sound_plan : (told : Option Files) (reading : Reading) (plan : Plan) → AreSound reading
-    → ReadsTo told reading (Begins plan) → IsVtree plan.start.tree
+sound_plan : (told : Option Files) (reading : Point) (plan : Plan) → AreSound reading
+    → ReadsTo told reading (point_of plan) → IsVtree plan.start.tree
 sound_plan told (Refuses found) plan sound is = subst AreSound (sym is) sound
-sound_plan told (Begins found) plan sound is = subst AreSound (sym is) sound
+sound_plan told (Stands input state left) plan sound is = subst AreSound (sym is) sound
 sound_plan told (Reads file next) plan sound (inl is) = let bad : ⊥ = cc in absurd bad
 sound_plan told (Reads file next) plan sound (inr a) = sound_plan told (next a.0) plan (sound a.0) a.2
 
 -- ---- the commands
 
-sound_sdd : (v : ℕ) (file : List ℕ) (next : File → Reading) (text : Text) → ((read : File) → AreSound (next read))
+sound_sdd : (v : ℕ) (file : List ℕ) (next : File → Point) (text : Text) → ((read : File) → AreSound (next read))
     → AreSound (with_sdd v file next text)
 sound_sdd v file next None sound = inr (inl refl)
 sound_sdd v file next (Some bytes) sound = go (sdd_file v bytes)
@@ -74,7 +75,7 @@ sound_sdd v file next (Some bytes) sound = go (sdd_file v bytes)
     go (Ok read) = sound read
     go (Err fault) = inr (inl refl)
 
-sound_action : (v : ℕ) (s : Script) (next : RunCommand → Reading) (action : Action)
+sound_action : (v : ℕ) (s : Script) (next : RunCommand → Point) (action : Action)
     → ((command : RunCommand) → AreSound (next command)) → AreSound (with_action v s next action)
 sound_action v s next (actions.Input n) sound = sound (commands.Input n)
 sound_action v s next (actions.Load n file) sound = λ text.
@@ -95,7 +96,7 @@ sound_action v s next (actions.Value a bits) sound = sound (commands.Value a bit
 sound_action v s next (actions.Write names file) sound = sound (commands.Write names (file_name s file))
 sound_action v s next (actions.Vtree file) sound = sound (commands.WriteVtree (file_name s file))
 
-sound_lines : (v : ℕ) (s : Script) (begin : List NumberedCommand → Reading) (done : List NumberedCommand)
+sound_lines : (v : ℕ) (s : Script) (begin : List NumberedCommand → Point) (done : List NumberedCommand)
     (lines : List Line)
     → ((cs : List NumberedCommand) → AreSound (begin cs)) → AreSound (with_lines v s begin done lines)
 sound_lines v s begin done [] sound = sound done
@@ -103,12 +104,12 @@ sound_lines v s begin done (line ∷ lines) sound =
     sound_action v s (λ command. with_lines v s begin (done ++ in_line line command ∷ []) lines) line.action
     (λ command. sound_lines v s begin (done ++ in_line line command ∷ []) lines sound)
 
-sound_script : (v : ℕ) (s : Script) (begin : List NumberedCommand → Reading) →
+sound_script : (v : ℕ) (s : Script) (begin : List NumberedCommand → Point) →
     ((cs : List NumberedCommand) → AreSound (begin cs))
     → AreSound (script_reading v begin s)
 sound_script v s begin sound = sound_lines v s begin [] s.commands sound
 
-sound_script_text : (file : List ℕ) (v : ℕ) (begin : List NumberedCommand → Reading) (text : Text)
+sound_script_text : (file : List ℕ) (v : ℕ) (begin : List NumberedCommand → Point) (text : Text)
     → ((cs : List NumberedCommand) → AreSound (begin cs)) → AreSound (with_script_text file v begin text)
 sound_script_text file v begin None sound = inr (inr refl)
 sound_script_text file v begin (Some bytes) sound = go (script_of v bytes)
@@ -117,7 +118,7 @@ sound_script_text file v begin (Some bytes) sound = go (script_of v bytes)
     go (Ok s) = sound_script v s begin sound
     go (Err fault) = inr (inr refl)
 
-sound_commands : (job : Job) (v : ℕ) (begin : List NumberedCommand → Reading) (file : Option (List ℕ))
+sound_commands : (job : Job) (v : ℕ) (begin : List NumberedCommand → Point) (file : Option (List ℕ))
     → ((cs : List NumberedCommand) → AreSound (begin cs)) → AreSound (with_commands job v begin file)
 sound_commands job v begin None sound = sound (default_of job)
 sound_commands job v begin (Some file) sound = λ text. sound_script_text file v begin text sound
@@ -126,7 +127,7 @@ sound_commands job v begin (Some file) sound = λ text. sound_script_text file v
 
 sound_tree : (job : Job) (f : Groups) (tree : Tree) → IsVtree tree → AreSound (with_tree job f tree)
 sound_tree job f tree is =
-    sound_commands job f.variables (λ cs. Begins (plan_for job f tree cs)) job.script (λ cs. is)
+    sound_commands job f.variables (λ cs. point_of (plan_for job f tree cs)) job.script (λ cs. is)
 
 sound_tree_word : (job : Job) (f : Groups) (word : TreeWord) → 1 ≤ f.variables → AreSound (with_tree_word job f word)
 sound_tree_word job f trees.Balanced some =
@@ -178,5 +179,5 @@ refused_with told ws refusal a = sound_refusal told (reading_of ws) refusal (sou
 
 -- the plan of a run begins with a vtree
 pub valid_start : (told : Option Files) (ws : List (List ℕ)) (plan : Plan)
-    → ReadsTo told (reading_of ws) (Begins plan) → IsVtree plan.start.tree
+    → ReadsTo told (reading_of ws) (point_of plan) → IsVtree plan.start.tree
 valid_start told ws plan a = sound_plan told (reading_of ws) plan (sound_words ws) a

@@ -2,8 +2,9 @@
 use Rattle.std.proofs.Common.{◌≡◌, ℕ, ◌+◌, ◌<◌, ◌≤◌, Option, Ok, Err, List, [], ◌∷◌, ◌++◌, length, take, drop}
 use Rattle.std.proofs.Common.{get_or, refl, sym, ap, subst, ◌∙◌, append_assoc, take-append-drop, arith, add-one}
 use Rattle.std.proofs.lemmas.List.{append-nil, take_all, take_more}
+use Rattle.std.proofs.lemmas.List.Concat.{flat_map-append}
 use Rattle.std.proofs.Math.Seq.{drop-cons}
-use Rattle.sd_base.specs.Asked.{Request, ToWrite}
+use Rattle.sd_base.specs.Asked.{Request}
 use Rattle.sd_base.specs.Faults.{Rose}
 use Rattle.sd_base.specs.Files.{Files}
 use Rattle.sd_formula.specs.Dimacs.{Groups}
@@ -22,14 +23,15 @@ use Rattle.sd_commands.specs.declared.error.CommandError.TheVariants as errors
 use Rattle.sd_commands.specs.declared.state.RunState.{RunState}
 use Rattle.sd_commands.proofs.Outcomes.{names_after}
 use Rattle.sd_commands.proofs.Standing.{holds_state}
-use Rattle.sd_tool.specs.Effects.{Contents, after_effect, after, DoesPart}
-use Rattle.sd_tool.specs.Readings.{Plan}
+use Rattle.sd_tool.specs.Effects.{Contents, after_effect, DoesPart}
+use Rattle.sd_tool.specs.Course.{request_of}
+use Rattle.sd_tool.specs.inside.Plans.{Plan}
 use Rattle.sd_tool.specs.Ends.{Finished, Unwritable, OutOfMemory as NoMemory, ArenaFull as NoRoom, OverLimit as Passes}
 use Rattle.sd_tool.specs.Ends.{NotMovable as StaysPut}
 use Rattle.sd_tool.specs.Devices.{Faults, HasReason}
 use Rattle.sd_tool.specs.inside.Devices.{NotFewer}
-use Rattle.sd_tool.specs.Asks.{writings}
-use Rattle.sd_tool.specs.Course.{IsAtCommand}
+use Rattle.sd_tool.specs.inside.Asks.{writings}
+use Rattle.sd_tool.specs.inside.Course.{IsAtCommand, after_effects}
 use Rattle.sd_tool.specs.Stops.{FailsAt, RunsToEnd, stop_of}
 use Rattle.sd_tool.specs.declared.stop.Stop.{Stop}
 use Rattle.sd_tool.specs.declared.stop.Stop.TheVariants.{OutOfMemory, ArenaFull, OverLimit, NotMovable}
@@ -38,16 +40,13 @@ use Rattle.sd_tool.proofs.Fronts.{does_part}
 
 -- the contents after two lists of effects
 pub after_append : (first others : List Effect) (old : Contents)
-    → after (first ++ others) old ≡ after others (after first old)
+    → after_effects (first ++ others) old ≡ after_effects others (after_effects first old)
 after_append [] others old = refl
 after_append (effect ∷ first) others old = after_append first others (after_effect effect old)
 
 -- the writings of two lists of effects
 writings_append : (first others : List Effect) → writings (first ++ others) ≡ writings first ++ writings others
-writings_append [] others = refl
-writings_append (Write file bytes ∷ first) others =
-    ap (λ (l : List Request). ToWrite file ∷ l) (writings_append first others)
-writings_append (Print line ∷ first) others = writings_append first others
+writings_append first others = flat_map-append request_of first others
 
 -- one command more
 Steps_push : (input : Groups) (start mid new : State) (done : List NumberedCommand) (effects here : List Effect)
@@ -79,7 +78,7 @@ pub record SoFar (asks : List Request → Type 0) (plan : Plan) (v index : ℕ) 
   pub steps : Steps plan.input plan.start (take index plan.commands) effects state
   pub represents : Represents code state
   pub fit : AllFit v (names_of state) (drop index plan.commands)
-  pub is : now ≡ after effects old
+  pub is : now ≡ after_effects effects old
   pub asked : asks (writings effects)
 
 -- the loop is at this command
@@ -128,7 +127,7 @@ pub so_far_more : {a b c : List Request → Type 0} (plan : Plan) (v index : ℕ
     (old now new : Contents) (command : NumberedCommand)
     (asked : Option CodeEffect) → Joins a b c → IsNext plan.commands index command
     → (so_far : SoFar a plan v index code old now)
-    → StepsTo plan.input so_far.state command.command code' asked → new ≡ after (effects_of asked) now
+    → StepsTo plan.input so_far.state command.command code' asked → new ≡ after_effects (effects_of asked) now
     → b (writings (effects_of asked)) → SoFar c plan v (index + 1) code' old new
 so_far_more {c = c} plan v index code code' old now new command asked join next so_far done effect asks = record {
   effects = so_far.effects ++ effects_of asked;
@@ -142,7 +141,8 @@ so_far_more {c = c} plan v index code code' old now new command asked join next 
   fit = subst (λ names. AllFit v names (drop (index + 1) plan.commands))
       (sym (names_after plan.input so_far.state done.next command.command (effects_of asked) done.step))
       (fits_next plan v index code old now command next so_far).1;
-  is = effect ∙ ap (after (effects_of asked)) so_far.is ∙ sym (after_append so_far.effects (effects_of asked) old);
+  is = effect ∙ ap (after_effects (effects_of asked)) so_far.is
+      ∙ sym (after_append so_far.effects (effects_of asked) old);
   asked = subst c (sym (writings_append so_far.effects (effects_of asked))) (join.meets _ _ so_far.asked asks);
 }
 

@@ -11,10 +11,11 @@ use Rattle.sd_commands.specs.declared.command.NumberedCommand.{NumberedCommand}
 use Rattle.sd_commands.specs.declared.command.RunCommand.{RunCommand}
 use Rattle.sd_commands.specs.declared.command.RunCommand.TheVariants as commands
 use Rattle.sd_commands.proofs.Settling.{never_unmoved as never_settled}
-use Rattle.sd_tool.specs.Readings.{Plan, announcement, default_of}
+use Rattle.sd_tool.specs.Readings.{announcement, default_of}
+use Rattle.sd_tool.specs.inside.Plans.{Plan}
 use Rattle.sd_tool.specs.inside.Readings.{in_lines, for_file, search_of}
 use Rattle.sd_tool.specs.Ends.{NotMovable}
-use Rattle.sd_tool.specs.Course.{EndsAmong}
+use Rattle.sd_tool.specs.inside.Course.{EndsAmong}
 
 -- a command moves the vtree
 abbrev pub is_move : RunCommand → Bool

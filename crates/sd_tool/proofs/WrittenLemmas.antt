@@ -35,28 +35,32 @@ use Rattle.sd_commands.specs.declared.command.RunCommand.TheVariants as commands
 use Rattle.sd_commands.proofs.Outcomes.{input_done, grows_valid}
 use Rattle.sd_commands.proofs.Searched.{search_valid}
 use Rattle.sd_search.specs.Search.{Found, IsSearch}
-use Rattle.sd_tool.specs.Effects.{Contents, after}
-use Rattle.sd_tool.specs.Readings.{Plan, Begins, IsText}
+use Rattle.sd_tool.specs.Effects.{Contents}
+use Rattle.sd_tool.specs.Readings.{Point, Refuses, Reads, Stands, IsText}
+use Rattle.sd_tool.specs.inside.Plans.{Plan, point_of, plan_for}
 use Rattle.sd_tool.specs.inside.Readings.{Text}
-use Rattle.sd_tool.specs.inside.Course.{ReadsTo, MayEnd}
+use Rattle.sd_tool.specs.inside.Course.{ReadsTo, MayEnd, after_effects}
 use Rattle.sd_tool.specs.inside.Readings.{Input, with_job, with_input, with_formula_reading, with_vtree_reading, IsInput}
 use Rattle.sd_tool.specs.Readings.{reading_of, with_input_word, with_tree_word}
-use Rattle.sd_tool.specs.Readings.{with_tree, with_commands, plan_for, default_of}
+use Rattle.sd_tool.specs.Readings.{with_tree, with_commands, default_of}
 use Rattle.sd_tool.specs.inside.Readings.{in_lines, for_file}
 use Rattle.sd_tool.specs.Readings.{announcement}
 use Rattle.sd_tool.specs.inside.Readings.{search_of}
 use Rattle.sd_tool.specs.Ends.{Finished}
 use Rattle.sd_tool.specs.Devices.{Seen}
 use Rattle.sd_tool.specs.Laws.{HasWritten}
-use Rattle.sd_tool.specs.Theorem.{HasEqualTexts}
+use Rattle.sd_tool.specs.Course.{Goes, Course}
+use Rattle.sd_tool.specs.Texts.{WritesAt}
 use Rattle.sd_tool.specs.inside.ByStatus.{IsOneCourse}
 use Rattle.sd_tool.specs.Written.{ReadsAs, IsFormulaOf, IsStartTree, IsWritten, PlainRun, WritesInput}
 use Rattle.sd_tool.specs.Written.{with_output, with_announcement, IsFound}
 use Rattle.sd_tool.proofs.AskLemmas.{by_reads_to}
-use Rattle.sd_tool.proofs.ByStatus.{effects_of, effects_at}
+use Rattle.sd_tool.proofs.ByStatus.{effects_at}
 use Rattle.sd_tool.proofs.OneCourse.{steps_valid, whole_plan}
+use Rattle.sd_tool.proofs.OnePoint.{one_plan_at}
 use Rattle.sd_tool.proofs.SoundReadings.{valid_start}
 use Rattle.sd_tool.proofs.RootsTexts.{texts_of_roots}
+use Rattle.sd_tool.proofs.Walks.{all_of, commands_back}
 
 -- a plan is that of an input and its tree, with the stated commands
 record FromInput (words : List (List ℕ)) (files : Files) (job : Job) (plan : Plan) : Type 0 where
@@ -68,12 +72,12 @@ record FromInput (words : List (List ℕ)) (files : Files) (job : Job) (plan : P
 
 -- a plan over a tree is that of this tree
 from_tree : (told : Option Files) (job : Job) (f : Groups) (tree : Tree) (plan : Plan) → job.script ≡ None
-    → ReadsTo told (with_tree job f tree) (Begins plan) → plan ≡ plan_for job f tree (default_of job)
+    → ReadsTo told (with_tree job f tree) (point_of plan) → plan ≡ plan_for job f tree (default_of job)
 from_tree told job f tree plan alone p =
-    let begin = λ (l : List NumberedCommand). Begins (plan_for job f tree l) in
-    let is : Begins plan ≡ Begins (plan_for job f tree (default_of job)) =
-    subst (λ script. ReadsTo told (with_commands job f.variables begin script) (Begins plan)) alone p in
-    cc
+    let begin = λ (l : List NumberedCommand). point_of (plan_for job f tree l) in
+    let is : point_of plan ≡ point_of (plan_for job f tree (default_of job)) =
+    subst (λ script. ReadsTo told (with_commands job f.variables begin script) (point_of plan)) alone p in
+    one_plan_at plan (plan_for job f tree (default_of job)) is
 
 -- a plan after a formula, with its tree
 record FromTree (files : Files) (job : Job) (f : Groups) (plan : Plan) : Type 0 where
@@ -84,7 +88,7 @@ record FromTree (files : Files) (job : Job) (f : Groups) (plan : Plan) : Type 0 
 -- a tree of the word is the tree of the plan
 found_tree : (files : Files) (job : Job) (f : Groups) (plan : Plan) (word : TreeWord) (tree : Tree) → job.tree ≡ word
     → job.script ≡ None → IsStartTree files word f.variables tree
-    → ReadsTo (Some files) (with_tree job f tree) (Begins plan) → FromTree files job f plan
+    → ReadsTo (Some files) (with_tree job f tree) (point_of plan) → FromTree files job f plan
 found_tree files job f plan word tree e alone start p = record {
   tree = tree;
   start = subst (λ w. IsStartTree files w f.variables tree) (sym e) start;
@@ -92,7 +96,7 @@ found_tree files job f plan word tree e alone start p = record {
 }
 
 from_word : (files : Files) (job : Job) (f : Groups) (plan : Plan) (word : TreeWord) → job.tree ≡ word
-    → job.script ≡ None → ReadsTo (Some files) (with_tree_word job f word) (Begins plan) → FromTree files job f plan
+    → job.script ≡ None → ReadsTo (Some files) (with_tree_word job f word) (point_of plan) → FromTree files job f plan
 from_word files job f plan trees.Balanced e alone p =
     found_tree files job f plan trees.Balanced (balanced_tree f.variables) e alone refl p
 from_word files job f plan trees.Right e alone p =
@@ -105,14 +109,14 @@ from_word files job f plan (trees.File file) e alone (inr (Some bytes, has, p)) 
     go (vtree_file f.variables bytes) refl p
   where
     go : (reading : Result Tree (List ℕ)) → vtree_file f.variables bytes ≡ reading
-        → ReadsTo (Some files) (with_vtree_reading job f file reading) (Begins plan) → FromTree files job f plan
+        → ReadsTo (Some files) (with_vtree_reading job f file reading) (point_of plan) → FromTree files job f plan
     go (Err fault) is p = let bad : ⊥ = cc in absurd bad
     go (Ok tree) is p =
         found_tree files job f plan (trees.File file) tree e alone (bytes, has.0, has.1, is) p
 
 -- a plan is made of a formula
 from_formula : (files : Files) (job : Job) (file : List ℕ) (formula : Result Groups (List ℕ)) (plan : Plan)
-    → job.script ≡ None → ReadsTo (Some files) (with_formula_reading job file formula) (Begins plan)
+    → job.script ≡ None → ReadsTo (Some files) (with_formula_reading job file formula) (point_of plan)
     → (f : Groups) × (formula ≡ Ok f) × FromTree files job f plan
 from_formula files job file (Err fault) plan alone p = let bad : ⊥ = cc in absurd bad
 from_formula files job file (Ok formula) plan alone p =
@@ -126,7 +130,7 @@ record FromWord (files : Files) (job : Job) (word : InputWord) (plan : Plan) : T
 
 -- the text of a formula file
 from_text : (files : Files) (job : Job) (input : Input) (plan : Plan) (text : Text) → job.script ≡ None
-    → IsText (Some files) input.file text → ReadsTo (Some files) (with_input job input text) (Begins plan)
+    → IsText (Some files) input.file text → ReadsTo (Some files) (with_input job input text) (point_of plan)
     → (formula : Groups) × ReadsAs files input.file (dimacs input.kind) formula × FromTree files job formula plan
 from_text files job input plan None alone has p = let bad : ⊥ = cc in absurd bad
 from_text files job input plan (Some bytes) alone has p =
@@ -138,7 +142,7 @@ from_text files job input plan (Some bytes) alone has p =
 
 -- the formula of a word
 from_job : (files : Files) (job : Job) (plan : Plan) (word : InputWord) → job.script ≡ None
-    → ReadsTo (Some files) (with_input_word job word) (Begins plan) → FromWord files job word plan
+    → ReadsTo (Some files) (with_input_word job word) (point_of plan) → FromWord files job word plan
 from_job files job plan (inputs.Cnf file) alone (inl p) = let bad : ⊥ = cc in absurd bad
 from_job files job plan (inputs.Dnf file) alone (inl p) = let bad : ⊥ = cc in absurd bad
 from_job files job plan (inputs.Cnf file) alone (inr p) =
@@ -155,10 +159,10 @@ from_job files job plan (inputs.Generate count seed) alone p = record {
 
 -- the plan of the readings comes from the input
 from_input : (words : List (List ℕ)) (files : Files) (job : Job) (plan : Plan) → job_of words ≡ Ok job
-    → job.script ≡ None → ReadsTo (Some files) (reading_of words) (Begins plan) → FromInput words files job plan
+    → job.script ≡ None → ReadsTo (Some files) (reading_of words) (point_of plan) → FromInput words files job plan
 from_input words files job plan named alone p =
     let found = from_job files job plan job.input alone
-    (subst (λ j. ReadsTo (Some files) (with_job j) (Begins plan)) named p) in
+    (subst (λ j. ReadsTo (Some files) (with_job j) (point_of plan)) named p) in
     record {
       formula = found.formula;
       tree = found.from.tree;
@@ -386,12 +390,15 @@ told_behind (Write file bytes ∷ effects) printed = told_behind effects printed
 -- what the others leave, they leave behind the line
 after_searched : (rounds : Option ℕ) (state : State) (tree : Tree) (before others : List Effect) (old : Contents)
     → SearchDone rounds state tree before
-    → after (before ++ others) old ≡ after others (record old { printed = told_behind before old.printed })
+    → after_effects (before ++ others) old
+    ≡ after_effects others (record old { printed = told_behind before old.printed })
 after_searched None state tree before others old done =
-    subst (λ l. after (l ++ others) old ≡ after others (record old { printed = told_behind l old.printed }))
+    subst (λ l. after_effects (l ++ others) old
+    ≡ after_effects others (record old { printed = told_behind l old.printed }))
     (sym done.1) refl
 after_searched (Some rounds) state tree before others old done =
-    subst (λ l. after (l ++ others) old ≡ after others (record old { printed = told_behind l old.printed }))
+    subst (λ l. after_effects (l ++ others) old
+    ≡ after_effects others (record old { printed = told_behind l old.printed }))
     (sym done.3) refl
 
 -- the search is that of the formula
@@ -409,7 +416,7 @@ found_by (Some rounds) state f tree before printed only done = (
 -- the files after the commands
 files_after : (out_vtree out_sdd : Option (List ℕ)) (vtree diagram line : List ℕ) (old : Contents) (files : Files)
     → old.files ≡ Some files
-    → (after (writes_to out_vtree vtree ++ writes_to out_sdd diagram ++ Print line ∷ []) old).files
+    → (after_effects (writes_to out_vtree vtree ++ writes_to out_sdd diagram ++ Print line ∷ []) old).files
     ≡ Some (with_output out_sdd diagram (with_output out_vtree vtree files))
 files_after None None vtree diagram line old files told = told
 files_after None (Some file) vtree diagram line old files told = ap (λ f. told_with f file diagram) told
@@ -419,7 +426,7 @@ files_after (Some file) (Some other) vtree diagram line old files told =
 
 -- what is printed after them
 printed_after : (out_vtree out_sdd : Option (List ℕ)) (vtree diagram line : List ℕ) (old : Contents)
-    → (after (writes_to out_vtree vtree ++ writes_to out_sdd diagram ++ Print line ∷ []) old).printed
+    → (after_effects (writes_to out_vtree vtree ++ writes_to out_sdd diagram ++ Print line ∷ []) old).printed
     ≡ told_then old.printed line
 printed_after None None vtree diagram line old = refl
 printed_after None (Some file) vtree diagram line old = refl
@@ -456,8 +463,8 @@ announced_done input state last (inputs.Generate count seed) formula rest effect
 
 -- what the others leave, they leave behind the line
 after_announced : (word : InputWord) (formula : Groups) (effects : List Effect) (old : Contents)
-    → after (announces word formula ++ effects) old
-    ≡ after effects (record old { printed = with_announcement word formula old.printed })
+    → after_effects (announces word formula ++ effects) old
+    ≡ after_effects effects (record old { printed = with_announcement word formula old.printed })
 after_announced (inputs.Cnf file) formula effects old = refl
 after_announced (inputs.Dnf file) formula effects old = refl
 after_announced (inputs.Generate count seed) formula effects old = refl
@@ -482,10 +489,10 @@ writes : (files : Files) (job : Job) (formula : Groups) (tree grown found : Tree
     → IsFound job.minimise job.slack (expression_of formula) grown (with_announcement job.input formula old.printed)
     found told
     → AllDone (record (compiled job formula grown) { tree = found }) job.out_vtree job.out_sdd effects
-    → new ≡ after effects (record old { printed = told }) → IsWritten files job formula tree old new
+    → new ≡ after_effects effects (record old { printed = told }) → IsWritten files job formula tree old new
 writes files job formula tree grown found told effects old new there course search done is =
     let begun : Contents = record old { printed = told } in
-    let now = is ∙ ap (λ l. after l begun) done.are in record {
+    let now = is ∙ ap (λ l. after_effects l begun) done.are in record {
       found = found;
       told = told;
       grown = grown;
@@ -502,7 +509,7 @@ writes files job formula tree grown found told effects old new there course sear
 -- what a plan of an input does
 plan_writes : (words : List (List ℕ)) (files : Files) (job : Job) (plan : Plan) (last : State) (effects : List Effect)
     (old new : Contents) → old.files ≡ Some files → (from : FromInput words files job plan) → IsVtree plan.start.tree
-    → Steps plan.input plan.start plan.commands effects last → new ≡ after effects old
+    → Steps plan.input plan.start plan.commands effects last → new ≡ after_effects effects old
     → IsWritten files job from.formula from.tree old new
 plan_writes words files job plan last effects old new there from valid steps is =
     let own = plan_for job from.formula from.tree (default_of job) in
@@ -531,8 +538,8 @@ plan_writes words files job plan last effects old new there from valid steps is 
     (all_done own.input (record state { tree = searched.tree }) last searched.line job.out_vtree job.out_sdd
     searched.others (searched_valid job.minimise state searched.tree searched.before grown_valid searched.search)
     searched.steps)
-    (is ∙ ap (λ l. after l old) told_of.are ∙ after_announced job.input from.formula told_of.others old
-    ∙ ap (λ l. after l (record old { printed = printed })) searched.are
+    (is ∙ ap (λ l. after_effects l old) told_of.are ∙ after_announced job.input from.formula told_of.others old
+    ∙ ap (λ l. after_effects l (record old { printed = printed })) searched.are
     ∙ after_searched job.minimise state searched.tree searched.before searched.others (record old { printed = printed })
     searched.search)
 
@@ -540,12 +547,12 @@ plan_writes words files job plan last effects old new there from valid steps is 
 pub written_at : (words : List (List ℕ)) (status : ℕ) (kept : Option Table) (seen : Seen)
     → IsOneCourse words status kept seen → HasWritten words status seen
 written_at words status kept seen went = λ zero_ plain.
-    let all = (effects_at words status seen (effects_of words status kept seen went)).all zero_ in
+    let all = (effects_at words status kept seen went).all zero_ in
     go plain.0 plain.1 plain.2 plain.3 plain.4 all.0 (subst (λ f. MayEnd words f all.0 Finished) plain.2 all.1) all.2
   where
     go : (files : Files) (job : Job) → seen.old.contents.files ≡ Some files → job_of words ≡ Ok job
         → job.script ≡ None → (effects : List Effect) → MayEnd words (Some files) effects Finished
-        → seen.new.contents ≡ after effects seen.old.contents
+        → seen.new.contents ≡ after_effects effects seen.old.contents
         → (run : PlainRun words seen) × WritesInput run
     go files job told named alone effects (inl p) is = absurd p.0
     go files job told named alone effects (inr p) is =
@@ -577,13 +584,28 @@ equal_to tree fs gs a b valid p q =
     (subst (λ y. (roots_text p.diagrams ≡ y) ↔ AllZip (AreOneFunction (leaves tree)) fs gs) (sym q.is)
     (texts_of_roots tree fs gs p.diagrams q.diagrams valid p.of_values q.of_values))
 
--- and so for two writes of a run
-pub equal_texts : (words : List (List ℕ)) (seen : Seen) → HasEqualTexts words seen
-equal_texts words seen = λ tree fs gs a b first second.
-    let plan = first.plan in
-    let reached = first.at.reaches in
-    let valid =
-    steps_valid plan.input plan.start first.state reached.done first.effects
-    (valid_start seen.old.contents.files words plan
-    (by_reads_to seen.old.contents.files (reading_of words) (Begins plan) first.led.0 first.led.1)) reached.steps in
-    equal_to tree fs gs a b (subst IsVtree (sym first.tree_is) valid) first.text_is second.text_is
+-- a command that writes diagrams is come to over a vtree
+writes_valid : (words : List (List ℕ)) (files : Option Files) (names : List (List ℕ)) (effects : List (List Effect))
+    (point : Point) (tree : Tree) (fs : List Expression) (text : List ℕ)
+    → Goes files (reading_of words) names effects point → WritesAt point tree fs text
+    → IsVtree tree × IsTextOf tree fs text
+writes_valid words files names effects (Refuses answer) tree fs text goes writes = absurd writes
+writes_valid words files names effects (Reads file next) tree fs text goes writes = absurd writes
+writes_valid words files names effects (Stands input state []) tree fs text goes writes = absurd writes
+writes_valid words files names effects (Stands input state (next ∷ left)) tree fs text goes writes =
+    let back = commands_back (λ requests. Unit {0}) files (reading_of words) names effects [] input state (next ∷ left)
+    goes tt in
+    let plan = back.plan in
+    let valid = steps_valid plan.input plan.start state back.reaches.done (all_of effects)
+    (valid_start files words plan (by_reads_to files (reading_of words) (point_of plan) back.led.names back.led.reads))
+    back.reaches.steps in
+    (subst IsVtree (sym writes.3) valid, writes.5)
+
+-- and so for two writes to which a run may come
+pub equal_texts : (words : List (List ℕ)) (files : Option Files) (one other : Course words files) (tree : Tree)
+    (fs gs : List Expression) (a b : List ℕ) → WritesAt one.point tree fs a → WritesAt other.point tree gs b
+    → (a ≡ b) ↔ AllZip (AreOneFunction (leaves tree)) fs gs
+equal_texts words files one other tree fs gs a b first second =
+    let left = writes_valid words files one.names one.effects one.point tree fs a one.goes first in
+    let right = writes_valid words files other.names other.effects other.point tree gs b other.goes second in
+    equal_to tree fs gs a b left.0 left.1 right.1

@@ -1,44 +1,68 @@
--- The course of a run: the effects that it does, one after another, and the end that it comes to.
-use Rattle.std.specs.Prelude.{◌≡◌, List, [], ◌∷◌, ◌++◌}
-use Rattle.sd_commands.specs.Effects.{Effect}
-use Rattle.sd_commands.specs.Commands.{State, Done, OverLimit as PassesLimit, NotMovable as Unmoved, Step, Steps}
-use Rattle.sd_commands.specs.Commands.{MayFill}
-use Rattle.sd_commands.specs.declared.command.NumberedCommand.{NumberedCommand}
-use Rattle.sd_tool.specs.Effects.{Contents, after, DoesPart}
-use Rattle.sd_tool.specs.Readings.{Plan}
-use Rattle.sd_tool.specs.Ends.{End, Finished, Unwritable, OutOfMemory, ArenaFull, OverLimit, NotMovable}
+-- The course of a run: it goes from point to point, by the files that it reads and the commands that it does, and ends
+-- at the last one.
+use Rattle.std.specs.Prelude.{◌≡◌, ℕ, List, [], ◌∷◌, ◌++◌, map, flat_map, Option}
+use Rattle.sd_base.specs.Asked.{Request, ToRead, ToWrite}
+use Rattle.sd_base.specs.Files.{Files}
+use Rattle.sd_commands.specs.Effects.{Effect, Write, Print}
+use Rattle.sd_commands.specs.Commands.{State, Done, OverLimit as PassesLimit, NotMovable as Unmoved, Step, MayFill}
+use Rattle.sd_tool.specs.Devices.{Seen}
+use Rattle.sd_tool.specs.Effects.{Contents, DoesPart}
+use Rattle.sd_tool.specs.Readings.{Point, Refuses, Reads, Stands, IsText, reading_of}
+use Rattle.sd_tool.specs.Ends.{End, Finished, Refused, Unreadable, Unwritable, OutOfMemory, ArenaFull, OverLimit}
+use Rattle.sd_tool.specs.Ends.{NotMovable, status_of}
 
--- The first commands of a plan are done with these effects, and the others are left.
-pub record Reaches (plan : Plan) (effects : List Effect) (state : State) (left : List NumberedCommand) : Type 0 where
-  pub done : List NumberedCommand
-  pub in_order : done ++ left ≡ plan.commands
-  pub steps : Steps plan.input plan.start done effects state
+-- Over these files a run goes from one point to another: it reads files of these names, in order, and then commands are
+-- done, each with its effects.
+abbrev pub Goes : Option Files → Point → List (List ℕ) → List (List Effect) → Point → Type 0
+Goes files from [] [] to = to ≡ from
+Goes files (Reads file next) (name ∷ names) effects to =
+    (text : Option (List ℕ)) × (name ≡ file) × IsText files file text × Goes files (next text) names effects to
+Goes files (Stands input state (next ∷ left)) [] (first ∷ others) to =
+    (mid : State) × Step input state next.command (Done mid first) × Goes files (Stands input mid left) [] others to
+Goes files from names effects to = ⊥
 
--- the same, and there is a next command
-pub record IsAtCommand (plan : Plan) (effects : List Effect) (state : State) (next : NumberedCommand) : Type 0 where
-  pub left : List NumberedCommand
-  pub reaches : Reaches plan effects state (next ∷ left)
+-- what an effect asks of the shelf
+abbrev pub request_of : Effect → List Request
+request_of (Write file bytes) = ToWrite file ∷ []
+request_of (Print line) = []
 
--- The run ends among its commands, after these effects: all are done, the effect of the next fails, for want of
--- memory, at a full arena, which the next may need, or where the next is refused since the total size passes the limit
--- or its place is not movable.
-abbrev pub EndsAmong : Plan → List Effect → End → Type 0
-EndsAmong plan effects Finished = (state : State) × Reaches plan effects state []
-EndsAmong plan effects (Unwritable effect) =
-    (state : State) × (next : NumberedCommand) × IsAtCommand plan effects state next
-    × ((then_on : State) × Step plan.input state next.command (Done then_on (effect ∷ [])))
-EndsAmong plan effects OutOfMemory = (state : State) × (left : List NumberedCommand) × Reaches plan effects state left
-EndsAmong plan effects (ArenaFull elements) =
-    (state : State) × (next : NumberedCommand) × IsAtCommand plan effects state next × MayFill next.command
-EndsAmong plan effects (OverLimit line group size limit) =
-    (state : State) × (next : NumberedCommand) × IsAtCommand plan effects state next × (next.line ≡ line)
-    × Step plan.input state next.command (PassesLimit group size limit)
-EndsAmong plan effects (NotMovable line) =
-    (state : State) × (next : NumberedCommand) × IsAtCommand plan effects state next × (next.line ≡ line)
-    × Step plan.input state next.command Unmoved
-EndsAmong plan effects end = ⊥
+-- The table of ends: at which point a run may end how, and what it asks of the shelf there. Memory may run out at each,
+-- and just behind a request to read. Before a command, the effect of that one fails, the arena is full, which it may
+-- need, or it is refused, since the total size passes the limit or its place is not movable.
+abbrev pub EndsAt : Point → End → List Request → Type 0
+EndsAt (Refuses answer) (Refused found) [] = found ≡ answer
+EndsAt (Reads file next) (Unreadable name) begun = (name ≡ file) × (begun ≡ ToRead file ∷ [])
+EndsAt (Reads file next) OutOfMemory (request ∷ []) = request ≡ ToRead file
+EndsAt (Stands input state []) Finished [] = Unit {0}
+EndsAt (Stands input state (next ∷ left)) (Unwritable effect) begun =
+    (begun ≡ request_of effect) × ((mid : State) × Step input state next.command (Done mid (effect ∷ [])))
+EndsAt (Stands input state (next ∷ left)) (ArenaFull elements) [] = MayFill next.command
+EndsAt (Stands input state (next ∷ left)) (OverLimit line group size limit) [] =
+    (line ≡ next.line) × Step input state next.command (PassesLimit group size limit)
+EndsAt (Stands input state (next ∷ left)) (NotMovable line) [] =
+    (line ≡ next.line) × Step input state next.command Unmoved
+EndsAt point OutOfMemory [] = Unit {0}
+EndsAt point end begun = ⊥
 
--- The contents after these effects; where the effect in hand failed, after a part of it too.
-abbrev pub Leaves : List Effect → End → Contents → Contents → Type 0
-Leaves effects (Unwritable effect) old new = DoesPart effect (after effects old) new
-Leaves effects end old new = new ≡ after effects old
+-- A course of a run with these words over these files: the names of the files that it reads, the effects of each
+-- command that it does, the point that it comes to, how it ends there, and what it asks for there.
+pub record Course (words : List (List ℕ)) (files : Option Files) : Type 0 where
+  pub names : List (List ℕ)
+  pub effects : List (List Effect)
+  pub point : Point
+  pub end : End
+  pub begun : List Request
+  pub goes : Goes files (reading_of words) names effects point
+  pub ends : EndsAt point end begun
+
+-- what an end leaves of the contents that are there: where the effect in hand fails, with a part of it
+abbrev pub Leaves : End → Contents → Contents → Type 0
+Leaves (Unwritable effect) old new = DoesPart effect old new
+Leaves end old new = new ≡ old
+
+-- A run of this status took a course of which this holds, and asked of the shelf no more than that asks: to read its
+-- files, then to write those of its effects, and then what is asked at its end.
+abbrev pub Went : (words : List (List ℕ)) → ℕ → (seen : Seen) → (Course words seen.old.contents.files → Type 0) → Type 0
+Went words status seen holds = (course : Course words seen.old.contents.files) × (status ≡ status_of course.end)
+    × seen.asked (map ToRead course.names ++ flat_map (flat_map request_of) course.effects ++ course.begun)
+    × holds course

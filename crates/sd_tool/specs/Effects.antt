@@ -14,9 +14,9 @@ abbrev pub after_effect : Effect → Contents → Contents
 after_effect (Write file bytes) contents = record contents { files = told_with contents.files file bytes }
 after_effect (Print line) contents = record contents { printed = told_then contents.printed line }
 
--- the contents after these effects, in order
-abbrev pub after : List Effect → Contents → Contents
-after effects contents = fold (λ before effect. after_effect effect before) contents effects
+-- the contents after the effects of these commands, in order
+abbrev pub after : List (List Effect) → Contents → Contents
+after effects contents = fold (fold (λ before effect. after_effect effect before)) contents effects
 
 -- the effect with its first n bytes alone
 abbrev pub cut : ℕ → Effect → Effect

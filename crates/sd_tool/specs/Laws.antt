@@ -5,7 +5,6 @@ use Rattle.sd_base.specs.Asked.{Request, ToRead, ToWrite}
 use Rattle.sd_base.specs.declared.shelf.Shelf as shelves
 use Rattle.sd_base.specs.declared.sink.Sink as sinks
 use Rattle.sd_manager.specs.Table.{Table}
-use Rattle.sd_tool.specs.Asks.{LacksRoom}
 use Rattle.sd_tool.specs.Devices.{Seen, IsCalm, seen}
 use Rattle.sd_tool.specs.Joined.{FourLines, WritesJoined}
 use Rattle.sd_tool.specs.Theorem.{IsCourse}
@@ -22,6 +21,10 @@ FollowsCourse {F = F} {O = O} {E = E} files prints errs Holds =
 -- written: at 0 a run without a script, over told files, wrote the diagram of its formula, its vtree and its size
 abbrev pub HasWritten : List (List ℕ) → ℕ → Seen → Type 0
 HasWritten words status seen = status ≡ 0 → IsPlain words seen → (run : PlainRun words seen) × WritesInput run
+
+-- there was no memory, or no room in the arena
+abbrev pub LacksRoom : ℕ → Type 0
+LacksRoom status = (status ≡ 7) ⊎ (status ≡ 8)
 
 -- limited: without a script, over told files, 4 comes only where the first groups pass the limit; where they do and
 -- neither the shelf nor `out` fails, 4, 7 or 8 comes

@@ -1,5 +1,4 @@
 pub mod Actions
-pub mod Asks
 pub mod Course
 pub mod Devices
 pub mod Effects

@@ -8,8 +8,8 @@ use Rattle.sd_commands.specs.Standing.{Represents, start, root_count}
 use Rattle.sd_commands.specs.declared.command.NumberedCommand.{NumberedCommand}
 use Rattle.sd_commands.specs.declared.command.RunCommand.{RunCommand}
 use Rattle.sd_commands.specs.declared.state.RunState.{RunState}
-use Rattle.sd_tool.specs.Readings.{Plan}
 use Rattle.sd_tool.specs.inside.Readings.{in_lines}
+use Rattle.sd_tool.specs.inside.Plans.{Plan}
 use Rattle.sd_tool.specs.declared.plan.RunPlan.{RunPlan}
 
 -- commands in the lines that follow these

@@ -1,4 +1,5 @@
--- What a run reads before its first command, and when that is refused. A later reading is one more `Reads`.
+-- The points of a run: what it reads before its first command, when that is refused, and the commands that are then
+-- before it. A later reading is one more `Reads`.
 use Rattle.std.specs.Prelude.{◌≡◌, ℕ, ◌+◌, ◌-◌, ◌/◌, ◌<◌, ◌≤◌}
 use Rattle.std.specs.Prelude.{List, [], ◌∷◌, ◌++◌, codes, length, map, slice_index_or}
 use Rattle.std.specs.List.{enumerate_from}
@@ -8,7 +9,6 @@ use Rattle.std.specs.Prelude.{Option, Some, None, Result, Ok, Err}
 use Rattle.sd_base.specs.Files.{Files}
 use Rattle.sd_model.specs.Tree.{Tree}
 use Rattle.sd_model.specs.StartTrees.{start_tree}
-use Rattle.sd_formula.specs.declared.formula.Kind.{Kind}
 use Rattle.sd_formula.specs.declared.formula.Kind.TheVariants as kinds
 use Rattle.sd_formula.specs.Dimacs.{Groups, dimacs}
 use Rattle.sd_formula.specs.Generated.{generated_formula}
@@ -30,18 +30,12 @@ use Rattle.sd_commands.specs.declared.command.NumberedCommand.{NumberedCommand}
 use Rattle.sd_commands.specs.declared.command.RunCommand.{RunCommand}
 use Rattle.sd_commands.specs.declared.command.RunCommand.TheVariants as commands
 
--- what the commands begin with
-pub record Plan : Type 0 where
-  pub input : Groups
-  pub start : State
-  pub commands : List NumberedCommand
-
--- The course of the readings: refused, with the status and the text of the line; all accepted; or a file is read next,
--- whose bytes are there unless it is too long.
-pub data Reading : Type 0 where
-  Refuses : ℕ × List ℕ → Reading
-  Begins : Plan → Reading
-  Reads : (file : List ℕ) (next : Option (List ℕ) → Reading) → Reading
+-- Where a run stands: it is refused, with the status and the text of the line; it reads a file next, whose bytes are
+-- there unless it is too long; or these commands are left, in a state, over this input.
+pub data Point : Type 0 where
+  Refuses : ℕ × List ℕ → Point
+  Reads : (file : List ℕ) (next : Option (List ℕ) → Point) → Point
+  Stands : (input : Groups) (state : State) (left : List NumberedCommand) → Point
 
 -- ---- the commands
 
@@ -59,18 +53,18 @@ file_name script n = slice_index_or script.files n []
 
 -- what was read of a text, or the refusal of its fault, with this status and, behind the name of the file, the text of
 -- the fault
-abbrev pub or_refused : {A : Type 0} → ℕ → List ℕ → (A → Reading) → Result A (List ℕ) → Reading
+abbrev pub or_refused : {A : Type 0} → ℕ → List ℕ → (A → Point) → Result A (List ℕ) → Point
 or_refused status file next (Ok read) = next read
 or_refused status file next (Err text) = Refuses (status, file ++ text)
 
 -- A file is read next, by this reading of texts. It is refused, with this status, where it is too long, and where its
 -- text has a fault.
-abbrev pub reads : {A : Type 0} → ℕ → (List ℕ → Result A (List ℕ)) → List ℕ → (A → Reading) → Reading
+abbrev pub reads : {A : Type 0} → ℕ → (List ℕ → Result A (List ℕ)) → List ℕ → (A → Point) → Point
 reads status read file next = let long = Refuses (status, file ++ codes ": too long") in
     Reads file (λ text. option_map_or (λ bytes. or_refused status file next (read bytes)) text long)
 
 -- a command of a script as one of the run; a file that it loads is read
-abbrev pub with_action : ℕ → Script → (RunCommand → Reading) → Action → Reading
+abbrev pub with_action : ℕ → Script → (RunCommand → Point) → Action → Point
 with_action v script next (actions.Input n) = next (commands.Input n)
 with_action v script next (actions.Load n file) =
     reads 2 (sdd_file v) (file_name script file) (λ read. next (commands.Load n read))
@@ -91,14 +85,14 @@ with_action v script next (actions.Write names file) = next (commands.Write name
 with_action v script next (actions.Vtree file) = next (commands.WriteVtree (file_name script file))
 
 -- the commands of these lines, behind others
-abbrev pub with_lines : ℕ → Script → (List NumberedCommand → Reading) → List NumberedCommand → List Line → Reading
+abbrev pub with_lines : ℕ → Script → (List NumberedCommand → Point) → List NumberedCommand → List Line → Point
 with_lines v script begin done [] = begin done
 with_lines v script begin done (line ∷ lines) = with_action v script
     (λ command. with_lines v script begin (done ++ record { line = line.line; command = command } ∷ []) lines)
     line.action
 
 -- the commands of a job: those of its script, or the stated ones
-abbrev pub with_commands : Job → ℕ → (List NumberedCommand → Reading) → Option (List ℕ) → Reading
+abbrev pub with_commands : Job → ℕ → (List NumberedCommand → Point) → Option (List ℕ) → Point
 with_commands job v begin None = begin (default_of job)
 with_commands job v begin (Some file) =
     reads 3 (script_of v) file (λ script. with_lines v script begin [] script.commands)
@@ -111,22 +105,16 @@ announcement (inputs.Generate count seed) formula =
     record { line = 0; command = commands.Generated formula.variables (length formula.groups) } ∷ []
 announcement word formula = []
 
--- what commands begin with: the formula, no name, the tree, and the job's limit, slack and number for searches
-abbrev pub plan_for : Job → Groups → Tree → List NumberedCommand → Plan
-plan_for job formula tree commands = record {
-  input = formula;
-  start = start tree job.limit job.slack job.every;
-  commands = announcement job.input formula ++ commands;
-}
-
--- the commands over this formula and this tree; with them all is accepted
-abbrev pub with_tree : Job → Groups → Tree → Reading
-with_tree job formula tree =
-    with_commands job formula.variables (λ commands. Begins (plan_for job formula tree commands)) job.script
+-- The commands over this formula and this tree: with them all is accepted. They begin with no name, and with the job's
+-- limit, slack and number for searches.
+abbrev pub with_tree : Job → Groups → Tree → Point
+with_tree job formula tree = let first = start tree job.limit job.slack job.every in
+    with_commands job formula.variables
+    (λ commands. Stands formula first (announcement job.input formula ++ commands)) job.script
 
 -- the start tree over the variables in order of which each left child gets half, one, or all but one of what is there,
 -- or the tree of a vtree file
-abbrev pub with_tree_word : Job → Groups → TreeWord → Reading
+abbrev pub with_tree_word : Job → Groups → TreeWord → Point
 with_tree_word job formula trees.Balanced = with_tree job formula (start_tree (λ m. m / 2) formula.variables)
 with_tree_word job formula trees.Right = with_tree job formula (start_tree (λ m. 1) formula.variables)
 with_tree_word job formula trees.Left = with_tree job formula (start_tree (λ m. m - 1) formula.variables)
@@ -134,34 +122,21 @@ with_tree_word job formula (trees.File file) =
     reads 2 (vtree_file formula.variables) file (with_tree job formula)
 
 -- the same over the tree of the words
-abbrev pub with_formula : Job → Groups → Reading
+abbrev pub with_formula : Job → Groups → Point
 with_formula job formula = with_tree_word job formula job.tree
 
 -- a formula file is read; a generated formula is there
-abbrev pub with_input_word : Job → InputWord → Reading
+abbrev pub with_input_word : Job → InputWord → Point
 with_input_word job (inputs.Cnf file) = reads 2 (dimacs kinds.Cnf) file (with_formula job)
 with_input_word job (inputs.Dnf file) = reads 2 (dimacs kinds.Dnf) file (with_formula job)
 with_input_word job (inputs.Generate count seed) = with_formula job (generated_formula count seed)
 
 -- the readings of a run, in order
-abbrev pub reading_of : List (List ℕ) → Reading
+abbrev pub reading_of : List (List ℕ) → Point
 reading_of words = or_refused 1 [] (λ job. with_input_word job job.input) (job_of words)
-
--- ---- how far the files lead
 
 -- where the files are told, the file of this name reads so
 abbrev pub IsText : Option Files → List ℕ → Option (List ℕ) → Type 0
 IsText None file text = Unit {0}
 IsText (Some files) file (Some bytes) = (get files file ≡ Some bytes) × (length bytes ≤ 67108864)
 IsText (Some files) file None = (bytes : List ℕ) × (get files file ≡ Some bytes) × (67108864 < length bytes)
-
--- over these files, the readings ask for files of these names, in order, each of which is read, and come to this point
-abbrev pub ReadsBy : Option Files → Reading → List (List ℕ) → Reading → Type 0
-ReadsBy files reading [] point = point ≡ reading
-ReadsBy files (Reads file next) (name ∷ names) point =
-    (text : Option (List ℕ)) × (name ≡ file) × IsText files file text × ReadsBy files (next text) names point
-ReadsBy files reading (name ∷ names) point = ⊥
-
--- they come to it by some files
-abbrev pub MayComeTo : Option Files → Reading → Reading → Type 0
-MayComeTo files reading point = (names : List (List ℕ)) × ReadsBy files reading names point

@@ -10,15 +10,17 @@ use Rattle.sd_commands.specs.Standing.{IsFilled}
 use Rattle.sd_commands.specs.declared.error.CommandError.{CommandError}
 use Rattle.sd_commands.specs.declared.error.CommandError.TheVariants as errors
 use Rattle.sd_tool.specs.Effects.{Contents}
-use Rattle.sd_tool.specs.Readings.{Plan, Reading, Refuses}
+use Rattle.sd_tool.specs.Readings.{Point, Refuses}
 use Rattle.sd_tool.specs.Refusals.{refusal_answer}
 use Rattle.sd_tool.specs.Ends.{End, Finished, Refused, Unreadable, Unwritable, OutOfMemory as NoMemory}
 use Rattle.sd_tool.specs.Ends.{ArenaFull as NoRoom, OverLimit, NotMovable, status_of, text_of}
-use Rattle.sd_tool.specs.KeptManager.{HoldsAt, KeepsManager}
 use Rattle.sd_tool.specs.Devices.{HasReason, Faults}
+use Rattle.sd_tool.specs.Course.{Leaves}
+use Rattle.sd_tool.specs.inside.Asks.{ComesTo, AsksLast, BreaksOff, GoesTo, begun, writings}
+use Rattle.sd_tool.specs.inside.Course.{EndsAmong, after_effects}
 use Rattle.sd_tool.specs.inside.Devices.{LeavesPart}
-use Rattle.sd_tool.specs.Asks.{ComesTo, AsksLast, BreaksOff, GoesTo, begun, writings}
-use Rattle.sd_tool.specs.Course.{EndsAmong, Leaves}
+use Rattle.sd_tool.specs.inside.Kept.{HoldsAt, KeepsOf}
+use Rattle.sd_tool.specs.inside.Plans.{Plan}
 use Rattle.sd_tool.specs.declared.refusal.Refusal.{Refusal}
 use Rattle.sd_tool.specs.declared.stop.Stop.{Stop}
 use Rattle.sd_tool.specs.declared.stop.Stop.TheVariants as stops
@@ -69,14 +71,8 @@ abbrev pub IsFullAt : Plan → List Effect → End → Table → Type 0
 IsFullAt plan effects (NoRoom elements) t = IsFilled elements t × HoldsAt plan effects t
 IsFullAt plan effects end t = Unit {0}
 
--- at a full arena the manager that refused is kept, as it was at the command in hand, and at each other end none
-abbrev pub KeepsOf : Plan → List Effect → End → Option Table → Type 0
-KeepsOf plan effects (NoRoom elements) None = ⊥
-KeepsOf plan effects (NoRoom elements) (Some t) = IsFilled elements t × HoldsAt plan effects t
-KeepsOf plan effects end kept = kept ≡ None
-
 -- the readings stop so, and ask for no more
-abbrev pub StopsReading : (List Request → Type 0) → Stop → Option Files → Reading → ℕ → ℕ → Type 0
+abbrev pub StopsReading : (List Request → Type 0) → Stop → Option Files → Point → ℕ → ℕ → Type 0
 StopsReading asks (stops.Refused refusal) files reading before now =
     ComesTo asks files reading (Refuses (refusal_answer refusal))
 StopsReading asks (stops.ReadFault file) files reading before now =
@@ -93,7 +89,7 @@ pub record RunsToEnd (asks : List Request → Type 0) (plan : Plan) (t : Table) 
   pub ends : EndsAmong plan effects end
   pub asked : asks (writings (begun effects end))
   pub full_at : IsFullAt plan effects end t
-  pub leaves : Leaves effects end old new
+  pub leaves : Leaves end (after_effects effects old) new
   pub reason : HasReason end old.files before now
 
 -- the same, with what is kept
@@ -105,7 +101,7 @@ pub record CarriesOut (asks : List Request → Type 0) (plan : Plan) (kept : Opt
   pub ends : EndsAmong plan effects end
   pub asked : asks (writings (begun effects end))
   pub keeps : KeepsOf plan effects end kept
-  pub leaves : Leaves effects end old new
+  pub leaves : Leaves end (after_effects effects old) new
   pub reason : HasReason end old.files before now
 
 -- the one effect failed, after a part of it
@@ -122,16 +118,15 @@ pub record Attempts (asks : List Request → Type 0) (words : List (List ℕ)) (
   pub end : End
   pub at : IsEnd result end
   pub effects : List Effect
-  pub goes : GoesTo asks words old.files effects end
-  pub keeps : KeepsManager words old.files effects end kept
-  pub leaves : Leaves effects end old new
+  pub goes : GoesTo asks words old.files effects end kept
+  pub leaves : Leaves end (after_effects effects old) new
   pub reason : HasReason end old.files before now
 
 -- ---- the readings, step by step
 
 -- The readings go on from a file with its text: what was read at Ok leads to the next point, and an Err is the stop
 -- there. No more is asked of the shelf than they ask.
-abbrev pub LeadsTo : {A : Type 0} → (List Request → Type 0) → Option Files → Reading → (A → Reading) → Result A Stop → ℕ
+abbrev pub LeadsTo : {A : Type 0} → (List Request → Type 0) → Option Files → Point → (A → Point) → Result A Stop → ℕ
     → ℕ → Type 0
 LeadsTo asks files reading next (Ok read) before now = ComesTo asks files reading (next read)
 LeadsTo asks files reading next (Err stop) before now = StopsReading asks stop files reading before now

@@ -2,8 +2,9 @@
 ghost use Rattle.std.specs.Prelude.{◌≡◌, [], ◌∷◌, OnOk, IfErr};
 ghost use Rattle.sd_base.specs.Asked.{Adds};
 ghost use Rattle.sd_base.specs.Shelf.{NoFile};
-ghost use Rattle.sd_tool.specs.Asks.{writings};
-ghost use Rattle.sd_tool.specs.Effects.{after, after_effect};
+ghost use Rattle.sd_tool.specs.inside.Asks.{writings};
+ghost use Rattle.sd_tool.specs.Effects.{after_effect};
+ghost use Rattle.sd_tool.specs.inside.Course.{after_effects};
 ghost use Rattle.sd_tool.specs.Ends.{Unwritable};
 ghost use Rattle.sd_tool.specs.Devices.{HasReason};
 ghost use Rattle.sd_tool.specs.inside.Devices.{contents, faults, NotFewer, LeavesPart};
@@ -23,7 +24,7 @@ pub fn write_effect_if_any<F: Shelf, O: Sink>(
     requires { F.hand shelf.old ≡ NoFile }
     ensures hand { F.hand shelf.new ≡ NoFile }
     ensures ok { OnOk result (contents F.files O.written shelf.new out.new
-        ≡ after (effects_of effect) (contents F.files O.written shelf.old out.old)) }
+        ≡ after_effects (effects_of effect) (contents F.files O.written shelf.old out.old)) }
     ensures stop { IfErr result (λ stop. FailsAt stop (effects_of effect)
         (contents F.files O.written shelf.old out.old)
         (contents F.files O.written shelf.new out.new)

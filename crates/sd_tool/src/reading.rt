@@ -10,9 +10,10 @@ ghost use Rattle.sd_vfile.specs.Reads.{vtree_file};
 ghost use Rattle.sd_vtree.specs.Numbered.{plain_tree};
 ghost use Rattle.sd_words.specs.declared.jobs.Job.{Job as SeenJob};
 ghost use Rattle.sd_commands.specs.Fits.{AllFit};
-ghost use Rattle.sd_tool.specs.Asks.{IsNone};
+ghost use Rattle.sd_tool.specs.inside.Asks.{IsNone};
 ghost use Rattle.sd_tool.specs.PlanViews.{plan_of, IsReady};
-ghost use Rattle.sd_tool.specs.Readings.{reading_of, Begins, Reads, plan_for};
+ghost use Rattle.sd_tool.specs.Readings.{reading_of, Reads};
+ghost use Rattle.sd_tool.specs.inside.Plans.{point_of, plan_for};
 ghost use Rattle.sd_tool.specs.Readings.{with_input_word, with_tree_word, with_tree};
 ghost use Rattle.sd_tool.specs.inside.Readings.{with_input, with_vtree_text};
 ghost use Rattle.sd_tool.specs.Stops.{LeadsTo, GivesText};
@@ -41,7 +42,7 @@ pub fn prepare<F: Shelf>(alloc: Global, words: &[String], shelf: &mut F) -> Resu
     ensures write_faults { F.write_faults shelf.new ≡ F.write_faults shelf.old }
     ensures leads { LeadsTo (Adds F.asked shelf.old shelf.new) (F.files shelf.old)
         (reading_of (map string_bytes words.now))
-        (λ plan. Begins (plan_of plan)) result (F.read_faults shelf.old) (F.read_faults shelf.new) }
+        (λ plan. point_of (plan_of plan)) result (F.read_faults shelf.old) (F.read_faults shelf.new) }
     ensures ready { IfOk result IsReady }
 {
     match read_job(alloc, words) {
@@ -59,7 +60,7 @@ fn prepare_job<F: Shelf>(alloc: Global, job: &Job, shelf: &mut F) -> Result<RunP
     ensures write_faults { F.write_faults shelf.new ≡ F.write_faults shelf.old }
     ensures leads { LeadsTo (Adds F.asked shelf.old shelf.new) (F.files shelf.old)
         (with_input_word job.now job.now.input)
-        (λ plan. Begins (plan_of plan)) result (F.read_faults shelf.old) (F.read_faults shelf.new) }
+        (λ plan. point_of (plan_of plan)) result (F.read_faults shelf.old) (F.read_faults shelf.new) }
     ensures ready { IfOk result IsReady }
 {
     match read_formula(alloc, job, shelf) {
@@ -82,7 +83,7 @@ fn prepare_formula<F: Shelf>(
     ensures write_faults { F.write_faults shelf.new ≡ F.write_faults shelf.old }
     ensures leads { LeadsTo (Adds F.asked shelf.old shelf.new) (F.files shelf.old)
         (with_tree_word job.now formula job.now.tree)
-        (λ plan. Begins (plan_of plan)) result (F.read_faults shelf.old) (F.read_faults shelf.new) }
+        (λ plan. point_of (plan_of plan)) result (F.read_faults shelf.old) (F.read_faults shelf.new) }
     ensures ready { IfOk result IsReady }
 {
     match read_tree(alloc, job, &formula, shelf) {
@@ -107,7 +108,7 @@ fn prepare_tree<F: Shelf>(
     ensures write_faults { F.write_faults shelf.new ≡ F.write_faults shelf.old }
     ensures leads { LeadsTo (Adds F.asked shelf.old shelf.new) (F.files shelf.old)
         (with_tree job.now formula (plain_tree vtree))
-        (λ plan. Begins (plan_of plan)) result (F.read_faults shelf.old) (F.read_faults shelf.new) }
+        (λ plan. point_of (plan_of plan)) result (F.read_faults shelf.old) (F.read_faults shelf.new) }
     ensures ready { IfOk result IsReady }
 {
     match read_commands(alloc, job, formula.variables(), shelf) {
@@ -128,8 +129,8 @@ fn make_plan(
     requires fit { AllFit formula.variables [] commands.items }
     requires within_limit { length commands.items ≤ 100000 }
     ensures leads { (told : Option Files) (before now : ℕ)
-        → LeadsTo IsNone told (Begins (plan_for job.now formula (plain_tree vtree) commands.items))
-        (λ plan. Begins (plan_of plan)) result before now }
+        → LeadsTo IsNone told (point_of (plan_for job.now formula (plain_tree vtree) commands.items))
+        (λ plan. point_of (plan_of plan)) result before now }
     ensures ready { IfOk result IsReady }
 {
     match announced(job, &formula, commands) {

@@ -11,7 +11,7 @@ ghost use Rattle.sd_commands.specs.Fits.{AllFit};
 ghost use Rattle.sd_commands.specs.declared.command.NumberedCommand.{NumberedCommand as SeenLine};
 ghost use Rattle.sd_commands.specs.declared.command.RunCommand.{RunCommand as Seen};
 ghost use Rattle.sd_commands.specs.declared.command.RunCommand.TheVariants.{Write};
-ghost use Rattle.sd_tool.specs.Readings.{Reading, Reads, with_commands, with_lines, with_action};
+ghost use Rattle.sd_tool.specs.Readings.{Point, Reads, with_commands, with_lines, with_action};
 ghost use Rattle.sd_tool.specs.inside.Readings.{with_script_text, script_reading, with_sdd};
 ghost use Rattle.sd_tool.specs.Actions.{IsCommandOf, plain_of};
 ghost use Rattle.sd_tool.specs.Stops.{LeadsTo, GivesText, StopsFor};
@@ -42,7 +42,7 @@ pub fn read_commands<F: Shelf>(
     ensures files { F.files shelf.new ≡ F.files shelf.old }
     ensures read_faults { F.read_faults shelf.old ≤ F.read_faults shelf.new }
     ensures write_faults { F.write_faults shelf.new ≡ F.write_faults shelf.old }
-    ensures leads { (begin : List SeenLine → Reading)
+    ensures leads { (begin : List SeenLine → Point)
         → LeadsTo (Adds F.asked shelf.old shelf.new) (F.files shelf.old)
         (with_commands job.now variables begin job.now.script) (λ commands. begin commands.items)
         result (F.read_faults shelf.old) (F.read_faults shelf.new) }
@@ -75,7 +75,7 @@ fn read_script_file<F: Shelf>(
     ensures files { F.files shelf.new ≡ F.files shelf.old }
     ensures read_faults { F.read_faults shelf.old ≤ F.read_faults shelf.new }
     ensures write_faults { F.write_faults shelf.new ≡ F.write_faults shelf.old }
-    ensures leads { (begin : List SeenLine → Reading)
+    ensures leads { (begin : List SeenLine → Point)
         → LeadsTo (Adds F.asked shelf.old shelf.new) (F.files shelf.old)
         (Reads file.now (with_script_text file.now variables begin))
         (script_reading variables begin)
@@ -132,7 +132,7 @@ fn script_commands<F: Shelf>(
     ensures files { F.files shelf.new ≡ F.files shelf.old }
     ensures read_faults { F.read_faults shelf.old ≤ F.read_faults shelf.new }
     ensures write_faults { F.write_faults shelf.new ≡ F.write_faults shelf.old }
-    ensures leads { (begin : List SeenLine → Reading)
+    ensures leads { (begin : List SeenLine → Point)
         → LeadsTo (Adds F.asked shelf.old shelf.new) (F.files shelf.old)
         (with_lines variables script.now begin [] script.now.commands)
         (λ commands. begin commands.items)
@@ -183,7 +183,7 @@ fn command_of<F: Shelf>(
     ensures files { F.files shelf.new ≡ F.files shelf.old }
     ensures read_faults { F.read_faults shelf.old ≤ F.read_faults shelf.new }
     ensures write_faults { F.write_faults shelf.new ≡ F.write_faults shelf.old }
-    ensures leads { (next : Seen → Reading)
+    ensures leads { (next : Seen → Point)
         → LeadsTo (Adds F.asked shelf.old shelf.new) (F.files shelf.old)
         (with_action variables script.now next action.now) next
         result (F.read_faults shelf.old) (F.read_faults shelf.new) }
@@ -246,7 +246,7 @@ fn file_command<F: Shelf>(
     ensures files { F.files shelf.new ≡ F.files shelf.old }
     ensures read_faults { F.read_faults shelf.old ≤ F.read_faults shelf.new }
     ensures write_faults { F.write_faults shelf.new ≡ F.write_faults shelf.old }
-    ensures leads { (next : Seen → Reading)
+    ensures leads { (next : Seen → Point)
         → LeadsTo (Adds F.asked shelf.old shelf.new) (F.files shelf.old)
         (with_action variables script.now next action.now) next
         result (F.read_faults shelf.old) (F.read_faults shelf.new) }
@@ -286,7 +286,7 @@ fn load<F: Shelf>(alloc: Global, file: &str, variables: u32, shelf: &mut F) -> R
     ensures files { F.files shelf.new ≡ F.files shelf.old }
     ensures read_faults { F.read_faults shelf.old ≤ F.read_faults shelf.new }
     ensures write_faults { F.write_faults shelf.new ≡ F.write_faults shelf.old }
-    ensures leads { (next : File → Reading)
+    ensures leads { (next : File → Point)
         → LeadsTo (Adds F.asked shelf.old shelf.new) (F.files shelf.old)
         (Reads file.now (with_sdd variables file.now next)) next
         result (F.read_faults shelf.old) (F.read_faults shelf.new) }

@@ -2,7 +2,7 @@
 ghost use Rattle.std.specs.Prelude.{◌≡◌, ◌≤◌, IfOk, MatchResult};
 ghost use Rattle.sd_base.specs.Asked.{Adds};
 ghost use Rattle.sd_base.specs.Shelf.{NoFile};
-ghost use Rattle.sd_tool.specs.Readings.{Reading, Reads};
+ghost use Rattle.sd_tool.specs.Readings.{Point, Reads};
 ghost use Rattle.sd_tool.specs.inside.Readings.{Text};
 ghost use Rattle.sd_tool.specs.Stops.{LeadsTo, StopsFor, IsShort};
 ghost use Rattle.sd_tool.specs.declared.refusal.Refusal.TheVariants as refusals;
@@ -20,7 +20,7 @@ pub fn read_text<F: Shelf>(alloc: Global, file: &str, shelf: &mut F) -> Result<O
     ensures files { F.files shelf.new ≡ F.files shelf.old }
     ensures read_faults { F.read_faults shelf.old ≤ F.read_faults shelf.new }
     ensures write_faults { F.write_faults shelf.new ≡ F.write_faults shelf.old }
-    ensures leads { (next : Text → Reading)
+    ensures leads { (next : Text → Point)
         → LeadsTo (Adds F.asked shelf.old shelf.new) (F.files shelf.old)
         (Reads file.now next) next result (F.read_faults shelf.old) (F.read_faults shelf.new) }
     ensures fits { IfOk result IsShort }

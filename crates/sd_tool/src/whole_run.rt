@@ -37,10 +37,11 @@ use std::thread::Threads;
 /// is asked for, and none after an output. At every status but 0 the one line that says so is written to `err`. At 8
 /// the manager that refused is put into `kept`, which is empty before.
 ///
-/// `course` says all of this: `effects`, `line` and `ends` are its parts, and `complete` follows from it. So do the
-/// laws of [`laws`](crate::laws), which speak of no course: what a run without a script writes (`written`), when it
-/// passes its limit (`limited`) and that it is done or does so (`done_or_over_limit`), what a script of four lines
-/// writes (`joined`), and in which order files are asked for (`asked`).
+/// `course` says all of this, by one walk over files and commands: `effects`, `line` and `ends` are its parts, and
+/// `complete` follows from it. So do the laws of [`laws`](crate::laws), which speak of no course: what a run without a
+/// script writes (`written`), when it passes its limit (`limited`) and that it is done or does so
+/// (`done_or_over_limit`), what a script of four lines writes (`joined`), and in which order files are asked for
+/// (`asked`).
 pub fn run<R: Threads + Sync, F: Shelf, O: Sink, E: Sink>(
     _rt: &R,
     alloc: Global,

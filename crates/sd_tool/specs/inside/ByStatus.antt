@@ -3,49 +3,50 @@ use Rattle.std.specs.Prelude.{◌≡◌, ◌⊎◌, ℕ, List, Option, Some, Non
 use Rattle.sd_manager.specs.Table.{Table}
 use Rattle.sd_commands.specs.Effects.{Effect}
 use Rattle.sd_commands.specs.Standing.{IsFilled}
-use Rattle.sd_tool.specs.Effects.{after, DoesPart}
-use Rattle.sd_tool.specs.Readings.{Plan, Refuses, Begins, Reads, reading_of}
-use Rattle.sd_tool.specs.inside.Course.{ReadsTo, MayEnd}
+use Rattle.sd_tool.specs.Effects.{DoesPart}
+use Rattle.sd_tool.specs.Readings.{Refuses, Reads, reading_of}
+use Rattle.sd_tool.specs.inside.Asks.{GoesTo}
+use Rattle.sd_tool.specs.inside.Course.{ReadsTo, MayEnd, after_effects}
+use Rattle.sd_tool.specs.inside.Kept.{HoldsAt}
+use Rattle.sd_tool.specs.inside.Plans.{Plan, point_of}
 use Rattle.sd_tool.specs.Ends.{End, Finished, Refused, Unreadable, Unwritable, OutOfMemory, ArenaFull, OverLimit}
 use Rattle.sd_tool.specs.Ends.{NotMovable, status_of}
 use Rattle.sd_tool.specs.Devices.{Moment, Seen, HasReason, WritesEndLine}
-use Rattle.sd_tool.specs.Asks.{GoesTo}
 use Rattle.sd_tool.specs.Course.{Leaves}
-use Rattle.sd_tool.specs.KeptManager.{HoldsAt, KeepsManager}
 
 -- How the run went: what it did and how it ended, where the words and the files lead; what was asked of the shelf, the
 -- status, the files and what was printed, the reason, what is kept and the line are those of this one course.
 pub record IsOneCourse (words : List (List ℕ)) (status : ℕ) (kept : Option Table) (seen : Seen) : Type 0 where
   pub effects : List Effect
   pub end : End
-  pub goes : GoesTo seen.asked words seen.old.contents.files effects end
+  pub goes : GoesTo seen.asked words seen.old.contents.files effects end kept
   pub status_is : status ≡ status_of end
-  pub leaves : Leaves effects end seen.old.contents seen.new.contents
+  pub leaves : Leaves end (after_effects effects seen.old.contents) seen.new.contents
   pub reason : HasReason end seen.old.contents.files seen.old.faults seen.new.faults
-  pub keeps : KeepsManager words seen.old.contents.files effects end kept
   pub line : WritesEndLine end seen.old seen.new
 
 -- What was done outside: at status 0 all effects of the run, at 1, 2 and 5 none, at 4, 7 and 8 those of the first
 -- commands, at 3 none or those of the first commands, at 6 those before the effect in hand, and a part of that one.
 pub record EffectsByStatus (words : List (List ℕ)) (status : ℕ) (old new : Moment) : Type 0 where
   pub all : status ≡ 0 → (effects : List Effect)
-      × MayEnd words old.contents.files effects Finished × (new.contents ≡ after effects old.contents)
+      × MayEnd words old.contents.files effects Finished × (new.contents ≡ after_effects effects old.contents)
   pub none : (status ≡ 1) ⊎ (status ≡ 2) ⊎ (status ≡ 5) → new.contents ≡ old.contents
   pub script : status ≡ 3 →
       ((answer : ℕ × List ℕ) × ReadsTo old.contents.files (reading_of words) (Refuses answer)
       × (new.contents ≡ old.contents))
       ⊎ ((effects : List Effect) × (line : ℕ) × MayEnd words old.contents.files effects (NotMovable line)
-      × (new.contents ≡ after effects old.contents))
+      × (new.contents ≡ after_effects effects old.contents))
   pub first : status ≡ 7 → (effects : List Effect)
-      × MayEnd words old.contents.files effects OutOfMemory × (new.contents ≡ after effects old.contents)
+      × MayEnd words old.contents.files effects OutOfMemory × (new.contents ≡ after_effects effects old.contents)
   pub full : status ≡ 8 → (effects : List Effect) × (elements : ℕ)
-      × MayEnd words old.contents.files effects (ArenaFull elements) × (new.contents ≡ after effects old.contents)
+      × MayEnd words old.contents.files effects (ArenaFull elements)
+      × (new.contents ≡ after_effects effects old.contents)
   pub over : status ≡ 4 → (effects : List Effect) × (line : ℕ) × (group : Option ℕ) × (size limit : ℕ)
       × MayEnd words old.contents.files effects (OverLimit line group size limit)
-      × (new.contents ≡ after effects old.contents)
+      × (new.contents ≡ after_effects effects old.contents)
   pub in_hand : status ≡ 6 → (effects : List Effect) × (effect : Effect)
       × MayEnd words old.contents.files effects (Unwritable effect)
-      × DoesPart effect (after effects old.contents) new.contents
+      × DoesPart effect (after_effects effects old.contents) new.contents
 
 -- The words or a text were refused; the line says why.
 pub record IsRefused (words : List (List ℕ)) (status : ℕ) (old new : Moment) : Type 0 where
@@ -81,7 +82,7 @@ pub record WasFull (words : List (List ℕ)) (kept : Option Table) (old new : Mo
   pub is_kept : kept ≡ Some manager
   pub filled : IsFilled elements manager
   pub plan : Plan
-  pub led : ReadsTo old.contents.files (reading_of words) (Begins plan)
+  pub led : ReadsTo old.contents.files (reading_of words) (point_of plan)
   pub holds : HoldsAt plan effects manager
   pub line : WritesEndLine (ArenaFull elements) old new
 

@@ -18,7 +18,7 @@ use Rattle.sd_commands.specs.declared.command.NumberedCommand.{NumberedCommand}
 use Rattle.sd_commands.specs.declared.command.RunCommand.{RunCommand}
 use Rattle.sd_commands.specs.declared.command.RunCommand.TheVariants as commands
 use Rattle.sd_script.specs.declared.command.Command.{Command as Line}
-use Rattle.sd_tool.specs.Readings.{Reading, Refuses, or_refused, with_lines, with_tree, with_tree_word}
+use Rattle.sd_tool.specs.Readings.{Point, Refuses, or_refused, with_lines, with_tree, with_formula}
 use Rattle.sd_tool.specs.Readings.{with_input_word}
 use Rattle.sd_tool.specs.Written.{IsFormulaOf}
 
@@ -54,52 +54,52 @@ abbrev pub Text : Type 0
 Text = Option (List ℕ)
 
 -- a text is read so, and refused where it is too long or has a fault
-abbrev pub parsed : {A : Type 0} → ℕ → (List ℕ → Result A (List ℕ)) → List ℕ → (A → Reading) → Text → Reading
+abbrev pub parsed : {A : Type 0} → ℕ → (List ℕ → Result A (List ℕ)) → List ℕ → (A → Point) → Text → Point
 parsed status read file next text =
     option_map_or (λ bytes. or_refused status file next (read bytes)) text
     (Refuses (status, file ++ codes ": too long"))
 
 -- a loaded file that was read
-abbrev pub with_sdd_reading : List ℕ → (File → Reading) → Result File (List ℕ) → Reading
+abbrev pub with_sdd_reading : List ℕ → (File → Point) → Result File (List ℕ) → Point
 with_sdd_reading file next read = or_refused 2 file next read
 
 -- the text of one over v variables
-abbrev pub with_sdd : ℕ → List ℕ → (File → Reading) → Text → Reading
+abbrev pub with_sdd : ℕ → List ℕ → (File → Point) → Text → Point
 with_sdd v file next text = parsed 2 (sdd_file v) file next text
 
 -- the commands of a script
-abbrev pub script_reading : ℕ → (List NumberedCommand → Reading) → Script → Reading
+abbrev pub script_reading : ℕ → (List NumberedCommand → Point) → Script → Point
 script_reading v begin script = with_lines v script begin [] script.commands
 
 -- a script that was read
-abbrev pub with_script_reading : List ℕ → ℕ → (List NumberedCommand → Reading) → Result Script (List ℕ) → Reading
+abbrev pub with_script_reading : List ℕ → ℕ → (List NumberedCommand → Point) → Result Script (List ℕ) → Point
 with_script_reading file v begin read = or_refused 3 file (script_reading v begin) read
 
 -- the text of one over v variables
-abbrev pub with_script_text : List ℕ → ℕ → (List NumberedCommand → Reading) → Text → Reading
+abbrev pub with_script_text : List ℕ → ℕ → (List NumberedCommand → Point) → Text → Point
 with_script_text file v begin text = parsed 3 (script_of v) file (script_reading v begin) text
 
 -- a vtree file that was read
-abbrev pub with_vtree_reading : Job → Groups → List ℕ → Result Tree (List ℕ) → Reading
+abbrev pub with_vtree_reading : Job → Groups → List ℕ → Result Tree (List ℕ) → Point
 with_vtree_reading job formula file read = or_refused 2 file (with_tree job formula) read
 
 -- the text of one
-abbrev pub with_vtree_text : Job → Groups → List ℕ → Text → Reading
+abbrev pub with_vtree_text : Job → Groups → List ℕ → Text → Point
 with_vtree_text job formula file text =
     parsed 2 (vtree_file formula.variables) file (with_tree job formula) text
 
 -- a formula file that was read
-abbrev pub with_formula_reading : Job → List ℕ → Result Groups (List ℕ) → Reading
+abbrev pub with_formula_reading : Job → List ℕ → Result Groups (List ℕ) → Point
 with_formula_reading job file read =
-    or_refused 2 file (λ formula. with_tree_word job formula job.tree) read
+    or_refused 2 file (with_formula job) read
 
 -- the text of one
-abbrev pub with_input : Job → Input → Text → Reading
+abbrev pub with_input : Job → Input → Text → Point
 with_input job input text =
-    parsed 2 (dimacs input.kind) input.file (λ formula. with_tree_word job formula job.tree) text
+    parsed 2 (dimacs input.kind) input.file (with_formula job) text
 
 -- words that were read
-abbrev pub with_job : Result Job (List ℕ) → Reading
+abbrev pub with_job : Result Job (List ℕ) → Point
 with_job read = or_refused 1 [] (λ job. with_input_word job job.input) read
 
 -- the words, without a script, ask for this formula

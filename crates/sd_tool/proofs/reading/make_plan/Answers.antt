@@ -1,6 +1,6 @@
 use Rattle.sd_tool.proofs.PlanLemmas.{plan_made, ready_made, announced_fit, announced_few}
 use Rattle.std.proofs.Common.{refl, sym}
-use Rattle.sd_tool.specs.Asks.{IsNone}
+use Rattle.sd_tool.specs.inside.Asks.{IsNone}
 use Rattle.sd_tool.proofs.AskLemmas.{comes_same, breaks_here}
 use Rattle.sd_tool.proofs.reading.make_plan.Goals as goal
 

@@ -1,5 +1,6 @@
 use Rattle.sd_tool.specs.PlanViews.{plan_of}
-use Rattle.sd_tool.specs.Readings.{Begins, with_input_word, with_tree_word}
+use Rattle.sd_tool.specs.Readings.{with_input_word, with_tree_word}
+use Rattle.sd_tool.specs.inside.Plans.{point_of}
 use Rattle.sd_tool.proofs.ReadingLemmas.{leads_on}
 use Rattle.sd_tool.proofs.AskLemmas.{joined}
 use Rattle.sd_tool.proofs.reading.prepare_job.Goals as goal
@@ -9,7 +10,7 @@ returns-in-Ok-clause-leads g c =
     let job = c.args.job.now in
     leads_on (g.F.Shelf.files c.args.shelf.now) (g.F.Shelf.files c.read_formula.new.shelf)
     (with_input_word job job.input) (with_tree_word job c.in-Ok.formula job.tree)
-    (λ plan. Begins (plan_of plan)) c.prepare_formula.result (g.F.Shelf.read_faults c.args.shelf.now)
+    (λ plan. point_of (plan_of plan)) c.prepare_formula.result (g.F.Shelf.read_faults c.args.shelf.now)
     (g.F.Shelf.read_faults c.read_formula.new.shelf) (g.F.Shelf.read_faults c.prepare_formula.new.shelf)
     (joined g.F.Shelf.asked c.args.shelf.now c.read_formula.new.shelf c.prepare_formula.new.shelf)
     c.in-Ok.ensures.files c.in-Ok.ensures.read_faults c.in-Ok.ensures.leads c.prepare_formula.ensures.leads

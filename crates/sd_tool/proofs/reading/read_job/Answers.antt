@@ -1,5 +1,5 @@
 use Rattle.std.proofs.Common.{refl}
-use Rattle.sd_tool.specs.Asks.{IsNone}
+use Rattle.sd_tool.specs.inside.Asks.{IsNone}
 use Rattle.sd_tool.proofs.AskLemmas.{breaks_here}
 use Rattle.sd_tool.proofs.reading.read_job.Goals as goal
 

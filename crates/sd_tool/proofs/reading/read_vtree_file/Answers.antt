@@ -2,7 +2,7 @@ use Rattle.std.proofs.Common.{ℕ, refl, subst}
 use Rattle.sd_vtree.specs.Numbered.{plain_tree}
 use Rattle.sd_vfile.specs.Reads.{vtree_file}
 use Rattle.sd_base.specs.Asked.{Adds}
-use Rattle.sd_tool.specs.Asks.{ComesTo}
+use Rattle.sd_tool.specs.inside.Asks.{ComesTo}
 use Rattle.sd_tool.specs.Readings.{Reads}
 use Rattle.sd_tool.specs.inside.Readings.{with_vtree_text, with_vtree_reading}
 use Rattle.sd_tool.specs.declared.refusal.Refusal.TheVariants.{TooLong}

@@ -3,7 +3,7 @@ use Rattle.sd_script.specs.declared.command.Command.{Command as Line}
 use Rattle.sd_commands.specs.declared.command.NumberedCommand.{NumberedCommand}
 use Rattle.sd_tool.specs.Actions.{AreCommandsOf}
 use Rattle.sd_base.specs.Asked.{Adds}
-use Rattle.sd_tool.specs.Asks.{ComesTo}
+use Rattle.sd_tool.specs.inside.Asks.{ComesTo}
 use Rattle.sd_tool.specs.Readings.{with_lines}
 use Rattle.sd_tool.proofs.AskLemmas.{joined, comes_same, asks_none}
 use Rattle.sd_tool.proofs.ScriptLemmas.{IsNext, next_allowed, becomes_first, becomes_next, line_leads}

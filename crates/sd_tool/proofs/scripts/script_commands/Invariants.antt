@@ -3,8 +3,8 @@ use Rattle.sd_base.specs.Asked.{Adds}
 use Rattle.sd_base.specs.Shelf.{NoFile}
 use Rattle.sd_commands.specs.declared.command.NumberedCommand.{NumberedCommand}
 use Rattle.sd_tool.specs.Actions.{AreCommandsOf}
-use Rattle.sd_tool.specs.Asks.{ComesTo}
-use Rattle.sd_tool.specs.Readings.{Reading, with_lines}
+use Rattle.sd_tool.specs.inside.Asks.{ComesTo}
+use Rattle.sd_tool.specs.Readings.{Point, with_lines}
 use Rattle.sd_tool.proofs.scripts.script_commands.Given as goal
 
 -- the lines so far have become the commands, and the readings have come to the lines that are left
@@ -16,7 +16,7 @@ invariant-loop-line g l = record {
   write_faults : g.F.Shelf.write_faults l.shelf ≡ g.F.Shelf.write_faults l.fn.shelf;
   same : l.line-items ≡ l.fn.script.commands;
   commands_of : AreCommandsOf l.fn.variables l.fn.script.commands l.line-index l.commands.items;
-  leads : (begin : List NumberedCommand → Reading) → ComesTo (Adds g.F.Shelf.asked l.fn.shelf l.shelf)
+  leads : (begin : List NumberedCommand → Point) → ComesTo (Adds g.F.Shelf.asked l.fn.shelf l.shelf)
       (g.F.Shelf.files l.fn.shelf)
       (with_lines l.fn.variables l.fn.script begin [] l.fn.script.commands)
       (with_lines l.fn.variables l.fn.script begin l.commands.items (drop l.line-index l.fn.script.commands));

@@ -1,5 +1,6 @@
-use Rattle.sd_tool.proofs.ByStatus.{course_of, effects_of, line_of_run, ends_of}
+use Rattle.sd_tool.proofs.ByStatus.{effects_of, line_of_run, ends_of}
 use Rattle.sd_tool.proofs.OneRun.{completes}
+use Rattle.sd_tool.proofs.Walks.{course_of}
 use Rattle.sd_tool.proofs.WrittenLemmas.{equal_texts}
 use Rattle.sd_tool.proofs.whole_run.run.Goals as goal
 
