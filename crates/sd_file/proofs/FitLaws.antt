@@ -3,17 +3,16 @@ use Rattle.std.proofs.Common.{◌≡◌, ℕ, zero, suc, ◌+◌, ◌≤◌, ◌
 use Rattle.std.proofs.Common.{map, length}
 use Rattle.std.proofs.Common.{Option, Some, None, ok_or, Result, Ok, Err, refl, sym, ap, subst, arith, ℤ, unsigned_abs}
 use Rattle.std.proofs.Common.{slice_get, slice_index_or}
-use Rattle.std.specs.Prelude.{nat_le, is_some}
+use Rattle.std.specs.Prelude.{nat_le, is_some, codes}
 use Rattle.std.specs.List.{AllByRecursion}
 use Rattle.std.proofs.lemmas.Bool.{leb-true}
 use Rattle.std.proofs.lemmas.List.{length-map, map_push}
 use Rattle.std.proofs.lemmas.List.Quantifiers.{position-Some}
 use Rattle.sd_base.specs.Lines.{TextLine}
 use Rattle.sd_base.specs.Reading.{◌>>=◌, ◌>>◌, fault_if, each, each_after, read_more}
-use Rattle.sd_file.specs.declared.fault.SddFault.{SddFault}
-use Rattle.sd_file.specs.declared.fault.SddFault.TheVariants.{BadLine, IdTwice, ChildUnknown, LiteralRange}
 use Rattle.sd_model.specs.Tree.{AreDistinct}
 use Rattle.sd_file.specs.declared.file.FileNode.{FileNode}
+use Rattle.sd_base.specs.FaultTexts.{at_line}
 use Rattle.sd_file.specs.Files.{IsEarlier, FitsAt, FitFrom, IsFile, IsKindOver, kind_of}
 use Rattle.sd_file.specs.Files.{no_entry, entry_at, pairs_in, entry_pairs}
 use Rattle.sd_file.specs.Reads.{Node, Constant, Literal, Decomposition, Entry}
@@ -26,29 +25,29 @@ use Rattle.sd_file.proofs.Distinct.{distinct_push, not_among}
 -- ---- steps that came to an end
 
 -- a chain of two steps that came to an end went through the first
-record Through {A B : Type 0} (first : Result A SddFault) (rest : A → Result B SddFault) (end : B) : Type 0 where
+record Through {A B : Type 0} (first : Result A (List ℕ)) (rest : A → Result B (List ℕ)) (end : B) : Type 0 where
   pub middle : A
   pub gave : first ≡ Ok middle
   pub led : rest middle ≡ Ok end
 
-through : {A B : Type 0} (first : Result A SddFault) (rest : A → Result B SddFault) (end : B)
+through : {A B : Type 0} (first : Result A (List ℕ)) (rest : A → Result B (List ℕ)) (end : B)
     → (first >>= rest) ≡ Ok end → Through first rest end
 through (Ok x) rest end e = record { middle = x; gave = refl; led = e }
 through (Err fault) rest end e = absurd cc
 
 -- no fault stood in the way
-past : {B : Type 0} (test : Bool) (fault : SddFault) (rest : Result B SddFault) (end : B)
+past : {B : Type 0} (test : Bool) (fault : List ℕ) (rest : Result B (List ℕ)) (end : B)
     → (fault_if test fault >> rest) ≡ Ok end → (test ≡ false) × (rest ≡ Ok end)
 past true fault rest end e = absurd cc
 past false fault rest end e = (refl, e)
 
 -- an option that gave a value had it
-had : {A : Type 0} (o : Option A) (fault : SddFault) (x : A) → ok_or o fault ≡ Ok x → o ≡ Some x
+had : {A : Type 0} (o : Option A) (fault : List ℕ) (x : A) → ok_or o fault ≡ Ok x → o ≡ Some x
 had (Some y) fault x e = let same : y ≡ x = cc in ap Some same
 had None fault x e = absurd cc
 
 -- an end without a fault
-abbrev done : {A : Type 0} → A → Result A SddFault
+abbrev done : {A : Type 0} → A → Result A (List ℕ)
 done x = Ok x
 
 ends_at : {A : Type 0} (x y : A) → done x ≡ Ok y → x ≡ y
@@ -57,11 +56,12 @@ ends_at x y h = cc
 -- ---- the pairs of a decomposition
 
 -- the index of an id is below their number
-index_below : (ids : List ℕ) (line id p : ℕ) → ok_or (index_of_id id ids) (ChildUnknown line) ≡ Ok p → p < length ids
+index_below : (ids : List ℕ) (line id p : ℕ) → ok_or (index_of_id id ids) (at_line line (codes ": child unknown")) ≡ Ok p
+    → p < length ids
 index_below ids line id p h = (position-Some (λ i. i == id) ids p 0 (had _ _ p h)).0
 
 -- two readings of numbers gave them
-two_gave : (r t : Result ℕ SddFault) (pair : ℕ × ℕ) → two r t ≡ Ok pair → (r ≡ Ok pair.0) × (t ≡ Ok pair.1)
+two_gave : (r t : Result ℕ (List ℕ)) (pair : ℕ × ℕ) → two r t ≡ Ok pair → (r ≡ Ok pair.0) × (t ≡ Ok pair.1)
 two_gave (Ok x) (Ok y) pair h =
     let both : ℕ × ℕ = (x, y) in
     let is : both ≡ pair = ends_at both pair h in
@@ -73,13 +73,12 @@ two_gave (Err e) t pair h = absurd cc
 pair_below : (ids : List ℕ) (line : ℕ) (named pair : ℕ × ℕ) → pair_at ids line named ≡ Ok pair
     → IsEarlier (length ids) pair
 pair_below ids line (prime, sub) pair h =
-    let gave =
-    two_gave (ok_or (index_of_id prime ids) (ChildUnknown line)) (ok_or (index_of_id sub ids) (ChildUnknown line))
-    pair h in
+    let unknown = at_line line (codes ": child unknown") in
+    let gave = two_gave (ok_or (index_of_id prime ids) unknown) (ok_or (index_of_id sub ids) unknown) pair h in
     record { prime = index_below ids line prime _ gave.0; sub = index_below ids line sub _ gave.1 }
 
 -- what holds of each result
-each_all : {A B : Type 0} (f : A → Result B SddFault) (P : B → Type 0) → ((x : A) (y : B) → f x ≡ Ok y → P y)
+each_all : {A B : Type 0} (f : A → Result B (List ℕ)) (P : B → Type 0) → ((x : A) (y : B) → f x ≡ Ok y → P y)
     → (xs : List A) (ys : List B) → each f xs ≡ Ok ys → AllByRecursion P ys
 each_all f P gives [] ys h = subst (AllByRecursion P) (ends_at [] ys h) tt
 each_all f P gives (x ∷ xs) ys h =
@@ -107,7 +106,8 @@ node_fits : (v : ℕ) (ids : List ℕ) (line : ℕ) (form node : Node) → HasPa
 node_fits v ids line (Constant value) node some h =
     subst (FitsAt v (length ids)) (ends_at (Constant value) node h) tt
 node_fits v ids line (Literal vtree z) node some h =
-    let tested = past (not (is_literal v z)) (LiteralRange line) (Ok (Literal vtree z)) node h in
+    let text = at_line line (codes ": literal out of range") in
+    let tested = past (not (is_literal v z)) text (Ok (Literal vtree z)) node h in
     subst (FitsAt v (length ids)) (ends_at (Literal vtree z) node tested.1) (literal_in_range v z tested.0)
 node_fits v ids line (Decomposition vtree pairs) node some h =
     let read = through (each (pair_at ids line) pairs) (λ places. Ok (Decomposition vtree places)) node h in
@@ -126,15 +126,17 @@ record IsNext (v : ℕ) (ids : List ℕ) (e : Entry) : Type 0 where
 entry_fits : (v : ℕ) (ids : List ℕ) (line : TextLine) (e : Entry) → entry_with v ids line ≡ Ok e → IsNext v ids e
 entry_fits v ids line e h =
     let node = λ (form : Entry). node_of v ids line.number form.node in
-    let entry : Entry → Node → Result Entry SddFault = λ form node. Ok (record { id = form.id; node = node }) in
+    let entry : Entry → Node → Result Entry (List ℕ) = λ form node. Ok (record { id = form.id; node = node }) in
     let known = λ (form : Entry). is_some (index_of_id form.id ids) in
-    let rest = λ (form : Entry). fault_if (known form) (IdTwice line.number) >> (node form >>= entry form) in
-    let formed = through (ok_or (form_of line.words) (BadLine line.number)) rest e h in
+    let bad = at_line line.number (codes ": bad line") in
+    let twice = at_line line.number (codes ": id twice") in
+    let rest = λ (form : Entry). fault_if (known form) twice >> (node form >>= entry form) in
+    let formed = through (ok_or (form_of line.words) bad) rest e h in
     let form = formed.middle in
-    let new = past (known form) (IdTwice line.number) (node form >>= entry form) e formed.led in
+    let new = past (known form) twice (node form >>= entry form) e formed.led in
     let read = through (node form) (entry form) e new.1 in
     let is = ends_at (record { id = form.id; node = read.middle }) e read.led in
-    let some = form_pairs line.words form (had (form_of line.words) (BadLine line.number) form formed.gave) in
+    let some = form_pairs line.words form (had (form_of line.words) bad form formed.gave) in
     subst (IsNext v ids) is
     (record { fits = node_fits v ids line.number form.node read.middle some read.gave; new = new.0 })
 

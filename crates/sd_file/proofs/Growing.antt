@@ -1,16 +1,17 @@
 -- The pairs of one more node, and one more node, behind the earlier ones.
 use Rattle.std.proofs.Common.{◌≡◌, ℕ, suc, ◌+◌, ◌-◌, ◌≤◌, List, [], ◌∷◌, ◌++◌, map, length, take, drop}
 use Rattle.std.proofs.Common.{length-drop, refl, sym, ap, ◌∙◌}
-use Rattle.std.proofs.Common.{arith, Result, Ok, Err, ok_or, slice_index_or, append_assoc, length-append}
+use Rattle.std.proofs.Common.{codes, arith, Result, Ok, Err, ok_or, slice_index_or, append_assoc, length-append}
 use Rattle.std.proofs.lemmas.List.{take-append-le, drop-append-le, take_all, map_push}
 use Rattle.std.proofs.Math.Seq.{drop-append_seam}
 use Rattle.std.specs.List.{AllByRecursion}
 use Rattle.sd_base.specs.Reading.{◌>>=◌, each}
 use Rattle.sd_file.specs.declared.fault.SddFault.{SddFault}
-use Rattle.sd_file.specs.declared.fault.SddFault.TheVariants.{ChildUnknown, OutOfMemory}
+use Rattle.sd_file.specs.declared.fault.SddFault.TheVariants.{OutOfMemory}
 use Rattle.sd_file.specs.declared.file.FileNode.{FileNode}
 use Rattle.sd_file.specs.declared.file.FileNode.TheVariants as kinds
 use Rattle.sd_file.specs.declared.file.FileEntry.{FileEntry}
+use Rattle.sd_base.specs.FaultTexts.{at_line}
 use Rattle.sd_file.specs.Reads.{Decomposition, Fails, two_by_two, index_of_id, pair_at}
 use Rattle.sd_file.specs.Steps.{node_in, entry_in, entries_of, count_of, IsWithin, IsPutIn, put_before}
 
@@ -37,8 +38,8 @@ both (Err e) t x y r_is t_is = absurd cc
 
 -- the first two of the numbers are a pair
 pub pair_step : (ids : List ℕ) (line : ℕ) (rest : List ℕ) (front : List (ℕ × ℕ)) (p s : ℕ) → 2 ≤ length rest
-    → ok_or (index_of_id (slice_index_or rest 0 0) ids) (ChildUnknown line) ≡ Ok p
-    → ok_or (index_of_id (slice_index_or rest 1 0) ids) (ChildUnknown line) ≡ Ok s
+    → ok_or (index_of_id (slice_index_or rest 0 0) ids) (at_line line (codes ": child unknown")) ≡ Ok p
+    → ok_or (index_of_id (slice_index_or rest 1 0) ids) (at_line line (codes ": child unknown")) ≡ Ok s
     → put_before (front ++ (p, s) ∷ []) (each (pair_at ids line) (two_by_two (take (length rest - 2) (drop 2 rest))))
     ≡ put_before front (each (pair_at ids line) (two_by_two rest))
 pair_step ids line [] front p s h prime_is sub_is = absurd (omega arith)
@@ -49,7 +50,7 @@ pair_step ids line (prime ∷ sub ∷ others) front p s h prime_is sub_is =
     let all : take (length (prime ∷ sub ∷ others) - 2) others ≡ others = take_all _ others (omega arith) in
     ap (λ ns. put_before (front ++ (p, s) ∷ []) (each (pair_at ids line) (two_by_two ns))) all
     ∙ put_more front (p, s) later
-    ∙ ap (λ (r : Result (ℕ × ℕ) SddFault). put_before front (r >>= λ y. later >>= λ ys. Ok (y ∷ ys))) (sym here)
+    ∙ ap (λ (r : Result (ℕ × ℕ) (List ℕ)). put_before front (r >>= λ y. later >>= λ ys. Ok (y ∷ ys))) (sym here)
 
 -- ---- a decomposition
 
@@ -75,20 +76,20 @@ pairs_short (p ∷ s ∷ others) = omega (arith, pairs_short others)
 
 -- the pairs that were put, and the node that has them
 pub record IsTaken (before after : List (ℕ × ℕ)) (vtree : ℕ) (children : List ℕ)
-    (reading : Result (List (ℕ × ℕ)) SddFault) : Type 0 where
+    (reading : Result (List (ℕ × ℕ)) (List ℕ)) : Type 0 where
   pub put : IsPutIn before after
   pub longer : length before ≤ length after
   pub within_limit : length after - length before ≤ length children
   pub node : (reading >>= λ places. Ok (Decomposition vtree places))
       ≡ Ok (Decomposition vtree (take (length after - length before) (drop (length before) after)))
 
-pub taken : (f : ℕ × ℕ → Result (ℕ × ℕ) SddFault) (before after : List (ℕ × ℕ)) (vtree : ℕ) (children : List ℕ)
+pub taken : (f : ℕ × ℕ → Result (ℕ × ℕ) (List ℕ)) (before after : List (ℕ × ℕ)) (vtree : ℕ) (children : List ℕ)
     → put_before before (each f (two_by_two children)) ≡ Ok after
     → IsTaken before after vtree children (each f (two_by_two children))
 taken f before after vtree children h =
     of_reading (each f (two_by_two children)) (each_length f (two_by_two children)) h
   where
-    of_reading : (reading : Result (List (ℕ × ℕ)) SddFault)
+    of_reading : (reading : Result (List (ℕ × ℕ)) (List ℕ))
         → ((ys : List (ℕ × ℕ)) → reading ≡ Ok ys → length ys ≡ length (two_by_two children))
         → put_before before reading ≡ Ok after → IsTaken before after vtree children reading
     of_reading (Err e) counts h = absurd cc
@@ -106,7 +107,7 @@ taken f before after vtree children h =
         }
 
 -- a fault of the pairs is that of the node
-pub put_fails : (e : SddFault) (before : List (ℕ × ℕ)) (vtree : ℕ) (reading : Result (List (ℕ × ℕ)) SddFault)
+pub put_fails : (e : SddFault) (before : List (ℕ × ℕ)) (vtree : ℕ) (reading : Result (List (ℕ × ℕ)) (List ℕ))
     → Fails e (put_before before reading) → Fails e (reading >>= λ places. Ok (Decomposition vtree places))
 put_fails OutOfMemory before vtree reading h = tt
 put_fails e before vtree (Ok ys) h = absurd cc

@@ -1,14 +1,15 @@
 -- One more line after earlier nodes.
 use Rattle.std.proofs.Common.{◌≡◌, ℕ, true, false, List, [], ◌∷◌, ◌++◌, map, length, sym, ap, ◌∙◌, subst}
 use Rattle.std.proofs.Common.{Option, Some, Result, Ok, Err, ok_or}
-use Rattle.std.specs.Prelude.{is_some}
+use Rattle.std.specs.Prelude.{is_some, codes}
 use Rattle.std.specs.List.{AllByRecursion}
 use Rattle.sd_base.specs.Lines.{TextLine}
 use Rattle.sd_base.specs.Reading.{◌>>=◌, ◌>>◌, fault_if, read_more}
 use Rattle.sd_file.specs.declared.fault.SddFault.{SddFault}
-use Rattle.sd_file.specs.declared.fault.SddFault.TheVariants.{BadLine, IdTwice, OutOfMemory}
+use Rattle.sd_file.specs.declared.fault.SddFault.TheVariants.{OutOfMemory}
 use Rattle.sd_file.specs.declared.file.FileNode.{FileNode}
 use Rattle.sd_file.specs.declared.file.FileEntry.{FileEntry}
+use Rattle.sd_base.specs.FaultTexts.{at_line}
 use Rattle.sd_file.specs.Reads.{Node, Entry, Fails, form_of, index_of_id, node_of, entry_with, entry_of}
 use Rattle.sd_file.specs.Steps.{node_in, entries_of, IsWithin, IsPutIn}
 use Rattle.sd_file.proofs.Growing.{ids_same, entries_push}
@@ -18,13 +19,13 @@ abbrev entry : ℕ → Node → Entry
 entry id node = record { id = id; node = node }
 
 -- a node of an id behind earlier ones
-abbrev put_entry : List Entry → ℕ → Result Node SddFault → Result (List Entry) SddFault
+abbrev put_entry : List Entry → ℕ → Result Node (List ℕ) → Result (List Entry) (List ℕ)
 put_entry earlier id reading = (reading >>= λ node. Ok (entry id node)) >>= λ e. Ok (earlier ++ e ∷ [])
 
 -- the entry of a form
-abbrev placed : ℕ → List ℕ → ℕ → Entry → Result Entry SddFault
+abbrev placed : ℕ → List ℕ → ℕ → Entry → Result Entry (List ℕ)
 placed v ids line form =
-    fault_if (is_some (index_of_id form.id ids)) (IdTwice line)
+    fault_if (is_some (index_of_id form.id ids)) (at_line line (codes ": id twice"))
     >> (node_of v ids line form.node >>= λ node. Ok (entry form.id node))
 
 -- the ids of nodes as they are kept
@@ -37,22 +38,23 @@ with_form : (v : ℕ) (kept : List FileEntry) (pairs : List (ℕ × ℕ)) (line 
     → read_more (entry_of v) (entries_of kept pairs) line
     ≡ (placed v (kept_ids kept) line.number form >>= λ e. Ok (entries_of kept pairs ++ e ∷ []))
 with_form v kept pairs line form form_is =
-    let put : Result Entry SddFault → Result (List Entry) SddFault =
+    let put : Result Entry (List ℕ) → Result (List Entry) (List ℕ) =
     λ r. r >>= λ e. Ok (entries_of kept pairs ++ e ∷ []) in
-    let rest : Entry → Result Entry SddFault = placed v (kept_ids kept) line.number in
+    let rest : Entry → Result Entry (List ℕ) = placed v (kept_ids kept) line.number in
     ap (λ ids. put (entry_with v ids line)) (ids_same kept pairs)
-    ∙ ap (λ (o : Option Entry). put (ok_or o (BadLine line.number) >>= rest)) form_is
+    ∙ ap (λ (o : Option Entry). put (ok_or o (at_line line.number (codes ": bad line")) >>= rest)) form_is
 
 -- the id is that of an earlier node
 pub id_twice : (v : ℕ) (kept : List FileEntry) (pairs : List (ℕ × ℕ)) (line : TextLine) (form : Entry) (id : ℕ)
     → form_of line.words ≡ Some form → id ≡ form.id → true ≡ is_some (index_of_id id (kept_ids kept))
-    → read_more (entry_of v) (entries_of kept pairs) line ≡ Err (IdTwice line.number)
+    → read_more (entry_of v) (entries_of kept pairs) line ≡ Err (at_line line.number (codes ": id twice"))
 id_twice v kept pairs line form id form_is id_is known =
     let here : is_some (index_of_id form.id (kept_ids kept)) ≡ true =
     ap (λ i. is_some (index_of_id i (kept_ids kept))) (sym id_is) ∙ sym known in
     let node = node_of v (kept_ids kept) line.number form.node >>= λ node. Ok (entry form.id node) in
+    let twice = at_line line.number (codes ": id twice") in
     with_form v kept pairs line form form_is
-    ∙ ap (λ b. (fault_if b (IdTwice line.number) >> node) >>= λ e. Ok (entries_of kept pairs ++ e ∷ [])) here
+    ∙ ap (λ b. (fault_if b twice >> node) >>= λ e. Ok (entries_of kept pairs ++ e ∷ [])) here
 
 -- the id is new
 new_id : (v : ℕ) (kept : List FileEntry) (pairs : List (ℕ × ℕ)) (line : TextLine) (form : Entry) (id : ℕ)
@@ -63,11 +65,12 @@ new_id v kept pairs line form id form_is id_is fresh =
     let here : is_some (index_of_id form.id (kept_ids kept)) ≡ false =
     ap (λ i. is_some (index_of_id i (kept_ids kept))) (sym id_is) ∙ sym fresh in
     let node = node_of v (kept_ids kept) line.number form.node >>= λ node. Ok (entry form.id node) in
+    let twice = at_line line.number (codes ": id twice") in
     with_form v kept pairs line form form_is
-    ∙ ap (λ b. (fault_if b (IdTwice line.number) >> node) >>= λ e. Ok (entries_of kept pairs ++ e ∷ [])) here
+    ∙ ap (λ b. (fault_if b twice >> node) >>= λ e. Ok (entries_of kept pairs ++ e ∷ [])) here
 
 -- a fault decides
-put_fails : (e : SddFault) (earlier : List Entry) (id : ℕ) (reading : Result Node SddFault) → Fails e reading
+put_fails : (e : SddFault) (earlier : List Entry) (id : ℕ) (reading : Result Node (List ℕ)) → Fails e reading
     → Fails e (put_entry earlier id reading)
 put_fails OutOfMemory earlier id reading h = tt
 put_fails e earlier id reading h = ap (put_entry earlier id) h

@@ -1,9 +1,6 @@
 -- Worked examples.
-use Rattle.std.proofs.Common.{◌≡◌, true, false, [], ◌∷◌, refl, ap, ◌∙◌, Result, Ok, Err, pos, negsuc}
+use Rattle.std.proofs.Common.{◌≡◌, ℕ, List, true, false, [], ◌∷◌, refl, ap, ◌∙◌, Result, Ok, Err, pos, negsuc}
 use Rattle.std.specs.Prelude.{codes}
-use Rattle.sd_file.specs.declared.fault.SddFault.TheVariants.{BadLine, IdTwice, ChildUnknown}
-use Rattle.sd_file.specs.declared.fault.SddFault.TheVariants.{LiteralRange, CountDiffers, Empty}
-use Rattle.sd_file.specs.declared.fault.SddFault.{SddFault}
 use Rattle.sd_model.specs.Diagram.{Diagram, Bottom, Literal, Decomposition, End, Pair}
 use Rattle.sd_model.specs.Expression.{expression_value}
 use Rattle.sd_model.specs.Size.{completed}
@@ -23,32 +20,32 @@ elsewhere : sdd_file 2 (codes "c made elsewhere\nsdd 4\nL 0 9 1\nL 1 9 -1\nL 3 7
 unfolding sdd_file
 elsewhere = refl
 
-two_stated : sdd_file 2 (codes "sdd 2\nT 0\n") ≡ Err (CountDiffers 2 1)
-unfolding sdd_file
+two_stated : sdd_file 2 (codes "sdd 2\nT 0\n") ≡ Err (codes ": 2 stated, 1 found")
+unfolding sdd_file number_text
 two_stated = refl
 
-no_nodes : sdd_file 2 (codes "sdd 0\n") ≡ Err Empty
+no_nodes : sdd_file 2 (codes "sdd 0\n") ≡ Err (codes ": no nodes")
 unfolding sdd_file
 no_nodes = refl
 
-unknown : sdd_file 2 (codes "sdd 1\nD 0 1 1 1 0\n") ≡ Err (ChildUnknown 2)
-unfolding sdd_file
+unknown : sdd_file 2 (codes "sdd 1\nD 0 1 1 1 0\n") ≡ Err (codes ": line 2: child unknown")
+unfolding sdd_file number_text
 unknown = refl
 
-none_found : sdd_file 2 (codes "sdd 5\n") ≡ Err (CountDiffers 5 0)
-unfolding sdd_file
+none_found : sdd_file 2 (codes "sdd 5\n") ≡ Err (codes ": 5 stated, 0 found")
+unfolding sdd_file number_text
 none_found = refl
 
-literal_zero : sdd_file 2 (codes "sdd 2\nT 0\nL 1 0 -0\n") ≡ Err (LiteralRange 3)
-unfolding sdd_file
+literal_zero : sdd_file 2 (codes "sdd 2\nT 0\nL 1 0 -0\n") ≡ Err (codes ": line 3: literal out of range")
+unfolding sdd_file number_text
 literal_zero = refl
 
-no_pairs : sdd_file 2 (codes "sdd 2\nT 0\nD 1 1 0\n") ≡ Err (BadLine 3)
-unfolding sdd_file
+no_pairs : sdd_file 2 (codes "sdd 2\nT 0\nD 1 1 0\n") ≡ Err (codes ": line 3: bad line")
+unfolding sdd_file number_text
 no_pairs = refl
 
-id_twice : sdd_file 2 (codes "sdd 2\nT 0\nF 0\n") ≡ Err (IdTwice 3)
-unfolding sdd_file
+id_twice : sdd_file 2 (codes "sdd 2\nT 0\nF 0\n") ≡ Err (codes ": line 3: id twice")
+unfolding sdd_file number_text
 id_twice = refl
 
 -- ---- texts that are read back
@@ -81,7 +78,7 @@ true_not_false : ReadsBack 2 (codes "sdd 1\nT 0\n") Bottom → ⊥
 unfolding sdd_file
 true_not_false back =
     let file : File = record { variables = 2; nodes = record { id = 0; node = ConstantNode true } ∷ [] } in
-    let read : ◌≡◌ {A = Result File SddFault} (Ok file) (Ok back.file) = back.reads in
+    let read : ◌≡◌ {A = Result File (List ℕ)} (Ok file) (Ok back.file) = back.reads in
     let is : file ≡ back.file = cc in
     let value : true ≡ false = ap (λ f. expression_value (expression_of_file f) []) is ∙ back.value [] in
     cc

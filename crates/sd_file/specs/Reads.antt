@@ -1,4 +1,4 @@
--- The nodes that an SDD file stands for, or its first fault, and the file's value.
+-- The nodes that an SDD file stands for, or the text of its first fault, and the file's value.
 use Rattle.std.specs.Prelude.{◌≡◌, ℕ, Bool, true, false, not, ◌&&◌, ◌==◌, ◌*◌, nat_le, if◌then◌else◌}
 use Rattle.std.specs.Prelude.{List, [], ◌∷◌, map, length, position, Option, Some, None, ok_or, option_map}
 use Rattle.std.specs.Prelude.{option_and_then, is_some, Result, Ok, Err, ℤ, unsigned_abs, codes, bytes_eq}
@@ -11,6 +11,7 @@ use Rattle.sd_model.specs.Expression.{FileNode, FileConstant, FileLiteral, FileD
 use Rattle.sd_file.specs.declared.fault.SddFault.{SddFault}
 use Rattle.sd_file.specs.declared.fault.SddFault.TheVariants.{NoHeader, BadLine, IdTwice, ChildUnknown}
 use Rattle.sd_file.specs.declared.fault.SddFault.TheVariants.{LiteralRange, CountDiffers, Empty, OutOfMemory}
+use Rattle.sd_base.specs.FaultTexts.{at_line, counts}
 
 -- A node with the vtree id that the file has. Primes and subs are places in the list of the nodes before it; in a line
 -- as it is written they are ids.
@@ -73,47 +74,47 @@ abbrev pub index_of_id : ℕ → List ℕ → Option ℕ
 index_of_id id ids = position (λ i. i == id) ids
 
 -- the places of a prime and a sub
-abbrev pub pair_at : List ℕ → ℕ → ℕ × ℕ → Result (ℕ × ℕ) SddFault
+abbrev pub pair_at : List ℕ → ℕ → ℕ × ℕ → Result (ℕ × ℕ) (List ℕ)
 pair_at ids line (prime, sub) = do
-  p ← ok_or (index_of_id prime ids) (ChildUnknown line)
-  s ← ok_or (index_of_id sub ids) (ChildUnknown line)
+  p ← ok_or (index_of_id prime ids) (at_line line (codes ": child unknown"))
+  s ← ok_or (index_of_id sub ids) (at_line line (codes ": child unknown"))
   Ok (p, s)
 
 -- a node as it is written on a line, over the variables 1 to v, with places for ids
-abbrev pub node_of : ℕ → List ℕ → ℕ → Node → Result Node SddFault
+abbrev pub node_of : ℕ → List ℕ → ℕ → Node → Result Node (List ℕ)
 node_of v ids line (Constant value) = Ok (Constant value)
 node_of v ids line (Literal vtree literal) = do
-  fault_if (not (is_within 1 v (unsigned_abs literal))) (LiteralRange line)
+  fault_if (not (is_within 1 v (unsigned_abs literal))) (at_line line (codes ": literal out of range"))
   Ok (Literal vtree literal)
 node_of v ids line (Decomposition vtree pairs) = do
   places ← each (pair_at ids line) pairs
   Ok (Decomposition vtree places)
 
 -- the entry of a line after lines with these ids
-abbrev pub entry_with : ℕ → List ℕ → TextLine → Result Entry SddFault
+abbrev pub entry_with : ℕ → List ℕ → TextLine → Result Entry (List ℕ)
 entry_with v ids line = do
-  form ← ok_or (form_of line.words) (BadLine line.number)
-  fault_if (is_some (index_of_id form.id ids)) (IdTwice line.number)
+  form ← ok_or (form_of line.words) (at_line line.number (codes ": bad line"))
+  fault_if (is_some (index_of_id form.id ids)) (at_line line.number (codes ": id twice"))
   node ← node_of v ids line.number form.node
   Ok (record { id = form.id; node = node })
 
 -- the entry of a line after earlier ones
-abbrev pub entry_of : ℕ → List Entry → TextLine → Result Entry SddFault
+abbrev pub entry_of : ℕ → List Entry → TextLine → Result Entry (List ℕ)
 entry_of v earlier line = entry_with v (map (λ e. e.id) earlier) line
 
 -- ---- the text
 
 -- the file of these nodes, where there is at least one
-abbrev pub file_of : ℕ → List Entry → Result File SddFault
+abbrev pub file_of : ℕ → List Entry → Result File (List ℕ)
 file_of v entries = do
-  fault_if (length entries == 0) Empty
+  fault_if (length entries == 0) (codes ": no nodes")
   Ok (record { variables = v; nodes = entries })
 
--- The file of a text over the variables 1 to v, or the text's first fault. Blank lines and comments, which begin with
--- c, are passed over.
-unfoldable pub sdd_file : ℕ → List ℕ → Result File SddFault
+-- The file of a text over the variables 1 to v, or the text of its first fault, as the line of the end has it behind
+-- the file's name. Blank lines and comments, which begin with c, are passed over.
+unfoldable pub sdd_file : ℕ → List ℕ → Result File (List ℕ)
 sdd_file v bytes =
-    of_nodes (codes "sdd") NoHeader CountDiffers (entry_of v) (file_of v) (content_of 99 bytes)
+    of_nodes (codes "sdd") (codes ": no header") counts (entry_of v) (file_of v) (content_of 99 bytes)
 
 -- ---- the value of a file
 
@@ -134,14 +135,14 @@ abbrev pub is_literal : ℕ → ℤ → Bool
 is_literal v z = is_within 1 v (unsigned_abs z)
 
 -- the file of all node lines, where the header states a number of them
-abbrev pub finish : ℕ → ℕ → List Entry → Result File SddFault
+abbrev pub finish : ℕ → ℕ → List Entry → Result File (List ℕ)
 finish v stated entries = do
-  fault_if (not (stated == length entries)) (CountDiffers stated (length entries))
+  fault_if (not (stated == length entries)) (counts stated (length entries))
   file_of v entries
 
 -- the file of a header `sdd N` and the lines after it
-abbrev pub file_of_lines : ℕ → List TextLine → Result File SddFault
-file_of_lines v lines = of_nodes (codes "sdd") NoHeader CountDiffers (entry_of v) (file_of v) lines
+abbrev pub file_of_lines : ℕ → List TextLine → Result File (List ℕ)
+file_of_lines v lines = of_nodes (codes "sdd") (codes ": no header") counts (entry_of v) (file_of v) lines
 
 -- the id of a line
 abbrev pub id_of : Entry → ℕ
@@ -152,19 +153,30 @@ abbrev pub stated_by : List (List ℕ) → Option ℕ
 stated_by words = stated_behind (codes "sdd") words
 
 -- the decomposition of these pairs of ids
-abbrev pub decomposition_of : List ℕ → ℕ → ℕ → List (ℕ × ℕ) → Result Node SddFault
+abbrev pub decomposition_of : List ℕ → ℕ → ℕ → List (ℕ × ℕ) → Result Node (List ℕ)
 decomposition_of ids line vtree pairs = do
   places ← each (pair_at ids line) pairs
   Ok (Decomposition vtree places)
 
 -- ---- what a reader answers
 
+-- the text of a fault of an SDD file, after the file's name
+abbrev pub sdd_fault_text : SddFault → List ℕ
+sdd_fault_text NoHeader = codes ": no header"
+sdd_fault_text (BadLine n) = at_line n (codes ": bad line")
+sdd_fault_text (IdTwice n) = at_line n (codes ": id twice")
+sdd_fault_text (ChildUnknown n) = at_line n (codes ": child unknown")
+sdd_fault_text (LiteralRange n) = at_line n (codes ": literal out of range")
+sdd_fault_text (CountDiffers s f) = counts s f
+sdd_fault_text Empty = codes ": no nodes"
+sdd_fault_text OutOfMemory = []
+
 -- a reading has this fault; OutOfMemory says nothing of it
-abbrev pub Fails : {Y : Type 0} → SddFault → Result Y SddFault → Type 0
+abbrev pub Fails : {Y : Type 0} → SddFault → Result Y (List ℕ) → Type 0
 Fails OutOfMemory reading = Unit {0}
-Fails fault reading = reading ≡ Err fault
+Fails fault reading = reading ≡ Err (sdd_fault_text fault)
 
 -- The answer, as view sees it, is what the reading gives, unless memory ran out.
-abbrev pub Gives : {X Y : Type 0} → (X → Y) → Result X SddFault → Result Y SddFault → Type 0
+abbrev pub Gives : {X Y : Type 0} → (X → Y) → Result X SddFault → Result Y (List ℕ) → Type 0
 Gives view (Ok x) reading = reading ≡ Ok (view x)
 Gives view (Err e) reading = Fails e reading

@@ -1,8 +1,9 @@
 //! The earlier nodes, with the index of each id.
 
 ghost use Rattle.std.specs.Prelude.{◌≡◌, ◌≤◌, ◌<◌, ◌+◌, ◌^◌, ◌++◌, [], ◌∷◌, length};
-ghost use Rattle.std.specs.Prelude.{OnOk, IfOk, ok_or, None, is_some};
+ghost use Rattle.std.specs.Prelude.{OnOk, IfOk, ok_or, None, is_some, codes};
 ghost use Rattle.sd_base.specs.Reading.{each};
+ghost use Rattle.sd_base.specs.FaultTexts.{at_line};
 ghost use Rattle.sd_file.specs.Reads as texts;
 ghost use Rattle.sd_file.specs.Reads.{Gives};
 ghost use Rattle.sd_file.specs.Steps.{form_view, children_count, count_of, node_in, put_before};
@@ -47,7 +48,8 @@ impl IdTable {
     fn index_of(&self, line: u32, id: u64) -> Result<u32, SddFault>
         requires { IsIndexed self.now }
         ensures { Gives (λ index. index) result
-            (ok_or (texts.index_of_id id (ids_of self.now)) (SddFault.ChildUnknown line)) }
+            (ok_or (texts.index_of_id id (ids_of self.now))
+            (at_line line (codes ": child unknown"))) }
     {
         self.indices
             .get(&id)
