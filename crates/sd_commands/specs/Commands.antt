@@ -1,7 +1,7 @@
 -- The commands of a run, and what each comes to. A later command is a case more of `RunCommand` and of `Step`.
 use Rattle.std.specs.Prelude.{◌≡◌, ◌⊎◌, ◌↔◌, ℕ, zero, suc, ◌%◌, ◌<◌, ◌≤◌, nat_le, Bool, true, false, not, ◌==◌}
 use Rattle.std.specs.Prelude.{List, [], ◌∷◌, ◌++◌, map, filter, length, codes, Option, Some, None, unwrap_or}
-use Rattle.std.specs.Prelude.{if◌then◌else◌}
+use Rattle.std.specs.Prelude.{if◌then◌else◌, MatchOption}
 use Rattle.sd_model.specs.Expression.{Expression, Constant, Atom, Combined, Negated, Conditioned, Forgotten}
 use Rattle.sd_model.specs.Expression.{expression_value, AreOneFunction}
 use Rattle.sd_model.specs.Tree.{Tree, leaves}
@@ -126,21 +126,10 @@ pub record IsTextOf (tree : Tree) (fs : List Expression) (text : List ℕ) : Typ
 abbrev pub told_line : List ℕ → List ℕ → List ℕ
 told_line word numbers = line_of_words (word ∷ map number_text numbers)
 
--- The names keep their formulas over the moved tree, if the total size is then within the limit; where there is no such
--- tree, the place is not movable.
-abbrev pub Moves : State → Option Tree → Outcome → Type 0
-Moves state None outcome = outcome ≡ NotMovable
-Moves state (Some tree) outcome = Settles (record state { tree = tree }) outcome
-
--- The names keep their formulas over the tree that a search over all of them finds, of at most so many rounds; the size
--- at its start, the one at its end and its rounds are printed.
-abbrev pub Searches : State → ℕ → Outcome → Type 0
-Searches state rounds outcome =
-    (found : Found) × IsSearch (formulas_of state) state.slack rounds state.tree found
-    × (outcome ≡ Done (record state { tree = found.tree })
-    (Print (told_line (codes "minimise") (found.before ∷ found.after ∷ found.rounds ∷ [])) ∷ []))
-
--- what a command comes to in a state, where this formula is the input
+-- What a command comes to in a state, where this formula is the input. At a move the names keep their formulas over the
+-- moved tree, if the total size is then within the limit; where there is no such tree, the place is not movable. At a
+-- search they keep them over the tree that it finds, of at most so many rounds; the size at its start, the one at its
+-- end and its rounds are printed.
 abbrev pub Step : Groups → State → RunCommand → Outcome → Type 0
 Step input state (commands.Generated variables groups) outcome =
     Does state (Print (told_line (codes "generated") (variables ∷ groups ∷ []))) outcome
@@ -155,8 +144,12 @@ Step input state (commands.Given n a literal) outcome =
     Binds state n (Conditioned (formula_named state a) literal) outcome
 Step input state (commands.Forget n a x) outcome = Binds state n (Forgotten (formula_named state a) x) outcome
 Step input state (commands.Drop a) outcome = outcome ≡ Done (dropped state a) []
-Step input state (commands.Turn kind p) outcome = Moves state (moved_at kind state.tree p) outcome
-Step input state (commands.Minimise rounds) outcome = Searches state rounds outcome
+Step input state (commands.Turn kind p) outcome = MatchOption (moved_at kind state.tree p)
+    (outcome ≡ NotMovable) (λ tree. Settles (record state { tree = tree }) outcome)
+Step input state (commands.Minimise rounds) outcome =
+    (found : Found) × IsSearch (formulas_of state) state.slack rounds state.tree found
+    × (outcome ≡ Done (record state { tree = found.tree }) (Print (told_line (codes "minimise")
+    (found.before ∷ found.after ∷ found.rounds ∷ [])) ∷ []))
 Step input state (commands.Limit limit) outcome = Settles (record state { limit = limit }) outcome
 Step input state (commands.Same a b) outcome =
     (answer : Bool)
@@ -194,6 +187,11 @@ Steps input old (command ∷ commands) effects new =
     × (effects ≡ first ++ others)
 
 -- ---- for laws, the contracts of private functions, and proofs
+
+-- what a move comes to: over the moved tree, if there is one
+abbrev pub Moves : State → Option Tree → Outcome → Type 0
+Moves state moved outcome =
+    MatchOption moved (outcome ≡ NotMovable) (λ tree. Settles (record state { tree = tree }) outcome)
 
 -- that size passes the limit
 pub record PassLimit (fs : List Expression) (tree : Tree) (limit size : ℕ) : Type 0 where
