@@ -98,9 +98,9 @@ def check_faults():
         for text in sorted(told - defined):
             faults.append("docs/FORMATS.md, %s: no fault has the text '%s'" % (section, text))
     told = text_of("docs/FORMATS.md")
-    for line in re.findall(r"^text_of .*? = (.*)$", text_of("crates/sd_tool/specs/Ends.antt"), re.M):
-        for string in re.findall(r'codes "([^"]*)"', line):
-            expect(string.strip() in told, "docs/FORMATS.md: lacks '%s'" % string)
+    ends = text_of("crates/sd_tool/specs/Ends.antt")
+    for string in re.findall(r'codes "([^"]*)"', ends[ends.index("answer_of Finished"):ends.index("\nabbrev pub status_of")]):
+        expect(string.strip() in told, "docs/FORMATS.md: lacks '%s'" % string)
     for text in texts_defined("words_fault_text"):
         expect("`sddc: %s" % text.split("#")[0] in told, "docs/FORMATS.md: lacks '%s'" % text)
 

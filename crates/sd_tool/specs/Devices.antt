@@ -1,5 +1,5 @@
 -- The devices of a run at a moment: the files, what was printed, what stands on `err`, and the counts of their faults.
-use Rattle.std.specs.Prelude.{◌≡◌, ◌⊎◌, ℕ, List, take, Option}
+use Rattle.std.specs.Prelude.{◌≡◌, ◌⊎◌, ℕ, List, [], ◌∷◌, ◌++◌, codes, take, Option}
 use Rattle.sd_base.specs.Asked.{Request, Adds}
 use Rattle.sd_base.specs.Faults.{Rose}
 use Rattle.sd_base.specs.Files.{Files, Lacks}
@@ -8,7 +8,7 @@ use Rattle.sd_base.specs.declared.shelf.Shelf as shelves
 use Rattle.sd_base.specs.declared.sink.Sink as sinks
 use Rattle.sd_commands.specs.Effects.{Write, Print}
 use Rattle.sd_tool.specs.Effects.{Contents}
-use Rattle.sd_tool.specs.Ends.{End, Finished, Unreadable, Unwritable, text_of, line_of}
+use Rattle.sd_tool.specs.Ends.{End, Finished, Unreadable, Unwritable, answer_of}
 
 -- how often each device has failed
 pub record Faults : Type 0 where
@@ -67,4 +67,5 @@ WritesLine line old new before now =
 -- At the end of all commands `err` is unchanged; each other end has its one line there.
 abbrev pub WritesEndLine : End → Moment → Moment → Type 0
 WritesEndLine Finished old new = new.errors ≡ old.errors
-WritesEndLine end old new = WritesLine (line_of (text_of end)) old.errors new.errors old.err_faults new.err_faults
+WritesEndLine end old new = WritesLine (codes "sddc: " ++ (answer_of end).1 ++ 10 ∷ [])
+    old.errors new.errors old.err_faults new.err_faults

@@ -23,10 +23,6 @@ pub data End : Type 0 where
   -- the total size passes the limit, at the command of a line, or there at a group of the input
   OverLimit : (line : ℕ) (group : Option ℕ) (size limit : ℕ) → End
 
--- a group of the input, if it is told
-abbrev pub group_text : Option ℕ → List ℕ
-group_text group = option_map_or (λ number. codes ": group " ++ number_text number) group []
-
 -- what an effect writes to
 abbrev pub target_of : Effect → List ℕ
 target_of (Write file bytes) = file
@@ -43,15 +39,22 @@ answer_of (ArenaFull elements) = (8, codes "arena full: " ++ number_text element
 answer_of (NotMovable line) = (3, codes "line " ++ number_text line ++ codes ": not movable")
 answer_of (OverLimit line group size limit) = (
   4,
-  codes "line " ++ number_text line ++ group_text group ++ codes ": size " ++ number_text size
-      ++ codes " passes limit " ++ number_text limit,
+  codes "line " ++ number_text line
+      ++ option_map_or (λ number. codes ": group " ++ number_text number) group []
+      ++ codes ": size " ++ number_text size ++ codes " passes limit " ++ number_text limit,
 )
 
 -- the status of an end
 abbrev pub status_of : End → ℕ
 status_of end = (answer_of end).0
 
--- the text of its line
+-- ---- for the contracts of private functions, and for proofs
+
+-- a group of the input, if it is told
+abbrev pub group_text : Option ℕ → List ℕ
+group_text group = option_map_or (λ number. codes ": group " ++ number_text number) group []
+
+-- the text of the line of an end
 abbrev pub text_of : End → List ℕ
 text_of end = (answer_of end).1
 
