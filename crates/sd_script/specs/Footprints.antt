@@ -1,8 +1,5 @@
--- Commands over numbered names and files, and what earlier commands leave: which names are bound,
--- which files are written, and how many files were loaded.
+-- Commands over numbered names and files, and the names that earlier commands leave bound.
 use Rattle.std.specs.Prelude.{ℕ, Bool, true, false, not, ◌==◌, List, [], ◌∷◌, ◌++◌, filter, fold}
-use Rattle.std.specs.Prelude.{flat_map}
-use Rattle.std.specs.Prelude.{count_by}
 use Rattle.std.specs.List.{list_any}
 use Rattle.sd_script.specs.declared.command.Action.{Action}
 use Rattle.sd_script.specs.declared.command.Action.TheVariants.{Input, Load, Lit, Constant, Binary}
@@ -50,18 +47,7 @@ footprint action = none
 abbrev pub has : List ℕ → ℕ → Bool
 has numbers n = list_any (λ m. m == n) numbers
 
--- the bound names after one more command
-abbrev pub bound_after : List ℕ → Command → List ℕ
-bound_after names c = (footprint c.action).binds ++ filter (λ n. not (has (footprint c.action).frees n)) names
-
--- the names that commands leave bound
+-- the names that commands leave bound: those before a command without the one that it frees, and the one that it binds
 abbrev pub bound : List Command → List ℕ
-bound earlier = fold bound_after [] earlier
-
--- the files that commands write
-abbrev pub written_files : List Command → List ℕ
-written_files earlier = flat_map (λ c. (footprint c.action).writes) earlier
-
--- how many commands load a file
-abbrev pub loads : List Command → ℕ
-loads earlier = count_by (λ c. (footprint c.action).loads) earlier
+bound earlier = fold (λ names c. (footprint c.action).binds
+    ++ filter (λ n. not (has (footprint c.action).frees n)) names) [] earlier

@@ -1,6 +1,6 @@
 -- The commands that the text of a script stands for, or the text of its first fault.
 use Rattle.std.specs.Prelude.{◌≡◌, ℕ, ◌-◌, ◌*◌, Bool, true, not, ◌&&◌, nat_le, nat_lt, if◌then◌else◌}
-use Rattle.std.specs.Prelude.{List, [], ◌∷◌, ◌++◌, codes, ok_or, Result, Ok, Err, unsigned_abs}
+use Rattle.std.specs.Prelude.{List, [], ◌∷◌, ◌++◌, codes, flat_map, count_by, ok_or, Result, Ok, Err, unsigned_abs}
 use Rattle.std.specs.List.{list_any, list_all}
 use Rattle.sd_base.specs.Lines.{TextLine, numbered_lines, is_content}
 use Rattle.sd_base.specs.Reading.{◌>>=◌, ◌>>◌, fault_if, each_to}
@@ -11,7 +11,7 @@ use Rattle.sd_script.specs.declared.fault.ScriptFault.{ScriptFault}
 use Rattle.sd_script.specs.declared.fault.ScriptFault.TheVariants.{OutOfMemory}
 use Rattle.sd_base.specs.FaultTexts.{at_line}
 use Rattle.sd_script.specs.Faults.{script_fault_text}
-use Rattle.sd_script.specs.Footprints.{footprint, has, bound, written_files, loads}
+use Rattle.sd_script.specs.Footprints.{footprint, has, bound}
 pub use Rattle.sd_script.specs.Forms.{is_within}
 pub use Rattle.sd_script.specs.Table.{Script, empty, see_all}
 unfoldable pub use Rattle.sd_script.specs.Table.{see, number_of_word, command_of}
@@ -34,14 +34,15 @@ numbers_fit v action = true
 
 -- the tests of a command, in their order, each with the text of its fault
 abbrev pub checked : ℕ → List Command → ℕ → Action → Result (Unit {0}) (List ℕ)
-checked v earlier line action = do
-  fault_if (not (list_all (has (bound earlier)) (footprint action).uses)) (at_line line (codes ": name unknown"))
-  fault_if (list_any (has (bound earlier)) (footprint action).binds) (at_line line (codes ": name taken"))
+checked v earlier line action = let said = footprint action in do
+  fault_if (not (list_all (has (bound earlier)) said.uses)) (at_line line (codes ": name unknown"))
+  fault_if (list_any (has (bound earlier)) said.binds) (at_line line (codes ": name taken"))
   fault_if (not (literals_fit v action)) (at_line line (codes ": literal out of range"))
   fault_if (not (numbers_fit v action)) (at_line line (codes ": number out of range"))
-  fault_if (list_any (has (written_files earlier)) (footprint action).writes)
+  fault_if (list_any (has (flat_map (λ c. (footprint c.action).writes) earlier)) said.writes)
       (at_line line (codes ": file named twice"))
-  fault_if ((footprint action).loads && nat_le 64 (loads earlier)) (at_line line (codes ": too many loads"))
+  fault_if (said.loads && nat_le 64 (count_by (λ c. (footprint c.action).loads) earlier))
+      (at_line line (codes ": too many loads"))
   Ok tt
 
 -- a script with the command of a line behind the others
@@ -62,7 +63,8 @@ after_line v script line = do
 -- The script that a text stands for over the variables 1 to v, or the fault of the first line that has one, as the
 -- line of the end tells it after the file's name.
 unfoldable pub script_of : ℕ → List ℕ → Result Script (List ℕ)
-script_of v bytes = each_to (after_line v) empty (numbered_lines bytes)
+script_of v bytes = each_to (after_line v) (record { commands = []; names = []; files = [] })
+    (numbered_lines bytes)
 
 -- ---- for the contracts of private functions, and for proofs
 

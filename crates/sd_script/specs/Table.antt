@@ -1,9 +1,11 @@
 -- A script as it is seen, and the command that the words of a line stand for.
-use Rattle.std.specs.Prelude.{ℕ, ◌-◌, true, false, if◌then◌else◌, bytes_eq, codes, Option, Some, None, option_map}
+use Rattle.std.specs.Prelude.{ℕ, ◌-◌, true, false, not, if◌then◌else◌, bytes_eq, codes, Option, Some, None, option_map}
 use Rattle.std.specs.Prelude.{List, [], ◌∷◌, ◌++◌, length, take, drop, map, fold}
 use Rattle.std.specs.List.{list_any, position_or_len}
+use Rattle.std.specs.Bool.{then_some}
 use Rattle.std.specs.Option.{option_and_then}
 use Rattle.sd_base.specs.Numbers.{natural_value, integer_value}
+use Rattle.sd_base.specs.Words.{is_filled}
 use Rattle.sd_model.specs.declared.trees.Move.TheVariants.{RotateLeft, RotateRight, Swap}
 use Rattle.sd_model.specs.declared.trees.Operation.TheVariants.{And, Or, Xor}
 use Rattle.sd_script.specs.declared.command.Action.{Action}
@@ -20,19 +22,11 @@ pub record Script : Type 0 where
   pub names : List Word
   pub files : List Word
 
--- nothing read yet
-abbrev pub empty : Script
-empty = record { commands = []; names = []; files = [] }
-
 -- ---- numbers in first-seen order
 
 -- the distinct words with one more
 unfoldable pub see : List Word → Word → List Word
 see words word = if list_any (bytes_eq word) words then words else words ++ word ∷ []
-
--- the distinct words with more of them, in order
-abbrev pub see_all : List Word → List Word → List Word
-see_all words more = fold see words more
 
 -- the number of a word: its index among the distinct words
 unfoldable pub number_of_word : List Word → Word → ℕ
@@ -40,13 +34,10 @@ number_of_word words word = position_or_len (bytes_eq word) words
 
 -- ---- the parts of a line
 
--- a script with the names and files so far, and the words of a line that are left
-abbrev pub Rest : Type 0
-Rest = Script × List Word
-
--- a part of a line: where it has its form its value, and the rest behind it
+-- a part of a line, over a script with the names and files so far and the words that are left: where they have its
+-- form, its value, and the script and the words behind it
 abbrev pub Part : Type 0 → Type 0
-Part A = Rest → Option (A × Rest)
+Part A = Script × List Word → Option (A × (Script × List Word))
 
 -- a part, and then another by its value
 infixl 10 ◌>>=◌
@@ -77,12 +68,10 @@ file (s, word ∷ words) =
 
 -- 1 to 1,024 names, which are all words but the last, with their numbers
 abbrev pub names : Part (List ℕ)
-names (s, words) =
-    option_map (λ own. (
-      map (number_of_word (see_all s.names own)) own,
-      (record s { names = see_all s.names own }, drop (length words - 1) words),
-    ))
-    (names_of (take (length words - 1) words))
+names (s, words) = let most = length words - 1 in
+    option_map (λ own. let all = fold see s.names own in
+    (map (number_of_word all) own, (record s { names = all }, drop most words)))
+    (names_of (take most words))
 
 -- The table of commands over v variables: what stands behind the first word.
 abbrev pub table : ℕ → Word → Part Action
@@ -111,12 +100,27 @@ table v command =
     else if bytes_eq command (codes "forget") then (do pure (Forget (← name) (← name) (← value variable_of)))
     else (λ rest. None)
 
--- a command behind which no word is left
-abbrev pub whole : Action × Rest → Option (Action × Script)
-whole (action, (s, [])) = Some (action, s)
-whole (action, (s, word ∷ words)) = None
-
--- the command of the words of a line, and the script with its names and files
+-- the command of the words of a line, behind which no word is left, and the script with its names and files
 unfoldable pub command_of : ℕ → Script → List Word → Option (Action × Script)
 command_of v s [] = None
-command_of v s (command ∷ words) = option_and_then whole (table v command (s, words))
+command_of v s (command ∷ words) =
+    option_and_then (λ (action, (seen, left)). then_some (not (is_filled left)) (action, seen))
+    (table v command (s, words))
+
+-- ---- for the contracts of private functions, and for proofs
+
+-- nothing read yet
+abbrev pub empty : Script
+empty = record { commands = []; names = []; files = [] }
+
+-- the distinct words with more of them, in order
+abbrev pub see_all : List Word → List Word → List Word
+see_all words more = fold see words more
+
+-- a script with the names and files so far, and the words of a line that are left
+abbrev pub Rest : Type 0
+Rest = Script × List Word
+
+-- a command behind which no word is left
+abbrev pub whole : Action × Rest → Option (Action × Script)
+whole (action, (s, words)) = then_some (not (is_filled words)) (action, s)
