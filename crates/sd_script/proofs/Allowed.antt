@@ -2,7 +2,7 @@
 use Rattle.std.proofs.Common.{◌≡◌, ℕ, zero, suc, ◌<◌, ◌≤◌, Bool, true, false, not, List, []}
 use Rattle.std.proofs.Common.{◌∷◌, ◌++◌, length, take, refl, ap, subst, sym, ◌∙◌, arith, if◌then◌else◌}
 use Rattle.std.proofs.Common.{Result, Ok, Err}
-use Rattle.std.specs.Prelude.{nat_lt, slice_get, ok_or}
+use Rattle.std.specs.Prelude.{nat_lt, slice_get, ok_or, unsigned_abs}
 use Rattle.std.specs.Prelude.{Option, Some, None}
 use Rattle.std.specs.List.{list_any, list_all, AllByRecursion}
 use Rattle.std.proofs.lemmas.List.{length-map}
@@ -20,6 +20,7 @@ use Rattle.sd_script.specs.Phrases.{numbered_phrase, with_phrase, with_command}
 use Rattle.sd_script.specs.Read.{reads, in_range, IsAllowed, IsScript}
 use Rattle.sd_script.specs.Scripts.{Script, empty, number_of_word, literals_fit, numbers_fit, is_within}
 use Rattle.sd_script.specs.Scripts.{checked, with_line, after_line, after_lines, script_of}
+use Rattle.sd_script.proofs.Ascii.{and_left}
 use Rattle.sd_script.proofs.Bits.{lengths_fit, phrase_fits}
 use Rattle.sd_script.proofs.Seeing.{numbers_within, length_see_least}
 use Rattle.sd_script.proofs.WithLine.{with_line_is}
@@ -112,9 +113,9 @@ files_same q = refl
 ranges : (v : ℕ) (q : Phrase ℕ)
     → literals_fit v (action_of q) ≡ true → numbers_fit v (action_of q) ≡ true → lengths_fit v q ≡ true
     → in_range v (action_of q) ≡ true
-ranges v (p.Lit n literal) l m b = l
-ranges v (p.Given n a literal) l m b = l
-ranges v (p.Forget n a x) l m b = l
+ranges v (p.Lit n literal) l m b = and_left (is_within 1 v (unsigned_abs literal)) true l
+ranges v (p.Given n a literal) l m b = and_left (is_within 1 v (unsigned_abs literal)) true l
+ranges v (p.Forget n a x) l m b = and_left (is_within 1 v (p.variable_from x)) true l
 ranges v (p.Turn kind q) l m b = m
 ranges v (p.Minimise rounds) l m b = m
 ranges v (p.Limit k) l m b = m

@@ -1,5 +1,5 @@
 -- Commands over numbered names and files, and the names that earlier commands leave bound.
-use Rattle.std.specs.Prelude.{ℕ, Bool, true, false, not, ◌==◌, List, [], ◌∷◌, ◌++◌, filter, fold}
+use Rattle.std.specs.Prelude.{ℕ, Bool, true, false, not, ◌==◌, List, [], ◌∷◌, ◌++◌, filter, fold, unsigned_abs}
 use Rattle.std.specs.List.{list_any}
 use Rattle.sd_script.specs.declared.command.Action.{Action}
 use Rattle.sd_script.specs.declared.command.Action.TheVariants.{Input, Load, Lit, Constant, Binary}
@@ -8,31 +8,34 @@ use Rattle.sd_script.specs.declared.command.Action.TheVariants.{Drop, Same}
 use Rattle.sd_script.specs.declared.command.Action.TheVariants.{Size, Value, Write, Vtree}
 use Rattle.sd_script.specs.declared.command.Command.{Command}
 
--- ---- what a command uses, binds, frees and writes
+-- ---- what a command uses, binds, frees and writes, and its variable
 
 -- the footprint of a command: the names that must be bound, the name that must be free and is bound then, the name that
--- is free then, the file that is written, and whether a file is read
+-- is free then, the file that is written, the variable that is named (by a literal, or to be forgotten), and whether a
+-- file is read
 pub record Footprint : Type 0 where
   pub uses : List ℕ
   pub binds : List ℕ
   pub frees : List ℕ
   pub writes : List ℕ
+  pub variables : List ℕ
   pub loads : Bool
 
--- no name and no file
+-- no name, no file and no variable
 abbrev pub none : Footprint
-none = record { uses = []; binds = []; frees = []; writes = []; loads = false }
+none = record { uses = []; binds = []; frees = []; writes = []; variables = []; loads = false }
 
 -- The table of the footprints.
 abbrev pub footprint : Action → Footprint
 footprint (Input n) = record none { binds = n ∷ [] }
 footprint (Load n file) = record none { binds = n ∷ []; loads = true }
-footprint (Lit n literal) = record none { binds = n ∷ [] }
+footprint (Lit n literal) = record none { binds = n ∷ []; variables = unsigned_abs literal ∷ [] }
 footprint (Constant n value) = record none { binds = n ∷ [] }
 footprint (Binary operation n a b) = record none { uses = a ∷ b ∷ []; binds = n ∷ [] }
 footprint (Not n a) = record none { uses = a ∷ []; binds = n ∷ [] }
-footprint (Given n a literal) = record none { uses = a ∷ []; binds = n ∷ [] }
-footprint (Forget n a x) = record none { uses = a ∷ []; binds = n ∷ [] }
+footprint (Given n a literal) =
+    record none { uses = a ∷ []; binds = n ∷ []; variables = unsigned_abs literal ∷ [] }
+footprint (Forget n a x) = record none { uses = a ∷ []; binds = n ∷ []; variables = x ∷ [] }
 footprint (Drop a) = record none { uses = a ∷ []; frees = a ∷ [] }
 footprint (Same a b) = record none { uses = a ∷ b ∷ [] }
 footprint (Size a) = record none { uses = a ∷ [] }

@@ -1,11 +1,11 @@
 -- The commands that the text of a script stands for, or the text of its first fault.
 use Rattle.std.specs.Prelude.{◌≡◌, ℕ, ◌-◌, ◌*◌, Bool, true, not, ◌&&◌, nat_le, nat_lt, if◌then◌else◌}
-use Rattle.std.specs.Prelude.{List, [], ◌∷◌, ◌++◌, codes, flat_map, count_by, ok_or, Result, Ok, Err, unsigned_abs}
+use Rattle.std.specs.Prelude.{List, [], ◌∷◌, ◌++◌, codes, flat_map, count_by, ok_or, Result, Ok, Err}
 use Rattle.std.specs.List.{list_any, list_all}
 use Rattle.sd_base.specs.Lines.{TextLine, numbered_lines, is_content}
 use Rattle.sd_base.specs.Reading.{◌>>=◌, ◌>>◌, fault_if, each_to}
 use Rattle.sd_script.specs.declared.command.Action.{Action}
-use Rattle.sd_script.specs.declared.command.Action.TheVariants.{Lit, Given, Forget, Turn, Minimise, Limit}
+use Rattle.sd_script.specs.declared.command.Action.TheVariants.{Turn, Minimise, Limit}
 use Rattle.sd_script.specs.declared.command.Command.{Command}
 use Rattle.sd_script.specs.declared.fault.ScriptFault.{ScriptFault}
 use Rattle.sd_script.specs.declared.fault.ScriptFault.TheVariants.{OutOfMemory}
@@ -17,13 +17,6 @@ pub use Rattle.sd_script.specs.Table.{Script, empty, see_all}
 unfoldable pub use Rattle.sd_script.specs.Table.{see, number_of_word, command_of}
 
 -- ---- a command after earlier ones, over the variables 1 to v
-
--- a literal is of a variable, and what is forgotten is a variable
-abbrev pub literals_fit : ℕ → Action → Bool
-literals_fit v (Lit n literal) = is_within 1 v (unsigned_abs literal)
-literals_fit v (Given n a literal) = is_within 1 v (unsigned_abs literal)
-literals_fit v (Forget n a x) = is_within 1 v x
-literals_fit v action = true
 
 -- a place is a position of the vtree, there are 1 to 100 rounds, and a limit is 1 to 268,435,456
 abbrev pub numbers_fit : ℕ → Action → Bool
@@ -37,7 +30,7 @@ abbrev pub checked : ℕ → List Command → ℕ → Action → Result (Unit {0
 checked v earlier line action = let said = footprint action in do
   fault_if (not (list_all (has (bound earlier)) said.uses)) (at_line line (codes ": name unknown"))
   fault_if (list_any (has (bound earlier)) said.binds) (at_line line (codes ": name taken"))
-  fault_if (not (literals_fit v action)) (at_line line (codes ": literal out of range"))
+  fault_if (not (list_all (is_within 1 v) said.variables)) (at_line line (codes ": literal out of range"))
   fault_if (not (numbers_fit v action)) (at_line line (codes ": number out of range"))
   fault_if (list_any (has (flat_map (λ c. (footprint c.action).writes) earlier)) said.writes)
       (at_line line (codes ": file named twice"))
@@ -67,6 +60,10 @@ script_of v bytes = each_to (after_line v) (record { commands = []; names = []; 
     (numbered_lines bytes)
 
 -- ---- for the contracts of private functions, and for proofs
+
+-- a literal is of a variable, and what is forgotten is a variable
+abbrev pub literals_fit : ℕ → Action → Bool
+literals_fit v action = list_all (is_within 1 v) (footprint action).variables
 
 -- a script after more lines
 abbrev pub after_lines : ℕ → Script → List TextLine → Result Script (List ℕ)
