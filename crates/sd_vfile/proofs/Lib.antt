@@ -8,7 +8,6 @@ pub mod Accepted
 -- the steps of the reader and of the writer
 pub mod Places
 pub mod Roots
-pub mod OwnFaults
 pub mod Writing
 -- what is written is read back
 pub mod Texts
