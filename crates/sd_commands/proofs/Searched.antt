@@ -1,10 +1,13 @@
 -- The state that the code represents after a search, and why one stops.
-use Rattle.std.proofs.Common.{◌≡◌, ℕ, List, [], ◌∷◌, Option, Some, None, refl, sym, ap, subst, ◌∙◌, inl, inr}
+use Rattle.std.proofs.Common.{◌≡◌, ◌⊎◌, ℕ, suc, ◌<◌, List, [], ◌∷◌, Option, Some, None, refl, sym, ap, subst, ◌∙◌}
+use Rattle.std.proofs.Common.{inl, inr}
 use Rattle.std.specs.Option.{IsSome}
 use Rattle.std.specs.FinMap.{get}
 use Rattle.sd_model.specs.Tree.{Tree, IsVtree}
 use Rattle.sd_model.specs.Diagram.{meaning}
 use Rattle.sd_model.specs.Expression.{Expression}
+use Rattle.sd_model.specs.Size.{HasSize}
+use Rattle.sd_model.specs.declared.trees.Side.{Side}
 use Rattle.sd_vtree.specs.Numbered.{plain_tree, IsNumbered}
 use Rattle.sd_laws.proofs.Codes.{one_diagram}
 use Rattle.sd_cache.specs.Entries.{Answers}
@@ -12,7 +15,9 @@ use Rattle.sd_manager.specs.Table.{Table}
 use Rattle.sd_manager.specs.Marking.{AreUnmarked}
 use Rattle.sd_apply.specs.Serving.{Serves}
 use Rattle.sd_compile.specs.Total.{AreHeldFormulas}
-use Rattle.sd_search.specs.Search.{Found, IsSearch, no_round, last_round, further_round, IsSearchBegun}
+use Rattle.sd_search.specs.Search.{IsRound, round_at_leaf, round_at_node, IsRoundBegun, nothing_done, begun_on_right}
+use Rattle.sd_search.specs.Search.{Found, IsSearch, no_round, last_round, further_round}
+use Rattle.sd_search.specs.Search.{IsSearchBegun, in_round, after_round}
 use Rattle.sd_search.specs.Kept.{KeepsRoots, IsSearchRefusal}
 use Rattle.sd_search.specs.declared.error.SearchError.{SearchError}
 use Rattle.sd_search.specs.declared.error.SearchError.TheVariants as searching
@@ -33,6 +38,42 @@ pub search_valid : {fs : List Expression} {slack rounds : ℕ} {start : Tree} {f
 search_valid valid (no_round size) = valid
 search_valid valid (last_round size round after no_less) = round_valid valid round
 search_valid valid (further_round size round less more) = search_valid (round_valid valid round) more
+
+-- ---- a search that is done has begun
+
+-- so has a round
+round_begun : {fs : List Expression} {slack : ℕ} {start end : Tree} {path : List Side}
+    → IsRound fs slack start path end → IsRoundBegun fs slack start path end
+round_begun (round_at_leaf x at) = nothing_done
+round_begun (round_at_node l r at walk left right) = begun_on_right l r at walk left (round_begun right)
+
+-- a search says the size at its start
+size_before : {fs : List Expression} {slack rounds : ℕ} {start : Tree} {found : Found}
+    → IsSearch fs slack rounds start found → HasSize fs start found.before
+size_before (no_round size) = size
+size_before (last_round size round after no_less) = size
+size_before (further_round size round less more) = size
+
+-- a round that lessens the size, before a search that leaves its tree or has begun
+begun_after : (fs : List Expression) (slack rounds n k : ℕ) (start mid end : Tree) → HasSize fs start n
+    → IsRound fs slack start [] mid → HasSize fs mid k → k < n
+    → (end ≡ mid) ⊎ IsSearchBegun fs slack rounds mid end → IsSearchBegun fs slack (suc rounds) start end
+begun_after fs slack rounds n k start mid end size round after less (inl same) =
+    in_round (subst (λ u. IsRoundBegun fs slack start [] u) (sym same) (round_begun round))
+begun_after fs slack rounds n k start mid end size round after less (inr begun) =
+    after_round size round after less begun
+
+-- and a search of no round leaves its tree
+pub search_begun : {fs : List Expression} {slack rounds : ℕ} {start : Tree} {found : Found}
+    → IsSearch fs slack rounds start found
+    → (found.tree ≡ start) ⊎ IsSearchBegun fs slack rounds start found.tree
+search_begun (no_round size) = inl refl
+search_begun (last_round size round after no_less) = inr (in_round (round_begun round))
+search_begun {fs} {slack} {rounds} {start} (further_round {u} {rounds = r} {n} {found} size round less more) =
+    inr (begun_after fs slack r n found.before start u found.tree size round (size_before more) less
+    (search_begun more))
+
+-- ---- what it leaves
 
 module _ (code : RunState) (t : Table) (cache : Answers) (numbered : IsNumbered code.manager.vtree)
     (kept : KeepsRoots code.manager t) (serves : Serves cache t) (unmarked : AreUnmarked t) where
@@ -108,7 +149,7 @@ module _ (code : RunState) (seen : State) (rounds : ℕ) (numbered : IsNumbered 
       → IsSearchBegun fs code.slack rounds (plain_tree code.manager.vtree) tree)
       → IsSearched seen rounds tree
   begun_of_names tree begun =
-      inl (subst (λ s. IsSearchBegun (formulas_of seen) s rounds seen.tree tree) (sym was.slack)
+      inr (subst (λ s. IsSearchBegun (formulas_of seen) s rounds seen.tree tree) (sym was.slack)
       (subst (λ u. IsSearchBegun (formulas_of seen) code.slack rounds u tree) (sym was.tree)
       (begun (formulas_of seen) (held_formulas code seen numbered was))))
 
@@ -117,7 +158,7 @@ module _ (code : RunState) (seen : State) (rounds : ℕ) (numbered : IsNumbered 
       → ((fs : List Expression) → AreHeldFormulas code.manager fs
       → IsSearch fs code.slack rounds (plain_tree code.manager.vtree) found)
       → IsSearched seen rounds found.tree
-  found_of_names found search = inr (found, of_names found search, refl)
+  found_of_names found search = search_begun (of_names found search)
 
   -- and the command is done
   pub search_done : (input : Groups) (new : RunState) (found : Found) (line : List ℕ)

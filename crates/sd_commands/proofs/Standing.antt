@@ -14,7 +14,7 @@ use Rattle.std.specs.Ordering.{nat_cmp}
 use Rattle.sd_runs.proofs.Maps.{get_insert_same, get_insert_other, get_remove_same, get_remove_other, same_at_each}
 use Rattle.sd_model.specs.Expression.{Expression, Constant}
 use Rattle.sd_model.specs.Size.{IsDiagramOf}
-use Rattle.sd_model.specs.Tree.{AreDistinct}
+use Rattle.sd_model.specs.Tree.{Tree, AreDistinct}
 use Rattle.sd_vtree.specs.Numbered.{Numbered, plain_tree}
 use Rattle.sd_cache.specs.Entries.{Answers, no_answers}
 use Rattle.sd_manager.specs.Table.{Table, no_table}
@@ -688,6 +688,13 @@ input_left input None old new seen was left =
     (same.0, inl (record { done = 0; most = omega arith; course = same.1 }))
 input_left input (Some every) old new seen was left = (left.represents seen was, left.grown seen was)
 
+-- the tree that it leaves, by the groups that were done
+grown_tree : (input : Groups) (seen : State) (name : ℕ) (tree : Tree)
+    → IsGrown input seen tree ⊎ IsGrowthBroken input seen tree → IsTreeLeft input seen (commands.Input name) tree
+grown_tree input seen name tree (inl grown) = (grown.done, tree, grown.course, inl (grown.most, refl))
+grown_tree input seen name tree (inr broken) =
+    (broken.done, broken.before, broken.course, inr (broken.most, broken.due, broken.within, broken.begun))
+
 -- what a command that stops leaves is told by its tree
 pub left_state : (input : Groups) (command : RunCommand) (old new : RunState) (seen : State) → Represents old seen
     → IsLeft input command old new
@@ -695,7 +702,9 @@ pub left_state : (input : Groups) (command : RunCommand) (old new : RunState) (s
     × IsTreeLeft input seen command (plain_tree new.manager.vtree)
 left_state input (commands.Minimise rounds) old new seen was left = (left.represents seen was, left.searched seen was)
 left_state input (commands.Generated v g) old new seen was left = as_it_was old new seen was left
-left_state input (commands.Input n) old new seen was left = input_left input old.every old new seen was left
+left_state input (commands.Input n) old new seen was left =
+    let now = input_left input old.every old new seen was left in
+    (now.0, grown_tree input seen n (plain_tree new.manager.vtree) now.1)
 left_state input (commands.Load n file) old new seen was left = as_it_was old new seen was left
 left_state input (commands.Literal n literal) old new seen was left = as_it_was old new seen was left
 left_state input (commands.Constant n value) old new seen was left = as_it_was old new seen was left

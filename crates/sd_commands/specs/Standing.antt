@@ -1,5 +1,5 @@
 -- How the code represents a state of a run, and what a command leaves.
-use Rattle.std.specs.Prelude.{◌≡◌, ◌⊎◌, ℕ, suc, ◌≤◌, true, List, []}
+use Rattle.std.specs.Prelude.{◌≡◌, ◌⊎◌, ℕ, suc, ◌<◌, ◌≤◌, true, List, []}
 use Rattle.std.specs.Prelude.{◌∷◌, map, length, Option, Some, None, Result, Ok, Err}
 use Rattle.std.specs.Option.{IsSome}
 use Rattle.std.specs.declared.alloc.AllocError.{AllocError}
@@ -26,7 +26,7 @@ use Rattle.sd_move.specs.declared.error.MoveError.{MoveError}
 use Rattle.sd_move.specs.declared.error.MoveError.TheVariants as moving
 use Rattle.sd_runs.specs.declared.error.TakeError.{TakeError}
 use Rattle.sd_runs.specs.declared.error.TakeError.TheVariants as taking
-use Rattle.sd_search.specs.Search.{Found, IsSearch, IsSearchBegun}
+use Rattle.sd_search.specs.Search.{IsSearchBegun}
 use Rattle.sd_search.specs.declared.error.SearchError.{SearchError}
 use Rattle.sd_search.specs.declared.error.SearchError.TheVariants as searching
 use Rattle.sd_commands.specs.Commands.{State, Done, OverLimit, NotMovable, Step, MayFill, named, formulas_of}
@@ -38,6 +38,24 @@ use Rattle.sd_commands.specs.declared.command.Effect.TheVariants.{WriteFile, Pri
 use Rattle.sd_commands.specs.declared.error.CommandError.{CommandError}
 use Rattle.sd_commands.specs.declared.error.CommandError.TheVariants as errors
 use Rattle.sd_commands.specs.declared.state.RunState.{RunState}
+
+-- ---- what a command leaves where the arena is full
+
+-- The tree that a command leaves where it stops: that of the state, but at a search the one after the walks that were
+-- done, and at an input the one to which some of its groups lead, or, where the search behind the next group is due and
+-- the size with it is within the limit, the one after the walks of that search that were done.
+abbrev pub IsTreeLeft : Groups → State → RunCommand → Tree → Type 0
+IsTreeLeft input state (commands.Minimise rounds) tree =
+    (tree ≡ state.tree) ⊎ IsSearchBegun (formulas_of state) state.slack rounds state.tree tree
+IsTreeLeft input state (commands.Input name) tree =
+    (done : ℕ) × (before : Tree) × Grows input state done before
+    × (((done ≤ length input.groups) × (tree ≡ before))
+    ⊎ ((done < length input.groups) × (is_due state.every (suc done) ≡ true)
+    × AreWithin (with_groups input state (suc done)) before state.limit
+    × IsSearchBegun (with_groups input state (suc done)) state.slack 1 before tree))
+IsTreeLeft input state command tree = tree ≡ state.tree
+
+-- ---- for the contracts of this crate's functions, and for proofs
 
 -- no name is bound
 abbrev pub start : Tree → ℕ → ℕ → Option ℕ → State
@@ -98,11 +116,10 @@ pub record IsAsBefore (old new : RunState) : Type 0 where
   pub holds : (root : ℕ) (d : Diagram) → HoldsDiagram old.manager root d → HoldsDiagram new.manager root d
   pub roots : new.manager.roots ≡ old.manager.roots
 
--- the tree after a search, or after the walks that were finished of one that was broken off
+-- the tree that a search leaves where it stops
 abbrev pub IsSearched : State → ℕ → Tree → Type 0
 IsSearched state rounds tree =
-    IsSearchBegun (formulas_of state) state.slack rounds state.tree tree
-    ⊎ ((found : Found) × IsSearch (formulas_of state) state.slack rounds state.tree found × (tree ≡ found.tree))
+    (tree ≡ state.tree) ⊎ IsSearchBegun (formulas_of state) state.slack rounds state.tree tree
 
 -- some groups of the input lead to this tree
 pub record IsGrown (input : Groups) (state : State) (tree : Tree) : Type 0 where
@@ -120,13 +137,6 @@ pub record IsGrowthBroken (input : Groups) (state : State) (tree : Tree) : Type 
   pub within : AreWithin (with_groups input state (suc done)) before state.limit
   pub due : is_due state.every (suc done) ≡ true
   pub begun : IsSearchBegun (with_groups input state (suc done)) state.slack 1 before tree
-
--- The tree that a command leaves where it stops: that of the state, but for a search, and for the searches behind
--- groups of the input.
-abbrev pub IsTreeLeft : Groups → State → RunCommand → Tree → Type 0
-IsTreeLeft input state (commands.Minimise rounds) tree = IsSearched state rounds tree
-IsTreeLeft input state (commands.Input name) tree = IsGrown input state tree ⊎ IsGrowthBroken input state tree
-IsTreeLeft input state command tree = tree ≡ state.tree
 
 -- What a search that stops leaves: the code represents each state that it did over the tree after the walks that were
 -- finished, and each root keeps its node.
