@@ -99,7 +99,7 @@ def reach(module, name, seen):
 
 
 def follow(text, module, file, seen):
-    for word in NAME.findall(text):
+    for word in NAME.findall(re.sub(r'"[^"]*"', '""', text)):
         first, _, rest = word.partition(".")
         if rest and first in file.modules:
             reach(file.modules[first], rest.split(".")[0], seen)
