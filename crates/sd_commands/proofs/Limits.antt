@@ -11,7 +11,7 @@ use Rattle.sd_formula.specs.Dimacs.{Groups}
 use Rattle.sd_vtree.specs.Numbered.{plain_tree, IsNumbered}
 use Rattle.sd_laws.proofs.Codes.{one_diagram}
 use Rattle.sd_manager.specs.Table.{Table}
-use Rattle.sd_manager.specs.Shown.{ShowsCanonical}
+use Rattle.sd_manager.specs.Shown.{Shows, ShowsCanonical}
 use Rattle.sd_compile.specs.Compiling.{prefix_of, AreWithinLimit, IsFormulaRefused}
 use Rattle.sd_compile.specs.Compiling.{IsHoldRefused}
 use Rattle.sd_compile.specs.Total.{HasTotalWith, IsWithinLimit, IsHeldFormula, AreHeldFormulas}
@@ -28,7 +28,7 @@ use Rattle.sd_commands.specs.Standing.{error_of_compiling}
 use Rattle.sd_commands.specs.declared.command.RunCommand.TheVariants.{Input}
 use Rattle.sd_commands.specs.declared.state.RunState.{RunState}
 use Rattle.sd_commands.proofs.Names.{formula_named_by, named_formula}
-use Rattle.sd_commands.proofs.Standing.{bound_root, root_bound}
+use Rattle.sd_commands.proofs.Standing.{shown_canonical, bound_root, root_bound}
 
 -- ---- the bound names' formulas are what roots hold
 
@@ -36,7 +36,7 @@ use Rattle.sd_commands.proofs.Standing.{bound_root, root_bound}
 held_formula : (t : Table) (root : ℕ) (f : Expression) → HoldsValue t root f → IsHeldFormula t f
 held_formula t root f holds = record {
   diagram = holds.diagram;
-  held = record { root = root; code = holds.is.code; held = holds.is.held; is = holds.is.is };
+  held = record { root = root; code = holds.code; held = holds.held; is = shown_canonical t root f holds };
   of_formula = holds.of_value;
 }
 
@@ -44,10 +44,10 @@ held_formula t root f holds = record {
 held_diagram : (t : Table) (root code : ℕ) (f : Expression) (d : Diagram) → IsNumbered t.vtree → HoldsValue t root f
     → get t.roots root ≡ Some code → ShowsCanonical t code d → IsDiagramOf (plain_tree t.vtree) f d
 held_diagram t root code f d numbered holds held is =
-    let same : holds.is.code ≡ code = same_Some holds.is.code code (sym holds.is.held ∙ held) in
+    let same : holds.code ≡ code = same_Some holds.code code (sym holds.held ∙ held) in
     let one : holds.diagram ≡ d =
     one_diagram t.vtree (get t.linked) numbered holds.diagram code d
-    (subst (λ c. ShowsCanonical t c holds.diagram) same holds.is.is).shows is.shows in
+    (subst (λ c. Shows t c holds.diagram) same holds.shows) is.shows in
     subst (IsDiagramOf (plain_tree t.vtree) f) one holds.of_value
 
 pub held_formulas : (code : RunState) (seen : State) → IsNumbered code.manager.vtree → Represents code seen

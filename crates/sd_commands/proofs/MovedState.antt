@@ -40,7 +40,7 @@ use Rattle.sd_commands.specs.declared.command.RunCommand.TheVariants as commands
 use Rattle.sd_commands.specs.declared.state.RunState.{RunState}
 use Rattle.sd_commands.proofs.Limits.{held_formulas}
 use Rattle.sd_commands.proofs.Moved.{IsReordered, vtree_reordered, move_reordered}
-use Rattle.sd_commands.proofs.Standing.{as_before_kept}
+use Rattle.sd_commands.proofs.Standing.{as_before_kept, shown_canonical}
 
 -- ---- the size of formulas whose diagrams are those of a list
 
@@ -132,18 +132,21 @@ module _ (code : RunState) (mid new : Table) (kind : Move) (place : ℕ) (j : Jo
   -- a root holds its formula still
   value_moved : (root : ℕ) (f : Expression) → HoldsValue code.manager root f → HoldsValue new root f
   value_moved root f h =
-      let held : get mid.roots root ≡ Some h.is.code = ap (λ r. get r root) m.roots ∙ h.is.held in
-      let shown = u.held m.no_move root h.is.code held in
+      let held : get mid.roots root ≡ Some h.code = ap (λ r. get r root) m.roots ∙ h.held in
+      let shown = u.held m.no_move root h.code held in
       subst (λ s. HoldsValue s root f) (sym settled.same)
       (record {
+        code = h.code;
+        held = held;
         diagram = shown.diagram;
-        is = record { code = h.is.code; held = held; is = shown.is };
+        shows = shown.is.shows;
         of_value = record {
           canonical = shown.is.canonical;
           same_value = λ a fits.
-              value_of_shown mid.vtree (get mid.linked) u.numbered h.is.code shown.diagram shown.is a
-              ∙ value_then code.manager mid kind place j t u m h.is.code
-              (λ n is. reached_first (inl (root, h.is.held ∙ ap Some is))) h.diagram h.is.is a
+              value_of_shown mid.vtree (get mid.linked) u.numbered h.code shown.diagram shown.is a
+              ∙ value_then code.manager mid kind place j t u m h.code
+              (λ n is. reached_first (inl (root, h.held ∙ ap Some is))) h.diagram
+              (shown_canonical code.manager root f h) a
               ∙ h.of_value.same_value a (fits ∙ count);
         };
       })

@@ -80,16 +80,14 @@ module _ (code : RunState) (t : Table) (cache : Answers) (numbered : IsNumbered 
   -- a root holds its formula still
   value_searched : (root : ℕ) (f : Expression) → HoldsValue code.manager root f → HoldsValue t root f
   value_searched root f h =
-      let stays = kept.functions root h.is.code h.is.held in
-      let one = one_diagram code.manager.vtree (get code.manager.linked) numbered stays.before h.is.code h.diagram
-      stays.shown.shows h.is.is.shows in
+      let stays = kept.functions root h.code h.held in
+      let one = one_diagram code.manager.vtree (get code.manager.linked) numbered stays.before h.code h.diagram
+      stays.shown.shows h.shows in
       record {
+        code = h.code;
+        held = ap (λ r. get r root) kept.roots ∙ h.held;
         diagram = stays.after;
-        is = record {
-          code = h.is.code;
-          held = ap (λ r. get r root) kept.roots ∙ h.is.held;
-          is = stays.shown_now;
-        };
+        shows = stays.shown_now.shows;
         of_value = record {
           canonical = stays.shown_now.canonical;
           same_value = λ a fits.

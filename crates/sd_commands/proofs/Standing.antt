@@ -26,7 +26,7 @@ use Rattle.sd_apply.proofs.Tried.{empty_serves}
 use Rattle.sd_commands.specs.Commands.{State, named, with_name, dropped, formula_named}
 use Rattle.sd_commands.specs.Standing.{Represents, IsOfName, HoldsName, HoldsValue, ShowsFormula, start, names_of}
 use Rattle.sd_formula.specs.Dimacs.{Groups}
-use Rattle.sd_commands.specs.Standing.{IsAsBefore, HoldsState, IsFree, IsLeft, IsTreeLeft, without, removed}
+use Rattle.sd_commands.specs.Standing.{IsAsBefore, HoldsNames, IsFree, IsLeft, IsTreeLeft, without, removed}
 use Rattle.sd_commands.specs.Standing.{IsLeftByInput, IsGrown, IsGrowthBroken}
 use Rattle.sd_commands.specs.declared.command.RunCommand.{RunCommand}
 use Rattle.sd_commands.specs.declared.command.RunCommand.TheVariants as commands
@@ -76,7 +76,7 @@ held_node t None v root holds is = absurd cc
 held_node t (Some r) None root holds is = absurd holds
 held_node t (Some r) (Some value) root holds is =
     let same : r ≡ root = cc in
-    subst (λ n. IsSome (get t.roots n)) same (subst (λ o. IsSome o) (sym holds.is.held) refl)
+    subst (λ n. IsSome (get t.roots n)) same (subst (λ o. IsSome o) (sym holds.held) refl)
 
 -- the root of a name holds its formula
 held_value : (t : Table) (r : Option ℕ) (v : Option Expression) (root : ℕ) → HoldsName t r v → r ≡ Some root
@@ -104,14 +104,25 @@ not_named code seen name was free = neither _ _ (was.holds name) free
     neither None (Some value) holds is = absurd holds
     neither (Some r) v holds is = absurd cc
 
+-- the code of a root shows a canonical diagram
+pub shown_canonical : (t : Table) (root : ℕ) (f : Expression) (holds : HoldsValue t root f)
+    → ShowsCanonical t holds.code holds.diagram
+shown_canonical t root f holds = record { shows = holds.shows; canonical = holds.of_value.canonical }
+
+-- and the root holds it
+pub diagram_held : (t : Table) (root : ℕ) (f : Expression) (holds : HoldsValue t root f)
+    → HoldsDiagram t root holds.diagram
+diagram_held t root f holds =
+    record { code = holds.code; held = holds.held; is = shown_canonical t root f holds }
+
 -- the node of a root shows the formula that is held
 pub shows_held : (t : Table) (root node : ℕ) (f : Expression) → HoldsValue t root f → get t.roots root ≡ Some node
     → ShowsFormula t node f
 shows_held t root node f holds is =
-    let same : holds.is.code ≡ node = let e = holds.is.held in cc in
+    let same : holds.code ≡ node = let e = holds.held in cc in
     record {
       diagram = holds.diagram;
-      is = subst (λ n. ShowsCanonical t n holds.diagram) same holds.is.is;
+      is = subst (λ n. ShowsCanonical t n holds.diagram) same (shown_canonical t root f holds);
       of_value = holds.of_value;
     }
 
@@ -125,8 +136,10 @@ holds_with_roots t roots None None same holds = tt
 holds_with_roots t roots None (Some value) same holds = absurd holds
 holds_with_roots t roots (Some r) None same holds = absurd holds
 holds_with_roots t roots (Some r) (Some value) same holds = record {
+  code = holds.code;
+  held = same r refl ∙ holds.held;
   diagram = holds.diagram;
-  is = record { code = holds.is.code; held = same r refl ∙ holds.is.held; is = holds.is.is };
+  shows = holds.shows;
   of_value = holds.of_value;
 }
 
@@ -321,8 +334,10 @@ stands_bound code new seen name node root f was shows absent free is same_cache 
 
     held : HoldsValue (with_root code.manager root node) root f
     held = record {
+      code = node;
+      held = get_insert_same code.manager.roots root node;
       diagram = shows.diagram;
-      is = record { code = node; held = get_insert_same code.manager.roots root node; is = shows.is };
+      shows = shows.is.shows;
       of_value = shows.of_value;
     }
 
@@ -366,8 +381,10 @@ pub newly_holds : (old new : Table) (root node : ℕ) (f : Expression) → new �
 newly_holds old new root node f is shows =
     subst (λ t. HoldsValue t root f) (sym is)
     (record {
+      code = node;
+      held = get_insert_same old.roots root node;
       diagram = shows.diagram;
-      is = record { code = node; held = get_insert_same old.roots root node; is = shows.is };
+      shows = shows.is.shows;
       of_value = shows.of_value;
     })
 
@@ -392,13 +409,13 @@ pub stands_named : (code new : RunState) (seen : State) (name root : ℕ) (f : E
     ≡ cond (is_at (nat_cmp name) q) (Some root) (maps.get nat_cmp code.names q))
     → Represents new (with_name seen name f)
 stands_named code new seen name root f was holds free is same_cache same_limit same_slack same_every names =
-    stands_bound (without code root) new seen name holds.is.code root f was
+    stands_bound (without code root) new seen name holds.code root f was
     (record {
       diagram = holds.diagram;
-      is = record { shows = holds.is.is.shows; canonical = holds.is.is.canonical };
+      is = record { shows = holds.shows; canonical = holds.of_value.canonical };
       of_value = holds.of_value;
     })
-    (get_remove_same code.manager.roots root) free (is ∙ restored code.manager root holds.is.code holds.is.held)
+    (get_remove_same code.manager.roots root) free (is ∙ restored code.manager root holds.code holds.held)
     same_cache same_limit same_slack same_every names
 
 -- no root more
@@ -409,7 +426,7 @@ no_root_more old new root is =
 
 -- a root that holds a formula is there
 pub value_held : (t : Table) (root : ℕ) (f : Expression) → HoldsValue t root f → IsSome (get t.roots root)
-value_held t root f holds = subst (λ o. IsSome o) (sym holds.is.held) refl
+value_held t root f holds = subst (λ o. IsSome o) (sym holds.held) refl
 
 -- ---- one name less
 
@@ -475,11 +492,15 @@ holds_kept : (old new : Table) (r : Option ℕ) (v : Option Expression) → Keep
 holds_kept old new None None kept holds = tt
 holds_kept old new None (Some value) kept holds = absurd holds
 holds_kept old new (Some r) None kept holds = absurd holds
-holds_kept old new (Some r) (Some value) kept holds = record {
-  diagram = holds.diagram;
-  is = kept.holds r holds.diagram holds.is;
-  of_value = subst (λ v. IsDiagramOf (plain_tree v) value holds.diagram) (sym kept.reached.vtree) holds.of_value;
-}
+holds_kept old new (Some r) (Some value) kept holds =
+    let now = kept.holds r holds.diagram (diagram_held old r value holds) in
+    record {
+      code = now.code;
+      held = now.held;
+      diagram = holds.diagram;
+      shows = now.is.shows;
+      of_value = subst (λ v. IsDiagramOf (plain_tree v) value holds.diagram) (sym kept.reached.vtree) holds.of_value;
+    }
 
 -- the code represents the state in a later table, whatever the next sweep waits for
 pub stands_swept : (code : RunState) (t : Table) (cache : Answers) (most : ℕ) (seen : State) → Represents code seen
@@ -634,8 +655,10 @@ as_before_compiled code t cache root absent kept serves unmarked =
 -- the root holds the formula
 pub holds_compiled : (t : Table) (root : ℕ) (f : Expression) → HoldsFormula t f root → HoldsValue t root f
 holds_compiled t root f h = record {
+  code = h.code;
+  held = h.held;
   diagram = h.shown.diagram;
-  is = record { code = h.code; held = h.held; is = h.shown.is };
+  shows = h.shown.is.shows;
   of_value = record { canonical = h.shown.is.canonical; same_value = λ a fits. h.shown.value a };
 }
 
@@ -658,10 +681,9 @@ root_bound t (Some n) None root holds is = absurd holds
 root_bound t (Some n) (Some value) root holds is =
     let same : n ≡ root = cc in (value, refl, subst (λ k. HoldsValue t k value) same holds)
 
--- the manager of a code that represents a state holds that state
-pub holds_state : (code : RunState) (seen : State) → Represents code seen → HoldsState code.manager seen
-holds_state code seen was = record {
-  tree = was.tree;
+-- the manager of a code that represents a state holds what its names stand for
+pub holds_names : (code : RunState) (seen : State) → Represents code seen → HoldsNames code.manager seen.names
+holds_names code seen was = record {
   each = λ name f is. bound_root code.manager _ _ f (was.holds name) is;
   only = λ root held.
       let had = was.only root held in

@@ -23,6 +23,7 @@ use Rattle.sd_apply.specs.Answers.{HasAnswer, Combines, Negates}
 use Rattle.sd_cond.specs.Answers.{Conditions, Forgets}
 use Rattle.sd_commands.specs.Commands.{State, IsTextOf, formula_named, told_line, value_line}
 use Rattle.sd_commands.specs.Standing.{HoldsValue, ShowsFormula, ShowsNamed}
+use Rattle.sd_commands.proofs.Standing.{diagram_held}
 
 -- a node that shows a formula is a node of the manager
 pub value_node : (t : Table) (c : ℕ) (f : Expression) → ShowsFormula t c f → IsNodeOf t c
@@ -156,7 +157,7 @@ pub compared : (t : Table) (tree : Tree) (r s : ℕ) (f g : Expression) (answer 
     → length assignment ≡ leaves (plain_tree t.vtree) → meaning x assignment ≡ meaning y assignment))
     → (answer ≡ true) ↔ AreOneFunction (leaves tree) f g
 compared t tree r s f g answer same p q says =
-    let iff = says p.diagram q.diagram p.is q.is in
+    let iff = says p.diagram q.diagram (diagram_held t r f p) (diagram_held t s g q) in
     subst (λ u. (answer ≡ true) ↔ AreOneFunction (leaves u) f g) (sym same) (
       λ is a fits. sym (p.of_value.same_value a fits) ∙ iff.0 is a fits ∙ q.of_value.same_value a fits,
       λ one. iff.1 (λ a fits. p.of_value.same_value a fits ∙ one a fits ∙ sym (q.of_value.same_value a fits)),
@@ -172,7 +173,7 @@ value_told false = refl
 pub evaluated : (t : Table) (root : ℕ) (f : Expression) (bits : List Bool) (value : Bool)
     → length bits ≡ leaves (plain_tree t.vtree) → HoldsValue t root f
     → ((d : Diagram) → HoldsDiagram t root d → value ≡ meaning d bits) → value ≡ expression_value f bits
-evaluated t root f bits value fits h is = is h.diagram h.is ∙ h.of_value.same_value bits fits
+evaluated t root f bits value fits h is = is h.diagram (diagram_held t root f h) ∙ h.of_value.same_value bits fits
 
 -- the size of a root
 pub sized : (t : Table) (tree : Tree) (root : ℕ) (f : Expression) (n : ℕ) → tree ≡ plain_tree t.vtree
@@ -180,7 +181,7 @@ pub sized : (t : Table) (tree : Tree) (root : ℕ) (f : Expression) (n : ℕ) �
 sized t tree root f n same h is = record {
   diagrams = h.diagram ∷ [];
   each = (of_tree t tree root f same h, tt);
-  size = sym (is h.diagram h.is);
+  size = sym (is h.diagram (diagram_held t root f h));
 }
 
 -- the nodes of names show the diagrams of their formulas, for an equal tree

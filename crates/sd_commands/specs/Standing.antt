@@ -12,6 +12,7 @@ use Rattle.sd_model.specs.Expression.{Expression}
 use Rattle.sd_model.specs.Size.{IsDiagramOf}
 use Rattle.sd_formula.specs.Dimacs.{Groups}
 use Rattle.sd_vtree.specs.Numbered.{plain_tree}
+use Rattle.sd_laws.specs.Shown.{Shows}
 use Rattle.sd_manager.specs.Table.{Table}
 use Rattle.sd_manager.specs.Shown.{ShowsCanonical, HoldsDiagram}
 use Rattle.sd_manager.specs.Making.{IsPastBound, without_root}
@@ -39,6 +40,10 @@ use Rattle.sd_commands.specs.declared.error.CommandError.{CommandError}
 use Rattle.sd_commands.specs.declared.error.CommandError.TheVariants as errors
 use Rattle.sd_commands.specs.declared.state.RunState.{RunState}
 
+-- no name is bound
+abbrev pub start : Tree → ℕ → ℕ → Option ℕ → State
+start tree limit slack every = record { names = []; tree = tree; limit = limit; slack = slack; every = every }
+
 -- ---- what a command leaves where the arena is full
 
 -- The tree that a command leaves where it stops: that of the state, but at a search the one after the walks that were
@@ -55,11 +60,21 @@ IsTreeLeft input state (commands.Input name) tree =
     × IsSearchBegun (with_groups input state (suc done)) state.slack 1 before tree))
 IsTreeLeft input state command tree = tree ≡ state.tree
 
--- ---- for the contracts of this crate's functions, and for proofs
+-- the root holds a code that shows the canonical diagram of a formula
+pub record HoldsValue (t : Table) (root : ℕ) (value : Expression) : Type 0 where
+  pub code : ℕ
+  pub held : get t.roots root ≡ Some code
+  pub diagram : Diagram
+  pub shows : Shows t.vtree (get t.linked) code diagram
+  pub of_value : IsDiagramOf (plain_tree t.vtree) value diagram
 
--- no name is bound
-abbrev pub start : Tree → ℕ → ℕ → Option ℕ → State
-start tree limit slack every = record { names = []; tree = tree; limit = limit; slack = slack; every = every }
+-- for each bound name a root holds its formula, and each root that is held holds that of a bound name
+pub record HoldsNames (t : Table) (names : List (ℕ × Expression)) : Type 0 where
+  pub each : (name : ℕ) (f : Expression) → named names name ≡ Some f → (root : ℕ) × HoldsValue t root f
+  pub only : (root : ℕ) → IsSome (get t.roots root)
+      → (name : ℕ) × (f : Expression) × (named names name ≡ Some f) × HoldsValue t root f
+
+-- ---- for the contracts of this crate's functions, and for proofs
 
 -- the bound names
 abbrev pub names_of : State → List ℕ
@@ -74,12 +89,6 @@ pub record ShowsFormula (t : Table) (node : ℕ) (value : Expression) : Type 0 w
 -- the node shows the canonical diagram of a bound name's formula
 abbrev pub ShowsNamed : Table → State → ℕ → ℕ → Type 0
 ShowsNamed t state name node = ShowsFormula t node (formula_named state name)
-
--- the root holds the canonical diagram of a formula
-pub record HoldsValue (t : Table) (root : ℕ) (value : Expression) : Type 0 where
-  pub diagram : Diagram
-  pub is : HoldsDiagram t root diagram
-  pub of_value : IsDiagramOf (plain_tree t.vtree) value diagram
 
 -- a name has a root exactly where it is bound, and that root holds its formula
 abbrev pub HoldsName : Table → Option ℕ → Option Expression → Type 0
@@ -165,14 +174,6 @@ abbrev pub IsLeft : Groups → RunCommand → RunState → RunState → Type 0
 IsLeft input (commands.Minimise rounds) old new = IsLeftBySearch rounds old new
 IsLeft input (commands.Input name) old new = IsLeftByInput old.every input old new
 IsLeft input command old new = IsAsBefore old new
-
--- The manager holds what the names of the state stand for: its vtree is the state's tree, for each bound name a root
--- holds its formula, and each root that is held holds that of a bound name.
-pub record HoldsState (t : Table) (state : State) : Type 0 where
-  pub tree : state.tree ≡ plain_tree t.vtree
-  pub each : (name : ℕ) (f : Expression) → named state.names name ≡ Some f → (root : ℕ) × HoldsValue t root f
-  pub only : (root : ℕ) → IsSome (get t.roots root) → (name : ℕ) × (f : Expression)
-      × (named state.names name ≡ Some f) × HoldsValue t root f
 
 -- the roots without this one, if there is one
 abbrev pub removed : FinMap nat_cmp ℕ → Option ℕ → FinMap nat_cmp ℕ

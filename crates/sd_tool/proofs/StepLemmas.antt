@@ -14,7 +14,7 @@ use Rattle.sd_commands.specs.Commands.{State, Done, OverLimit as PassesLimit, No
 use Rattle.sd_commands.specs.Commands.{MayFill}
 use Rattle.sd_commands.specs.Fits.{AllFit}
 use Rattle.sd_vtree.specs.Numbered.{plain_tree}
-use Rattle.sd_commands.specs.Standing.{Represents, StepsTo, StopsAt, IsFilled, HoldsState, IsTreeLeft}
+use Rattle.sd_commands.specs.Standing.{Represents, StepsTo, StopsAt, IsFilled, HoldsNames, IsTreeLeft}
 use Rattle.sd_commands.specs.Standing.{effects_of, names_of}
 use Rattle.sd_commands.specs.declared.command.Effect.{Effect as CodeEffect}
 use Rattle.sd_commands.specs.declared.command.NumberedCommand.{NumberedCommand}
@@ -22,7 +22,7 @@ use Rattle.sd_commands.specs.declared.error.CommandError.{CommandError}
 use Rattle.sd_commands.specs.declared.error.CommandError.TheVariants as errors
 use Rattle.sd_commands.specs.declared.state.RunState.{RunState}
 use Rattle.sd_commands.proofs.Outcomes.{names_after}
-use Rattle.sd_commands.proofs.Standing.{holds_state}
+use Rattle.sd_commands.proofs.Standing.{holds_names}
 use Rattle.sd_tool.specs.Effects.{Contents, after_effect, DoesPart}
 use Rattle.sd_tool.specs.Course.{request_of}
 use Rattle.sd_tool.specs.inside.Plans.{Plan}
@@ -189,7 +189,7 @@ goes_to_full : {asks : List Request → Type 0} (plan : Plan) (v index : ℕ) (c
     (before after_ : Faults) (command : NumberedCommand) (n : ℕ) → IsNext plan.commands index command
     → (so_far : SoFar asks plan v index code old now) → MayFill command.command → IsFilled n t
     → IsTreeLeft plan.input so_far.state command.command (plain_tree t.vtree)
-    → HoldsState t (record so_far.state { tree = plain_tree t.vtree })
+    → HoldsNames t so_far.state.names
     → RunsToEnd asks plan t (Err (ArenaFull n)) old now before after_
 goes_to_full plan v index code t old now before after_ command n next so_far needs filled left holds = record {
   end = NoRoom n;
@@ -282,7 +282,7 @@ goes_to_stop {asks = asks} plan v index code new old now before after_ command e
         goes_to_unmoved plan v index code new.manager old now before after_ command next so_far stops
     go (errors.ArenaFull n) stops =
         goes_to_full plan v index code new.manager old now before after_ command n next so_far stops.0 stops.1
-        same.1 (holds_state new (record so_far.state { tree = plain_tree new.manager.vtree }) same.0)
+        same.1 (holds_names new (record so_far.state { tree = plain_tree new.manager.vtree }) same.0)
     go errors.OutOfMemory stops =
         goes_to_out_of_memory plan v index code new.manager old now before after_ command next so_far
 

@@ -227,8 +227,8 @@ module _ (words : List (List ℕ)) (status : ℕ) (kept : Option Table) (seen : 
       let full = kept_full p.0 effects n kept p.3 in
       let at = full.holds in
       by_commands (ArenaFull n) p.0 at.state (at.next ∷ at.at.left) [] p.1 at.at.reaches at.needs
-      (sym (append-nil (writings effects))) is leaves reason (full.manager, full.is, full.filled, at.left, at.holds)
-      line
+      (sym (append-nil (writings effects))) is leaves reason
+      (full.manager, full.is, full.filled.whole, full.filled.rule, at.left, at.holds) line
   by_end (OverLimit l g n k) (inr p) is leaves reason line =
       by_commands (OverLimit l g n k) p.0 p.2.0 (p.2.1 ∷ p.2.2.left) [] p.1 p.2.2.reaches (sym p.2.3, p.2.4)
       (sym (append-nil (writings effects))) is leaves reason p.3 line
@@ -493,14 +493,14 @@ module _ (asks : List Request → Type 0) (words : List (List ℕ)) (files : Opt
         led,
         (state, next, record { left = left; reaches = back.reaches }, ends),
         subst (KeepsOf back.plan (all_of effects) (ArenaFull n)) (sym keeps.1) (
-          keeps.2,
+          record { whole = keeps.2; rule = keeps.3 },
           record {
             state = state;
             next = next;
             at = record { left = left; reaches = back.reaches };
             needs = ends;
-            left = subst (λ (i : Groups). IsTreeLeft i state next.command (plain_tree keeps.0.vtree)) back.same keeps.3;
-            holds = keeps.4;
+            left = subst (λ (i : Groups). IsTreeLeft i state next.command (plain_tree keeps.0.vtree)) back.same keeps.4;
+            holds = keeps.5;
           },
         ),
       )

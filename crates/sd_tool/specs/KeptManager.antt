@@ -2,18 +2,19 @@
 use Rattle.std.specs.Prelude.{◌≡◌, ◌∷◌, Option, Some, None}
 use Rattle.sd_vtree.specs.Numbered.{plain_tree}
 use Rattle.sd_manager.specs.Table.{Table}
-use Rattle.sd_commands.specs.Standing.{IsFilled, IsTreeLeft, HoldsState}
+use Rattle.sd_manager.specs.Making.{IsPastBound}
+use Rattle.sd_commands.specs.Standing.{IsTreeLeft, HoldsNames}
 use Rattle.sd_tool.specs.Readings.{Point, Stands}
 use Rattle.sd_tool.specs.Ends.{End, ArenaFull}
 use Rattle.sd_tool.specs.Devices.{Seen, HasReason, WritesEndLine}
 
--- At a full arena the manager that refused is kept, as the command in hand left it: its vtree is the tree of the state
--- there, or at a search or an input the tree after the walks that were finished, and its roots hold the diagrams of the
--- names that are bound there. At each other end none is kept.
+-- At a full arena the manager that refused is kept, as the command in hand left it: its bound is the whole one, its
+-- vtree is the tree of the state there, or at a search or an input the tree after the walks that were done, and its
+-- roots hold the diagrams of the names that are bound there. At each other end none is kept.
 abbrev pub KeepsManager : Point → End → Option Table → Type 0
 KeepsManager (Stands input state (next ∷ left)) (ArenaFull elements) kept =
-    (t : Table) × (kept ≡ Some t) × IsFilled elements t × IsTreeLeft input state next.command (plain_tree t.vtree)
-    × HoldsState t (record state { tree = plain_tree t.vtree })
+    (t : Table) × (kept ≡ Some t) × (t.bound ≡ 2147483647) × IsPastBound t elements
+    × IsTreeLeft input state next.command (plain_tree t.vtree) × HoldsNames t state.names
 KeepsManager point end kept = kept ≡ None
 
 -- an end as it has to be: with its reason, with the manager that it keeps, and with its line on `err`
