@@ -78,14 +78,14 @@ first_fits true rest is = let bad : ⊥ = cc in absurd bad
 first_fits false rest is = refl
 
 generate_reads : (parsed : ParsedOptions) → number_range parsed ≡ None
-    → fails count_and_seed (parsed option.Generate) ≡ false
+    → fails count_and_seed (parsed (codes "generate")) ≡ false
 unfolding number_range
-generate_reads parsed is = first_fits (has_bad_number parsed option.Generate) _ is
+generate_reads parsed is = first_fits (has_bad_number parsed (codes "generate")) _ is
 
 -- one of the three inputs is there
 some_input : (parsed : ParsedOptions) → no_input parsed ≡ None
     → fault_where (count_by (λ (o : Option (List ℕ)). is_some o)
-    (parsed option.Cnf ∷ parsed option.Dnf ∷ parsed option.Generate ∷ []) == 0) words.NoInput ≡ None
+    (parsed (codes "cnf") ∷ parsed (codes "dnf") ∷ parsed (codes "generate") ∷ []) == 0) words.NoInput ≡ None
 unfolding no_input
 some_input parsed is = is
 
@@ -112,8 +112,8 @@ parsed_fits parsed none =
     let second = none_here (two_inputs parsed) (drop 2 (rows parsed)) first.1 in
     let third = none_here (two_vtrees parsed) (drop 3 (rows parsed)) second.1 in
     let fourth = none_here (number_range parsed) (drop 4 (rows parsed)) third.1 in
-    input_fits (parsed option.Cnf) (parsed option.Dnf) (parsed option.Generate) (some_input parsed first.0)
-    (generate_reads parsed fourth.0)
+    input_fits (parsed (codes "cnf")) (parsed (codes "dnf")) (parsed (codes "generate"))
+    (some_input parsed first.0) (generate_reads parsed fourth.0)
 
 job_fits : (parsed : ParsedOptions) (job : Job) → unless (first_some (rows parsed)) (job_of_parsed parsed) ≡ Ok job
     → IsInRange job.input

@@ -6,7 +6,6 @@ use Rattle.sd_words.specs.Command.{parsed_by, sddc}
 use Rattle.sd_words.specs.JobOf.{job_from, job_of_parsed, job_of}
 use Rattle.sd_words.specs.declared.jobs.InputWord.TheVariants as input
 use Rattle.sd_words.specs.declared.jobs.TreeWord.TheVariants as tree
-use Rattle.sd_words.specs.declared.options.OptionName.TheVariants as option
 
 -- all that has to unfold for the words of an example
 unfoldable job_on_literals : ⊤

@@ -2,11 +2,11 @@
 use Rattle.std.proofs.Common.{rules, ◌≡◌, ◌≢◌, ◌∙◌, ◌==◌, ap, sym, refl, inl, inr}
 use Rattle.std.proofs.Common.{Bool, true, false, true≢false, List, [], ◌∷◌, drop}
 use Rattle.std.proofs.Common.{None, Option, Result, Some, Err, is_none, is_some}
-use Rattle.std.specs.Prelude.{ℕ, codes, count_by, if◌then◌else◌, not, option_and_then, option_map}
+use Rattle.std.specs.Prelude.{ℕ, codes, count_by, find, if◌then◌else◌, map, not, option_and_then, option_map}
 use Rattle.std.specs.Bool.{then_some}
 use Rattle.std.specs.Str.{bytes_eq}
 use Rattle.std.specs.List.{list_any}
-use Rattle.std.specs.Option.{option_or}
+use Rattle.std.specs.Option.{option_map_or, option_or}
 use Rattle.std.specs.Result.{IsErrAnd}
 use Rattle.std.proofs.lemmas.Bool.Decides.{nat_tests}
 use Rattle.std.proofs.lemmas.Result.{err_from_is_err_and}
@@ -16,14 +16,16 @@ use Rattle.clap.specs.Matches.{found_of}
 use Rattle.clap.specs.declared.parser.matches.ArgMatches.{ArgMatches}
 use Rattle.sd_base.specs.Reading.{◌>>◌, fault_if, fault_for}
 use Rattle.sd_words.specs.Command.{accepts, parsed_by, parsed_in, parsed_of, handed, rows_found, usage_faults}
-use Rattle.sd_words.specs.ParsedOptions.{ParsedOptions, fails, has_option}
+use Rattle.sd_words.specs.ParsedOptions.{ParsedOptions, fails, first_named_beside, has_bad_number}
+use Rattle.sd_words.specs.ParsedOptions.{has_named, has_option}
 use Rattle.sd_words.specs.JobOf.{Answers, first_some, job_from, job_of, job_of_parsed, name_of_both, unless}
-use Rattle.sd_words.specs.Options.{inputs}
+use Rattle.sd_words.specs.Options.{inputs, file_option_names, number_option_names, replaced_option_names, word_of}
 use Rattle.sd_words.specs.Rows.{empty_name, fault_where, file_twice, no_input, number_range, rows, same_name}
 use Rattle.sd_words.specs.Rows.{words_fault_text, start_unknown, two_inputs, two_vtrees, with_script}
 use Rattle.sd_words.specs.declared.faults.WordsFault.{WordsFault}
 use Rattle.sd_words.specs.declared.faults.WordsFault.TheVariants as fault
 use Rattle.sd_words.specs.declared.jobs.Job.{Job}
+use Rattle.sd_words.specs.declared.options.OptionName.{OptionName}
 use Rattle.sd_words.specs.declared.options.OptionName.TheVariants as option
 
 -- the first check of the code makes two tests of the table
@@ -48,6 +50,47 @@ looked_for : {A : Type 0} (fault : A → WordsFault) (found : Option A) (later :
 looked_for fault (Some x) later others job is = refl
 looked_for fault None later others job is = is
 
+-- ---- options by their words, and as the code names them
+
+-- the first word that passes a test is that of the first option
+first_word : (test : Text → Bool) (names : List OptionName)
+    → find test (map word_of names) ≡ option_map word_of (find (λ o. test (word_of o)) names)
+first_word test [] = refl
+first_word test (o ∷ rest) = go (test (word_of o)) (first_word test rest)
+  where
+    go : (b : Bool) → find test (map word_of rest) ≡ option_map word_of (find (λ o. test (word_of o)) rest)
+        → (if b then Some (word_of o) else find test (map word_of rest))
+        ≡ option_map word_of (if b then Some o else find (λ o. test (word_of o)) rest)
+    go true e = refl
+    go false e = e
+
+-- the same beside another
+word_beside : (parsed : ParsedOptions) (o : OptionName) (names : List OptionName)
+    → (if has_named parsed o then find (has_option parsed) (map word_of names) else None)
+    ≡ option_map word_of (first_named_beside o names parsed)
+word_beside parsed o names = go (has_named parsed o)
+  where
+    go : (b : Bool) → (if b then find (has_option parsed) (map word_of names) else None)
+        ≡ option_map word_of (if b then find (has_named parsed) names else None)
+    go true = first_word (has_option parsed) names
+    go false = refl
+
+-- a word that is looked for, as a row of the option that is
+word_looked_for : (text : Text → List ℕ) (fault : OptionName → WordsFault) (words : Option Text)
+    (found : Option OptionName) (later : Result Job (List ℕ)) (others : List (Option WordsFault)) (job : Job)
+    → ((o : OptionName) → text (word_of o) ≡ words_fault_text (fault o)) → words ≡ option_map word_of found
+    → later ≡ unless (first_some others) job
+    → (fault_for text words >> later) ≡ unless (first_some (option_map fault found ∷ others)) job
+word_looked_for text fault words found later others job texts same is =
+    ap (λ (w : Option Text). fault_for text w >> later) same ∙ go found
+  where
+    go : (found : Option OptionName) → (fault_for text (option_map word_of found) >> later)
+        ≡ unless (first_some (option_map fault found ∷ others)) job
+    go (Some o) = ap (λ (t : List ℕ). Err t) (texts o)
+    go None = is
+
+-- ---- the rows
+
 -- the name that both are is that of the fault
 twice : (a b : Option Text) → option_map (λ x. fault.FileTwice x) (name_of_both a b) ≡ same_name a b
 twice None b = refl
@@ -64,17 +107,20 @@ pub job_from_rows : (parsed : ParsedOptions)
 unfolding job_from no_input two_inputs two_vtrees number_range with_script file_twice start_unknown empty_name
 job_from_rows parsed =
     let job = job_of_parsed parsed in
-    let names = name_of_both (parsed option.OutVtree) (parsed option.OutSdd) in
+    let vtree = parsed (codes "out-vtree") in
+    let sdd = parsed (codes "out-sdd") in
     tested _ fault.NoInput _ (drop 1 (rows parsed)) job
     (tested _ fault.TwoInputs _ (drop 2 (rows parsed)) job
     (tested _ fault.TwoVtrees _ (drop 3 (rows parsed)) job
-    (looked_for fault.NumberRange _ _ (drop 4 (rows parsed)) job
-    (looked_for fault.WithScript _ _ (drop 5 (rows parsed)) job
-    (looked_for fault.FileTwice names _ (drop 6 (rows parsed)) job
+    (word_looked_for _ fault.NumberRange _ _ _ (drop 4 (rows parsed)) job (λ o. refl)
+    (first_word (has_bad_number parsed) number_option_names)
+    (word_looked_for _ fault.WithScript _ _ _ (drop 5 (rows parsed)) job (λ o. refl)
+    (word_beside parsed option.Script replaced_option_names)
+    (looked_for fault.FileTwice (name_of_both vtree sdd) _ (drop 6 (rows parsed)) job
     (tested _ fault.StartUnknown _ (drop 7 (rows parsed)) job
-    (looked_for fault.EmptyName _ _ [] job refl))
-    ∙ ap (λ (f : Option WordsFault). unless (first_some (f ∷ drop 6 (rows parsed))) job)
-    (twice (parsed option.OutVtree) (parsed option.OutSdd)))))))
+    (word_looked_for _ fault.EmptyName _ _ _ [] job (λ o. refl)
+    (first_word (λ word. option_map_or is_empty (parsed word) false) file_option_names) refl))
+    ∙ ap (λ (f : Option WordsFault). unless (first_some (f ∷ drop 6 (rows parsed))) job) (twice vtree sdd))))))
 
 -- the exit of a `?` at the first fault
 pub refused : (parsed : ParsedOptions) (r : Result Job WordsFault) (f : WordsFault) → IsErrAnd r (λ e. e ≡ f)

@@ -13,7 +13,6 @@ use Rattle.sd_words.specs.Options.{word_of}
 use Rattle.sd_words.specs.Ordinary.{Setting, Spells, has_each_once, is_spelled, setting_of, words_of_settings}
 use Rattle.sd_words.specs.declared.faults.WordsFault.{WordsFault}
 use Rattle.sd_words.specs.declared.jobs.Job.{Job}
-use Rattle.sd_words.specs.declared.options.OptionName.{OptionName}
 use Rattle.sd_words.proofs.JobLemmas.{taken}
 use Rattle.sd_words.proofs.OptionSteps.{left_passes, left_used, row_of, the_rules, with_left}
 use Rattle.sd_words.proofs.OrdinaryWalk.{faults_all, fresh_in, row_for, walk_all}
@@ -77,15 +76,15 @@ all_fresh [] = refl
 all_fresh (s ∷ rest) = all_fresh rest
 
 -- the rows of settings give each option its value
-found : (settings : List Setting) (o : OptionName)
-    → first_of (word_of o) (map row_for settings) ≡ setting_of settings o
+found : (settings : List Setting) (word : Text)
+    → first_of word (map row_for settings) ≡ setting_of settings word
 unfolding row_of
-found [] o = refl
-found (s ∷ rest) o = go (bytes_eq (word_of s.option) (word_of o)) refl (found rest o)
+found [] word = refl
+found (s ∷ rest) word = go (bytes_eq (word_of s.option) word) refl (found rest word)
   where
-    go : (b : Bool) → bytes_eq (word_of s.option) (word_of o) ≡ b
-        → first_of (word_of o) (map row_for rest) ≡ setting_of rest o
-        → first_of (word_of o) (row_for s ∷ map row_for rest) ≡ setting_of (s ∷ rest) o
+    go : (b : Bool) → bytes_eq (word_of s.option) word ≡ b
+        → first_of word (map row_for rest) ≡ setting_of rest word
+        → first_of word (row_for s ∷ map row_for rest) ≡ setting_of (s ∷ rest) word
     go true e parsed = rw e refl
     go false e parsed = rw e parsed
 
@@ -104,23 +103,23 @@ ordinary_accepted settings once spelled =
     ) refl
 
 -- and each option has the value that they give it
-ordinary_values : (settings : List Setting) (o : OptionName) → has_each_once settings ≡ true
-    → list_all is_spelled settings ≡ true → parsed_by (words_of_settings settings) o ≡ setting_of settings o
+ordinary_values : (settings : List Setting) (word : Text) → has_each_once settings ≡ true
+    → list_all is_spelled settings ≡ true → parsed_by (words_of_settings settings) word ≡ setting_of settings word
 unfolding parsed_by sddc
-ordinary_values settings o once spelled =
+ordinary_values settings word once spelled =
     let ends = walk_all settings [] None tt (all_fresh settings) once spelled in
     rw (
       ends.is,
       left_used ends.rows ends.left ends.fresh,
       kept_all the_rules (with_left ends.rows ends.left) no_defaults,
       ends.whole,
-    ) (found settings o)
+    ) (found settings word)
 
 job_of_words_of : (settings : List Setting) → has_each_once settings ≡ true
     → list_all is_spelled settings ≡ true → job_of (words_of_settings settings) ≡ job_from (setting_of settings)
 job_of_words_of settings once spelled =
     let parsed : parsed_by (words_of_settings settings) ≡ setting_of settings =
-    λ i o. ordinary_values settings o once spelled i in
+    λ i word. ordinary_values settings word once spelled i in
     taken (words_of_settings settings) (ordinary_accepted settings once spelled) ∙ ap job_from parsed
 
 -- so an answer at such words is the one at the settings' values

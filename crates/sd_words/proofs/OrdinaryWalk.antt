@@ -99,7 +99,8 @@ has_more id (x ∷ xs) r none other = go (bytes_eq x.id id) refl (has_more id xs
 
 -- where no option stands twice, the later ones stay unused
 still_fresh : (s : Setting) (settings : List Setting) (rows : List Row) → fresh_in settings rows ≡ true
-    → list_all (λ q. not (sets q.option s)) settings ≡ true → fresh_in settings (rows ++ row_for s ∷ []) ≡ true
+    → list_all (λ q. not (sets (word_of q.option) s)) settings ≡ true
+    → fresh_in settings (rows ++ row_for s ∷ []) ≡ true
 unfolding row_of
 still_fresh s [] rows fresh others = refl
 still_fresh s (q ∷ rest) rows fresh others =

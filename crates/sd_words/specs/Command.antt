@@ -17,13 +17,13 @@ text_option word = record (new_rule word) { long = Some word; action = Some Set 
 
 -- `Command::new("sddc")` with `disable_help_flag(true)` and `disable_version_flag(true)`, and with `arg` of each option
 unfoldable pub sddc : App
-sddc = fold (λ app o. with_rule app (text_option (word_of o))) (on_top
+sddc = fold (λ app word. with_rule app (text_option word)) (on_top
     (λ s. record s { disable_help_flag = true; disable_version_flag = true })
     (new_app (codes "sddc"))) all_options
 
 -- what the words after the program's name give: the first value of each option, among what `clap` finds in them
 unfoldable pub parsed_by : List Text → ParsedOptions
-parsed_by words o = first_of (word_of o) (matches_of sddc (codes "sddc" ∷ words))
+parsed_by words option = first_of option (matches_of sddc (codes "sddc" ∷ words))
 
 -- ---- for the contracts of private functions, and for proofs
 
@@ -53,7 +53,7 @@ rows_found = matches_of sddc
 
 -- the first value of each option, among some rows
 abbrev pub parsed_in : List Row → ParsedOptions
-parsed_in rows o = first_of (word_of o) rows
+parsed_in rows option = first_of option rows
 
 -- what a parse gave
 unfoldable pub parsed_of : ArgMatches → ParsedOptions

@@ -1,5 +1,6 @@
 -- The job that the words of a call stand for, or the text of the first fault in them.
 use Rattle.std.specs.Prelude.{◌≡◌, ◌⊎◌, ℕ, false, not, ◌&&◌, ◌==◌, nat_le, codes, List, ◌∷◌, ◌++◌, count_by, find}
+use Rattle.std.specs.Prelude.{if◌then◌else◌}
 use Rattle.std.specs.Prelude.{Result, Ok, Err, MatchResult, is_some, Option, Some, None, unwrap_or}
 use Rattle.std.specs.Bool.{then_some}
 use Rattle.std.specs.Option.{option_and_then, option_flatten, option_map_or, option_zip}
@@ -9,39 +10,38 @@ use Rattle.clap.specs.Faults.{fault_of}
 use Rattle.sd_base.specs.Reading.{◌>>◌, fault_if, fault_for}
 use Rattle.sd_words.specs.Command.{parsed_by, sddc}
 use Rattle.sd_words.specs.Numbers.{count_and_seed}
-use Rattle.sd_words.specs.ParsedOptions.{ParsedOptions, fails, first_beside, has_bad_number}
+use Rattle.sd_words.specs.ParsedOptions.{ParsedOptions, fails, has_bad_number}
 use Rattle.sd_words.specs.ParsedOptions.{has_option, option_number, start_of}
-use Rattle.sd_words.specs.Options.{files, inputs, number_options, replaced_by_script, word_of}
+use Rattle.sd_words.specs.Options.{files, inputs, number_options, replaced_by_script}
 use Rattle.sd_words.specs.Rows.{words_fault_text}
 use Rattle.sd_words.specs.declared.jobs.InputWord.{InputWord}
 use Rattle.sd_words.specs.declared.jobs.InputWord.TheVariants as input
 use Rattle.sd_words.specs.declared.jobs.TreeWord.{TreeWord}
 use Rattle.sd_words.specs.declared.jobs.TreeWord.TheVariants as tree
 use Rattle.sd_words.specs.declared.jobs.Job.{Job}
-use Rattle.sd_words.specs.declared.options.OptionName.TheVariants as option
 use Rattle.sd_words.specs.declared.faults.WordsFault.{WordsFault}
 use Rattle.sd_words.specs.declared.faults.WordsFault.TheVariants as fault
 
 -- the input that is there; where none is, the words were refused before
 abbrev pub input_of : ParsedOptions → InputWord
-input_of parsed = option_map_or input.Cnf (parsed option.Cnf)
-    (option_map_or input.Dnf (parsed option.Dnf) (option_map_or (λ g. input.Generate g.0 g.1)
-    (option_and_then count_and_seed (parsed option.Generate)) (input.Generate 0 0)))
+input_of parsed = option_map_or input.Cnf (parsed (codes "cnf"))
+    (option_map_or input.Dnf (parsed (codes "dnf")) (option_map_or (λ g. input.Generate g.0 g.1)
+    (option_and_then count_and_seed (parsed (codes "generate"))) (input.Generate 0 0)))
 
 -- The job, where nothing is refused. The vtree is that of `--vtree`, else the shape of `--start`, and balanced where
 -- neither is there. Where they are not there, the slack is 200 percent, and the limit 16,777,216.
 unfoldable pub job_of_parsed : ParsedOptions → Job
 job_of_parsed parsed = record {
   input = input_of parsed;
-  tree = option_map_or tree.File (parsed option.Vtree)
-      (unwrap_or (option_and_then start_of (parsed option.Start)) tree.Balanced);
-  script = parsed option.Script;
-  out_vtree = parsed option.OutVtree;
-  out_sdd = parsed option.OutSdd;
-  minimise = option_number parsed option.Minimise;
-  every = option_number parsed option.Every;
-  slack = unwrap_or (option_number parsed option.Slack) 200;
-  limit = unwrap_or (option_number parsed option.Limit) 16777216;
+  tree = option_map_or tree.File (parsed (codes "vtree"))
+      (unwrap_or (option_and_then start_of (parsed (codes "start"))) tree.Balanced);
+  script = parsed (codes "script");
+  out_vtree = parsed (codes "out-vtree");
+  out_sdd = parsed (codes "out-sdd");
+  minimise = option_number parsed (codes "minimise");
+  every = option_number parsed (codes "every");
+  slack = unwrap_or (option_number parsed (codes "slack")) 200;
+  limit = unwrap_or (option_number parsed (codes "limit")) 16777216;
 }
 
 -- the name that both are
@@ -56,17 +56,19 @@ job_from parsed = do
   fault_if (count_by (has_option parsed) inputs == 0) (codes "no input")
   fault_if (nat_le 2 (count_by (has_option parsed) inputs)) (codes "two inputs")
   -- `--vtree` and `--start` are not both there
-  fault_if (has_option parsed option.Vtree && has_option parsed option.Start) (codes "two vtrees")
+  fault_if (has_option parsed (codes "vtree") && has_option parsed (codes "start")) (codes "two vtrees")
   -- each number is as it has to be
-  fault_for (λ o. codes "number out of range: --" ++ word_of o) (find (has_bad_number parsed) number_options)
+  fault_for (λ word. codes "number out of range: --" ++ word) (find (has_bad_number parsed) number_options)
   -- `--script` is not there with an option that it stands in place of
-  fault_for (λ o. codes "not with --script: --" ++ word_of o) (first_beside option.Script replaced_by_script parsed)
+  fault_for (λ word. codes "not with --script: --" ++ word) (if has_option parsed (codes "script")
+      then find (has_option parsed) replaced_by_script else None)
   -- `--out-vtree` and `--out-sdd` do not name the same bytes
-  fault_for (λ name. codes "file named twice: " ++ name) (name_of_both (parsed option.OutVtree) (parsed option.OutSdd))
+  fault_for (λ name. codes "file named twice: " ++ name)
+      (name_of_both (parsed (codes "out-vtree")) (parsed (codes "out-sdd")))
   -- the value of `--start` is `balanced`, `right` or `left`
-  fault_if (fails start_of (parsed option.Start)) (codes "start unknown")
+  fault_if (fails start_of (parsed (codes "start"))) (codes "start unknown")
   -- no name of a file is empty
-  fault_for (λ o. codes "empty name: --" ++ word_of o) (find (λ o. option_map_or is_empty (parsed o) false) files)
+  fault_for (λ word. codes "empty name: --" ++ word) (find (λ word. option_map_or is_empty (parsed word) false) files)
   Ok (job_of_parsed parsed)
 
 -- the same of the words, where `clap` finds nothing wrong with them behind the program's name
@@ -84,8 +86,8 @@ Answers answer result = MatchResult result (λ x. answer ≡ Ok x)
 
 -- the input, by the numbers of `--generate`
 abbrev pub input_by : ParsedOptions → Option (ℕ × ℕ) → InputWord
-input_by parsed numbers = option_map_or input.Cnf (parsed option.Cnf)
-    (option_map_or input.Dnf (parsed option.Dnf)
+input_by parsed numbers = option_map_or input.Cnf (parsed (codes "cnf"))
+    (option_map_or input.Dnf (parsed (codes "dnf"))
     (option_map_or (λ g. input.Generate g.0 g.1) numbers (input.Generate 0 0)))
 
 -- the vtree, by the values of `--vtree` and `--start`

@@ -8,7 +8,6 @@ use Rattle.std.specs.List.{after_first, before_first, list_all}
 use Rattle.sd_base.specs.Numbers.{is_within, natural_to}
 use Rattle.clap.specs.Walk.{Text, is_empty}
 use Rattle.sd_words.specs.Options.{range_of}
-use Rattle.sd_words.specs.declared.options.OptionName.{OptionName}
 
 -- the number of one to ten digits that a text writes, where it is from `least` to `most`
 abbrev pub number_within : ℕ → ℕ → Text → Option ℕ
@@ -16,8 +15,8 @@ number_within least most text =
     option_and_then (λ n. then_some (is_within least most n) n) (natural_to 10 text)
 
 -- the number that an option has, where the text writes one in its range
-abbrev pub number_of_text : OptionName → Text → Option ℕ
-number_of_text o text = option_and_then (λ range. number_within range.0 range.1 text) (range_of o)
+abbrev pub number_of_text : Text → Text → Option ℕ
+number_of_text word text = option_and_then (λ range. number_within range.0 range.1 text) (range_of word)
 
 -- `COUNT:SEED` (`:` is byte 58): the number of variables, 3 to 1,024, and a seed of 32 bits
 abbrev pub count_and_seed : Text → Option (ℕ × ℕ)

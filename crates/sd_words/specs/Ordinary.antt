@@ -41,18 +41,18 @@ can_stand_apart (x ∷ xs) = not (x == 45)
 abbrev pub is_spelled : Setting → Bool
 is_spelled s = s.is_attached || can_stand_apart s.value
 
--- the setting is one of this option
-abbrev pub sets : OptionName → Setting → Bool
-sets o s = bytes_eq (word_of s.option) (word_of o)
+-- the setting is one of the option with this word
+abbrev pub sets : Text → Setting → Bool
+sets word s = bytes_eq (word_of s.option) word
 
 -- no option stands twice
 abbrev pub has_each_once : List Setting → Bool
 has_each_once [] = true
-has_each_once (s ∷ rest) = list_all (λ q. not (sets q.option s)) rest && has_each_once rest
+has_each_once (s ∷ rest) = list_all (λ q. not (sets (word_of q.option) s)) rest && has_each_once rest
 
 -- the value that the settings give an option
 abbrev pub setting_of : List Setting → ParsedOptions
-setting_of settings o = option_map (λ s. s.value) (find (sets o) settings)
+setting_of settings word = option_map (λ s. s.value) (find (sets word) settings)
 
 -- the words are those of the settings, and as they have to be
 pub record Spells (settings : List Setting) (words : List Text) : Type 0 where

@@ -1,7 +1,6 @@
 -- What the steps from the options to the job give.
-use Rattle.std.specs.Prelude.{◌≡◌, ◌⊎◌, None, Option, Result, Some, MatchResult}
+use Rattle.std.specs.Prelude.{◌≡◌, ◌⊎◌, codes, None, Option, Result, Some, MatchResult}
 use Rattle.sd_words.specs.ParsedOptions.{ParsedOptions, generated, option_number}
-use Rattle.sd_words.specs.declared.options.OptionName.TheVariants as option
 use Rattle.sd_words.specs.declared.faults.WordsFault.{WordsFault}
 use Rattle.sd_words.specs.declared.faults.WordsFault.TheVariants as fault
 use Rattle.sd_words.specs.declared.values.Numbers.{Numbers}
@@ -9,10 +8,10 @@ use Rattle.sd_words.specs.declared.values.Numbers.{Numbers}
 -- the numbers are those of the options
 pub record HasNumbers (parsed : ParsedOptions) (n : Numbers) : Type 0 where
   pub generated : n.generated ≡ generated parsed
-  pub minimise : n.minimise ≡ option_number parsed option.Minimise
-  pub every : n.every ≡ option_number parsed option.Every
-  pub slack : n.slack ≡ option_number parsed option.Slack
-  pub limit : n.limit ≡ option_number parsed option.Limit
+  pub minimise : n.minimise ≡ option_number parsed (codes "minimise")
+  pub every : n.every ≡ option_number parsed (codes "every")
+  pub slack : n.slack ≡ option_number parsed (codes "slack")
+  pub limit : n.limit ≡ option_number parsed (codes "limit")
 
 -- an error exactly where there is a fault, and then that one
 abbrev pub RefusesBy : {T : Type 0} → Option WordsFault → Result T WordsFault → Type 0

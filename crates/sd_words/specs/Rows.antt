@@ -4,9 +4,9 @@ use Rattle.std.specs.Prelude.{Option, Some, None, option_map}
 use Rattle.std.specs.Option.{option_and_then, option_zip}
 use Rattle.std.specs.Str.{bytes_eq}
 use Rattle.clap.specs.Walk.{Text, is_empty}
-use Rattle.sd_words.specs.ParsedOptions.{ParsedOptions, fails, first_beside, has_option, has_bad_number}
+use Rattle.sd_words.specs.ParsedOptions.{ParsedOptions, fails, first_named_beside, has_bad_number, has_option}
 use Rattle.sd_words.specs.ParsedOptions.{has_that, start_of}
-use Rattle.sd_words.specs.Options.{files, inputs, number_options, replaced_by_script, word_of}
+use Rattle.sd_words.specs.Options.{inputs, file_option_names, number_option_names, replaced_option_names, word_of}
 use Rattle.sd_words.specs.declared.options.OptionName.{OptionName}
 use Rattle.sd_words.specs.declared.options.OptionName.TheVariants as option
 use Rattle.sd_words.specs.declared.faults.WordsFault.{WordsFault}
@@ -48,28 +48,29 @@ two_inputs parsed = fault_where (nat_le 2 (count_by (has_option parsed) inputs))
 
 -- both `--vtree` and `--start` are there
 unfoldable pub two_vtrees : ParsedOptions → Option WordsFault
-two_vtrees parsed = fault_where (has_option parsed option.Vtree && has_option parsed option.Start) fault.TwoVtrees
+two_vtrees parsed = fault_where (has_option parsed (codes "vtree") && has_option parsed (codes "start")) fault.TwoVtrees
 
 -- a number is not as it has to be; the first option is named
 unfoldable pub number_range : ParsedOptions → Option WordsFault
-number_range parsed = fault_at_first (has_bad_number parsed) number_options (λ o. fault.NumberRange o)
+number_range parsed =
+    fault_at_first (λ o. has_bad_number parsed (word_of o)) number_option_names (λ o. fault.NumberRange o)
 
 -- `--script` is there with an option that it stands in place of; the first is named
 unfoldable pub with_script : ParsedOptions → Option WordsFault
 with_script parsed =
-    option_map (λ o. fault.WithScript o) (first_beside option.Script replaced_by_script parsed)
+    option_map (λ o. fault.WithScript o) (first_named_beside option.Script replaced_option_names parsed)
 
 -- `--out-vtree` and `--out-sdd` name the same bytes
 unfoldable pub file_twice : ParsedOptions → Option WordsFault
-file_twice parsed = same_name (parsed option.OutVtree) (parsed option.OutSdd)
+file_twice parsed = same_name (parsed (codes "out-vtree")) (parsed (codes "out-sdd"))
 
 -- the value of `--start` is not `balanced`, `right` or `left`
 unfoldable pub start_unknown : ParsedOptions → Option WordsFault
-start_unknown parsed = fault_where (fails start_of (parsed option.Start)) fault.StartUnknown
+start_unknown parsed = fault_where (fails start_of (parsed (codes "start"))) fault.StartUnknown
 
 -- the name of a file is empty; the first option is named
 unfoldable pub empty_name : ParsedOptions → Option WordsFault
-empty_name parsed = fault_at_first (has_that is_empty parsed) files (λ o. fault.EmptyName o)
+empty_name parsed = fault_at_first (has_that is_empty parsed) file_option_names (λ o. fault.EmptyName o)
 
 -- all of them
 abbrev pub rows : ParsedOptions → List (Option WordsFault)

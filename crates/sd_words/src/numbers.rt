@@ -5,6 +5,7 @@ ghost use Rattle.std.specs.List.{list_all};
 ghost use Rattle.sd_base.specs.Numbers.{natural_to};
 ghost use Rattle.sd_words.specs.Numbers.{count_and_seed, is_number};
 ghost use Rattle.sd_words.specs.Numbers.{number_of_text, number_within};
+ghost use Rattle.sd_words.specs.Options.{word_of};
 
 use crate::options::OptionName;
 
@@ -12,7 +13,7 @@ const MOST_DIGITS: usize = 10;
 
 /// The number that an option has, where the text writes one in its range.
 pub(crate) fn number_of(option: OptionName, text: &str) -> Option<u32>
-    ensures { result ≡ number_of_text option text.now }
+    ensures { result ≡ number_of_text (word_of option) text.now }
 {
     let (least, most) = option.range()?;
     number_within(text, least, most)

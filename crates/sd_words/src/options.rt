@@ -99,7 +99,7 @@ impl OptionName {
 
     /// The least and the largest number, of an option whose value is one number.
     pub(crate) fn range(self) -> Option<(u32, u32)>
-        ensures { result ≡ range_of self }
+        ensures { result ≡ range_of (word_of self) }
     {
         match self {
             OptionName::Minimise => Some((1, 100)),

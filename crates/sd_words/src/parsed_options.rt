@@ -2,27 +2,28 @@
 ghost use Rattle.std.specs.Prelude.{◌≡◌, count_by, find, option_map};
 ghost use Rattle.clap.specs.Walk.{is_empty};
 ghost use Rattle.sd_words.specs.Command.{parsed_of};
-ghost use Rattle.sd_words.specs.ParsedOptions.{first_beside, has_option, has_that};
+ghost use Rattle.sd_words.specs.Options.{word_of};
+ghost use Rattle.sd_words.specs.ParsedOptions.{first_named_beside, has_named, has_that};
 
 use crate::options::OptionName;
 use clap::ArgMatches;
 
 /// The value of an option.
 pub(crate) fn value<'a>(options: &ArgMatches<'a>, option: OptionName) -> Option<&'a str>
-    ensures { option_map (λ s. s.now) result ≡ parsed_of options.now option }
+    ensures { option_map (λ s. s.now) result ≡ parsed_of options.now (word_of option) }
 {
     options.get_str(option.word())
 }
 
 pub(crate) fn is_present(options: &ArgMatches<'_>, option: OptionName) -> bool
-    ensures { result ≡ has_option (parsed_of options.now) option }
+    ensures { result ≡ has_named (parsed_of options.now) option }
 {
     value(options, option).is_some()
 }
 
 /// How many of these are there.
 pub(crate) fn count_present(options: &ArgMatches<'_>, among: &[OptionName]) -> usize
-    ensures { result ≡ count_by (has_option (parsed_of options.now)) among.now }
+    ensures { result ≡ count_by (has_named (parsed_of options.now)) among.now }
 {
     among
         .iter()
@@ -46,7 +47,7 @@ pub(crate) fn first_beside(
     option: OptionName,
     others: &[OptionName],
 ) -> Option<OptionName>
-    ensures { result ≡ first_beside option others.now (parsed_of options.now) }
+    ensures { result ≡ first_named_beside option others.now (parsed_of options.now) }
 {
     if is_present(options, option) {
         first_present(options, others)
@@ -65,7 +66,7 @@ fn is_empty(options: &ArgMatches<'_>, option: OptionName) -> bool
 }
 
 fn first_present(options: &ArgMatches<'_>, among: &[OptionName]) -> Option<OptionName>
-    ensures { result ≡ find (has_option (parsed_of options.now)) among.now }
+    ensures { result ≡ find (has_named (parsed_of options.now)) among.now }
 {
     among
         .iter()

@@ -1,10 +1,10 @@
 //! The job that the words stand for.
-ghost use Rattle.std.specs.Prelude.{◌≡◌, IfOk, List, None, is_some, map, string_bytes, true};
+ghost use Rattle.std.specs.Prelude.{◌≡◌, IfOk, List, None, codes, is_some, map, string_bytes, true};
 ghost use Rattle.std.specs.List.{list_any};
 ghost use Rattle.sd_words.specs.Command.{parsed_of};
 ghost use Rattle.sd_words.specs.ParsedOptions.{has_option};
 ghost use Rattle.sd_words.specs.JobOf.{Answers, input_by, job_from, job_of_parsed, job_of, tree_word_of};
-ghost use Rattle.sd_words.specs.Options.{inputs};
+ghost use Rattle.sd_words.specs.Options.{inputs, word_of};
 ghost use Rattle.sd_words.specs.Ordinary.{Setting, Spells, setting_of};
 ghost use Rattle.sd_words.specs.Reading.{HasNumbers};
 
@@ -61,9 +61,9 @@ fn job(
 ) -> Result<Job, AllocError>
     requires input { list_any (has_option (parsed_of options.now)) inputs ≡ true }
     requires generated { is_some numbers.generated
-        ≡ has_option (parsed_of options.now) OptionName.Generate }
+        ≡ has_option (parsed_of options.now) (codes "generate") }
     requires numbers { HasNumbers (parsed_of options.now) numbers }
-    requires start { start ≡ tree_word_of None (parsed_of options.now OptionName.Start) }
+    requires start { start ≡ tree_word_of None (parsed_of options.now (codes "start")) }
     ensures { IfOk result (λ j. j ≡ job_of_parsed (parsed_of options.now)) }
 {
     Ok(Job {
@@ -84,7 +84,7 @@ fn file(
     options: &ArgMatches<'_>,
     option: OptionName,
 ) -> Result<Option<Name>, AllocError>
-    ensures { IfOk result (λ name. name ≡ parsed_of options.now option) }
+    ensures { IfOk result (λ name. name ≡ parsed_of options.now (word_of option)) }
 {
     match value(options, option) {
         Some(text) => Ok(Some(Name::copy_of(alloc, text)?)),
@@ -99,7 +99,7 @@ fn input_word(
 ) -> Result<InputWord, AllocError>
     requires input { list_any (has_option (parsed_of options.now)) inputs ≡ true }
     requires generated { is_some generated
-        ≡ has_option (parsed_of options.now) OptionName.Generate }
+        ≡ has_option (parsed_of options.now) (codes "generate") }
     ensures { IfOk result (λ w. w ≡ input_by (parsed_of options.now) generated) }
 {
     if let Some(text) = value(options, OptionName::Cnf) {
@@ -120,9 +120,9 @@ fn tree_word(
     options: &ArgMatches<'_>,
     start: TreeWord,
 ) -> Result<TreeWord, AllocError>
-    requires { start ≡ tree_word_of None (parsed_of options.now OptionName.Start) }
+    requires { start ≡ tree_word_of None (parsed_of options.now (codes "start")) }
     ensures { let parsed = parsed_of options.now in
-        IfOk result (λ t. t ≡ tree_word_of (parsed OptionName.Vtree) (parsed OptionName.Start)) }
+        IfOk result (λ t. t ≡ tree_word_of (parsed (codes "vtree")) (parsed (codes "start"))) }
 {
     match value(options, OptionName::Vtree) {
         Some(text) => Ok(TreeWord::File(Name::copy_of(alloc, text)?)),

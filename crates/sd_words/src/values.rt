@@ -1,9 +1,10 @@
 //! The values of the options that are more than names.
-ghost use Rattle.std.specs.Prelude.{◌≡◌, IfErr, IfOk, None, OnOk, false, true};
+ghost use Rattle.std.specs.Prelude.{◌≡◌, IfErr, IfOk, None, OnOk, codes, false, true};
 ghost use Rattle.sd_words.specs.Command.{parsed_of};
 ghost use Rattle.sd_words.specs.ParsedOptions.{fails, generated, option_number, start_of};
 ghost use Rattle.sd_words.specs.JobOf.{tree_word_of};
 ghost use Rattle.sd_words.specs.Numbers.{count_and_seed, number_of_text};
+ghost use Rattle.sd_words.specs.Options.{word_of};
 ghost use Rattle.sd_words.specs.Reading.{HasNumbers, RefusesBy};
 ghost use Rattle.sd_words.specs.Rows.{number_range, start_unknown};
 
@@ -30,7 +31,7 @@ pub(crate) struct Numbers {
 pub(crate) fn read_numbers(options: &ArgMatches<'_>) -> Result<Numbers, WordsFault>
     ensures range { RefusesBy (number_range (parsed_of options.now)) result }
     ensures readable { OnOk result
-        (fails count_and_seed (parsed_of options.now OptionName.Generate) ≡ false) }
+        (fails count_and_seed (parsed_of options.now (codes "generate")) ≡ false) }
     ensures numbers { IfOk result (HasNumbers (parsed_of options.now)) }
 {
     Ok(Numbers {
@@ -47,7 +48,7 @@ pub(crate) fn read_numbers(options: &ArgMatches<'_>) -> Result<Numbers, WordsFau
 pub(crate) fn read_start(options: &ArgMatches<'_>) -> Result<TreeWord, WordsFault>
     ensures unknown { RefusesBy (start_unknown (parsed_of options.now)) result }
     ensures start { IfOk result (λ t. t
-        ≡ tree_word_of None (parsed_of options.now OptionName.Start)) }
+        ≡ tree_word_of None (parsed_of options.now (codes "start"))) }
 {
     match value(options, OptionName::Start) {
         None => Ok(TreeWord::Balanced),
@@ -57,10 +58,10 @@ pub(crate) fn read_start(options: &ArgMatches<'_>) -> Result<TreeWord, WordsFaul
 
 fn generated(options: &ArgMatches<'_>) -> Result<Option<(u32, u32)>, WordsFault>
     ensures reads { let parsed = parsed_of options.now in
-        IfOk result (λ g. (fails count_and_seed (parsed OptionName.Generate) ≡ false)
+        IfOk result (λ g. (fails count_and_seed (parsed (codes "generate")) ≡ false)
         × (g ≡ generated parsed)) }
     ensures bad { IfErr result (λ fault. (fault ≡ WordsFault.NumberRange OptionName.Generate)
-        × (fails count_and_seed (parsed_of options.now OptionName.Generate) ≡ true)) }
+        × (fails count_and_seed (parsed_of options.now (codes "generate")) ≡ true)) }
 {
     match value(options, OptionName::Generate) {
         None => Ok(None),
@@ -75,10 +76,10 @@ fn generated(options: &ArgMatches<'_>) -> Result<Option<(u32, u32)>, WordsFault>
 
 fn number(options: &ArgMatches<'_>, option: OptionName) -> Result<Option<u32>, WordsFault>
     ensures reads { let parsed = parsed_of options.now in
-        IfOk result (λ n. (fails (number_of_text option) (parsed option) ≡ false)
-        × (n ≡ option_number parsed option)) }
+        IfOk result (λ n. (fails (number_of_text (word_of option)) (parsed (word_of option)) ≡ false)
+        × (n ≡ option_number parsed (word_of option))) }
     ensures bad { IfErr result (λ fault. (fault ≡ WordsFault.NumberRange option)
-        × (fails (number_of_text option) (parsed_of options.now option) ≡ true)) }
+        × (fails (number_of_text (word_of option)) (parsed_of options.now (word_of option)) ≡ true)) }
 {
     match value(options, option) {
         None => Ok(None),

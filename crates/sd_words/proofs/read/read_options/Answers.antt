@@ -1,8 +1,7 @@
 -- Each exit is the fault of the first test that fails, since the checks before it found none.
-use Rattle.std.proofs.Common.{◌∙◌, is_some, Ok, ap, inl, inr, refl, sym}
+use Rattle.std.proofs.Common.{◌∙◌, codes, is_some, Ok, ap, inl, inr, refl, sym}
 use Rattle.sd_words.specs.Command.{parsed_of}
 use Rattle.sd_words.specs.Numbers.{count_and_seed}
-use Rattle.sd_words.specs.declared.options.OptionName.TheVariants as option
 use Rattle.sd_words.specs.declared.jobs.Job.{Job}
 use Rattle.sd_words.proofs.JobLemmas.{first_two, job_from_rows, ran_out, refused, some_reads, some_input}
 use Rattle.sd_words.proofs.read.read_options.Goals as goal
@@ -85,7 +84,7 @@ job-requires-clause-input c = some_input (parsed_of c.args.options.now) c.in_ok-
 pub job-requires-clause-generated : goal.job-requires-clause-generated
 job-requires-clause-generated c =
     ap is_some c.in_ok-numbers.ensures.numbers.generated
-    ∙ some_reads count_and_seed (parsed_of c.args.options.now option.Generate) c.in_ok-numbers.ensures.readable
+    ∙ some_reads count_and_seed (parsed_of c.args.options.now (codes "generate")) c.in_ok-numbers.ensures.readable
 
 -- no check found a fault, so the answer is the job
 pub returns : goal.returns
