@@ -41,7 +41,7 @@ use Rattle.sd_tool.specs.inside.Readings.{with_vtree_text, with_vtree_reading, s
 use Rattle.sd_tool.specs.Readings.{with_lines, with_action, file_name}
 use Rattle.sd_tool.specs.inside.Readings.{in_line}
 use Rattle.sd_tool.specs.inside.Readings.{with_script_text, with_script_reading, with_sdd, with_sdd_reading}
-use Rattle.sd_tool.proofs.ByStatus.{no_idle}
+use Rattle.sd_tool.proofs.ByStatus.{no_idle, unwritable_status}
 
 -- ---- the words are refused before any reading
 
@@ -221,7 +221,7 @@ asked_at words status kept seen went = (
         (none_read seen.old.contents.files words p.0.names refusal p.0.reads (sym is ∙ s)) p.0.asked
     none (Refused refusal) (inr p) is s = absurd p.2
     none (Unreadable file) goes is s = cc
-    none (Unwritable effect) goes is s = cc
+    none (Unwritable effect) goes is s = let six = is ∙ unwritable_status effect in cc
     none OutOfMemory goes is s = cc
     none (ArenaFull n) goes is s = cc
     none (OverLimit l g n k) goes is s = cc
@@ -236,7 +236,7 @@ asked_at words status kept seen went = (
     alone (Unreadable file) (inl p) is s =
         (p.0.1.names ++ file ∷ [], with_last seen.asked p.0.1.names file p.0.1.asked)
     alone (Unreadable file) (inr p) is s = absurd p.2
-    alone (Unwritable effect) goes is s = no_idle status 6 refl is s
+    alone (Unwritable effect) goes is s = no_idle status 6 refl (is ∙ unwritable_status effect) s
     alone OutOfMemory goes is s = no_idle status 7 refl is s
     alone (ArenaFull n) goes is s = no_idle status 8 refl is s
     alone (OverLimit l g n k) goes is s = no_idle status 4 refl is s

@@ -4,18 +4,17 @@ use Rattle.std.proofs.Common.{refl, sym, ap, subst, ◌∙◌}
 use Rattle.sd_base.specs.Asked.{Request}
 use Rattle.sd_base.specs.Files.{Files}
 use Rattle.sd_manager.specs.Table.{Table}
-use Rattle.sd_commands.specs.Effects.{Effect}
+use Rattle.sd_commands.specs.Effects.{Effect, Write, Print}
 use Rattle.sd_tool.specs.Effects.{Contents}
 use Rattle.sd_tool.specs.Readings.{Refuses, Reads, reading_of}
 use Rattle.sd_tool.specs.Ends.{End, Finished, Refused, Unreadable, Unwritable, OutOfMemory, ArenaFull, OverLimit}
 use Rattle.sd_tool.specs.Ends.{NotMovable, status_of}
 use Rattle.sd_tool.specs.Devices.{Moment, Seen, HasReason, WritesEndLine}
-use Rattle.sd_tool.specs.Course.{Leaves}
 use Rattle.sd_tool.specs.Theorem.{HasEffects, HasLine, HasEnd, IsCourse}
 use Rattle.sd_tool.specs.inside.Asks.{GoesTo}
 use Rattle.sd_tool.specs.inside.ByStatus.{IsOneCourse, EffectsByStatus, EndByStatus, WasFull}
 use Rattle.sd_tool.specs.inside.ByStatus.{IsRefused, PassedLimit, WasNotMovable, CouldNotRead, CouldNotWrite}
-use Rattle.sd_tool.specs.inside.Course.{ReadsTo, MayEnd, after_effects}
+use Rattle.sd_tool.specs.inside.Course.{EndLeaves, ReadsTo, MayEnd, after_effects}
 use Rattle.sd_tool.specs.inside.Plans.{point_of}
 use Rattle.sd_tool.proofs.AskLemmas.{goes_may_end, comes_reads}
 use Rattle.sd_tool.proofs.SoundReadings.{IsRefusedWith, refused_with}
@@ -67,6 +66,11 @@ no_idle status a other is (inr (inr s)) = apart is_idle status a 5 is s other re
 -- another number
 no_same : {A : Type 0} (status a b : ℕ) → status ≡ a → (a == b) ≡ false → (b == b) ≡ true → status ≡ b → A
 no_same status a b is differ same other = apart (λ n. n == b) status a b is other differ same
+
+-- the status where an effect fails
+pub unwritable_status : (effect : Effect) → status_of (Unwritable effect) ≡ 6
+unwritable_status (Write file bytes) = refl
+unwritable_status (Print line) = refl
 
 -- a run is refused before its commands
 refused_early : (words : List (List ℕ)) (told : Option Files) (effects : List Effect) (refusal : ℕ × List ℕ)
@@ -157,7 +161,7 @@ effects_at words status kept seen went =
     went.leaves
   where
     go : (effects : List Effect) (end : End) → MayEnd words seen.old.contents.files effects end → status ≡ status_of end
-        → Leaves end (after_effects effects seen.old.contents) seen.new.contents
+        → EndLeaves end (after_effects effects seen.old.contents) seen.new.contents
         → EffectsByStatus words status seen.old seen.new
     go effects Finished may_end is leaves = record {
       all = λ s. (effects, may_end, leaves);
@@ -190,15 +194,17 @@ effects_at words status kept seen went =
       over = λ s. cc;
       in_hand = λ s. cc;
     }
-    go effects (Unwritable effect) may_end is leaves = record {
-      all = λ s. cc;
-      none = λ s. no_idle status 6 refl is s;
-      script = λ s. cc;
-      first = λ s. cc;
-      full = λ s. cc;
-      over = λ s. cc;
-      in_hand = λ s. (effects, effect, may_end, leaves);
-    }
+    go effects (Unwritable effect) may_end is leaves =
+        let six = is ∙ unwritable_status effect in
+        record {
+          all = λ s. cc;
+          none = λ s. no_idle status 6 refl six s;
+          script = λ s. cc;
+          first = λ s. cc;
+          full = λ s. cc;
+          over = λ s. cc;
+          in_hand = λ s. (effects, effect, may_end, leaves);
+        }
     go effects OutOfMemory may_end is leaves = record {
       all = λ s. cc;
       none = λ s. no_idle status 7 refl is s;
@@ -391,7 +397,8 @@ end_at words status kept seen went = go went.effects went.end went.goes went.sta
           line = line;
         }
     go effects (Unwritable effect) goes is cause line =
-        end_unwritten words status kept seen.old seen.new is (free effects (Unwritable effect) tt goes) record {
+        end_unwritten words status kept seen.old seen.new (is ∙ unwritable_status effect)
+        (free effects (Unwritable effect) tt goes) record {
           effects = effects;
           effect = effect;
           in_hand = may effects (Unwritable effect) goes;

@@ -5,15 +5,14 @@ use Rattle.sd_base.specs.Asked.{Request}
 use Rattle.sd_base.specs.Files.{Files}
 use Rattle.sd_manager.specs.Table.{Table}
 use Rattle.sd_formula.specs.Dimacs.{Groups}
-use Rattle.sd_commands.specs.Effects.{Effect}
+use Rattle.sd_commands.specs.Effects.{Effect, Write, Print}
 use Rattle.sd_commands.specs.declared.command.NumberedCommand.{NumberedCommand}
 use Rattle.sd_commands.specs.declared.state.RunState.{RunState}
 use Rattle.sd_tool.specs.Effects.{Contents}
 use Rattle.sd_tool.specs.Readings.{reading_of}
 use Rattle.sd_tool.specs.inside.Plans.{Plan, point_of}
 use Rattle.sd_tool.specs.inside.Asks.{ComesTo}
-use Rattle.sd_tool.specs.Course.{Leaves}
-use Rattle.sd_tool.specs.inside.Course.{EndsAmong, after_effects}
+use Rattle.sd_tool.specs.inside.Course.{EndLeaves, EndsAmong, after_effects}
 use Rattle.sd_tool.specs.PlanViews.{plan_with}
 use Rattle.sd_tool.specs.inside.ByStatus.{IsOneCourse}
 use Rattle.sd_tool.specs.Ends.{End, Finished, Refused, Unreadable, Unwritable, OutOfMemory as NoMemory}
@@ -100,7 +99,8 @@ kept_full : (plan : Plan) (effects : List Effect) (end : End) (t : Table) → En
 kept_full plan effects Finished t ends is full_at = cc
 kept_full plan effects (Refused answer) t ends is full_at = absurd ends
 kept_full plan effects (Unreadable file) t ends is full_at = cc
-kept_full plan effects (Unwritable effect) t ends is full_at = cc
+kept_full plan effects (Unwritable (Write file bytes)) t ends is full_at = cc
+kept_full plan effects (Unwritable (Print line)) t ends is full_at = cc
 kept_full plan effects NoMemory t ends is full_at = cc
 kept_full plan effects (NoRoom n) t ends is full_at = full_at
 kept_full plan effects (Passes l g n k) t ends is full_at = cc
@@ -211,7 +211,7 @@ commands_go words plan kept result old mid new first before last join led same f
     goes.ends,
     goes.keeps,
   );
-  leaves = subst (λ (o : Contents). Leaves goes.end (after_effects goes.effects o) new) same goes.leaves;
+  leaves = subst (λ (o : Contents). EndLeaves goes.end (after_effects goes.effects o) new) same goes.leaves;
   reason = cause_from plan goes.effects goes.end mid.files old.files first before last goes.ends fewer goes.reason;
 }
 

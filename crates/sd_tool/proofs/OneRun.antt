@@ -16,14 +16,13 @@ use Rattle.sd_commands.specs.Effects.{Effect, Write, Print}
 use Rattle.sd_tool.specs.Readings.{Point, Refuses, Reads, reading_of}
 use Rattle.sd_tool.specs.inside.Plans.{Plan, point_of, plan_for}
 use Rattle.sd_tool.specs.inside.Readings.{Text}
-use Rattle.sd_tool.specs.inside.Course.{EndsAmong, ReadsTo, MayEnd, IsOwn, after_effects}
+use Rattle.sd_tool.specs.inside.Course.{EndLeaves, EndsAmong, ReadsTo, MayEnd, IsOwn, after_effects}
 use Rattle.sd_tool.specs.Readings.{with_input_word, with_tree_word, with_tree, with_commands, default_of}
 use Rattle.sd_tool.specs.inside.Readings.{with_job, with_formula_reading, with_vtree_text, with_vtree_reading, IsInput}
 use Rattle.sd_tool.specs.Ends.{End, Finished, Refused, Unreadable, Unwritable, OutOfMemory, ArenaFull, OverLimit}
 use Rattle.sd_tool.specs.Ends.{NotMovable, status_of}
 use Rattle.sd_tool.specs.Devices.{Seen, Faults, IsCalm, HasReason, WritesEndLine}
 use Rattle.sd_tool.specs.inside.Devices.{NoneRose}
-use Rattle.sd_tool.specs.Course.{Leaves}
 use Rattle.sd_tool.specs.Laws.{LacksRoom, IsDoneOrOverLimit}
 use Rattle.sd_tool.specs.Theorem.{IsComplete}
 use Rattle.sd_tool.specs.inside.ByStatus.{IsOneCourse}
@@ -34,7 +33,7 @@ use Rattle.sd_tool.proofs.SoundReadings.{valid_start}
 use Rattle.sd_tool.proofs.OnePoint.{one_point, one_plan_at}
 use Rattle.sd_tool.proofs.ReadingLemmas.{reads_on, reads_same}
 use Rattle.sd_tool.proofs.StillCommands.{AreStill, never_unmoved, default_still}
-use Rattle.sd_tool.proofs.Walks.{all_of, after_all, course_may_end}
+use Rattle.sd_tool.proofs.Walks.{all_of, leaves_all, course_may_end}
 
 -- the readings come to one plan
 pub same_plan : (files : Files) (reading : Point) (a b : Plan) → ReadsTo (Some files) reading (point_of a)
@@ -153,7 +152,8 @@ own_end : (end : End) → status_of end ≤ 4 → IsOwn end
 own_end Finished few = tt
 own_end (Refused refusal) few = tt
 own_end (Unreadable file) few = absurd (omega (arith, few))
-own_end (Unwritable effect) few = absurd (omega (arith, few))
+own_end (Unwritable (Write file bytes)) few = absurd (omega (arith, few))
+own_end (Unwritable (Print line)) few = absurd (omega (arith, few))
 own_end OutOfMemory few = absurd (omega (arith, few))
 own_end (ArenaFull n) few = absurd (omega (arith, few))
 own_end (OverLimit l g n k) few = tt
@@ -166,7 +166,7 @@ none_rose seen calm = record { read = calm.read; write = calm.write; print = cal
 -- the run came to this end, with these effects and its line
 abbrev pub CameTo : ℕ → Seen → List Effect → End → Type 0
 CameTo status seen effects end = (status ≡ status_of end)
-    × (seen.new.contents ≡ after_effects effects seen.old.contents) × WritesEndLine end seen.old seen.new
+    × EndLeaves end (after_effects effects seen.old.contents) seen.new.contents × WritesEndLine end seen.old seen.new
 
 -- where the words and the files lead to an end of their own, the run came to it, or there was no memory
 pub comes_to_own : (words : List (List ℕ)) (status : ℕ) (kept : Option Table) (seen : Seen)
@@ -182,26 +182,14 @@ comes_to_own words status kept seen went calm files told effects own few leads =
     may_end reason (none_rose seen calm)) [
       | inl whole ↦ inl (
         went.status_is ∙ ap status_of whole.0,
-        all_done own own_is
-            (subst (λ e. Leaves e (after_effects went.effects seen.old.contents) seen.new.contents) whole.0 went.leaves)
-            ∙ ap (λ l. after_effects l seen.old.contents) whole.1,
+        subst (λ e. EndLeaves e (after_effects effects seen.old.contents) seen.new.contents) whole.0
+            (subst (λ l. EndLeaves went.end (after_effects l seen.old.contents) seen.new.contents) whole.1
+            went.leaves),
         subst (λ e. WritesEndLine e seen.old seen.new) whole.0 went.line,
       )
       | inr (inl memory) ↦ inr (inl (went.status_is ∙ ap status_of memory))
       | inr (inr full) ↦ inr (inr (went.status_is ∙ ap status_of full.1))
     ]
-  where
-    all_done : (end : End) → IsOwn end
-        → Leaves end (after_effects went.effects seen.old.contents) seen.new.contents
-        → seen.new.contents ≡ after_effects went.effects seen.old.contents
-    all_done Finished is leaves = leaves
-    all_done (Refused r) is leaves = leaves
-    all_done (Unreadable file) is leaves = absurd is
-    all_done (Unwritable effect) is leaves = absurd is
-    all_done OutOfMemory is leaves = absurd is
-    all_done (ArenaFull n) is leaves = absurd is
-    all_done (OverLimit l g n k) is leaves = leaves
-    all_done (NotMovable l) is leaves = leaves
 
 -- a tree leads to its plan, without a script
 leads_at_tree : (told : Option Files) (job : Job) (f : Groups) (own tree : Tree) → job.script ≡ None → own ≡ tree
@@ -321,7 +309,8 @@ completes words status kept seen went = λ calm some own few.
     let leads = subst (λ f. MayEnd words f (all_of own.effects) own.end) told.1
     (course_may_end words seen.old.contents.files own few) in
     elim (comes_to_own words status kept seen went calm told.0 told.1 (all_of own.effects) own.end few leads) [
-      | inl came ↦ inr (inr (came.0, came.1 ∙ after_all own.effects seen.old.contents, came.2))
+      | inl came ↦
+          inr (inr (came.0, leaves_all seen own.effects (all_of own.effects) own.end refl came.1, came.2))
       | inr (inl memory) ↦ inl memory
       | inr (inr full) ↦ inr (inl full)
     ]

@@ -24,7 +24,7 @@ use Rattle.sd_commands.specs.declared.state.RunState.{RunState}
 use Rattle.sd_commands.proofs.Outcomes.{names_after}
 use Rattle.sd_commands.proofs.Standing.{holds_names}
 use Rattle.sd_tool.specs.Effects.{Contents, after_effect, DoesPart}
-use Rattle.sd_tool.specs.Course.{request_of}
+use Rattle.sd_tool.specs.Course.{asked_by}
 use Rattle.sd_tool.specs.inside.Plans.{Plan}
 use Rattle.sd_tool.specs.Ends.{Finished, Unwritable, OutOfMemory as NoMemory, ArenaFull as NoRoom, OverLimit as Passes}
 use Rattle.sd_tool.specs.Ends.{NotMovable as StaysPut}
@@ -46,7 +46,7 @@ after_append (effect ∷ first) others old = after_append first others (after_ef
 
 -- the writings of two lists of effects
 writings_append : (first others : List Effect) → writings (first ++ others) ≡ writings first ++ writings others
-writings_append first others = flat_map-append request_of first others
+writings_append first others = flat_map-append asked_by first others
 
 -- one command more
 Steps_push : (input : Groups) (start mid new : State) (done : List NumberedCommand) (effects here : List Effect)

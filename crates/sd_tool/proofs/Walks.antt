@@ -14,7 +14,7 @@ use Rattle.sd_commands.specs.Standing.{IsFilled, IsTreeLeft}
 use Rattle.sd_commands.specs.declared.command.NumberedCommand.{NumberedCommand}
 use Rattle.sd_tool.specs.Effects.{Contents, after}
 use Rattle.sd_tool.specs.Readings.{Point, Refuses, Reads, Stands, reading_of}
-use Rattle.sd_tool.specs.Course.{Goes, request_of, EndsAt, Course, Leaves}
+use Rattle.sd_tool.specs.Course.{Goes, asked_by, EndsAt, Course, Leaves}
 use Rattle.sd_tool.specs.Devices.{Seen, HasReason, WritesEndLine}
 use Rattle.sd_tool.specs.Ends.{End, Finished, Refused, Unreadable, Unwritable, OutOfMemory, ArenaFull, OverLimit}
 use Rattle.sd_tool.specs.Ends.{NotMovable, status_of}
@@ -22,7 +22,7 @@ use Rattle.sd_tool.specs.KeptManager.{KeepsManager}
 use Rattle.sd_tool.specs.Theorem.{IsCourse}
 use Rattle.sd_tool.specs.inside.Asks.{ReadsBy, ComesTo, AsksLast, writings, begun, GoesTo}
 use Rattle.sd_tool.specs.inside.ByStatus.{IsOneCourse}
-use Rattle.sd_tool.specs.inside.Course.{Reaches, MayEnd, after_effects}
+use Rattle.sd_tool.specs.inside.Course.{EndLeaves, Reaches, MayEnd, after_effects}
 use Rattle.sd_tool.specs.inside.Kept.{HoldsAt, KeepsOf}
 use Rattle.sd_tool.specs.inside.Plans.{Plan, point_of}
 use Rattle.sd_tool.proofs.AskLemmas.{goes_may_end}
@@ -41,11 +41,11 @@ after_all (first ∷ others) old =
     after_append first (all_of others) old ∙ after_all others (after_effects first old)
 
 -- and ask for what those ask for
-asks_all : (effects : List (List Effect)) → flat_map (flat_map request_of) effects ≡ writings (all_of effects)
+asks_all : (effects : List (List Effect)) → flat_map (flat_map asked_by) effects ≡ writings (all_of effects)
 asks_all [] = refl
 asks_all (first ∷ others) =
     ap (λ (l : List Request). writings first ++ l) (asks_all others)
-    ∙ sym (flat_map-append request_of first (all_of others))
+    ∙ sym (flat_map-append asked_by first (all_of others))
 
 -- ---- forth
 
@@ -124,6 +124,38 @@ kept_full : (plan : Plan) (effects : List Effect) (elements : ℕ) (kept : Optio
 kept_full plan effects elements None keeps = absurd keeps
 kept_full plan effects elements (Some t) keeps = record { manager = t; is = refl; filled = keeps.0; holds = keeps.1 }
 
+-- what an end leaves after the effects of each command, by their contents and by what shows
+leaves_forth : (seen : Seen) (effects : List (List Effect)) (end : End)
+    → EndLeaves end (after effects seen.old.contents) seen.new.contents → Leaves effects end seen
+leaves_forth seen effects Finished leaves = leaves
+leaves_forth seen effects (Refused answer) leaves = leaves
+leaves_forth seen effects (Unreadable file) leaves = leaves
+leaves_forth seen effects (Unwritable effect) leaves = leaves
+leaves_forth seen effects OutOfMemory leaves = leaves
+leaves_forth seen effects (ArenaFull n) leaves = leaves
+leaves_forth seen effects (OverLimit l g n k) leaves = leaves
+leaves_forth seen effects (NotMovable l) leaves = leaves
+
+leaves_back : (seen : Seen) (effects : List (List Effect)) (end : End) → Leaves effects end seen
+    → EndLeaves end (after effects seen.old.contents) seen.new.contents
+leaves_back seen effects Finished leaves = leaves
+leaves_back seen effects (Refused answer) leaves = leaves
+leaves_back seen effects (Unreadable file) leaves = leaves
+leaves_back seen effects (Unwritable effect) leaves = leaves
+leaves_back seen effects OutOfMemory leaves = leaves
+leaves_back seen effects (ArenaFull n) leaves = leaves
+leaves_back seen effects (OverLimit l g n k) leaves = leaves
+leaves_back seen effects (NotMovable l) leaves = leaves
+
+-- so after all effects as one list
+pub leaves_all : (seen : Seen) (effects : List (List Effect)) (all : List Effect) (end : End) → all_of effects ≡ all
+    → EndLeaves end (after_effects all seen.old.contents) seen.new.contents → Leaves effects end seen
+leaves_all seen effects all end are leaves =
+    leaves_forth seen effects end
+    (subst (λ (c : Contents). EndLeaves end c seen.new.contents)
+    (ap (λ (l : List Effect). after_effects l seen.old.contents) (sym are) ∙ after_all effects seen.old.contents)
+    leaves)
+
 -- with no more requests
 with_none : (asks : List Request → Type 0) (files : Option Files) (reading point : Point)
     → ComesTo asks files reading point → ComesTo (λ earlier. asks (earlier ++ [])) files reading point
@@ -135,7 +167,7 @@ module _ (words : List (List ℕ)) (status : ℕ) (kept : Option Table) (seen : 
   by_readings : (end : End) (point : Point) (last : List Request)
       → ComesTo (λ earlier. seen.asked (earlier ++ last)) seen.old.contents.files (reading_of words) point
       → EndsAt point end last → effects ≡ [] → status ≡ status_of end
-      → Leaves end (after_effects effects seen.old.contents) seen.new.contents
+      → EndLeaves end (after_effects effects seen.old.contents) seen.new.contents
       → HasReason end seen.old.contents.files seen.old.faults seen.new.faults → KeepsManager point end kept
       → WritesEndLine end seen.old seen.new → IsCourse words status kept seen
   by_readings end point last led ends none is leaves reason keeps line = (
@@ -151,7 +183,7 @@ module _ (words : List (List ℕ)) (status : ℕ) (kept : Option Table) (seen : 
     is,
     subst (λ (l : List Request). seen.asked (l ++ last)) (sym (append-nil (map ToRead led.names))) led.asked,
     (
-      subst (λ l. Leaves end (after_effects l seen.old.contents) seen.new.contents) none leaves,
+      leaves_all seen [] effects end (sym none) leaves,
       (reason, keeps, line),
     ),
   )
@@ -162,13 +194,13 @@ module _ (words : List (List ℕ)) (status : ℕ) (kept : Option Table) (seen : 
       (reading_of words) (point_of plan)
       → Reaches plan effects state left → EndsAt (Stands plan.input state left) end last
       → writings (begun effects end) ≡ writings effects ++ last → status ≡ status_of end
-      → Leaves end (after_effects effects seen.old.contents) seen.new.contents
+      → EndLeaves end (after_effects effects seen.old.contents) seen.new.contents
       → HasReason end seen.old.contents.files seen.old.faults seen.new.faults
       → KeepsManager (Stands plan.input state left) end kept → WritesEndLine end seen.old seen.new
       → IsCourse words status kept seen
   by_commands end plan state left last led reaches ends asks is leaves reason keeps line =
       let walk = plan_goes seen.old.contents.files plan effects state left reaches in
-      let all : writings effects ≡ flat_map (flat_map request_of) walk.each =
+      let all : writings effects ≡ flat_map (flat_map asked_by) walk.each =
       ap writings (sym walk.are) ∙ sym (asks_all walk.each) in (
         record {
           names = led.names;
@@ -183,20 +215,17 @@ module _ (words : List (List ℕ)) (status : ℕ) (kept : Option Table) (seen : 
         is,
         subst seen.asked
             (ap (λ (l : List Request). map ToRead led.names ++ l) (asks ∙ ap (λ (l : List Request). l ++ last) all)
-            ∙ sym (append_assoc (map ToRead led.names) (flat_map (flat_map request_of) walk.each) last))
+            ∙ sym (append_assoc (map ToRead led.names) (flat_map (flat_map asked_by) walk.each) last))
             led.asked,
         (
-          subst (λ (c : Contents). Leaves end c seen.new.contents)
-              (ap (λ (l : List Effect). after_effects l seen.old.contents) (sym walk.are)
-              ∙ after_all walk.each seen.old.contents)
-              leaves,
+          leaves_all seen walk.each effects end walk.are leaves,
           (reason, keeps, line),
         ),
       )
 
   -- each end
   by_end : (end : End) → GoesTo seen.asked words seen.old.contents.files effects end kept → status ≡ status_of end
-      → Leaves end (after_effects effects seen.old.contents) seen.new.contents
+      → EndLeaves end (after_effects effects seen.old.contents) seen.new.contents
       → HasReason end seen.old.contents.files seen.old.faults seen.new.faults → WritesEndLine end seen.old seen.new
       → IsCourse words status kept seen
   by_end (Refused answer) (inl p) is leaves reason line =
@@ -219,9 +248,9 @@ module _ (words : List (List ℕ)) (status : ℕ) (kept : Option Table) (seen : 
   by_end Finished (inr p) is leaves reason line =
       by_commands Finished p.0 p.2.0 [] [] p.1 p.2.1 tt (sym (append-nil (writings effects))) is leaves reason p.3 line
   by_end (Unwritable effect) (inr p) is leaves reason line =
-      by_commands (Unwritable effect) p.0 p.2.0 (p.2.1 ∷ p.2.2.left) (request_of effect) p.1 p.2.2.reaches (refl, p.2.3)
-      (flat_map-append request_of effects (effect ∷ [])
-      ∙ ap (λ (l : List Request). writings effects ++ l) (append-nil (request_of effect)))
+      by_commands (Unwritable effect) p.0 p.2.0 (p.2.1 ∷ p.2.2.left) (asked_by effect) p.1 p.2.2.reaches (refl, p.2.3)
+      (flat_map-append asked_by effects (effect ∷ [])
+      ∙ ap (λ (l : List Request). writings effects ++ l) (append-nil (asked_by effect)))
       is leaves reason p.3 line
   by_end (ArenaFull n) (inr p) is leaves reason line =
       let full = kept_full p.0 effects n kept p.3 in
@@ -281,7 +310,7 @@ none_done files (Stands input state (next ∷ left)) to (first ∷ others) befor
 -- so it is one of the readings
 readings_back : (asks : List Request → Type 0) (files : Option Files) (reading point : Point) (names : List (List ℕ))
     (effects : List (List Effect)) (last : List Request) → IsBefore point → Goes files reading names effects point
-    → asks (map ToRead names ++ flat_map (flat_map request_of) effects ++ last)
+    → asks (map ToRead names ++ flat_map (flat_map asked_by) effects ++ last)
     → ComesTo (λ earlier. asks (earlier ++ last)) files reading point × (all_of effects ≡ [])
 readings_back asks files reading point names effects last before goes asked =
     let first = reads_first files names reading point effects goes in
@@ -289,7 +318,7 @@ readings_back asks files reading point names effects last before goes asked =
       record {
         names = names;
         asked = subst (λ (l : List Request). asks (l ++ last))
-            (ap (λ (l : List (List Effect)). map ToRead names ++ flat_map (flat_map request_of) l) none.1
+            (ap (λ (l : List (List Effect)). map ToRead names ++ flat_map (flat_map asked_by) l) none.1
             ∙ append-nil (map ToRead names))
             asked;
         reads = subst (ReadsBy files reading names) (sym none.0) first.reads;
@@ -369,8 +398,8 @@ plan_back files (Stands first start all) input state left effects p =
     }
 
 -- the readings led to a plan, whose commands led on
-pub record ByPlan (asks : List Request → Type 0) (files : Option Files) (reading : Point) (input : Groups) (state : State)
-    (left : List NumberedCommand) (effects : List Effect) (last : List Request) : Type 0 where
+pub record ByPlan (asks : List Request → Type 0) (files : Option Files) (reading : Point) (input : Groups)
+    (state : State) (left : List NumberedCommand) (effects : List Effect) (last : List Request) : Type 0 where
   pub plan : Plan
   pub same : input ≡ plan.input
   pub led : ComesTo (λ readings. asks (readings ++ writings effects ++ last)) files reading (point_of plan)
@@ -379,7 +408,7 @@ pub record ByPlan (asks : List Request → Type 0) (files : Option Files) (readi
 pub commands_back : (asks : List Request → Type 0) (files : Option Files) (reading : Point) (names : List (List ℕ))
     (effects : List (List Effect)) (last : List Request) (input : Groups) (state : State)
     (left : List NumberedCommand) → Goes files reading names effects (Stands input state left)
-    → asks (map ToRead names ++ flat_map (flat_map request_of) effects ++ last)
+    → asks (map ToRead names ++ flat_map (flat_map asked_by) effects ++ last)
     → ByPlan asks files reading input state left (all_of effects) last
 commands_back asks files reading names effects last input state left goes asked =
     let first = reads_first files names reading (Stands input state left) effects goes in
@@ -413,7 +442,7 @@ module _ (asks : List Request → Type 0) (words : List (List ℕ)) (files : Opt
     (names : List (List ℕ)) (effects : List (List Effect)) where
   -- each end at its point
   pub goes_back : (point : Point) (end : End) (last : List Request) → Goes files (reading_of words) names effects point
-      → EndsAt point end last → asks (map ToRead names ++ flat_map (flat_map request_of) effects ++ last)
+      → EndsAt point end last → asks (map ToRead names ++ flat_map (flat_map asked_by) effects ++ last)
       → KeepsManager point end kept → GoesTo asks words files (all_of effects) end kept
   goes_back (Refuses answer) (Refused found) [] goes ends asked keeps =
       let back = readings_back asks files (reading_of words) (Refuses answer) names effects [] tt goes asked in
@@ -467,8 +496,8 @@ module _ (asks : List Request → Type 0) (words : List (List ℕ)) (files : Opt
   goes_back (Stands input state (next ∷ left)) (Unwritable effect) last goes ends asked keeps =
       let all = all_of effects in
       let back = commands_back asks files (reading_of words) names effects last input state (next ∷ left) goes asked in
-      let whole = ap (λ (l : List Request). writings all ++ l) (ends.0 ∙ sym (append-nil (request_of effect)))
-      ∙ sym (flat_map-append request_of all (effect ∷ [])) in
+      let whole = ap (λ (l : List Request). writings all ++ l) (ends.0 ∙ sym (append-nil (asked_by effect)))
+      ∙ sym (flat_map-append asked_by all (effect ∷ [])) in
       let led = led_at asks files (reading_of words) all (Unwritable effect) back.plan last whole back.led in
       inr (
         back.plan,
@@ -547,8 +576,8 @@ one_course words status kept seen (course, is, asked, (leaves, (reason, keeps, l
   goes = goes_back seen.asked words seen.old.contents.files kept course.names course.effects course.point course.end
       course.begun course.goes course.ends asked keeps;
   status_is = is;
-  leaves = subst (λ (c : Contents). Leaves course.end c seen.new.contents)
-      (sym (after_all course.effects seen.old.contents)) leaves;
+  leaves = subst (λ (c : Contents). EndLeaves course.end c seen.new.contents)
+      (sym (after_all course.effects seen.old.contents)) (leaves_back seen course.effects course.end leaves);
   reason = reason;
   line = line;
 }

@@ -6,7 +6,7 @@ use Rattle.sd_base.specs.Files.{Files}
 use Rattle.sd_commands.specs.Effects.{Effect, Write, Print}
 use Rattle.sd_commands.specs.Commands.{State, Done, OverLimit as PassesLimit, NotMovable as Unmoved, Step, MayFill}
 use Rattle.sd_tool.specs.Devices.{Seen}
-use Rattle.sd_tool.specs.Effects.{Contents, DoesPart}
+use Rattle.sd_tool.specs.Effects.{after, DoesPart}
 use Rattle.sd_tool.specs.Readings.{Point, Refuses, Reads, Stands, IsText, reading_of}
 use Rattle.sd_tool.specs.Ends.{End, Finished, Refused, Unreadable, Unwritable, OutOfMemory, ArenaFull, OverLimit}
 use Rattle.sd_tool.specs.Ends.{NotMovable, status_of}
@@ -22,9 +22,9 @@ Goes files (Stands input state (next ∷ left)) [] (first ∷ others) to =
 Goes files from names effects to = ⊥
 
 -- what an effect asks of the shelf
-abbrev pub request_of : Effect → List Request
-request_of (Write file bytes) = ToWrite file ∷ []
-request_of (Print line) = []
+abbrev pub asked_by : Effect → List Request
+asked_by (Write file bytes) = ToWrite file ∷ []
+asked_by (Print line) = []
 
 -- The table of ends: at which point a run may end how, and what it asks of the shelf there. Memory may run out at each,
 -- and just behind a request to read. Before a command, the effect of that one fails, the arena is full, which it may
@@ -35,7 +35,7 @@ EndsAt (Reads file next) (Unreadable name) begun = (name ≡ file) × (begun ≡
 EndsAt (Reads file next) OutOfMemory (request ∷ []) = request ≡ ToRead file
 EndsAt (Stands input state []) Finished [] = Unit {0}
 EndsAt (Stands input state (next ∷ left)) (Unwritable effect) begun =
-    (begun ≡ request_of effect) × ((mid : State) × Step input state next.command (Done mid (effect ∷ [])))
+    (begun ≡ asked_by effect) × ((mid : State) × Step input state next.command (Done mid (effect ∷ [])))
 EndsAt (Stands input state (next ∷ left)) (ArenaFull elements) [] = MayFill next.command
 EndsAt (Stands input state (next ∷ left)) (OverLimit line group size limit) [] =
     (line ≡ next.line) × Step input state next.command (PassesLimit group size limit)
@@ -55,14 +55,13 @@ pub record Course (words : List (List ℕ)) (files : Option Files) : Type 0 wher
   pub goes : Goes files (reading_of words) names effects point
   pub ends : EndsAt point end begun
 
--- what an end leaves of the contents that are there: where the effect in hand fails, with a part of it
-abbrev pub Leaves : End → Contents → Contents → Type 0
-Leaves (Unwritable effect) old new = DoesPart effect old new
-Leaves end old new = new ≡ old
+-- what stands outside after these effects; where the effect in hand fails, with a part of it
+abbrev pub Leaves : List (List Effect) → End → Seen → Type 0
+Leaves effects (Unwritable effect) seen = DoesPart effect (after effects seen.old.contents) seen.new.contents
+Leaves effects end seen = seen.new.contents ≡ after effects seen.old.contents
 
 -- A run of this status took a course of which this holds, and asked of the shelf no more than that asks: to read its
 -- files, then to write those of its effects, and then what is asked at its end.
 abbrev pub Went : (words : List (List ℕ)) → ℕ → (seen : Seen) → (Course words seen.old.contents.files → Type 0) → Type 0
 Went words status seen holds = (course : Course words seen.old.contents.files) × (status ≡ status_of course.end)
-    × seen.asked (map ToRead course.names ++ flat_map (flat_map request_of) course.effects ++ course.begun)
-    × holds course
+    × seen.asked (map ToRead course.names ++ flat_map (flat_map asked_by) course.effects ++ course.begun) × holds course

@@ -23,17 +23,13 @@ pub data End : Type 0 where
   -- the total size passes the limit, at the command of a line, or there at a group of the input
   OverLimit : (line : ℕ) (group : Option ℕ) (size limit : ℕ) → End
 
--- what an effect writes to
-abbrev pub target_of : Effect → List ℕ
-target_of (Write file bytes) = file
-target_of (Print line) = codes "output"
-
 -- The table of ends: the status of each, and the text of its line after the name of the program.
 abbrev pub answer_of : End → ℕ × List ℕ
 answer_of Finished = (0, [])
 answer_of (Refused answer) = answer
 answer_of (Unreadable file) = (5, file ++ codes ": read fault")
-answer_of (Unwritable effect) = (6, target_of effect ++ codes ": write fault")
+answer_of (Unwritable (Write file bytes)) = (6, file ++ codes ": write fault")
+answer_of (Unwritable (Print line)) = (6, codes "output: write fault")
 answer_of OutOfMemory = (7, codes "out of memory")
 answer_of (ArenaFull elements) = (8, codes "arena full: " ++ number_text elements)
 answer_of (NotMovable line) = (3, codes "line " ++ number_text line ++ codes ": not movable")

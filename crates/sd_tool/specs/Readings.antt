@@ -108,9 +108,8 @@ announcement word formula = []
 -- The commands over this formula and this tree: with them all is accepted. They begin with no name, and with the job's
 -- limit, slack and number for searches.
 abbrev pub with_tree : Job → Groups → Tree → Point
-with_tree job formula tree = let first = start tree job.limit job.slack job.every in
-    with_commands job formula.variables
-    (λ commands. Stands formula first (announcement job.input formula ++ commands)) job.script
+with_tree job formula tree = with_commands job formula.variables (λ commands.
+    Stands formula (start tree job.limit job.slack job.every) (announcement job.input formula ++ commands)) job.script
 
 -- the start tree over the variables in order of which each left child gets half, one, or all but one of what is there,
 -- or the tree of a vtree file

@@ -15,9 +15,8 @@ use Rattle.sd_tool.specs.Refusals.{refusal_answer}
 use Rattle.sd_tool.specs.Ends.{End, Finished, Refused, Unreadable, Unwritable, OutOfMemory as NoMemory}
 use Rattle.sd_tool.specs.Ends.{ArenaFull as NoRoom, OverLimit, NotMovable, status_of, text_of}
 use Rattle.sd_tool.specs.Devices.{HasReason, Faults}
-use Rattle.sd_tool.specs.Course.{Leaves}
 use Rattle.sd_tool.specs.inside.Asks.{ComesTo, AsksLast, BreaksOff, GoesTo, begun, writings}
-use Rattle.sd_tool.specs.inside.Course.{EndsAmong, after_effects}
+use Rattle.sd_tool.specs.inside.Course.{EndLeaves, EndsAmong, after_effects}
 use Rattle.sd_tool.specs.inside.Devices.{LeavesPart}
 use Rattle.sd_tool.specs.inside.Kept.{HoldsAt, KeepsOf}
 use Rattle.sd_tool.specs.inside.Plans.{Plan}
@@ -89,7 +88,7 @@ pub record RunsToEnd (asks : List Request → Type 0) (plan : Plan) (t : Table) 
   pub ends : EndsAmong plan effects end
   pub asked : asks (writings (begun effects end))
   pub full_at : IsFullAt plan effects end t
-  pub leaves : Leaves end (after_effects effects old) new
+  pub leaves : EndLeaves end (after_effects effects old) new
   pub reason : HasReason end old.files before now
 
 -- the same, with what is kept
@@ -101,7 +100,7 @@ pub record CarriesOut (asks : List Request → Type 0) (plan : Plan) (kept : Opt
   pub ends : EndsAmong plan effects end
   pub asked : asks (writings (begun effects end))
   pub keeps : KeepsOf plan effects end kept
-  pub leaves : Leaves end (after_effects effects old) new
+  pub leaves : EndLeaves end (after_effects effects old) new
   pub reason : HasReason end old.files before now
 
 -- the one effect failed, after a part of it
@@ -119,7 +118,7 @@ pub record Attempts (asks : List Request → Type 0) (words : List (List ℕ)) (
   pub at : IsEnd result end
   pub effects : List Effect
   pub goes : GoesTo asks words old.files effects end kept
-  pub leaves : Leaves end (after_effects effects old) new
+  pub leaves : EndLeaves end (after_effects effects old) new
   pub reason : HasReason end old.files before now
 
 -- ---- the readings, step by step

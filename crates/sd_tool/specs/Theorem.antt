@@ -9,22 +9,19 @@ use Rattle.sd_model.specs.Tree.{Tree, leaves}
 use Rattle.sd_manager.specs.Table.{Table}
 use Rattle.sd_tool.specs.Course.{Course, Leaves, Went}
 use Rattle.sd_tool.specs.Devices.{Seen, IsCalm, WritesEndLine}
-use Rattle.sd_tool.specs.Effects.{after}
 use Rattle.sd_tool.specs.Ends.{status_of}
 use Rattle.sd_tool.specs.KeptManager.{EndsSo}
 use Rattle.sd_tool.specs.Texts.{WritesAt}
 
 -- course: the effects, the end and what is asked are those of one walk; `effects`, `line` and `ends` are its parts
 abbrev pub IsCourse : List (List ℕ) → ℕ → Option Table → Seen → Type 0
-IsCourse words status kept seen = Went words status seen (λ course.
-    Leaves course.end (after course.effects seen.old.contents) seen.new.contents
-    × EndsSo course.point course.end kept seen)
+IsCourse words status kept seen = Went words status seen
+    (λ course. Leaves course.effects course.end seen × EndsSo course.point course.end kept seen)
 
 -- effects: outside stands what the run's effects leave, and at 6 a part of the one in hand; what a command writes for
 -- roots is the text of their formulas' diagrams, compressed and trimmed for the vtree at its line (`Step`, `IsTextOf`)
 abbrev pub HasEffects : List (List ℕ) → ℕ → Seen → Type 0
-HasEffects words status seen = Went words status seen (λ course.
-    Leaves course.end (after course.effects seen.old.contents) seen.new.contents)
+HasEffects words status seen = Went words status seen (λ course. Leaves course.effects course.end seen)
 
 -- equal_texts: two texts that a run writes for one vtree are equal just if their formulas are, in order, one function;
 -- each command that a run comes to is at the point of a course, since memory may run out there
@@ -47,5 +44,4 @@ HasEnd words status kept seen = Went words status seen (λ course. EndsSo course
 abbrev pub IsComplete : List (List ℕ) → ℕ → Seen → Type 0
 IsComplete words status seen = IsCalm seen → seen.old.contents.files ≢ None
     → (own : Course words seen.old.contents.files) → status_of own.end ≤ 4 → (status ≡ 7) ⊎ (status ≡ 8)
-    ⊎ ((status ≡ status_of own.end) × (seen.new.contents ≡ after own.effects seen.old.contents)
-    × WritesEndLine own.end seen.old seen.new)
+    ⊎ ((status ≡ status_of own.end) × Leaves own.effects own.end seen × WritesEndLine own.end seen.old seen.new)

@@ -6,7 +6,7 @@ use Rattle.sd_base.specs.Files.{Files}
 use Rattle.sd_manager.specs.Table.{Table}
 use Rattle.sd_commands.specs.Effects.{Effect}
 use Rattle.sd_tool.specs.Readings.{Point, Refuses, Reads, reading_of}
-use Rattle.sd_tool.specs.Course.{Goes, request_of}
+use Rattle.sd_tool.specs.Course.{Goes, asked_by}
 use Rattle.sd_tool.specs.Ends.{End, Refused, Unreadable, Unwritable, OutOfMemory}
 use Rattle.sd_tool.specs.inside.Course.{EndsAmong}
 use Rattle.sd_tool.specs.inside.Kept.{KeepsOf}
@@ -46,7 +46,7 @@ BreaksOff asks files reading =
 
 -- the writings of these effects, in order
 abbrev pub writings : List Effect → List Request
-writings effects = flat_map request_of effects
+writings effects = flat_map asked_by effects
 
 -- the effects that are begun: where the effect in hand fails, it is the last
 abbrev pub begun : List Effect → End → List Effect

@@ -6,13 +6,12 @@ use Rattle.sd_commands.specs.Standing.{IsFilled}
 use Rattle.sd_tool.specs.Effects.{DoesPart}
 use Rattle.sd_tool.specs.Readings.{Refuses, Reads, reading_of}
 use Rattle.sd_tool.specs.inside.Asks.{GoesTo}
-use Rattle.sd_tool.specs.inside.Course.{ReadsTo, MayEnd, after_effects}
+use Rattle.sd_tool.specs.inside.Course.{EndLeaves, ReadsTo, MayEnd, after_effects}
 use Rattle.sd_tool.specs.inside.Kept.{HoldsAt}
 use Rattle.sd_tool.specs.inside.Plans.{Plan, point_of}
 use Rattle.sd_tool.specs.Ends.{End, Finished, Refused, Unreadable, Unwritable, OutOfMemory, ArenaFull, OverLimit}
 use Rattle.sd_tool.specs.Ends.{NotMovable, status_of}
 use Rattle.sd_tool.specs.Devices.{Moment, Seen, HasReason, WritesEndLine}
-use Rattle.sd_tool.specs.Course.{Leaves}
 
 -- How the run went: what it did and how it ended, where the words and the files lead; what was asked of the shelf, the
 -- status, the files and what was printed, the reason, what is kept and the line are those of this one course.
@@ -21,7 +20,7 @@ pub record IsOneCourse (words : List (List ℕ)) (status : ℕ) (kept : Option T
   pub end : End
   pub goes : GoesTo seen.asked words seen.old.contents.files effects end kept
   pub status_is : status ≡ status_of end
-  pub leaves : Leaves end (after_effects effects seen.old.contents) seen.new.contents
+  pub leaves : EndLeaves end (after_effects effects seen.old.contents) seen.new.contents
   pub reason : HasReason end seen.old.contents.files seen.old.faults seen.new.faults
   pub line : WritesEndLine end seen.old seen.new
 

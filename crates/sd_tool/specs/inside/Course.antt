@@ -6,7 +6,7 @@ use Rattle.sd_commands.specs.Effects.{Effect}
 use Rattle.sd_commands.specs.Commands.{State, Done, OverLimit as PassesLimit, NotMovable as Unmoved, Step, Steps}
 use Rattle.sd_commands.specs.Commands.{MayFill}
 use Rattle.sd_commands.specs.declared.command.NumberedCommand.{NumberedCommand}
-use Rattle.sd_tool.specs.Effects.{Contents, after_effect}
+use Rattle.sd_tool.specs.Effects.{Contents, after_effect, DoesPart}
 use Rattle.sd_tool.specs.Ends.{End, Finished, Refused, Unreadable, Unwritable, OutOfMemory, ArenaFull, OverLimit}
 use Rattle.sd_tool.specs.Ends.{NotMovable}
 use Rattle.sd_tool.specs.Readings.{Point, Refuses, Reads, Stands, IsText, reading_of}
@@ -15,6 +15,11 @@ use Rattle.sd_tool.specs.inside.Plans.{Plan, point_of}
 -- the contents after these effects, in order
 abbrev pub after_effects : List Effect → Contents → Contents
 after_effects effects contents = fold (λ before effect. after_effect effect before) contents effects
+
+-- what an end leaves of these contents: where the effect in hand fails, with a part of it
+abbrev pub EndLeaves : End → Contents → Contents → Type 0
+EndLeaves (Unwritable effect) old new = DoesPart effect old new
+EndLeaves end old new = new ≡ old
 
 -- ---- the commands of a plan
 
