@@ -56,8 +56,8 @@ ends_at x y h = cc
 -- ---- the pairs of a decomposition
 
 -- the index of an id is below their number
-index_below : (ids : List ℕ) (line id p : ℕ) → ok_or (index_of_id id ids) (at_line line (codes ": child unknown")) ≡ Ok p
-    → p < length ids
+index_below : (ids : List ℕ) (line id p : ℕ)
+    → ok_or (index_of_id id ids) (at_line line (codes ": child unknown")) ≡ Ok p → p < length ids
 index_below ids line id p h = (position-Some (λ i. i == id) ids p 0 (had _ _ p h)).0
 
 -- two readings of numbers gave them

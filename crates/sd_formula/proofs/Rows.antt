@@ -117,7 +117,8 @@ variables_first : dimacs Cnf (codes "p cnf 0 1000001\n") ≡ Err (codes ": varia
 unfolding dimacs number_text
 variables_first = refl
 
-groups_before_body : dimacs Cnf (codes "p cnf 2 1000001\nq\n") ≡ Err (codes ": too many groups: " ++ number_text 1000001)
+groups_before_body : dimacs Cnf (codes "p cnf 2 1000001\nq\n")
+    ≡ Err (codes ": too many groups: " ++ number_text 1000001)
 unfolding dimacs
 groups_before_body = refl
 

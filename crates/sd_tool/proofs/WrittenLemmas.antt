@@ -40,7 +40,8 @@ use Rattle.sd_tool.specs.Readings.{Point, Refuses, Reads, Stands, IsText}
 use Rattle.sd_tool.specs.inside.Plans.{Plan, point_of, plan_for}
 use Rattle.sd_tool.specs.inside.Readings.{Text}
 use Rattle.sd_tool.specs.inside.Course.{ReadsTo, MayEnd, after_effects}
-use Rattle.sd_tool.specs.inside.Readings.{Input, with_job, with_input, with_formula_reading, with_vtree_reading, IsInput}
+use Rattle.sd_tool.specs.inside.Readings.{Input, with_job, with_input, with_formula_reading, with_vtree_reading}
+use Rattle.sd_tool.specs.inside.Readings.{IsInput}
 use Rattle.sd_tool.specs.Readings.{reading_of, with_input_word, with_tree_word}
 use Rattle.sd_tool.specs.Readings.{with_tree, with_commands, default_of}
 use Rattle.sd_tool.specs.inside.Readings.{in_lines, for_file}

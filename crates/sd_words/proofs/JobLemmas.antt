@@ -46,7 +46,8 @@ tested false f later others job is = is
 -- the same of something that is looked for
 looked_for : {A : Type 0} (fault : A → WordsFault) (found : Option A) (later : Result Job (List ℕ))
     (others : List (Option WordsFault)) (job : Job) → later ≡ unless (first_some others) job
-    → (fault_for (λ x. words_fault_text (fault x)) found >> later) ≡ unless (first_some (option_map fault found ∷ others)) job
+    → (fault_for (λ x. words_fault_text (fault x)) found >> later)
+    ≡ unless (first_some (option_map fault found ∷ others)) job
 looked_for fault (Some x) later others job is = refl
 looked_for fault None later others job is = is
 
