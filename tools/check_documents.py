@@ -1,8 +1,8 @@
 #!/usr/bin/env python3
 """Checks that the documents say what the code says, and prints what differs.
 
-README's table of options against the options of `sd_words`, the fault texts of docs/FORMATS.md against the definitions
-of `sd_tool`, the crates and what they stand on in docs/MAP.md against crates.txt, each clause, edit and test that
+README's table of options against the options of `sd_words`, the fault texts of docs/FORMATS.md against the tables
+of the readers and the table of answers of `sd_tool`, the crates and what they stand on in docs/MAP.md against crates.txt, each clause, edit and test that
 docs/ANSWERS.md names and each path that a document names against the files, the number of definitions in README against
 the count, and the commands of README and docs/TOUR.md against examples/expected.txt, which has what each prints and
 writes. With --run PROGRAM it runs these too, as `python3 tools/check_documents.py --run ./sddc` does. No sentence of
@@ -99,7 +99,8 @@ def check_faults():
             faults.append("docs/FORMATS.md, %s: no fault has the text '%s'" % (section, text))
     told = text_of("docs/FORMATS.md")
     ends = text_of("crates/sd_tool/specs/Ends.antt")
-    for string in re.findall(r'codes "([^"]*)"', ends[ends.index("answer_of Finished"):ends.index("\nabbrev pub status_of")]):
+    table = ends[ends.index("answer_of Finished"):ends.index("\nabbrev pub status_of")]
+    for string in re.findall(r'codes "([^"]*)"', table):
         expect(string.strip() in told, "docs/FORMATS.md: lacks '%s'" % string)
     for text in texts_defined("words_fault_text"):
         expect("`sddc: %s" % text.split("#")[0] in told, "docs/FORMATS.md: lacks '%s'" % text)

@@ -2,7 +2,7 @@
 use Rattle.std.specs.Prelude.{ℕ, suc, true, false, List, ◌++◌, codes, ℤ, pos, negsuc}
 use Rattle.sd_model.specs.Text.{number_text, literal_text}
 
--- a fault of a line
+-- the text of a fault, with the number of its line
 abbrev pub at_line : ℕ → List ℕ → List ℕ
 at_line n text = codes ": line " ++ number_text n ++ text
 

@@ -47,8 +47,8 @@ start tree limit slack every = record { names = []; tree = tree; limit = limit; 
 -- ---- what a command leaves where the arena is full
 
 -- The tree that a command leaves where it stops: that of the state, but at a search the one after the walks that were
--- done, and at an input the one to which some of its groups lead, or, where the search behind the next group is due and
--- the size with it is within the limit, the one after the walks of that search that were done.
+-- done, and at an input the one to which some of its groups lead, or, where the next group is within the limit and a
+-- search is due behind it, the one after the walks of that search that were done.
 abbrev pub IsTreeLeft : Groups → State → RunCommand → Tree → Type 0
 IsTreeLeft input state (commands.Minimise rounds) tree =
     (tree ≡ state.tree) ⊎ IsSearchBegun (formulas_of state) state.slack rounds state.tree tree

@@ -1,4 +1,5 @@
--- The nodes that an SDD file stands for, or the text of its first fault, and the file's value.
+-- The nodes that an SDD file stands for, or the text of its first fault, behind the name of the file; and the file's
+-- value.
 use Rattle.std.specs.Prelude.{◌≡◌, ℕ, Bool, true, false, not, ◌&&◌, ◌==◌, ◌*◌, nat_le, if◌then◌else◌}
 use Rattle.std.specs.Prelude.{List, [], ◌∷◌, map, length, position, Option, Some, None, ok_or, option_map}
 use Rattle.std.specs.Prelude.{option_and_then, is_some, Result, Ok, Err, ℤ, unsigned_abs, codes, bytes_eq}
@@ -171,7 +172,7 @@ sdd_fault_text (CountDiffers s f) = counts s f
 sdd_fault_text Empty = codes ": no nodes"
 sdd_fault_text OutOfMemory = []
 
--- a reading has this fault; OutOfMemory says nothing of it
+-- a reading has the text of this fault; OutOfMemory says nothing of it
 abbrev pub Fails : {Y : Type 0} → SddFault → Result Y (List ℕ) → Type 0
 Fails OutOfMemory reading = Unit {0}
 Fails fault reading = reading ≡ Err (sdd_fault_text fault)

@@ -50,7 +50,7 @@ numbers_of kind (name ∷ variables ∷ groups ∷ []) =
     else None
 numbers_of kind words = None
 
--- the numbers of a header line, 1 to 1,024 variables and at most 1,000,000 groups, or its fault
+-- the numbers of a header line, 1 to 1,024 variables and at most 1,000,000 groups, or the text of its fault
 abbrev pub header_of : Kind → TextLine → Result Stated (List ℕ)
 header_of kind line = do
   fault_if (not (is_header line.words)) (codes ": no header")
@@ -141,7 +141,7 @@ formula_of kind (header ∷ lines) = do
   parts ← each (group_of_words kind stated.variables) (slice_split is_end (flat_map (pieces_of kind) (body_of lines)))
   groups_of kind stated parts
 
--- The formula of a text, or its first fault. Blank lines and comments, which begin with c, are passed over.
+-- The formula of a text, or the text of its first fault. Blank lines and comments, which begin with c, are passed over.
 unfoldable pub dimacs : Kind → List ℕ → Result Groups (List ℕ)
 dimacs kind bytes = formula_of kind (content_of 99 bytes)
 

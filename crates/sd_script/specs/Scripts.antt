@@ -1,4 +1,4 @@
--- The commands that the text of a script stands for, or the text of its first fault.
+-- The commands that the text of a script stands for, or the text of its first fault, behind the name of the file.
 use Rattle.std.specs.Prelude.{◌≡◌, ℕ, ◌-◌, ◌*◌, Bool, true, not, ◌&&◌, nat_le, nat_lt, if◌then◌else◌}
 use Rattle.std.specs.Prelude.{List, [], ◌∷◌, ◌++◌, codes, flat_map, count_by, ok_or, Result, Ok, Err}
 use Rattle.std.specs.List.{list_any, list_all}
@@ -77,7 +77,7 @@ with_action v line action s = do
 
 -- ---- what a reader answers
 
--- a reading has this fault, by its text; OutOfMemory says nothing of it
+-- a reading has the text of this fault; OutOfMemory says nothing of it
 abbrev pub Fails : {Y : Type 0} → ScriptFault → Result Y (List ℕ) → Type 0
 Fails OutOfMemory reading = Unit {0}
 Fails fault reading = reading ≡ Err (script_fault_text fault)

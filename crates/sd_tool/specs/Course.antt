@@ -26,9 +26,10 @@ abbrev pub asked_by : Effect → List Request
 asked_by (Write file bytes) = ToWrite file ∷ []
 asked_by (Print line) = []
 
--- The table of ends: at which point a run may end how, and what it asks of the shelf there. Memory may run out at each,
--- and just behind a request to read. Before a command, the effect of that one fails, the arena is full, which it may
--- need, or it is refused, since the total size passes the limit or its place is not movable.
+-- The table of ends: at which point a run may end how, and what it asks of the shelf there. A refusal is the end. The
+-- file that is next is asked for, and not read. Where no command is left, all is done. At a command its effect fails,
+-- the arena is full, which the command may need, or it is refused, since the total size passes the limit or its place
+-- is not movable. Memory may run out at each point, and just behind a request to read.
 abbrev pub EndsAt : Point → End → List Request → Type 0
 EndsAt (Refuses answer) (Refused found) [] = found ≡ answer
 EndsAt (Reads file next) (Unreadable name) begun = (name ≡ file) × (begun ≡ ToRead file ∷ [])
@@ -60,8 +61,8 @@ abbrev pub Leaves : List (List Effect) → End → Seen → Type 0
 Leaves effects (Unwritable effect) seen = DoesPart effect (after effects seen.old.contents) seen.new.contents
 Leaves effects end seen = seen.new.contents ≡ after effects seen.old.contents
 
--- A run of this status took a course of which this holds, and asked of the shelf no more than that asks: to read its
--- files, then to write those of its effects, and then what is asked at its end.
+-- A run of this status took a course of which this holds, and asked of the shelf just what that asks, in this order: to
+-- read its files, to write those of its effects, and what is asked at its end.
 abbrev pub Went : (words : List (List ℕ)) → ℕ → (seen : Seen) → (Course words seen.old.contents.files → Type 0) → Type 0
 Went words status seen holds = (course : Course words seen.old.contents.files) × (status ≡ status_of course.end)
     × seen.asked (map ToRead course.names ++ flat_map (flat_map asked_by) course.effects ++ course.begun) × holds course

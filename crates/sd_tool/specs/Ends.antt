@@ -23,7 +23,7 @@ pub data End : Type 0 where
   -- the total size passes the limit, at the command of a line, or there at a group of the input
   OverLimit : (line : ℕ) (group : Option ℕ) (size limit : ℕ) → End
 
--- The table of ends: the status of each, and the text of its line after the name of the program.
+-- The table of answers: the status of each end, and the text of its line after the name of the program.
 abbrev pub answer_of : End → ℕ × List ℕ
 answer_of Finished = (0, [])
 answer_of (Refused answer) = answer

@@ -1,6 +1,6 @@
 -- What follows from the course of a run, without speaking of it: of runs without a script, of a script of four lines,
 -- and of what is asked of the shelf. The functions of src/laws.rt state it; a reader of `run` need believe none of it.
-use Rattle.std.specs.Prelude.{◌≡◌, ◌≢◌, ◌⊎◌, ℕ, List, [], ◌++◌, map, Option, Err}
+use Rattle.std.specs.Prelude.{◌≡◌, ◌⊎◌, ℕ, List, [], ◌++◌, map, Option}
 use Rattle.sd_base.specs.Asked.{Request, ToRead, ToWrite}
 use Rattle.sd_base.specs.declared.shelf.Shelf as shelves
 use Rattle.sd_base.specs.declared.sink.Sink as sinks

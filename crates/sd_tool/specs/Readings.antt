@@ -1,5 +1,5 @@
--- The points of a run: what it reads before its first command, when that is refused, and the commands that are then
--- before it. A later reading is one more `Reads`.
+-- The points of a run, and how it comes to its commands: what it reads before the first one, when that is refused, and
+-- which commands follow. A later reading is one more `Reads`.
 use Rattle.std.specs.Prelude.{◌≡◌, ℕ, ◌+◌, ◌-◌, ◌/◌, ◌<◌, ◌≤◌}
 use Rattle.std.specs.Prelude.{List, [], ◌∷◌, ◌++◌, codes, length, map, slice_index_or}
 use Rattle.std.specs.List.{enumerate_from}

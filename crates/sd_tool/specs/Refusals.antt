@@ -1,5 +1,5 @@
 -- What a refusal of the code says, for the contracts of private functions.
-use Rattle.std.specs.Prelude.{ℕ, List, [], ◌++◌, codes}
+use Rattle.std.specs.Prelude.{ℕ, List, ◌++◌, codes}
 use Rattle.sd_words.specs.Rows.{words_fault_text}
 use Rattle.sd_formula.specs.Dimacs.{formula_fault_text}
 use Rattle.sd_vfile.specs.Reads.{vtree_fault_text}

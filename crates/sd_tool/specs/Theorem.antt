@@ -13,7 +13,8 @@ use Rattle.sd_tool.specs.Ends.{status_of}
 use Rattle.sd_tool.specs.KeptManager.{EndsSo}
 use Rattle.sd_tool.specs.Texts.{WritesAt}
 
--- course: the effects, the end and what is asked are those of one walk; `effects`, `line` and `ends` are its parts
+-- course: the effects, the end, what is kept and what is asked are those of one walk; `effects`, `line` and `ends` are
+-- its parts
 abbrev pub IsCourse : List (List ℕ) → ℕ → Option Table → Seen → Type 0
 IsCourse words status kept seen = Went words status seen
     (λ course. Leaves course.effects course.end seen × EndsSo course.point course.end kept seen)
@@ -23,8 +24,8 @@ IsCourse words status kept seen = Went words status seen
 abbrev pub HasEffects : List (List ℕ) → ℕ → Seen → Type 0
 HasEffects words status seen = Went words status seen (λ course. Leaves course.effects course.end seen)
 
--- equal_texts: two texts that a run writes for one vtree are equal just if their formulas are, in order, one function;
--- each command that a run comes to is at the point of a course, since memory may run out there
+-- equal_texts: two texts that a run may write for one vtree are equal just if their formulas are, in order, one
+-- function; `one` and `other` stop before a command that writes, as a course may before any, where memory runs out
 abbrev pub HasEqualTexts : List (List ℕ) → Seen → Type 0
 HasEqualTexts words seen = (one other : Course words seen.old.contents.files) (tree : Tree) (fs gs : List Expression)
     (a b : List ℕ) → WritesAt one.point tree fs a → WritesAt other.point tree gs b

@@ -115,8 +115,8 @@ of_nodes word no_header differs node made (header ∷ lines) = do
   fault_if (not (stated == length nodes)) (differs stated (length nodes))
   made nodes
 
--- The tree of a text over the variables 1 to v, or the text's first fault. Blank lines and comments, which begin with
--- c, are passed over.
+-- The tree of a text over the variables 1 to v, or the text of its first fault. Blank lines and comments, which begin
+-- with c, are passed over.
 unfoldable pub vtree_file : ℕ → List ℕ → Result Tree (List ℕ)
 vtree_file v bytes =
     of_nodes (codes "vtree") (codes ": no header") counts (entry_of v) (tree_of_nodes v)

@@ -48,8 +48,8 @@ job_of_parsed parsed = record {
 abbrev pub name_of_both : Option Text → Option Text → Option Text
 name_of_both a b = option_and_then (λ (x, y). then_some (bytes_eq x y) x) (option_zip a b)
 
--- The job, or the first fault of the values, as the line of the end tells it. Where several options have the same
--- fault, the first is named.
+-- The job, or the text of the first fault of the values, as the line of the end has it. Where several options have the
+-- same fault, the first is named.
 unfoldable pub job_from : ParsedOptions → Result Job (List ℕ)
 job_from parsed = do
   -- of `--cnf`, `--dnf` and `--generate` one is there
