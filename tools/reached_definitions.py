@@ -11,7 +11,6 @@ import sys
 
 CRATES = os.path.join(os.path.dirname(os.path.abspath(__file__)), "..", "crates")
 IMPORT = re.compile(r"^(?:unfoldable |pub |ghost )*use Rattle\.([\w.+]+?)\.(?:\{([^}]*)\}|(\w+))(?: as (\w+))?;?$")
-HEAD = re.compile(r"^(?:abbrev |unfoldable |pub |record |data |inductive )*(◌?[\w◌]+)\b.* : |^pub record (\w+)|^pub data (\w+)")
 NAME = re.compile(r"[A-Za-z_]\w*(?:\.[A-Za-z_]\w*)*")
 
 
@@ -46,12 +45,13 @@ def imports_of(lines):
 
 
 class SpecsFile:
-    """The definitions of one file: their lines by name."""
+    """The definitions of one file: their lines by name, and the data type of each constructor."""
 
     def __init__(self, path):
         lines = without_comments(open(path, encoding="utf-8"), "--")
         self.imports, self.modules = imports_of(lines)
         self.definitions = {}
+        self.constructors = {}
         current, mutual = None, False
         for line in lines:
             if line.startswith(("use ", "pub use ", "unfoldable pub use ")):
@@ -66,6 +66,11 @@ class SpecsFile:
                 current = self.name_of(line, current)
             if current:
                 self.definitions.setdefault(current, []).append(line)
+        for name, body in self.definitions.items():
+            if " data " in " " + body[0]:
+                for line in body[1:]:
+                    for constructor in re.findall(r"^  (\w+) :", line):
+                        self.constructors[constructor] = name
 
     @staticmethod
     def name_of(line, current):
@@ -90,6 +95,9 @@ def reach(module, name, seen):
     if path is None or (path, name) in seen:
         return
     file = specs(path)
+    name = file.constructors.get(name, name)
+    if (path, name) in seen:
+        return
     if name not in file.definitions:
         if name in file.imports:
             reach(*file.imports[name], seen)
@@ -105,7 +113,7 @@ def follow(text, module, file, seen):
             reach(file.modules[first], rest.split(".")[0], seen)
         elif first in file.imports:
             reach(*file.imports[first], seen)
-        elif first in file.definitions:
+        elif first in file.definitions or first in file.constructors:
             reach(module, first, seen)
 
 
