@@ -1,5 +1,5 @@
 -- Products with a partition of two elements: an element stays whole where one of both primes holds wherever its own
--- does, and where both subs come to one.
+-- does, and where both subs come to one. Beside a partition of one element it always stays whole.
 use Rattle.std.proofs.Common.{◌≡◌, ℕ, zero, suc, Bool, true, false, ◌&&◌, cond, List, [], ◌∷◌, ◌++◌, length, map}
 use Rattle.std.proofs.Common.{get_or, refl, sym, ◌∙◌, ap, subst, arith, append_assoc, append-nil}
 use Rattle.std.specs.FinMap.{get}
@@ -216,6 +216,53 @@ whole_product m n o u w e f g list l r c i k part two ef eg asked pushed = recor
             ∙ ap (λ v. answers a gs ++ v) (one_row o (meaning d.0 a) (meaning d.1 a) (meaning q.diagram a) one.0
             (answers a fs) one.1
             (λ there. q.value a one.0 there (ap (answers a) (sym t.all) ∙ one.1)));
+      };
+}
+
+-- the element that a list of one shows
+one_shown : (t : Table) (u w : ℕ) (list : List (ℕ × ℕ)) (ds : List (Diagram × Diagram)) (f : ℕ × ℕ) →
+    length list ≡ 1 → ◌≡◌ {A = ℕ × ℕ} f (get_or list 0 (0, 0)) → AllZip (IsPair t u w) list ds →
+    (x : Diagram × Diagram) × IsPair t u w f x × (ds ≡ x ∷ [])
+one_shown t u w [] ds f n ef h = absurd (omega (arith, n))
+one_shown t u w (a ∷ b ∷ l) ds f n ef h = absurd (omega (arith, n))
+one_shown t u w (a ∷ []) [] f n ef h = absurd h
+one_shown t u w (a ∷ []) (x ∷ y ∷ ds) f n ef h = absurd h.1
+one_shown t u w (a ∷ []) (x ∷ []) f n ef h =
+    let P : ℕ × ℕ → Type 0 = λ c. IsPair t u w c x in
+    (x, subst P (sym ef) h.0, refl)
+
+-- the prime of a partition of one element is true, so the element beside it stays whole
+pub product_by_one : (m n : Table) (o : Operation) (u w : ℕ) (e f : ℕ × ℕ) (list l r : List (ℕ × ℕ)) (c : ℕ) →
+    IsTable m → Extends m n → IsPartitionBelow m u w list → length list ≡ 1 →
+    ◌≡◌ {A = ℕ × ℕ} f (get_or list 0 (0, 0)) → Applies m n o w e.1 f.1 c → r ≡ l ++ (e.0, c) ∷ [] →
+    MultipliesElement m n o u w e list l r
+product_by_one m n o u w e f list l r c i k part one ef h pushed = record {
+  each = λ d fs gs hd hf hg.
+      let t = one_shown m u w list fs f one ef hf.lists.pairs in
+      let x = t.0 in
+      let q = h.each d.1 x.1 (pair_sub m u w e d hd) (pair_sub m u w f x t.1) in
+      let d1 = pair_on m n k u w e d hd in
+      let x1 = pair_on m n k u w f x t.1 in
+      let new : Diagram × Diagram = (d.0, q.diagram) in
+      let pair : IsPair n u w (e.0, c) new = record {
+        prime_shows = d1.prime_shows;
+        sub_shows = q.is.shows;
+        prime = d1.prime;
+        sub = answer_under n.vtree w o d.1 x.1 q.diagram d1.sub x1.sub q.is.canonical q.value;
+        possible = hd.possible;
+      } in
+      let L : List (ℕ × ℕ) → Type 0 = λ z. ListsElements n u w z (gs ++ new ∷ []) in
+      let same = same_shown m i u w list list fs part.shown hf.lists part.is.lists refl in
+      record {
+        shown = gs ++ new ∷ [];
+        lists = subst L (sym pushed) (lists_push n u w l gs (e.0, c) new (lists_on m n k u w l gs hg) pair);
+        value = λ a.
+            let v = one_value (answers a fs) (ap (λ z. length (answers a z)) same ∙ part.is.one_true a) in
+            answers_push a gs new
+            ∙ ap (λ z. answers a gs ++ z) (one_row o (meaning d.0 a) (meaning d.1 a) (meaning q.diagram a) v.0
+            (answers a fs) v.1
+            (λ there. q.value a ∙ ap (combine o (meaning d.1 a))
+            (last_value (meaning x.0 a) (meaning x.1 a) v.0 (ap (answers a) (sym t.2) ∙ v.1))));
       };
 }
 
