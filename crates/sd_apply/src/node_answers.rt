@@ -10,7 +10,7 @@ ghost use Rattle.sd_apply.specs.GroupCalls.{IsFoundBefore, IsRightEntry, AreRigh
 
 use std::alloc::{AllocError, Global};
 
-/// The number of entries at first.
+/// The number of entries with the first answer.
 const LEAST: usize = 64;
 
 /// A table of so many entries does not grow.
@@ -37,8 +37,9 @@ impl NodeEntry {
     }
 }
 
-/// Answers of one join. The table grows to four times as many entries, up to 65,536, whenever as many answers were
-/// kept as it has entries; where memory is refused it stays as it is, and at worst keeps nothing.
+/// Answers of one join. There are no entries before the first answer. The table grows to four times as many, up to
+/// 65,536, whenever as many answers were kept as it has entries; where memory is refused it stays as it is, and keeps
+/// nothing at worst.
 #[derive(Drop)]
 pub(crate) struct NodeAnswers {
     entries: Vec<NodeEntry>,
@@ -78,15 +79,14 @@ fn refill(old: &[NodeEntry], wider: &mut Vec<NodeEntry>)
 }
 
 impl NodeAnswers {
-    /// A table with no answers; without entries where memory is refused.
+    /// A table with no answers and no entries yet. Takes no memory.
     pub(crate) fn new(alloc: Global) -> NodeAnswers
         ensures { (t : Table) (o : Operation) (l : List (ℕ × ℤ)) → Remembers result t o l }
     {
-        let entries = match blanks(alloc, LEAST) {
-            Ok(entries) => entries,
-            Err(_) => Vec::new(alloc),
-        };
-        NodeAnswers { entries, kept: 0 }
+        NodeAnswers {
+            entries: Vec::new(alloc),
+            kept: 0,
+        }
     }
 
     /// The answer that stands here for the node and the literals before the next index.
@@ -123,17 +123,17 @@ impl NodeAnswers {
         self.kept = self.kept.saturating_add(1);
     }
 
-    // Makes room for four times as many answers, where memory is not refused.
+    // Makes room for four times as many answers, or for the first ones, where memory is not refused.
     fn grow(&mut self, alloc: Global)
         ensures right { (t : Table) (o : Operation) (l : List (ℕ × ℤ)) → Remembers self.old t o l →
             Remembers self.new t o l }
     {
         self.kept = 0;
         let count = self.entries.len();
-        if count == 0 || count >= MOST {
+        if count >= MOST {
             return;
         }
-        let Ok(mut wider) = blanks(alloc, count * 4) else {
+        let Ok(mut wider) = blanks(alloc, (count * 4).max(LEAST)) else {
             return;
         };
         refill(&self.entries, &mut wider);
