@@ -5,7 +5,8 @@
 // nanoseconds) is dear beside a step of an operation. So the public call asks the cache once, and all
 // inside it asks this table: one load to ask, one store to keep, and an answer whose entry is taken
 // drops the one there. What was dropped is found anew, which costs time and changes no answer, so the
-// contracts say only that each entry is blank or was kept.
+// contracts say that each entry is blank or was kept, and that where there are entries an answer is kept,
+// but not which ones it drops.
 //
 // An entry has 16 bytes. There are none until the first answer is kept, then 64, 1 KB, and at most
 // 65,536, 1 MB: four times as many whenever as many answers were kept as there are entries.
@@ -19,7 +20,7 @@
 // and at its negation do where they fall on one entry, each level repeats the work of the one below
 // it and the time is exponential in the depth. No contract sees this: whoever changes the hash, the
 // size at first or the growth runs the test `deepest_level` of `sd_apply`, which goes down 1,024 levels.
-ghost use Rattle.std.specs.Prelude.{◌≡◌, ◌<◌, ◌∷◌, [], length, Contains, IfOk, IfSome};
+ghost use Rattle.std.specs.Prelude.{◌≡◌, ◌<◌, ◌≤◌, ◌∷◌, [], length, Contains, IfOk, IfSome};
 ghost use Rattle.sd_cache.specs.Entries.{AreAmong, Entries, blank, call};
 
 use std::alloc::{AllocError, Global};
@@ -68,8 +69,8 @@ impl Entry {
 
 /// Answers of operations in one epoch, without their order. Each has one entry where it may stand, and
 /// drops what stood there. The table grows to four times as many entries, up to 65,536, whenever as many
-/// answers were kept as it has entries; where memory is refused it stays as it is, and at worst keeps
-/// nothing.
+/// answers were kept as it has entries; where memory is refused it stays as it is, and one without entries
+/// keeps nothing.
 #[derive(Drop)]
 pub struct ComputedTable {
     entries: Vec<Entry>,
@@ -111,8 +112,9 @@ fn blanks(alloc: Global, count: usize) -> Result<Vec<Entry>, AllocError>
 // Puts each entry into another table. Blank ones go along: they have one place, the first.
 fn refill(old: &[Entry], wider: &mut Vec<Entry>)
     requires { 0 < length wider.old.items }
-    ensures { (es : Entries) → AreAmong old.now es → AreAmong wider.old.items es →
+    ensures among { (es : Entries) → AreAmong old.now es → AreAmong wider.old.items es →
         AreAmong wider.new.items es }
+    ensures length { length wider.new.items ≡ length wider.old.items }
 {
     for i in 0..old.len() {
         let entry = old[i];
@@ -149,10 +151,13 @@ impl ComputedTable {
         }
     }
 
-    /// Keeps an answer.
+    /// Keeps an answer. A table without entries drops it where memory is refused; one that has entries
+    /// keeps it.
     #[inline(always)]
     pub fn keep(&mut self, alloc: Global, operation: u8, a: u32, b: u32, answer: u32)
-        ensures { AreAmong self.new ((call 0 operation a b, answer) ∷ self.old) }
+        ensures among { AreAmong self.new ((call 0 operation a b, answer) ∷ self.old) }
+        ensures keeps { 0 < length self.old
+            → Contains self.new (call 0 operation a b, answer) }
     {
         if self.kept >= self.entries.len() {
             self.grow(alloc);
@@ -174,7 +179,8 @@ impl ComputedTable {
     // Makes room for four times as many answers, or for the first ones, where memory is not refused.
     #[inline(never)]
     fn grow(&mut self, alloc: Global)
-        ensures { AreAmong self.new self.old }
+        ensures among { AreAmong self.new self.old }
+        ensures length { length self.old ≤ length self.new }
     {
         self.kept = 0;
         let count = self.entries.len();

@@ -6,12 +6,12 @@ use Rattle.sd_cache.proofs.Among.{among_itself, among_more}
 use Rattle.sd_cache.proofs.computed.ComputedTable.keep.Goals as goal
 use Rattle.sd_cache.proofs.computed.ComputedTable.keep.Goals.{then-self-len, else-self-len}
 
-pub returns : goal.returns
-returns c =
+pub returns-clause-among : goal.returns-clause-among
+returns-clause-among c =
     let old : Entries = c.args.self.now in
     let added : Call × ℕ = (call 0 c.args.operation c.args.a c.args.b, c.args.answer) in
     let grown : AreAmong c.if-self-len.self old = elim c.if-self-len.branch [
-      | then-self-len w ↦ subst (λ es. AreAmong es old) (sym w.self-is) w.grow.ensures
+      | then-self-len w ↦ subst (λ es. AreAmong es old) (sym w.self-is) w.grow.ensures.among
       | else-self-len w ↦ subst (λ es. AreAmong es old) (sym w.self-is) (among_itself old)
     ] in
     All-set (λ e. (e ≡ blank) ⊎ Contains (added ∷ old) e) c.self-2.inside.entries.items c.entry_of-index.result
