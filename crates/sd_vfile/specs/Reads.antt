@@ -1,13 +1,14 @@
 -- The tree that a vtree file stands for, or the text of its first fault, behind the name of the file.
-use Rattle.std.specs.Prelude.{◌≡◌, ℕ, Bool, false, not, ◌||◌, ◌==◌, if◌then◌else◌, codes, bytes_eq}
+use Rattle.std.specs.Prelude.{◌≡◌, ℕ, Bool, false, not, ◌&&◌, ◌||◌, ◌==◌, if◌then◌else◌, codes, bytes_eq}
 use Rattle.std.specs.Prelude.{List, [], ◌∷◌, ◌++◌, length, filter, find}
-use Rattle.std.specs.Prelude.{Option, Some, None, ok_or, option_and_then, option_map, Result, Ok, Err}
+use Rattle.std.specs.Prelude.{Option, Some, None, is_some, ok_or, option_and_then, option_map, Result, Ok, Err}
 use Rattle.std.specs.List.{list_any, range_with_len}
+use Rattle.std.specs.Option.{option_or}
 use Rattle.sd_base.specs.Lines.{TextLine, content_of}
 use Rattle.sd_base.specs.Numbers.{is_within, natural_value}
 use Rattle.sd_base.specs.Reading.{◌>>=◌, ◌>>◌, fault_if, fault_for, each_after}
 use Rattle.sd_model.specs.Text.{number_text}
-use Rattle.sd_model.specs.Tree.{Tree, Leaf, Node}
+use Rattle.sd_model.specs.Tree.{Tree, Leaf, Node, variables}
 use Rattle.sd_base.specs.FaultTexts.{at_line, counts}
 use Rattle.sd_vfile.specs.declared.fault.VtreeFault.{VtreeFault}
 use Rattle.sd_vfile.specs.declared.fault.VtreeFault.TheVariants as fault
@@ -20,23 +21,18 @@ pub record Entry : Type 0 where
   pub tree : Tree
   pub children : List ℕ
 
--- ---- the two forms of a node line: `L id variable` and `I id left right`
+-- ---- the numbers of a line
 
 -- each element where all have a value
 abbrev pub all_values : {A B : Type 0} → (A → Option B) → List A → Option (List B)
 all_values f [] = Some []
 all_values f (x ∷ xs) = option_and_then (λ y. option_map (λ ys. y ∷ ys) (all_values f xs)) (f x)
 
--- the form of a letter and the numbers behind it
-abbrev pub form_with : List ℕ → List ℕ → Option Form
-form_with letter (id ∷ variable ∷ []) = if bytes_eq letter (codes "L") then Some (LeafLine id variable) else None
-form_with letter (id ∷ left ∷ right ∷ []) = if bytes_eq letter (codes "I") then Some (InnerLine id left right) else None
-form_with letter numbers = None
-
--- the form that a line's words have
-abbrev pub form_of : List (List ℕ) → Option Form
-form_of [] = None
-form_of (letter ∷ words) = option_and_then (form_with letter) (all_values natural_value words)
+-- the numbers of a line, which is its own word and then so many numbers
+abbrev pub numbers_behind : List ℕ → ℕ → List (List ℕ) → Option (List ℕ)
+numbers_behind own count [] = None
+numbers_behind own count (word ∷ words) =
+    if length words == count && bytes_eq word own then all_values natural_value words else None
 
 -- ---- what the earlier lines have
 
@@ -44,43 +40,35 @@ form_of (letter ∷ words) = option_and_then (form_with letter) (all_values natu
 abbrev pub tree_with_id : ℕ → List Entry → Option Tree
 tree_with_id id entries = option_map (λ e. e.tree) (find (λ e. e.id == id) entries)
 
--- a line has the id
-abbrev pub has_id : ℕ → List Entry → Bool
-has_id id entries = list_any (λ e. e.id == id) entries
-
 -- a line has the id as that of a child
 abbrev pub is_child : ℕ → List Entry → Bool
 is_child id entries = list_any (λ e. list_any (λ child. child == id) e.children) entries
 
--- the tree is the leaf of a variable
-abbrev pub is_leaf : ℕ → Tree → Bool
-is_leaf x (Leaf y) = y == x
-is_leaf x (Node left right) = false
-
--- a line is the leaf of a variable
+-- a line is the leaf of a variable: its tree has that variable alone
 abbrev pub has_leaf : ℕ → List Entry → Bool
-has_leaf x entries = list_any (λ e. is_leaf x e.tree) entries
+has_leaf x entries = list_any (λ e. bytes_eq (variables e.tree) (x ∷ [])) entries
 
 -- ---- a node line after earlier ones
 
--- the node of a form on a line, over the variables 1 to v
-abbrev pub placed : ℕ → List Entry → ℕ → Form → Result Entry (List ℕ)
-placed v earlier line (LeafLine id x) = do
-  fault_if (has_id id earlier) (at_line line (codes ": id twice"))
-  fault_if (not (is_within 1 v x) || has_leaf x earlier) (at_line line (codes ": variable wrong"))
+-- The node of a line's numbers, over the variables 1 to v: an id and a variable, or an id and those of two children.
+-- A fault has the text that its words get with the number of the line.
+abbrev pub placed : ℕ → List Entry → (List ℕ → List ℕ) → Option (List ℕ) → Result Entry (List ℕ)
+placed v earlier fault (Some (id ∷ x ∷ [])) = do
+  fault_if (is_some (tree_with_id id earlier)) (fault (codes ": id twice"))
+  fault_if (not (is_within 1 v x) || has_leaf x earlier) (fault (codes ": variable wrong"))
   Ok (record { id = id; tree = Leaf x; children = [] })
-placed v earlier line (InnerLine id left right) = do
-  fault_if (has_id id earlier) (at_line line (codes ": id twice"))
-  l ← ok_or (tree_with_id left earlier) (at_line line (codes ": child unknown"))
-  r ← ok_or (tree_with_id right earlier) (at_line line (codes ": child unknown"))
-  fault_if (left == right || is_child left earlier || is_child right earlier) (at_line line (codes ": child twice"))
+placed v earlier fault (Some (id ∷ left ∷ right ∷ [])) = do
+  fault_if (is_some (tree_with_id id earlier)) (fault (codes ": id twice"))
+  l ← ok_or (tree_with_id left earlier) (fault (codes ": child unknown"))
+  r ← ok_or (tree_with_id right earlier) (fault (codes ": child unknown"))
+  fault_if (left == right || is_child left earlier || is_child right earlier) (fault (codes ": child twice"))
   Ok (record { id = id; tree = Node l r; children = left ∷ right ∷ [] })
+placed v earlier fault numbers = Err (fault (codes ": bad line"))
 
--- the node of a line
+-- the node of a line, which is `L id variable` or `I id left right`
 abbrev pub entry_of : ℕ → List Entry → TextLine → Result Entry (List ℕ)
-entry_of v earlier line = do
-  form ← ok_or (form_of line.words) (at_line line.number (codes ": bad line"))
-  placed v earlier line.number form
+entry_of v earlier line = placed v earlier (at_line line.number)
+    (option_or (numbers_behind (codes "L") 2 line.words) (numbers_behind (codes "I") 3 line.words))
 
 -- ---- after the last line
 
@@ -124,9 +112,52 @@ vtree_file v bytes =
 
 -- ---- for the contracts of private functions, and for proofs
 
+-- the form of a letter and the numbers behind it
+abbrev pub form_with : List ℕ → List ℕ → Option Form
+form_with letter (id ∷ variable ∷ []) = if bytes_eq letter (codes "L") then Some (LeafLine id variable) else None
+form_with letter (id ∷ left ∷ right ∷ []) = if bytes_eq letter (codes "I") then Some (InnerLine id left right) else None
+form_with letter numbers = None
+
+-- the form that a line's words have
+abbrev pub form_of : List (List ℕ) → Option Form
+form_of [] = None
+form_of (letter ∷ words) = option_and_then (form_with letter) (all_values natural_value words)
+
+-- a line has the id
+abbrev pub has_id : ℕ → List Entry → Bool
+has_id id entries = list_any (λ e. e.id == id) entries
+
+-- the tree is the leaf of a variable
+abbrev pub is_leaf : ℕ → Tree → Bool
+is_leaf x (Leaf y) = y == x
+is_leaf x (Node left right) = false
+
+-- a line is the leaf of a variable
+abbrev pub has_leaf_line : ℕ → List Entry → Bool
+has_leaf_line x entries = list_any (λ e. is_leaf x e.tree) entries
+
+-- the node of a form on a line, over the variables 1 to v
+abbrev pub form_placed : ℕ → List Entry → ℕ → Form → Result Entry (List ℕ)
+form_placed v earlier line (LeafLine id x) = do
+  fault_if (has_id id earlier) (at_line line (codes ": id twice"))
+  fault_if (not (is_within 1 v x) || has_leaf_line x earlier) (at_line line (codes ": variable wrong"))
+  Ok (record { id = id; tree = Leaf x; children = [] })
+form_placed v earlier line (InnerLine id left right) = do
+  fault_if (has_id id earlier) (at_line line (codes ": id twice"))
+  l ← ok_or (tree_with_id left earlier) (at_line line (codes ": child unknown"))
+  r ← ok_or (tree_with_id right earlier) (at_line line (codes ": child unknown"))
+  fault_if (left == right || is_child left earlier || is_child right earlier) (at_line line (codes ": child twice"))
+  Ok (record { id = id; tree = Node l r; children = left ∷ right ∷ [] })
+
+-- the node of a line by its form
+abbrev pub entry_by_form : ℕ → List Entry → TextLine → Result Entry (List ℕ)
+entry_by_form v earlier line = do
+  form ← ok_or (form_of line.words) (at_line line.number (codes ": bad line"))
+  form_placed v earlier line.number form
+
 -- the first variable from 1 to v that has no leaf
 abbrev pub missing : ℕ → List Entry → Option ℕ
-missing v entries = find (λ x. not (has_leaf x entries)) (range_with_len 1 v)
+missing v entries = find (λ x. not (has_leaf_line x entries)) (range_with_len 1 v)
 
 -- its fault, where there is one
 abbrev pub none_missing : Option ℕ → Result (Unit {0}) (List ℕ)
@@ -136,16 +167,23 @@ none_missing found = fault_for (λ x. codes ": variable missing: " ++ number_tex
 abbrev pub roots_of : List Entry → List Entry
 roots_of entries = filter (λ e. not (is_child e.id entries)) entries
 
+-- the tree of all node lines, by the leaves of the lines
+abbrev pub tree_of_entries : ℕ → List Entry → Result Tree (List ℕ)
+tree_of_entries v entries = do
+  tree ← one_root (filter (λ e. not (is_child e.id entries)) entries)
+  none_missing (missing v entries)
+  Ok tree
+
 -- the tree of all node lines, where the header states a number of them
 abbrev pub whole_tree : ℕ → ℕ → List Entry → Result Tree (List ℕ)
 whole_tree v stated entries = do
   fault_if (not (stated == length entries)) (counts stated (length entries))
-  tree_of_nodes v entries
+  tree_of_entries v entries
 
 -- the tree of a header `vtree N` and the lines after it
 abbrev pub tree_of_lines : ℕ → List TextLine → Result Tree (List ℕ)
 tree_of_lines v lines =
-    of_nodes (codes "vtree") (codes ": no header") counts (entry_of v) (tree_of_nodes v) lines
+    of_nodes (codes "vtree") (codes ": no header") counts (entry_by_form v) (tree_of_entries v) lines
 
 -- the number of a header `vtree N`
 abbrev pub stated_by : List (List ℕ) → Option ℕ

@@ -37,7 +37,7 @@ pub fn read_vtree(alloc: Global, bytes: &[u8], variables: u32) -> Result<Vtree, 
 }
 
 /// The plain tree of a text.
-#[tactic(auto, unfolding(crate::specs::Reads::vtree_file))]
+#[tactic(auto, using(crate::proofs::ByNumbers::vtree_file_is))]
 fn read_tree(alloc: Global, bytes: &[u8], variables: u32) -> Result<Tree, VtreeFault>
     requires within_limit { variables ≤ 1024 }
     requires fits { length bytes.now ≤ 67108864 }

@@ -1,0 +1,167 @@
+-- A line that is read by its numbers gives what its form gives, and so does a text.
+use Rattle.std.proofs.Common.{◌≡◌, ℕ, suc, Bool, true, false, not, ◌&&◌, ◌||◌, ◌==◌, cond}
+use Rattle.std.proofs.Common.{List, [], ◌∷◌, ◌++◌, length, Option, Some, None, Result, refl, sym, ap, ◌∙◌}
+use Rattle.std.proofs.Common.{arith, eq-eqb, ne_eqb, length-append, if◌then◌else◌}
+use Rattle.std.specs.Prelude.{codes, bytes_eq, find, is_some, ok_or, option_and_then, option_map}
+use Rattle.std.specs.List.{range_with_len}
+use Rattle.std.specs.Option.{option_or}
+use Rattle.std.proofs.lemmas.Slice.Eq.{bytes_eq-Decides}
+use mathlib.Core.Path.{fun_ext}
+use Rattle.sd_base.specs.FaultTexts.{at_line, counts}
+use Rattle.sd_base.specs.Lines.{TextLine, content_of}
+use Rattle.sd_base.specs.Numbers.{natural_value}
+use Rattle.sd_base.specs.Reading.{◌>>=◌, ◌>>◌}
+use Rattle.sd_model.specs.Tree.{Tree, Leaf, Node, variables}
+use Rattle.sd_vtree.proofs.Building.{leaves_positive}
+use Rattle.sd_vfile.specs.declared.form.Form.TheVariants.{LeafLine, InnerLine}
+use Rattle.sd_vfile.specs.Reads.{Entry, all_values, tree_with_id, has_id, is_leaf, has_leaf, has_leaf_line}
+use Rattle.sd_vfile.specs.Reads.{numbers_behind, placed, entry_of, form_with, form_of, form_placed, entry_by_form}
+use Rattle.sd_vfile.specs.Reads.{one_root, roots_of, none_missing, of_nodes, tree_of_nodes, tree_of_entries}
+use Rattle.sd_vfile.specs.Reads.{tree_of_lines, vtree_file}
+use Rattle.sd_vfile.proofs.Placed.{done}
+
+-- ---- what the earlier lines have
+
+-- a look-up finds a tree where a line has the id
+id_is : (id : ℕ) (es : List Entry) → is_some (tree_with_id id es) ≡ has_id id es
+id_is id [] = refl
+id_is id (e ∷ es) = go (e.id == id) (id_is id es)
+  where
+    go : (b : Bool) → is_some (tree_with_id id es) ≡ has_id id es
+        → is_some (option_map (λ (d : Entry). d.tree) (cond b (Some e) (find (λ d. d.id == id) es)))
+        ≡ (b || has_id id es)
+    go true later = refl
+    go false later = later
+
+-- a tree has one variable alone where it is the leaf of that variable
+leaf_is : (x : ℕ) (t : Tree) → bytes_eq (variables t) (x ∷ []) ≡ is_leaf x t
+leaf_is x (Leaf y) = go (y == x)
+  where
+    go : (b : Bool) → (b && true) ≡ b
+    go true = refl
+    go false = refl
+leaf_is x (Node l r) =
+    go (bytes_eq (variables l ++ variables r) (x ∷ [])) refl
+  where
+    go : (b : Bool) → bytes_eq (variables l ++ variables r) (x ∷ []) ≡ b → b ≡ false
+    go true is =
+        let same = ap length ((bytes_eq-Decides (variables l ++ variables r) (x ∷ [])).0 is) in
+        absurd (omega (arith, same, length-append (variables l) (variables r), leaves_positive l, leaves_positive r))
+    go false is = refl
+
+-- so a line has the leaf in both senses
+has_leaf_is : (x : ℕ) (es : List Entry) → has_leaf x es ≡ has_leaf_line x es
+has_leaf_is x [] = refl
+has_leaf_is x (e ∷ es) = rw (leaf_is x e.tree, has_leaf_is x es) refl
+
+-- ---- the numbers of a line
+
+-- all values are as many as the elements
+values_length : (words : List (List ℕ)) (ns : List ℕ) → all_values natural_value words ≡ Some ns
+    → length ns ≡ length words
+values_length [] [] e = refl
+values_length [] (n ∷ ns) e = cc
+values_length (word ∷ words) ns e = go (natural_value word) (all_values natural_value words) ns e (values_length words)
+  where
+    go : (o : Option ℕ) (os : Option (List ℕ)) (ns : List ℕ)
+        → option_and_then (λ (y : ℕ). option_map (λ ys. y ∷ ys) os) o ≡ Some ns
+        → ((ms : List ℕ) → os ≡ Some ms → length ms ≡ length words) → length ns ≡ suc (length words)
+    go None os ns e later = cc
+    go (Some y) None ns e later = cc
+    go (Some y) (Some ms) [] e later = cc
+    go (Some y) (Some ms) (n ∷ ns) e later =
+        let rest : ms ≡ ns = cc in
+        ap suc (sym (ap length rest) ∙ later ms refl)
+
+-- no numbers
+abbrev nothing : Option (List ℕ)
+nothing = None
+
+-- neither of two tests gives numbers that are not there
+neither : (a b : Bool) → option_or (if a then nothing else None) (if b then nothing else None) ≡ None
+neither true true = refl
+neither true false = refl
+neither false true = refl
+neither false false = refl
+
+-- the numbers behind L or I, where it is known how many words there are
+abbrev either_of : Bool → Bool → List ℕ → Option (List ℕ) → Option (List ℕ)
+either_of two three letter numbers =
+    option_or (if two && bytes_eq letter (codes "L") then numbers else None)
+    (if three && bytes_eq letter (codes "I") then numbers else None)
+
+-- the line of a letter and numbers
+by_numbers : (v n : ℕ) (es : List Entry) (letter : List ℕ) (words : List (List ℕ)) (numbers : Option (List ℕ))
+    → all_values natural_value words ≡ numbers
+    → placed v es (at_line n) (either_of (length words == 2) (length words == 3) letter numbers)
+    ≡ (ok_or (option_and_then (form_with letter) numbers) (at_line n (codes ": bad line")) >>= form_placed v es n)
+by_numbers v n es letter words None is =
+    ap (placed v es (at_line n))
+    (neither (length words == 2 && bytes_eq letter (codes "L")) (length words == 3 && bytes_eq letter (codes "I")))
+by_numbers v n es letter words (Some []) is =
+    let long = values_length words [] is in
+    let two : (length words == 2) ≡ false = ne_eqb (length words) 2 (λ e. omega (arith, long)) in
+    let three : (length words == 3) ≡ false = ne_eqb (length words) 3 (λ e. omega (arith, long)) in
+    rw (two, three) refl
+by_numbers v n es letter words (Some (a ∷ [])) is =
+    let long = values_length words (a ∷ []) is in
+    let two : (length words == 2) ≡ false = ne_eqb (length words) 2 (λ e. omega (arith, long)) in
+    let three : (length words == 3) ≡ false = ne_eqb (length words) 3 (λ e. omega (arith, long)) in
+    rw (two, three) refl
+by_numbers v n es letter words (Some (id ∷ x ∷ [])) is =
+    let long = values_length words (id ∷ x ∷ []) is in
+    let two : (length words == 2) ≡ true = eq-eqb (length words) 2 (sym long) in
+    let three : (length words == 3) ≡ false = ne_eqb (length words) 3 (λ e. omega (arith, long)) in
+    rw (two, three) (go (bytes_eq letter (codes "L")))
+  where
+    go : (b : Bool) → placed v es (at_line n) (option_or (if b then Some (id ∷ x ∷ []) else None) None)
+        ≡ (ok_or (if b then Some (LeafLine id x) else None) (at_line n (codes ": bad line")) >>= form_placed v es n)
+    go true = rw (id_is id es, has_leaf_is x es) refl
+    go false = refl
+by_numbers v n es letter words (Some (id ∷ left ∷ right ∷ [])) is =
+    let long = values_length words (id ∷ left ∷ right ∷ []) is in
+    let two : (length words == 2) ≡ false = ne_eqb (length words) 2 (λ e. omega (arith, long)) in
+    let three : (length words == 3) ≡ true = eq-eqb (length words) 3 (sym long) in
+    rw (two, three) (go (bytes_eq letter (codes "I")))
+  where
+    go : (b : Bool) → placed v es (at_line n) (if b then Some (id ∷ left ∷ right ∷ []) else None)
+        ≡ (ok_or (if b then Some (InnerLine id left right) else None) (at_line n (codes ": bad line"))
+        >>= form_placed v es n)
+    go true = rw (id_is id es) refl
+    go false = refl
+by_numbers v n es letter words (Some (a ∷ b ∷ c ∷ d ∷ ns)) is =
+    let long = values_length words (a ∷ b ∷ c ∷ d ∷ ns) is in
+    let two : (length words == 2) ≡ false = ne_eqb (length words) 2 (λ e. omega (arith, long)) in
+    let three : (length words == 3) ≡ false = ne_eqb (length words) 3 (λ e. omega (arith, long)) in
+    rw (two, three) refl
+
+-- each line gives what its form gives
+pub entry_is : (v : ℕ) (es : List Entry) (line : TextLine) → entry_of v es line ≡ entry_by_form v es line
+entry_is v es line = go line.words
+  where
+    go : (words : List (List ℕ))
+        → placed v es (at_line line.number)
+        (option_or (numbers_behind (codes "L") 2 words) (numbers_behind (codes "I") 3 words))
+        ≡ (ok_or (form_of words) (at_line line.number (codes ": bad line")) >>= form_placed v es line.number)
+    go [] = refl
+    go (letter ∷ words) = by_numbers v line.number es letter words (all_values natural_value words) refl
+
+-- ---- the text
+
+-- the nodes give the tree that their lines give
+tree_is : (v : ℕ) (es : List Entry) → tree_of_nodes v es ≡ tree_of_entries v es
+tree_is v es =
+    ap (λ (test : ℕ → Bool). one_root (roots_of es) >>= (λ tree.
+    none_missing (find (λ x. not (test x)) (range_with_len 1 v)) >> done tree))
+    (fun_ext (λ x. has_leaf_is x es))
+
+-- a text is read line by line
+pub vtree_file_is : (v : ℕ) (bytes : List ℕ) → vtree_file v bytes ≡ tree_of_lines v (content_of 99 bytes)
+unfolding vtree_file
+vtree_file_is v bytes =
+    ap (λ (node : List Entry → TextLine → Result Entry (List ℕ)).
+    of_nodes (codes "vtree") (codes ": no header") counts node (tree_of_nodes v) (content_of 99 bytes))
+    (fun_ext (λ es. fun_ext (λ line. entry_is v es line)))
+    ∙ ap (λ (made : List Entry → Result Tree (List ℕ)).
+    of_nodes (codes "vtree") (codes ": no header") counts (entry_by_form v) made (content_of 99 bytes))
+    (fun_ext (λ es. tree_is v es))
