@@ -1,23 +1,24 @@
--- A line that is read by its numbers gives what its form gives, and so does a text.
+-- A line that is read by its numbers gives what its form gives, and so do the lines of a text.
 use Rattle.std.proofs.Common.{◌≡◌, ℕ, suc, Bool, true, false, not, ◌&&◌, ◌||◌, ◌==◌, cond}
-use Rattle.std.proofs.Common.{List, [], ◌∷◌, ◌++◌, length, Option, Some, None, Result, refl, sym, ap, ◌∙◌}
+use Rattle.std.proofs.Common.{List, [], ◌∷◌, ◌++◌, length, Option, Some, None, Result, Ok, Err, refl, sym, ap, ◌∙◌}
 use Rattle.std.proofs.Common.{arith, eq-eqb, ne_eqb, length-append, if◌then◌else◌}
-use Rattle.std.specs.Prelude.{codes, bytes_eq, find, is_some, ok_or, option_and_then, option_map}
+use Rattle.std.specs.Prelude.{codes, bytes_eq, find, slice_index, is_some, ok_or, option_and_then, option_map}
 use Rattle.std.specs.List.{range_with_len}
-use Rattle.std.specs.Option.{option_or}
+use Rattle.std.specs.Option.{option_or, option_map_or}
 use Rattle.std.proofs.lemmas.Slice.Eq.{bytes_eq-Decides}
 use mathlib.Core.Path.{fun_ext}
 use Rattle.sd_base.specs.FaultTexts.{at_line, counts}
 use Rattle.sd_base.specs.Lines.{TextLine, content_of}
 use Rattle.sd_base.specs.Numbers.{natural_value}
-use Rattle.sd_base.specs.Reading.{◌>>=◌, ◌>>◌}
+use Rattle.sd_base.specs.Reading.{◌>>=◌, ◌>>◌, fault_if, each_after}
+use Rattle.sd_model.specs.Text.{number_text}
 use Rattle.sd_model.specs.Tree.{Tree, Leaf, Node, variables}
 use Rattle.sd_vtree.proofs.Building.{leaves_positive}
 use Rattle.sd_vfile.specs.declared.form.Form.TheVariants.{LeafLine, InnerLine}
 use Rattle.sd_vfile.specs.Reads.{Entry, all_values, tree_with_id, has_id, is_leaf, has_leaf, has_leaf_line}
 use Rattle.sd_vfile.specs.Reads.{numbers_behind, placed, entry_of, form_with, form_of, form_placed, entry_by_form}
-use Rattle.sd_vfile.specs.Reads.{one_root, roots_of, none_missing, of_nodes, tree_of_nodes, tree_of_entries}
-use Rattle.sd_vfile.specs.Reads.{tree_of_lines, vtree_file}
+use Rattle.sd_vfile.specs.Reads.{stated_behind, nodes_of, of_nodes, one_root, roots_of, missing, none_missing}
+use Rattle.sd_vfile.specs.Reads.{tree_of_entries, tree_of_lines, vtree_file}
 use Rattle.sd_vfile.proofs.Placed.{done}
 
 -- ---- what the earlier lines have
@@ -148,20 +149,77 @@ entry_is v es line = go line.words
 
 -- ---- the text
 
--- the nodes give the tree that their lines give
+-- the number that a header states is its only one
+stated_is : (own : List ℕ) (words : List (List ℕ))
+    → stated_behind own words ≡ option_map (λ numbers. slice_index numbers 0) (numbers_behind own 1 words)
+stated_is own [] = refl
+stated_is own (name ∷ []) = refl
+stated_is own (name ∷ number ∷ []) = go (bytes_eq name own) (natural_value number)
+  where
+    go : (b : Bool) (o : Option ℕ)
+        → (if b then o else None) ≡ option_map (λ numbers. slice_index numbers 0)
+        (if b then option_and_then (λ y. Some (y ∷ [])) o else None)
+    go true None = refl
+    go true (Some n) = refl
+    go false o = refl
+stated_is own (name ∷ a ∷ b ∷ words) =
+    let more : (length (a ∷ b ∷ words) == 1) ≡ false = ne_eqb (length (a ∷ b ∷ words)) 1 (λ e. omega arith) in
+    rw more refl
+
+-- what is made of the nodes of a file is made of the list of them
+pub nodes_made : {A B : Type 0} (word : List ℕ) (node : List A → TextLine → Result A (List ℕ))
+    (made : List A → Result B (List ℕ)) (lines : List TextLine)
+    → of_nodes word (codes ": no header") counts node made lines ≡ (nodes_of word node lines >>= made)
+nodes_made word node made [] = refl
+nodes_made {A} {B} word node made (header ∷ lines) =
+    rw (stated_is word header.words) (go (numbers_behind word 1 header.words) (each_after node [] lines))
+  where
+    test : (b : Bool) (fault : List ℕ) (nodes : List A)
+        → (fault_if (not b) fault >> made nodes) ≡ ((fault_if (not b) fault >> Ok nodes) >>= made)
+    test true fault nodes = refl
+    test false fault nodes = refl
+
+    go : (o : Option (List ℕ)) (r : Result (List A) (List ℕ))
+        → (ok_or (option_map (λ numbers. slice_index numbers 0) o) (codes ": no header") >>= (λ stated. r >>= (λ nodes.
+        fault_if (not (stated == length nodes)) (counts stated (length nodes)) >> made nodes)))
+        ≡ ((ok_or o (codes ": no header") >>= (λ stated. r >>= (λ nodes.
+        fault_if (not (slice_index stated 0 == length nodes)) (counts (slice_index stated 0) (length nodes))
+        >> Ok nodes))) >>= made)
+    go None r = refl
+    go (Some numbers) (Err fault) = refl
+    go (Some numbers) (Ok nodes) =
+        test (slice_index numbers 0 == length nodes) (counts (slice_index numbers 0) (length nodes)) nodes
+
+-- the tree of all node lines, as the reading of a text goes on from them
+abbrev tree_of_nodes : ℕ → List Entry → Result Tree (List ℕ)
+tree_of_nodes v entries = one_root (roots_of entries) >>= (λ tree.
+    option_map_or (λ x. Err (codes ": variable missing: " ++ number_text x))
+    (find (λ x. not (has_leaf x entries)) (range_with_len 1 v)) (Ok tree))
+
+-- it is the one that the leaves of the lines give
 tree_is : (v : ℕ) (es : List Entry) → tree_of_nodes v es ≡ tree_of_entries v es
 tree_is v es =
     ap (λ (test : ℕ → Bool). one_root (roots_of es) >>= (λ tree.
-    none_missing (find (λ x. not (test x)) (range_with_len 1 v)) >> done tree))
+    option_map_or (λ x. Err (codes ": variable missing: " ++ number_text x))
+    (find (λ x. not (test x)) (range_with_len 1 v)) (Ok tree)))
     (fun_ext (λ x. has_leaf_is x es))
+    ∙ go (one_root (roots_of es)) (missing v es)
+  where
+    go : (r : Result Tree (List ℕ)) (o : Option ℕ)
+        → (r >>= (λ tree. option_map_or (λ x. Err (codes ": variable missing: " ++ number_text x)) o (Ok tree)))
+        ≡ (r >>= (λ tree. none_missing o >> done tree))
+    go (Err fault) o = refl
+    go (Ok tree) None = refl
+    go (Ok tree) (Some x) = refl
 
 -- a text is read line by line
 pub vtree_file_is : (v : ℕ) (bytes : List ℕ) → vtree_file v bytes ≡ tree_of_lines v (content_of 99 bytes)
 unfolding vtree_file
 vtree_file_is v bytes =
+    let lines = content_of 99 bytes in
     ap (λ (node : List Entry → TextLine → Result Entry (List ℕ)).
-    of_nodes (codes "vtree") (codes ": no header") counts node (tree_of_nodes v) (content_of 99 bytes))
+    nodes_of (codes "vtree") node lines >>= tree_of_nodes v)
     (fun_ext (λ es. fun_ext (λ line. entry_is v es line)))
-    ∙ ap (λ (made : List Entry → Result Tree (List ℕ)).
-    of_nodes (codes "vtree") (codes ": no header") counts (entry_by_form v) made (content_of 99 bytes))
+    ∙ ap (λ (made : List Entry → Result Tree (List ℕ)). nodes_of (codes "vtree") (entry_by_form v) lines >>= made)
     (fun_ext (λ es. tree_is v es))
+    ∙ sym (nodes_made (codes "vtree") (entry_by_form v) (tree_of_entries v) lines)

@@ -138,7 +138,8 @@ root_line v n es l r base b small =
 
 -- one line that gives a node, before others
 one_read : (v : ℕ) (es : List Entry) (line : TextLine) (lines : List TextLine) (e : Entry)
-    → entry_by_form v es line ≡ Ok e → each_after (entry_by_form v) es (line ∷ lines) ≡ each_after (entry_by_form v) (es ++ e ∷ []) lines
+    → entry_by_form v es line ≡ Ok e
+    → each_after (entry_by_form v) es (line ∷ lines) ≡ each_after (entry_by_form v) (es ++ e ∷ []) lines
 one_read v es line lines e is = rw is refl
 
 -- the lines of a tree give its nodes

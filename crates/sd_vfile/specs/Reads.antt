@@ -1,9 +1,9 @@
 -- The tree that a vtree file stands for, or the text of its first fault, behind the name of the file.
 use Rattle.std.specs.Prelude.{◌≡◌, ℕ, Bool, false, not, ◌&&◌, ◌||◌, ◌==◌, if◌then◌else◌, codes, bytes_eq}
-use Rattle.std.specs.Prelude.{List, [], ◌∷◌, ◌++◌, length, filter, find}
+use Rattle.std.specs.Prelude.{List, [], ◌∷◌, ◌++◌, length, filter, find, slice_index}
 use Rattle.std.specs.Prelude.{Option, Some, None, is_some, ok_or, option_and_then, option_map, Result, Ok, Err}
 use Rattle.std.specs.List.{list_any, range_with_len}
-use Rattle.std.specs.Option.{option_or}
+use Rattle.std.specs.Option.{option_or, option_map_or}
 use Rattle.sd_base.specs.Lines.{TextLine, content_of}
 use Rattle.sd_base.specs.Numbers.{is_within, natural_value}
 use Rattle.sd_base.specs.Reading.{◌>>=◌, ◌>>◌, fault_if, fault_for, each_after}
@@ -70,22 +70,34 @@ abbrev pub entry_of : ℕ → List Entry → TextLine → Result Entry (List ℕ
 entry_of v earlier line = placed v earlier (at_line line.number)
     (option_or (numbers_behind (codes "L") 2 line.words) (numbers_behind (codes "I") 3 line.words))
 
--- ---- after the last line
+-- ---- the text
+
+-- The nodes of a file: its lines are a header, of a word and the number of the nodes, and then the nodes, each read in
+-- the light of the earlier ones.
+abbrev pub nodes_of : {A : Type 0} → List ℕ → (List A → TextLine → Result A (List ℕ))
+    → List TextLine → Result (List A) (List ℕ)
+nodes_of word node [] = Err (codes ": no header")
+nodes_of word node (header ∷ lines) = do
+  count ← ok_or (numbers_behind word 1 header.words) (codes ": no header")
+  nodes ← each_after node [] lines
+  fault_if (not (slice_index count 0 == length nodes)) (counts (slice_index count 0) (length nodes))
+  Ok nodes
 
 -- the tree of the only root
 abbrev pub one_root : List Entry → Result Tree (List ℕ)
 one_root (root ∷ []) = Ok root.tree
 one_root roots = Err (codes ": " ++ number_text (length roots) ++ codes " roots")
 
--- the tree of all node lines: of those of which no other is the parent there is one, and each variable has a leaf
-abbrev pub tree_of_nodes : ℕ → List Entry → Result Tree (List ℕ)
-tree_of_nodes v entries = do
+-- The tree of a text over the variables 1 to v, or the text of its first fault. It is the tree of the one node that is
+-- no child, and each variable has a leaf. Blank lines and comments, which begin with c, are passed over.
+unfoldable pub vtree_file : ℕ → List ℕ → Result Tree (List ℕ)
+vtree_file v bytes = do
+  entries ← nodes_of (codes "vtree") (entry_of v) (content_of 99 bytes)
   tree ← one_root (filter (λ e. not (is_child e.id entries)) entries)
-  fault_for (λ x. codes ": variable missing: " ++ number_text x)
-      (find (λ x. not (has_leaf x entries)) (range_with_len 1 v))
-  Ok tree
+  option_map_or (λ x. Err (codes ": variable missing: " ++ number_text x))
+      (find (λ x. not (has_leaf x entries)) (range_with_len 1 v)) (Ok tree)
 
--- ---- the text
+-- ---- for the contracts of private functions, and for proofs
 
 -- the number of a header of two words, of which this is the first
 abbrev pub stated_behind : List ℕ → List (List ℕ) → Option ℕ
@@ -102,15 +114,6 @@ of_nodes word no_header differs node made (header ∷ lines) = do
   nodes ← each_after node [] lines
   fault_if (not (stated == length nodes)) (differs stated (length nodes))
   made nodes
-
--- The tree of a text over the variables 1 to v, or the text of its first fault. Blank lines and comments, which begin
--- with c, are passed over.
-unfoldable pub vtree_file : ℕ → List ℕ → Result Tree (List ℕ)
-vtree_file v bytes =
-    of_nodes (codes "vtree") (codes ": no header") counts (entry_of v) (tree_of_nodes v)
-    (content_of 99 bytes)
-
--- ---- for the contracts of private functions, and for proofs
 
 -- the form of a letter and the numbers behind it
 abbrev pub form_with : List ℕ → List ℕ → Option Form
