@@ -7,7 +7,7 @@ use Rattle.std.proofs.lemmas.Bool.{cases_Bool}
 use Rattle.std.proofs.lemmas.List.{length-map}
 use Rattle.sd_base.specs.Words.{words_of, lines_of, is_filled, is_separator, is_line_end, without_empty_end}
 use Rattle.sd_base.specs.Lines.{TextLine, numbered_lines_from, content_of, begins_with, is_content}
-use Rattle.sd_formula.specs.Dimacs.{words_at, body_of}
+use Rattle.sd_formula.specs.WordByWord.{words_at, body_words}
 
 -- ---- pieces of a list
 
@@ -84,7 +84,7 @@ first_lines (suc n) (line ∷ lines) =
 
 -- the body of a text has no more words than the text has bytes
 pub few_words : (bytes : List ℕ) (header : TextLine) (lines : List TextLine) → content_of 99 bytes ≡ header ∷ lines
-    → length (body_of lines) ≤ length bytes
+    → length (body_words lines) ≤ length bytes
 few_words bytes header lines e =
     let pieces = slice_split is_line_end bytes in
     let content = ap word_count e ∙ word_count_cons header lines in

@@ -15,8 +15,9 @@ use Rattle.sd_model.specs.Expression.{Group}
 use Rattle.sd_formula.specs.declared.error.FormulaError.TheVariants.{BadWord, LiteralRange}
 use Rattle.sd_formula.specs.declared.formula.Kind.{Kind}
 use Rattle.sd_formula.specs.declared.formula.Kind.TheVariants.{Cnf, Dnf}
-use Rattle.sd_formula.specs.Dimacs.{BodyWord, literal_of_word, group_of_words, has_begun}
-use Rattle.sd_formula.specs.Dimacs.{is_mark, is_zero, ends, is_end, formula_fault_text}
+use Rattle.sd_formula.specs.WordByWord.{BodyWord, literal_of_word, group_of_words, has_begun}
+use Rattle.sd_formula.specs.Dimacs.{formula_fault_text}
+use Rattle.sd_formula.specs.WordByWord.{is_mark, is_zero, ends, is_end_word}
 use Rattle.sd_formula.specs.Steps.{Parts, no_group, no_parts, ended, put_literal}
 use Rattle.sd_formula.specs.Steps.{put_word, put_words, all_groups}
 
@@ -140,7 +141,7 @@ not_zero v line (Some y) z other e = elim (cases_Bool (ltb v (unsigned_abs y))) 
 
 -- a word that ends no group is put before the others of its group
 word_more : (kind : Kind) (v : ℕ) (p : Parts) (w : BodyWord) (part : List BodyWord) (parts : List (List BodyWord))
-    → is_end w ≡ false
+    → is_end_word w ≡ false
     → (put_word kind v p w >>= λ q. resumed kind v q (part ∷ parts)) ≡ resumed kind v p ((w ∷ part) ∷ parts)
 word_more kind v p w part parts other = elim (cases_Bool (is_mark kind w && not (has_begun p.open_part))) [
   | inl both ↦
@@ -169,18 +170,18 @@ zero_read v line (Some z) p is = elim (cases_Bool (ltb v (unsigned_abs z))) [
 ]
 
 -- the mark ends no group
-mark_ends_none : (kind : Kind) (w : BodyWord) → is_end w ≡ true → is_mark kind w ≡ false
+mark_ends_none : (kind : Kind) (w : BodyWord) → is_end_word w ≡ true → is_mark kind w ≡ false
 mark_ends_none Dnf w at = refl
 mark_ends_none Cnf w at = elim (cases_Bool (bytes_eq w.bytes (codes "x"))) [
   | inl mark ↦
       let is : w.bytes ≡ codes "x" = (bytes_eq-Decides w.bytes (codes "x")).0 mark in
-      let fails : false ≡ true = subst (λ bytes. is_end (record { line = w.line; bytes = bytes }) ≡ true) is at in
+      let fails : false ≡ true = subst (λ bytes. is_end_word (record { line = w.line; bytes = bytes }) ≡ true) is at in
       absurd cc
   | inr other ↦ other
 ]
 
 -- a word that ends a group is put
-end_put : (kind : Kind) (v : ℕ) (p : Parts) (w : BodyWord) → is_end w ≡ true → put_word kind v p w ≡ Ok (ended p)
+end_put : (kind : Kind) (v : ℕ) (p : Parts) (w : BodyWord) → is_end_word w ≡ true → put_word kind v p w ≡ Ok (ended p)
 end_put kind v p w is =
     rw (mark_ends_none kind w is) (zero_read v w.line (integer_value w.bytes) p is)
 
@@ -204,7 +205,7 @@ end_more kind v p (part ∷ parts) h =
 
 -- the words of the part in hand are in front
 onto_more : (kind : Kind) (v : ℕ) (p : Parts) (w : BodyWord) (parts : List (List BodyWord)) → 0 < length parts
-    → is_end w ≡ false
+    → is_end_word w ≡ false
     → (put_word kind v p w >>= λ q. resumed kind v q parts) ≡ resumed kind v p (onto_first w parts)
 onto_more kind v p w [] h other = absurd (omega arith)
 onto_more kind v p w (part ∷ parts) h other = word_more kind v p w part parts other
@@ -215,24 +216,24 @@ all_put kind v p words = put_words kind v p words >>= λ q. Ok (all_groups q)
 
 -- putting word by word is reading the parts between zeros
 puts_are : (kind : Kind) (v : ℕ) (p : Parts) (words : List BodyWord)
-    → all_put kind v p words ≡ resumed kind v p (slice_split is_end words)
+    → all_put kind v p words ≡ resumed kind v p (slice_split is_end_word words)
 puts_are kind v p [] = sym (ap (λ g. with_more p.closed g (Ok [])) (goes_nowhere kind v p.open_part))
-puts_are kind v p (w ∷ ws) = elim (cases_Bool (is_end w)) [
+puts_are kind v p (w ∷ ws) = elim (cases_Bool (is_end_word w)) [
   | inl is ↦
       let put = ap (λ r. r >>= (λ q. put_words kind v q ws) >>= λ q. done (all_groups q)) (end_put kind v p w is) in
       let later = puts_are kind v (ended p) ws in
-      let behind = end_more kind v p (slice_split is_end ws) (split_is_filled is_end ws) in
+      let behind = end_more kind v p (slice_split is_end_word ws) (split_is_filled is_end_word ws) in
       rw is (put ∙ later ∙ behind)
   | inr other ↦
       let later = after (put_word kind v p w) (λ q. puts_are kind v q ws) in
-      let behind = onto_more kind v p w (slice_split is_end ws) (split_is_filled is_end ws) other in
+      let behind = onto_more kind v p w (slice_split is_end_word ws) (split_is_filled is_end_word ws) other in
       rw other (later ∙ behind)
 ]
   where
     after : (r : Result Parts (List ℕ))
-        → ((q : Parts) → all_put kind v q ws ≡ resumed kind v q (slice_split is_end ws))
+        → ((q : Parts) → all_put kind v q ws ≡ resumed kind v q (slice_split is_end_word ws))
         → ((r >>= λ q. put_words kind v q ws) >>= λ q. done (all_groups q))
-        ≡ (r >>= λ q. resumed kind v q (slice_split is_end ws))
+        ≡ (r >>= λ q. resumed kind v q (slice_split is_end_word ws))
     after (Ok q) shorter = shorter q
     after (Err e) shorter = refl
 
@@ -244,11 +245,11 @@ from_none kind v (part ∷ parts) h = refl
 
 -- what comes after the words sees the groups of the whole list of words
 pub by_parts : {Y : Type 0} (kind : Kind) (v : ℕ) (words : List BodyWord)
-    (next : List Group → Result Y (List ℕ)) → (each (group_of_words kind v) (slice_split is_end words) >>= next)
+    (next : List Group → Result Y (List ℕ)) → (each (group_of_words kind v) (slice_split is_end_word words) >>= next)
     ≡ (put_words kind v no_parts words >>= λ p. next (all_groups p))
 by_parts kind v words next =
-    let filled = split_is_filled is_end words in
-    let whole = puts_are kind v no_parts words ∙ from_none kind v (slice_split is_end words) filled in
+    let filled = split_is_filled is_end_word words in
+    let whole = puts_are kind v no_parts words ∙ from_none kind v (slice_split is_end_word words) filled in
     sym (ap (λ r. r >>= next) whole) ∙ at (put_words kind v no_parts words)
   where
     at : (r : Result Parts (List ℕ))

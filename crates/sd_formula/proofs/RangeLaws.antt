@@ -9,14 +9,17 @@ use Rattle.sd_base.specs.Lines.{TextLine, content_of}
 use Rattle.sd_base.specs.Reading.{◌>>=◌, ◌>>◌, fault_if}
 use Rattle.sd_formula.specs.declared.formula.Kind.{Kind}
 use Rattle.sd_formula.specs.declared.error.FormulaError.TheVariants.{BadHeader}
-use Rattle.sd_formula.specs.Dimacs.{Groups, Stated, dimacs, formula_of, header_of, counts_in_range}
-use Rattle.sd_formula.specs.Dimacs.{numbers_of, is_header, formula_fault_text}
-use Rattle.sd_formula.specs.Dimacs.{groups_of, body_of, all_but_last, has_begun, pieces_of}
+use Rattle.sd_formula.specs.Dimacs.{Groups, dimacs}
+use Rattle.sd_formula.specs.WordByWord.{Stated, formula_of, stated_of, counts_in_range}
+use Rattle.sd_formula.specs.Dimacs.{formula_fault_text}
+use Rattle.sd_formula.specs.WordByWord.{stated_in, is_header}
+use Rattle.sd_formula.specs.WordByWord.{groups_of, body_words, all_but_last, has_begun, word_pieces}
 use Rattle.sd_formula.specs.Formulas.{IsGroup, IsFormula}
 use Rattle.sd_formula.specs.Steps.{Parts, no_parts, put_words, all_groups, InRange, PartsFit}
 use Rattle.sd_formula.proofs.FitLaws.{nothing_fits, words_fit}
 use Rattle.sd_formula.proofs.PartsLaws.{by_parts}
 use Rattle.sd_formula.proofs.ReaderLaws.{all_but_last_push}
+use Rattle.sd_formula.proofs.SameReading.{same_reading}
 
 -- a chain of two steps that came to an end went through the first
 record Through {A B E : Type 0} (first : Result A E) (rest : A → Result B E) (end : B) : Type 0 where
@@ -51,9 +54,9 @@ numbers_fit s t e =
     } in
     subst InRange is fits
 
-header_fits : (kind : Kind) (line : TextLine) (t : Stated) → header_of kind line ≡ Ok t → InRange t
+header_fits : (kind : Kind) (line : TextLine) (t : Stated) → stated_of kind line ≡ Ok t → InRange t
 header_fits kind line t e =
-    let numbers = ok_or (numbers_of kind (drop 1 line.words)) (formula_fault_text (BadHeader line.number)) in
+    let numbers = ok_or (stated_in kind (drop 1 line.words)) (formula_fault_text (BadHeader line.number)) in
     let first = past (not (is_header line.words)) _ (numbers >>= counts_in_range) t e in
     let second = through numbers counts_in_range t first.1 in
     numbers_fit second.middle t second.led
@@ -82,9 +85,9 @@ groups_fit kind s p f range fit e =
 lines_fit : (kind : Kind) (content : List TextLine) (f : Groups) → formula_of kind content ≡ Ok f → IsFormula f
 lines_fit kind [] f e = absurd cc
 lines_fit kind (header ∷ lines) f e =
-    let head = through (header_of kind header) _ f e in
+    let head = through (stated_of kind header) _ f e in
     let s = head.middle in
-    let words = flat_map (pieces_of kind) (body_of lines) in
+    let words = flat_map (word_pieces kind) (body_words lines) in
     let by = sym (by_parts kind s.variables words (groups_of kind s)) ∙ head.led in
     let body = through (put_words kind s.variables no_parts words) (λ p. groups_of kind s (all_groups p)) f by in
     let none : PartsFit kind s.variables no_parts =
@@ -94,5 +97,4 @@ lines_fit kind (header ∷ lines) f e =
 
 -- the formula of a text has its numbers and its literals in range
 pub accepted_fits : (kind : Kind) (bytes : List ℕ) (f : Groups) → dimacs kind bytes ≡ Ok f → IsFormula f
-unfolding dimacs
-accepted_fits kind bytes f e = lines_fit kind (content_of 99 bytes) f e
+accepted_fits kind bytes f e = lines_fit kind (content_of 99 bytes) f (sym (same_reading kind bytes) ∙ e)

@@ -12,9 +12,11 @@ use Rattle.sd_formula.specs.declared.formula.Kind.{Kind}
 use Rattle.sd_formula.specs.declared.formula.Kind.TheVariants.{Cnf, Dnf}
 use Rattle.sd_formula.specs.declared.error.FormulaError.{FormulaError}
 use Rattle.sd_formula.specs.declared.error.FormulaError.TheVariants.{OutOfMemory}
-use Rattle.sd_formula.specs.Dimacs.{Groups, Stated, BodyWord, after_mark, pieces_of, is_mark, is_end}
-use Rattle.sd_formula.specs.Dimacs.{group_of_words, has_begun}
-use Rattle.sd_formula.specs.Dimacs.{all_but_last, body_of, words_at, groups_of, header_of, formula_of, Fails}
+use Rattle.sd_formula.specs.Dimacs.{Groups}
+use Rattle.sd_formula.specs.WordByWord.{Stated, BodyWord, after_mark, word_pieces, is_mark, is_end_word}
+use Rattle.sd_formula.specs.WordByWord.{group_of_words, has_begun}
+use Rattle.sd_formula.specs.Dimacs.{Fails}
+use Rattle.sd_formula.specs.WordByWord.{all_but_last, body_words, words_at, groups_of, stated_of, formula_of}
 use Rattle.sd_formula.specs.Steps.{Parts, no_parts, marked, literal_read, put_word, put_words, put_pieces}
 use Rattle.sd_formula.specs.Steps.{all_groups}
 use Rattle.sd_formula.proofs.FlatLaws.{length_cut}
@@ -56,18 +58,18 @@ put_words_append kind v p (x ∷ xs) ys = after (put_word kind v p x) (λ q. put
 pieces_append : (kind : Kind) (v : ℕ) (p : Parts) (xs ys : List BodyWord)
     → put_pieces kind v p (xs ++ ys) ≡ (put_pieces kind v p xs >>= λ q. put_pieces kind v q ys)
 pieces_append kind v p xs ys =
-    ap (put_words kind v p) (flat_map-append (pieces_of kind) xs ys)
-    ∙ put_words_append kind v p (flat_map (pieces_of kind) xs) (flat_map (pieces_of kind) ys)
+    ap (put_words kind v p) (flat_map-append (word_pieces kind) xs ys)
+    ∙ put_words_append kind v p (flat_map (word_pieces kind) xs) (flat_map (word_pieces kind) ys)
 
 -- a word of a line, and those after it
 pub pieces_cons : (kind : Kind) (v : ℕ) (p : Parts) (x : BodyWord) (ys : List BodyWord)
-    → put_pieces kind v p (x ∷ ys) ≡ (put_words kind v p (pieces_of kind x) >>= λ q. put_pieces kind v q ys)
-pieces_cons kind v p x ys = put_words_append kind v p (pieces_of kind x) (flat_map (pieces_of kind) ys)
+    → put_pieces kind v p (x ∷ ys) ≡ (put_words kind v p (word_pieces kind x) >>= λ q. put_pieces kind v q ys)
+pieces_cons kind v p x ys = put_words_append kind v p (word_pieces kind x) (flat_map (word_pieces kind) ys)
 
 -- a mark with a literal or a zero that is joined to it
 pub mark_joined : (kind : Kind) (v : ℕ) (p : Parts) (line : ℕ) (bytes rest : List ℕ)
     → after_mark kind bytes ≡ Some rest → has_begun p.open_part ≡ false → (length rest == 0) ≡ false
-    → put_words kind v p (pieces_of kind (record { line = line; bytes = bytes }))
+    → put_words kind v p (word_pieces kind (record { line = line; bytes = bytes }))
     ≡ literal_read v (marked p) (record { line = line; bytes = rest })
 mark_joined Dnf v p line bytes rest mark fresh filled = absurd cc
 mark_joined Cnf v p line bytes [] mark fresh filled = absurd cc
@@ -86,7 +88,7 @@ mark_joined Cnf v p line bytes (byte ∷ rest) mark fresh filled =
 
 -- the words of a line, and those of the lines after it
 body_cons : (line : TextLine) (lines : List TextLine) → begins_with 37 line.words ≡ false
-    → body_of (line ∷ lines) ≡ words_at line ++ body_of lines
+    → body_words (line ∷ lines) ≡ words_at line ++ body_words lines
 body_cons line lines other =
     let counts = λ (l : TextLine). not (begins_with 37 l.words) in
     let first : take_while counts (line ∷ lines) ≡ line ∷ take_while counts lines =
@@ -96,16 +98,16 @@ body_cons line lines other =
 -- a line of the body, and the lines after it
 pub body_line : (kind : Kind) (v : ℕ) (p : Parts) (line : TextLine) (lines : List TextLine)
     → begins_with 37 line.words ≡ false
-    → put_pieces kind v p (body_of (line ∷ lines))
-    ≡ (put_pieces kind v p (words_at line) >>= λ q. put_pieces kind v q (body_of lines))
+    → put_pieces kind v p (body_words (line ∷ lines))
+    ≡ (put_pieces kind v p (words_at line) >>= λ q. put_pieces kind v q (body_words lines))
 body_line kind v p line lines other =
-    ap (put_pieces kind v p) (body_cons line lines other) ∙ pieces_append kind v p (words_at line) (body_of lines)
+    ap (put_pieces kind v p) (body_cons line lines other) ∙ pieces_append kind v p (words_at line) (body_words lines)
 
 -- and how many words that are
 pub body_length : (line : TextLine) (lines : List TextLine) → begins_with 37 line.words ≡ false
-    → length (body_of (line ∷ lines)) ≡ length (words_at line) + length (body_of lines)
+    → length (body_words (line ∷ lines)) ≡ length (words_at line) + length (body_words lines)
 body_length line lines other =
-    ap length (body_cons line lines other) ∙ length-append (words_at line) (body_of lines)
+    ap length (body_cons line lines other) ∙ length-append (words_at line) (body_words lines)
 
 -- ---- the whole text
 
@@ -117,7 +119,7 @@ fails_then e r f h = ap (λ x. x >>= f) h
 
 -- what the lines of a body give
 abbrev body_parts : Kind → List TextLine → Stated → Result Parts (List ℕ)
-body_parts kind lines s = put_pieces kind s.variables no_parts (body_of lines)
+body_parts kind lines s = put_pieces kind s.variables no_parts (body_words lines)
 
 -- the formula of a header and a body that was read into parts
 abbrev of_parts : Kind → Stated → Result Parts (List ℕ) → Result Groups (List ℕ)
@@ -125,19 +127,19 @@ of_parts kind s reading = reading >>= λ p. groups_of kind s (all_groups p)
 
 -- the formula by way of the parts
 formula_by_parts : (kind : Kind) (header : TextLine) (lines : List TextLine)
-    → formula_of kind (header ∷ lines) ≡ (header_of kind header >>= λ s. of_parts kind s (body_parts kind lines s))
-formula_by_parts kind header lines = at (header_of kind header)
+    → formula_of kind (header ∷ lines) ≡ (stated_of kind header >>= λ s. of_parts kind s (body_parts kind lines s))
+formula_by_parts kind header lines = at (stated_of kind header)
   where
     at : (r : Result Stated (List ℕ))
-        → (r >>= λ s. each (group_of_words kind s.variables) (slice_split is_end (flat_map (pieces_of kind)
-        (body_of lines))) >>= groups_of kind s)
+        → (r >>= λ s. each (group_of_words kind s.variables) (slice_split is_end_word (flat_map (word_pieces kind)
+        (body_words lines))) >>= groups_of kind s)
         ≡ (r >>= λ s. of_parts kind s (body_parts kind lines s))
-    at (Ok s) = by_parts kind s.variables (flat_map (pieces_of kind) (body_of lines)) (groups_of kind s)
+    at (Ok s) = by_parts kind s.variables (flat_map (word_pieces kind) (body_words lines)) (groups_of kind s)
     at (Err e) = refl
 
 -- the reading, where the header has no fault
 after_header : (kind : Kind) (content : List TextLine) (header : TextLine) (lines : List TextLine) (s : Stated)
-    → content ≡ header ∷ lines → header_of kind header ≡ Ok s
+    → content ≡ header ∷ lines → stated_of kind header ≡ Ok s
     → formula_of kind content ≡ of_parts kind s (body_parts kind lines s)
 after_header kind content header lines s at header_is =
     let go_on = λ (r : Result Stated (List ℕ)). r >>= λ t. of_parts kind t (body_parts kind lines t) in
@@ -145,16 +147,16 @@ after_header kind content header lines s at header_is =
 
 -- the reading, where header and body have no fault
 pub whole : (kind : Kind) (content : List TextLine) (header : TextLine) (lines : List TextLine) (s : Stated) (p : Parts)
-    → content ≡ header ∷ lines → header_of kind header ≡ Ok s
-    → put_pieces kind s.variables no_parts (body_of lines) ≡ Ok p
+    → content ≡ header ∷ lines → stated_of kind header ≡ Ok s
+    → put_pieces kind s.variables no_parts (body_words lines) ≡ Ok p
     → formula_of kind content ≡ groups_of kind s (all_groups p)
 whole kind content header lines s p at header_is body_is =
     after_header kind content header lines s at header_is ∙ ap (of_parts kind s) body_is
 
 -- the reading, where the body has a fault
 pub body_fails : (kind : Kind) (content : List TextLine) (header : TextLine) (lines : List TextLine) (s : Stated)
-    (e : FormulaError) → content ≡ header ∷ lines → header_of kind header ≡ Ok s
-    → Fails e (put_pieces kind s.variables no_parts (body_of lines)) → Fails e (formula_of kind content)
+    (e : FormulaError) → content ≡ header ∷ lines → stated_of kind header ≡ Ok s
+    → Fails e (put_pieces kind s.variables no_parts (body_words lines)) → Fails e (formula_of kind content)
 body_fails kind content header lines s e at header_is fails =
     let decided = fails_then e (body_parts kind lines s) (λ q. groups_of kind s (all_groups q)) fails in
     subst (Fails e) (sym (after_header kind content header lines s at header_is)) decided

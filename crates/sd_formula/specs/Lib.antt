@@ -1,4 +1,5 @@
 pub mod Dimacs
+pub mod WordByWord
 pub mod Flat
 pub mod Formulas
 pub mod Steps

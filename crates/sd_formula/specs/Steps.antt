@@ -8,7 +8,7 @@ use Rattle.sd_formula.specs.declared.flat.End.{End}
 use Rattle.sd_formula.specs.declared.formula.Kind.{Kind}
 use Rattle.sd_formula.specs.declared.header.Header.{Header}
 use Rattle.sd_formula.specs.declared.parts.Body.{Body}
-use Rattle.sd_formula.specs.Dimacs.{Stated, BodyWord, literal_of_word, is_zero, is_mark, has_begun, pieces_of}
+use Rattle.sd_formula.specs.WordByWord.{Stated, BodyWord, literal_of_word, is_zero, is_mark, has_begun, word_pieces}
 use Rattle.sd_formula.specs.Flat.{cut, last_end}
 use Rattle.sd_formula.specs.Formulas.{IsGroup}
 
@@ -86,7 +86,7 @@ put_words kind variables p (word ∷ words) = do
 
 -- the words of lines are put, without the marks that are joined to them
 abbrev pub put_pieces : Kind → ℕ → Parts → List BodyWord → Result Parts (List ℕ)
-put_pieces kind variables p words = put_words kind variables p (flat_map (pieces_of kind) words)
+put_pieces kind variables p words = put_words kind variables p (flat_map (word_pieces kind) words)
 
 -- the parts as one list
 abbrev pub all_groups : Parts → List Group

@@ -2,7 +2,7 @@
 
 ghost use Rattle.std.specs.Prelude.{◌≡◌, ◌≤◌, ◌<◌, ◌+◌, ◌^◌, length, option_map};
 ghost use Rattle.sd_base.specs.Views.{line_view, content_left};
-ghost use Rattle.sd_formula.specs.Dimacs as texts;
+ghost use Rattle.sd_formula.specs.WordByWord as texts;
 ghost use Rattle.sd_formula.specs.Dimacs.{Gives};
 ghost use Rattle.sd_formula.specs.Steps.{body_view, no_parts, literal_read, put_words, put_pieces};
 
@@ -61,7 +61,7 @@ fn read_word(
     ensures within_limit { length body.new.literals.items ≤ length body.old.literals.items + 1 }
     ensures read { Gives (λ _. body_view body.new) result
         (put_words kind variables (body_view body.old)
-        (texts.pieces_of kind (record { line = line; bytes = word.now }))) }
+        (texts.word_pieces kind (record { line = line; bytes = word.now }))) }
 {
     let Some(rest) = after_mark(kind, word) else {
         return read_literal(body, variables, line, word);
@@ -108,9 +108,9 @@ pub(crate) fn read_body(
     lines: ContentLines<'_>,
 ) -> Result<Body, FormulaError>
     requires range { variables ≤ 1024 }
-    requires within_limit { length (texts.body_of (content_left lines)) ≤ 67108864 }
+    requires within_limit { length (texts.body_words (content_left lines)) ≤ 67108864 }
     ensures { Gives body_view result
-        (put_pieces kind variables no_parts (texts.body_of (content_left lines.entry))) }
+        (put_pieces kind variables no_parts (texts.body_words (content_left lines.entry))) }
 {
     let mut body = Body::new(alloc);
     for line in lines {

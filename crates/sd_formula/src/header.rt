@@ -2,7 +2,7 @@
 
 ghost use Rattle.std.specs.Prelude.{◌≡◌, IfOk, option_map};
 ghost use Rattle.sd_base.specs.Views.{line_view, words_left};
-ghost use Rattle.sd_formula.specs.Dimacs as texts;
+ghost use Rattle.sd_formula.specs.WordByWord as texts;
 ghost use Rattle.sd_formula.specs.Dimacs.{Gives};
 ghost use Rattle.sd_formula.specs.Steps.{header_view, pair_view, InRange};
 
@@ -25,7 +25,7 @@ pub(crate) struct Header {
 
 /// The header of a text of this kind.
 pub(crate) fn header_of(kind: Kind, line: &Line<'_>) -> Result<Header, FormulaError>
-    ensures value { Gives header_view result (texts.header_of kind (line_view line.now)) }
+    ensures value { Gives header_view result (texts.stated_of kind (line_view line.now)) }
     ensures range { IfOk result (λ header. InRange (header_view header)) }
 {
     let mut words = line.words();
@@ -40,7 +40,7 @@ pub(crate) fn header_of(kind: Kind, line: &Line<'_>) -> Result<Header, FormulaEr
 
 /// The two numbers after the name of the kind.
 fn numbers_of(kind: Kind, mut words: Words<'_>) -> Option<(u64, u64)>
-    ensures { option_map pair_view result ≡ texts.numbers_of kind (words_left words.entry) }
+    ensures { option_map pair_view result ≡ texts.stated_in kind (words_left words.entry) }
 {
     let name = words.next()?;
     let variables = natural(words.next()?)?;

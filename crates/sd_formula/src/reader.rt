@@ -1,7 +1,9 @@
 //! The formula of a text in the format of DIMACS, or its first fault.
 
 ghost use Rattle.std.specs.Prelude.{◌≡◌, ◌≤◌, length, IfOk, IfErr};
-ghost use Rattle.sd_formula.specs.Dimacs.{Fails, Gives, dimacs, groups_of};
+ghost use Rattle.sd_base.specs.Lines.{content_of};
+ghost use Rattle.sd_formula.specs.Dimacs.{Fails, Gives, dimacs};
+ghost use Rattle.sd_formula.specs.WordByWord.{formula_of, groups_of};
 ghost use Rattle.sd_formula.specs.Formulas.{IsFormula};
 ghost use Rattle.sd_formula.specs.Steps.{header_view, body_view, all_groups, PartsFit, InRange};
 
@@ -21,6 +23,7 @@ use std::alloc::Global;
 /// the group. Under `cnf` a group that begins with `x`, as a word or joined to the next one, is an
 /// exclusive group. Literals that are repeated or opposite are kept as they are written. Separators
 /// before the first byte of a line do not count. Any text may answer `OutOfMemory`.
+#[tactic(auto, using(crate::proofs::SameReading::same_reading))]
 pub fn read_dimacs(alloc: Global, bytes: &[u8], kind: Kind) -> Result<Formula, FormulaError>
     requires { length bytes.now ≤ 67108864 }
     ensures ok { IfOk result (λ f. dimacs kind bytes.now ≡ Ok f) }
@@ -31,10 +34,9 @@ pub fn read_dimacs(alloc: Global, bytes: &[u8], kind: Kind) -> Result<Formula, F
 }
 
 /// The formula that a text stands for.
-#[tactic(auto, unfolding(crate::specs::Dimacs::dimacs))]
 fn read_text(alloc: Global, bytes: &[u8], kind: Kind) -> Result<Formula, FormulaError>
     requires { length bytes.now ≤ 67108864 }
-    ensures { Gives (λ f. f) result (dimacs kind bytes.now) }
+    ensures { Gives (λ f. f) result (formula_of kind (content_of 99 bytes.now)) }
 {
     let mut lines = ContentLines::new(bytes, b'c');
     let Some(first) = lines.next() else {

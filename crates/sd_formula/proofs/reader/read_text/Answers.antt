@@ -2,7 +2,7 @@ use Rattle.std.proofs.Common.{sym, ◌∙◌, arith}
 use Rattle.std.proofs.lemmas.Result.{err_from_is_err_and}
 use Rattle.std.specs.List.{flat_map}
 use Rattle.sd_base.specs.Views.{content_left}
-use Rattle.sd_formula.specs.Dimacs.{body_of, pieces_of, dimacs}
+use Rattle.sd_formula.specs.WordByWord.{body_words, word_pieces}
 use Rattle.sd_formula.specs.Steps.{no_parts, body_view}
 use Rattle.sd_formula.proofs.FewWords.{few_words}
 use Rattle.sd_formula.proofs.FitLaws.{nothing_fits, words_fit}
@@ -11,7 +11,6 @@ use Rattle.sd_formula.proofs.reader.read_text.Goals as goal
 
 -- the fault of the body is that of the text
 pub returns-in_err-body : goal.returns-in_err-body
-unfolding dimacs
 returns-in_err-body c =
     let p = err_from_is_err_and c.from_residual-in_err-body.result c.from_residual-in_err-body.ensures.1 in
     let lines = sym c.new-lines.ensures ∙ c.in-Some.ensures.steps in
@@ -19,7 +18,6 @@ returns-in_err-body c =
 
 -- header and body have no fault
 pub returns : goal.returns
-unfolding dimacs
 returns c =
     let lines = sym c.new-lines.ensures ∙ c.in-Some.ensures.steps in
     let reading = whole _ _ _ _ _ _ lines c.in_ok-header.ensures.value c.in_ok-body.ensures in
@@ -30,7 +28,7 @@ pub finish-requires-clause-literals : goal.finish-requires-clause-literals
 finish-requires-clause-literals c =
     let kind = c.args.kind in
     let v = c.in_ok-header.header.variables in
-    let words = flat_map (pieces_of kind) (body_of (content_left c.next.new.self)) in
+    let words = flat_map (word_pieces kind) (body_words (content_left c.next.new.self)) in
     words_fit kind v no_parts (body_view c.in_ok-body.body) words
     (record { closed = tt; open_part = nothing_fits kind v }) c.in_ok-body.ensures
 
