@@ -2,8 +2,9 @@
 use Rattle.std.proofs.Common.{◌≡◌, ◌≢◌, ◌+◌, arith, ℕ, Bool, true, false, List, [], ◌∷◌, refl, ap, sym, ◌∙◌}
 use Rattle.std.proofs.Common.{if◌then◌else◌, take, drop, map, length, ◌-◌}
 use Rattle.std.proofs.lemmas.Slice.Eq.{bytes_eq-Decides}
-use Rattle.std.specs.Prelude.{codes, bytes_eq, Option, Some, None, option_map}
-use Rattle.std.specs.List.{last_or}
+use Rattle.std.specs.Prelude.{codes, bytes_eq, ◌&&◌, nat_le, Option, Some, None, option_map}
+use Rattle.std.specs.Bool.{then_some}
+use Rattle.std.specs.List.{last_or, list_all}
 use Rattle.std.specs.Option.{option_and_then}
 use Rattle.sd_base.specs.Numbers.{natural_value, integer_value}
 use Rattle.sd_model.specs.declared.trees.Move.TheVariants.{RotateLeft, RotateRight, Swap}
@@ -11,7 +12,7 @@ use Rattle.sd_model.specs.declared.trees.Operation.{Operation}
 use Rattle.sd_model.specs.declared.trees.Operation.TheVariants.{And, Or, Xor}
 use Rattle.sd_script.specs.declared.command.Action.{Action}
 use Rattle.sd_script.specs.declared.command.Action.TheVariants as A
-use Rattle.sd_script.specs.Forms.{variable_of}
+use Rattle.sd_script.specs.Forms.{is_name, is_within, variable_of}
 use Rattle.sd_script.specs.Phrases as p
 use Rattle.sd_script.specs.Phrases.{Phrase, Word, name_of, file_name_of, bits_of, names_of, pair, triple, said}
 use Rattle.sd_script.specs.Phrases.{one_word, two_words, three_words, few_words, phrase_of, write_of}
@@ -76,6 +77,24 @@ named s words w = (number_of_word (see s.names w) w, (more_names s (see s.names 
 abbrev filed : Script → List Word → Word → ℕ × Rest
 filed s words w = (number_of_word (see s.files w) w, (more_files s (see s.files w), words))
 
+-- what a test keeps, and what is made of it
+some_if : {X Y : Type 0} (b : Bool) (f : X → Y) (x : X) → then_some b (f x) ≡ option_map f (if b then Some x else None)
+some_if true f x = refl
+some_if false f x = refl
+
+-- a name by the form of its word
+name_is : (s : Script) (words : List Word) (w : Word) → name (s, w ∷ words) ≡ option_map (named s words) (name_of w)
+name_is s words w = some_if (is_name w) (named s words) w
+
+-- a word has the form of a file's name
+abbrev is_file_name : Word → Bool
+is_file_name w = nat_le (length w) 255 && list_all (is_within 33 126) w
+
+-- a file by the form of its word
+file_is : (s : Script) (words : List Word) (w : Word)
+    → file (s, w ∷ words) ≡ option_map (filed s words) (file_name_of w)
+file_is s words w = some_if (is_file_name w) (filed s words) w
+
 -- the number of a name that another follows
 first_of_two : (ns : List Word) (x y : Word) → number_of_word (see ns x) x ≡ number_of_word (see (see ns x) y) x
 first_of_two ns x y = sym (number_see_other (see ns x) x y (has_see ns x))
@@ -93,7 +112,7 @@ module _ (s : Script) where
       → ((x : Word) → said s (of x) ≡ (make (named s [] x).0, more_names s (see s.names x)))
       → Agree s (w ∷ []) (do pure (make (← name))) (option_map of (name_of w))
   one_name w make of h =
-      one s (w ∷ []) (name_of w) (named s []) name refl make of (λ x. ap Some (sym (h x)))
+      one s (w ∷ []) (name_of w) (named s []) name (name_is s [] w) make of (λ x. ap Some (sym (h x)))
 
   -- one number
   one_number : (w : Word) (make : ℕ → Action) (of : ℕ → Phrase Word)
@@ -108,7 +127,7 @@ module _ (s : Script) where
       → ((x : Word) (y : B) → said s (of x y) ≡ (make (named s [] x).0 y, more_names s (see s.names x)))
       → Agree s (w ∷ u ∷ []) (do pure (make (← name) (← value read))) (pair of (name_of w) (read u))
   name_value w u read make of h =
-      two s (w ∷ u ∷ []) (name_of w) (named s (u ∷ [])) name refl
+      two s (w ∷ u ∷ []) (name_of w) (named s (u ∷ [])) name (name_is s (u ∷ []) w)
       (read u) (λ x y. (y, (more_names s (see s.names x), []))) (value read) (λ x. refl) make of
       (λ x y. ap Some (sym (h x y)))
 
@@ -121,8 +140,9 @@ module _ (s : Script) where
       ))
       → Agree s (w ∷ u ∷ []) (do pure (make (← name) (← name))) (pair of (name_of w) (name_of u))
   two_names w u make of h =
-      two s (w ∷ u ∷ []) (name_of w) (named s (u ∷ [])) name refl
-      (name_of u) (λ x y. named (more_names s (see s.names x)) [] y) name (λ x. refl) make of
+      two s (w ∷ u ∷ []) (name_of w) (named s (u ∷ [])) name (name_is s (u ∷ []) w)
+      (name_of u) (λ x y. named (more_names s (see s.names x)) [] y) name
+      (λ x. name_is (more_names s (see s.names x)) [] u) make of
       (λ x y. ap (λ n. Some (make n (number_of_word (see (see s.names x) y) y), more_names s (see (see s.names x) y)))
       (first_of_two s.names x y) ∙ ap Some (sym (h x y)))
 
@@ -131,9 +151,11 @@ module _ (s : Script) where
       → Agree s (w ∷ u ∷ r ∷ []) (do pure (A.Binary operation (← name) (← name) (← name)))
       (triple (p.Binary operation) (name_of w) (name_of u) (name_of r))
   three_names w u r operation =
-      three s (w ∷ u ∷ r ∷ []) (name_of w) (named s (u ∷ r ∷ [])) name refl
-      (name_of u) (λ x y. named (more_names s (see s.names x)) (r ∷ []) y) name (λ x. refl)
-      (name_of r) (λ x y z. named (more_names s (see (see s.names x) y)) [] z) name (λ x y. refl)
+      three s (w ∷ u ∷ r ∷ []) (name_of w) (named s (u ∷ r ∷ [])) name (name_is s (u ∷ r ∷ []) w)
+      (name_of u) (λ x y. named (more_names s (see s.names x)) (r ∷ []) y) name
+      (λ x. name_is (more_names s (see s.names x)) (r ∷ []) u)
+      (name_of r) (λ x y z. named (more_names s (see (see s.names x) y)) [] z) name
+      (λ x y. name_is (more_names s (see (see s.names x) y)) [] r)
       (λ n m k. A.Binary operation n m k) (λ x y z. p.Binary operation x y z)
       (λ x y z.
       let all = see (see (see s.names x) y) z in
@@ -156,8 +178,9 @@ module _ (s : Script) where
       ))
       → Agree s (w ∷ u ∷ r ∷ []) (do pure (make (← name) (← name) (← value read))) (triple of (name_of w) (name_of u) o)
   names_value {Z = Z} w u r o f read e make of h =
-      three s (w ∷ u ∷ r ∷ []) (name_of w) (named s (u ∷ r ∷ [])) name refl
-      (name_of u) (λ x y. named (more_names s (see s.names x)) (r ∷ []) y) name (λ x. refl)
+      three s (w ∷ u ∷ r ∷ []) (name_of w) (named s (u ∷ r ∷ [])) name (name_is s (u ∷ r ∷ []) w)
+      (name_of u) (λ x y. named (more_names s (see s.names x)) (r ∷ []) y) name
+      (λ x. name_is (more_names s (see s.names x)) (r ∷ []) u)
       o (λ x y z. (f z, (more_names s (see (see s.names x) y), []))) (value read)
       (λ x y. last (more_names s (see (see s.names x) y)) o e)
       make of
@@ -175,14 +198,15 @@ module _ (s : Script) where
 
   -- one file
   one_file : (w : Word) → Agree s (w ∷ []) (do pure (A.Vtree (← file))) (option_map p.Vtree (file_name_of w))
-  one_file w = one s (w ∷ []) (file_name_of w) (filed s []) file refl A.Vtree p.Vtree (λ x. refl)
+  one_file w = one s (w ∷ []) (file_name_of w) (filed s []) file (file_is s [] w) A.Vtree p.Vtree (λ x. refl)
 
   -- a name and a file
   name_file : (w u : Word)
       → Agree s (w ∷ u ∷ []) (do pure (A.Load (← name) (← file))) (pair p.Load (name_of w) (file_name_of u))
   name_file w u =
-      two s (w ∷ u ∷ []) (name_of w) (named s (u ∷ [])) name refl
-      (file_name_of u) (λ x y. filed (more_names s (see s.names x)) [] y) file (λ x. refl) A.Load p.Load (λ x y. refl)
+      two s (w ∷ u ∷ []) (name_of w) (named s (u ∷ [])) name (name_is s (u ∷ []) w)
+      (file_name_of u) (λ x y. filed (more_names s (see s.names x)) [] y) file
+      (λ x. file_is (more_names s (see s.names x)) [] u) A.Load p.Load (λ x y. refl)
 
 -- the same value
 same_value : {Z : Type 0} (o : Option Z) → o ≡ option_map (λ z. z) o
@@ -257,27 +281,27 @@ record TakesAll {A : Type 0} (k : ℕ) (part : Part A) : Type 0 where
 name_takes : TakesAll 1 name
 name_takes = record { fact = by }
   where
-    seen_by : (s : Script) (w : Word) (words : List Word) (o : Option Word)
-        → Takes 1 (w ∷ words) (option_map (named s words) o)
-    seen_by s w words None = tt
-    seen_by s w words (Some x) = omega arith
+    seen_by : (s : Script) (w : Word) (words : List Word) (b : Bool)
+        → Takes 1 (w ∷ words) (then_some b (named s words w))
+    seen_by s w words false = tt
+    seen_by s w words true = omega arith
 
     by : (s : Script) (words : List Word) → Takes 1 words (name (s, words))
     by s [] = tt
-    by s (w ∷ words) = seen_by s w words (name_of w)
+    by s (w ∷ words) = seen_by s w words (is_name w)
 
 -- a file is
 file_takes : TakesAll 1 file
 file_takes = record { fact = by }
   where
-    seen_by : (s : Script) (w : Word) (words : List Word) (o : Option Word)
-        → Takes 1 (w ∷ words) (option_map (filed s words) o)
-    seen_by s w words None = tt
-    seen_by s w words (Some x) = omega arith
+    seen_by : (s : Script) (w : Word) (words : List Word) (b : Bool)
+        → Takes 1 (w ∷ words) (then_some b (filed s words w))
+    seen_by s w words false = tt
+    seen_by s w words true = omega arith
 
     by : (s : Script) (words : List Word) → Takes 1 words (file (s, words))
     by s [] = tt
-    by s (w ∷ words) = seen_by s w words (file_name_of w)
+    by s (w ∷ words) = seen_by s w words (is_file_name w)
 
 -- and so is a value
 value_takes : {B : Type 0} (read : Word → Option B) → TakesAll 1 (value read)
@@ -511,11 +535,15 @@ of_write s (w ∷ words) =
     let n = length (w ∷ words) - 1 in
     let one_left : drop n (w ∷ words) ≡ found.0 ∷ [] = ap (λ k. drop k (w ∷ words)) (omega arith) ∙ found.1 in
     let all : List Word → List Word = λ own. see_all s.names own in
-    two s (w ∷ words) (names_of (take n (w ∷ words)))
-    (λ own. (map (number_of_word (all own)) own, (more_names s (all own), drop n (w ∷ words)))) names refl
+    let most = take n (w ∷ words) in
+    let numbered : List Word → List ℕ × Rest =
+    λ own. (map (number_of_word (all own)) own, (more_names s (all own), drop n (w ∷ words))) in
+    two s (w ∷ words) (names_of most) numbered names
+    (some_if (is_within 1 1024 (length most) && list_all is_name most) numbered most)
     (option_and_then file_name_of (last_or None (w ∷ words)))
     (λ own f. filed (more_names s (all own)) [] f) file
     (λ own. ap (λ left. file (more_names s (all own), left)) one_left
+    ∙ file_is (more_names s (all own)) [] found.0
     ∙ ap (λ o. option_map (filed (more_names s (all own)) []) (option_and_then file_name_of o)) (sym found.2))
     A.Write p.Write (λ own f. refl)
 

@@ -1,7 +1,8 @@
 -- A script as it is seen, and the command that the words of a line stand for.
-use Rattle.std.specs.Prelude.{ℕ, ◌-◌, true, false, not, if◌then◌else◌, bytes_eq, codes, Option, Some, None, option_map}
+use Rattle.std.specs.Prelude.{ℕ, ◌-◌, true, false, not, ◌&&◌, nat_le, if◌then◌else◌, bytes_eq, codes}
+use Rattle.std.specs.Prelude.{Option, Some, None, option_map}
 use Rattle.std.specs.Prelude.{List, [], ◌∷◌, ◌++◌, length, take, drop, map, fold}
-use Rattle.std.specs.List.{list_any, position_or_len}
+use Rattle.std.specs.List.{list_any, list_all, position_or_len}
 use Rattle.std.specs.Bool.{then_some}
 use Rattle.std.specs.Option.{option_and_then}
 use Rattle.sd_base.specs.Numbers.{natural_value, integer_value}
@@ -13,7 +14,7 @@ use Rattle.sd_script.specs.declared.command.Action.TheVariants.{Input, Load, Lit
 use Rattle.sd_script.specs.declared.command.Action.TheVariants.{Given, Forget, Drop, Turn, Minimise, Limit}
 use Rattle.sd_script.specs.declared.command.Action.TheVariants.{Same, Size, Value, Write, Vtree}
 use Rattle.sd_script.specs.declared.command.Command.{Command}
-use Rattle.sd_script.specs.Forms.{Word, name_of, file_name_of, names_of, bits_of, variable_of}
+use Rattle.sd_script.specs.Forms.{Word, is_name, is_within, bits_of, variable_of}
 
 -- A script as it is seen. The names, and apart from them the files, stand in the order in which
 -- they are first seen, and the commands have their indices there, counted from 0.
@@ -56,22 +57,22 @@ value read (s, word ∷ words) = option_map (λ x. (x, (s, words))) (read word)
 -- a name, with its number as its value
 abbrev pub name : Part ℕ
 name (s, []) = None
-name (s, word ∷ words) =
-    option_map (λ w. (number_of_word (see s.names w) w, (record s { names = see s.names w }, words))) (name_of word)
+name (s, word ∷ words) = let all = see s.names word in
+    then_some (is_name word) (number_of_word all word, (record s { names = all }, words))
 
--- a file, with its number as its value
+-- a word that names a file (at most 255 bytes, each of 33 to 126), with its number as its value
 abbrev pub file : Part ℕ
 file (s, []) = None
-file (s, word ∷ words) =
-    option_map (λ w. (number_of_word (see s.files w) w, (record s { files = see s.files w }, words)))
-    (file_name_of word)
+file (s, word ∷ words) = let all = see s.files word in
+    then_some (nat_le (length word) 255 && list_all (is_within 33 126) word)
+    (number_of_word all word, (record s { files = all }, words))
 
 -- 1 to 1,024 names, which are all words but the last, with their numbers
 abbrev pub names : Part (List ℕ)
-names (s, words) = let most = length words - 1 in
-    option_map (λ own. let all = fold see s.names own in
-    (map (number_of_word all) own, (record s { names = all }, drop most words)))
-    (names_of (take most words))
+names (s, words) = let most = length words - 1 in let own = take most words in
+    let all = fold see s.names own in
+    then_some (is_within 1 1024 (length own) && list_all is_name own)
+    (map (number_of_word all) own, (record s { names = all }, drop most words))
 
 -- The table of commands over v variables: what stands behind the first word.
 abbrev pub table : ℕ → Word → Part Action
