@@ -1,4 +1,4 @@
--- What the calls inside an operation answer.
+-- What the calls inside an operation answer, for the contracts of private functions.
 use Rattle.std.specs.Prelude.{◌≡◌, ℕ, Bool, not, List, [], ◌∷◌, ◌++◌, map}
 use Rattle.sd_model.specs.declared.trees.Operation.{Operation}
 use Rattle.sd_model.specs.Diagram.{Diagram, meaning}

@@ -1,4 +1,5 @@
--- Elements with one sub apart from the others, and what is made of their primes.
+-- Elements with one sub apart from the others, and what is made of their primes, for the contracts of private
+-- functions.
 use Rattle.std.specs.Prelude.{◌≡◌, ◌⊎◌, ℕ, ◌≤◌, ◌<◌, Bool, true, false, List, [], ◌∷◌, length}
 use Rattle.std.proofs.Common.{get_or}
 use Rattle.std.specs.List.{AllByRecursion}

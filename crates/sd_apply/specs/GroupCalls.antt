@@ -1,4 +1,4 @@
--- What the calls answer that join a node with the literals of a group.
+-- What the calls answer that join a node with the literals of a group, for the contracts of private functions.
 use Rattle.std.specs.Prelude.{◌≡◌, ◌≢◌, ℕ, suc, ◌+◌, ◌≤◌, ℤ, Bool, true, false, cond, List, drop, Some}
 use Rattle.std.specs.Prelude.{slice_get, unsigned_abs}
 use Rattle.std.specs.List.{All}

@@ -1,4 +1,4 @@
--- Two lists of elements, with those apart that have one prime in both.
+-- Two lists of elements, with those apart that have one prime in both, for the contracts of private functions.
 use Rattle.std.specs.Prelude.{◌≡◌, ◌⊎◌, ℕ, Bool, List, [], ◌∷◌, ◌++◌, length}
 use Rattle.sd_model.specs.declared.trees.Operation.{Operation}
 use Rattle.sd_model.specs.Diagram.{Diagram}

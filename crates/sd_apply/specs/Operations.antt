@@ -7,12 +7,6 @@ use Rattle.sd_model.specs.Assignment.{with_value}
 use Rattle.sd_model.specs.Diagram.{Diagram, Literal, meaning}
 use Rattle.sd_model.specs.Expression.{combine}
 
--- the number of a connective
-abbrev pub operation_number : Operation → ℕ
-operation_number And = 0
-operation_number Or = 1
-operation_number Xor = 2
-
 -- the value of x where the literal y holds
 abbrev pub given_value : Diagram → Diagram → List Bool → Bool
 given_value x (Literal p v positive) a = meaning x (with_value a v positive)
@@ -32,3 +26,11 @@ operation_value n x y a =
     else (if n == 2 then combine Xor (meaning x a) (meaning y a)
     else (if n == 3 then not (meaning x a)
     else (if n == 4 then given_value x y a else forgotten_value x y a))))
+
+-- ---- for the contracts of private functions
+
+-- the number of a connective
+abbrev pub operation_number : Operation → ℕ
+operation_number And = 0
+operation_number Or = 1
+operation_number Xor = 2

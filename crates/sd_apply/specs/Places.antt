@@ -19,10 +19,6 @@ plain None = Leaf 0
 abbrev pub tree_at : Numbered → ℕ → Tree
 tree_at t u = plain (subtree t u)
 
--- how many variables are below a vtree node
-abbrev pub width : Numbered → ℕ → ℕ
-width t u = leaves (tree_at t u)
-
 -- the diagram is canonical for the vtree, and looks at the variables below the vtree node alone
 pub record IsCanonicalUnder (t : Numbered) (u : ℕ) (d : Diagram) : Type 0 where
   pub canonical : IsCanonical (plain_tree t) 0 d
@@ -38,21 +34,27 @@ pub record IsBelow (t : Table) (u c : ℕ) : Type 0 where
   pub diagram : Diagram
   pub is : IsNodeUnder t u c diagram
 
+-- the vtree node p has the children u and w
+abbrev pub HasChildren : Numbered → ℕ → ℕ → ℕ → Type 0
+HasChildren t p u w = Some (u, w) ≡ children_at t p
+
+-- the vtree node with this number is there
+pub record IsThere (t : Numbered) (u : ℕ) : Type 0 where
+  pub part : Numbered
+  pub is : subtree t u ≡ Some part
+
+-- ---- for the contracts of private functions
+
+-- how many variables are below a vtree node
+abbrev pub width : Numbered → ℕ → ℕ
+width t u = leaves (tree_at t u)
+
 -- the diagram is no constant, and stands at the vtree node
 pub record HasPlace (t : Numbered) (u : ℕ) (d : Diagram) : Type 0 where
   pub position : ℕ
   pub stands : HasPosition d position
   pub number : slice_get (numbers t) position ≡ Some u
 
--- the vtree node p has the children u and w
-abbrev pub HasChildren : Numbered → ℕ → ℕ → ℕ → Type 0
-HasChildren t p u w = Some (u, w) ≡ children_at t p
-
--- the same of the three that stand together
+-- the two children of a fork are those of its vtree node
 abbrev pub IsFork : Numbered → Fork → Type 0
 IsFork t f = HasChildren t f.node f.left f.right
-
--- the vtree node with this number is there
-pub record IsThere (t : Numbered) (u : ℕ) : Type 0 where
-  pub part : Numbered
-  pub is : subtree t u ≡ Some part

@@ -1,4 +1,4 @@
--- The terminal cases of the operations: answers that need no node.
+-- The terminal cases of the operations, for the contracts of private functions: answers that need no node.
 use Rattle.std.specs.Prelude.{ℕ, ◌+◌, ◌-◌, ◌/◌, ◌%◌, ◌&&◌, ◌==◌, nat_lt, Option, Some, None}
 use Rattle.std.specs.Prelude.{if◌then◌else◌}
 use Rattle.sd_model.specs.declared.trees.Operation.{Operation}

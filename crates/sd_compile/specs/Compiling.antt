@@ -19,11 +19,6 @@ use Rattle.sd_compile.specs.declared.error.CompileError.TheVariants.{OverLimit, 
 use Rattle.sd_compile.specs.declared.error.HoldError.{HoldError}
 use Rattle.sd_compile.specs.declared.error.HoldError.TheVariants as holding
 
--- an answer of an operation, as one of compiling
-abbrev pub error_of : TakeError → CompileError
-error_of (taking.ArenaFull elements) = ArenaFull elements
-error_of taking.OutOfMemory = OutOfMemory
-
 -- how far a formula is compiled: the root of a prefix, and the number of its groups
 pub record CompiledPrefix : Type 0 where
   pub root : ℕ
@@ -102,3 +97,10 @@ IsFormulaRefused others new f limit first (OverLimit group size most) =
     × ((n : ℕ) → first < n → n < group → IsWithinLimit others (prefix_of f n) limit)
 IsFormulaRefused others new f limit first (ArenaFull elements) = IsPastBound new elements
 IsFormulaRefused others new f limit first OutOfMemory = Unit {0}
+
+-- ---- for the contracts of private functions
+
+-- an answer of an operation, as one of compiling
+abbrev pub error_of : TakeError → CompileError
+error_of (taking.ArenaFull elements) = ArenaFull elements
+error_of taking.OutOfMemory = OutOfMemory

@@ -19,15 +19,17 @@ neutral And = true
 neutral Or = false
 neutral Xor = false
 
--- the values of a list, joined
-abbrev pub joined : {X : Type 0} → Operation → (X → Bool) → List X → Bool
-joined o p [] = neutral o
-joined o p (x ∷ xs) = combine o (p x) (joined o p xs)
-
 -- what joins the groups
 abbrev pub outer : Kind → Operation
 outer Cnf = And
 outer Dnf = Or
+
+-- ---- for the contracts of private functions, and for proofs
+
+-- the values of a list, joined
+abbrev pub joined : {X : Type 0} → Operation → (X → Bool) → List X → Bool
+joined o p [] = neutral o
+joined o p (x ∷ xs) = combine o (p x) (joined o p xs)
 
 -- what joins the literals of a clause or a term, and of an exclusive group
 abbrev pub inner : Kind → Bool → Operation

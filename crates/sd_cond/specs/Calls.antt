@@ -1,4 +1,4 @@
--- What the calls inside an operation answer.
+-- What the calls inside an operation answer, for the contracts of private functions.
 use Rattle.std.specs.Prelude.{◌≡◌, ℕ, Bool, true, false, ◌||◌, cond, List, [], ◌∷◌}
 use Rattle.sd_model.specs.Assignment.{with_value}
 use Rattle.sd_model.specs.Diagram.{Diagram, meaning}

@@ -1,4 +1,4 @@
--- The answers that an operation keeps while it goes on.
+-- The answers that an operation keeps while it goes on, for the contracts of private functions.
 use Rattle.std.specs.Prelude.{◌≡◌, Bool, List}
 use Rattle.std.specs.List.{All}
 use Rattle.sd_model.specs.Diagram.{Diagram}

@@ -1,4 +1,5 @@
--- Going back in a move: what is known before, what the steps keep, and what it leaves.
+-- Going back in a move, for the contracts of private functions: what is known before, what the steps keep, and what it
+-- leaves.
 use Rattle.std.specs.Prelude.{◌≡◌, ◌⊎◌, ℕ, ◌+◌, true, List, map, Option, Some, None}
 use Rattle.std.specs.List.{AllByRecursion}
 use Rattle.std.specs.Option.{IsSome}

@@ -155,11 +155,6 @@ HaveOtherRuns j k = (start : ℕ) → IsOwnRun j.named start → ¬ IsOwnRun k.n
 abbrev pub AreNamedReached : Journal → Table → Type 0
 AreNamedReached j t = AllByRecursion (λ (e : Named). IsReached t e.number) j.named
 
--- the run, where there is one, was given back; nothing else changed
-abbrev pub MayGiveBack : Table → Table → Option (ℕ × ℕ) → Type 0
-MayGiveBack old new None = new ≡ old
-MayGiveBack old new (Some run) = IsGivenBack old new run.0 run.1
-
 -- how many runs of a length n there are where there may be one: one or none
 abbrev pub runs_of : ℕ → Option (ℕ × ℕ) → ℕ
 runs_of n None = 0
@@ -191,3 +186,10 @@ pub record Rollback (j : Journal) (old new : Table) : Type 0 where
   pub extent : new.extent ≡ old.extent
   pub records : new.records ≡ old.records
   pub later : IsLater old new
+
+-- ---- for the contracts of private functions
+
+-- the run, where there is one, was given back; nothing else changed
+abbrev pub MayGiveBack : Table → Table → Option (ℕ × ℕ) → Type 0
+MayGiveBack old new None = new ≡ old
+MayGiveBack old new (Some run) = IsGivenBack old new run.0 run.1

@@ -84,6 +84,8 @@ pub record NeverFalls (old new : Table) : Type 0 where
   pub records : old.records ≤ new.records
   pub epoch : old.epoch ≤ new.epoch
 
+-- ---- for the contracts of private functions
+
 -- A move that can be made was refused on its way: the arena was full by its rule, or memory ran out.
 abbrev pub IsRefusedOnTheWay : Table → MoveError → Type 0
 IsRefusedOnTheWay new NotMovable = ⊥

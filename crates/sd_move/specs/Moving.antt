@@ -1,4 +1,4 @@
--- A move on its way: what it has done so far, and what holds between its steps.
+-- A move on its way, for the contracts of private functions: what it has done so far, and what holds between its steps.
 use Rattle.std.specs.Prelude.{◌≡◌, ◌≢◌, ◌⊎◌, ℕ, ◌+◌, Bool, true, false, List, [], Some, None}
 use Rattle.std.specs.List.{AllByRecursion}
 use Rattle.std.specs.Option.{IsSome}

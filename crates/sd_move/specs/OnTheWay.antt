@@ -1,4 +1,5 @@
--- What a move asks at its begin, and what its end and its way back ask once the vtree is turned.
+-- What a move asks at its begin, and what its end and its way back ask once the vtree is turned, for the contracts of
+-- private functions.
 use Rattle.std.specs.Prelude.{◌≡◌, ◌⊎◌, ℕ, ◌≤◌, List, Option, Some, None}
 use Rattle.std.specs.Option.{IsSome}
 use Rattle.std.specs.FinMap.{get}

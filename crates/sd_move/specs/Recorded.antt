@@ -1,4 +1,4 @@
--- What the entries of a move say while it goes on.
+-- What the entries of a move say while it goes on, for the contracts of private functions.
 use Rattle.std.specs.Prelude.{◌≡◌, ◌⊎◌, ℕ, List, map, Option, Some, None}
 use Rattle.std.specs.List.{AllByRecursion}
 use Rattle.std.specs.Option.{IsSome}

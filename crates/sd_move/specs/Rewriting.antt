@@ -1,4 +1,5 @@
--- Nodes that wait in a move for another list: what rewriting them asks, and what it does to the table.
+-- Nodes that wait in a move for another list, for the contracts of private functions: what rewriting them asks, and
+-- what it does to the table.
 use Rattle.std.specs.Prelude.{◌≡◌, ◌⊎◌, ℕ, ◌+◌, ◌≤◌, true, false, List, ◌++◌, map, length, Some, None}
 use Rattle.std.specs.List.{AllByRecursion}
 use Rattle.std.specs.Option.{IsSome}

@@ -1,4 +1,4 @@
--- How the nodes of the upper place are sorted after a rotation.
+-- How the nodes of the upper place are sorted after a rotation, for the contracts of private functions.
 use Rattle.std.specs.Prelude.{◌≡◌, ◌⊎◌, ℕ, Bool, true, false, List, [], ◌∷◌, ◌++◌, map, Some, None}
 use Rattle.std.specs.List.{AllByRecursion}
 use Rattle.std.specs.List.Sorted.{IsPermutation}

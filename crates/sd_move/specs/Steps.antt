@@ -1,4 +1,4 @@
--- What the loops of a move ask, and what they do to the table.
+-- What the loops of a move ask, and what they do to the table, for the contracts of private functions.
 use Rattle.std.specs.Prelude.{◌≡◌, ◌≢◌, ◌⊎◌, ℕ, true, false, List, Some, None}
 use Rattle.std.specs.List.{AllByRecursion}
 use Rattle.std.specs.FinMap.{get}

@@ -1,4 +1,4 @@
--- The begin of a swap.
+-- The begin of a swap, for the contracts of private functions.
 use Rattle.std.specs.Prelude.{◌≡◌, ℕ, List, Some}
 use Rattle.sd_model.specs.declared.trees.Move.TheVariants.{Swap}
 use Rattle.sd_vtree.specs.Numbered.{Numbered}

@@ -31,11 +31,13 @@ pub record KeepsRoots (old new : Table) : Type 0 where
   pub bound : new.bound ≡ old.bound
   pub no_move : new.moving ≡ None
 
--- n is the size of the formulas that the roots hold, whatever formulas stand for their functions
-abbrev pub IsSizeOfHeld : Table → ℕ → Type 0
-IsSizeOfHeld t n = (fs : List Expression) → AreHeldFormulas t fs → HasSize fs (plain_tree t.vtree) n
-
 -- the arena's rule: a full arena is answered only so, or memory ran out
 abbrev pub IsSearchRefusal : Table → SearchError → Type 0
 IsSearchRefusal t (ArenaFull elements) = IsPastBound t elements
 IsSearchRefusal t OutOfMemory = Unit {0}
+
+-- ---- for the contracts of private functions
+
+-- n is the size of the formulas that the roots hold, whatever formulas stand for their functions
+abbrev pub IsSizeOfHeld : Table → ℕ → Type 0
+IsSizeOfHeld t n = (fs : List Expression) → AreHeldFormulas t fs → HasSize fs (plain_tree t.vtree) n

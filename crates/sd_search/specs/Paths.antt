@@ -1,4 +1,4 @@
--- Nodes of a numbered vtree at the ends of paths.
+-- Nodes of a numbered vtree at the ends of paths, for the contracts of private functions.
 use Rattle.std.specs.Prelude.{◌≡◌, ℕ, List, [], ◌∷◌, Option, Some, None, length}
 use Rattle.std.specs.Option.{option_map}
 use Rattle.sd_model.specs.declared.trees.Side.{Side}

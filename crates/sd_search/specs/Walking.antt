@@ -1,4 +1,4 @@
--- The steps of a walk over a table.
+-- The steps of a walk over a table, for the contracts of private functions.
 use Rattle.std.specs.Prelude.{nat_lt, if◌then◌else◌}
 use Rattle.std.specs.Prelude.{◌≡◌, ℕ, ◌^◌, ◌<◌, ◌≤◌, List, ◌++◌, map, drop, Option, Some, None}
 use Rattle.std.specs.List.{AllByRecursion}

@@ -1,4 +1,4 @@
--- Lists of nodes, each once, and the diagrams that they show.
+-- Lists of nodes, each once, and the diagrams that they show, for the contracts of private functions and for proofs.
 use Rattle.std.specs.Prelude.{ℕ, Bool, List, ◌++◌, ◌==◌}
 use Rattle.std.specs.List.{list_any}
 use Rattle.sd_model.specs.Tree.{AreDistinct}

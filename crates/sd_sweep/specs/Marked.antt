@@ -1,4 +1,4 @@
--- Nodes that a walk marked, as a list of their codes.
+-- Nodes that a walk marked, as a list of their codes, for the contracts of private functions.
 use Rattle.std.specs.Prelude.{◌≡◌, ◌≢◌, ℕ, ◌+◌, List, Some, length}
 use Rattle.std.specs.List.{sum_by}
 use Rattle.std.specs.FinMap.{get}

@@ -24,7 +24,7 @@ count_and_seed text = option_zip
     (number_within 3 1024 (before_first (λ byte. byte == 58) text))
     (number_within 0 4294967295 (after_first (λ byte. byte == 58) text))
 
--- ---- for the contracts of private functions
+-- ---- for the contracts of private functions, and for proofs
 
 -- one to ten digits
 abbrev pub is_number : Text → Bool

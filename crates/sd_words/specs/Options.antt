@@ -35,7 +35,7 @@ files = codes "cnf" ∷ codes "dnf" ∷ codes "vtree" ∷ codes "script" ∷ cod
 abbrev pub replaced_by_script : List Text
 replaced_by_script = codes "out-vtree" ∷ codes "out-sdd" ∷ codes "minimise" ∷ []
 
--- ---- the options as the code names them
+-- ---- an option as the code names it
 
 -- the word of an option
 abbrev pub word_of : OptionName → Text
@@ -51,6 +51,8 @@ word_of option.Minimise = codes "minimise"
 word_of option.Every = codes "every"
 word_of option.Slack = codes "slack"
 word_of option.Limit = codes "limit"
+
+-- ---- for the contracts of private functions, and for proofs
 
 -- all of them, in their order
 abbrev pub all_option_names : List OptionName

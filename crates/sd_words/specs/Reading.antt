@@ -1,4 +1,4 @@
--- What the steps from the options to the job give.
+-- What the steps from the options to the job give, for the contracts of private functions.
 use Rattle.std.specs.Prelude.{◌≡◌, ◌⊎◌, codes, None, Option, Result, Some, MatchResult}
 use Rattle.sd_words.specs.ParsedOptions.{ParsedOptions, generated, option_number}
 use Rattle.sd_words.specs.declared.faults.WordsFault.{WordsFault}

@@ -1,4 +1,4 @@
--- The tests of the values, one by one, and the texts of their faults, for the contracts of private functions.
+-- The texts of the faults of the words, and the tests of the values, one by one.
 use Rattle.std.specs.Prelude.{◌&&◌, ◌==◌, ℕ, Bool, List, [], ◌∷◌, ◌++◌, codes, count_by, find, if◌then◌else◌, nat_le}
 use Rattle.std.specs.Prelude.{Option, Some, None, option_map}
 use Rattle.std.specs.Option.{option_and_then, option_zip}
@@ -24,6 +24,8 @@ words_fault_text (fault.FileTwice name) = codes "file named twice: " ++ name
 words_fault_text fault.StartUnknown = codes "start unknown"
 words_fault_text (fault.EmptyName option) = codes "empty name: --" ++ word_of option
 words_fault_text fault.OutOfMemory = []
+
+-- ---- for the contracts of private functions, and for proofs
 
 -- the fault, where the test says so
 abbrev pub fault_where : Bool → WordsFault → Option WordsFault
