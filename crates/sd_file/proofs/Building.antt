@@ -23,7 +23,7 @@ use Rattle.sd_apply.proofs.Listed.{shown_on, answer_on}
 use Rattle.sd_file.specs.Built.{values_of, value_at, pair_value, AreBuilt}
 use Rattle.sd_file.specs.declared.file.FileNode.TheVariants as kinds
 use Rattle.sd_file.specs.Files.{IsFile, entry_at, pairs_in, entry_pairs, kind_of}
-use Rattle.sd_file.specs.Reads.{Node, Constant, Literal, Decomposition, File, without_ids, expression_of_file}
+use Rattle.sd_file.specs.Reads.{Node, File, without_ids, expression_of_file}
 use Rattle.sd_file.proofs.Values.{value_there, last_value}
 
 -- ---- answers
@@ -107,21 +107,21 @@ built_more f old new built later count c kept are all is same =
 
 -- a node of one kind is one of the formula's nodes
 plain_constant : (node : Node) (b : Bool) → kinds.Constant b ≡ kind_of node → without_ids node ≡ FileConstant b
-plain_constant (Constant value) b is = let same : value ≡ b = cc in ap FileConstant same
-plain_constant (Literal vtree z) b is = absurd cc
-plain_constant (Decomposition vtree pairs) b is = absurd cc
+plain_constant (vtree, FileConstant value) b is = let same : value ≡ b = cc in ap FileConstant same
+plain_constant (vtree, FileLiteral z) b is = absurd cc
+plain_constant (vtree, FileDecomposition pairs) b is = absurd cc
 
 plain_literal : (node : Node) (vtree : ℕ) (z : ℤ) → kinds.Literal vtree z ≡ kind_of node
     → without_ids node ≡ FileLiteral z
-plain_literal (Constant value) vtree z is = absurd cc
-plain_literal (Literal own literal) vtree z is = let same : literal ≡ z = cc in ap FileLiteral same
-plain_literal (Decomposition own pairs) vtree z is = absurd cc
+plain_literal (own, FileConstant value) vtree z is = absurd cc
+plain_literal (own, FileLiteral literal) vtree z is = let same : literal ≡ z = cc in ap FileLiteral same
+plain_literal (own, FileDecomposition pairs) vtree z is = absurd cc
 
 plain_decomposition : (node : Node) (vtree count : ℕ) → kinds.Decomposition vtree count ≡ kind_of node
     → without_ids node ≡ FileDecomposition (pairs_in node)
-plain_decomposition (Constant value) vtree count is = absurd cc
-plain_decomposition (Literal own literal) vtree count is = absurd cc
-plain_decomposition (Decomposition own pairs) vtree count is = refl
+plain_decomposition (own, FileConstant value) vtree count is = absurd cc
+plain_decomposition (own, FileLiteral literal) vtree count is = absurd cc
+plain_decomposition (own, FileDecomposition pairs) vtree count is = refl
 
 -- the value of a node that is this one of the formula's
 value_of_plain : (f : File) (index : ℕ) (assignment : List Bool) (node : FileNode) → IsFile f → index < length f.nodes

@@ -1,8 +1,8 @@
 -- What an accepted text says: literals are in range, and children are earlier nodes.
 use Rattle.std.proofs.Common.{◌≡◌, ℕ, zero, suc, ◌+◌, ◌≤◌, ◌<◌, ◌==◌, Bool, true, false, not, ◌&&◌, List, [], ◌∷◌, ◌++◌}
 use Rattle.std.proofs.Common.{map, length}
-use Rattle.std.proofs.Common.{Option, Some, None, ok_or, Result, Ok, Err, refl, sym, ap, subst, arith, ℤ, unsigned_abs}
-use Rattle.std.proofs.Common.{slice_get, slice_index_or}
+use Rattle.std.proofs.Common.{Option, Some, None, ok_or, Result, Ok, Err, refl, sym, ap, ◌∙◌, subst, arith, ℤ}
+use Rattle.std.proofs.Common.{unsigned_abs, slice_get, slice_index_or}
 use Rattle.std.specs.Prelude.{nat_le, is_some, codes}
 use Rattle.std.specs.List.{AllByRecursion}
 use Rattle.std.proofs.lemmas.Bool.{leb-true}
@@ -10,17 +10,18 @@ use Rattle.std.proofs.lemmas.List.{length-map, map_push}
 use Rattle.std.proofs.lemmas.List.Quantifiers.{position-Some}
 use Rattle.sd_base.specs.Lines.{TextLine}
 use Rattle.sd_base.specs.Reading.{◌>>=◌, ◌>>◌, fault_if, each, each_after, read_more}
+use Rattle.sd_model.specs.Expression.{FileConstant, FileLiteral, FileDecomposition}
 use Rattle.sd_model.specs.Tree.{AreDistinct}
 use Rattle.sd_file.specs.declared.file.FileNode.{FileNode}
 use Rattle.sd_base.specs.FaultTexts.{at_line}
 use Rattle.sd_file.specs.Files.{IsEarlier, FitsAt, FitFrom, IsFile, IsKindOver, kind_of}
 use Rattle.sd_file.specs.Files.{no_entry, entry_at, pairs_in, entry_pairs}
-use Rattle.sd_file.specs.Reads.{Node, Constant, Literal, Decomposition, Entry}
-use Rattle.sd_file.specs.Reads.{form_of, index_of_id, pair_at, is_literal, node_of}
+use Rattle.sd_file.specs.Reads.{Node, Entry, form_of, index_of_id, pair_at, is_literal, node_of}
 use Rattle.sd_file.specs.Reads.{File, entry_with, entry_of}
 use Rattle.sd_file.proofs.Growing.{two, each_length}
 use Rattle.sd_file.proofs.FormPairs.{HasPairs, form_pairs}
 use Rattle.sd_file.proofs.Distinct.{distinct_push, not_among}
+use Rattle.sd_file.proofs.LineForms.{entry_is}
 
 -- ---- steps that came to an end
 
@@ -103,19 +104,19 @@ literal_in_range v z h =
 -- a node that was read fits behind the earlier ones
 node_fits : (v : ℕ) (ids : List ℕ) (line : ℕ) (form node : Node) → HasPairs form
     → node_of v ids line form ≡ Ok node → FitsAt v (length ids) node
-node_fits v ids line (Constant value) node some h =
-    subst (FitsAt v (length ids)) (ends_at (Constant value) node h) tt
-node_fits v ids line (Literal vtree z) node some h =
+node_fits v ids line (vtree, FileConstant value) node some h =
+    subst (FitsAt v (length ids)) (ends_at (vtree, FileConstant value) node h) tt
+node_fits v ids line (vtree, FileLiteral z) node some h =
     let text = at_line line (codes ": literal out of range") in
-    let tested = past (not (is_literal v z)) text (Ok (Literal vtree z)) node h in
-    subst (FitsAt v (length ids)) (ends_at (Literal vtree z) node tested.1) (literal_in_range v z tested.0)
-node_fits v ids line (Decomposition vtree pairs) node some h =
-    let read = through (each (pair_at ids line) pairs) (λ places. Ok (Decomposition vtree places)) node h in
+    let tested = past (not (is_literal v z)) text (Ok (vtree, FileLiteral z)) node h in
+    subst (FitsAt v (length ids)) (ends_at (vtree, FileLiteral z) node tested.1) (literal_in_range v z tested.0)
+node_fits v ids line (vtree, FileDecomposition pairs) node some h =
+    let read = through (each (pair_at ids line) pairs) (λ places. Ok (vtree, FileDecomposition places)) node h in
     let below = pair_below ids line in
     let earlier = each_all (pair_at ids line) (IsEarlier (length ids)) below pairs read.middle read.gave in
     let filled : 1 ≤ length read.middle =
     omega (arith, each_length (pair_at ids line) pairs read.middle read.gave, some) in
-    subst (FitsAt v (length ids)) (ends_at (Decomposition vtree read.middle) node read.led) (filled, earlier)
+    subst (FitsAt v (length ids)) (ends_at (vtree, FileDecomposition read.middle) node read.led) (filled, earlier)
 
 -- an entry that fits behind others, and has an id of its own
 record IsNext (v : ℕ) (ids : List ℕ) (e : Entry) : Type 0 where
@@ -169,7 +170,7 @@ after_fits v [] earlier all are h = subst (AreEntries v) (ends_at earlier all h)
 after_fits v (line ∷ lines) earlier all are h =
     let more = through (read_more (entry_of v) earlier line) (λ now. each_after (entry_of v) now lines) all h in
     let read = through (entry_of v earlier line) (λ e. Ok (earlier ++ e ∷ [])) more.middle more.gave in
-    let here = entry_fits v (ids_in earlier) line read.middle read.gave in
+    let here = entry_fits v (ids_in earlier) line read.middle (sym (entry_is v earlier line) ∙ read.gave) in
     let count : length (ids_in earlier) ≡ 0 + length earlier =
     omega (arith, length-map earlier (λ (e : Entry). e.id)) in
     let at = subst (λ n. FitsAt v n read.middle.node) count here.fits in
@@ -200,15 +201,15 @@ all_at P (y ∷ ys) (suc i) x all at = all_at P ys i x all.1 at
 
 -- the pairs of a node are earlier nodes
 pairs_earlier : (v index : ℕ) (node : Node) → FitsAt v index node → AllByRecursion (IsEarlier index) (pairs_in node)
-pairs_earlier v index (Constant value) fit = tt
-pairs_earlier v index (Literal vtree literal) fit = tt
-pairs_earlier v index (Decomposition vtree pairs) fit = fit.1
+pairs_earlier v index (vtree, FileConstant value) fit = tt
+pairs_earlier v index (vtree, FileLiteral literal) fit = tt
+pairs_earlier v index (vtree, FileDecomposition pairs) fit = fit.1
 
 -- what a node shows of itself fits
 kind_fits : (v index : ℕ) (node : Node) → FitsAt v index node → IsKindOver v (kind_of node)
-kind_fits v index (Constant value) fit = tt
-kind_fits v index (Literal vtree literal) fit = fit
-kind_fits v index (Decomposition vtree pairs) fit = fit.0
+kind_fits v index (vtree, FileConstant value) fit = tt
+kind_fits v index (vtree, FileLiteral literal) fit = fit
+kind_fits v index (vtree, FileDecomposition pairs) fit = fit.0
 
 -- and so does the node of a number
 pub kind_at : (f : File) (i : ℕ) (kind : FileNode) → IsFile f → i < length f.nodes

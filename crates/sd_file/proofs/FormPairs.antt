@@ -6,14 +6,15 @@ use Rattle.std.specs.Prelude.{nat_le, if◌then◌else◌, option_and_then}
 use Rattle.std.specs.Option.{option_zip}
 use Rattle.std.proofs.lemmas.Bool.{leb-true, eqb-true}
 use Rattle.sd_base.specs.Numbers.{natural_value, integer_value}
-use Rattle.sd_file.specs.Reads.{Node, Entry, Constant, Literal, Decomposition, constant_form}
+use Rattle.sd_model.specs.Expression.{FileConstant, FileLiteral, FileDecomposition}
+use Rattle.sd_file.specs.Reads.{Node, Entry, constant_form}
 use Rattle.sd_file.specs.Reads.{literal_form, two_by_two, decomposition_form, all_values, form_of}
 
 -- a decomposition has pairs
 abbrev pub HasPairs : Node → Type 0
-HasPairs (Constant value) = Unit {0}
-HasPairs (Literal vtree literal) = Unit {0}
-HasPairs (Decomposition vtree pairs) = 1 ≤ length pairs
+HasPairs (vtree, FileConstant value) = Unit {0}
+HasPairs (vtree, FileLiteral literal) = Unit {0}
+HasPairs (vtree, FileDecomposition pairs) = 1 ≤ length pairs
 
 -- the form that was read, if any, has pairs
 abbrev Gives : Option Entry → Type 0
@@ -35,9 +36,9 @@ constant_pairs : (value : Bool) (words : List (List ℕ)) → Gives (constant_fo
 constant_pairs value [] = gives_none
 constant_pairs value (id ∷ []) = go (natural_value id)
   where
-    go : (o : Option ℕ) → Gives (option_map (λ n. record { id = n; node = Constant value }) o)
+    go : (o : Option ℕ) → Gives (option_map (λ n. record { id = n; node = (0, FileConstant value) }) o)
     go None = gives_none
-    go (Some n) = gives_some (record { id = n; node = Constant value }) tt
+    go (Some n) = gives_some (record { id = n; node = (0, FileConstant value) }) tt
 constant_pairs value (id ∷ word ∷ words) = gives_none
 
 -- a literal
@@ -47,9 +48,10 @@ literal_pairs (id ∷ []) = gives_none
 literal_pairs (id ∷ vtree ∷ []) = gives_none
 literal_pairs (id ∷ vtree ∷ literal ∷ []) = go (natural_value id) (natural_value vtree) (integer_value literal)
   where
-    go : (i v : Option ℕ) (z : Option ℤ) → Gives (option_map (λ (n, (p, z)). record { id = n; node = Literal p z })
+    go : (i v : Option ℕ) (z : Option ℤ)
+        → Gives (option_map (λ (n, (p, z)). record { id = n; node = (p, FileLiteral z) })
         (option_zip i (option_zip v z)))
-    go (Some i) (Some v) (Some z) = gives_some (record { id = i; node = Literal v z }) tt
+    go (Some i) (Some v) (Some z) = gives_some (record { id = i; node = (v, FileLiteral z) }) tt
     go (Some i) (Some v) None = gives_none
     go (Some i) None z = gives_none
     go None v z = gives_none
@@ -70,12 +72,12 @@ decomposition_pairs (id ∷ vtree ∷ k ∷ children) =
     go (nat_le 1 k) (length children == 2 * k) (leb-true 1 k) (eqb-true (length children) (2 * k))
   where
     go : (some even : Bool) → (some ≡ true → 1 ≤ k) → (even ≡ true → length children ≡ 2 * k)
-        → Gives (if some && even then Some (record { id = id; node = Decomposition vtree (two_by_two children) })
+        → Gives (if some && even then Some (record { id = id; node = (vtree, FileDecomposition (two_by_two children)) })
         else None)
     go true true least count =
         let within_limit = least refl in
         let all = count refl in
-        gives_some (record { id = id; node = Decomposition vtree (two_by_two children) })
+        gives_some (record { id = id; node = (vtree, FileDecomposition (two_by_two children)) })
         (pairs_some children (omega (arith, within_limit, all)))
     go true false least count = gives_none
     go false even least count = gives_none

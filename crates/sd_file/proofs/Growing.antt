@@ -12,7 +12,8 @@ use Rattle.sd_file.specs.declared.file.FileNode.{FileNode}
 use Rattle.sd_file.specs.declared.file.FileNode.TheVariants as kinds
 use Rattle.sd_file.specs.declared.file.FileEntry.{FileEntry}
 use Rattle.sd_base.specs.FaultTexts.{at_line}
-use Rattle.sd_file.specs.Reads.{Decomposition, Fails, two_by_two, index_of_id, pair_at}
+use Rattle.sd_model.specs.Expression.{FileDecomposition}
+use Rattle.sd_file.specs.Reads.{Node, Fails, two_by_two, index_of_id, pair_at}
 use Rattle.sd_file.specs.Steps.{node_in, entry_in, entries_of, count_of, IsWithin, IsPutIn, put_before}
 
 -- ---- one more pair
@@ -74,14 +75,18 @@ pairs_short [] = omega arith
 pairs_short (p ∷ []) = omega arith
 pairs_short (p ∷ s ∷ others) = omega (arith, pairs_short others)
 
+-- the node of a vtree id and the pairs that were read
+abbrev pub joined : ℕ → Result (List (ℕ × ℕ)) (List ℕ) → Result Node (List ℕ)
+joined vtree reading = reading >>= λ places. Ok (vtree, FileDecomposition places)
+
 -- the pairs that were put, and the node that has them
 pub record IsTaken (before after : List (ℕ × ℕ)) (vtree : ℕ) (children : List ℕ)
     (reading : Result (List (ℕ × ℕ)) (List ℕ)) : Type 0 where
   pub put : IsPutIn before after
   pub longer : length before ≤ length after
   pub within_limit : length after - length before ≤ length children
-  pub node : (reading >>= λ places. Ok (Decomposition vtree places))
-      ≡ Ok (Decomposition vtree (take (length after - length before) (drop (length before) after)))
+  pub node : joined vtree reading
+      ≡ Ok (vtree, FileDecomposition (take (length after - length before) (drop (length before) after)))
 
 pub taken : (f : ℕ × ℕ → Result (ℕ × ℕ) (List ℕ)) (before after : List (ℕ × ℕ)) (vtree : ℕ) (children : List ℕ)
     → put_before before (each f (two_by_two children)) ≡ Ok after
@@ -103,12 +108,12 @@ taken f before after vtree children h =
           put = record { more = ys; is = is };
           longer = omega (arith, lengths);
           within_limit = omega (arith, lengths, counts ys refl, pairs_short children);
-          node = ap (λ zs. Ok (Decomposition vtree zs)) (sym all);
+          node = ap (λ zs. joined vtree (Ok zs)) (sym all);
         }
 
 -- a fault of the pairs is that of the node
 pub put_fails : (e : SddFault) (before : List (ℕ × ℕ)) (vtree : ℕ) (reading : Result (List (ℕ × ℕ)) (List ℕ))
-    → Fails e (put_before before reading) → Fails e (reading >>= λ places. Ok (Decomposition vtree places))
+    → Fails e (put_before before reading) → Fails e (joined vtree reading)
 put_fails OutOfMemory before vtree reading h = tt
 put_fails e before vtree (Ok ys) h = absurd cc
 put_fails e before vtree (Err f) h = cc
@@ -124,7 +129,7 @@ node_same before more start (kinds.Decomposition vtree count) within =
     let short : count ≤ length (drop start before) = omega (arith, within, length-drop start before) in
     let behind = take-append-le count (drop start before) more short in
     let from = drop-append-le start before more (omega (arith, within)) in
-    ap (Decomposition vtree) (ap (take count) from ∙ behind)
+    ap (λ ps. (vtree, FileDecomposition ps)) (ap (take count) from ∙ behind)
 
 -- each node keeps its pairs
 entries_same : (before more : List (ℕ × ℕ)) (kept : List FileEntry) → AllByRecursion (IsWithin (length before)) kept

@@ -18,6 +18,7 @@ pub mod Giving
 pub mod Grouping
 pub mod Growing
 pub mod IdPlaces
+pub mod LineForms
 pub mod LineLaws
 pub mod LinesRead
 pub mod Literals

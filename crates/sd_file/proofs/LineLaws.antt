@@ -1,6 +1,6 @@
 -- One more line after earlier nodes.
 use Rattle.std.proofs.Common.{◌≡◌, ℕ, true, false, List, [], ◌∷◌, ◌++◌, map, length, sym, ap, ◌∙◌, subst}
-use Rattle.std.proofs.Common.{Option, Some, Result, Ok, Err, ok_or}
+use Rattle.std.proofs.Common.{Option, Some, None, Result, Ok, Err, ok_or}
 use Rattle.std.specs.Prelude.{is_some, codes}
 use Rattle.std.specs.List.{AllByRecursion}
 use Rattle.sd_base.specs.Lines.{TextLine}
@@ -13,6 +13,7 @@ use Rattle.sd_base.specs.FaultTexts.{at_line}
 use Rattle.sd_file.specs.Reads.{Node, Entry, Fails, form_of, index_of_id, node_of, entry_with, entry_of}
 use Rattle.sd_file.specs.Steps.{node_in, entries_of, IsWithin, IsPutIn}
 use Rattle.sd_file.proofs.Growing.{ids_same, entries_push}
+use Rattle.sd_file.proofs.LineForms.{entry_is}
 
 -- an id and a node
 abbrev entry : ℕ → Node → Entry
@@ -41,8 +42,19 @@ with_form v kept pairs line form form_is =
     let put : Result Entry (List ℕ) → Result (List Entry) (List ℕ) =
     λ r. r >>= λ e. Ok (entries_of kept pairs ++ e ∷ []) in
     let rest : Entry → Result Entry (List ℕ) = placed v (kept_ids kept) line.number in
-    ap (λ ids. put (entry_with v ids line)) (ids_same kept pairs)
+    ap put (entry_is v (entries_of kept pairs) line)
+    ∙ ap (λ ids. put (entry_with v ids line)) (ids_same kept pairs)
     ∙ ap (λ (o : Option Entry). put (ok_or o (at_line line.number (codes ": bad line")) >>= rest)) form_is
+
+-- the line has no form
+pub no_form : (v : ℕ) (kept : List FileEntry) (pairs : List (ℕ × ℕ)) (line : TextLine) → form_of line.words ≡ None
+    → read_more (entry_of v) (entries_of kept pairs) line ≡ Err (at_line line.number (codes ": bad line"))
+no_form v kept pairs line none =
+    let put : Result Entry (List ℕ) → Result (List Entry) (List ℕ) =
+    λ r. r >>= λ e. Ok (entries_of kept pairs ++ e ∷ []) in
+    let rest : Entry → Result Entry (List ℕ) = placed v (map (λ e. e.id) (entries_of kept pairs)) line.number in
+    ap put (entry_is v (entries_of kept pairs) line)
+    ∙ ap (λ (o : Option Entry). put (ok_or o (at_line line.number (codes ": bad line")) >>= rest)) none
 
 -- the id is that of an earlier node
 pub id_twice : (v : ℕ) (kept : List FileEntry) (pairs : List (ℕ × ℕ)) (line : TextLine) (form : Entry) (id : ℕ)

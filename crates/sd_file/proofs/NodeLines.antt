@@ -8,13 +8,13 @@ use Rattle.sd_base.specs.Numbers.{natural_value, integer_value}
 use Rattle.sd_base.specs.Reading.{each}
 use Rattle.sd_model.specs.Diagram.{Diagram, Bottom, Top, Literal, Decomposition, Elements, End, Pair, count}
 use Rattle.sd_model.specs.Canonical.{IsElement, first, later}
+use Rattle.sd_model.specs.Expression.{FileConstant, FileLiteral, FileDecomposition}
 use Rattle.sd_model.specs.Listing.{is_among}
 use Rattle.sd_model.specs.Text.{number_text, literal_text, element_words, node_words}
 use Rattle.sd_model.specs.Text.{index_of as index_in}
 use Rattle.sd_model.proofs.ClosedLists.{ChildrenAmong}
 use Rattle.sd_vfile.proofs.Texts.{natural_back}
 use Rattle.sd_file.specs.Reads.{Node, Entry, form_of}
-use Rattle.sd_file.specs.Reads.{Constant as ConstantNode, Literal as LiteralNode, Decomposition as DecompositionNode}
 use Rattle.sd_file.specs.Reads.{all_values, two_by_two, is_literal, index_of_id, pair_at, entry_with}
 use Rattle.sd_file.proofs.DiagramPlaces.{index_most}
 
@@ -37,10 +37,10 @@ signed x false = neg_ℤ (pos x)
 
 -- the node of a diagram
 abbrev pub written_node : List Diagram → Diagram → Node
-written_node nodes Bottom = ConstantNode false
-written_node nodes Top = ConstantNode true
-written_node nodes (Literal p x positive) = LiteralNode p (signed x positive)
-written_node nodes (Decomposition p es) = DecompositionNode p (written_pairs nodes es)
+written_node nodes Bottom = (0, FileConstant false)
+written_node nodes Top = (0, FileConstant true)
+written_node nodes (Literal p x positive) = (p, FileLiteral (signed x positive))
+written_node nodes (Decomposition p es) = (p, FileDecomposition (written_pairs nodes es))
 
 -- its entry
 abbrev pub written_entry : List Diagram → Diagram → Entry
@@ -120,7 +120,7 @@ pairs_found before nodes ids line (Pair p s rest) known there =
 decomposition_back : (nodes : List Diagram) (id p : ℕ) (es : Elements) → length nodes < 10 ^ 18 → id < 10 ^ 18
     → p < 10 ^ 18 → 1 ≤ count es → count es < 10 ^ 18
     → form_of (codes "D" ∷ number_text id ∷ number_text p ∷ number_text (count es) ∷ element_words nodes es)
-    ≡ Some (record { id = id; node = DecompositionNode p (written_pairs nodes es) })
+    ≡ Some (record { id = id; node = (p, FileDecomposition (written_pairs nodes es)) })
 decomposition_back nodes id p es small small_id small_p some within_limit =
     rw (
       natural_back id small_id,

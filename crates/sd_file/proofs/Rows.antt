@@ -2,10 +2,9 @@
 use Rattle.std.proofs.Common.{◌≡◌, ℕ, List, true, false, [], ◌∷◌, refl, ap, ◌∙◌, Result, Ok, Err, pos, negsuc}
 use Rattle.std.specs.Prelude.{codes}
 use Rattle.sd_model.specs.Diagram.{Diagram, Bottom, Literal, Decomposition, End, Pair}
-use Rattle.sd_model.specs.Expression.{expression_value}
+use Rattle.sd_model.specs.Expression.{FileConstant, FileLiteral, FileDecomposition, expression_value}
 use Rattle.sd_model.specs.Size.{completed}
 use Rattle.sd_model.specs.Text.{number_text, roots_text, sdd_text}
-use Rattle.sd_file.specs.Reads.{Constant as ConstantNode, Literal as LiteralNode, Decomposition as DecompositionNode}
 use Rattle.sd_file.specs.Reads.{File, sdd_file, expression_of_file}
 use Rattle.sd_file.specs.RoundTrip.{ReadsBack}
 
@@ -13,9 +12,9 @@ use Rattle.sd_file.specs.RoundTrip.{ReadsBack}
 elsewhere : sdd_file 2 (codes "c made elsewhere\nsdd 4\nL 0 9 1\nL 1 9 -1\nL 3 7 2\nD 2 8 2 0 3 1 3\n") ≡
     Ok (record {
       variables = 2;
-      nodes = record { id = 0; node = LiteralNode 9 (pos 1) }
-          ∷ record { id = 1; node = LiteralNode 9 (negsuc 0) } ∷ record { id = 3; node = LiteralNode 7 (pos 2) }
-          ∷ record { id = 2; node = DecompositionNode 8 ((0, 2) ∷ (1, 2) ∷ []) } ∷ [];
+      nodes = record { id = 0; node = (9, FileLiteral (pos 1)) }
+          ∷ record { id = 1; node = (9, FileLiteral (negsuc 0)) } ∷ record { id = 3; node = (7, FileLiteral (pos 2)) }
+          ∷ record { id = 2; node = (8, FileDecomposition ((0, 2) ∷ (1, 2) ∷ [])) } ∷ [];
     })
 unfolding sdd_file
 elsewhere = refl
@@ -65,9 +64,9 @@ unfolding sdd_file both
 both_back = record {
   file = record {
     variables = 2;
-    nodes = record { id = 0; node = LiteralNode 0 (negsuc 0) } ∷ record { id = 1; node = ConstantNode false }
-        ∷ record { id = 2; node = LiteralNode 0 (pos 1) } ∷ record { id = 3; node = LiteralNode 2 (pos 2) }
-        ∷ record { id = 4; node = DecompositionNode 1 ((0, 1) ∷ (2, 3) ∷ []) } ∷ [];
+    nodes = record { id = 0; node = (0, FileLiteral (negsuc 0)) } ∷ record { id = 1; node = (0, FileConstant false) }
+        ∷ record { id = 2; node = (0, FileLiteral (pos 1)) } ∷ record { id = 3; node = (2, FileLiteral (pos 2)) }
+        ∷ record { id = 4; node = (1, FileDecomposition ((0, 1) ∷ (2, 3) ∷ [])) } ∷ [];
   };
   reads = refl;
   value = λ assignment. refl;
@@ -77,7 +76,7 @@ both_back = record {
 true_not_false : ReadsBack 2 (codes "sdd 1\nT 0\n") Bottom → ⊥
 unfolding sdd_file
 true_not_false back =
-    let file : File = record { variables = 2; nodes = record { id = 0; node = ConstantNode true } ∷ [] } in
+    let file : File = record { variables = 2; nodes = record { id = 0; node = (0, FileConstant true) } ∷ [] } in
     let read : ◌≡◌ {A = Result File (List ℕ)} (Ok file) (Ok back.file) = back.reads in
     let is : file ≡ back.file = cc in
     let value : true ≡ false = ap (λ f. expression_value (expression_of_file f) []) is ∙ back.value [] in

@@ -5,11 +5,12 @@ use Rattle.std.proofs.lemmas.List.{length-map, get_or_append_left}
 use Rattle.std.proofs.Math.Seq.{get_or-append_seam}
 use Rattle.std.specs.List.{AllByRecursion, list_any}
 use Rattle.sd_model.specs.Expression as formulas
+use Rattle.sd_model.specs.Expression.{FileConstant, FileLiteral, FileDecomposition}
 use Rattle.sd_model.specs.Expression.{node_value, node_values, expression_value}
 use Rattle.sd_model.proofs.FileValues.{file_value_last}
 use Rattle.sd_file.specs.Built.{values_of, value_at}
 use Rattle.sd_file.specs.Files.{IsEarlier, FitsAt, FitFrom, IsFile, no_entry, entry_at}
-use Rattle.sd_file.specs.Reads.{Node, Constant, Literal, Decomposition, Entry, File, without_ids, expression_of_file}
+use Rattle.sd_file.specs.Reads.{Node, Entry, File, without_ids, expression_of_file}
 
 -- the nodes of entries
 abbrev plains : List Entry → List formulas.FileNode
@@ -37,9 +38,9 @@ any_same p q P same (x ∷ xs) all =
 value_stays : (v : ℕ) (earlier all : List Bool) (node : Node) (a : List Bool) → FitsAt v (length earlier) node
     → ((i : ℕ) → i < length earlier → slice_index_or all i false ≡ slice_index_or earlier i false)
     → node_value earlier (without_ids node) a ≡ node_value all (without_ids node) a
-value_stays v earlier all (Constant value) a fits same = refl
-value_stays v earlier all (Literal vtree literal) a fits same = refl
-value_stays v earlier all (Decomposition vtree pairs) a fits same =
+value_stays v earlier all (vtree, FileConstant value) a fits same = refl
+value_stays v earlier all (vtree, FileLiteral literal) a fits same = refl
+value_stays v earlier all (vtree, FileDecomposition pairs) a fits same =
     any_same (λ pair. slice_index_or earlier pair.0 false && slice_index_or earlier pair.1 false)
     (λ pair. slice_index_or all pair.0 false && slice_index_or all pair.1 false) (IsEarlier (length earlier))
     (λ pair is. ap (λ b. b && slice_index_or earlier pair.1 false) (sym (same pair.0 is.prime))

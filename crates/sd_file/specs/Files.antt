@@ -1,14 +1,15 @@
 -- What the nodes of a file show of themselves, and what is known of each.
 use Rattle.std.specs.Prelude.{ℕ, ◌+◌, ◌≤◌, ◌<◌, false, List, [], ◌∷◌, map, length, slice_index_or, unsigned_abs}
 use Rattle.std.specs.List.{AllByRecursion}
+use Rattle.sd_model.specs.Expression.{FileConstant, FileLiteral, FileDecomposition}
 use Rattle.sd_model.specs.Tree.{AreDistinct}
 use Rattle.sd_file.specs.declared.file.FileNode.{FileNode}
 use Rattle.sd_file.specs.declared.file.FileNode.TheVariants as kinds
-use Rattle.sd_file.specs.Reads.{Node, Constant, Literal, Decomposition, Entry, File}
+use Rattle.sd_file.specs.Reads.{Node, Entry, File}
 
 -- no node
 abbrev pub no_entry : Entry
-no_entry = record { id = 0; node = Constant false }
+no_entry = record { id = 0; node = (0, FileConstant false) }
 
 -- the entry of a number, counted from 0
 abbrev pub entry_at : File → ℕ → Entry
@@ -16,9 +17,9 @@ entry_at f index = slice_index_or f.nodes index no_entry
 
 -- the pairs of a node
 abbrev pub pairs_in : Node → List (ℕ × ℕ)
-pairs_in (Constant value) = []
-pairs_in (Literal vtree literal) = []
-pairs_in (Decomposition vtree pairs) = pairs
+pairs_in (vtree, FileConstant value) = []
+pairs_in (vtree, FileLiteral literal) = []
+pairs_in (vtree, FileDecomposition pairs) = pairs
 
 -- the pairs of the node of a number
 abbrev pub entry_pairs : File → ℕ → List (ℕ × ℕ)
@@ -26,9 +27,9 @@ entry_pairs f index = pairs_in (entry_at f index).node
 
 -- what a node is, with the number of its pairs
 abbrev pub kind_of : Node → FileNode
-kind_of (Constant value) = kinds.Constant value
-kind_of (Literal vtree literal) = kinds.Literal vtree literal
-kind_of (Decomposition vtree pairs) = kinds.Decomposition vtree (length pairs)
+kind_of (vtree, FileConstant value) = kinds.Constant value
+kind_of (vtree, FileLiteral literal) = kinds.Literal vtree literal
+kind_of (vtree, FileDecomposition pairs) = kinds.Decomposition vtree (length pairs)
 
 -- ---- what is known of a file
 
@@ -39,9 +40,9 @@ pub record IsEarlier (index : ℕ) (pair : ℕ × ℕ) : Type 0 where
 
 -- a literal is of a variable of 1 to v, and a decomposition has pairs, all of earlier nodes
 abbrev pub FitsAt : ℕ → ℕ → Node → Type 0
-FitsAt v index (Constant value) = Unit {0}
-FitsAt v index (Literal vtree literal) = (1 ≤ unsigned_abs literal) × (unsigned_abs literal ≤ v)
-FitsAt v index (Decomposition vtree pairs) = (1 ≤ length pairs) × AllByRecursion (IsEarlier index) pairs
+FitsAt v index (vtree, FileConstant value) = Unit {0}
+FitsAt v index (vtree, FileLiteral literal) = (1 ≤ unsigned_abs literal) × (unsigned_abs literal ≤ v)
+FitsAt v index (vtree, FileDecomposition pairs) = (1 ≤ length pairs) × AllByRecursion (IsEarlier index) pairs
 
 -- this is so of each entry, where the first has a number
 abbrev pub FitFrom : ℕ → ℕ → List Entry → Type 0

@@ -3,6 +3,8 @@
 use Rattle.std.specs.Prelude.{◌≡◌, ℕ, Bool, true, false, not, ◌&&◌, ◌==◌, ◌*◌, nat_le, if◌then◌else◌}
 use Rattle.std.specs.Prelude.{List, [], ◌∷◌, map, length, position, Option, Some, None, ok_or, option_map}
 use Rattle.std.specs.Prelude.{option_and_then, is_some, Result, Ok, Err, ℤ, unsigned_abs, codes, bytes_eq}
+use Rattle.std.specs.Bool.{then_some}
+use Rattle.std.specs.List.{list_any}
 use Rattle.std.specs.Option.{option_zip}
 use Rattle.sd_base.specs.Lines.{TextLine, content_of}
 use Rattle.sd_base.specs.Numbers.{is_within, natural_value, integer_value}
@@ -14,47 +16,99 @@ use Rattle.sd_file.specs.declared.fault.SddFault.TheVariants.{NoHeader, BadLine,
 use Rattle.sd_file.specs.declared.fault.SddFault.TheVariants.{LiteralRange, CountDiffers, Empty, OutOfMemory}
 use Rattle.sd_base.specs.FaultTexts.{at_line, counts}
 
--- A node with the vtree id that the file has. Primes and subs are places in the list of the nodes before it; in a line
--- as it is written they are ids.
-pub data Node : Type 0 where
-  Constant : (value : Bool) → Node
-  Literal : (vtree : ℕ) (literal : ℤ) → Node
-  Decomposition : (vtree : ℕ) (pairs : List (ℕ × ℕ)) → Node
-
--- a node line: its id and its node
+-- A node line: its id, and its node beside the vtree id that the line has, which is 0 for a constant. Primes and subs
+-- are places in the list of the nodes before it.
 pub record Entry : Type 0 where
   pub id : ℕ
-  pub node : Node
+  pub node : ℕ × FileNode
 
 -- a file over the variables 1 to a number: its nodes in the order of their lines
 pub record File : Type 0 where
   pub variables : ℕ
   pub nodes : List Entry
 
--- ---- the four forms of a node line, as it is written
+-- ---- the four forms of a node line: `F id`, `T id`, `L id vtree literal`, and `D id vtree k` with k pairs of ids
 
--- the constant of the words after F or T
-abbrev pub constant_form : Bool → List (List ℕ) → Option Entry
-constant_form value (id ∷ []) = option_map (λ n. record { id = n; node = Constant value }) (natural_value id)
-constant_form value words = None
-
--- the literal of the words after L
-abbrev pub literal_form : List (List ℕ) → Option Entry
-literal_form (id ∷ vtree ∷ literal ∷ []) =
-    option_map (λ (n, (p, z)). record { id = n; node = Literal p z })
-    (option_zip (natural_value id) (option_zip (natural_value vtree) (integer_value literal)))
-literal_form words = None
+-- the literal of the words behind L and an id, or the text of its fault where its variable is none of 1 to v
+abbrev pub literal_of : ℕ → ℕ → List (List ℕ) → Option (Result (ℕ × FileNode) (List ℕ))
+literal_of v line (vtree ∷ literal ∷ []) = option_map (λ (p, z). do
+  fault_if (not (is_within 1 v (unsigned_abs z))) (at_line line (codes ": literal out of range"))
+  Ok (p, FileLiteral z)) (option_zip (natural_value vtree) (integer_value literal))
+literal_of v line words = None
 
 -- two by two
 abbrev pub two_by_two : List ℕ → List (ℕ × ℕ)
 two_by_two (p ∷ s ∷ others) = (p, s) ∷ two_by_two others
 two_by_two others = []
 
+-- the decomposition of the numbers behind D and an id (a vtree id, k, and k pairs, at least one) with the places of its
+-- children among these ids, or the text of its fault where one is not among them
+abbrev pub decomposition : List ℕ → ℕ → Option (List ℕ) → Option (Result (ℕ × FileNode) (List ℕ))
+decomposition ids line (Some (vtree ∷ k ∷ children)) =
+    then_some (nat_le 1 k && length children == 2 * k) (
+    each (λ c. ok_or (position (λ i. i == c) ids) (at_line line (codes ": child unknown"))) children
+    >>= λ places. Ok (vtree, FileDecomposition (two_by_two places)))
+decomposition ids line numbers = None
+
+-- a line of one of the four forms behind lines of these ids: its own id, and its node or the text of its fault
+abbrev pub line_of : ℕ → List ℕ → ℕ → List (List ℕ) → Option (ℕ × Result (ℕ × FileNode) (List ℕ))
+line_of v ids line (kind ∷ id ∷ words) = option_zip (natural_value id) (
+    if bytes_eq kind (codes "F") then then_some (length words == 0) (Ok (0, FileConstant false))
+    else if bytes_eq kind (codes "T") then then_some (length words == 0) (Ok (0, FileConstant true))
+    else if bytes_eq kind (codes "L") then literal_of v line words
+    else if bytes_eq kind (codes "D") then decomposition ids line (all_values natural_value words)
+    else None)
+line_of v ids line words = None
+
+-- the entry of a line after earlier ones
+abbrev pub entry_of : ℕ → List Entry → TextLine → Result Entry (List ℕ)
+entry_of v earlier line = let ids = map (λ e. e.id) earlier in let fault = at_line line.number in do
+  (id, said) ← ok_or (line_of v ids line.number line.words) (fault (codes ": bad line"))
+  fault_if (list_any (λ i. i == id) ids) (fault (codes ": id twice"))
+  said >>= λ node. Ok (record { id = id; node = node })
+
+-- ---- the text
+
+-- The file of a text over the variables 1 to v, or the text of its first fault, as the line of the end has it behind
+-- the file's name. Blank lines and comments, which begin with c, are passed over.
+unfoldable pub sdd_file : ℕ → List ℕ → Result File (List ℕ)
+sdd_file v bytes = of_nodes (codes "sdd") (codes ": no header") counts (entry_of v) (λ entries. do
+  fault_if (length entries == 0) (codes ": no nodes")
+  Ok (record { variables = v; nodes = entries })) (content_of 99 bytes)
+
+-- the propositional formula of a file: that of its last node
+abbrev pub expression_of_file : File → Expression
+expression_of_file f = OfFile (map (λ e. e.node.1) f.nodes)
+
+-- ---- for the contracts of private functions, and for proofs
+
+-- a node with its vtree id
+abbrev pub Node : Type 0
+Node = ℕ × FileNode
+
+-- a node without it
+abbrev pub without_ids : Node → FileNode
+without_ids node = node.1
+
+-- ---- the forms of a line as it is written, where primes and subs are ids
+
+-- the constant of the words after F or T
+abbrev pub constant_form : Bool → List (List ℕ) → Option Entry
+constant_form value (id ∷ []) = option_map (λ n. record { id = n; node = (0, FileConstant value) }) (natural_value id)
+constant_form value words = None
+
+-- the literal of the words after L
+abbrev pub literal_form : List (List ℕ) → Option Entry
+literal_form (id ∷ vtree ∷ literal ∷ []) =
+    option_map (λ (n, (p, z)). record { id = n; node = (p, FileLiteral z) })
+    (option_zip (natural_value id) (option_zip (natural_value vtree) (integer_value literal)))
+literal_form words = None
+
 -- the numbers after D: an id, a vtree id, k, and k pairs, at least one
 abbrev pub decomposition_form : List ℕ → Option Entry
 decomposition_form (id ∷ vtree ∷ k ∷ children) =
     if nat_le 1 k && length children == 2 * k
-    then Some (record { id = id; node = Decomposition vtree (two_by_two children) })
+    then Some (record { id = id; node = (vtree, FileDecomposition (two_by_two children)) })
     else None
 decomposition_form numbers = None
 
@@ -68,7 +122,7 @@ form_of (letter ∷ words) =
     else (if bytes_eq letter (codes "D") then option_and_then decomposition_form (all_values natural_value words)
     else None)))
 
--- ---- a node line after earlier ones, of which the ids are known
+-- ---- the node of a form after lines with these ids
 
 -- the index of an id
 abbrev pub index_of_id : ℕ → List ℕ → Option ℕ
@@ -83,13 +137,13 @@ pair_at ids line (prime, sub) = do
 
 -- a node as it is written on a line, over the variables 1 to v, with places for ids
 abbrev pub node_of : ℕ → List ℕ → ℕ → Node → Result Node (List ℕ)
-node_of v ids line (Constant value) = Ok (Constant value)
-node_of v ids line (Literal vtree literal) = do
+node_of v ids line (vtree, FileConstant value) = Ok (vtree, FileConstant value)
+node_of v ids line (vtree, FileLiteral literal) = do
   fault_if (not (is_within 1 v (unsigned_abs literal))) (at_line line (codes ": literal out of range"))
-  Ok (Literal vtree literal)
-node_of v ids line (Decomposition vtree pairs) = do
+  Ok (vtree, FileLiteral literal)
+node_of v ids line (vtree, FileDecomposition pairs) = do
   places ← each (pair_at ids line) pairs
-  Ok (Decomposition vtree places)
+  Ok (vtree, FileDecomposition places)
 
 -- the entry of a line after lines with these ids
 abbrev pub entry_with : ℕ → List ℕ → TextLine → Result Entry (List ℕ)
@@ -99,37 +153,11 @@ entry_with v ids line = do
   node ← node_of v ids line.number form.node
   Ok (record { id = form.id; node = node })
 
--- the entry of a line after earlier ones
-abbrev pub entry_of : ℕ → List Entry → TextLine → Result Entry (List ℕ)
-entry_of v earlier line = entry_with v (map (λ e. e.id) earlier) line
-
--- ---- the text
-
 -- the file of these nodes, where there is at least one
 abbrev pub file_of : ℕ → List Entry → Result File (List ℕ)
 file_of v entries = do
   fault_if (length entries == 0) (codes ": no nodes")
   Ok (record { variables = v; nodes = entries })
-
--- The file of a text over the variables 1 to v, or the text of its first fault, as the line of the end has it behind
--- the file's name. Blank lines and comments, which begin with c, are passed over.
-unfoldable pub sdd_file : ℕ → List ℕ → Result File (List ℕ)
-sdd_file v bytes =
-    of_nodes (codes "sdd") (codes ": no header") counts (entry_of v) (file_of v) (content_of 99 bytes)
-
--- ---- the value of a file
-
--- a node without ids
-abbrev pub without_ids : Node → FileNode
-without_ids (Constant value) = FileConstant value
-without_ids (Literal vtree literal) = FileLiteral literal
-without_ids (Decomposition vtree pairs) = FileDecomposition pairs
-
--- the propositional formula of a file: that of its last node
-abbrev pub expression_of_file : File → Expression
-expression_of_file f = OfFile (map (λ e. without_ids e.node) f.nodes)
-
--- ---- for the contracts of private functions, and for proofs
 
 -- the literal is one of a variable of 1 to v
 abbrev pub is_literal : ℕ → ℤ → Bool
@@ -157,7 +185,7 @@ stated_by words = stated_behind (codes "sdd") words
 abbrev pub decomposition_of : List ℕ → ℕ → ℕ → List (ℕ × ℕ) → Result Node (List ℕ)
 decomposition_of ids line vtree pairs = do
   places ← each (pair_at ids line) pairs
-  Ok (Decomposition vtree places)
+  Ok (vtree, FileDecomposition places)
 
 -- ---- what a reader answers
 

@@ -5,6 +5,7 @@ use Rattle.std.specs.List.{AllByRecursion}
 use Rattle.std.specs.Ordering.{nat_cmp}
 use Rattle.sd_base.specs.Lines.{TextLine}
 use Rattle.sd_base.specs.Reading.{◌>>=◌}
+use Rattle.sd_model.specs.Expression.{FileConstant, FileLiteral, FileDecomposition}
 use Rattle.sd_file.specs.declared.file.FileNode.{FileNode}
 use Rattle.sd_file.specs.declared.file.FileNode.TheVariants as kinds
 use Rattle.sd_file.specs.declared.file.FileEntry.{FileEntry}
@@ -13,14 +14,14 @@ use Rattle.sd_file.specs.declared.form.Form.TheVariants.{ConstantLine, LiteralLi
 use Rattle.sd_file.specs.declared.id_table.IdTable.{IdTable}
 use Rattle.sd_file.specs.declared.reader.Nodes.{Nodes}
 use Rattle.sd_file.specs.Reads.{two_by_two, index_of_id}
-use Rattle.sd_file.specs.Reads.{Node, Constant, Literal, Decomposition, Entry, File}
+use Rattle.sd_file.specs.Reads.{Node, Entry, File}
 
 -- a line as it is written
 abbrev pub form_view : forms.Form → Entry
-form_view (ConstantLine id value) = record { id = id; node = Constant value }
-form_view (LiteralLine id vtree literal) = record { id = id; node = Literal vtree literal }
+form_view (ConstantLine id value) = record { id = id; node = (0, FileConstant value) }
+form_view (LiteralLine id vtree literal) = record { id = id; node = (vtree, FileLiteral literal) }
 form_view (DecompositionLine id vtree children) =
-    record { id = id; node = Decomposition vtree (two_by_two children.items) }
+    record { id = id; node = (vtree, FileDecomposition (two_by_two children.items)) }
 
 -- how many ids of children it has
 abbrev pub children_count : forms.Form → ℕ
@@ -32,9 +33,9 @@ children_count (DecompositionLine id vtree children) = length children.items
 
 -- a node whose pairs begin at an index
 abbrev pub node_in : List (ℕ × ℕ) → ℕ → FileNode → Node
-node_in pairs start (kinds.Constant value) = Constant value
-node_in pairs start (kinds.Literal vtree literal) = Literal vtree literal
-node_in pairs start (kinds.Decomposition vtree count) = Decomposition vtree (take count (drop start pairs))
+node_in pairs start (kinds.Constant value) = (0, FileConstant value)
+node_in pairs start (kinds.Literal vtree literal) = (vtree, FileLiteral literal)
+node_in pairs start (kinds.Decomposition vtree count) = (vtree, FileDecomposition (take count (drop start pairs)))
 
 -- how many pairs a node has
 abbrev pub count_of : FileNode → ℕ

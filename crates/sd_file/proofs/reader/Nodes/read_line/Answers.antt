@@ -6,8 +6,14 @@ use Rattle.sd_file.specs.declared.file.FileEntry.{FileEntry}
 use Rattle.sd_file.specs.Reads.{form_of}
 use Rattle.sd_file.specs.Steps.{form_view, IsWithin}
 use Rattle.sd_file.proofs.Growing.{within_push}
-use Rattle.sd_file.proofs.LineLaws.{id_twice, line_fails, line_read}
+use Rattle.sd_file.proofs.LineLaws.{no_form, id_twice, line_fails, line_read}
 use Rattle.sd_file.proofs.reader.Nodes.read_line.Goals as goal
+
+-- the line has no form
+pub returns-in_default-clause-value : goal.returns-in_default-clause-value
+returns-in_default-clause-value c =
+    no_form c.args.variables c.args.self.now.id_table.entries.items c.args.self.now.pairs.items
+    (line_view c.args.line.now) (sym c.in_ok-form.ensures.form ∙ ap (option_map form_view) c.in_default.is)
 
 -- an earlier line has the id
 pub returns-then-has-clause-value : goal.returns-then-has-clause-value
