@@ -1,17 +1,17 @@
 -- An input that is compiled with searches behind its groups: the steps of the state that the code represents.
-use Rattle.std.proofs.Common.{◌≡◌, ◌⊎◌, ℕ, suc, ◌+◌, ◌-◌, ◌<◌, ◌≤◌, cond, Bool, true, false}
+use Rattle.std.proofs.Common.{◌≡◌, ℕ, suc, ◌+◌, ◌-◌, ◌<◌, ◌≤◌, cond, Bool, true, false}
 use Rattle.std.proofs.Common.{List, ◌∷◌, length, take, Some, None, Result, Ok, Err, OnOk}
 use Rattle.std.proofs.Common.{◌↔◌, IsTrue, eqb, refl, sym, ap, subst, ◌∙◌, inl, inr, arith}
 use Rattle.std.proofs.Math.Seq.{take-length}
 use Rattle.std.proofs.lemmas.Bool.{cases_eq, eq-eqb, ne_eqb}
 use Rattle.std.proofs.lemmas.Option.{same_Some}
 use Rattle.std.proofs.lemmas.Cmp.{nat_cmp_total}
+use Rattle.std.specs.Prelude.{MatchBool}
 use Rattle.std.specs.Option.{IsSome}
 use Rattle.std.specs.FinMap.{get, remove, len, len-remove}
-use Rattle.sd_runs.proofs.Maps.{get_remove_same, get_remove_other}
-use Rattle.sd_model.specs.Tree.{Tree, leaves}
+use Rattle.sd_runs.proofs.Maps.{get_remove_other}
 use Rattle.sd_model.specs.Diagram.{Diagram, meaning}
-use Rattle.sd_model.specs.Expression.{Expression, expression_value}
+use Rattle.sd_model.specs.Expression.{Expression}
 use Rattle.sd_model.specs.Size.{HasSize, IsDiagramOf}
 use Rattle.sd_formula.specs.Dimacs.{Groups}
 use Rattle.sd_vtree.specs.Numbered.{plain_tree, IsNumbered}
@@ -23,7 +23,6 @@ use Rattle.sd_manager.specs.Shown.{ShowsCanonical}
 use Rattle.sd_manager.specs.Marking.{AreUnmarked}
 use Rattle.sd_manager.specs.Making.{without_root}
 use Rattle.sd_manager.proofs.Totals.{left_was}
-use Rattle.sd_apply.specs.Answers.{HasAnswer}
 use Rattle.sd_apply.specs.Serving.{Serves}
 use Rattle.sd_compile.specs.Compiling.{CompiledPrefix, HoldsFormula, HoldsPrefix, KeepsOtherRoots, KeepsAll, IsBegun}
 use Rattle.sd_compile.specs.Compiling.{prefix_of, IsGroupRefused}
@@ -39,7 +38,7 @@ use Rattle.sd_search.specs.declared.error.SearchError.TheVariants as searching
 use Rattle.sd_commands.specs.Commands.{State, OverLimit, Step, AreWithin, Grows, Follows, formulas_of, with_groups}
 use Rattle.sd_commands.specs.Commands.{is_due, with_name}
 use Rattle.sd_formula.specs.Formulas.{expression_of}
-use Rattle.sd_commands.specs.Standing.{Represents, IsGrown, IsGrowthBroken, StopsAt, without, error_of_compiling}
+use Rattle.sd_commands.specs.Standing.{Represents, StopsAt, without, error_of_compiling}
 use Rattle.sd_commands.specs.Standing.{error_of_search, IsLeftByGroups, IsAsBefore, HoldsValue, StepsTo, root_count}
 use Rattle.sd_commands.specs.declared.error.CommandError.{CommandError}
 use Rattle.sd_commands.specs.declared.error.CommandError.TheVariants as errors
@@ -47,6 +46,8 @@ use Rattle.sd_commands.specs.Growing.{IsGrowing, IsAdded, IsBrokenOff, HasGrown,
 use Rattle.sd_commands.specs.declared.command.RunCommand.TheVariants.{Input}
 use Rattle.sd_commands.specs.declared.state.RunState.{RunState}
 use Rattle.sd_commands.proofs.Limits.{held_formulas, within_with, passes_with}
+use Rattle.sd_commands.proofs.Settling.{input_of_group}
+use Rattle.sd_commands.proofs.Begun.{grows_begun}
 use Rattle.sd_commands.proofs.Searched.{stands_searched}
 use Rattle.sd_commands.proofs.Standing.{stands_kept, serves_roots, code_regained, holds_compiled}
 
@@ -214,11 +215,12 @@ module _ (input : Groups) (seen : State) (code : RunState) (work : CompiledPrefi
             (all_beside code.manager t work.root kept) (serves_roots cache t (remove t.roots work.root) serves)
             unmarked);
         held = subst (λ o. IsSome o) (sym (ap (λ r. get r work.root) roots ∙ was.holds.1.held)) refl;
-        grown = inl (record {
-          done = work.groups;
-          most = was.holds.0;
-          course = subst (Grows input seen work.groups) tree was.course;
-        });
+        grown = (
+          work.groups,
+          was.holds.0,
+          grows_begun input seen work.groups (plain_tree t.vtree)
+              (subst (Grows input seen work.groups) tree was.course),
+        );
       })
 
   -- so the command stops
@@ -231,6 +233,7 @@ module _ (input : Groups) (seen : State) (code : RunState) (work : CompiledPrefi
       let passes = passes_with (without code work.root) here numbered was.represents law (prefix_of input group)
       code.limit size refl h.1.total h.1.passes in
       subst (λ l. Step input seen (Input name) (OverLimit (Some group) size l)) (was.represents.limit ∙ sym h.1.most_is)
+      (input_of_group input seen name (OverLimit (Some group) size seen.limit)
       (inr (
         group,
         size,
@@ -244,7 +247,7 @@ module _ (input : Groups) (seen : State) (code : RunState) (work : CompiledPrefi
           passes.passes,
         ),
         refl,
-      ))
+      )))
   growth_stops name t (compiling.ArenaFull elements) bound left h = (tt, record { whole = bound; rule = h })
   growth_stops name t compiling.OutOfMemory bound left h = tt
 
@@ -344,18 +347,20 @@ module _ (input : Groups) (seen : State) (code : RunState) (work : CompiledPrefi
     represents = stands_beside t cache kept serves unmarked;
     held =
         subst (λ o. IsSome o) (sym (ap (λ r. get r work.root) kept.roots ∙ was.holds.1.held)) refl;
-    grown = inr (record {
-      done = was.done;
-      most = subst (λ n. n ≤ length input.groups) was.next was.holds.0;
-      before = plain_tree code.manager.vtree;
-      course = was.course;
-      within = was.within;
-      due = ap (is_due seen.every) (sym was.next) ∙ due;
-      begun =
-          subst (λ s. IsSearchBegun (with_groups input seen (suc was.done)) s 1 (plain_tree code.manager.vtree)
-          (plain_tree t.vtree)) (sym was.represents.slack) (begun (with_groups input seen (suc was.done)) held_here);
-    });
+    grown = (
+      suc was.done,
+      subst (λ n. n ≤ length input.groups) was.next was.holds.0,
+      (plain_tree code.manager.vtree, was.course, was.within, follows _ (ap (is_due seen.every) (sym was.next) ∙ due)),
+    );
   }
+    where
+      follows : (due : Bool) → due ≡ true
+          → MatchBool due (IsSearchBegun (with_groups input seen (suc was.done)) seen.slack 1
+          (plain_tree code.manager.vtree) (plain_tree t.vtree)) (plain_tree t.vtree ≡ plain_tree code.manager.vtree)
+      follows true is =
+          subst (λ s. IsSearchBegun (with_groups input seen (suc was.done)) s 1 (plain_tree code.manager.vtree)
+          (plain_tree t.vtree)) (sym was.represents.slack) (begun (with_groups input seen (suc was.done)) held_here)
+      follows false is = absurd cc
 
 -- why it stops
 pub searches_stop : (input : Groups) (seen : State) (name : ℕ) (t : Table) (e : SearchError) → t.bound ≡ 2147483647
@@ -469,7 +474,7 @@ pub left_at_once : (input : Groups) (code new : RunState) → new ≡ code → I
 left_at_once input code new same = subst (IsLeftByGroups input code) (sym same)
     (record {
       represents = λ seen was. subst (λ t. Represents code (record seen { tree = t })) was.tree was;
-      grown = λ seen was. inl (record { done = 0; most = omega arith; course = sym was.tree });
+      grown = λ seen was. (0, omega arith, sym was.tree);
       roots = refl;
     })
 
@@ -484,12 +489,12 @@ left_unnamed input code mid new root grown left roots = record {
       subst (λ t. Represents new (record seen { tree = t })) now.tree now;
   grown = λ seen was.
       let had = grown seen was in
-      let now = left.represents (record seen { tree = plain_tree mid.manager.vtree }) had.represents in
-      inl (record {
-        done = length input.groups;
-        most = omega arith;
-        course = subst (Grows input seen (length input.groups)) now.tree had.course;
-      });
+      let now = left.represents (record seen { tree = plain_tree mid.manager.vtree }) had.represents in (
+        length input.groups,
+        omega arith,
+        grows_begun input seen (length input.groups) (plain_tree new.manager.vtree)
+            (subst (Grows input seen (length input.groups)) now.tree had.course),
+      );
   roots = left.roots ∙ roots;
 }
 

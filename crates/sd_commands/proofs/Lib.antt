@@ -1,3 +1,4 @@
+pub mod Begun
 pub mod Growing
 pub mod Limits
 pub mod Moved

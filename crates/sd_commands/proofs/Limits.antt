@@ -28,6 +28,7 @@ use Rattle.sd_commands.specs.Standing.{error_of_compiling}
 use Rattle.sd_commands.specs.declared.command.RunCommand.TheVariants.{Input}
 use Rattle.sd_commands.specs.declared.state.RunState.{RunState}
 use Rattle.sd_commands.proofs.Names.{formula_named_by, named_formula}
+use Rattle.sd_commands.proofs.Settling.{input_of_group}
 use Rattle.sd_commands.proofs.Standing.{shown_canonical, bound_root, root_bound}
 
 -- ---- the bound names' formulas are what roots hold
@@ -81,11 +82,8 @@ module _ (code : RunState) (seen : State) (numbered : IsNumbered code.manager.vt
   -- which is within the limit
   pub within_with : (f : Expression) (limit : ℕ) → limit ≡ code.limit → IsWithinLimit code.manager f limit
       → AreWithin (f ∷ formulas_of seen) seen.tree seen.limit
-  within_with f limit same h = record {
-    size = h.size;
-    total = size_with f h.size h.total;
-    within = subst (λ l. h.size ≤ l) (same ∙ sym was.limit) h.within;
-  }
+  within_with f limit same h =
+      (h.size, size_with f h.size h.total, subst (λ l. h.size ≤ l) (same ∙ sym was.limit) h.within)
 
   -- or passes it
   pub passes_with : (f : Expression) (limit n : ℕ) → limit ≡ code.limit → HasTotalWith code.manager f n → limit < n
@@ -136,7 +134,8 @@ module _ (code : RunState) (seen : State) (numbered : IsNumbered code.manager.vt
       → StopsAt input seen (Input name) new (error_of_compiling e)
   input_stops input name new (compiling.OverLimit group size most) bound none h =
       subst (λ l. Step input seen (Input name) (OverLimit (Some group) size l)) (was.limit ∙ sym h.2.most_is)
-      (inr (group, size, group_passes input new code.limit group size most refl none h, refl))
+      (input_of_group input seen name (OverLimit (Some group) size seen.limit)
+      (inr (group, size, group_passes input new code.limit group size most refl none h, refl)))
   input_stops input name new (compiling.ArenaFull elements) bound none h = (tt, record { whole = bound; rule = h })
   input_stops input name new compiling.OutOfMemory bound none h = tt
 
@@ -150,11 +149,7 @@ module _ (code : RunState) (seen : State) (numbered : IsNumbered code.manager.vt
       → IsTotalWithin code.manager limit → AreWithin (formulas_of seen) seen.tree limit
   total_within limit law within =
       let h = law (formulas_of seen) limit (held_formulas code seen numbered was) within in
-      record {
-        size = h.0;
-        total = subst (λ t. HasSize (formulas_of seen) t h.0) (sym was.tree) h.1;
-        within = h.2;
-      }
+      (h.0, subst (λ t. HasSize (formulas_of seen) t h.0) (sym was.tree) h.1, h.2)
 
   -- or one that passes it
   pub total_passes : (limit size : ℕ)

@@ -1,5 +1,5 @@
 -- The state that the code represents after a move of the vtree, and why a move is refused.
-use Rattle.std.proofs.Common.{◌≡◌, ◌⊎◌, inl, inr, ℕ, ◌+◌, ◌≤◌, ◌<◌, List, [], ◌∷◌, length}
+use Rattle.std.proofs.Common.{◌≡◌, inl, inr, ℕ, ◌≤◌, ◌<◌, List, [], ◌∷◌}
 use Rattle.std.proofs.Common.{Option, Some, None, slice_get, refl, sym, ap, subst, ◌∙◌}
 use Rattle.std.specs.Option.{IsSome, option_map}
 use Rattle.std.specs.List.{AllZip}
@@ -28,13 +28,12 @@ use Rattle.sd_move.specs.Moves.{HasMoved, HasSizeAfter, IsMoved, IsMoveRefusal}
 use Rattle.sd_move.specs.declared.error.MoveError.{MoveError}
 use Rattle.sd_move.specs.declared.error.MoveError.TheVariants as refusals
 use Rattle.sd_move.proofs.AfterSweep.{value_then}
-use Rattle.sd_compile.specs.Compiling.{KeepsAll}
 use Rattle.sd_compile.proofs.Holding.{held_among, among_held, same_size}
 use Rattle.sd_compile.proofs.Kept.{kept_holds}
 use Rattle.sd_formula.specs.Dimacs.{Groups}
 use Rattle.sd_commands.specs.Commands.{State, Moves, Settles, Done, OverLimit, NotMovable, formulas_of, AreWithin}
 use Rattle.sd_commands.proofs.Settling.{settles_within, settles_past}
-use Rattle.sd_commands.specs.Standing.{Represents, IsOfName, HoldsName, HoldsValue, IsAsBefore, StepsTo, StopsAt}
+use Rattle.sd_commands.specs.Standing.{Represents, HoldsName, HoldsValue, IsAsBefore, StepsTo, StopsAt}
 use Rattle.sd_commands.specs.Standing.{error_of_move}
 use Rattle.sd_commands.specs.declared.command.RunCommand.TheVariants as commands
 use Rattle.sd_commands.specs.declared.state.RunState.{RunState}
@@ -218,11 +217,11 @@ module _ (input : Groups) (code : RunState) (seen : State) (kind : Move) (p plac
       let same : h.tree ≡ mid.vtree = cc in
       let total = size_moved code seen kind place size numbered was h
       (plain_reordered kind code.manager.vtree h.tree p place law h.turned) in
-      let in_ : AreWithin (formulas_of seen) (plain_tree mid.vtree) seen.limit = record {
-        size = size;
-        total = subst (λ (v : Numbered). HasSize (formulas_of seen) (plain_tree v) size) same total;
-        within = subst (λ l. size ≤ l) (sym was.limit) within;
-      } in
+      let in_ : AreWithin (formulas_of seen) (plain_tree mid.vtree) seen.limit = (
+        size,
+        subst (λ (v : Numbered). HasSize (formulas_of seen) (plain_tree v) size) same total,
+        subst (λ l. size ≤ l) (sym was.limit) within,
+      ) in
       record {
         next = record seen { tree = plain_tree mid.vtree };
         step = subst (λ o. Moves seen o (Done (record seen { tree = plain_tree mid.vtree }) []))

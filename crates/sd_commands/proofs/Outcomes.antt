@@ -20,14 +20,15 @@ use Rattle.sd_file.specs.Reads.{expression_of_file}
 use Rattle.sd_search.proofs.Determined.{search_determined}
 use Rattle.sd_commands.specs.Effects.{Effect, Write, Print}
 use Rattle.sd_commands.specs.Commands.{State, Outcome, Done, OverLimit, Step, Settles, Binds, BindsInput}
-use Rattle.sd_commands.specs.Commands.{Moves, AreWithin, PassLimit, PassesAtGroup, IsTextOf, formulas_of, with_groups}
-use Rattle.sd_commands.specs.Commands.{Grows, Follows, is_due}
+use Rattle.sd_commands.specs.Commands.{Moves, AreWithin, PassesAtGroup, IsTextOf, formulas_of, with_groups}
+use Rattle.sd_commands.specs.Commands.{Grows, Follows, is_due, IsBoundOrPast}
 use Rattle.sd_commands.specs.Commands.{with_name, formula_named, size_line, same_line, search_line}
 use Rattle.sd_commands.specs.Fits.{Fits, AllFit, has, bound_after}
 use Rattle.sd_commands.specs.Standing.{names_of}
 use Rattle.sd_commands.specs.declared.command.NumberedCommand.{NumberedCommand}
 use Rattle.sd_commands.specs.declared.command.RunCommand.{RunCommand}
 use Rattle.sd_commands.specs.declared.command.RunCommand.TheVariants as commands
+use Rattle.sd_commands.proofs.Settling.{input_by_group}
 use Rattle.sd_commands.proofs.Searched.{search_valid}
 use Rattle.sd_commands.proofs.Moved.{IsReordered, vtree_reordered, move_reordered}
 
@@ -49,8 +50,8 @@ one_answer P false false p q = refl
 not_both : (fs : List Expression) (tree : Tree) (limit size : ℕ) → IsVtree tree → AreWithin fs tree limit
     → HasSize fs tree size → limit < size → ⊥
 not_both fs tree limit size valid in_ total passes =
-    let same = size_determined tree fs in_.size size valid in_.total total in
-    omega (arith, in_.within, passes, same)
+    let same = size_determined tree fs in_.0 size valid in_.1 total in
+    omega (arith, in_.2, passes, same)
 
 -- a command that leads to a state has one outcome
 one_settled : (next : State) (a b : Outcome) → IsVtree next.tree → Settles next a → Settles next b → a ≡ b
@@ -137,7 +138,7 @@ one_group input state g h m n valid p q = elim (cases_order g h) [
 
 -- the input is bound, or refused at one group
 one_input : (input : Groups) (state : State) (name : ℕ) (a b : Outcome) → IsVtree state.tree
-    → BindsInput input state name a → BindsInput input state name b → a ≡ b
+    → IsBoundOrPast input state name a → IsBoundOrPast input state name b → a ≡ b
 one_input input state name a b valid (inl p) (inl q) =
     p.2 ∙ ap (λ t. Done (with_name (record state { tree = t }) name (expression_of input)) [])
     (one_growth input state (length input.groups) p.0 q.0 valid p.1 q.1)
@@ -162,7 +163,8 @@ one_moved kind state position (Some tree) a b at valid p q =
 pub one_outcome : (input : Groups) (state : State) (command : RunCommand) (a b : Outcome) → IsVtree state.tree
     → Step input state command a → Step input state command b → a ≡ b
 one_outcome input state (commands.Generated v g) a b valid p q = p ∙ sym q
-one_outcome input state (commands.Input n) a b valid p q = one_input input state n a b valid p q
+one_outcome input state (commands.Input n) a b valid p q =
+    one_input input state n a b valid (input_by_group input state n a p) (input_by_group input state n b q)
 one_outcome input state (commands.Load n file) a b valid p q =
     one_settled (with_name state n (expression_of_file file)) a b valid p q
 one_outcome input state (commands.Literal n literal) a b valid p q =
@@ -246,7 +248,7 @@ input_done input state next name effects (inl p) =
     let e = p.2 in
     let same : next ≡ with_name (record state { tree = p.0 }) name (expression_of input) = cc in
     record { tree = p.0; course = p.1; next_is = same; quiet = cc }
-input_done input state next name effects (inr p) = let e = p.3 in let bad : ⊥ = cc in absurd bad
+input_done input state next name effects (inr p) = let e = p.7 in let bad : ⊥ = cc in absurd bad
 
 -- what a state is after a name was bound, or after nothing
 module _ (state next : State) (effects : List Effect) where

@@ -1,13 +1,11 @@
 -- The state that the code represents after a search, and why one stops.
-use Rattle.std.proofs.Common.{◌≡◌, ◌⊎◌, ℕ, suc, ◌<◌, List, [], ◌∷◌, Option, Some, None, refl, sym, ap, subst, ◌∙◌}
-use Rattle.std.proofs.Common.{inl, inr}
+use Rattle.std.proofs.Common.{◌≡◌, ℕ, List, [], ◌∷◌, Option, Some, None, refl, sym, ap, subst, ◌∙◌}
+use Rattle.std.proofs.Common.{inr}
 use Rattle.std.specs.Option.{IsSome}
 use Rattle.std.specs.FinMap.{get}
 use Rattle.sd_model.specs.Tree.{Tree, IsVtree}
 use Rattle.sd_model.specs.Diagram.{meaning}
 use Rattle.sd_model.specs.Expression.{Expression}
-use Rattle.sd_model.specs.Size.{HasSize}
-use Rattle.sd_model.specs.declared.trees.Side.{Side}
 use Rattle.sd_vtree.specs.Numbered.{plain_tree, IsNumbered}
 use Rattle.sd_laws.proofs.Codes.{one_diagram}
 use Rattle.sd_cache.specs.Entries.{Answers}
@@ -15,9 +13,7 @@ use Rattle.sd_manager.specs.Table.{Table}
 use Rattle.sd_manager.specs.Marking.{AreUnmarked}
 use Rattle.sd_apply.specs.Serving.{Serves}
 use Rattle.sd_compile.specs.Total.{AreHeldFormulas}
-use Rattle.sd_search.specs.Search.{IsRound, round_at_leaf, round_at_node, IsRoundBegun, nothing_done, begun_on_right}
-use Rattle.sd_search.specs.Search.{Found, IsSearch, no_round, last_round, further_round}
-use Rattle.sd_search.specs.Search.{IsSearchBegun, in_round, after_round}
+use Rattle.sd_search.specs.Search.{Found, IsSearch, no_round, last_round, further_round, IsSearchBegun}
 use Rattle.sd_search.specs.Kept.{KeepsRoots, IsSearchRefusal}
 use Rattle.sd_search.specs.declared.error.SearchError.{SearchError}
 use Rattle.sd_search.specs.declared.error.SearchError.TheVariants as searching
@@ -25,11 +21,12 @@ use Rattle.sd_search.proofs.Determined.{round_valid}
 use Rattle.sd_formula.specs.Dimacs.{Groups}
 use Rattle.sd_commands.specs.Effects.{Print}
 use Rattle.sd_commands.specs.Commands.{State, Done, formulas_of, search_line}
-use Rattle.sd_commands.specs.Standing.{Represents, HoldsName, HoldsValue, IsLeftBySearch, IsSearched}
+use Rattle.sd_commands.specs.Standing.{Represents, HoldsName, HoldsValue, IsLeftBySearch, IsSearchLeft}
 use Rattle.sd_commands.specs.Standing.{StepsTo, StopsAt, error_of_search}
 use Rattle.sd_commands.specs.declared.command.RunCommand.TheVariants as commands
 use Rattle.sd_commands.specs.declared.command.Effect.TheVariants.{PrintLine}
 use Rattle.sd_commands.specs.declared.state.RunState.{RunState}
+use Rattle.sd_commands.proofs.Begun.{search_begun}
 use Rattle.sd_commands.proofs.Limits.{held_formulas}
 
 -- a search ends in a vtree
@@ -38,40 +35,6 @@ pub search_valid : {fs : List Expression} {slack rounds : ℕ} {start : Tree} {f
 search_valid valid (no_round size) = valid
 search_valid valid (last_round size round after no_less) = round_valid valid round
 search_valid valid (further_round size round less more) = search_valid (round_valid valid round) more
-
--- ---- a search that is done has begun
-
--- so has a round
-round_begun : {fs : List Expression} {slack : ℕ} {start end : Tree} {path : List Side}
-    → IsRound fs slack start path end → IsRoundBegun fs slack start path end
-round_begun (round_at_leaf x at) = nothing_done
-round_begun (round_at_node l r at walk left right) = begun_on_right l r at walk left (round_begun right)
-
--- a search says the size at its start
-size_before : {fs : List Expression} {slack rounds : ℕ} {start : Tree} {found : Found}
-    → IsSearch fs slack rounds start found → HasSize fs start found.before
-size_before (no_round size) = size
-size_before (last_round size round after no_less) = size
-size_before (further_round size round less more) = size
-
--- a round that lessens the size, before a search that leaves its tree or has begun
-begun_after : (fs : List Expression) (slack rounds n k : ℕ) (start mid end : Tree) → HasSize fs start n
-    → IsRound fs slack start [] mid → HasSize fs mid k → k < n
-    → (end ≡ mid) ⊎ IsSearchBegun fs slack rounds mid end → IsSearchBegun fs slack (suc rounds) start end
-begun_after fs slack rounds n k start mid end size round after less (inl same) =
-    in_round (subst (λ u. IsRoundBegun fs slack start [] u) (sym same) (round_begun round))
-begun_after fs slack rounds n k start mid end size round after less (inr begun) =
-    after_round size round after less begun
-
--- and a search of no round leaves its tree
-pub search_begun : {fs : List Expression} {slack rounds : ℕ} {start : Tree} {found : Found}
-    → IsSearch fs slack rounds start found
-    → (found.tree ≡ start) ⊎ IsSearchBegun fs slack rounds start found.tree
-search_begun (no_round size) = inl refl
-search_begun (last_round size round after no_less) = inr (in_round (round_begun round))
-search_begun {fs} {slack} {rounds} {start} (further_round {u} {rounds = r} {n} {found} size round less more) =
-    inr (begun_after fs slack r n found.before start u found.tree size round (size_before more) less
-    (search_begun more))
 
 -- ---- what it leaves
 
@@ -124,7 +87,7 @@ module _ (code : RunState) (t : Table) (cache : Answers) (numbered : IsNumbered 
 
   -- what it leaves where it stops
   pub left_by_search : (rounds : ℕ)
-      → ((seen : State) → Represents code seen → IsSearched seen rounds (plain_tree t.vtree))
+      → ((seen : State) → Represents code seen → IsSearchLeft seen rounds (plain_tree t.vtree))
       → IsLeftBySearch rounds code (record code { manager = t; cache = cache })
   left_by_search rounds searched =
       record { represents = λ seen was. stands_searched seen was; searched = searched; roots = kept.roots }
@@ -145,7 +108,7 @@ module _ (code : RunState) (seen : State) (rounds : ℕ) (numbered : IsNumbered 
   pub begun_of_names : (tree : Tree)
       → ((fs : List Expression) → AreHeldFormulas code.manager fs
       → IsSearchBegun fs code.slack rounds (plain_tree code.manager.vtree) tree)
-      → IsSearched seen rounds tree
+      → IsSearchLeft seen rounds tree
   begun_of_names tree begun =
       inr (subst (λ s. IsSearchBegun (formulas_of seen) s rounds seen.tree tree) (sym was.slack)
       (subst (λ u. IsSearchBegun (formulas_of seen) code.slack rounds u tree) (sym was.tree)
@@ -155,7 +118,7 @@ module _ (code : RunState) (seen : State) (rounds : ℕ) (numbered : IsNumbered 
   pub found_of_names : (found : Found)
       → ((fs : List Expression) → AreHeldFormulas code.manager fs
       → IsSearch fs code.slack rounds (plain_tree code.manager.vtree) found)
-      → IsSearched seen rounds found.tree
+      → IsSearchLeft seen rounds found.tree
   found_of_names found search = search_begun (of_names found search)
 
   -- and the command is done

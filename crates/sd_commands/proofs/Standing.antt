@@ -1,7 +1,7 @@
 -- The state that the code represents at the start, and after each command.
-use Rattle.std.proofs.Common.{◌≡◌, ℕ, ◌+◌, ◌-◌, ◌≤◌, Bool, true, false, not, cond, eqb, Contains, List, [], ◌∷◌, filter}
-use Rattle.std.proofs.Common.{Option, Some, None, Result, Ok, Err, refl, sym, ap, subst, ◌∙◌, arith}
-use Rattle.std.proofs.Common.{◌⊎◌, inl, inr, IfSome, OnErr}
+use Rattle.std.proofs.Common.{◌≡◌, ℕ, ◌+◌, ◌-◌, ◌≤◌, Bool, true, false, not, cond, eqb}
+use Rattle.std.proofs.Common.{List, [], ◌∷◌, filter, Option, Some, None, Result, Ok, Err}
+use Rattle.std.proofs.Common.{refl, sym, ap, subst, ◌∙◌, ◌⊎◌, inl, inr, IfSome, OnErr, arith}
 use Rattle.std.proofs.lemmas.Bool.{cases_eq, eq-eqb, ne_eqb}
 use Rattle.std.proofs.lemmas.Bool.Decides.{nat_tests}
 use Rattle.std.proofs.lemmas.Cmp.{nat_cmp_total}
@@ -14,7 +14,7 @@ use Rattle.std.specs.Ordering.{nat_cmp}
 use Rattle.sd_runs.proofs.Maps.{get_insert_same, get_insert_other, get_remove_same, get_remove_other, same_at_each}
 use Rattle.sd_model.specs.Expression.{Expression, Constant}
 use Rattle.sd_model.specs.Size.{IsDiagramOf}
-use Rattle.sd_model.specs.Tree.{Tree, AreDistinct}
+use Rattle.sd_model.specs.Tree.{AreDistinct}
 use Rattle.sd_vtree.specs.Numbered.{Numbered, plain_tree}
 use Rattle.sd_cache.specs.Entries.{Answers, no_answers}
 use Rattle.sd_manager.specs.Table.{Table, no_table}
@@ -27,7 +27,7 @@ use Rattle.sd_commands.specs.Commands.{State, named, with_name, dropped, formula
 use Rattle.sd_commands.specs.Standing.{Represents, IsOfName, HoldsName, HoldsValue, ShowsFormula, start, names_of}
 use Rattle.sd_formula.specs.Dimacs.{Groups}
 use Rattle.sd_commands.specs.Standing.{IsAsBefore, HoldsNames, IsFree, IsLeft, IsTreeLeft, without, removed}
-use Rattle.sd_commands.specs.Standing.{IsLeftByInput, IsGrown, IsGrowthBroken}
+use Rattle.sd_commands.specs.Standing.{IsLeftByInput, IsGrown}
 use Rattle.sd_commands.specs.declared.command.RunCommand.{RunCommand}
 use Rattle.sd_commands.specs.declared.command.RunCommand.TheVariants as commands
 use Rattle.sd_commands.proofs.Names.{distinct_bound, distinct_dropped}
@@ -704,18 +704,11 @@ as_it_was old new seen was left =
 input_left : (input : Groups) (every : Option ℕ) (old new : RunState) (seen : State) → Represents old seen
     → IsLeftByInput every input old new
     → Represents new (record seen { tree = plain_tree new.manager.vtree })
-    × (IsGrown input seen (plain_tree new.manager.vtree) ⊎ IsGrowthBroken input seen (plain_tree new.manager.vtree))
+    × IsGrown input seen (plain_tree new.manager.vtree)
 input_left input None old new seen was left =
     let same = as_it_was old new seen was left in
-    (same.0, inl (record { done = 0; most = omega arith; course = same.1 }))
+    (same.0, (0, omega arith, same.1))
 input_left input (Some every) old new seen was left = (left.represents seen was, left.grown seen was)
-
--- the tree that it leaves, by the groups that were done
-grown_tree : (input : Groups) (seen : State) (name : ℕ) (tree : Tree)
-    → IsGrown input seen tree ⊎ IsGrowthBroken input seen tree → IsTreeLeft input seen (commands.Input name) tree
-grown_tree input seen name tree (inl grown) = (grown.done, tree, grown.course, inl (grown.most, refl))
-grown_tree input seen name tree (inr broken) =
-    (broken.done, broken.before, broken.course, inr (broken.most, broken.due, broken.within, broken.begun))
 
 -- what a command that stops leaves is told by its tree
 pub left_state : (input : Groups) (command : RunCommand) (old new : RunState) (seen : State) → Represents old seen
@@ -724,9 +717,7 @@ pub left_state : (input : Groups) (command : RunCommand) (old new : RunState) (s
     × IsTreeLeft input seen command (plain_tree new.manager.vtree)
 left_state input (commands.Minimise rounds) old new seen was left = (left.represents seen was, left.searched seen was)
 left_state input (commands.Generated v g) old new seen was left = as_it_was old new seen was left
-left_state input (commands.Input n) old new seen was left =
-    let now = input_left input old.every old new seen was left in
-    (now.0, grown_tree input seen n (plain_tree new.manager.vtree) now.1)
+left_state input (commands.Input n) old new seen was left = input_left input old.every old new seen was left
 left_state input (commands.Load n file) old new seen was left = as_it_was old new seen was left
 left_state input (commands.Literal n literal) old new seen was left = as_it_was old new seen was left
 left_state input (commands.Constant n value) old new seen was left = as_it_was old new seen was left

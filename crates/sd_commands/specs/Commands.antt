@@ -1,7 +1,7 @@
 -- The commands of a run, and what each comes to. A later command is a case more of `RunCommand` and of `Step`.
 use Rattle.std.specs.Prelude.{◌≡◌, ◌⊎◌, ◌↔◌, ℕ, zero, suc, ◌%◌, ◌<◌, ◌≤◌, nat_le, Bool, true, false, not, ◌==◌}
-use Rattle.std.specs.Prelude.{List, [], ◌∷◌, ◌++◌, map, filter, length, codes, Option, Some, None, unwrap_or}
-use Rattle.std.specs.Prelude.{if◌then◌else◌, MatchOption}
+use Rattle.std.specs.Prelude.{List, [], ◌∷◌, ◌++◌, map, filter, length, take, codes, Option, Some, None, unwrap_or}
+use Rattle.std.specs.Prelude.{if◌then◌else◌, MatchBool, MatchOption}
 use Rattle.sd_model.specs.Expression.{Expression, Constant, Atom, Combined, Negated, Conditioned, Forgotten}
 use Rattle.sd_model.specs.Expression.{expression_value, AreOneFunction}
 use Rattle.sd_model.specs.Tree.{Tree, leaves}
@@ -14,7 +14,6 @@ use Rattle.std.specs.Option.{option_map_or}
 use Rattle.sd_formula.specs.Dimacs.{Groups}
 use Rattle.sd_formula.specs.Formulas.{expression_of}
 use Rattle.sd_file.specs.Reads.{expression_of_file}
-use Rattle.sd_compile.specs.Compiling.{prefix_of}
 use Rattle.sd_search.specs.Search.{Found, IsSearch}
 use Rattle.sd_commands.specs.Effects.{Effect, Write, Print}
 use Rattle.sd_commands.specs.declared.command.RunCommand.{RunCommand}
@@ -59,12 +58,6 @@ dropped state name = record state { names = filter (λ entry. not (entry.0 == na
 abbrev pub formulas_of : State → List Expression
 formulas_of state = map (λ entry. entry.1) state.names
 
--- the size of the formulas' diagrams together is within the limit
-pub record AreWithin (fs : List Expression) (tree : Tree) (limit : ℕ) : Type 0 where
-  pub size : ℕ
-  pub total : HasSize fs tree size
-  pub within : size ≤ limit
-
 -- A command leads to this state, and does nothing outside, where the total size there is within the limit. Else it is
 -- refused.
 abbrev pub Settles : State → Outcome → Type 0
@@ -75,42 +68,36 @@ Settles next outcome = (size : ℕ) × HasSize (formulas_of next) next.tree size
 abbrev pub Binds : State → ℕ → Expression → Outcome → Type 0
 Binds state name f outcome = Settles (with_name state name f) outcome
 
--- the first groups of the input, as one formula beside those of the bound names
+-- the formula of the first groups of the input, beside those of the bound names
 abbrev pub with_groups : Groups → State → ℕ → List Expression
-with_groups input state count = prefix_of input count ∷ formulas_of state
+with_groups input state count =
+    expression_of (record input { groups = take count input.groups }) ∷ formulas_of state
 
--- a search follows the group of this number, counted from 1
-abbrev pub is_due : Option ℕ → ℕ → Bool
-is_due every group = option_map_or (λ k. group % k == 0) every false
-
--- the tree after a group: where a search is due, one of one round finds it, and else it stays
-abbrev pub Follows : Bool → List Expression → ℕ → Tree → Tree → Type 0
-Follows true fs slack before after = (found : Found) × IsSearch fs slack 1 before found × (after ≡ found.tree)
-Follows false fs slack before after = after ≡ before
+-- a search of at most so many rounds from one tree finds the other
+abbrev pub IsSearched : List Expression → ℕ → ℕ → Tree → Tree → Type 0
+IsSearched fs slack rounds before after =
+    (found : Found) × IsSearch fs slack rounds before found × (after ≡ found.tree)
 
 -- So many groups of the input lead to this tree: with each of them the total size is within the limit, under the tree
--- that is there then, and behind it a search over the same formulas follows where it is due.
-abbrev pub Grows : Groups → State → ℕ → Tree → Type 0
-Grows input state zero tree = tree ≡ state.tree
-Grows input state (suc done) tree =
-    (before : Tree) × Grows input state done before
-    × AreWithin (with_groups input state (suc done)) before state.limit
-    × Follows (is_due state.every (suc done)) (with_groups input state (suc done)) state.slack before tree
+-- that is there then, and behind each whose number, counted from 1, is a multiple of `every`, a search of one round
+-- over the same formulas follows. It is done, but behind the last of the groups it is as `Search` says.
+abbrev pub GrowsBy : (List Expression → ℕ → ℕ → Tree → Tree → Type 0)
+    → Groups → State → ℕ → Tree → Type 0
+GrowsBy Search input state zero tree = tree ≡ state.tree
+GrowsBy Search input state (suc n) tree = (before : Tree) × GrowsBy IsSearched input state n before
+    × ((size : ℕ) × HasSize (with_groups input state (suc n)) before size × (size ≤ state.limit))
+    × MatchBool (option_map_or (λ k. suc n % k == 0) state.every false)
+    (Search (with_groups input state (suc n)) state.slack 1 before tree) (tree ≡ before)
 
--- this group is the first with which the total size passes the limit, under the tree to which those before it lead
-abbrev pub PassesAtGroup : Groups → State → (group size : ℕ) → Type 0
-PassesAtGroup input state group size = (done : ℕ) × (tree : Tree) × (group ≡ suc done)
-    × (group ≤ length input.groups) × Grows input state done tree
-    × HasSize (with_groups input state group) tree size × (state.limit < size)
-
--- The name is bound to the input, over the tree to which all groups lead, if with each of them the total size is within
--- the limit. Else the command is refused at the first group with which it is not.
+-- The name is bound to the input, over the tree to which all groups lead, each search done. Or there are groups that
+-- lead to a tree, and with the next one the total size passes the limit; then the command is refused at that one.
 abbrev pub BindsInput : Groups → State → ℕ → Outcome → Type 0
 BindsInput input state name outcome =
-    ((tree : Tree) × Grows input state (length input.groups) tree
+    ((tree : Tree) × GrowsBy IsSearched input state (length input.groups) tree
     × (outcome ≡ Done (with_name (record state { tree = tree }) name (expression_of input)) []))
-    ⊎ ((group size : ℕ) × PassesAtGroup input state group size
-    × (outcome ≡ OverLimit (Some group) size state.limit))
+    ⊎ ((done size : ℕ) × (tree : Tree) × GrowsBy IsSearched input state done tree
+    × (done < length input.groups) × HasSize (with_groups input state (suc done)) tree size
+    × (state.limit < size) × (outcome ≡ OverLimit (Some (suc done)) size state.limit))
 
 -- the command writes or prints this, and the state stays
 abbrev pub Does : State → Effect → Outcome → Type 0
@@ -193,6 +180,10 @@ abbrev pub Moves : State → Option Tree → Outcome → Type 0
 Moves state moved outcome =
     MatchOption moved (outcome ≡ NotMovable) (λ tree. Settles (record state { tree = tree }) outcome)
 
+-- the size of the formulas' diagrams together is within the limit
+abbrev pub AreWithin : List Expression → Tree → ℕ → Type 0
+AreWithin fs tree limit = (size : ℕ) × HasSize fs tree size × (size ≤ limit)
+
 -- that size passes the limit
 pub record PassLimit (fs : List Expression) (tree : Tree) (limit size : ℕ) : Type 0 where
   pub total : HasSize fs tree size
@@ -217,3 +208,30 @@ value_line value = (if value then codes "value 1" else codes "value 0") ++ 10 �
 -- the line of a search: the total size at its start and at its end, and the number of rounds
 abbrev pub search_line : (before after rounds : ℕ) → List ℕ
 search_line before after rounds = told_line (codes "minimise") (before ∷ after ∷ rounds ∷ [])
+
+-- a search follows the group of this number, counted from 1
+abbrev pub is_due : Option ℕ → ℕ → Bool
+is_due every group = option_map_or (λ k. group % k == 0) every false
+
+-- the tree after a group: where a search is due, one of one round finds it, and else it stays
+abbrev pub Follows : Bool → List Expression → ℕ → Tree → Tree → Type 0
+Follows due fs slack before after = MatchBool due (IsSearched fs slack 1 before after) (after ≡ before)
+
+-- so many groups of the input lead to this tree, and each search behind them is done
+abbrev pub Grows : Groups → State → ℕ → Tree → Type 0
+Grows input state done tree = GrowsBy IsSearched input state done tree
+
+-- this group is the first with which the total size passes the limit, under the tree to which those before it lead
+abbrev pub PassesAtGroup : Groups → State → (group size : ℕ) → Type 0
+PassesAtGroup input state group size = (done : ℕ) × (tree : Tree) × (group ≡ suc done)
+    × (group ≤ length input.groups) × Grows input state done tree
+    × HasSize (with_groups input state group) tree size × (state.limit < size)
+
+-- What an input comes to, by the number of that group: its name is bound over the tree to which all groups lead, or it
+-- is refused there.
+abbrev pub IsBoundOrPast : Groups → State → ℕ → Outcome → Type 0
+IsBoundOrPast input state name outcome =
+    ((tree : Tree) × Grows input state (length input.groups) tree
+    × (outcome ≡ Done (with_name (record state { tree = tree }) name (expression_of input)) []))
+    ⊎ ((group size : ℕ) × PassesAtGroup input state group size
+    × (outcome ≡ OverLimit (Some group) size state.limit))

@@ -1,5 +1,5 @@
 -- An input that is compiled with searches behind its groups: what is so between two groups, and at the end.
-use Rattle.std.specs.Prelude.{◌≡◌, ◌⊎◌, ℕ, suc, length}
+use Rattle.std.specs.Prelude.{◌≡◌, ℕ, suc, length}
 use Rattle.std.specs.Option.{IsSome}
 use Rattle.std.specs.FinMap.{get, remove}
 use Rattle.sd_model.specs.Tree.{leaves}
@@ -8,7 +8,7 @@ use Rattle.sd_formula.specs.Formulas.{expression_of}
 use Rattle.sd_vtree.specs.Numbered.{plain_tree}
 use Rattle.sd_compile.specs.Compiling.{CompiledPrefix, HoldsPrefix}
 use Rattle.sd_commands.specs.Commands.{State, AreWithin, Grows, with_groups}
-use Rattle.sd_commands.specs.Standing.{Represents, HoldsValue, IsGrown, IsGrowthBroken, without}
+use Rattle.sd_commands.specs.Standing.{Represents, HoldsValue, IsGrown, without}
 use Rattle.sd_commands.specs.declared.state.RunState.{RunState}
 
 -- So many groups are compiled into a root that no name has. Without it the code represents the state over the tree to
@@ -32,7 +32,6 @@ pub record IsBrokenOff (input : Groups) (seen : State) (code : RunState) (root :
   pub represents : Represents (without code root) (record seen { tree = plain_tree code.manager.vtree })
   pub held : IsSome (get code.manager.roots root)
   pub grown : IsGrown input seen (plain_tree code.manager.vtree)
-      ⊎ IsGrowthBroken input seen (plain_tree code.manager.vtree)
 
 -- all groups are compiled into a root that no name has
 pub record HasGrown (input : Groups) (seen : State) (code : RunState) (root : ℕ) : Type 0 where

@@ -1,5 +1,5 @@
 -- How the code represents a state of a run, and what a command leaves.
-use Rattle.std.specs.Prelude.{◌≡◌, ◌⊎◌, ℕ, suc, ◌<◌, ◌≤◌, true, List, []}
+use Rattle.std.specs.Prelude.{◌≡◌, ◌⊎◌, ℕ, ◌≤◌, List, []}
 use Rattle.std.specs.Prelude.{◌∷◌, map, length, Option, Some, None, Result, Ok, Err}
 use Rattle.std.specs.Option.{IsSome}
 use Rattle.std.specs.declared.alloc.AllocError.{AllocError}
@@ -31,7 +31,7 @@ use Rattle.sd_search.specs.Search.{IsSearchBegun}
 use Rattle.sd_search.specs.declared.error.SearchError.{SearchError}
 use Rattle.sd_search.specs.declared.error.SearchError.TheVariants as searching
 use Rattle.sd_commands.specs.Commands.{State, Done, OverLimit, NotMovable, Step, MayFill, named, formulas_of}
-use Rattle.sd_commands.specs.Commands.{formula_named, AreWithin, PassLimit, with_groups, is_due, Grows}
+use Rattle.sd_commands.specs.Commands.{formula_named, AreWithin, PassLimit, GrowsBy}
 use Rattle.sd_commands.specs.declared.command.RunCommand.{RunCommand}
 use Rattle.sd_commands.specs.declared.command.RunCommand.TheVariants as commands
 use Rattle.sd_commands.specs.declared.command.Effect.{Effect as CodeEffect}
@@ -47,17 +47,13 @@ start tree limit slack every = record { names = []; tree = tree; limit = limit; 
 -- ---- what a command leaves where the arena is full
 
 -- The tree that a command leaves where it stops: that of the state, but at a search the one after the walks that were
--- done, and at an input the one to which some of its groups lead, or, where the next group is within the limit and a
--- search is due behind it, the one after the walks of that search that were done.
+-- done, and at an input the one to which some of its groups lead, where of the search behind the last of them, if it is
+-- due, walks were done up to some point.
 abbrev pub IsTreeLeft : Groups → State → RunCommand → Tree → Type 0
 IsTreeLeft input state (commands.Minimise rounds) tree =
     (tree ≡ state.tree) ⊎ IsSearchBegun (formulas_of state) state.slack rounds state.tree tree
 IsTreeLeft input state (commands.Input name) tree =
-    (done : ℕ) × (before : Tree) × Grows input state done before
-    × (((done ≤ length input.groups) × (tree ≡ before))
-    ⊎ ((done < length input.groups) × (is_due state.every (suc done) ≡ true)
-    × AreWithin (with_groups input state (suc done)) before state.limit
-    × IsSearchBegun (with_groups input state (suc done)) state.slack 1 before tree))
+    (done : ℕ) × (done ≤ length input.groups) × GrowsBy IsSearchBegun input state done tree
 IsTreeLeft input state command tree = tree ≡ state.tree
 
 -- the root holds a code that shows the canonical diagram of a formula
@@ -126,33 +122,20 @@ pub record IsAsBefore (old new : RunState) : Type 0 where
   pub roots : new.manager.roots ≡ old.manager.roots
 
 -- the tree that a search leaves where it stops
-abbrev pub IsSearched : State → ℕ → Tree → Type 0
-IsSearched state rounds tree =
+abbrev pub IsSearchLeft : State → ℕ → Tree → Type 0
+IsSearchLeft state rounds tree =
     (tree ≡ state.tree) ⊎ IsSearchBegun (formulas_of state) state.slack rounds state.tree tree
 
--- some groups of the input lead to this tree
-pub record IsGrown (input : Groups) (state : State) (tree : Tree) : Type 0 where
-  pub done : ℕ
-  pub most : done ≤ length input.groups
-  pub course : Grows input state done tree
-
--- Some groups of the input, and one more that was within the limit, lead to the tree at which the search behind it was
--- broken off.
-pub record IsGrowthBroken (input : Groups) (state : State) (tree : Tree) : Type 0 where
-  pub done : ℕ
-  pub most : suc done ≤ length input.groups
-  pub before : Tree
-  pub course : Grows input state done before
-  pub within : AreWithin (with_groups input state (suc done)) before state.limit
-  pub due : is_due state.every (suc done) ≡ true
-  pub begun : IsSearchBegun (with_groups input state (suc done)) state.slack 1 before tree
+-- some groups of the input lead to this tree, where the search behind the last of them may have been broken off
+abbrev pub IsGrown : Groups → State → Tree → Type 0
+IsGrown input state tree = (done : ℕ) × (done ≤ length input.groups) × GrowsBy IsSearchBegun input state done tree
 
 -- What a search that stops leaves: the code represents each state that it did over the tree after the walks that were
 -- finished, and each root keeps its node.
 pub record IsLeftBySearch (rounds : ℕ) (old new : RunState) : Type 0 where
   pub represents : (seen : State) → Represents old seen
       → Represents new (record seen { tree = plain_tree new.manager.vtree })
-  pub searched : (seen : State) → Represents old seen → IsSearched seen rounds (plain_tree new.manager.vtree)
+  pub searched : (seen : State) → Represents old seen → IsSearchLeft seen rounds (plain_tree new.manager.vtree)
   pub roots : new.manager.roots ≡ old.manager.roots
 
 -- What an input with searches behind its groups leaves where it stops: the code represents each state that it did over
@@ -161,7 +144,6 @@ pub record IsLeftByGroups (input : Groups) (old new : RunState) : Type 0 where
   pub represents : (seen : State) → Represents old seen
       → Represents new (record seen { tree = plain_tree new.manager.vtree })
   pub grown : (seen : State) → Represents old seen → IsGrown input seen (plain_tree new.manager.vtree)
-      ⊎ IsGrowthBroken input seen (plain_tree new.manager.vtree)
   pub roots : new.manager.roots ≡ old.manager.roots
 
 -- without such searches all is as before
