@@ -36,3 +36,4 @@ pub mod Standing
 pub mod Tried
 pub mod Values
 pub mod Walking
+pub mod WholeText

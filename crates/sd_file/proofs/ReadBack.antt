@@ -18,12 +18,12 @@ use Rattle.sd_file.proofs.NodeLines.{written_entry, IsReadable}
 use Rattle.sd_file.proofs.FileValue.{file_means}
 use Rattle.sd_file.proofs.LinesRead.{text_read}
 use Rattle.sd_file.proofs.Readable.{readable_completed}
+use Rattle.sd_file.proofs.WholeText.{sdd_file_is}
 
 -- whatever the roots, if the diagrams under them can be read: the file has the meaning of the last of these
 pub readable_back : (v : ℕ) (roots : List Diagram) (d : Diagram) → IsLastOf (completed roots) d
     → AllByRecursion (IsReadable v) (completed roots) → length (completed roots) < 10 ^ 18
     → ReadsBack v (roots_text roots) d
-unfolding sdd_file
 readable_back v roots d last readable within_limit =
     let nodes = completed roots in
     let closed = closed_completed roots in
@@ -32,6 +32,7 @@ readable_back v roots d last readable within_limit =
       file = record { variables = v; nodes = map (written_entry nodes) nodes };
       reads =
           ap (sdd_file v) (roots_text_plain roots)
+          ∙ sdd_file_is v _
           ∙ text_read v nodes (naming_lines nodes roots) some within_limit closed (new_completed roots) readable
           (naming_comments nodes roots);
       value = file_means v nodes last.0 d closed readable last.1;

@@ -9,7 +9,7 @@ use Rattle.std.specs.Option.{option_zip}
 use Rattle.sd_base.specs.Lines.{TextLine, content_of}
 use Rattle.sd_base.specs.Numbers.{is_within, natural_value, integer_value}
 use Rattle.sd_base.specs.Reading.{◌>>=◌, ◌>>◌, fault_if, each}
-pub use Rattle.sd_vfile.specs.Reads.{all_values, of_nodes, stated_behind}
+pub use Rattle.sd_vfile.specs.Reads.{all_values, nodes_of, of_nodes, stated_behind}
 use Rattle.sd_model.specs.Expression.{FileNode, FileConstant, FileLiteral, FileDecomposition, Expression, OfFile}
 use Rattle.sd_file.specs.declared.fault.SddFault.{SddFault}
 use Rattle.sd_file.specs.declared.fault.SddFault.TheVariants.{NoHeader, BadLine, IdTwice, ChildUnknown}
@@ -72,9 +72,10 @@ entry_of v earlier line = let ids = map (λ e. e.id) earlier in let fault = at_l
 -- The file of a text over the variables 1 to v, or the text of its first fault, as the line of the end has it behind
 -- the file's name. Blank lines and comments, which begin with c, are passed over.
 unfoldable pub sdd_file : ℕ → List ℕ → Result File (List ℕ)
-sdd_file v bytes = of_nodes (codes "sdd") (codes ": no header") counts (entry_of v) (λ entries. do
+sdd_file v bytes = do
+  entries ← nodes_of (codes "sdd") (entry_of v) (content_of 99 bytes)
   fault_if (length entries == 0) (codes ": no nodes")
-  Ok (record { variables = v; nodes = entries })) (content_of 99 bytes)
+  Ok (record { variables = v; nodes = entries })
 
 -- the propositional formula of a file: that of its last node
 abbrev pub expression_of_file : File → Expression

@@ -5,8 +5,8 @@
 //! - A text is read line by line (`reader.rt`, with `form.rt`, `id_table.rt` and `fault.rt`) into a list of nodes
 //!   (`file.rt`). A caller sees that as `sdd_file` of `specs/Reads.antt`.
 //! - A node of a manager is built of such a list (`builder.rt`), which need not be compressed or trimmed; the node is.
-//! - A text is written in one walk over the nodes (`writer.rt`, with `lines.rt` and `numbers.rt`), whose elements are
-//!   put in order first (`order.rt`, `known.rt`).
+//! - A text is written in two walks (`writer.rt`): one finds the nodes of each position, whose elements are then put in
+//!   order (`order.rt`, `known.rt`), and one writes the lines (`lines.rt`, `numbers.rt`).
 #![tactic(auto)]
 
 mod builder;

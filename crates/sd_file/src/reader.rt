@@ -119,7 +119,7 @@ pub fn read_sdd(alloc: Global, bytes: &[u8], variables: u32) -> Result<SddFile, 
 }
 
 /// The file of a text.
-#[tactic(auto, unfolding(crate::specs::Reads::sdd_file))]
+#[tactic(auto, using(crate::proofs::WholeText::sdd_file_is))]
 fn read_text(alloc: Global, bytes: &[u8], variables: u32) -> Result<SddFile, SddFault>
     requires at_least_one { 1 ≤ variables }
     requires within_limit { variables ≤ 1024 }

@@ -28,8 +28,8 @@ use std::slice;
 
 /// The text of the diagram that a root shows, in the form of the SDD Package 2.0: the line `sdd N`, then a line for
 /// each of the N distinct diagrams in it, numbered from 0 in the order in which they are first complete. Its own line
-/// is the last, and the text is read back as a file with the diagram's value. Each node is visited once. The only error
-/// is running out of memory.
+/// is the last, and the text is read back as a file with the diagram's value. Each walk visits a node once. The only
+/// error is running out of memory.
 pub fn write_sdd(alloc: Global, m: &Manager, root: &Root) -> Result<Bytes, AllocError>
     requires held { (d : Diagram) × HoldsDiagram m.now root.now d }
     ensures text { IfOk result (λ text. (d : Diagram) → HoldsDiagram m.now root.now d
@@ -44,8 +44,8 @@ pub fn write_sdd(alloc: Global, m: &Manager, root: &Root) -> Result<Bytes, Alloc
 /// The text of the diagrams that one or more nodes show, the roots, in one numbering: the distinct diagrams in all of
 /// them are numbered as in `write_sdd`, root by root. Where there are two or more roots, the lines `c root I ID`
 /// follow, which tell the number of the diagram of each root I, counted from 0. The text is read back as a file with
-/// the value of the diagram that is complete last, which need not be the last root's. A node is visited once, however
-/// many roots share it. The only error is running out of memory.
+/// the value of the diagram that is complete last, which need not be the last root's. Each walk visits a node once,
+/// however many roots share it. The only error is running out of memory.
 pub fn write_nodes(alloc: Global, m: &Manager, nodes: &[NodeId]) -> Result<Bytes, AllocError>
     requires some { 1 ≤ length nodes.now }
     requires shown { AllByRecursion (IsNodeOf m.now) nodes.now }
