@@ -4,10 +4,10 @@
 README's table of options against the options of `sd_words`, the fault texts of docs/FORMATS.md against the tables
 of the readers and the table of answers of `sd_tool`, the crates and what they stand on in docs/MAP.md against
 crates.txt, each clause, edit and test that docs/ANSWERS.md names and each path that a document names against the
-files, the number of definitions in README against the count, and the commands of README and docs/TOUR.md against
-examples/expected.txt, which has what each prints and writes. With --run PROGRAM it runs these too, as
-`python3 tools/check_documents.py --run ./sddc` does. No sentence of README has over 40 words. Its status is 1 where
-something differs.
+files, the number of definitions in README and docs/PROVED.md against the count, and the commands of README and
+docs/TOUR.md against examples/expected.txt, which has what each prints and writes. With --run PROGRAM it runs these
+too, as `python3 tools/check_documents.py --run ./sddc` does. No sentence of README has over 40 words. Its status is
+1 where something differs.
 """
 import glob
 import os
@@ -174,7 +174,8 @@ def check_count():
                              stdout=subprocess.PIPE, text=True, check=True).stdout
     definitions, lines = re.findall(r"\d+", counted)
     said = "{} definitions of {:,} lines".format(definitions, int(lines))
-    expect(said in text_of("README.md"), "README.md: a reader believes %s" % said)
+    for path in ("README.md", "docs/PROVED.md"):
+        expect(said in text_of(path), "%s: a reader believes %s" % (path, said))
 
 
 def stored_runs():

@@ -1,14 +1,14 @@
 // A node joined with a group of literals, in one pass along the node: the group has no node of its own where the left
 // child of each vtree node on the way is a leaf.
 //
-// A compiler joins each group of a formula to what it has so far. With a node for the group, that is one node made and
-// swept away for each, and an operation that finds most products decided. Here the literals, sorted by their leaves, go
-// down the vtree beside the node (`join_below`). Where the left child is a leaf, the node has two halves, and a literal
+// A compiler joins each group of a formula to what it has so far. With a node for the group, nodes are made and swept
+// away for each, and an operation finds most products decided. Here the literals, sorted by their leaves, go down the
+// vtree beside the node (`join_below`). Where the left child is a leaf, the node has two halves, and a literal
 // of that variable decides one of them (`join_halves`); where none is of it, both halves go on. At another vtree node
 // the literals that are left get a node, and the operation is applied (`join_by_node`).
 //
 // The cost is a visit of each node on the way for each index of the first literal that is left. What is found is kept
-// by node and index, where more than one list names the node (`is_shared`), in a table of the join's own
+// by node and index, but for a decomposition with one use (`is_shared`), in a table of the join's own
 // (`node_answers.rt`); the cache is not asked. A join that goes down left children too was tried in a model: it gains
 // no more, and costs the right tree a tenth of its instructions.
 ghost use Rattle.std.specs.Prelude.{◌≡◌, ◌≢◌, ◌≤◌, ◌<◌, ◌+◌, ◌*◌, ℕ, ℤ, length, Some, slice_get, unsigned_abs};

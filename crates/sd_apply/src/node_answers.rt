@@ -10,7 +10,7 @@ ghost use Rattle.sd_apply.specs.GroupCalls.{IsFoundBefore, IsRightEntry, AreRigh
 
 use std::alloc::{AllocError, Global};
 
-/// The number of entries with the first answer.
+/// The number of entries once a first answer is kept.
 const LEAST: usize = 64;
 
 /// A table of so many entries does not grow.

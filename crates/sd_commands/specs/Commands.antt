@@ -227,8 +227,8 @@ PassesAtGroup input state group size = (done : ℕ) × (tree : Tree) × (group �
     × (group ≤ length input.groups) × Grows input state done tree
     × HasSize (with_groups input state group) tree size × (state.limit < size)
 
--- What an input comes to, by the number of that group: its name is bound over the tree to which all groups lead, or it
--- is refused there.
+-- What an input comes to, by the number of the group that passes the limit: its name is bound over the tree to which
+-- all groups lead, or it is refused there.
 abbrev pub IsBoundOrPast : Groups → State → ℕ → Outcome → Type 0
 IsBoundOrPast input state name outcome =
     ((tree : Tree) × Grows input state (length input.groups) tree

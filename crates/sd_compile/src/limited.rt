@@ -1,10 +1,11 @@
 // A node that is held as long as the total size is within a limit, and the sweeps behind what was made.
 //
 // A limit is of what is held, and garbage is no part of it: so a node is held first, the size is asked, and where it
-// passes the limit the node is released (`hold_within`, `try_hold`). The size is asked only where more elements are in
-// use than the limit, garbage included (`total_over`), which on most formulas is never.
+// passes the limit the node is released, or the root gets its former node back (`hold_within`, `try_hold`). The size is
+// asked only where more elements are in use than the limit, garbage included (`total_over`), which on most formulas is
+// never.
 //
-// When to sweep is in no contract that a user sees. A sweep costs what died since the last one, but it raises the
+// No contract of a run says when it is swept. A sweep costs what died since the last one, but it raises the
 // epoch, and with it goes what the cache knows: where groups use kept answers, rare sweeps pay (`room_over`). Where
 // they don't, what just died is still near, and its records are taken again.
 ghost use Rattle.std.specs.Prelude.{◌≡◌, ℕ, ◌<◌, ◌≤◌, ◌-◌, ◌^◌, List, None, IfSome, IfNone, IfOk, IfErr, OnOk, OnErr};

@@ -81,11 +81,11 @@ sdd_file v bytes = do
 abbrev pub expression_of_file : File → Expression
 expression_of_file f = OfFile (map (λ e. e.node.1) f.nodes)
 
--- ---- for the contracts of private functions, and for proofs
-
--- a node with its vtree id
+-- a node with its vtree id, as calls of this crate tell it
 abbrev pub Node : Type 0
 Node = ℕ × FileNode
+
+-- ---- for the contracts of private functions, and for proofs
 
 -- a node without it
 abbrev pub without_ids : Node → FileNode

@@ -35,7 +35,7 @@ numbers_of kind (name ∷ variables ∷ groups ∷ []) = if bytes_eq name (signs
     then option_zip (natural_value variables) (natural_value groups) else None
 numbers_of kind words = None
 
--- The numbers of the header, if it is among these lines: a line whose first word is p, with 1 to 1,024 variables and
+-- The numbers of the header, which is the line, where there is one: its first word is p, with 1 to 1,024 variables and
 -- at most 1,000,000 groups.
 abbrev pub header_of : Kind → List TextLine → Result (ℕ × ℕ) (List ℕ)
 header_of kind lines = do

@@ -5,17 +5,19 @@
 //! at the moved vtree node, or at the child that a rotation turns, are looked at. Nodes above them name them by number,
 //! and need no work.
 //!
-//! - A sweep comes first, so that each node is needed and a journal names no garbage. The nodes at both places are
-//!   taken out of the table (`beginning.rt`, `detaching.rt`), and the vtree is turned (`turning.rt`).
+//! - A sweep comes first, so that each node is needed and a journal names no garbage. The nodes at the place, of a
+//!   rotation those at both, are taken out of the table (`beginning.rt`, `detaching.rt`), and the vtree is turned
+//!   (`turning.rt`).
 //! - Those whose lists are right under the new vtree are linked again (`sorting.rt`), and the others get the list that
 //!   their function has there (`rewriting.rt`). No two of them meet, since no two were one function.
 //! - A journal has what changed, with the old lists as loose runs (`journal.rt`). By it a move is undone without memory
-//!   (`going_back.rt`), also where it is refused on its way (`ending.rt`) or the size after it passes a limit
-//!   (`bounding.rt`), or it is settled, which frees the runs (`settling.rt`).
+//!   (`undone.rt`, `going_back.rt`), also where it is refused on its way (`ending.rt`) or the size after it passes a
+//!   limit (`bounding.rt`), or it is settled, which frees the runs (`settling.rt`).
 //!
-//! The cost is in the nodes at the two places and the products below them, and never in all nodes. To compile anew
-//! under the moved vtree takes the whole diagram's time: docs/SPEED.md has both measured, and docs/DEFINITIONS.md the
-//! argument with its pictures.
+//! The cost is in the nodes at these places and the products below them, but for two things: the first move of a
+//! manager lists all nodes by place once, and a sweep may put the free numbers in order. To compile anew under the
+//! moved vtree takes the whole diagram's time: docs/SPEED.md has both measured, and docs/DEFINITIONS.md the argument
+//! with its pictures.
 #![tactic(auto)]
 
 mod beginning;
