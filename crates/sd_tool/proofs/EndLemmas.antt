@@ -21,7 +21,7 @@ use Rattle.sd_tool.specs.Refusals.{refusal_status, refusal_answer}
 use Rattle.sd_tool.specs.inside.Kept.{KeepsOf}
 use Rattle.sd_tool.specs.Devices.{Moment, Seen, Faults, HasReason, WritesLine, WritesEndLine}
 use Rattle.sd_tool.specs.inside.Devices.{NotFewer, AppendsLine}
-use Rattle.sd_tool.specs.Stops.{stop_status, stop_text, StandsFor, StopsReading, RunsToEnd, CarriesOut, Attempts}
+use Rattle.sd_tool.specs.Stops.{stop_status, stop_text, StandsFor, StopsReading, RunsToEnd, PlanEnds, RunEnds}
 use Rattle.sd_tool.specs.Stops.{IsFullAt, is_full}
 use Rattle.sd_tool.specs.declared.refusal.Refusal.{Refusal}
 use Rattle.sd_tool.specs.declared.refusal.Refusal.TheVariants as refusals
@@ -38,7 +38,7 @@ pub reading_stops : {asks : List Request → Type 0} (words : List (List ℕ)) (
     (old new : Contents)
     (before now : Faults) → kept ≡ None → new ≡ old
     → StopsReading asks stop old.files (reading_of words) before.read now.read
-    → Attempts asks words kept (Err stop) old new before now
+    → RunEnds asks words kept (Err stop) old new before now
 reading_stops words (stops.Refused refusal) kept old new before now none same stops = record {
   end = Refused (refusal_answer refusal);
   at = record { status = refl; text = refl; stopped = λ e. cc };
@@ -121,7 +121,7 @@ kept_none plan effects (Unmoved l) other = refl
 carried : {asks : List Request → Type 0} (plan : Plan) (t : Table) (kept : Option Table)
     (result : Result (Unit {0}) Stop)
     (old new : Contents) (before now : Faults) → (goes : RunsToEnd asks plan t result old new before now)
-    → KeepsOf plan goes.effects goes.end kept → CarriesOut asks plan kept result old new before now
+    → KeepsOf plan goes.effects goes.end kept → PlanEnds asks plan kept result old new before now
 carried plan t kept result old new before now goes keeps = record {
   end = goes.end;
   at = goes.at;
@@ -137,14 +137,14 @@ carried plan t kept result old new before now goes keeps = record {
 abbrev with_own : (List Request → Type 0) → Groups → RunState → Option Table → Result (Unit {0}) Stop → Contents
     → Contents → Faults → Faults → List NumberedCommand → Type 0
 with_own asks formula state kept result old new before now commands =
-    CarriesOut asks (plan_with formula state commands) kept result old new before now
+    PlanEnds asks (plan_with formula state commands) kept result old new before now
 
 -- all commands were done
 pub carried_done : {asks : List Request → Type 0} (formula : Groups) (state : RunState)
     (done commands : List NumberedCommand) (t : Table)
     (kept : Option Table) (old new : Contents) (before now : Faults) → done ≡ commands → kept ≡ None
     → RunsToEnd asks (plan_with formula state done) t (Ok tt) old new before now
-    → CarriesOut asks (plan_with formula state commands) kept (Ok tt) old new before now
+    → PlanEnds asks (plan_with formula state commands) kept (Ok tt) old new before now
 carried_done {asks = asks} formula state done commands t kept old new before now all none goes =
     subst (with_own asks formula state kept (Ok tt) old new before now) all
     (carried (plan_with formula state done) t kept (Ok tt) old new before now goes
@@ -187,7 +187,7 @@ pub carried_stop : {asks : List Request → Type 0} (formula : Groups) (state : 
     (kept was : Option Table) (stop : Stop) (old new : Contents) (before now : Faults) → done ≡ commands
     → was ≡ None → kept ≡ cond (is_full stop) (Some t) was
     → RunsToEnd asks (plan_with formula state done) t (Err stop) old new before now
-    → CarriesOut asks (plan_with formula state commands) kept (Err stop) old new before now
+    → PlanEnds asks (plan_with formula state commands) kept (Err stop) old new before now
 carried_stop {asks = asks} formula state done commands t kept was stop old new before now all none is goes =
     subst (with_own asks formula state kept (Err stop) old new before now) all
     (carried (plan_with formula state done) t kept (Err stop) old new before now goes
@@ -199,8 +199,8 @@ pub commands_go : {a b c : List Request → Type 0} (words : List (List ℕ)) (p
     (result : Result (Unit {0}) Stop)
     (old mid new : Contents) (first before last : Faults) → Joins a b c
     → ComesTo a old.files (reading_of words) (point_of plan)
-    → mid ≡ old → NotFewer first before → CarriesOut b plan kept result mid new before last
-    → Attempts c words kept result old new first last
+    → mid ≡ old → NotFewer first before → PlanEnds b plan kept result mid new before last
+    → RunEnds c words kept result old new first last
 commands_go words plan kept result old mid new first before last join led same fewer goes = record {
   end = goes.end;
   at = goes.at;
@@ -237,7 +237,7 @@ says_end stop (Passes l g n k) old new at says =
 -- a run that stopped and said so went to that end
 pub went_to_stop : (words : List (List ℕ)) (stop : Stop) (status : ℕ) (text : List ℕ) (kept : Option Table)
     (seen : Seen)
-    → Attempts seen.asked words kept (Err stop) seen.old.contents seen.new.contents seen.old.faults seen.new.faults
+    → RunEnds seen.asked words kept (Err stop) seen.old.contents seen.new.contents seen.old.faults seen.new.faults
     → status ≡ stop_status stop → text ≡ stop_text stop
     → AppendsLine (line_of text) seen.old.errors seen.new.errors seen.old.err_faults seen.new.err_faults
     → IsOneCourse words status kept seen

@@ -92,7 +92,7 @@ pub record RunsToEnd (asks : List Request → Type 0) (plan : Plan) (t : Table) 
   pub reason : HasReason end old.files before now
 
 -- the same, with what is kept
-pub record CarriesOut (asks : List Request → Type 0) (plan : Plan) (kept : Option Table)
+pub record PlanEnds (asks : List Request → Type 0) (plan : Plan) (kept : Option Table)
     (result : Result (Unit {0}) Stop) (old new : Contents) (before now : Faults) : Type 0 where
   pub end : End
   pub at : IsEnd result end
@@ -112,7 +112,7 @@ pub record FailsAt (stop : Stop) (effects : List Effect) (old new : Contents) (b
   pub reason : HasReason (Unwritable effect) old.files before now
 
 -- the readings and the commands come to an end, with the result of the code and what is kept
-pub record Attempts (asks : List Request → Type 0) (words : List (List ℕ)) (kept : Option Table)
+pub record RunEnds (asks : List Request → Type 0) (words : List (List ℕ)) (kept : Option Table)
     (result : Result (Unit {0}) Stop) (old new : Contents) (before now : Faults) : Type 0 where
   pub end : End
   pub at : IsEnd result end

@@ -7,7 +7,7 @@ ghost use Rattle.sd_tool.specs.inside.Devices.{contents, faults, NotFewer};
 ghost use Rattle.sd_tool.specs.PlanViews.{plan_of, plan_with, IsReady, IsReadyWith};
 ghost use Rattle.sd_tool.specs.Theorem.{IsCourse, HasEffects, HasEqualTexts, HasLine, HasEnd, IsComplete};
 ghost use Rattle.sd_tool.specs.inside.ByStatus.{IsOneCourse};
-ghost use Rattle.sd_tool.specs.Stops.{RunsToEnd, CarriesOut, Attempts, is_full, stop_of};
+ghost use Rattle.sd_tool.specs.Stops.{RunsToEnd, PlanEnds, RunEnds, is_full, stop_of};
 
 use crate::devices::write_effect_if_any;
 use crate::parts::write_line;
@@ -105,7 +105,7 @@ fn read_and_execute<F: Shelf, O: Sink>(
     requires hand { F.hand shelf.old ≡ NoFile }
     requires none { kept.old ≡ None }
     ensures hand { F.hand shelf.new ≡ NoFile }
-    ensures ends { Attempts (Adds F.asked shelf.old shelf.new) (map string_bytes words.now) kept.new
+    ensures ends { RunEnds (Adds F.asked shelf.old shelf.new) (map string_bytes words.now) kept.new
         result
         (contents F.files O.written shelf.old out.old)
         (contents F.files O.written shelf.new out.new)
@@ -130,7 +130,7 @@ fn execute_plan<F: Shelf, O: Sink>(
     requires none { kept.old ≡ None }
     requires ready { IsReady plan }
     ensures hand { F.hand shelf.new ≡ NoFile }
-    ensures goes { CarriesOut (Adds F.asked shelf.old shelf.new) (plan_of plan) kept.new result
+    ensures goes { PlanEnds (Adds F.asked shelf.old shelf.new) (plan_of plan) kept.new result
         (contents F.files O.written shelf.old out.old)
         (contents F.files O.written shelf.new out.new)
         (faults F.read_faults F.write_faults O.faults shelf.old out.old)
