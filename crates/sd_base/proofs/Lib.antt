@@ -1,4 +1,5 @@
 pub mod AskedLemmas
+pub mod FaultTexts
 pub mod FileLemmas
 mod MemoryLemmas
 pub mod NextLine
