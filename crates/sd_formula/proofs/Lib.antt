@@ -9,3 +9,4 @@ pub mod RangeLaws
 pub mod FewWords
 pub mod GeneratedLaws
 pub mod Odd
+pub mod FaultBack

@@ -9,4 +9,5 @@ pub mod Phrases
 pub mod WithLine
 pub mod Allowed
 pub mod FewLines
+pub mod FaultBack
 mod Rows

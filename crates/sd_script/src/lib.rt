@@ -5,6 +5,7 @@
 mod command;
 mod fault;
 mod indices;
+pub mod laws;
 mod marks;
 mod number;
 mod phrase;

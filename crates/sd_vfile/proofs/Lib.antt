@@ -16,5 +16,7 @@ pub mod Written
 pub mod WrittenNodes
 pub mod TreeRead
 pub mod Back
+-- faults by their texts
+pub mod FaultBack
 -- worked examples
 mod Rows

@@ -4,6 +4,7 @@
 
 mod fault;
 mod form;
+pub mod laws;
 mod nodes;
 mod reader;
 mod whole;

@@ -1,5 +1,6 @@
 mod CommandLemmas
 pub mod JobLemmas
+pub mod FaultBack
 mod Examples
 mod OptionSteps
 mod OrdinaryWalk

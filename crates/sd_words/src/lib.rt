@@ -7,6 +7,7 @@ mod checks;
 mod command;
 mod faults;
 mod jobs;
+pub mod laws;
 mod numbers;
 mod options;
 mod parsed_options;
