@@ -7,6 +7,7 @@ pub mod Comments
 pub mod Complete
 pub mod DiagramPlaces
 pub mod Distinct
+pub mod FaultBack
 pub mod FewNodes
 pub mod FewWords
 pub mod FileValue

@@ -15,6 +15,7 @@ mod file;
 mod form;
 mod id_table;
 mod known;
+pub mod laws;
 mod lines;
 mod numbers;
 mod order;
