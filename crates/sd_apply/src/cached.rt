@@ -99,7 +99,8 @@ fn look_up_or_apply(
     let found = apply(alloc, m, &mut recent, operation, over, a, b);
     recent.give_back(m, c);
     let code = found?;
-    c.keep(epoch, kind, a.0, b.0, code.0);
+    // an answer that is not kept is found again
+    let _ = c.keep(epoch, kind, a.0, b.0, code.0);
     Ok(code)
 }
 

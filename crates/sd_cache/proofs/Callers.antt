@@ -1,6 +1,6 @@
--- What a caller's proof cites: which entries there are after a look-up, after an answer was kept, and in a table
--- that was lent.
+-- What a caller's proof cites: which entries there are after a look-up, after `keep`, and in a table that was lent.
 use Rattle.std.proofs.Common.{◌≡◌, ℕ, ◌<◌, ◌≤◌, true, ◌⊎◌, inl, inr, Some, [], Contains, ap, subst, arith}
+use Rattle.std.proofs.Common.{Result, Ok, Err, OnOk, OnErr, IsOk}
 use Rattle.std.specs.Map.{lookup}
 use Rattle.std.proofs.lemmas.Bool.{cases_eq, cases_lt}
 use Rattle.std.proofs.lemmas.Bool.Decides.{nat_tests}
@@ -51,6 +51,16 @@ kept_entry c k r e m = elim (Contains-put_entries is_call (lru_cache c.entries 6
     | inl same ↦ inr (put.0, same_call k e.0 same)
     | inr there ↦ inr (put.0, one_call k e.0 there.2)
   ]
+]
+
+-- after `keep` the answer is kept, or the entries are as they were
+pub kept_or_same : {X E : Type 0} (c c1 : Answers) (k : Call) (r : ℕ) (x : Result X E) →
+    OnOk x (k.epoch < 72057594037927936 → c1 ≡ kept c k r) → OnErr x (c1 ≡ c) →
+    (72057594037927936 ≤ k.epoch → IsOk x × (c1 ≡ c)) → (c1 ≡ kept c k r) ⊎ (c1 ≡ c)
+kept_or_same c c1 k r (Err e) ok err late = inr err
+kept_or_same c c1 k r (Ok u) ok err late = elim (cases_lt k.epoch 72057594037927936) [
+  | inl early ↦ inl (ok early)
+  | inr past ↦ inr (late past).1
 ]
 
 -- an entry that was lent is one of that epoch

@@ -1,6 +1,6 @@
 -- A call of an epoch past all keys is in no cache.
 use Rattle.std.proofs.Common.{◌≡◌, ℕ, ◌<◌, ◌≤◌, false, [], ◌∷◌}
-use Rattle.std.proofs.Common.{None, refl, inl, inr, arith, IsSome, subst}
+use Rattle.std.proofs.Common.{None, refl, inl, inr, arith}
 use Rattle.std.specs.Map.{lookup, lookup_entry}
 use Rattle.std.proofs.lemmas.Bool.Decides.{nat_tests}
 use Rattle.lru.specs.LruCache.{LruCache, put_entries, promoted}
@@ -52,8 +52,3 @@ put_early es c answer h early = λ e d. elim (Contains-put_entries is_call es c 
     | inr there ↦ h (e.0, there.0) there.1
   ]
 ]
-
--- an answer of a call past all epochs replaces none
-pub replaces_none : {X : Type 0} (c : Call) (es : Entries) → AreEarly es
-    → 72057594037927936 ≤ c.epoch → IsSome (lookup (is_call c) es) → X
-replaces_none c es h late there = let gone = subst IsSome (no_answer c es h late) there in cc

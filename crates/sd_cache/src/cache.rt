@@ -1,6 +1,6 @@
 // The cache: a map of bounded size whose entries are in the order of their last use, and a table for the steps of
 // operations, which it lends to one after another.
-ghost use Rattle.std.specs.Prelude.{◌≡◌, ◌⊎◌, ◌^◌, ◌<◌, ◌≤◌, [], length, IfOk, IfSome, IsSome};
+ghost use Rattle.std.specs.Prelude.{◌≡◌, ◌^◌, ◌<◌, ◌≤◌, [], length, IfOk, IfSome, IsOk, IsSome, OnErr, OnOk};
 ghost use Rattle.std.specs.Map.{lookup};
 ghost use Rattle.sd_cache.specs.Entries.{IsCache, all_lent, answers_of, call, is_call, kept, looked, no_answers};
 
@@ -70,23 +70,30 @@ impl Cache {
         self.answers.get(&asked).copied()
     }
 
-    /// Keeps an answer, in place of the one that the same call had. Where there is none and memory is
-    /// refused, or where the epoch is past all keys, the answer is dropped and nothing is changed.
-    pub fn keep(&mut self, epoch: u64, operation: u8, a: u32, b: u32, answer: u32)
-        ensures keeps { (self.new ≡ kept self.old (call epoch operation a b) answer)
-            ⊎ (self.new ≡ self.old) }
+    /// Keeps an answer, in place of the one that the same call had; past all keys there is none to keep. An
+    /// answer to a new call takes memory, and where that is refused nothing is changed.
+    pub fn keep(
+        &mut self,
+        epoch: u64,
+        operation: u8,
+        a: u32,
+        b: u32,
+        answer: u32,
+    ) -> Result<(), AllocError>
+        ensures keeps { OnOk result (epoch < 2 ^ 56
+            → self.new ≡ kept self.old (call epoch operation a b) answer) }
+        ensures err { OnErr result (self.new ≡ self.old) }
         ensures replaces { IsSome (lookup (is_call (call epoch operation a b)) self.old.entries)
-            → self.new ≡ kept self.old (call epoch operation a b) answer }
-        ensures late { 2 ^ 56 ≤ epoch → self.new ≡ self.old }
+            → IsOk result }
+        ensures late { 2 ^ 56 ≤ epoch → IsOk result × (self.new ≡ self.old) }
     {
         let _ = &self.answers;
         if epoch >= NO_EPOCH {
-            return;
+            return Ok(());
         }
         let key = Call::new(epoch, operation, a, b);
-        if let Ok(_old) = self.answers.put(key, answer) {
-            return;
-        }
+        self.answers.put(key, answer)?;
+        Ok(())
     }
 
     /// The table of the answers that were computed in this epoch, which has to be given back under the

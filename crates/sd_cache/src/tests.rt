@@ -1,11 +1,11 @@
 use super::*;
 use std::test::Fail;
 
-/// What was kept is found, at its own epoch, operation and numbers alone.
+/// With ample memory an answer is kept, and found at its own epoch, operation and numbers alone.
 #[test]
 fn an_answer_is_found_again(rt: HostRuntime) -> Result<(), Fail> {
     let mut cache = Cache::new(rt.alloc())?;
-    cache.keep(7, 1, 2050, 2051, 9);
+    cache.keep(7, 1, 2050, 2051, 9)?;
     assert_eq!(rt; cache.look(7, 1, 2050, 2051), Some(9));
     assert_eq!(rt; cache.look(7, 1, 2051, 2050), None);
     assert_eq!(rt; cache.look(7, 0, 2050, 2051), None);
@@ -18,11 +18,11 @@ fn an_answer_is_found_again(rt: HostRuntime) -> Result<(), Fail> {
 fn one_answer_too_many(rt: HostRuntime) -> Result<(), Fail> {
     let mut cache = Cache::new(rt.alloc())?;
     for a in 0..65536 {
-        cache.keep(0, 0, a, 5, a);
+        cache.keep(0, 0, a, 5, a)?;
     }
     assert_eq!(rt; cache.len(), 65536);
     assert_eq!(rt; cache.look(0, 0, 0, 5), Some(0));
-    cache.keep(0, 0, 65536, 5, 65536);
+    cache.keep(0, 0, 65536, 5, 65536)?;
     assert_eq!(rt; cache.look(0, 0, 0, 5), Some(0));
     assert_eq!(rt; cache.look(0, 0, 1, 5), None);
     assert_eq!(rt; cache.look(0, 0, 65536, 5), Some(65536));
@@ -33,7 +33,7 @@ fn one_answer_too_many(rt: HostRuntime) -> Result<(), Fail> {
 #[test]
 fn past_all_epochs(rt: HostRuntime) -> Result<(), Fail> {
     let mut cache = Cache::new(rt.alloc())?;
-    cache.keep(u64::MAX, 0, 2, 4, 6);
+    cache.keep(u64::MAX, 0, 2, 4, 6)?;
     assert_eq!(rt; cache.look(u64::MAX, 0, 2, 4), None);
     assert_eq!(rt; cache.len(), 0);
     Ok(())

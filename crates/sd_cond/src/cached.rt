@@ -64,7 +64,8 @@ pub(crate) fn given_cached(
     let code = given_here(
         alloc, m, c, &mut kept, variable, positive, leaf, place, left, right, a,
     )?;
-    c.keep(epoch, GIVEN, a.0, literal.0, code.0);
+    // an answer that is not kept is found again
+    let _ = c.keep(epoch, GIVEN, a.0, literal.0, code.0);
     Ok(code)
 }
 
@@ -118,6 +119,7 @@ pub(crate) fn forget_cached(
         right,
         a,
     )?;
-    c.keep(epoch, FORGET, a.0, literal, code.0);
+    // an answer that is not kept is found again
+    let _ = c.keep(epoch, FORGET, a.0, literal, code.0);
     Ok(code)
 }

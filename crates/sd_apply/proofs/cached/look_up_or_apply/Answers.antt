@@ -58,7 +58,8 @@ returns-clause-serves c =
     let epoch = c.epoch-epoch.result in
     let kind = c.number-kind.result in
     serves_keep c.give_back.new.c c.keep.new.self n
-    (call epoch kind c.a-2.inside.0 c.b-2.inside.0) c.code.inside.0 c.keep.ensures.keeps
+    (call epoch kind c.a-2.inside.0 c.b-2.inside.0) c.code.inside.0
+    c.keep.result c.keep.ensures.keeps c.keep.ensures.err c.keep.ensures.late
     (c.epoch-epoch.ensures.epoch ∙ sym x.epoch)
     c.give_back.ensures
     (applies_right m n c.args.operation kind epoch c.args.at c.args.a c.args.b c.in_ok-code.code

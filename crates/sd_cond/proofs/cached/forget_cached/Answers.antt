@@ -100,7 +100,8 @@ returns-clause-serves c =
     let x = c.args.variable in
     let k = c.forget_here.ensures.kept in
     serves_keep c.forget_here.new.c c.keep.new.self n (call e 5 c.a-2.inside.0 (2 * x)) c.code.inside.0
-    c.keep.ensures.keeps (c.epoch-epoch.ensures.epoch ∙ sym k.epoch) c.forget_here.ensures.serves
+    c.keep.result c.keep.ensures.keeps c.keep.ensures.err c.keep.ensures.late
+    (c.epoch-epoch.ensures.epoch ∙ sym k.epoch) c.forget_here.ensures.serves
     (forget_right m n k e c.args.a (2 * x) c.a-2.inside.0 (2 * x) c.in_ok-code.code c.code.inside.0 x
     c.a-2.view_is refl c.code.view_is
     (literal_on m n k (2 * x) x true

@@ -94,7 +94,9 @@ returns-clause-serves c =
     let l = c.args.literal in
     let k = c.given_here.ensures.kept in
     serves_keep c.given_here.new.c c.keep.new.self n (call e 4 c.a-2.inside.0 c.literal.inside.0)
-    c.code.inside.0 c.keep.ensures.keeps (c.epoch-epoch.ensures.epoch ∙ sym k.epoch)
+    c.code.inside.0
+    c.keep.result c.keep.ensures.keeps c.keep.ensures.err c.keep.ensures.late
+    (c.epoch-epoch.ensures.epoch ∙ sym k.epoch)
     c.given_here.ensures.serves
     (given_right m n k e c.args.a l c.a-2.inside.0 c.literal.inside.0 c.in_ok-code.code
     c.code.inside.0 c.variable-variable.result c.is_positive-positive.result c.a-2.view_is
