@@ -10,7 +10,8 @@
 // elements in use pass twice what the last sweep left, and at least `LEAST_GARBAGE`: a sweep that takes a node away
 // raises the epoch, and the kept answers are lost. Where each left child of the vtree is a leaf no group but an
 // exclusive one asks for them, and they sweep where a quarter more is in use, and at least 4,096 elements more
-// (`room_over`).
+// (`room_over`). `compile` also does so, from 8,192 elements on, where the groups are such that hardly one asks
+// (`pace.rt`).
 ghost use Rattle.std.specs.Prelude.{◌≡◌, ◌↔◌, ℕ, ◌+◌, ◌-◌, ◌^◌, ◌<◌, ◌≤◌, None, IfOk, IfErr, OnOk, OnErr, IsTrue};
 ghost use Rattle.std.specs.Prelude.{length};
 ghost use Rattle.std.specs.Option.{IsSome};
@@ -32,8 +33,9 @@ ghost use Rattle.sd_compile.specs.Compiling.{IsGroupRefused, IsFormulaRefused, A
 use crate::connectives::{between_groups, connect, neutral_value, within_group};
 use crate::error::{CompileError, compile_error};
 use crate::groups::group_node;
-use crate::limited::{room_over, sweep_kept, sweep_past, try_hold};
+use crate::limited::{sweep_kept, sweep_past, try_hold};
 use crate::one_pass::{is_right_linear, join_literals, suits_one_pass};
+use crate::pace::{pace_of, sweep_between};
 use sd_cache::Cache;
 use sd_formula::Formula;
 use sd_manager::{Manager, NodeId, Root};
@@ -285,14 +287,15 @@ fn add_groups(
     ensures unmarked { AreUnmarked m.new }
     ensures table { IsTable m.new }
 {
-    let often = is_right_linear(m.vtree());
-    let mut most = room_over(m.used(), often);
+    // its contract tells that the table is valid
+    let _ = m.vtree();
+    let mut pace = pace_of(m, f);
     'left: while is_left(f, work) {
         if let Err(error) = join_next(alloc, m, c, f, work, limit) {
             sweep_kept(m, c);
             return Err(error);
         }
-        sweep_past(m, c, &mut most, often, limit);
+        sweep_between(m, c, &mut pace, limit);
     }
     Ok(())
 }

@@ -38,8 +38,8 @@ left-preserved c =
     record {
       first = c.left.invariant.first;
       holds =
-          prefix_may c.join_next.new.m c.sweep_past.new.m c.args.f.now c.join_next.new.work c.in_default.ensures.ok
-          c.sweep_past.ensures.swept;
+          prefix_may c.join_next.new.m c.sweep_between.new.m c.args.f.now c.join_next.new.work c.in_default.ensures.ok
+          c.sweep_between.ensures.swept;
       root = c.in_default.ensures.root ∙ c.left.invariant.root;
       far = omega (arith, c.left.invariant.far, c.in_default.ensures.next);
       within =
@@ -51,11 +51,11 @@ left-preserved c =
           (λ r. IsWithinLimit (without_root c.left.m r) (prefix_of c.args.f.now (c.left.work.groups + 1)) c.args.limit)
           c.left.invariant.root c.in_default.ensures.within);
       kept =
-          others_both c.args.m.now c.left.m c.sweep_past.new.m root c.left.invariant.kept
-          (others_may c.left.m c.join_next.new.m c.sweep_past.new.m root
+          others_both c.args.m.now c.left.m c.sweep_between.new.m root c.left.invariant.kept
+          (others_may c.left.m c.join_next.new.m c.sweep_between.new.m root
           (subst (KeepsOtherRoots c.left.m c.join_next.new.m) c.left.invariant.root c.in_default.ensures.kept)
-          c.sweep_past.ensures.swept);
-      serves = c.sweep_past.ensures.serves;
-      unmarked = c.sweep_past.ensures.unmarked;
-      table = c.sweep_past.ensures.table;
+          c.sweep_between.ensures.swept);
+      serves = c.sweep_between.ensures.serves;
+      unmarked = c.sweep_between.ensures.unmarked;
+      table = c.sweep_between.ensures.table;
     }

@@ -1,0 +1,108 @@
+// When a formula's groups are swept between.
+//
+// A sweep that takes a node away raises the epoch, and the kept answers are lost. Where groups ask for answers that
+// others have kept, that is dear, so sweeps are rare (`room_over`). Where a formula has few groups to a variable and each
+// makes few elements, hardly one does: then a sweep comes while what died is near, and what is made next takes its room
+// in place of new pages. Not so below a long chain of left children, where all work is in the primes and lives on kept
+// answers.
+ghost use Rattle.std.specs.Prelude.{◌≡◌, ℕ, ◌<◌, length, None};
+ghost use Rattle.sd_manager.specs.Valid.{IsTable};
+ghost use Rattle.sd_manager.specs.Marking.{AreUnmarked};
+ghost use Rattle.sd_apply.specs.Serving.{Serves};
+ghost use Rattle.sd_compile.specs.Compiling.{MaySweep};
+
+use crate::limited::{room_over, sweep_kept};
+use crate::one_pass::is_right_linear;
+use sd_cache::Cache;
+use sd_formula::Formula;
+use sd_manager::Manager;
+use sd_vtree::Vtree;
+
+// A light group makes so many elements at most, in the mean since the last sweep.
+const LIGHT: u32 = 128;
+
+// So many elements come between two sweeps at least where groups are light.
+const LIGHT_ROOM: u32 = 8_192;
+
+// So many groups a variable has at most where they may be light.
+const FEW: usize = 8;
+
+// So many left children lead to the first leaf at most where groups may be light.
+const NEAR: u32 = 32;
+
+/// What tells when the next sweep comes.
+#[derive(Drop)]
+pub(crate) struct Pace {
+    // whether each left child of the vtree is a leaf
+    often: bool,
+    // whether a sweep comes sooner where groups are light
+    sparse: bool,
+    // how many elements may be in use before the next sweep
+    most: u32,
+    // how many the last sweep left
+    left: u32,
+    // how many groups were joined since
+    groups: u32,
+}
+
+/// The pace of a formula, before its first group.
+pub(crate) fn pace_of(m: &Manager, f: &Formula) -> Pace {
+    let often = is_right_linear(m.vtree());
+    let used = m.used();
+    Pace {
+        often,
+        sparse: !often && has_few_groups(f) && is_leaf_near(m.vtree()),
+        most: room_over(used, often),
+        left: used,
+        groups: 0,
+    }
+}
+
+// Whether there are few groups to a variable.
+fn has_few_groups(f: &Formula) -> bool {
+    f.groups() / FEW <= f.variables() as usize
+}
+
+// Whether few left children lead from the root to the first leaf.
+fn is_leaf_near(vtree: &Vtree) -> bool {
+    let mut at = vtree.root();
+    for _ in 0..NEAR {
+        let Some((left, _)) = vtree.children(at) else {
+            return true;
+        };
+        at = left;
+    }
+    false
+}
+
+impl Pace {
+    // Whether the groups since the last sweep were light, and made enough that a sweep pays.
+    fn is_light(&self, used: u32) -> bool {
+        if !self.sparse || used < self.left {
+            return false;
+        }
+        let made = used - self.left;
+        made >= (self.left / 4).max(LIGHT_ROOM) && made / LIGHT <= self.groups
+    }
+}
+
+/// Sweeps behind a group where it pays, and where more elements are in use than the limit.
+pub(crate) fn sweep_between(m: &mut Manager, c: &Cache, pace: &mut Pace, limit: u32)
+    requires no_move { m.old.moving ≡ None }
+    requires unmarked { AreUnmarked m.old }
+    requires serves { Serves c.now m.old }
+    ensures swept { MaySweep m.old m.new }
+    ensures serves { Serves c.now m.new }
+    ensures unmarked { AreUnmarked m.new }
+    ensures table { IsTable m.new }
+{
+    let used = m.used();
+    pace.groups = pace.groups.saturating_add(1);
+    if used <= pace.most && used <= limit && !pace.is_light(used) {
+        return;
+    }
+    sweep_kept(m, c);
+    pace.left = m.used();
+    pace.most = room_over(pace.left, pace.often);
+    pace.groups = 0;
+}
