@@ -3,7 +3,7 @@ use crate::TakeError;
 use crate::heads::{NONE, make_heads};
 use crate::marks::{NO_START, START, free_mark};
 use crate::ordering::chain_marked;
-use crate::writing::write;
+use crate::writing::{extend, write};
 use std::alloc::Global;
 use std::marker::Model;
 
@@ -153,7 +153,7 @@ impl Runs {
         make_heads(&mut self.heads, list.len())?;
         self.marks.reserve(list.len())?;
         let start = self.elements.len() as u32;
-        self.elements.extend_from_slice(list)?;
+        extend(&mut self.elements, list)?;
         // room for the marks was reserved before the arena grew, so these can't fail
         let _ = self.marks.push(START);
         let _ = self.marks.resize(self.elements.len(), NO_START);
