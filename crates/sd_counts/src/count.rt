@@ -1,4 +1,11 @@
 // What is kept for a number.
+ghost use Rattle.std.specs.Prelude.{◌≡◌, ◌++◌, ◌∷◌, [], OnOk, OnErr};
+ghost use Rattle.sd_counts.specs.Queued.{blank};
+
+use std::alloc::AllocError;
+
+// So many numbers have room once there is one. That takes addresses, and memory as they are made.
+const FIRST_COUNTS: usize = 65_536;
 
 /// How often a number is used by what is counted, and whether it is counted itself.
 #[derive(Clone, Copy, Drop)]
@@ -18,9 +25,6 @@ pub(crate) struct Count {
 pub(crate) const NO_NUMBER: u32 = u32::MAX;
 
 impl Count {
-    ghost use Rattle.std.specs.Prelude.{◌≡◌};
-    ghost use Rattle.sd_counts.specs.Queued.{blank};
-
     // Of a number that is not counted and not used.
     pub(crate) fn new() -> Count
         ensures { result ≡ blank }
@@ -32,4 +36,16 @@ impl Count {
             is_queued: false,
         }
     }
+}
+
+/// Adds a number that is not counted and not used. Where there is no memory for that nothing is changed.
+pub(crate) fn add_blank(counts: &mut Vec<Count>) -> Result<(), AllocError>
+    ensures items { OnOk result (counts.new.items ≡ counts.old.items ++ blank ∷ []) }
+    ensures same { OnErr result (counts.new.items ≡ counts.old.items) }
+{
+    if counts.is_empty() {
+        counts.reserve(FIRST_COUNTS)?;
+    }
+    counts.push(Count::new())?;
+    Ok(())
 }

@@ -1,6 +1,6 @@
 // The counts of all numbers.
 
-use crate::count::{Count, NO_NUMBER};
+use crate::count::{Count, NO_NUMBER, add_blank};
 use crate::pairs::{lower_all, raise_all};
 use crate::settling::{fall_all, rise_all};
 use crate::stacks::{lower, raise};
@@ -69,7 +69,7 @@ impl LiveCounts {
         if number == NO_NUMBER {
             return Err(AllocError);
         }
-        self.counts.push(Count::new())?;
+        add_blank(&mut self.counts)?;
         Ok(())
     }
 
