@@ -1,10 +1,10 @@
 -- A node is found or linked: what it shows, what stays, and when there is no room.
 use Rattle.std.proofs.Common.{◌≡◌, ◌⊎◌, inl, inr, ℕ, zero, suc, ◌+◌, ◌-◌, ◌*◌, ◌/◌, ◌^◌, ◌≤◌, ◌<◌}
 use Rattle.std.proofs.Common.{Bool, true, false, ◌||◌, List, [], ◌∷◌, length, map, Option, Some, None, unwrap_or}
-use Rattle.std.proofs.Common.{refl, sym, ap, subst, ◌∙◌, arith}
+use Rattle.std.proofs.Common.{get_or, refl, sym, ap, subst, ◌∙◌, arith}
 use Rattle.std.proofs.lemmas.Bool.{cases_eq}
 use Rattle.std.proofs.lemmas.List.{length-map}
-use Rattle.std.proofs.lemmas.List.Sorted.{length_permutation, IsPermutation-refl}
+use Rattle.std.proofs.lemmas.List.Sorted.{length_permutation, IsPermutation-swap}
 use Rattle.std.specs.List.{list_any}
 use Rattle.std.specs.List.Sorted.{IsPermutation, IsSorted, IsStrictlySortedBy}
 use Rattle.std.specs.Option.{IsSome, option_map}
@@ -488,17 +488,28 @@ asked v a m e g t u place elements l items stored same at some differ order up l
   up = subst (λ x. IsSorted pair_cmp x) (sym list) up;
 }
 
--- the same of two pairs that ascend
+-- the same of two pairs, which the code has in ascending order beside the elements
 pub asked_two : (v : Numbered) (a : Nodes) (m : FinMap nat_cmp ℕ) (e : ℕ) (g : Option ℕ) (t : Table) (u place : ℕ)
-    (first second : ℕ × ℕ) → IsStored a (table_of v a m e g) → table_of v a m e g ≡ t → u ≡ place →
-    (ds : List (Diagram × Diagram)) × IsPartitionAt t place (first ∷ second ∷ []) ds →
-    AreDistinct (map (λ e. e.1) (first ∷ second ∷ [])) → first.0 < second.0 →
-    IsAsked v a m e g u (first ∷ second ∷ []) (first ∷ second ∷ [])
-asked_two v a m e g t u place first second stored same at some differ up =
+    (elements : List (ℕ × ℕ)) (first second : ℕ × ℕ) → IsStored a (table_of v a m e g) → table_of v a m e g ≡ t →
+    u ≡ place → (ds : List (Diagram × Diagram)) × IsPartitionAt t place elements ds →
+    AreDistinct (map (λ e. e.1) elements) → IsPermutation elements (first ∷ second ∷ []) → first.0 < second.0 →
+    IsAsked v a m e g u elements (first ∷ second ∷ [])
+asked_two v a m e g t u place elements first second stored same at some differ order up =
     let two : List (ℕ × ℕ) = first ∷ second ∷ [] in
-    asked v a m e g t u place two two two stored same at some differ (IsPermutation-refl two) sorted refl
+    asked v a m e g t u place elements two two stored same at some differ order sorted refl
   where
     sorted : IsSorted pair_cmp (first ∷ second ∷ [])
     sorted zero d least most =
         ap (λ o. is_lt (ordering_then o (nat_cmp second.1 first.1))) (sym (nat_cmp_is second.0 first.0 Greater up))
     sorted (suc k) d least most = absurd (omega (arith, most))
+
+-- two elements in the other order
+pub turned_two : (l : List (ℕ × ℕ)) (x y p q : ℕ × ℕ) → 2 ≤ length l → length l < 3 → x ≡ get_or l 0 x →
+    y ≡ get_or l 1 y → p ≡ x → q ≡ y → IsPermutation l (q ∷ p ∷ [])
+turned_two [] x y p q least most first second one other = absurd (omega (arith, least))
+turned_two (a ∷ []) x y p q least most first second one other = absurd (omega (arith, least))
+turned_two (a ∷ b ∷ c ∷ l) x y p q least most first second one other = absurd (omega (arith, most))
+turned_two (a ∷ b ∷ []) x y p q least most first second one other =
+    subst (λ e. IsPermutation (a ∷ b ∷ []) (e ∷ p ∷ [])) (sym (other ∙ second))
+    (subst (λ e. IsPermutation (a ∷ b ∷ []) (b ∷ e ∷ [])) (sym (one ∙ first))
+    (IsPermutation-swap (a ∷ b ∷ []) (b ∷ a ∷ []) 0 1 (omega arith) (omega arith) refl))

@@ -1,7 +1,7 @@
 -- The code of a node without uses stands in the list of no linked node, and the subs of two pairs are counted.
 use Rattle.std.proofs.Common.{◌≡◌, ℕ, ◌+◌, ◌-◌, List, [], ◌∷◌, Option, sym, subst, arith}
 use Rattle.std.specs.Ordering.{nat_cmp}
-use Rattle.std.specs.FinMap.{FinMap}
+use Rattle.std.specs.FinMap.{FinMap, get}
 use Rattle.sd_vtree.specs.Numbered.{Numbered}
 use Rattle.sd_unique.specs.Nodes.{Nodes}
 use Rattle.sd_manager.specs.Table.{uses_of}
@@ -10,6 +10,7 @@ use Rattle.sd_manager.specs.Counting.{IsCounted, AreNamesUsed}
 use Rattle.sd_manager.proofs.Holding.{count_is, there_counted}
 use Rattle.sd_manager.proofs.Linking.{IsAsked, pairs_there}
 use Rattle.sd_manager.proofs.Unused.{not_in_linked}
+use Rattle.sd_laws.proofs.Nodes.{partition_permuted}
 
 module _ (v : Numbered) (a : Nodes) (m : FinMap nat_cmp ℕ) (e : ℕ) (g : Option ℕ) where
   -- the uses of a manager are whole
@@ -22,10 +23,11 @@ module _ (v : Numbered) (a : Nodes) (m : FinMap nat_cmp ℕ) (e : ℕ) (g : Opti
   }
 
   -- the subs of two pairs that are asked for are counted
-  pub subs_counted : (u : ℕ) (first second : ℕ × ℕ) (l : List (ℕ × ℕ)) →
-      IsAsked v a m e g u (first ∷ second ∷ []) l → IsCounted a first.1 × IsCounted a second.1
-  subs_counted u first second l h =
+  pub subs_counted : (u : ℕ) (first second : ℕ × ℕ) (elements : List (ℕ × ℕ)) →
+      IsAsked v a m e g u elements (first ∷ second ∷ []) → IsCounted a first.1 × IsCounted a second.1
+  subs_counted u first second elements h =
       let numbered = h.stored.table.numbered in
-      let there = pairs_there (table_of v a m e g) numbered (first ∷ second ∷ []) h.one_partition.0
-      h.one_partition.1.shown in
+      let f = partition_permuted v (get a.linked) u elements (first ∷ second ∷ []) h.one_partition.0
+      h.one_partition.1 h.order in
+      let there = pairs_there (table_of v a m e g) numbered (first ∷ second ∷ []) f.0 f.2.shown in
       (there_counted v a m e g first.1 numbered there.0.1, there_counted v a m e g second.1 numbered there.1.0.1)

@@ -3,6 +3,7 @@
 ghost use Rattle.std.specs.Prelude.{◌≡◌, ◌≢◌, ◌↔◌, ◌⊎◌, ℕ, ◌+◌, ◌-◌, ◌<◌, ◌≤◌, ◌^◌, Bool, List, [], ◌∷◌, length, map};
 ghost use Rattle.std.specs.Prelude.{Some, None, IfOk, IfErr, IfSome, IfNone, OnOk, OnErr, IsTrue, slice_get, cond};
 ghost use Rattle.std.specs.Option.{IsSome};
+ghost use Rattle.std.specs.List.Sorted.{IsPermutation};
 ghost use Rattle.std.specs.FinMap.{get, len};
 ghost use Rattle.sd_model.specs.Tree.{leaves, AreDistinct};
 ghost use Rattle.sd_model.specs.Assignment.{literal_holds};
@@ -313,35 +314,41 @@ impl Manager {
         ensures table { IsTable self.new }
     {
         if let [first, second] = elements {
-            if first.0.0 < second.0.0 {
-                let one = (first.0.0, first.1.0);
-                return self.make_two(place, one, (second.0.0, second.1.0));
+            let one = (first.0.0, first.1.0);
+            let other = (second.0.0, second.1.0);
+            if one.0 < other.0 {
+                return self.make_two(place, elements, one, other);
+            }
+            if other.0 < one.0 {
+                return self.make_two(place, elements, other, one);
             }
         }
         self.make_list(place, elements)
     }
 
-    // The same of two pairs that ascend, without the room for a list.
+    // The same of two elements, given again in ascending order of the primes, without the room for a list.
     #[inline(never)]
     fn make_two(
         &mut self,
         place: VNode,
+        elements: &[(NodeId, NodeId)],
         first: (u32, u32),
         second: (u32, u32),
     ) -> Result<NodeId, TakeError>
+        requires order { IsPermutation elements.now (first ∷ second ∷ []) }
         requires ascend { first.0 < second.0 }
         requires partition { (ds : List (Diagram × Diagram))
-            × IsPartitionAt self.old place (first ∷ second ∷ []) ds }
-        requires differ { AreDistinct (map (λ e. e.1) (first ∷ second ∷ [])) }
+            × IsPartitionAt self.old place elements.now ds }
+        requires differ { AreDistinct (map (λ e. e.1) elements.now) }
         ensures ok { IfOk result (λ c. (ds : List (Diagram × Diagram)) →
-            IsPartitionAt self.old place (first ∷ second ∷ []) ds → IsMade self.new c ds) }
+            IsPartitionAt self.old place elements.now ds → IsMade self.new c ds) }
         ensures kept { Extends self.old self.new }
         ensures grown { IfOk result (λ c. (self.new ≡ self.old)
-            ⊎ HasNewNode self.old self.new place (first ∷ second ∷ []) c) }
+            ⊎ HasNewNode self.old self.new place elements.now c) }
         ensures err { OnErr result (self.new ≡ self.old) }
-        ensures full { IfErr result (λ e. IsRefusal self.old 2 e) }
+        ensures full { IfErr result (λ e. IsRefusal self.old (length elements.now) e) }
         ensures rule { IfErr result (λ e. KeepsRule self.new e) }
-        ensures needed { IfErr result (λ e. IsNeeded self.old place (first ∷ second ∷ []) e) }
+        ensures needed { IfErr result (λ e. IsNeeded self.old place elements.now e) }
         ensures table { IsTable self.new }
     {
         if let Some(code) = trimmed_pair(first, second) {

@@ -20,21 +20,21 @@ returns-in-Some-clause-ok c = λ ds partition.
     let s = c.self.inside in
     let two = c.args.first ∷ c.args.second ∷ [] in
     let h = asked_two s.vtree s.nodes s.roots s.epoch s.moving c.args.self.now c.args.place c.args.place
-    c.args.first c.args.second c.self.invariant.stored c.self.view_is refl c.requires.partition
-    c.requires.differ c.requires.ascend in
+    c.args.elements.now c.args.first c.args.second c.self.invariant.stored c.self.view_is refl c.requires.partition
+    c.requires.differ c.requires.order c.requires.ascend in
     subst (λ t. IsMade t c.in-Some.code ds) c.self.view_is
-    (made_trimmed s.vtree s.nodes s.roots s.epoch s.moving c.args.place two two h
+    (made_trimmed s.vtree s.nodes s.roots s.epoch s.moving c.args.place c.args.elements.now two h
     c.in-Some.code (sym c.trimmed_pair.ensures ∙ c.in-Some.is) ds
     (partition_inside (table_of s.vtree s.nodes s.roots s.epoch s.moving) c.args.self.now c.args.place c.args.place
-    two ds c.self.view_is refl partition))
+    c.args.elements.now ds c.self.view_is refl partition))
 
 pub returns-in-Present-clause-ok : goal.returns-in-Present-clause-ok
 returns-in-Present-clause-ok c = λ ds partition.
     let s = c.self.inside in
     let two = c.args.first ∷ c.args.second ∷ [] in
     let h = asked_two s.vtree s.nodes s.roots s.epoch s.moving c.args.self.now c.place.inside.0 c.args.place
-    c.args.first c.args.second c.self.invariant.stored c.self.view_is c.place.view_is c.requires.partition
-    c.requires.differ c.requires.ascend in
+    c.args.elements.now c.args.first c.args.second c.self.invariant.stored c.self.view_is c.place.view_is c.requires.partition
+    c.requires.differ c.requires.order c.requires.ascend in
     let none = sym c.trimmed_pair.ensures ∙ c.in_default.is in
     let same = if_present c.in-Ok.found c.in-Present.number (λ n. c.find_two.new.nodes ≡ s.nodes)
     c.in-Present.is c.in-Ok.ensures.same in
@@ -42,9 +42,9 @@ returns-in-Present-clause-ok c = λ ds partition.
     (λ n. get s.nodes.linked n ≡ Some (c.place.inside.0, two)) c.in-Present.is
     c.in-Ok.ensures.present in
     subst (λ x. IsMade (table_of s.vtree x s.roots s.epoch s.moving) (c.in-Present.number + 2050) ds) (sym same)
-    (made_found s.vtree s.nodes s.roots s.epoch s.moving c.place.inside.0 two two h none c.in-Present.number there ds
+    (made_found s.vtree s.nodes s.roots s.epoch s.moving c.place.inside.0 c.args.elements.now two h none c.in-Present.number there ds
     (partition_inside (table_of s.vtree s.nodes s.roots s.epoch s.moving) c.args.self.now c.place.inside.0 c.args.place
-    two ds c.self.view_is c.place.view_is partition))
+    c.args.elements.now ds c.self.view_is c.place.view_is partition))
 
 pub grow-requires : goal.grow-requires
 grow-requires c =
@@ -54,19 +54,19 @@ pub find_two-requires-clause-first : goal.find_two-requires-clause-first
 find_two-requires-clause-first c =
     let s = c.self.inside in
     let h = asked_two s.vtree s.nodes s.roots s.epoch s.moving c.args.self.now c.place.inside.0 c.args.place
-    c.args.first c.args.second c.self.invariant.stored c.self.view_is c.place.view_is c.requires.partition
-    c.requires.differ c.requires.ascend in
+    c.args.elements.now c.args.first c.args.second c.self.invariant.stored c.self.view_is c.place.view_is c.requires.partition
+    c.requires.differ c.requires.order c.requires.ascend in
     (subs_counted s.vtree s.nodes s.roots s.epoch s.moving c.place.inside.0 c.args.first c.args.second
-    (c.args.first ∷ c.args.second ∷ []) h).0
+    c.args.elements.now h).0
 
 pub find_two-requires-clause-second : goal.find_two-requires-clause-second
 find_two-requires-clause-second c =
     let s = c.self.inside in
     let h = asked_two s.vtree s.nodes s.roots s.epoch s.moving c.args.self.now c.place.inside.0 c.args.place
-    c.args.first c.args.second c.self.invariant.stored c.self.view_is c.place.view_is c.requires.partition
-    c.requires.differ c.requires.ascend in
+    c.args.elements.now c.args.first c.args.second c.self.invariant.stored c.self.view_is c.place.view_is c.requires.partition
+    c.requires.differ c.requires.order c.requires.ascend in
     (subs_counted s.vtree s.nodes s.roots s.epoch s.moving c.place.inside.0 c.args.first c.args.second
-    (c.args.first ∷ c.args.second ∷ []) h).1
+    c.args.elements.now h).1
 
 pub find_two-requires-clause-used : goal.find_two-requires-clause-used
 find_two-requires-clause-used c =
@@ -77,11 +77,11 @@ returns-in-Err-clause-full c =
     let s = c.self.inside in
     let two = c.args.first ∷ c.args.second ∷ [] in
     let h = asked_two s.vtree s.nodes s.roots s.epoch s.moving c.args.self.now c.place.inside.0 c.args.place
-    c.args.first c.args.second c.self.invariant.stored c.self.view_is c.place.view_is c.requires.partition
-    c.requires.differ c.requires.ascend in
+    c.args.elements.now c.args.first c.args.second c.self.invariant.stored c.self.view_is c.place.view_is c.requires.partition
+    c.requires.differ c.requires.order c.requires.ascend in
     let none = sym c.trimmed_pair.ensures ∙ c.in_default.is in
-    subst (λ t. IsRefusal t (length two) c.in-Err.error) c.self.view_is
-    (refused s.vtree s.nodes s.roots s.epoch s.moving c.place.inside.0 two two h none
+    subst (λ t. IsRefusal t (length c.args.elements.now) c.in-Err.error) c.self.view_is
+    (refused s.vtree s.nodes s.roots s.epoch s.moving c.place.inside.0 c.args.elements.now two h none
     c.in-Err.error c.in-Err.ensures.full)
 
 pub returns-in-Err-clause-rule : goal.returns-in-Err-clause-rule
@@ -89,11 +89,11 @@ returns-in-Err-clause-rule c =
     let s = c.self.inside in
     let two = c.args.first ∷ c.args.second ∷ [] in
     let h = asked_two s.vtree s.nodes s.roots s.epoch s.moving c.args.self.now c.place.inside.0 c.args.place
-    c.args.first c.args.second c.self.invariant.stored c.self.view_is c.place.view_is c.requires.partition
-    c.requires.differ c.requires.ascend in
+    c.args.elements.now c.args.first c.args.second c.self.invariant.stored c.self.view_is c.place.view_is c.requires.partition
+    c.requires.differ c.requires.order c.requires.ascend in
     let none = sym c.trimmed_pair.ensures ∙ c.in_default.is in
     subst (λ x. KeepsRule (table_of s.vtree x s.roots s.epoch s.moving) c.in-Err.error) (sym c.in-Err.ensures.err)
-    (kept_rule s.vtree s.nodes s.roots s.epoch s.moving c.place.inside.0 two two h none
+    (kept_rule s.vtree s.nodes s.roots s.epoch s.moving c.place.inside.0 c.args.elements.now two h none
     c.in-Err.error c.in-Err.ensures.full)
 
 pub returns-in-Err-clause-needed : goal.returns-in-Err-clause-needed
@@ -101,13 +101,13 @@ returns-in-Err-clause-needed c =
     let s = c.self.inside in
     let two = c.args.first ∷ c.args.second ∷ [] in
     let h = asked_two s.vtree s.nodes s.roots s.epoch s.moving c.args.self.now c.place.inside.0 c.args.place
-    c.args.first c.args.second c.self.invariant.stored c.self.view_is c.place.view_is c.requires.partition
-    c.requires.differ c.requires.ascend in
+    c.args.elements.now c.args.first c.args.second c.self.invariant.stored c.self.view_is c.place.view_is c.requires.partition
+    c.requires.differ c.requires.order c.requires.ascend in
     let none = sym c.trimmed_pair.ensures ∙ c.in_default.is in
-    subst (λ t. IsNeeded t c.args.place two c.in-Err.error) c.self.view_is
-    (subst (λ p. IsNeeded (table_of s.vtree s.nodes s.roots s.epoch s.moving) p two c.in-Err.error)
+    subst (λ t. IsNeeded t c.args.place c.args.elements.now c.in-Err.error) c.self.view_is
+    (subst (λ p. IsNeeded (table_of s.vtree s.nodes s.roots s.epoch s.moving) p c.args.elements.now c.in-Err.error)
     c.place.view_is
-    (needed s.vtree s.nodes s.roots s.epoch s.moving c.place.inside.0 two two
+    (needed s.vtree s.nodes s.roots s.epoch s.moving c.place.inside.0 c.args.elements.now two
     h none
     c.in-Err.ensures.refused c.in-Err.error))
 
@@ -116,8 +116,8 @@ add_two-requires-clause-counted c =
     let s = c.self.inside in
     let two = c.args.first ∷ c.args.second ∷ [] in
     let h = asked_two s.vtree s.nodes s.roots s.epoch s.moving c.args.self.now c.place.inside.0 c.args.place
-    c.args.first c.args.second c.self.invariant.stored c.self.view_is c.place.view_is c.requires.partition
-    c.requires.differ c.requires.ascend in
+    c.args.elements.now c.args.first c.args.second c.self.invariant.stored c.self.view_is c.place.view_is c.requires.partition
+    c.requires.differ c.requires.order c.requires.ascend in
     let none = sym c.trimmed_pair.ensures ∙ c.in_default.is in
     let number = if_new c.in-Ok.found c.in-New.number (λ n. IsNewNumber s.nodes n) c.in-New.is
     c.in-Ok.ensures.number in
@@ -125,7 +125,7 @@ add_two-requires-clause-counted c =
     (λ n. c.find_two.new.nodes ≡ inserted s.nodes n c.place.inside.0 two) c.in-New.is
     c.in-Ok.ensures.ok in
     subst (λ x. AreCounted x two) (sym is)
-    (list_counted s.vtree s.nodes s.roots s.epoch s.moving c.place.inside.0 two two h none
+    (list_counted s.vtree s.nodes s.roots s.epoch s.moving c.place.inside.0 c.args.elements.now two h none
     c.in-New.number number)
 
 pub add_two-requires-clause-room : goal.add_two-requires-clause-room
@@ -133,8 +133,8 @@ add_two-requires-clause-room c =
     let s = c.self.inside in
     let two = c.args.first ∷ c.args.second ∷ [] in
     let h = asked_two s.vtree s.nodes s.roots s.epoch s.moving c.args.self.now c.place.inside.0 c.args.place
-    c.args.first c.args.second c.self.invariant.stored c.self.view_is c.place.view_is c.requires.partition
-    c.requires.differ c.requires.ascend in
+    c.args.elements.now c.args.first c.args.second c.self.invariant.stored c.self.view_is c.place.view_is c.requires.partition
+    c.requires.differ c.requires.order c.requires.ascend in
     let none = sym c.trimmed_pair.ensures ∙ c.in_default.is in
     let number = if_new c.in-Ok.found c.in-New.number (λ n. IsNewNumber s.nodes n) c.in-New.is
     c.in-Ok.ensures.number in
@@ -143,9 +143,9 @@ add_two-requires-clause-room c =
     c.in-Ok.ensures.ok in
     subst (λ x. (q k : ℕ) → get x.uses q ≡ Some k → k + uses_in (2050 + q) two < 2 ^ 64)
     (sym is)
-    (list_room s.vtree s.nodes s.roots s.epoch s.moving c.place.inside.0 two two h none
+    (list_room s.vtree s.nodes s.roots s.epoch s.moving c.place.inside.0 c.args.elements.now two h none
     c.in-New.number number
-    (new_short s.vtree s.nodes s.roots s.epoch s.moving c.place.inside.0 two two h none
+    (new_short s.vtree s.nodes s.roots s.epoch s.moving c.place.inside.0 c.args.elements.now two h none
     c.in-New.number number c.find_two.new.nodes is c.in-Ok.ensures.nodes))
 
 pub invariant_of-self-in-Err : goal.invariant_of-self-in-Err
@@ -175,8 +175,8 @@ invariant_of-self-2 c =
     let s = c.self.inside in
     let two = c.args.first ∷ c.args.second ∷ [] in
     let h = asked_two s.vtree s.nodes s.roots s.epoch s.moving c.args.self.now c.place.inside.0 c.args.place
-    c.args.first c.args.second c.self.invariant.stored c.self.view_is c.place.view_is c.requires.partition
-    c.requires.differ c.requires.ascend in
+    c.args.elements.now c.args.first c.args.second c.self.invariant.stored c.self.view_is c.place.view_is c.requires.partition
+    c.requires.differ c.requires.order c.requires.ascend in
     let none = sym c.trimmed_pair.ensures ∙ c.in_default.is in
     let number = if_new c.in-Ok.found c.in-New.number (λ n. IsNewNumber s.nodes n) c.in-New.is
     c.in-Ok.ensures.number in
@@ -184,12 +184,12 @@ invariant_of-self-2 c =
     (λ n. c.find_two.new.nodes ≡ inserted s.nodes n c.place.inside.0 two) c.in-New.is
     c.in-Ok.ensures.ok in
     record {
-      stored = at_new s.vtree s.nodes s.roots s.epoch s.moving c.place.inside.0 two two
+      stored = at_new s.vtree s.nodes s.roots s.epoch s.moving c.place.inside.0 c.args.elements.now two
           h none
           c.in-New.number number c.find_two.new.nodes c.add_two.new.nodes is
           c.add_two.ensures.uses c.add_two.ensures.valid
           (λ d. IsStored d (table_of s.vtree d s.roots s.epoch s.moving))
-          (λ w counts valid. stored_new s.vtree s.nodes s.roots s.epoch s.moving c.place.inside.0 two
+          (λ w counts valid. stored_new s.vtree s.nodes s.roots s.epoch s.moving c.place.inside.0 c.args.elements.now
           two h none
           c.in-New.number number w counts valid);
       counted = counts_made s.nodes c.find_two.new.nodes c.add_two.new.nodes (held_count s.roots) s.counts
@@ -204,31 +204,31 @@ returns-clause-ok c = λ ds partition.
     let s = c.self.inside in
     let two = c.args.first ∷ c.args.second ∷ [] in
     let h = asked_two s.vtree s.nodes s.roots s.epoch s.moving c.args.self.now c.place.inside.0 c.args.place
-    c.args.first c.args.second c.self.invariant.stored c.self.view_is c.place.view_is c.requires.partition
-    c.requires.differ c.requires.ascend in
+    c.args.elements.now c.args.first c.args.second c.self.invariant.stored c.self.view_is c.place.view_is c.requires.partition
+    c.requires.differ c.requires.order c.requires.ascend in
     let none = sym c.trimmed_pair.ensures ∙ c.in_default.is in
     let number = if_new c.in-Ok.found c.in-New.number (λ n. IsNewNumber s.nodes n) c.in-New.is
     c.in-Ok.ensures.number in
     let is = if_new c.in-Ok.found c.in-New.number
     (λ n. c.find_two.new.nodes ≡ inserted s.nodes n c.place.inside.0 two) c.in-New.is
     c.in-Ok.ensures.ok in
-    at_new s.vtree s.nodes s.roots s.epoch s.moving c.place.inside.0 two two
+    at_new s.vtree s.nodes s.roots s.epoch s.moving c.place.inside.0 c.args.elements.now two
     h none
     c.in-New.number number c.find_two.new.nodes c.add_two.new.nodes is
     c.add_two.ensures.uses c.add_two.ensures.valid
     (λ d. IsMade (table_of s.vtree d s.roots s.epoch s.moving) (c.in-New.number + 2050) ds)
-    (λ w counts valid. made_new s.vtree s.nodes s.roots s.epoch s.moving c.place.inside.0 two two h none
+    (λ w counts valid. made_new s.vtree s.nodes s.roots s.epoch s.moving c.place.inside.0 c.args.elements.now two h none
     c.in-New.number number w counts valid ds
     (partition_inside (table_of s.vtree s.nodes s.roots s.epoch s.moving) c.args.self.now c.place.inside.0 c.args.place
-    two ds c.self.view_is c.place.view_is partition))
+    c.args.elements.now ds c.self.view_is c.place.view_is partition))
 
 pub returns-clause-kept : goal.returns-clause-kept
 returns-clause-kept c =
     let s = c.self.inside in
     let two = c.args.first ∷ c.args.second ∷ [] in
     let h = asked_two s.vtree s.nodes s.roots s.epoch s.moving c.args.self.now c.place.inside.0 c.args.place
-    c.args.first c.args.second c.self.invariant.stored c.self.view_is c.place.view_is c.requires.partition
-    c.requires.differ c.requires.ascend in
+    c.args.elements.now c.args.first c.args.second c.self.invariant.stored c.self.view_is c.place.view_is c.requires.partition
+    c.requires.differ c.requires.order c.requires.ascend in
     let none = sym c.trimmed_pair.ensures ∙ c.in_default.is in
     let number = if_new c.in-Ok.found c.in-New.number (λ n. IsNewNumber s.nodes n) c.in-New.is
     c.in-Ok.ensures.number in
@@ -236,12 +236,12 @@ returns-clause-kept c =
     (λ n. c.find_two.new.nodes ≡ inserted s.nodes n c.place.inside.0 two) c.in-New.is
     c.in-Ok.ensures.ok in
     subst (λ t. Extends t (table_of s.vtree c.add_two.new.nodes s.roots s.epoch s.moving)) c.self.view_is
-    (at_new s.vtree s.nodes s.roots s.epoch s.moving c.place.inside.0 two two
+    (at_new s.vtree s.nodes s.roots s.epoch s.moving c.place.inside.0 c.args.elements.now two
     h none
     c.in-New.number number c.find_two.new.nodes c.add_two.new.nodes is
     c.add_two.ensures.uses c.add_two.ensures.valid
     (λ d. Extends (table_of s.vtree s.nodes s.roots s.epoch s.moving) (table_of s.vtree d s.roots s.epoch s.moving))
-    (λ w counts valid. kept_new s.vtree s.nodes s.roots s.epoch s.moving c.place.inside.0 two two h none
+    (λ w counts valid. kept_new s.vtree s.nodes s.roots s.epoch s.moving c.place.inside.0 c.args.elements.now two h none
     c.in-New.number number w counts valid))
 
 pub returns-clause-grown : goal.returns-clause-grown
@@ -249,8 +249,8 @@ returns-clause-grown c =
     let s = c.self.inside in
     let two = c.args.first ∷ c.args.second ∷ [] in
     let h = asked_two s.vtree s.nodes s.roots s.epoch s.moving c.args.self.now c.place.inside.0 c.args.place
-    c.args.first c.args.second c.self.invariant.stored c.self.view_is c.place.view_is c.requires.partition
-    c.requires.differ c.requires.ascend in
+    c.args.elements.now c.args.first c.args.second c.self.invariant.stored c.self.view_is c.place.view_is c.requires.partition
+    c.requires.differ c.requires.order c.requires.ascend in
     let none = sym c.trimmed_pair.ensures ∙ c.in_default.is in
     let number = if_new c.in-Ok.found c.in-New.number (λ n. IsNewNumber s.nodes n) c.in-New.is
     c.in-Ok.ensures.number in
@@ -260,17 +260,17 @@ returns-clause-grown c =
     let room = if_new c.in-Ok.found c.in-New.number (λ n. ¬ IsFull s.nodes (length two))
     c.in-New.is c.in-Ok.ensures.room in
     inr (subst (λ t. HasNewNode t (table_of s.vtree c.add_two.new.nodes s.roots s.epoch s.moving) c.args.place
-    two (c.in-New.number + 2050)) c.self.view_is
+    c.args.elements.now (c.in-New.number + 2050)) c.self.view_is
     (subst (λ p. HasNewNode (table_of s.vtree s.nodes s.roots s.epoch s.moving)
-    (table_of s.vtree c.add_two.new.nodes s.roots s.epoch s.moving) p two (c.in-New.number + 2050))
+    (table_of s.vtree c.add_two.new.nodes s.roots s.epoch s.moving) p c.args.elements.now (c.in-New.number + 2050))
     c.place.view_is
-    (at_new s.vtree s.nodes s.roots s.epoch s.moving c.place.inside.0 two two
+    (at_new s.vtree s.nodes s.roots s.epoch s.moving c.place.inside.0 c.args.elements.now two
     h none
     c.in-New.number number c.find_two.new.nodes c.add_two.new.nodes is
     c.add_two.ensures.uses c.add_two.ensures.valid
     (λ d. HasNewNode (table_of s.vtree s.nodes s.roots s.epoch s.moving) (table_of s.vtree d s.roots s.epoch s.moving)
-    c.place.inside.0 two (c.in-New.number + 2050))
-    (λ w counts valid. grown_new s.vtree s.nodes s.roots s.epoch s.moving c.place.inside.0 two two h none
+    c.place.inside.0 c.args.elements.now (c.in-New.number + 2050))
+    (λ w counts valid. grown_new s.vtree s.nodes s.roots s.epoch s.moving c.place.inside.0 c.args.elements.now two h none
     c.in-New.number number w counts valid room))))
 
 pub returns-clause-table : goal.returns-clause-table
