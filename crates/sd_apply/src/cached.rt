@@ -1,9 +1,9 @@
 // The operations of one call: the cache is asked once, and keeps the answer. What the operation asks
 // on its way stands in the table that the cache lends.
-ghost use Rattle.std.specs.Prelude.{◌≡◌, ◌≤◌, ◌/◌, IfOk, IfErr};
+ghost use Rattle.std.specs.Prelude.{◌≡◌, ◌≤◌, ◌/◌, IfOk, IfErr, OnErr};
 ghost use Rattle.sd_manager.specs.Valid.{IsTable};
 ghost use Rattle.sd_manager.specs.Making.{Extends, KeepsRule};
-ghost use Rattle.sd_apply.specs.Growing.{GrowsBelowBoth};
+ghost use Rattle.sd_apply.specs.Growing.{GrowsBelowBoth, GrowsByAnswerBoth, GrowsStrictlyBelowBoth};
 ghost use Rattle.sd_apply.specs.Serving.{Serves};
 ghost use Rattle.sd_apply.specs.Places.{IsBelow, IsThere};
 ghost use Rattle.sd_apply.specs.Calls.{Applies, NegatesAt};
@@ -37,6 +37,8 @@ pub(crate) fn apply_cached(
     ensures ok { IfOk result (λ r. Applies m.old m.new operation at a b r) }
     ensures kept { Extends m.old m.new }
     ensures grown { GrowsBelowBoth m.old m.new a b }
+    ensures one { IfOk result (λ r. GrowsByAnswerBoth m.old m.new a b r) }
+    ensures none { OnErr result (GrowsStrictlyBelowBoth m.old m.new a b) }
     ensures serves { Serves c.new m.new }
     ensures rule { IfErr result (λ e. KeepsRule m.new e) }
     ensures table { IsTable m.new }
@@ -82,6 +84,8 @@ fn look_up_or_apply(
     ensures ok { IfOk result (λ r. Applies m.old m.new operation at a b r) }
     ensures kept { Extends m.old m.new }
     ensures grown { GrowsBelowBoth m.old m.new a b }
+    ensures one { IfOk result (λ r. GrowsByAnswerBoth m.old m.new a b r) }
+    ensures none { OnErr result (GrowsStrictlyBelowBoth m.old m.new a b) }
     ensures serves { Serves c.new m.new }
     ensures rule { IfErr result (λ e. KeepsRule m.new e) }
     ensures table { IsTable m.new }
@@ -118,6 +122,8 @@ pub(crate) fn negate_cached(
     ensures ok { IfOk result (λ r. NegatesAt m.old m.new at a r) }
     ensures kept { Extends m.old m.new }
     ensures grown { GrowsBelowBoth m.old m.new a a }
+    ensures one { IfOk result (λ r. GrowsByAnswerBoth m.old m.new a a r) }
+    ensures none { OnErr result (GrowsStrictlyBelowBoth m.old m.new a a) }
     ensures serves { Serves c.new m.new }
     ensures rule { IfErr result (λ e. KeepsRule m.new e) }
     ensures table { IsTable m.new }

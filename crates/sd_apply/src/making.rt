@@ -1,9 +1,9 @@
 // The node of elements whose subs differ already.
-ghost use Rattle.std.specs.Prelude.{map, IfOk, IfErr};
+ghost use Rattle.std.specs.Prelude.{map, IfOk, IfErr, OnErr};
 ghost use Rattle.sd_model.specs.Tree.{AreDistinct};
 ghost use Rattle.sd_manager.specs.Valid.{IsTable};
 ghost use Rattle.sd_manager.specs.Making.{Extends, KeepsRule};
-ghost use Rattle.sd_apply.specs.Growing.{GrowsBelow};
+ghost use Rattle.sd_apply.specs.Growing.{GrowsBelow, GrowsByAnswer, GrowsStrictlyBelow};
 ghost use Rattle.sd_apply.specs.Places.{IsFork};
 ghost use Rattle.sd_apply.specs.Elements.{IsPartitionBelow};
 ghost use Rattle.sd_apply.specs.Calls.{Joins};
@@ -25,6 +25,8 @@ pub(crate) fn make_apart(
     ensures ok { IfOk result (λ r. Joins m.old m.new fork.now.left fork.now.right pairs.now r) }
     ensures kept { Extends m.old m.new }
     ensures grown { GrowsBelow m.old m.new fork.now.node }
+    ensures one { IfOk result (λ r. GrowsByAnswer m.old m.new fork.now.node r) }
+    ensures none { OnErr result (GrowsStrictlyBelow m.old m.new fork.now.node) }
     ensures rule { IfErr result (λ e. KeepsRule m.new e) }
     ensures table { IsTable m.new }
 {

@@ -1,9 +1,11 @@
 use Rattle.std.proofs.Common.{◌≡◌, ◌∙◌, sym, Some, None}
-use Rattle.std.proofs.lemmas.Result.{IfOk-weaker}
+use Rattle.std.proofs.lemmas.Result.{IfOk-weaker, on_err_weaker}
 use Rattle.sd_apply.specs.Calls.{Applies, NegatesAt}
 use Rattle.sd_apply.proofs.TerminalLaws.{terminal_applies, terminal_at, applies_commutes}
 use Rattle.sd_apply.proofs.TerminalLaws.{unknown, xor_negation, xor_negation_second}
-use Rattle.sd_apply.proofs.Growing.{both_first, both_second}
+use Rattle.sd_apply.specs.Growing.{GrowsByAnswerBoth}
+use Rattle.sd_apply.proofs.Growing.{both_first, both_second, strictly_first, strictly_second, strictly_exchanged}
+use Rattle.sd_apply.proofs.Growing.{by_first, by_second, by_exchanged}
 use Rattle.sd_apply.proofs.cached.apply_cached.Goals as goal
 
 pub returns-in-Some-clause-ok : goal.returns-in-Some-clause-ok
@@ -59,3 +61,47 @@ pub returns-then-b-eq1-clause-grown : goal.returns-then-b-eq1-clause-grown
 returns-then-b-eq1-clause-grown c =
     both_first c.args.m.now c.negate_cached-then-b-eq1.new.m c.args.a c.args.b
     c.negate_cached-then-b-eq1.ensures.grown
+
+-- where the nodes but the answer stand
+
+pub returns-then-a-eq1-clause-one : goal.returns-then-a-eq1-clause-one
+returns-then-a-eq1-clause-one c =
+    let m = c.args.m.now in
+    let n = c.negate_cached.new.m in
+    IfOk-weaker c.negate_cached.result (λ r. GrowsByAnswerBoth m n c.args.b c.args.b r)
+    (λ r. GrowsByAnswerBoth m n c.args.a c.args.b r) (λ r h. by_second m n c.args.a c.args.b r h)
+    c.negate_cached.ensures.one
+
+pub returns-then-a-eq1-clause-none : goal.returns-then-a-eq1-clause-none
+returns-then-a-eq1-clause-none c =
+    on_err_weaker c.negate_cached.result
+    (λ h. strictly_second c.args.m.now c.negate_cached.new.m c.args.a c.args.b h)
+    c.negate_cached.ensures.none
+
+pub returns-then-b-eq1-clause-one : goal.returns-then-b-eq1-clause-one
+returns-then-b-eq1-clause-one c =
+    let m = c.args.m.now in
+    let n = c.negate_cached-then-b-eq1.new.m in
+    IfOk-weaker c.negate_cached-then-b-eq1.result (λ r. GrowsByAnswerBoth m n c.args.a c.args.a r)
+    (λ r. GrowsByAnswerBoth m n c.args.a c.args.b r) (λ r h. by_first m n c.args.a c.args.b r h)
+    c.negate_cached-then-b-eq1.ensures.one
+
+pub returns-then-b-eq1-clause-none : goal.returns-then-b-eq1-clause-none
+returns-then-b-eq1-clause-none c =
+    on_err_weaker c.negate_cached-then-b-eq1.result
+    (λ h. strictly_first c.args.m.now c.negate_cached-then-b-eq1.new.m c.args.a c.args.b h)
+    c.negate_cached-then-b-eq1.ensures.none
+
+pub returns-else-a-b-clause-one : goal.returns-else-a-b-clause-one
+returns-else-a-b-clause-one c =
+    let m = c.args.m.now in
+    let n = c.look_up_or_apply-else-a-b.new.m in
+    IfOk-weaker c.look_up_or_apply-else-a-b.result (λ r. GrowsByAnswerBoth m n c.args.b c.args.a r)
+    (λ r. GrowsByAnswerBoth m n c.args.a c.args.b r) (λ r h. by_exchanged m n c.args.b c.args.a r h)
+    c.look_up_or_apply-else-a-b.ensures.one
+
+pub returns-else-a-b-clause-none : goal.returns-else-a-b-clause-none
+returns-else-a-b-clause-none c =
+    on_err_weaker c.look_up_or_apply-else-a-b.result
+    (λ h. strictly_exchanged c.args.m.now c.look_up_or_apply-else-a-b.new.m c.args.b c.args.a h)
+    c.look_up_or_apply-else-a-b.ensures.none

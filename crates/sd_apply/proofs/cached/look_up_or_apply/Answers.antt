@@ -4,7 +4,8 @@ use Rattle.sd_manager.proofs.Extending.{extends_self}
 use Rattle.sd_apply.proofs.Served.{serves_on, serves_look, serves_keep, looked_applies, applies_right}
 use Rattle.sd_apply.proofs.Opposite.{opposite_applies}
 use Rattle.sd_apply.proofs.Expanding.{applies_over, below_at}
-use Rattle.sd_apply.proofs.Growing.{both_lowest}
+use Rattle.sd_apply.proofs.Growing.{both_lowest, strictly_lowest, by_lowest}
+use Rattle.sd_apply.proofs.Refused.{at_error}
 use Rattle.sd_apply.proofs.cached.look_up_or_apply.Goals as goal
 
 -- the cache is asked
@@ -81,6 +82,20 @@ returns-clause-grown c =
     both_lowest c.args.m.now c.apply-found.new.m c.apply-found.ensures.kept c.epoch-epoch.ensures.table.numbered
     c.lca_with_children-over.result.node c.args.a c.args.b
     c.lca_with_children-over.ensures.lowest c.apply-found.ensures.grown
+
+-- and strictly below it, but for the answer
+pub returns-in_err-code-clause-none : goal.returns-in_err-code-clause-none
+returns-in_err-code-clause-none c =
+    at_error c.from_residual.result
+    (strictly_lowest c.args.m.now c.apply-found.new.m c.apply-found.ensures.kept
+    c.epoch-epoch.ensures.table.numbered c.lca_with_children-over.result.node c.args.a c.args.b
+    c.lca_with_children-over.ensures.lowest c.in_err-code.ensures.none)
+
+pub returns-clause-one : goal.returns-clause-one
+returns-clause-one c =
+    by_lowest c.args.m.now c.apply-found.new.m c.apply-found.ensures.kept c.epoch-epoch.ensures.table.numbered
+    c.lca_with_children-over.result.node c.args.a c.args.b c.in_ok-code.code
+    c.lca_with_children-over.ensures.lowest c.in_ok-code.ensures.one
 
 pub returns-clause-ok : goal.returns-clause-ok
 returns-clause-ok c =

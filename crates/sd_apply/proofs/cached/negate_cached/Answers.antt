@@ -5,7 +5,8 @@ use Rattle.sd_apply.proofs.TerminalLaws.{opposite_negates}
 use Rattle.sd_apply.proofs.Served.{serves_on, serves_look, looked_negates}
 use Rattle.sd_apply.proofs.Opposite.{negates_opposite, operand_node_of}
 use Rattle.sd_apply.proofs.Expanding.{negates_over, below_at}
-use Rattle.sd_apply.proofs.Growing.{both_lowest}
+use Rattle.sd_apply.proofs.Growing.{both_lowest, strictly_lowest, by_lowest}
+use Rattle.sd_apply.proofs.Refused.{at_error}
 use Rattle.sd_apply.proofs.cached.negate_cached.Goals as goal
 
 pub returns-in-Some-clause-ok : goal.returns-in-Some-clause-ok
@@ -67,6 +68,20 @@ returns-clause-grown c =
     both_lowest c.args.m.now c.negate_at-found.new.m c.negate_at-found.ensures.kept c.epoch-epoch.ensures.table.numbered
     c.place_with_children-over.result.node c.args.a c.args.a
     (λ n there x y. c.place_with_children-over.ensures.lowest n there x) c.negate_at-found.ensures.grown
+
+-- and strictly below it, but for the answer
+pub returns-in_err-code-clause-none : goal.returns-in_err-code-clause-none
+returns-in_err-code-clause-none c =
+    at_error c.from_residual.result
+    (strictly_lowest c.args.m.now c.negate_at-found.new.m c.negate_at-found.ensures.kept
+    c.epoch-epoch.ensures.table.numbered c.place_with_children-over.result.node c.args.a c.args.a
+    (λ n there x y. c.place_with_children-over.ensures.lowest n there x) c.in_err-code.ensures.none)
+
+pub returns-clause-one : goal.returns-clause-one
+returns-clause-one c =
+    by_lowest c.args.m.now c.negate_at-found.new.m c.negate_at-found.ensures.kept
+    c.epoch-epoch.ensures.table.numbered c.place_with_children-over.result.node c.args.a c.args.a c.in_ok-code.code
+    (λ n there x y. c.place_with_children-over.ensures.lowest n there x) c.in_ok-code.ensures.one
 
 pub returns-clause-ok : goal.returns-clause-ok
 returns-clause-ok c =

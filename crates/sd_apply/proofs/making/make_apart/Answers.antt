@@ -1,11 +1,12 @@
-use Rattle.std.proofs.Common.{List}
-use Rattle.std.proofs.lemmas.Result.{IfOk-weaker}
+use Rattle.std.proofs.Common.{◌≡◌, ◌⊎◌, List}
+use Rattle.std.proofs.lemmas.Result.{IfOk-weaker, on_err_weaker}
 use Rattle.sd_model.specs.Diagram.{Diagram}
 use Rattle.sd_manager.specs.Shown.{IsPartitionAt}
-use Rattle.sd_manager.specs.Making.{IsMade}
+use Rattle.sd_manager.specs.Making.{IsMade, HasNewNode}
+use Rattle.sd_apply.specs.Growing.{GrowsByAnswer}
 use Rattle.sd_apply.specs.Calls.{Joins}
 use Rattle.sd_apply.proofs.Listed.{children_on}
-use Rattle.sd_apply.proofs.Growing.{grows_answer}
+use Rattle.sd_apply.proofs.Growing.{grows_answer, strictly_same, by_made}
 use Rattle.sd_apply.proofs.Merging.{partition_at, made_joins}
 use Rattle.sd_apply.proofs.making.make_apart.Goals as goal
 
@@ -38,3 +39,19 @@ returns-clause-grown c =
     (children_on m n c.make.ensures.kept c.args.fork.now.node c.args.fork.now.left c.args.fork.now.right
     c.requires.children)
     c.make.result c.make.ensures.grown c.make.ensures.err
+
+-- at the vtree node none of them but the answer
+
+pub returns-clause-one : goal.returns-clause-one
+returns-clause-one c =
+    let m = c.args.m.now in
+    let n = c.make.new.self in
+    let p = c.args.fork.now.node in
+    let l = c.args.pairs.now in
+    IfOk-weaker c.make.result (λ d. (n ≡ m) ⊎ HasNewNode m n p l d) (λ d. GrowsByAnswer m n p d)
+    (λ d h. by_made m n p l d h) c.make.ensures.grown
+
+pub returns-clause-none : goal.returns-clause-none
+returns-clause-none c =
+    on_err_weaker c.make.result (λ same. strictly_same c.args.m.now c.make.new.self c.args.fork.now.node same)
+    c.make.ensures.err
