@@ -48,13 +48,31 @@ fn replace_two(list: &mut Vec<(u32, u32)>, elements: &[(NodeId, NodeId)]) -> boo
     true
 }
 
-// Puts the pairs into ascending order.
+// Puts the pairs into ascending order, in which most lists stand.
 fn sort(list: &mut Vec<(u32, u32)>)
     ensures permutation { IsPermutation list.old.items list.new.items }
     ensures sorted { IsSorted (λ (x y : ℕ × ℕ). ordering_then (nat_cmp x.0 y.0) (nat_cmp x.1 y.1))
         list.new.items }
 {
+    if primes_ascend(list.as_slice()) {
+        return;
+    }
     list.sort_unstable();
+}
+
+// Whether the code of each prime is greater than the one before it.
+fn primes_ascend(list: &[(u32, u32)]) -> bool
+    ensures { IsTrue result →
+        IsSorted (λ (x y : ℕ × ℕ). ordering_then (nat_cmp x.0 y.0) (nat_cmp x.1 y.1)) list.now }
+{
+    for i in 1..list.len() {
+        let (before, _) = list[i - 1];
+        let (prime, _) = list[i];
+        if prime <= before {
+            return false;
+        }
+    }
+    true
 }
 
 // The code that a list is trimmed to: of its only sub, or of the prime whose sub is true where the other is false.
