@@ -87,7 +87,7 @@ module _ (elements : List (ℕ × ℕ)) (marks heads : List ℕ) (used bound n :
     (k : HoldsRuns elements marks heads used bound) (has_head : n < length heads)
     (new : List (ℕ × ℕ)) (head : ℕ)
     (marked : (s : ℕ) → eqb (get_or marks s 0) 2 ≡ is_in s (get_or (stacks_of elements heads) n []))
-    (r : IsRechained marks 0 elements new head) where
+    (r : IsRechained marks elements new head) where
   abbrev stacks : List (List ℕ)
   stacks = stacks_of elements heads
 

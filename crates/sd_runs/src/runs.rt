@@ -173,15 +173,16 @@ impl Runs {
         self.used -= length;
     }
 
-    /// Puts the free runs of two elements in the order of their starts, so that the least is taken next.
-    /// Takes no memory and cannot fail. Takes a step for each element of the arena, and none where no run
-    /// of two is free.
-    pub fn order_twos(&mut self)
+    /// Puts the free runs of two elements in the order of their starts from `from` on, and behind them
+    /// those before `from`, so that the least from there on is taken next. Takes no memory and cannot
+    /// fail. Takes a step for each element of the arena, and none where no run of two is free.
+    pub fn order_twos(&mut self, from: u32)
         ensures reordered { IsReordered self.old self.new 2 }
         ensures arena { IsArena self.new }
     {
         if self.heads.len() > 2 && self.heads[2] != NONE {
-            self.heads[2] = chain_marked(&self.marks, &mut self.elements);
+            let from = (from as usize).min(self.marks.len());
+            self.heads[2] = chain_marked(&self.marks, &mut self.elements, from);
         }
     }
 

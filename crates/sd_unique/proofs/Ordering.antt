@@ -48,7 +48,7 @@ module _ (arena : Arena) (rs : List Record) where
   -- before the first step, without the head of the free records, the linked ones stand in their chains
   pub ordered_none : (heads : List ℕ) (count : ℕ) → 0 < length heads
       → IsFiled (next_of rs) no_record (head_of heads) (chain_under arena count rs)
-      → IsRechained linked_by arena count (λ n. length rs ≤ n) rs (set heads 0 no_record)
+      → IsRechained linked_by arena count (λ n. n < 0) rs (set heads 0 no_record)
   ordered_none heads count some f =
       record {
         under = under_by linked_by arena count rs;
@@ -59,17 +59,10 @@ module _ (arena : Arena) (rs : List Record) where
           filed = filed;
           only = only;
         };
-        done = λ n h. outside n h (slice_get rs n) refl;
+        done = λ n h. absurd (omega (arith, h));
         others = λ n h. refl;
       }
     where
-      outside : (n : ℕ) → length rs ≤ n → (o : Option Record) → slice_get rs n ≡ o
-          → under_by linked_by arena count rs n ≡ chain_under arena count rs n
-      outside n h None e =
-          ap (option_and_then (λ (x : Record). linked_by x.state (bucket_of (key_of arena x) count))) e
-          ∙ sym (ap (option_and_then (λ (x : Record). chain_by x.state (bucket_of (key_of arena x) count))) e)
-      outside n h (Some r) e = absurd (omega (arith, h, slice_get_inside rs n r e))
-
       chained : (b : ℕ) → IsChain (next_of rs) no_record (head_of (set heads 0 no_record) b) (without_first f.lists b)
       chained zero = get_or-set_same heads 0 no_record no_record some
       chained (suc b) =
@@ -113,6 +106,10 @@ buckets_begin rs heads =
       others = λ n r e other. e;
       after_first = λ b ne. get_or-set_other heads 0 b no_record no_record ne;
     }
+
+-- and where nothing is changed
+pub buckets_same : (rs : List Record) (heads : List ℕ) → KeepsBuckets rs rs heads heads
+buckets_same rs heads = record { others = λ n r e other. e; after_first = λ b ne. refl }
 
 pub buckets_next : (rs : List Record) (heads : List ℕ) (k : ℕ) (r t : Record) → slice_get rs k ≡ Some r
     → r.state ≡ Free → KeepsBuckets rs (set rs k t) heads (set heads 0 k)

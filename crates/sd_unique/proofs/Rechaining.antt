@@ -35,14 +35,17 @@ one_up k =
       others = λ n h ne. by_cases (λ e. absurd (ne e)) (λ d. omega (arith, h, d)) (cases_eq n k);
     }
 
--- and from the end down
-pub one_down : (k : ℕ) → IsOneMore (λ n. k < n) (λ n. k ≤ n) k
-one_down k =
+-- and from the end of a part down
+pub one_down : (below above k : ℕ) → below ≤ k → k < above
+    → IsOneMore (λ n. (n < below) ⊎ ((k < n) × (n < above))) (λ n. (n < below) ⊎ ((k ≤ n) × (n < above))) k
+one_down below above k from inside =
     record {
-      is_new = λ h. omega (arith, h);
-      is_passed = omega arith;
-      kept = λ n h. omega (arith, h);
-      others = λ n h ne. by_cases (λ e. absurd (ne e)) (λ d. omega (arith, h, d)) (cases_eq n k);
+      is_new = by_cases (λ h. omega (arith, h, from)) (λ h. omega (arith, h.0));
+      is_passed = inr (omega arith, inside);
+      kept = λ n. by_cases (λ h. inl h) (λ h. inr (omega (arith, h.0), h.1));
+      others = λ n. by_cases
+          (λ h ne. inl h)
+          (λ h ne. by_cases (λ e. absurd (ne e)) (λ d. inr (omega (arith, h.0, d), h.1)) (cases_eq n k));
     }
 
 -- a number is below another one, or it is not
@@ -112,6 +115,18 @@ module _ (by : RecordState → ℕ → Option ℕ) (arena : Arena) (rs : List Re
 
       later : (n : ℕ) → ¬ after n → n ≢ k
       later n h e = h (subst after (sym e) more.is_passed)
+
+  -- other words for the records that were passed
+  pub rechained_same : (before after : ℕ → Type 0) (count : ℕ) (heads : List ℕ)
+      → ((n : ℕ) → before n → after n) → ((n : ℕ) → after n → before n)
+      → IsRechained by arena count before rs heads → IsRechained by arena count after rs heads
+  rechained_same before after count heads there back l =
+      record {
+        under = l.under;
+        filed = l.filed;
+        done = λ n h. l.done n (back n h);
+        others = λ n h. l.others n (λ was. h (there n was));
+      }
 
   -- after the last step each record stands where its state says
   pub rechained_end : (passed : ℕ → Type 0) (count : ℕ) (heads : List ℕ) → ((n : ℕ) → n < length rs → passed n)

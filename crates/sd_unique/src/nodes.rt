@@ -19,9 +19,9 @@ const FIRST_RECORDS: usize = 65_536;
 
 // The free numbers are put in order once more than this part of the records was freed since they were
 // last put in order. That reads each record and the mark of each element once: a number that was freed
-// pays for fewer than four records, 128 bytes in a row, and their elements' marks. Small sweeps of a
+// pays for fewer than eight records, 256 bytes in a row, and their elements' marks. Small sweeps of a
 // large table go on without a pass until then: what they scramble costs less than a pass for each.
-const PART_FREED: usize = 4;
+const PART_FREED: usize = 8;
 
 // So many records at least, as fewer stay near in any order: those of a table that is put in order do
 // not fit the cache of a processor.
@@ -52,6 +52,8 @@ pub struct Nodes {
     /// How many numbers `retire` freed since the free numbers were last put in order, or the greatest
     /// `u32`.
     freed: u32,
+    /// The number that was given last: where they are put in order, the free ones behind it come first.
+    newest: u32,
 }
 
 impl Model for Nodes {
@@ -98,6 +100,7 @@ impl Nodes {
             places: Vec::with_capacity(alloc, LISTS)?,
             candidates: NO_RECORD,
             freed: 0,
+            newest: 0,
         })
     }
 
@@ -269,6 +272,7 @@ impl Nodes {
         let start = self.runs.take(list)?;
         let run = (start, list.len() as u32);
         let number = self.records.len() as u32;
+        self.newest = number;
         let head = bucket_at(hash, self.heads.len() - 1) + 1;
         let _ = self
             .records
@@ -294,6 +298,7 @@ impl Nodes {
         ensures nodes { IsNodes self.new }
     {
         let number = self.heads[0];
+        self.newest = number;
         self.heads[0] = self.records[number as usize].next;
         let head = bucket_at(hash, self.heads.len() - 1) + 1;
         self.records[number as usize] = Record {
@@ -604,17 +609,30 @@ impl Nodes {
         }
     }
 
-    // Puts the free numbers in order, the smallest first, and the free runs of two, the length of most
-    // lists. A sweep frees them in the order of the stack, and nodes that got them in that order stand
-    // all over the records, links and runs, where those made one after the other are read one after the
-    // other.
+    // Puts the free numbers in order, those behind the newest node first and then the smallest, and the
+    // free runs of two, the length of most lists, likewise. A sweep frees them in the order of the stack,
+    // and nodes that got them in that order stand all over the records, links and runs, where those made
+    // one after the other are read one after the other. Going on behind the newest node, and not from the
+    // smallest number again, new nodes take the place of the oldest ones: numbers stay in the order in
+    // which nodes were made, round and round, and what dies together stands together.
     #[inline(never)]
     fn order_free(&mut self)
         ensures { self.new ≡ self.old }
     {
-        order_free(&self.runs, &mut self.records, &mut self.heads);
-        self.runs.order_twos();
+        let from = (self.newest as usize).min(self.records.len());
+        let start = self.start_at(from);
+        order_free(&self.runs, &mut self.records, &mut self.heads, from);
+        self.runs.order_twos(start);
         self.freed = 0;
+    }
+
+    // Where the run of a record starts, or 0 where there is no such record.
+    fn start_at(&self, number: usize) -> u32 {
+        if number < self.records.len() {
+            self.records[number].start
+        } else {
+            0
+        }
     }
 
     /// A linked node at this place, where there is one.

@@ -207,7 +207,8 @@ fn idle_nodes(rt: HostRuntime) -> Result<(), Fail> {
 }
 
 /// Of 40,000 nodes all but one are retired, in an order of their own. As many others get their numbers,
-/// the least first, and runs: each is found, and the table is as large as before.
+/// from that of the last one on and then the least first, and runs: each is found, and the table is as
+/// large as before.
 #[test]
 fn as_many_again(rt: HostRuntime) -> Result<(), Fail> {
     let mut nodes = Nodes::new(rt.alloc(), 100_000)?;
@@ -233,10 +234,14 @@ fn as_many_again(rt: HostRuntime) -> Result<(), Fail> {
     for place in 40_000..79_999 {
         assert!(rt; nodes.find(place, &[(place, 1), (place, 0)]).is_some());
     }
-    assert_eq!(rt; nodes.find(40_000, &[(40_000, 1), (40_000, 0)]), Some(0));
+    assert_eq!(rt;
+        nodes.find(40_000, &[(40_000, 1), (40_000, 0)]),
+        Some(39_999)
+    );
+    assert_eq!(rt; nodes.find(40_001, &[(40_001, 1), (40_001, 0)]), Some(0));
     assert_eq!(rt;
         nodes.find(79_998, &[(79_998, 1), (79_998, 0)]),
-        Some(39_999)
+        Some(39_998)
     );
     let left = [(39_963, 1), (39_963, 0)];
     assert_eq!(rt; nodes.find(39_963, &left), Some(39_963));

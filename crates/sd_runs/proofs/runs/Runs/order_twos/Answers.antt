@@ -16,9 +16,9 @@ returns-else-len-gt2-clause-arena c = subst IsArena c.self.view_is (is_arena c.s
 pub invariant_of-self : goal.invariant_of-self
 invariant_of-self c =
     let has_head : 2 < length c.self.inside.heads.items = omega (arith, c.if-len-gt2.true) in
-    let rechained = subst (λ e. IsRechained c.self.inside.marks.items 0 e c.chain_marked.new.elements
+    let rechained = subst (λ e. IsRechained c.self.inside.marks.items e c.chain_marked.new.elements
     c.chain_marked.result) c.deref_mut.ensures.value
-    (subst (λ m. IsRechained m 0 c.deref_mut.result.now c.chain_marked.new.elements c.chain_marked.result)
+    (subst (λ m. IsRechained m c.deref_mut.result.now c.chain_marked.new.elements c.chain_marked.result)
     c.deref.ensures.value c.chain_marked.ensures) in
     let written = written_back c.self.inside.elements.items c.chain_marked.new.elements c.self.inside.elements.len
     (c.chain_marked.auto.elements ∙ c.deref_mut.ensures.len) in
@@ -37,9 +37,9 @@ invariant_of-self c =
 
 pub returns-then-index-clause-reordered : goal.returns-then-index-clause-reordered
 returns-then-index-clause-reordered c =
-    let rechained = subst (λ e. IsRechained c.self.inside.marks.items 0 e c.chain_marked.new.elements
+    let rechained = subst (λ e. IsRechained c.self.inside.marks.items e c.chain_marked.new.elements
     c.chain_marked.result) c.deref_mut.ensures.value
-    (subst (λ m. IsRechained m 0 c.deref_mut.result.now c.chain_marked.new.elements c.chain_marked.result)
+    (subst (λ m. IsRechained m c.deref_mut.result.now c.chain_marked.new.elements c.chain_marked.result)
     c.deref.ensures.value c.chain_marked.ensures) in
     let written = written_back c.self.inside.elements.items c.chain_marked.new.elements c.self.inside.elements.len
     (c.chain_marked.auto.elements ∙ c.deref_mut.ensures.len) in
