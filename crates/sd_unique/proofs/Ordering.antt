@@ -1,5 +1,5 @@
 -- Before the free records are chained anew, each other record stands where it did; the free runs in another order.
-use Rattle.std.proofs.Common.{◌≡◌, ℕ, suc, zero, ◌<◌, ◌≤◌, List, [], ◌∷◌, length, slice_get, Option, Some, None}
+use Rattle.std.proofs.Common.{◌≡◌, ℕ, suc, zero, ◌<◌, List, [], ◌∷◌, length, slice_get, Option, Some, None}
 use Rattle.std.proofs.Common.{unwrap_or, refl, sym, ap, subst, ◌∙◌, arith}
 use Rattle.std.proofs.Math.ListN.{set}
 use Rattle.std.proofs.lemmas.Bool.{cases_eq}
@@ -20,7 +20,7 @@ use Rattle.sd_unique.specs.Filed.{IsChain, IsFiled}
 use Rattle.sd_unique.specs.Rechaining.{linked_by, under_by, IsRechained, KeepsBuckets}
 use Rattle.sd_unique.specs.Chains.{next_of, head_of, chain_by, chain_under, bucket_of, no_record, HoldsNodes}
 use Rattle.sd_unique.proofs.Counts.{get_counts}
-use Rattle.sd_unique.proofs.Entries.{slice_get_inside, slice_get_set_other}
+use Rattle.sd_unique.proofs.Entries.{slice_get_set_other}
 use Rattle.sd_unique.proofs.Numbered.{picked_from}
 use Rattle.sd_unique.proofs.Taken.{kept_arena}
 
