@@ -70,8 +70,8 @@ impl Cache {
         self.answers.get(&asked).copied()
     }
 
-    /// Keeps an answer, in place of the one that the same call had; past all keys there is none to keep. An
-    /// answer to a new call takes memory, and where that is refused nothing is changed.
+    /// Keeps an answer, in place of the one that the same call had. From the epoch 2^56 on nothing is kept, and
+    /// that is Ok. The only error: out of memory, at a call that had no answer; then nothing is changed.
     pub fn keep(
         &mut self,
         epoch: u64,

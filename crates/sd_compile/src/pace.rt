@@ -1,10 +1,10 @@
 // When a formula's groups are swept between.
 //
 // A sweep that takes a node away raises the epoch, and the kept answers are lost. Where groups ask for answers that
-// others have kept, that is dear, so sweeps are rare (`room_over`). Where a formula has few groups to a variable and each
-// makes few elements, hardly one does: then a sweep comes while what died is near, and what is made next takes its room
-// in place of new pages. Not so below a long chain of left children, where all work is in the primes and lives on kept
-// answers.
+// others have kept, that is dear, so sweeps are rare (`room_over`). Where a formula has few groups to a variable and
+// each makes few elements, hardly one does: then a sweep comes while what died is near, and what is made next takes its
+// room in place of new pages. Not so below a long chain of left children, where all work is in the primes and lives on
+// kept answers.
 ghost use Rattle.std.specs.Prelude.{◌≡◌, ℕ, ◌<◌, length, None};
 ghost use Rattle.sd_manager.specs.Valid.{IsTable};
 ghost use Rattle.sd_manager.specs.Marking.{AreUnmarked};
@@ -18,16 +18,16 @@ use sd_formula::Formula;
 use sd_manager::Manager;
 use sd_vtree::Vtree;
 
-// A light group makes so many elements at most, in the mean since the last sweep.
+// At most so many elements does a light group make, in the mean since the last sweep, rounded down.
 const LIGHT: u32 = 128;
 
 // So many elements come between two sweeps at least where groups are light.
 const LIGHT_ROOM: u32 = 8_192;
 
-// So many groups a variable has at most where they may be light.
+// At most so many groups to a variable, rounded down, where they may be light.
 const FEW: usize = 8;
 
-// So many left children lead to the first leaf at most where groups may be light.
+// The first leaf is fewer left children than this from the root where groups may be light.
 const NEAR: u32 = 32;
 
 /// What tells when the next sweep comes.
@@ -35,8 +35,8 @@ const NEAR: u32 = 32;
 pub(crate) struct Pace {
     // whether each left child of the vtree is a leaf
     often: bool,
-    // whether a sweep comes sooner where groups are light
-    sparse: bool,
+    // whether groups may be light, so that a sweep comes sooner
+    may_be_light: bool,
     // how many elements may be in use before the next sweep
     most: u32,
     // how many the last sweep left
@@ -51,7 +51,7 @@ pub(crate) fn pace_of(m: &Manager, f: &Formula) -> Pace {
     let used = m.used();
     Pace {
         often,
-        sparse: !often && has_few_groups(f) && is_leaf_near(m.vtree()),
+        may_be_light: !often && has_few_groups(f) && is_leaf_near(m.vtree()),
         most: room_over(used, often),
         left: used,
         groups: 0,
@@ -78,10 +78,10 @@ fn is_leaf_near(vtree: &Vtree) -> bool {
 impl Pace {
     // Whether the groups since the last sweep were light, and made enough that a sweep pays.
     fn is_light(&self, used: u32) -> bool {
-        if !self.sparse || used < self.left {
+        if !self.may_be_light {
             return false;
         }
-        let made = used - self.left;
+        let made = used.saturating_sub(self.left);
         made >= (self.left / 4).max(LIGHT_ROOM) && made / LIGHT <= self.groups
     }
 }

@@ -11,7 +11,8 @@ pub fn accepted_in_range()
     ensures { (kind : Kind) (bytes : List ℕ) (f : Groups) → dimacs kind bytes ≡ Ok f → IsFormula f }
 {}
 
-/// No two faults have one text, whatever their numbers. OutOfMemory, which no reading gives, has the empty text.
+/// No two faults have one text, whatever their numbers. OutOfMemory, which is no fault of the
+/// text, has the empty text.
 pub fn one_fault()
     ensures { (e f : FormulaError) → formula_fault_text e ≡ formula_fault_text f → e ≡ f }
 {}

@@ -48,7 +48,7 @@ fn replace_two(list: &mut Vec<(u32, u32)>, elements: &[(NodeId, NodeId)]) -> boo
     true
 }
 
-// Puts the pairs into ascending order, in which most lists stand.
+// Puts the pairs into ascending order, with no sort where the primes ascend already.
 fn sort(list: &mut Vec<(u32, u32)>)
     ensures permutation { IsPermutation list.old.items list.new.items }
     ensures sorted { IsSorted (λ (x y : ℕ × ℕ). ordering_then (nat_cmp x.0 y.0) (nat_cmp x.1 y.1))

@@ -2,9 +2,9 @@
 //! reuse.
 //!
 //! All elements stand in one vector of pairs, 8 bytes each, and each has a mark, a byte more. Each
-//! length up to that of the longest list has 4 bytes. The room for all of it is made as the arena grows:
-//! giving a run back, and putting the free runs of two elements in order, takes no memory and cannot
-//! fail.
+//! length up to that of the longest list has 4 bytes. The room for all of it is made where a run is
+//! taken, and that of the first 65,536 elements with the first one: giving a run back, and putting the
+//! free runs of two elements in order, takes no memory and cannot fail.
 #![tactic(auto)]
 
 mod error;

@@ -4,7 +4,8 @@ ghost use Rattle.std.specs.Prelude.{◌≡◌};
 ghost use Rattle.sd_script.specs.Faults.{script_fault_text};
 ghost use Rattle.sd_script.specs.declared.fault.ScriptFault.{ScriptFault};
 
-/// No two faults have one text, whatever their numbers. OutOfMemory, which no reading gives, has the empty text.
+/// No two faults have one text, whatever their numbers. OutOfMemory, which is no fault of the
+/// text, has the empty text.
 pub fn one_fault()
     ensures { (e f : ScriptFault) → script_fault_text e ≡ script_fault_text f → e ≡ f }
 {}

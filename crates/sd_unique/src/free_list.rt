@@ -47,7 +47,8 @@ fn chain_part(runs: &Runs, records: &mut [Record], heads: &mut [u32], below: usi
     }
 }
 
-// Puts the next record of a part first in the chain of the free ones, if it is free.
+// Puts the next record of a part first in the chain of the free ones, if it is free. The part is there for the
+// contract alone.
 #[inline(always)]
 fn chain(
     runs: &Runs,

@@ -22,8 +22,8 @@
 //! until it finds one, each of them once for each time that it was put there; `retire` takes the node
 //! off that `idle` just answered. Where `idle` finds none in a large table, and `retire` freed more
 //! than an eighth of the records since that was last done, it puts the free numbers and the free
-//! runs of two elements in order, those behind the newest node first and then the smallest, a step for
-//! each record and each element: nodes that are made behind a large sweep then stand next to one
+//! runs of two elements in order, those from that of the newest node on first and then the smallest, a step
+//! for each record and each element: nodes that are made behind a large sweep then stand next to one
 //! another, in the order in which they are made, as those of a new table do. The other calls are a few
 //! loads and stores, but for `new`, which makes the heads. The buckets double where they are as few as
 //! the records. That takes a step for each record, and reads no list: the links keep the hash of each

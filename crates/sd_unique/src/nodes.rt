@@ -52,7 +52,7 @@ pub struct Nodes {
     /// How many numbers `retire` freed since the free numbers were last put in order, or the greatest
     /// `u32`.
     freed: u32,
-    /// The number that was given last: where they are put in order, the free ones behind it come first.
+    /// The number that was given last: where they are put in order, the free ones from it on come first.
     newest: u32,
 }
 
@@ -609,12 +609,12 @@ impl Nodes {
         }
     }
 
-    // Puts the free numbers in order, those behind the newest node first and then the smallest, and the
+    // Puts the free numbers in order, those from that of the newest node on first and then the smallest, and the
     // free runs of two, the length of most lists, likewise. A sweep frees them in the order of the stack,
     // and nodes that got them in that order stand all over the records, links and runs, where those made
     // one after the other are read one after the other. Going on behind the newest node, and not from the
-    // smallest number again, new nodes take the place of the oldest ones: numbers stay in the order in
-    // which nodes were made, round and round, and what dies together stands together.
+    // smallest number again, new nodes take the place of the oldest ones: numbers mostly stay in the
+    // order in which nodes were made, round and round, and what dies together stands together.
     #[inline(never)]
     fn order_free(&mut self)
         ensures { self.new ≡ self.old }
