@@ -33,7 +33,8 @@ returns-in-Present-clause-ok c = λ ds partition.
     let s = c.self.inside in
     let two = c.args.first ∷ c.args.second ∷ [] in
     let h = asked_two s.vtree s.nodes s.roots s.epoch s.moving c.args.self.now c.place.inside.0 c.args.place
-    c.args.elements.now c.args.first c.args.second c.self.invariant.stored c.self.view_is c.place.view_is c.requires.partition
+    c.args.elements.now c.args.first c.args.second c.self.invariant.stored c.self.view_is c.place.view_is
+    c.requires.partition
     c.requires.differ c.requires.order c.requires.ascend in
     let none = sym c.trimmed_pair.ensures ∙ c.in_default.is in
     let same = if_present c.in-Ok.found c.in-Present.number (λ n. c.find_two.new.nodes ≡ s.nodes)
@@ -42,7 +43,8 @@ returns-in-Present-clause-ok c = λ ds partition.
     (λ n. get s.nodes.linked n ≡ Some (c.place.inside.0, two)) c.in-Present.is
     c.in-Ok.ensures.present in
     subst (λ x. IsMade (table_of s.vtree x s.roots s.epoch s.moving) (c.in-Present.number + 2050) ds) (sym same)
-    (made_found s.vtree s.nodes s.roots s.epoch s.moving c.place.inside.0 c.args.elements.now two h none c.in-Present.number there ds
+    (made_found s.vtree s.nodes s.roots s.epoch s.moving c.place.inside.0 c.args.elements.now two h none
+    c.in-Present.number there ds
     (partition_inside (table_of s.vtree s.nodes s.roots s.epoch s.moving) c.args.self.now c.place.inside.0 c.args.place
     c.args.elements.now ds c.self.view_is c.place.view_is partition))
 
@@ -54,7 +56,8 @@ pub find_two-requires-clause-first : goal.find_two-requires-clause-first
 find_two-requires-clause-first c =
     let s = c.self.inside in
     let h = asked_two s.vtree s.nodes s.roots s.epoch s.moving c.args.self.now c.place.inside.0 c.args.place
-    c.args.elements.now c.args.first c.args.second c.self.invariant.stored c.self.view_is c.place.view_is c.requires.partition
+    c.args.elements.now c.args.first c.args.second c.self.invariant.stored c.self.view_is c.place.view_is
+    c.requires.partition
     c.requires.differ c.requires.order c.requires.ascend in
     (subs_counted s.vtree s.nodes s.roots s.epoch s.moving c.place.inside.0 c.args.first c.args.second
     c.args.elements.now h).0
@@ -63,7 +66,8 @@ pub find_two-requires-clause-second : goal.find_two-requires-clause-second
 find_two-requires-clause-second c =
     let s = c.self.inside in
     let h = asked_two s.vtree s.nodes s.roots s.epoch s.moving c.args.self.now c.place.inside.0 c.args.place
-    c.args.elements.now c.args.first c.args.second c.self.invariant.stored c.self.view_is c.place.view_is c.requires.partition
+    c.args.elements.now c.args.first c.args.second c.self.invariant.stored c.self.view_is c.place.view_is
+    c.requires.partition
     c.requires.differ c.requires.order c.requires.ascend in
     (subs_counted s.vtree s.nodes s.roots s.epoch s.moving c.place.inside.0 c.args.first c.args.second
     c.args.elements.now h).1
@@ -77,7 +81,8 @@ returns-in-Err-clause-full c =
     let s = c.self.inside in
     let two = c.args.first ∷ c.args.second ∷ [] in
     let h = asked_two s.vtree s.nodes s.roots s.epoch s.moving c.args.self.now c.place.inside.0 c.args.place
-    c.args.elements.now c.args.first c.args.second c.self.invariant.stored c.self.view_is c.place.view_is c.requires.partition
+    c.args.elements.now c.args.first c.args.second c.self.invariant.stored c.self.view_is c.place.view_is
+    c.requires.partition
     c.requires.differ c.requires.order c.requires.ascend in
     let none = sym c.trimmed_pair.ensures ∙ c.in_default.is in
     subst (λ t. IsRefusal t (length c.args.elements.now) c.in-Err.error) c.self.view_is
@@ -89,7 +94,8 @@ returns-in-Err-clause-rule c =
     let s = c.self.inside in
     let two = c.args.first ∷ c.args.second ∷ [] in
     let h = asked_two s.vtree s.nodes s.roots s.epoch s.moving c.args.self.now c.place.inside.0 c.args.place
-    c.args.elements.now c.args.first c.args.second c.self.invariant.stored c.self.view_is c.place.view_is c.requires.partition
+    c.args.elements.now c.args.first c.args.second c.self.invariant.stored c.self.view_is c.place.view_is
+    c.requires.partition
     c.requires.differ c.requires.order c.requires.ascend in
     let none = sym c.trimmed_pair.ensures ∙ c.in_default.is in
     subst (λ x. KeepsRule (table_of s.vtree x s.roots s.epoch s.moving) c.in-Err.error) (sym c.in-Err.ensures.err)
@@ -101,7 +107,8 @@ returns-in-Err-clause-needed c =
     let s = c.self.inside in
     let two = c.args.first ∷ c.args.second ∷ [] in
     let h = asked_two s.vtree s.nodes s.roots s.epoch s.moving c.args.self.now c.place.inside.0 c.args.place
-    c.args.elements.now c.args.first c.args.second c.self.invariant.stored c.self.view_is c.place.view_is c.requires.partition
+    c.args.elements.now c.args.first c.args.second c.self.invariant.stored c.self.view_is c.place.view_is
+    c.requires.partition
     c.requires.differ c.requires.order c.requires.ascend in
     let none = sym c.trimmed_pair.ensures ∙ c.in_default.is in
     subst (λ t. IsNeeded t c.args.place c.args.elements.now c.in-Err.error) c.self.view_is
@@ -116,7 +123,8 @@ add_two-requires-clause-counted c =
     let s = c.self.inside in
     let two = c.args.first ∷ c.args.second ∷ [] in
     let h = asked_two s.vtree s.nodes s.roots s.epoch s.moving c.args.self.now c.place.inside.0 c.args.place
-    c.args.elements.now c.args.first c.args.second c.self.invariant.stored c.self.view_is c.place.view_is c.requires.partition
+    c.args.elements.now c.args.first c.args.second c.self.invariant.stored c.self.view_is c.place.view_is
+    c.requires.partition
     c.requires.differ c.requires.order c.requires.ascend in
     let none = sym c.trimmed_pair.ensures ∙ c.in_default.is in
     let number = if_new c.in-Ok.found c.in-New.number (λ n. IsNewNumber s.nodes n) c.in-New.is
@@ -133,7 +141,8 @@ add_two-requires-clause-room c =
     let s = c.self.inside in
     let two = c.args.first ∷ c.args.second ∷ [] in
     let h = asked_two s.vtree s.nodes s.roots s.epoch s.moving c.args.self.now c.place.inside.0 c.args.place
-    c.args.elements.now c.args.first c.args.second c.self.invariant.stored c.self.view_is c.place.view_is c.requires.partition
+    c.args.elements.now c.args.first c.args.second c.self.invariant.stored c.self.view_is c.place.view_is
+    c.requires.partition
     c.requires.differ c.requires.order c.requires.ascend in
     let none = sym c.trimmed_pair.ensures ∙ c.in_default.is in
     let number = if_new c.in-Ok.found c.in-New.number (λ n. IsNewNumber s.nodes n) c.in-New.is
@@ -175,7 +184,8 @@ invariant_of-self-2 c =
     let s = c.self.inside in
     let two = c.args.first ∷ c.args.second ∷ [] in
     let h = asked_two s.vtree s.nodes s.roots s.epoch s.moving c.args.self.now c.place.inside.0 c.args.place
-    c.args.elements.now c.args.first c.args.second c.self.invariant.stored c.self.view_is c.place.view_is c.requires.partition
+    c.args.elements.now c.args.first c.args.second c.self.invariant.stored c.self.view_is c.place.view_is
+    c.requires.partition
     c.requires.differ c.requires.order c.requires.ascend in
     let none = sym c.trimmed_pair.ensures ∙ c.in_default.is in
     let number = if_new c.in-Ok.found c.in-New.number (λ n. IsNewNumber s.nodes n) c.in-New.is
@@ -204,7 +214,8 @@ returns-clause-ok c = λ ds partition.
     let s = c.self.inside in
     let two = c.args.first ∷ c.args.second ∷ [] in
     let h = asked_two s.vtree s.nodes s.roots s.epoch s.moving c.args.self.now c.place.inside.0 c.args.place
-    c.args.elements.now c.args.first c.args.second c.self.invariant.stored c.self.view_is c.place.view_is c.requires.partition
+    c.args.elements.now c.args.first c.args.second c.self.invariant.stored c.self.view_is c.place.view_is
+    c.requires.partition
     c.requires.differ c.requires.order c.requires.ascend in
     let none = sym c.trimmed_pair.ensures ∙ c.in_default.is in
     let number = if_new c.in-Ok.found c.in-New.number (λ n. IsNewNumber s.nodes n) c.in-New.is
@@ -227,7 +238,8 @@ returns-clause-kept c =
     let s = c.self.inside in
     let two = c.args.first ∷ c.args.second ∷ [] in
     let h = asked_two s.vtree s.nodes s.roots s.epoch s.moving c.args.self.now c.place.inside.0 c.args.place
-    c.args.elements.now c.args.first c.args.second c.self.invariant.stored c.self.view_is c.place.view_is c.requires.partition
+    c.args.elements.now c.args.first c.args.second c.self.invariant.stored c.self.view_is c.place.view_is
+    c.requires.partition
     c.requires.differ c.requires.order c.requires.ascend in
     let none = sym c.trimmed_pair.ensures ∙ c.in_default.is in
     let number = if_new c.in-Ok.found c.in-New.number (λ n. IsNewNumber s.nodes n) c.in-New.is
@@ -249,7 +261,8 @@ returns-clause-grown c =
     let s = c.self.inside in
     let two = c.args.first ∷ c.args.second ∷ [] in
     let h = asked_two s.vtree s.nodes s.roots s.epoch s.moving c.args.self.now c.place.inside.0 c.args.place
-    c.args.elements.now c.args.first c.args.second c.self.invariant.stored c.self.view_is c.place.view_is c.requires.partition
+    c.args.elements.now c.args.first c.args.second c.self.invariant.stored c.self.view_is c.place.view_is
+    c.requires.partition
     c.requires.differ c.requires.order c.requires.ascend in
     let none = sym c.trimmed_pair.ensures ∙ c.in_default.is in
     let number = if_new c.in-Ok.found c.in-New.number (λ n. IsNewNumber s.nodes n) c.in-New.is
@@ -270,7 +283,8 @@ returns-clause-grown c =
     c.add_two.ensures.uses c.add_two.ensures.valid
     (λ d. HasNewNode (table_of s.vtree s.nodes s.roots s.epoch s.moving) (table_of s.vtree d s.roots s.epoch s.moving)
     c.place.inside.0 c.args.elements.now (c.in-New.number + 2050))
-    (λ w counts valid. grown_new s.vtree s.nodes s.roots s.epoch s.moving c.place.inside.0 c.args.elements.now two h none
+    (λ w counts valid. grown_new s.vtree s.nodes s.roots s.epoch s.moving c.place.inside.0 c.args.elements.now two h
+    none
     c.in-New.number number w counts valid room))))
 
 pub returns-clause-table : goal.returns-clause-table
