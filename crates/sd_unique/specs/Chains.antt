@@ -22,10 +22,10 @@ mixed hash pair =
 abbrev pub greatest : ℕ → ℕ × ℕ → ℕ
 greatest n pair = max (max n pair.0) pair.1
 
--- the hash of a place and a list: the greatest number in the list, and fifteen bits of what the place and all pairs
+-- the hash of a place and a list: the greatest number in the list, and thirteen bits of what the place and all pairs
 -- give
 unfoldable pub hash_of : ℕ × List (ℕ × ℕ) → ℕ
-hash_of key = (fold mixed key.0 key.1 / 2 ^ 49 + fold greatest 0 key.1) % 2 ^ 32
+hash_of key = (fold mixed key.0 key.1 / 2 ^ 51 + fold greatest 0 key.1) % 2 ^ 32
 
 -- the bucket of a key among so many
 unfoldable pub bucket_of : ℕ × List (ℕ × ℕ) → ℕ → ℕ

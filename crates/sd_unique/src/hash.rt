@@ -1,8 +1,8 @@
 // The hash of a key, and the bucket of a hash.
 //
-// A node stands near its newest child: the hash is the greatest number in the list, plus 15 mixed bits. What an
+// A node stands near its newest child: the hash is the greatest number in the list, plus 13 mixed bits. What an
 // operation makes one after another, and what it looks for, has its buckets, the records there and their pages near
-// each other, where a hash of mixed bits alone touches the whole table at each step. The 32,768 buckets are there for
+// each other, where a hash of mixed bits alone touches the whole table at each step. The 8,192 buckets are there for
 // a child of many nodes, all of which may have it as their greatest number.
 ghost use Rattle.std.specs.Prelude.{◌≡◌, ◌<◌, ℕ, List};
 ghost use Rattle.sd_unique.specs.Chains.{bucket_of, hash_of, mixed};
@@ -18,7 +18,7 @@ pub(crate) fn hash(place: u32, list: &[(u32, u32)]) -> u32
         hash = mix(hash, pair.0, pair.1);
         greatest = greatest.max(pair.0).max(pair.1);
     }
-    ((hash >> 49) as u32).wrapping_add(greatest)
+    ((hash >> 51) as u32).wrapping_add(greatest)
 }
 
 // The bucket of a key of this hash among so many.
