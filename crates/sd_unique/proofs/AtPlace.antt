@@ -16,7 +16,7 @@ use Rattle.sd_unique.specs.Relinking.{IsLinkedAt}
 use Rattle.sd_unique.specs.Chains.{AreInLists, IsRecordAt, after_of, head_of, list_by, list_under, no_record}
 use Rattle.sd_unique.proofs.Both.{chain_short}
 use Rattle.sd_unique.proofs.Numbered.{linked_at, linked_record}
-use Rattle.sd_unique.proofs.Stacked.{chain_empty, head_has, get_or_any}
+use Rattle.sd_unique.proofs.Reading.{chain_empty, head_has, get_or_any}
 use Rattle.sd_unique.proofs.Standing.{list_inside, linked_list}
 use Rattle.sd_unique.proofs.Walked.{chain_one}
 

@@ -1,18 +1,19 @@
 -- A detached record becomes a linked one.
-use Rattle.std.proofs.Common.{◌≡◌, ◌≢◌, ℕ, ◌+◌, ◌-◌, ◌<◌, bit_and, List, length, slice_get, unwrap_or}
+use Rattle.std.proofs.Common.{Bool, ◌≡◌, ◌≢◌, ℕ, ◌+◌, ◌-◌, ◌<◌, bit_and, List, length, slice_get, unwrap_or}
 use Rattle.std.proofs.Common.{[], Some, refl, sym, ap, subst, ◌∙◌, arith}
 use Rattle.std.proofs.Math.ListN.{set}
 use Rattle.std.proofs.lemmas.List.{length-set, get_or-set_same, get_or-set_other}
 use Rattle.std.specs.FinMap.{get}
 use Rattle.sd_runs.specs.Arena.{Arena}
 use Rattle.sd_runs.proofs.Places.{by_cases}
+use Rattle.sd_unique.specs.Candidates.{Waits}
 use Rattle.sd_unique.specs.declared.record.Record.{Record}
 use Rattle.sd_unique.specs.declared.record.Links.{Links}
 use Rattle.sd_unique.specs.declared.record.RecordState.TheVariants.{Linked, Detached}
 use Rattle.sd_unique.specs.Filed.{IsFiled, unfiled, filed_at}
 use Rattle.sd_unique.specs.Record.{key_of, nodes_of}
-use Rattle.sd_unique.specs.Chains.{next_of, chain_by, list_by, chain_under, list_under, stack_under, bucket_of}
-use Rattle.sd_unique.specs.Chains.{head_of, hash_of, kept_hash, no_record, HoldsNodes, KeepsStack, AreListed}
+use Rattle.sd_unique.specs.Chains.{next_of, chain_by, list_by, chain_under, list_under, bucket_of}
+use Rattle.sd_unique.specs.Chains.{head_of, hash_of, kept_hash, no_record, HoldsNodes, AreListed}
 use Rattle.sd_unique.specs.Relinking.{relinked, IsAbsent}
 use Rattle.sd_unique.proofs.Changed.{set_which}
 use Rattle.sd_unique.proofs.Cutting.{all_kept}
@@ -20,8 +21,8 @@ use Rattle.sd_unique.proofs.Entries.{slice_get_inside}
 use Rattle.sd_unique.proofs.Filed.{filed_first, both_same}
 use Rattle.sd_unique.proofs.Moved.{stored_relinked, nodes_relinked}
 use Rattle.sd_unique.proofs.Numbered.{detached_is}
-use Rattle.sd_unique.proofs.Stacked.{link_there, link_other}
-use Rattle.sd_unique.proofs.Standing.{chain_here, chain_other, listed_at, stacked_kept, is_record, detached_chain}
+use Rattle.sd_unique.proofs.Reading.{link_there, link_other}
+use Rattle.sd_unique.proofs.Standing.{chain_here, chain_other, listed_at, is_record, detached_chain}
 
 -- the bucket that the code computed is that of the key
 pub bucket_at : (arena : Arena) (r : Record) (list : List (ℕ × ℕ)) (count b : ℕ)
@@ -68,19 +69,21 @@ module _ (arena : Arena) (rs : List Record) (n : ℕ) (r t : Record) (there : sl
       f
 
   -- what holds of the fields is kept
-  pub attached_kept : (links new : List Links) (heads places places' : List ℕ) (top b : ℕ)
+  pub attached_kept : (links new : List Links) (heads places places' : List ℕ) (flags : List Bool) (b : ℕ)
       → bucket_of (key_of arena r) (length heads - 1) ≡ b → b + 1 < length heads → t.next ≡ head_of heads (b + 1)
-      → length places' ≡ length places → KeepsStack links new
+      → length places' ≡ length places → length new ≡ length links
       → AreListed new places' (filed_at n (bit_and r.place 2047 + 1) (unfiled n (list_under rs)))
-      → IsAbsent (nodes_of arena rs) (key_of arena r) → (r.uses ≡ 0 → stack_under links n ≡ Some 0)
+      → IsAbsent (nodes_of arena rs) (key_of arena r) → (r.uses ≡ 0 → Waits flags n)
       → kept_hash new n ≡ hash_of (key_of arena r) → ((i : ℕ) → i ≢ n → kept_hash new i ≡ kept_hash links i)
-      → HoldsNodes arena rs links heads places top → HoldsNodes arena (set rs n t) new (set heads (b + 1) n) places' top
-  attached_kept links new heads places places' top b at inside next same_places stack lists absent queued hash
+      → HoldsNodes arena rs links heads places flags
+      → HoldsNodes arena (set rs n t) new (set heads (b + 1) n) places' flags
+  attached_kept links new heads places places' flags b at inside next same_places same_links lists absent queued hash
       hashes k =
       record {
         stored = stored_relinked arena rs n r t there (slice_get_inside rs n r there) place start size uses mark
             was is absent k.stored;
-        linked_all = stack.size ∙ k.linked_all ∙ sym (length-set rs n t);
+        linked_all = same_links ∙ k.linked_all ∙ sym (length-set rs n t);
+        flags_all = k.flags_all ∙ sym (length-set rs n t);
         at_least_one = omega (arith, k.at_least_one, length-set heads (b + 1) n);
         places_all = λ some. same_places ∙ k.places_all (omega (arith, some, same_places));
         in_chains = subst (λ h. IsFiled (next_of (set rs n t)) no_record (head_of (set heads (b + 1) n))
@@ -90,15 +93,14 @@ module _ (arena : Arena) (rs : List Record) (n : ℕ) (r t : Record) (there : sl
             (filed_at n (bit_and r.place 2047 + 1) (unfiled n (list_under rs))) (list_under (set rs n t))
             (λ b i e. refl) (λ b i e. refl) (λ b. refl)
             (listed_at arena rs rs n r t (all_kept rs) there (bit_and r.place 2047 + 1) list_new) (lists some);
-        in_stack = stacked_kept links new top stack k.in_stack;
         hashed = λ i x e linked. by_cases
             (λ h. ap (kept_hash new) h.0 ∙ hash ∙ ap hash_of (sym key_same) ∙ ap (λ y. hash_of (key_of arena y)) h.1)
             (λ h. hashes i h.0 ∙ k.hashed i x h.1 linked)
             (set_which rs n r t there i x e);
         queued = λ i x e linked none. by_cases
-            (λ h. stack.flags i ∙ ap (stack_under links) h.0
+            (λ h. ap (slice_get flags) h.0
             ∙ queued (sym uses ∙ ap (λ (y : Record). y.uses) h.1 ∙ none))
-            (λ h. stack.flags i ∙ k.queued i x h.1 linked none)
+            (λ h. k.queued i x h.1 linked none)
             (set_which rs n r t there i x e);
       }
 

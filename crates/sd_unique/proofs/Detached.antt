@@ -1,6 +1,6 @@
 -- A detached record gets another place or another run.
-use Rattle.std.proofs.Common.{◌≡◌, ◌-◌, bit_and, ℕ, zero, suc, ◌<◌, List, [], ◌∷◌, length, get_or, slice_get, Some}
-use Rattle.std.proofs.Common.{unwrap_or, refl, sym, ap, subst, ◌∙◌, arith}
+use Rattle.std.proofs.Common.{◌≡◌, ◌-◌, bit_and, Bool, ℕ, zero, suc, ◌<◌, List, [], ◌∷◌, length, get_or}
+use Rattle.std.proofs.Common.{slice_get, Some, unwrap_or, refl, sym, ap, subst, ◌∙◌, arith}
 use Rattle.std.proofs.Math.ListN.{set}
 use Rattle.std.proofs.Math.Seq.{map-set_same}
 use Rattle.std.proofs.lemmas.List.{length-set}
@@ -101,21 +101,21 @@ module _ (arena : Arena) (rs : List Record) (n : ℕ) (r t : Record) (there : sl
       stored_set arena rs n r t there (λ node. live) (λ i x ne e nx nt. apart i x ne e nx)
       (λ i x ne e nx nt same. not_linked t.state is nt) st
 
-  pub kept_detached : (links : List Links) (heads places : List ℕ) (candidates : ℕ)
+  pub kept_detached : (links : List Links) (heads places : List ℕ) (flags : List Bool)
       → t.next ≡ r.next → r ≡ get_or rs n r → AreRecordsStored arena (set rs n t)
-      → HoldsNodes arena rs links heads places candidates
-      → HoldsNodes arena (set rs n t) links heads places candidates
-  kept_detached links heads places candidates next read st k =
+      → HoldsNodes arena rs links heads places flags
+      → HoldsNodes arena (set rs n t) links heads places flags
+  kept_detached links heads places flags next read st k =
       record {
         stored = st;
         linked_all = k.linked_all ∙ sym (length-set rs n t);
+        flags_all = k.flags_all ∙ sym (length-set rs n t);
         at_least_one = k.at_least_one;
         places_all = k.places_all;
         in_chains = filed_same _ _ no_record _ _ _ _ (λ b i e. links_kept next read i) (λ b. refl)
             (chain_kept (length heads - 1)) k.in_chains;
         in_lists = λ some. both_same _ _ _ _ no_record _ _ _ _ (λ b i e. refl) (λ b i e. refl) (λ b. refl) list_kept
             (k.in_lists some);
-        in_stack = k.in_stack;
         hashed = λ i x e linked. by_cases
             (λ h. absurd (not_linked t.state is (ap (λ y. y.state) h.1 ∙ linked)))
             (λ h. k.hashed i x h.1 linked)

@@ -1,5 +1,6 @@
 -- A linked record becomes a detached one.
-use Rattle.std.proofs.Common.{◌≡◌, ◌≢◌, ℕ, ◌-◌, bit_and, List, [], length, slice_get, Some, unwrap_or, refl, sym, ap}
+use Rattle.std.proofs.Common.{Bool, ◌≡◌, ◌≢◌, ℕ, ◌-◌, bit_and, List, [], length, slice_get, Some, unwrap_or}
+use Rattle.std.proofs.Common.{refl, sym, ap}
 use Rattle.std.proofs.Common.{subst, ◌∙◌, arith}
 use Rattle.std.proofs.Math.ListN.{set}
 use Rattle.std.proofs.lemmas.List.{length-set}
@@ -13,7 +14,7 @@ use Rattle.sd_unique.specs.declared.record.RecordState.TheVariants.{Linked, Deta
 use Rattle.sd_unique.specs.Filed.{IsFiled, unfiled, filed_at}
 use Rattle.sd_unique.specs.Record.{key_of, nodes_of}
 use Rattle.sd_unique.specs.Chains.{next_of, chain_by, list_by, chain_under, list_under, bucket_of, head_of}
-use Rattle.sd_unique.specs.Chains.{no_record, hash_of, kept_hash, HoldsNodes, KeepsRecords, KeepsStack, AreListed}
+use Rattle.sd_unique.specs.Chains.{no_record, hash_of, kept_hash, HoldsNodes, KeepsRecords, AreListed}
 use Rattle.sd_unique.specs.Relinking.{unlinked}
 use Rattle.sd_unique.proofs.Changed.{set_which}
 use Rattle.sd_unique.proofs.Entries.{slice_get_inside}
@@ -21,8 +22,8 @@ use Rattle.sd_unique.proofs.Filed.{filed_same, both_same}
 use Rattle.sd_unique.proofs.Moved.{stored_unlinked, nodes_unlinked, not_both}
 use Rattle.sd_unique.proofs.Numbered.{linked_there, linked_is}
 use Rattle.sd_unique.proofs.Relinked.{nodes_kept, stored_kept}
-use Rattle.sd_unique.proofs.Stacked.{link_same}
-use Rattle.sd_unique.proofs.Standing.{unchained, listed_at, stacked_kept}
+use Rattle.sd_unique.proofs.Reading.{link_same}
+use Rattle.sd_unique.proofs.Standing.{unchained, listed_at}
 
 -- The chain and the lists were changed, then the state: what holds of the fields is kept, and the node is detached.
 module _ (arena : Arena) (rs mid : List Record) (n : ℕ) (m t : Record) (kept : KeepsRecords rs mid)
@@ -39,18 +40,20 @@ module _ (arena : Arena) (rs mid : List Record) (n : ℕ) (m t : Record) (kept :
   key_back : (r x : Record) → x.place ≡ r.place → x.start ≡ r.start → key_of arena r ≡ key_of arena x
   key_back r x p s i = (sym p i, unwrap_or (get arena.live (sym s i)) [])
 
-  pub detached_kept : (links new : List Links) (heads heads' places places' : List ℕ) (top : ℕ)
+  pub detached_kept : (links new : List Links) (heads heads' places places' : List ℕ) (flags : List Bool)
       → IsSome (get (nodes_of arena rs).linked n) → t.next ≡ m.next → length heads' ≡ length heads
-      → length places' ≡ length places → KeepsStack links new
+      → length places' ≡ length places → length new ≡ length links
       → IsFiled (next_of mid) no_record (head_of heads') (unfiled n (chain_under arena (length heads - 1) rs))
       → AreListed new places' (filed_at n 0 (unfiled n (list_under rs)))
       → ((i : ℕ) → i ≢ n → kept_hash new i ≡ kept_hash links i)
-      → HoldsNodes arena rs links heads places top → HoldsNodes arena (set mid n t) new heads' places' top
-  detached_kept links new heads heads' places places' top was next same_heads same_places stack chains lists hashes k =
+      → HoldsNodes arena rs links heads places flags → HoldsNodes arena (set mid n t) new heads' places' flags
+  detached_kept links new heads heads' places places' flags was next same_heads same_places same_links chains lists
+      hashes k =
       record {
         stored = stored_unlinked arena mid n m t there (slice_get_inside mid n m there) place start size uses mark
             (was_linked was) is (stored_kept rs mid kept arena k.stored);
-        linked_all = stack.size ∙ k.linked_all ∙ sym kept.size ∙ sym (length-set mid n t);
+        linked_all = same_links ∙ k.linked_all ∙ sym kept.size ∙ sym (length-set mid n t);
+        flags_all = k.flags_all ∙ sym kept.size ∙ sym (length-set mid n t);
         at_least_one = omega (arith, k.at_least_one, same_heads);
         places_all = λ some. same_places ∙ k.places_all (omega (arith, some, same_places));
         in_chains = filed_same (next_of mid) (next_of (set mid n t)) no_record (head_of heads') (head_of heads')
@@ -62,7 +65,6 @@ module _ (arena : Arena) (rs mid : List Record) (n : ℕ) (m t : Record) (kept :
         in_lists = λ some. both_same _ _ _ _ no_record _ _ (filed_at n 0 (unfiled n (list_under rs)))
             (list_under (set mid n t)) (λ b i e. refl) (λ b i e. refl) (λ b. refl)
             (listed_at arena rs mid n m t kept there 0 (ap (λ s. list_by s (bit_and t.place 2047)) is)) (lists some);
-        in_stack = stacked_kept links new top stack k.in_stack;
         hashed = λ i x e linked. by_cases
             (λ h. absurd (not_both t.state is (ap (λ y. y.state) h.1 ∙ linked)))
             (λ h. let w = kept.was i x h.1 in
@@ -72,7 +74,7 @@ module _ (arena : Arena) (rs mid : List Record) (n : ℕ) (m t : Record) (kept :
         queued = λ i x e linked none. by_cases
             (λ h. absurd (not_both t.state is (ap (λ y. y.state) h.1 ∙ linked)))
             (λ h. let w = kept.was i x h.1 in
-            stack.flags i ∙ k.queued i w.0 w.1 (sym w.7 ∙ linked) (sym w.5 ∙ none))
+            k.queued i w.0 w.1 (sym w.7 ∙ linked) (sym w.5 ∙ none))
             (set_which mid n m t there i x e);
       }
 

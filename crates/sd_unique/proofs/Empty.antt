@@ -1,15 +1,11 @@
 -- No records: what holds of the fields holds of them.
-use Rattle.std.proofs.Common.{◌≡◌, ℕ, zero, suc, ◌<◌, ◌^◌, List, [], length, refl, arith}
+use Rattle.std.proofs.Common.{◌≡◌, ℕ, ◌<◌, ◌^◌, List, [], length, refl, arith}
 use Rattle.sd_runs.specs.Arena.{Arena, IsArena}
-use Rattle.sd_unique.specs.Chains.{HoldsNodes, head_of, top_of, no_record}
-
-top_nothing : (b : ℕ) → top_of no_record b ≡ no_record
-top_nothing zero = refl
-top_nothing (suc b) = refl
+use Rattle.sd_unique.specs.Chains.{HoldsNodes, head_of, no_record}
 
 -- with no records, no record at any head and no lists, the fields are in order
 pub kept_nothing : (arena : Arena) (heads : List ℕ) → IsArena arena → arena.bound < 2 ^ 31 → 1 < length heads
-    → ((b : ℕ) → head_of heads b ≡ no_record) → HoldsNodes arena [] [] heads [] no_record
+    → ((b : ℕ) → head_of heads b ≡ no_record) → HoldsNodes arena [] [] heads [] []
 kept_nothing arena heads well fits some no_heads =
     record {
       stored = record {
@@ -21,6 +17,7 @@ kept_nothing arena heads well fits some no_heads =
         bound_fits = fits;
       };
       linked_all = refl;
+      flags_all = refl;
       at_least_one = some;
       places_all = λ any. absurd (omega (arith, any));
       in_chains = record {
@@ -31,13 +28,6 @@ kept_nothing arena heads well fits some no_heads =
         only = λ b n h. absurd h;
       };
       in_lists = λ any. absurd (omega (arith, any));
-      in_stack = record {
-        lists = λ b. [];
-        chained = top_nothing;
-        once = λ b. tt;
-        filed = λ b n e. cc;
-        only = λ b n h. absurd h;
-      };
       hashed = λ n r e linked. cc;
       queued = λ n r e linked none. cc;
     }

@@ -1,5 +1,5 @@
 -- A detached record becomes a free one.
-use Rattle.std.proofs.Common.{◌≡◌, ◌≢◌, ℕ, ◌-◌, ◌<◌, bit_and, List, length, slice_get, Some, refl, sym, ap, subst}
+use Rattle.std.proofs.Common.{Bool, ◌≡◌, ◌≢◌, ℕ, ◌-◌, ◌<◌, bit_and, List, length, slice_get, Some, refl, sym, ap, subst}
 use Rattle.std.proofs.Common.{[], unwrap_or, ◌∙◌, arith}
 use Rattle.std.proofs.Math.ListN.{set}
 use Rattle.std.proofs.lemmas.List.{length-set, get_or-set_same, get_or-set_other}
@@ -13,7 +13,7 @@ use Rattle.sd_unique.specs.declared.record.RecordState.TheVariants.{Free, Detach
 use Rattle.sd_unique.specs.Filed.{IsFiled, unfiled}
 use Rattle.sd_unique.specs.Record.{key_of, nodes_of, AreRecordsStored}
 use Rattle.sd_unique.specs.Chains.{next_of, chain_by, list_by, chain_under, list_under, bucket_of, head_of}
-use Rattle.sd_unique.specs.Chains.{no_record, kept_hash, HoldsNodes, KeepsStack, AreListed}
+use Rattle.sd_unique.specs.Chains.{no_record, kept_hash, HoldsNodes, AreListed}
 use Rattle.sd_unique.specs.Relinking.{removed}
 use Rattle.sd_unique.proofs.Changed.{set_which}
 use Rattle.sd_unique.proofs.Cutting.{all_kept}
@@ -21,8 +21,8 @@ use Rattle.sd_unique.proofs.Entries.{slice_get_inside}
 use Rattle.sd_unique.proofs.Filed.{filed_first, both_same}
 use Rattle.sd_unique.proofs.Moved.{stored_freed, untaken, nodes_removed, free_not_linked}
 use Rattle.sd_unique.proofs.Numbered.{detached_is}
-use Rattle.sd_unique.proofs.Stacked.{link_there, link_other}
-use Rattle.sd_unique.proofs.Standing.{chain_here, chain_other, unlisted, stacked_kept, is_record, detached_chain}
+use Rattle.sd_unique.proofs.Reading.{link_there, link_other}
+use Rattle.sd_unique.proofs.Standing.{chain_here, chain_other, unlisted, is_record, detached_chain}
 use Rattle.sd_unique.proofs.Taken.{kept_arena, given_same, given_longer, given_bound}
 
 module _ (arena : Arena) (rs : List Record) (n : ℕ) (r t : Record) (there : slice_get rs n ≡ Some r)
@@ -47,15 +47,16 @@ module _ (arena : Arena) (rs : List Record) (n : ℕ) (r t : Record) (there : sl
       f
 
   -- what holds of the fields is kept, before the run is given back
-  freed_kept : (links new : List Links) (heads places places' : List ℕ) (top : ℕ) → t.next ≡ head_of heads 0
-      → length places' ≡ length places → KeepsStack links new → AreListed new places' (unfiled n (list_under rs))
+  freed_kept : (links new : List Links) (heads places places' : List ℕ) (flags : List Bool) → t.next ≡ head_of heads 0
+      → length places' ≡ length places → length new ≡ length links → AreListed new places' (unfiled n (list_under rs))
       → ((i : ℕ) → kept_hash new i ≡ kept_hash links i) → AreRecordsStored arena (set rs n t)
-      → HoldsNodes arena rs links heads places top
-      → HoldsNodes arena (set rs n t) new (set heads 0 n) places' top
-  freed_kept links new heads places places' top next same_places stack lists hashes st k =
+      → HoldsNodes arena rs links heads places flags
+      → HoldsNodes arena (set rs n t) new (set heads 0 n) places' flags
+  freed_kept links new heads places places' flags next same_places same_links lists hashes st k =
       record {
         stored = st;
-        linked_all = stack.size ∙ k.linked_all ∙ sym (length-set rs n t);
+        linked_all = same_links ∙ k.linked_all ∙ sym (length-set rs n t);
+        flags_all = k.flags_all ∙ sym (length-set rs n t);
         at_least_one = omega (arith, k.at_least_one, length-set heads 0 n);
         places_all = λ some. same_places ∙ k.places_all (omega (arith, some, same_places));
         in_chains = subst (λ h. IsFiled (next_of (set rs n t)) no_record (head_of (set heads 0 n))
@@ -66,14 +67,13 @@ module _ (arena : Arena) (rs : List Record) (n : ℕ) (r t : Record) (there : sl
             (λ b i e. refl) (λ b i e. refl) (λ b. refl)
             (unlisted arena rs rs n r t (all_kept rs) there (ap (λ s. list_by s (bit_and t.place 2047)) is))
             (lists some);
-        in_stack = stacked_kept links new top stack k.in_stack;
         hashed = λ i x e linked. by_cases
             (λ h. absurd (free_not_linked t.state is (ap (λ (y : Record). y.state) h.1 ∙ linked)))
             (λ h. hashes i ∙ k.hashed i x h.1 linked)
             (set_which rs n r t there i x e);
         queued = λ i x e linked none. by_cases
             (λ h. absurd (free_not_linked t.state is (ap (λ (y : Record). y.state) h.1 ∙ linked)))
-            (λ h. stack.flags i ∙ k.queued i x h.1 linked none)
+            (λ h. k.queued i x h.1 linked none)
             (set_which rs n r t there i x e);
       }
 
@@ -84,20 +84,20 @@ module _ (arena : Arena) (rs : List Record) (n : ℕ) (r t : Record) (there : sl
     inside = slice_get_inside rs n r there
 
     -- and after that
-    pub released_kept : (links more : List Links) (heads places places' : List ℕ) (top : ℕ) → t.next ≡ head_of heads 0
-        → length places' ≡ length places → KeepsStack links more
+    pub released_kept : (links more : List Links) (heads places places' : List ℕ) (flags : List Bool)
+        → t.next ≡ head_of heads 0 → length places' ≡ length places → length more ≡ length links
         → AreListed more places' (unfiled n (list_under rs)) → ((i : ℕ) → kept_hash more i ≡ kept_hash links i)
-        → HoldsNodes arena rs links heads places top
-        → HoldsNodes new (set rs n t) more (set heads 0 n) places' top
-    released_kept links more heads places places' top next same_places stack lists hashes k =
+        → HoldsNodes arena rs links heads places flags
+        → HoldsNodes new (set rs n t) more (set heads 0 n) places' flags
+    released_kept links more heads places places' flags next same_places same_links lists hashes k =
         let stored = stored_freed arena new rs n r t there inside was is st well gave list size in
         let apart = untaken arena new rs n r t there inside was is st well gave list size in
         kept_arena arena new (set rs n t) stored well
         (given_same arena new (set rs n t) stored well list r.start r.length gave size apart)
         (given_longer arena new (set rs n t) stored well list r.start r.length gave size apart)
         (given_bound arena new (set rs n t) stored well list r.start r.length gave size apart)
-        more (set heads 0 n) places' top
-        (freed_kept links more heads places places' top next same_places stack lists hashes stored k)
+        more (set heads 0 n) places' flags
+        (freed_kept links more heads places places' flags next same_places same_links lists hashes stored k)
 
     pub nodes_released : (k : ℕ × List (ℕ × ℕ)) → get (nodes_of arena rs).detached n ≡ Some k
         → nodes_of new (set rs n t) ≡ removed (nodes_of arena rs) n k.1

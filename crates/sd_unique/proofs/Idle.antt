@@ -1,15 +1,14 @@
 -- Linked nodes without uses, and the stack of candidates.
-use Rattle.std.proofs.Common.{◌≡◌, ℕ, List, slice_get, Some, refl, sym, ap, subst, ◌∙◌}
+use Rattle.std.proofs.Common.{◌≡◌, Bool, ℕ, List, slice_get, Some, refl, sym, ap, subst, ◌∙◌}
 use Rattle.std.specs.Option.{option_and_then, IsSome}
 use Rattle.sd_runs.specs.Arena.{Arena}
 use Rattle.sd_unique.specs.declared.record.Record.{Record}
-use Rattle.sd_unique.specs.declared.record.Links.{Links}
 use Rattle.sd_unique.specs.declared.record.RecordState.TheVariants.{Linked}
 use Rattle.sd_unique.specs.Record.{if_linked, key_of, linked_key, uses_of_record, nodes_of}
 use Rattle.sd_unique.specs.Relinking.{IsIdle}
-use Rattle.sd_unique.specs.Chains.{waiting_of, stack_under, no_record, AreStacked, IsUnused}
+use Rattle.sd_unique.specs.Candidates.{Waits}
+use Rattle.sd_unique.specs.Chains.{IsUnused}
 use Rattle.sd_unique.proofs.Numbered.{linked_at, linked_there, uses_in_at, node_some}
-use Rattle.sd_unique.proofs.Stacked.{chain_empty}
 use Rattle.sd_unique.proofs.Taken.{linked_state}
 
 -- the record of a linked node without uses
@@ -35,10 +34,9 @@ idle_record arena rs n idle =
     (r.0, r.1, r.2, none)
 
 -- where the stack is empty, and has all linked nodes without uses, there is none
-pub idle_none : (arena : Arena) (rs : List Record) (links : List Links) (top : ℕ) → AreStacked links top
-    → ((n : ℕ) (r : Record) → slice_get rs n ≡ Some r → IsUnused r → stack_under links n ≡ Some 0)
-    → top ≡ no_record → (n : ℕ) → ¬ IsIdle (nodes_of arena rs) n
-idle_none arena rs links top stacked queued e n idle =
+pub idle_none : (arena : Arena) (rs : List Record) (flags : List Bool)
+    → ((n : ℕ) (r : Record) → slice_get rs n ≡ Some r → IsUnused r → Waits flags n) → ((n : ℕ) → ¬ Waits flags n)
+    → (n : ℕ) → ¬ IsIdle (nodes_of arena rs) n
+idle_none arena rs flags queued empty n idle =
     let r = idle_record arena rs n idle in
-    chain_empty (waiting_of links) no_record top n (stacked.lists 0) (stacked.chained 0) e
-    (stacked.filed 0 n (queued n r.0 r.1 (record { linked = r.2; none = r.3 })))
+    empty n (queued n r.0 r.1 (record { linked = r.2; none = r.3 }))

@@ -9,7 +9,8 @@ mod WorkedRelinking
 mod Picked
 mod Taken
 mod Moved
-mod Stacked
+mod Reading
+mod Waiting
 mod Both
 mod Listed
 mod Cut
@@ -23,7 +24,6 @@ mod Detaching
 mod Attaching
 mod Freeing
 mod Retired
-mod Popped
 mod AtPlace
 mod Idle
 mod Whole

@@ -1,6 +1,6 @@
 -- The lists are made: each record that is that of a node is put in its list, one after another. What is found without
 -- lists is a linked or detached node.
-use Rattle.std.proofs.Common.{◌≡◌, ◌+◌, ◌-◌, ◌<◌, ◌==◌, true, false, ℕ, zero, suc, Bool, if◌then◌else◌}
+use Rattle.std.proofs.Common.{Bool, ◌≡◌, ◌+◌, ◌-◌, ◌<◌, ◌==◌, true, false, ℕ, zero, suc, Bool, if◌then◌else◌}
 use Rattle.std.proofs.Common.{bit_and, List, [], ◌∷◌, ◌++◌, length}
 use Rattle.std.proofs.Common.{take, replicate, get_or, slice_get, Option, Some, None, IfNone}
 use Rattle.std.proofs.Common.{refl, sym, ap, subst, ◌∙◌, arith}
@@ -19,15 +19,14 @@ use Rattle.sd_unique.specs.declared.record.RecordState.TheVariants.{Detached}
 use Rattle.sd_unique.specs.Filed.{filed_at}
 use Rattle.sd_unique.specs.Record.{detached_key, if_detached, key_of, nodes_of}
 use Rattle.sd_unique.specs.Relinking.{IsLinkedAt}
-use Rattle.sd_unique.specs.Chains.{AreInLists, HoldsNodes, KeepsStack, IsRecordAt, head_of, kept_hash, list_by}
+use Rattle.sd_unique.specs.Chains.{AreInLists, HoldsNodes, IsRecordAt, head_of, kept_hash, list_by}
 use Rattle.sd_unique.specs.Chains.{list_under, no_record}
 use Rattle.sd_unique.proofs.Both.{filed_here, filed_other}
 use Rattle.sd_unique.proofs.Entries.{slice_get_push, slice_get_before}
 use Rattle.sd_unique.proofs.Filed.{both_same}
 use Rattle.sd_unique.proofs.Numbered.{detached_at, detached_record, linked_record}
-use Rattle.sd_unique.proofs.Occupied.{stack_kept}
 use Rattle.sd_unique.proofs.Pushed.{read_push}
-use Rattle.sd_unique.proofs.Stacked.{none_or}
+use Rattle.sd_unique.proofs.Reading.{none_or}
 use Rattle.sd_unique.proofs.Standing.{list_inside}
 
 -- where all lists are empty, they have all of no records
@@ -115,20 +114,20 @@ module _ (rs : List Record) (n : ℕ) (d : Record) (inside : n < length rs) wher
 
 -- what holds of the fields is kept when the lists are made
 pub kept_listed : (arena : Arena) (rs : List Record) (links new : List Links) (heads places places' : List ℕ)
-    (top : ℕ) → length places' ≡ 2049 → AreInLists new places' (list_under rs) → KeepsStack links new
-    → ((n : ℕ) → kept_hash new n ≡ kept_hash links n) → HoldsNodes arena rs links heads places top
-    → HoldsNodes arena rs new heads places' top
-kept_listed arena rs links new heads places places' top size lists stack hashes k =
+    (flags : List Bool) → length places' ≡ 2049 → AreInLists new places' (list_under rs) → length new ≡ length links
+    → ((n : ℕ) → kept_hash new n ≡ kept_hash links n) → HoldsNodes arena rs links heads places flags
+    → HoldsNodes arena rs new heads places' flags
+kept_listed arena rs links new heads places places' flags size lists same_links hashes k =
     record {
       stored = k.stored;
-      linked_all = stack.size ∙ k.linked_all;
+      linked_all = same_links ∙ k.linked_all;
+      flags_all = k.flags_all;
       at_least_one = k.at_least_one;
       places_all = λ some. size;
       in_chains = k.in_chains;
       in_lists = λ some. lists;
-      in_stack = stack_kept links new top stack k.in_stack;
       hashed = λ i r e linked. hashes i ∙ k.hashed i r e linked;
-      queued = λ i r e linked none. stack.flags i ∙ k.queued i r e linked none;
+      queued = λ i r e linked none. k.queued i r e linked none;
     }
 
 module _ (arena : Arena) (rs : List Record) where

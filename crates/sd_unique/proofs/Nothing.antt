@@ -1,5 +1,5 @@
 -- No nodes: what holds of new fields, and the nodes that they stand for.
-use Rattle.std.proofs.Common.{◌≡◌, ℕ, ◌<◌, ◌^◌, List, [], length, map, replicate, sym, ap, subst, ◌∙◌, arith}
+use Rattle.std.proofs.Common.{◌≡◌, Bool, ℕ, ◌<◌, ◌^◌, List, [], length, map, replicate, sym, ap, subst, ◌∙◌, arith}
 use Rattle.std.proofs.lemmas.List.{length-replicate}
 use Rattle.std.specs.FinMap.{empty, from_entries}
 use Rattle.sd_runs.specs.Arena.{Arena, IsArena}
@@ -34,13 +34,15 @@ module _ (arena : Arena) (bound : ℕ) (rs : List Record) (is : arena ≡ empty_
   pub nodes_new : nodes_of arena rs ≡ no_nodes bound
   nodes_new = ap (λ a. nodes_of a rs) is ∙ ap (nodes_of (empty_arena bound)) none ∙ nodes_of_nothing bound
 
-  pub kept_new : (links : List Links) (heads places : List ℕ) (buckets : ℕ) → IsArena arena → bound < 2 ^ 31
-      → links ≡ [] → heads ≡ replicate buckets no_record → places ≡ [] → 1 < buckets
-      → HoldsNodes arena rs links heads places no_record
-  kept_new links heads places buckets well fits no_links no_chains no_lists some =
-      kept_tables arena [] rs links (replicate buckets no_record) heads places no_record none no_chains
-      (kept_fields arena [] [] links (replicate buckets no_record) [] places no_record
+  pub kept_new : (links : List Links) (heads places : List ℕ) (flags : List Bool) (buckets : ℕ)
+      → IsArena arena → bound < 2 ^ 31 → links ≡ []
+      → heads ≡ replicate buckets no_record → places ≡ [] → flags ≡ [] → 1 < buckets
+      → HoldsNodes arena rs links heads places flags
+  kept_new links heads places flags buckets well fits no_links no_chains no_lists no_flags some =
+      subst (HoldsNodes arena rs links heads places) (sym no_flags)
+      (kept_tables arena [] rs links (replicate buckets no_record) heads places [] none no_chains
+      (kept_fields arena [] [] links (replicate buckets no_record) [] places []
       no_links no_lists
       (kept_nothing arena (replicate buckets no_record) well
       (subst (λ b. b < 2 ^ 31) (sym (ap (λ a. a.bound) is)) fits)
-      (omega (arith, some, length-replicate buckets no_record)) (no_heads buckets)))
+      (omega (arith, some, length-replicate buckets no_record)) (no_heads buckets))))

@@ -1,6 +1,6 @@
 -- A free record becomes that of a linked node over a loose run.
-use Rattle.std.proofs.Common.{◌≡◌, ◌≢◌, ◌-◌, bit_and, ℕ, suc, ◌<◌, List, [], length, get_or, slice_get}
-use Rattle.std.proofs.Common.{Option, Some, None, unwrap_or, refl, sym, ap, subst, ◌∙◌, arith}
+use Rattle.std.proofs.Common.{Bool, ◌≡◌, ◌≢◌, ◌-◌, bit_and, ℕ, suc, ◌<◌, List, [], length, get_or, slice_get}
+use Rattle.std.proofs.Common.{Bool, Option, Some, None, unwrap_or, refl, sym, ap, subst, ◌∙◌, arith}
 use Rattle.std.proofs.Math.ListN.{set}
 use Rattle.std.proofs.lemmas.Bool.{cases_eq}
 use Rattle.std.proofs.lemmas.List.{length-set, get_or-set_same, get_or-set_other}
@@ -8,6 +8,7 @@ use Rattle.std.specs.Option.{option_map, option_and_then, IsSome}
 use Rattle.std.specs.FinMap.{get, remove}
 use Rattle.sd_runs.specs.Arena.{Arena}
 use Rattle.sd_runs.proofs.Places.{by_cases}
+use Rattle.sd_unique.specs.Candidates.{Waits}
 use Rattle.sd_unique.specs.declared.record.Record.{Record}
 use Rattle.sd_unique.specs.declared.record.Links.{Links}
 use Rattle.sd_unique.specs.declared.record.RecordState.{RecordState}
@@ -20,18 +21,17 @@ use Rattle.sd_unique.specs.Record.{detached_key, uses_of_record, mark_of_record,
 use Rattle.sd_unique.specs.Record.{nodes_of, AreRecordsStored}
 use Rattle.sd_unique.specs.Filed.{IsFiled, unfiled, filed_at}
 use Rattle.sd_unique.specs.Chains.{next_of, head_of, chain_by, list_by, chain_under, list_under}
-use Rattle.sd_unique.specs.Chains.{stack_under, bucket_of, no_record, HoldsNodes, AreListed, AreStacked, KeepsLists}
-use Rattle.sd_unique.specs.Chains.{KeepsStack, IsPushed, hash_of, kept_hash}
+use Rattle.sd_unique.specs.Chains.{bucket_of, no_record, HoldsNodes, AreListed, hash_of, kept_hash}
 use Rattle.sd_unique.proofs.Both.{unfiled_here, unfiled_other, filed_here, filed_other}
 use Rattle.sd_unique.proofs.Changed.{set_which, stored_set}
 use Rattle.sd_unique.proofs.Cut.{filed_cut_first}
 use Rattle.sd_unique.proofs.Detached.{set_twice, slice_set_same}
 use Rattle.sd_unique.proofs.Entries.{slice_get_at, slice_get_inside, slice_get_set, slice_get_set_other}
-use Rattle.sd_unique.proofs.Filed.{filed_first, filed_same, both_same}
+use Rattle.sd_unique.proofs.Filed.{filed_first, both_same}
 use Rattle.sd_unique.proofs.Loose.{loose_same, loose_split, loose_live, loose_untaken}
 use Rattle.sd_unique.proofs.Numbered.{linked_at, key_at_is, node_key, node_some, picked_from}
 use Rattle.sd_unique.proofs.Picked.{picked_set, picked_same}
-use Rattle.sd_unique.proofs.Stacked.{link_there, link_other, head_has, chain_empty, get_or_any}
+use Rattle.sd_unique.proofs.Reading.{link_there, link_other, head_has, chain_empty, get_or_any}
 
 linked_node : (s : RecordState) → s ≡ Linked → IsNode s
 linked_node s e = subst IsNode (sym e) tt
@@ -142,34 +142,34 @@ module _ (arena : Arena) (rs : List Record) (n : ℕ) (r t : Record) (there : sl
         }
 
     -- what holds of the fields is kept
-    pub kept_occupied : (links new : List Links) (heads heads' places places' : List ℕ) (top top' : ℕ)
-        → IsAbsent (nodes_of arena rs) (t.place, list)
+    pub kept_occupied : (links new : List Links) (heads heads' places places' : List ℕ)
+        (flags flags' : List Bool) → IsAbsent (nodes_of arena rs) (t.place, list)
         → length new ≡ length links → length heads' ≡ length heads → length places' ≡ length places
         → IsFiled (next_of (set rs n t)) no_record (head_of heads')
         (chain_under arena (length heads - 1) (set rs n t))
-        → AreListed new places' (list_under (set rs n t)) → AreStacked new top'
-        → ((m : ℕ) → stack_under links m ≡ Some 0 → stack_under new m ≡ Some 0) → stack_under new n ≡ Some 0
+        → AreListed new places' (list_under (set rs n t)) → length flags' ≡ length flags
+        → ((m : ℕ) → Waits flags m → Waits flags' m) → Waits flags' n
         → kept_hash new n ≡ hash_of (t.place, list) → ((m : ℕ) → m ≢ n → kept_hash new m ≡ kept_hash links m)
-        → HoldsNodes arena rs links heads places top → HoldsNodes arena (set rs n t) new heads' places' top'
-    kept_occupied links new heads heads' places places' top top' absent size hsize psize chains lists stacked flags
+        → HoldsNodes arena rs links heads places flags → HoldsNodes arena (set rs n t) new heads' places' flags'
+    kept_occupied links new heads heads' places places' flags flags' absent size hsize psize chains lists fsize wait
         here hash hashes k =
         record {
           stored = stored_occupied absent k.stored;
           linked_all = size ∙ k.linked_all ∙ sym (length-set rs n t);
+          flags_all = fsize ∙ k.flags_all ∙ sym (length-set rs n t);
           at_least_one = omega (arith, hsize, k.at_least_one);
           places_all = λ some. psize ∙ k.places_all (omega (arith, some, psize));
           in_chains = subst (λ s. IsFiled (next_of (set rs n t)) no_record (head_of heads')
               (chain_under arena (s - 1) (set rs n t))) (sym hsize) chains;
           in_lists = lists;
-          in_stack = stacked;
           hashed = λ i x e linked. by_cases
               (λ h. ap (kept_hash new) h.0 ∙ hash ∙ ap hash_of (sym key_new)
               ∙ ap (λ y. hash_of (key_of arena y)) h.1)
               (λ h. hashes i h.0 ∙ k.hashed i x h.1 linked)
               (set_which rs n r t there i x e);
           queued = λ i x e linked none. by_cases
-              (λ h. ap (stack_under new) h.0 ∙ here)
-              (λ h. flags i (k.queued i x h.1 linked none))
+              (λ h. ap (slice_get flags') h.0 ∙ here)
+              (λ h. wait i (k.queued i x h.1 linked none))
               (set_which rs n r t there i x e);
         }
 
@@ -178,18 +178,6 @@ pub lists_by : (links : List Links) (places : List ℕ) (under under' : ℕ → 
     → AreListed links places under → AreListed links places under'
 lists_by links places under under' same f =
     λ some. both_same _ _ _ _ no_record _ _ _ _ (λ b i e. refl) (λ b i e. refl) (λ b. refl) same (f some)
-
--- the lists after a push onto the stack
-pub lists_pushed : (links new : List Links) (places : List ℕ) (under : ℕ → Option ℕ) → KeepsLists links new
-    → AreListed links places under → AreListed new places under
-lists_pushed links new places under kept f =
-    λ some. both_same _ _ _ _ no_record _ _ _ _ (λ b i e. kept.after i) (λ b i e. kept.before i) (λ b. refl)
-    (λ m. refl) (f some)
-
--- the stack after a step in the lists
-pub stack_kept : (links new : List Links) (top : ℕ) → KeepsStack links new → AreStacked links top → AreStacked new top
-stack_kept links new top kept f =
-    filed_same _ _ no_record _ _ _ _ (λ b i e. kept.waiting i) (λ b. refl) kept.flags f
 
 module _ (arena : Arena) (rs : List Record) (heads : List ℕ) (count : ℕ)
     (f : IsFiled (next_of rs) no_record (head_of heads) (chain_under arena count rs)) where
@@ -237,14 +225,14 @@ module _ (arena : Arena) (rs : List Record) (heads : List ℕ) (count : ℕ)
 
 -- the fields are the same, each by its equation
 pub kept_fields : (arena : Arena) (rs : List Record) (links links' : List Links) (heads places places' : List ℕ)
-    (top : ℕ) → links' ≡ links → places' ≡ places → HoldsNodes arena rs links heads places top
-    → HoldsNodes arena rs links' heads places' top
-kept_fields arena rs links links' heads places places' top e f k =
-    subst (λ l. HoldsNodes arena rs l heads places' top) (sym e)
-    (subst (λ p. HoldsNodes arena rs links heads p top) (sym f) k)
+    (flags : List Bool) → links' ≡ links → places' ≡ places → HoldsNodes arena rs links heads places flags
+    → HoldsNodes arena rs links' heads places' flags
+kept_fields arena rs links links' heads places places' flags e f k =
+    subst (λ l. HoldsNodes arena rs l heads places' flags) (sym e)
+    (subst (λ p. HoldsNodes arena rs links heads p flags) (sym f) k)
 
-module _ (arena : Arena) (rs : List Record) (links : List Links) (heads places : List ℕ) (top : ℕ)
-    (k : HoldsNodes arena rs links heads places top) (first : ℕ) (read : first ≡ get_or heads 0 first)
+module _ (arena : Arena) (rs : List Record) (links : List Links) (heads places : List ℕ) (flags : List Bool)
+    (k : HoldsNodes arena rs links heads places flags) (first : ℕ) (read : first ≡ get_or heads 0 first)
     (free : (m : ℕ) × IsFreeNumber (nodes_of arena rs) m) where
   first_is : head_of heads 0 ≡ first
   first_is = get_or_any heads 0 no_record first (omega (arith, k.at_least_one)) ∙ sym read
@@ -299,19 +287,20 @@ module _ (arena : Arena) (rs : List Record) (links : List Links) (heads places :
     pub kept_steps : (next b head : ℕ) → next ≡ next_of rs first
         → b ≡ bucket_of (t.place, list) (length heads - 1) → b < length heads - 1 → head ≡ suc b
         → t.next ≡ get_or (set heads 0 next) head t.next
-        → (mid new : List Links) (places' : List ℕ) (top' at : ℕ) → at ≡ suc (bit_and t.place 2047)
-        → AreListed mid places' (filed_at first at (list_under rs)) → KeepsStack links mid
-        → length places' ≡ length places → KeepsLists mid new → AreStacked new top' → IsPushed mid new first
-        → kept_hash mid first ≡ hash_of (t.place, list)
-        → ((m : ℕ) → m ≢ first → kept_hash mid m ≡ kept_hash links m)
-        → HoldsNodes arena (set rs first t) new (set (set heads 0 next) head first) places' top'
-    kept_steps next b head next_is bucket fits head_is t_next mid new places' top' at at_is listed stack size lists
-        stacked pushed hash hashes =
+        → (new : List Links) (places' : List ℕ) (flags' : List Bool) (at : ℕ) → at ≡ suc (bit_and t.place 2047)
+        → AreListed new places' (filed_at first at (list_under rs)) → length new ≡ length links
+        → length places' ≡ length places → length flags' ≡ length flags
+        → ((m : ℕ) → Waits flags m → Waits flags' m) → Waits flags' first
+        → kept_hash new first ≡ hash_of (t.place, list)
+        → ((m : ℕ) → m ≢ first → kept_hash new m ≡ kept_hash links m)
+        → HoldsNodes arena (set rs first t) new (set (set heads 0 next) head first) places' flags'
+    kept_steps next b head next_is bucket fits head_is t_next new places' flags' at at_is listed same_links size fsize
+        wait here hash hashes =
         let r = first_there in
         let key : key_of arena t ≡ (t.place, list) = key_new arena rs first r.0 t r.1 r.2 linked list run.is
         (sym run.counted) in
         kept_occupied arena rs first r.0 t r.1 r.2 linked list run.is (sym run.counted) links new heads
-        (set (set heads 0 next) head first) places places' top top' absent (lists.size ∙ stack.size)
+        (set (set heads 0 next) head first) places places' flags flags' absent same_links
         (length-set (set heads 0 next) head first ∙ length-set heads 0 next) size
         (subst (λ h. IsFiled (next_of (set rs first t)) no_record (head_of (set (set heads 0 next) h first))
         (chain_under arena (length heads - 1) (set rs first t))) (sym head_is)
@@ -323,12 +312,10 @@ module _ (arena : Arena) (rs : List Record) (links : List Links) (heads places :
         (omega (arith, fits, head_is, length-set heads 0 next))
         ∙ ap (head_of (set heads 0 next)) head_is ∙ ap (λ x. head_of (set heads 0 x) (suc b)) next_is)
         k.in_chains)))
-        (lists_pushed mid new places' (list_under (set rs first t)) lists
-        (lists_by mid places' (filed_at first at (list_under rs)) (list_under (set rs first t))
+        (lists_by new places' (filed_at first at (list_under rs)) (list_under (set rs first t))
         (λ m. list_occupied arena rs first r.0 t r.1 r.2 linked m
-        ∙ ap (λ h. filed_at first h (list_under rs) m) (sym at_is)) listed))
-        stacked (λ m e. pushed.others m (stack.flags m ∙ e)) pushed.here (lists.hashes first ∙ hash)
-        (λ m ne. lists.hashes m ∙ hashes m ne) k
+        ∙ ap (λ h. filed_at first h (list_under rs) m) (sym at_is)) listed)
+        fsize wait here hash hashes k
 
     pub nodes_steps : t.uses ≡ 0 → t.mark ≡ 0
         → nodes_of arena (set rs first t) ≡ occupied (nodes_of arena rs) first t.place t.start list

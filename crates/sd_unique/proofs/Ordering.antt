@@ -1,6 +1,6 @@
 -- Before the free records are chained anew, each other record stands where it did; the free runs in another order.
-use Rattle.std.proofs.Common.{◌≡◌, ℕ, suc, zero, ◌<◌, List, [], ◌∷◌, length, slice_get, Option, Some, None}
-use Rattle.std.proofs.Common.{unwrap_or, refl, sym, ap, subst, ◌∙◌, arith}
+use Rattle.std.proofs.Common.{Bool, ◌≡◌, ℕ, suc, zero, ◌<◌, List, [], ◌∷◌, length, slice_get, Option, Some, None}
+use Rattle.std.proofs.Common.{Bool, unwrap_or, refl, sym, ap, subst, ◌∙◌, arith}
 use Rattle.std.proofs.Math.ListN.{set}
 use Rattle.std.proofs.lemmas.Bool.{cases_eq}
 use Rattle.std.proofs.lemmas.List.{get_or-set_same, get_or-set_other}
@@ -166,8 +166,8 @@ module _ (old new : Arena) (n : ℕ) (r : IsReordered old new n) (was : IsArena 
       }
 
   -- and what holds of the fields is kept
-  pub kept_reordered : (rs : List Record) (links : List Links) (heads places : List ℕ) (top : ℕ)
-      → HoldsNodes old rs links heads places top → HoldsNodes new rs links heads places top
-  kept_reordered rs links heads places top k =
+  pub kept_reordered : (rs : List Record) (links : List Links) (heads places : List ℕ) (flags : List Bool)
+      → HoldsNodes old rs links heads places flags → HoldsNodes new rs links heads places flags
+  kept_reordered rs links heads places flags k =
       kept_arena old new rs k.stored is (λ i x e node. ap (λ m. get m x.start) r.live)
-      (omega (arith, r.extent)) r.bound links heads places top k
+      (omega (arith, r.extent)) r.bound links heads places flags k

@@ -1,5 +1,5 @@
 -- A free record is put behind the others, and the numbers and nodes that come of taking it.
-use Rattle.std.proofs.Common.{◌≡◌, ◌≢◌, ◌-◌, ◌⊎◌, inl, inr, bit_and, ℕ, suc, zero, ◌+◌, ◌<◌, ◌≤◌, ◌^◌, max, cond}
+use Rattle.std.proofs.Common.{◌≡◌, ◌≢◌, ◌-◌, ◌⊎◌, inl, inr, bit_and, ℕ, suc, zero, ◌+◌, ◌<◌, ◌≤◌, ◌^◌, max, Bool}
 use Rattle.std.proofs.Common.{false}
 use Rattle.std.proofs.Common.{List, [], ◌∷◌, ◌++◌, length, map, get_or, slice_get, Option, Some, None}
 use Rattle.std.proofs.Common.{refl, sym, ap, subst, ◌∙◌, arith}
@@ -28,14 +28,14 @@ use Rattle.sd_unique.specs.Record.{detached_key, uses_of_record, mark_of_record,
 use Rattle.sd_unique.specs.Record.{nodes_of, AreRecordsStored}
 use Rattle.sd_unique.specs.Filed.{IsFiled}
 use Rattle.sd_unique.specs.Chains.{next_of, head_of, chain_by, list_by, chain_under, list_under}
-use Rattle.sd_unique.specs.Chains.{stack_under, is_waiting, bucket_of, hash_of, no_record, HoldsNodes}
+use Rattle.sd_unique.specs.Chains.{bucket_of, hash_of, no_record, HoldsNodes}
 use Rattle.sd_unique.proofs.Entries.{slice_get_inside, slice_get_push, slice_get_before}
-use Rattle.sd_unique.proofs.Filed.{filed_first, filed_same, both_same}
+use Rattle.sd_unique.proofs.Filed.{filed_first, both_same}
 use Rattle.sd_unique.proofs.Loose.{loose_none, loose_push, length_in, total_remove, total_loose, remove_insert}
 use Rattle.sd_unique.proofs.Entries.{option_map_some}
 use Rattle.sd_unique.proofs.Numbered.{some_length, length_there, picked_from, key_at_is, node_key}
 use Rattle.sd_unique.proofs.Occupied.{free_first, none_free, all_nodes}
-use Rattle.sd_unique.proofs.Stacked.{get_or_any}
+use Rattle.sd_unique.proofs.Reading.{get_or_any}
 use Rattle.sd_unique.proofs.Taken.{kept_arena, taken_same, taken_longer, taken_bound, nodes_taken}
 use Rattle.sd_unique.proofs.Picked.{get_picked}
 
@@ -140,14 +140,15 @@ module _ (arena : Arena) (rs : List Record) (r : Record) (free : r.state ≡ Fre
       f
 
   -- what holds of the fields is kept when a free record is put behind the others
-  pub kept_free : (links : List Links) (l : Links) (heads places : List ℕ) (top : ℕ) → is_waiting l ≡ false
+  pub kept_free : (links : List Links) (l : Links) (heads places : List ℕ) (flags : List Bool)
       → length rs + 1 ≤ arena.extent → length rs < 2 ^ 32 - 1 → head_of heads 0 ≡ r.next
-      → HoldsNodes arena rs links heads places top
-      → HoldsNodes arena (rs ++ r ∷ []) (links ++ l ∷ []) (set heads 0 (length rs)) places top
-  kept_free links l heads places top flag room fits next k =
+      → HoldsNodes arena rs links heads places flags
+      → HoldsNodes arena (rs ++ r ∷ []) (links ++ l ∷ []) (set heads 0 (length rs)) places (flags ++ false ∷ [])
+  kept_free links l heads places flags room fits next k =
       record {
         stored = stored_free room k.stored;
         linked_all = omega (arith, length_push rs r, length_push links l, k.linked_all);
+        flags_all = omega (arith, length_push rs r, length_push flags false, k.flags_all);
         at_least_one = omega (arith, length-set heads 0 (length rs), k.at_least_one);
         places_all = k.places_all;
         in_chains = subst (λ s. IsFiled (next_of (rs ++ r ∷ [])) no_record (head_of (set heads 0 (length rs)))
@@ -158,10 +159,6 @@ module _ (arena : Arena) (rs : List Record) (r : Record) (free : r.state ≡ Fre
             (λ b i e. link_before (λ (x : Links). x.before) links l i (listed_other i b e)) (λ b. refl)
             (read_push rs r (λ x. list_by x.state (bit_and x.place 2047))
             (ap (λ s. list_by s (bit_and r.place 2047)) free)) (k.in_lists some);
-        in_stack = filed_same _ _ no_record _ _ _ _
-            (λ b i e. link_before (λ (x : Links). x.waiting) links l i (stacked_other i b e)) (λ b. refl)
-            (read_push links l (λ x. cond (is_waiting x) (Some 0) None) (ap (λ b. cond b (Some 0) None) flag))
-            k.in_stack;
         hashed = λ i x e linked. by_cases
             (λ h. absurd (free_no_link r.state free (ap (λ z. z.state) h.1 ∙ linked)))
             (λ h. link_before (λ (x : Links). x.hash) links l i
@@ -170,7 +167,8 @@ module _ (arena : Arena) (rs : List Record) (r : Record) (free : r.state ≡ Fre
             (push_which rs r i x e);
         queued = λ i x e linked none. by_cases
             (λ h. absurd (free_no_link r.state free (ap (λ z. z.state) h.1 ∙ linked)))
-            (λ h. read_push links l (λ x. cond (is_waiting x) (Some 0) None) (ap (λ b. cond b (Some 0) None) flag) i
+            (λ h. slice_get_before flags false i
+            (λ same. let inside = slice_get_inside rs i x h in omega (arith, same, inside, k.flags_all))
             ∙ k.queued i x h linked none)
             (push_which rs r i x e);
       }
@@ -179,11 +177,6 @@ module _ (arena : Arena) (rs : List Record) (r : Record) (free : r.state ≡ Fre
       listed_other i b e same =
           let x = picked_from (λ (x : Record). list_by x.state (bit_and x.place 2047)) (slice_get rs i) b e in
           let inside = slice_get_inside rs i x.0 x.1 in omega (arith, inside, k.linked_all)
-
-      stacked_other : (i b : ℕ) → stack_under links i ≡ Some b → ¬ (i ≡ length links)
-      stacked_other i b e same =
-          let x = picked_from (λ (x : Links). cond (is_waiting x) (Some 0) None) (slice_get links i) b e in
-          let inside = slice_get_inside links i x.0 x.1 in omega (arith, inside)
 
   -- the nodes are as before but for the number of records
   pub nodes_free : nodes_of arena (rs ++ r ∷ []) ≡ with_records (nodes_of arena rs) (length rs + 1)
@@ -268,17 +261,17 @@ number_new a n all free =
     node : IsSome (key_at a n) → ⊥
     node h = let no = subst IsSome free.1 h in cc
 
-module _ (arena new : Arena) (rs : List Record) (links : List Links) (heads places : List ℕ) (top : ℕ)
-    (k : HoldsNodes arena rs links heads places top) (well : IsArena new) (list : List (ℕ × ℕ)) (start : ℕ)
+module _ (arena new : Arena) (rs : List Record) (links : List Links) (heads places : List ℕ) (flags : List Bool)
+    (k : HoldsNodes arena rs links heads places flags) (well : IsArena new) (list : List (ℕ × ℕ)) (start : ℕ)
     (is : new ≡ taken arena list) (at : start ≡ next_start arena (length list))
     (fresh : get arena.live start ≡ None) (keeps : KeepsLive arena new) (a : Nodes)
     (view : nodes_of arena rs ≡ a) where
-  kept_taken : HoldsNodes new rs links heads places top
+  kept_taken : HoldsNodes new rs links heads places flags
   kept_taken =
       kept_arena arena new rs k.stored well
       (taken_same arena new rs k.stored well list start is at fresh keeps)
       (taken_longer arena new rs k.stored well list start is at fresh keeps)
-      (taken_bound arena new rs k.stored well list start is at fresh keeps) links heads places top k
+      (taken_bound arena new rs k.stored well list start is at fresh keeps) links heads places flags k
 
   view_taken : nodes_of new rs ≡ with_loose a start list
   view_taken =
@@ -290,10 +283,10 @@ module _ (arena new : Arena) (rs : List Record) (links : List Links) (heads plac
 
   -- a free record is there
   module _ (ts : List Record) (ls : List Links) (same : ts ≡ rs) (alike : ls ≡ links) where
-    pub free_kept : HoldsNodes new ts ls heads places top
+    pub free_kept : HoldsNodes new ts ls heads places flags
     free_kept =
-        subst (λ x. HoldsNodes new x ls heads places top) (sym same)
-        (subst (λ x. HoldsNodes new rs x heads places top) (sym alike) kept_taken)
+        subst (λ x. HoldsNodes new x ls heads places flags) (sym same)
+        (subst (λ x. HoldsNodes new rs x heads places flags) (sym alike) kept_taken)
 
     free_view : nodes_of new ts ≡ with_loose a start list
     free_view = ap (nodes_of new) same ∙ view_taken
@@ -330,7 +323,7 @@ module _ (arena new : Arena) (rs : List Record) (links : List Links) (heads plac
 
   -- each record is that of a node, so a free one is put behind them
   module _ (ts : List Record) (ls : List Links) (r : Record) (l : Links) (grown : ts ≡ rs ++ r ∷ [])
-      (linked : ls ≡ links ++ l ∷ []) (free : r.state ≡ Free) (flag : is_waiting l ≡ false)
+      (linked : ls ≡ links ++ l ∷ []) (free : r.state ≡ Free)
       (next : r.next ≡ no_record) (first : ℕ) (read : first ≡ get_or heads 0 first) (last : first ≡ no_record)
       (some : 0 < length list) where
     none_first : head_of heads 0 ≡ no_record
@@ -342,12 +335,13 @@ module _ (arena new : Arena) (rs : List Record) (links : List Links) (heads plac
         (none_free new rs heads (length heads - 1) kept_taken.in_chains none_first)
         (ap (λ b. get b.loose start) view_taken ∙ get_insert_same a.loose start list) some
 
-    pub pushed_kept : (n : ℕ) → n ≡ length rs → HoldsNodes new ts ls (set heads 0 n) places top
+    pub pushed_kept : (n : ℕ) → n ≡ length rs → HoldsNodes new ts ls (set heads 0 n) places (flags ++ false ∷ [])
     pushed_kept n size =
-        subst (λ x. HoldsNodes new x ls (set heads 0 n) places top) (sym grown)
-        (subst (λ x. HoldsNodes new (rs ++ r ∷ []) x (set heads 0 n) places top) (sym linked)
-        (subst (λ x. HoldsNodes new (rs ++ r ∷ []) (links ++ l ∷ []) (set heads 0 x) places top) (sym size)
-        (kept_free new rs r free links l heads places top flag room
+        subst (λ x. HoldsNodes new x ls (set heads 0 n) places (flags ++ false ∷ [])) (sym grown)
+        (subst (λ x. HoldsNodes new (rs ++ r ∷ []) x (set heads 0 n) places (flags ++ false ∷ [])) (sym linked)
+        (subst (λ x. HoldsNodes new (rs ++ r ∷ []) (links ++ l ∷ []) (set heads 0 x) places (flags ++ false ∷ []))
+        (sym size)
+        (kept_free new rs r free links l heads places flags room
         (omega (arith, room, (kept_taken.stored).bound_fits, ((kept_taken.stored).well).bounded))
         (none_first ∙ sym next) kept_taken)))
 

@@ -1,5 +1,5 @@
 -- Records in other chains: what holds of the fields is kept.
-use Rattle.std.proofs.Common.{◌≡◌, ℕ, ◌-◌, ◌<◌, List, [], length, unwrap_or, refl, sym, ap, subst, ◌∙◌}
+use Rattle.std.proofs.Common.{Bool, ◌≡◌, ℕ, ◌-◌, ◌<◌, List, [], length, unwrap_or, refl, sym, ap, subst, ◌∙◌}
 use Rattle.std.specs.FinMap.{get}
 use Rattle.sd_runs.specs.Arena.{Arena}
 use Rattle.sd_unique.specs.declared.record.Record.{Record}
@@ -23,19 +23,19 @@ hashes_kept arena rs ts links keeps hashed i t e linked =
 
 -- what holds of the fields is kept when the records are in other chains
 pub kept_rechained : (arena : Arena) (rs ts : List Record) (links : List Links) (heads heads' places : List ℕ)
-    (top : ℕ) → KeepsRecords rs ts → 1 < length heads'
+    (flags : List Bool) → KeepsRecords rs ts → 1 < length heads'
     → IsFiled (next_of ts) no_record (head_of heads') (chain_under arena (length heads' - 1) ts)
-    → HoldsNodes arena rs links heads places top → HoldsNodes arena ts links heads' places top
-kept_rechained arena rs ts links heads heads' places top keeps some filed k =
+    → HoldsNodes arena rs links heads places flags → HoldsNodes arena ts links heads' places flags
+kept_rechained arena rs ts links heads heads' places flags keeps some filed k =
     record {
       stored = stored_kept rs ts keeps arena k.stored;
       linked_all = k.linked_all ∙ sym keeps.size;
+      flags_all = k.flags_all ∙ sym keeps.size;
       at_least_one = some;
       places_all = k.places_all;
       in_chains = filed;
       in_lists = λ some. both_same _ _ _ _ no_record _ _ _ _ (λ b i e. refl) (λ b i e. refl) (λ b. refl)
           (list_kept rs ts keeps) (k.in_lists some);
-      in_stack = k.in_stack;
       hashed = hashes_kept arena rs ts links keeps k.hashed;
       queued = λ i t e linked none.
           let w = keeps.was i t e in
@@ -43,9 +43,9 @@ kept_rechained arena rs ts links heads heads' places top keeps some filed k =
     }
 
 -- the records and heads are the same, each by its equation
-pub kept_tables : (arena : Arena) (rs ts : List Record) (links : List Links) (heads heads' places : List ℕ) (top : ℕ)
-    → ts ≡ rs → heads' ≡ heads → HoldsNodes arena rs links heads places top
-    → HoldsNodes arena ts links heads' places top
-kept_tables arena rs ts links heads heads' places top e f k =
-    subst (λ l. HoldsNodes arena l links heads' places top) (sym e)
-    (subst (λ h. HoldsNodes arena rs links h places top) (sym f) k)
+pub kept_tables : (arena : Arena) (rs ts : List Record) (links : List Links) (heads heads' places : List ℕ)
+    (flags : List Bool) → ts ≡ rs → heads' ≡ heads → HoldsNodes arena rs links heads places flags
+    → HoldsNodes arena ts links heads' places flags
+kept_tables arena rs ts links heads heads' places flags e f k =
+    subst (λ l. HoldsNodes arena l links heads' places flags) (sym e)
+    (subst (λ h. HoldsNodes arena rs links h places flags) (sym f) k)

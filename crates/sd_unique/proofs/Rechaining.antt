@@ -16,7 +16,7 @@ use Rattle.sd_unique.specs.Chains.{next_of, head_of, chain_by, chain_under, buck
 use Rattle.sd_unique.proofs.Both.{filed_here, filed_other}
 use Rattle.sd_unique.proofs.Entries.{slice_get_inside, slice_get_set, slice_get_set_other}
 use Rattle.sd_unique.proofs.Filed.{filed_first, filed_same}
-use Rattle.sd_unique.proofs.Stacked.{link_there, link_other}
+use Rattle.sd_unique.proofs.Reading.{link_there, link_other}
 
 -- with `k` one number more is passed
 pub record IsOneMore (before after : ℕ → Type 0) (k : ℕ) : Type 0 where

@@ -14,7 +14,7 @@ use Rattle.sd_unique.proofs.Entries.{slice_get_at, slice_get_inside}
 use Rattle.sd_unique.proofs.Filed.{none_is}
 use Rattle.sd_unique.proofs.Loose.{Map}
 use Rattle.sd_unique.proofs.Picked.{get_picked}
-use Rattle.sd_unique.proofs.Stacked.{none_or}
+use Rattle.sd_unique.proofs.Reading.{none_or}
 
 -- the loose runs are the same
 loose_kept : (live : Map) (rs ts : List Record) → KeepsRecords rs ts → loose_of live ts ≡ loose_of live rs

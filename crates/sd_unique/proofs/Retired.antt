@@ -1,5 +1,5 @@
 -- A linked record becomes a free one, as if it were unlinked and then removed.
-use Rattle.std.proofs.Common.{◌≡◌, ◌≢◌, ℕ, ◌-◌, ◌<◌, bit_and, List, [], length, slice_get, Some, unwrap_or}
+use Rattle.std.proofs.Common.{Bool, ◌≡◌, ◌≢◌, ℕ, ◌-◌, ◌<◌, bit_and, List, [], length, slice_get, Some, unwrap_or}
 use Rattle.std.proofs.Common.{refl, sym, ap, subst, ◌∙◌, arith}
 use Rattle.std.proofs.Math.ListN.{set}
 use Rattle.std.proofs.lemmas.List.{length-set, get_or-set_same, get_or-set_other}
@@ -14,7 +14,7 @@ use Rattle.sd_unique.specs.declared.record.RecordState.TheVariants.{Free, Linked
 use Rattle.sd_unique.specs.Filed.{IsFiled, unfiled}
 use Rattle.sd_unique.specs.Record.{key_of, nodes_of, AreRecordsStored}
 use Rattle.sd_unique.specs.Chains.{next_of, chain_by, list_by, chain_under, list_under, bucket_of, head_of}
-use Rattle.sd_unique.specs.Chains.{no_record, hash_of, kept_hash, HoldsNodes, KeepsRecords, KeepsStack, AreListed}
+use Rattle.sd_unique.specs.Chains.{no_record, hash_of, kept_hash, HoldsNodes, KeepsRecords, AreListed}
 use Rattle.sd_unique.specs.Relinking.{unlinked, removed}
 use Rattle.sd_unique.proofs.Both.{unfiled_here, unfiled_other}
 use Rattle.sd_unique.proofs.Changed.{set_which}
@@ -26,8 +26,8 @@ use Rattle.sd_unique.proofs.Loose.{IsUntaken}
 use Rattle.sd_unique.proofs.Moved.{stored_unlinked, stored_freed, untaken, nodes_removed, free_not_linked}
 use Rattle.sd_unique.proofs.Numbered.{linked_is}
 use Rattle.sd_unique.proofs.Relinked.{nodes_kept, stored_kept}
-use Rattle.sd_unique.proofs.Stacked.{link_there, link_other}
-use Rattle.sd_unique.proofs.Standing.{chain_here, chain_other, unlisted, stacked_kept, is_record}
+use Rattle.sd_unique.proofs.Reading.{link_there, link_other}
+use Rattle.sd_unique.proofs.Standing.{chain_here, chain_other, unlisted, is_record}
 use Rattle.sd_unique.proofs.Taken.{linked_state, kept_arena, given_same, given_longer, given_bound}
 
 -- the record as a detached one, in thought
@@ -89,18 +89,20 @@ module _ (arena : Arena) (rs mid : List Record) (n : ℕ) (m t : Record) (kept :
       f
 
   -- before the run is given back
-  cleared_kept : (links more : List Links) (heads heads' places places' : List ℕ) (top : ℕ)
+  cleared_kept : (links more : List Links) (heads heads' places places' : List ℕ) (flags : List Bool)
       → t.next ≡ head_of heads' 0 → length heads' ≡ length heads → length places' ≡ length places
-      → KeepsStack links more
+      → length more ≡ length links
       → IsFiled (next_of mid) no_record (head_of heads') (unfiled n (chain_under arena (length heads - 1) rs))
       → AreListed more places' (unfiled n (list_under rs))
       → ((i : ℕ) → kept_hash more i ≡ kept_hash links i) → AreRecordsStored arena (set mid n t)
-      → HoldsNodes arena rs links heads places top
-      → HoldsNodes arena (set mid n t) more (set heads' 0 n) places' top
-  cleared_kept links more heads heads' places places' top next same_heads same_places stack chains lists hashes st k =
+      → HoldsNodes arena rs links heads places flags
+      → HoldsNodes arena (set mid n t) more (set heads' 0 n) places' flags
+  cleared_kept links more heads heads' places places' flags next same_heads same_places same_links chains lists hashes
+      st k =
       record {
         stored = st;
-        linked_all = stack.size ∙ k.linked_all ∙ sym kept.size ∙ sym (length-set mid n t);
+        linked_all = same_links ∙ k.linked_all ∙ sym kept.size ∙ sym (length-set mid n t);
+        flags_all = k.flags_all ∙ sym kept.size ∙ sym (length-set mid n t);
         at_least_one = omega (arith, k.at_least_one, same_heads, length-set heads' 0 n);
         places_all = λ some. same_places ∙ k.places_all (omega (arith, some, same_places));
         in_chains = subst (λ h. IsFiled (next_of (set mid n t)) no_record (head_of (set heads' 0 n))
@@ -111,7 +113,6 @@ module _ (arena : Arena) (rs mid : List Record) (n : ℕ) (m t : Record) (kept :
         in_lists = λ some. both_same _ _ _ _ no_record _ _ (unfiled n (list_under rs)) (list_under (set mid n t))
             (λ b i e. refl) (λ b i e. refl) (λ b. refl)
             (unlisted arena rs mid n m t kept there (ap (λ s. list_by s (bit_and t.place 2047)) is)) (lists some);
-        in_stack = stacked_kept links more top stack k.in_stack;
         hashed = λ i x e linked. by_cases
             (λ h. absurd (free_not_linked t.state is (ap (λ (y : Record). y.state) h.1 ∙ linked)))
             (λ h. let w = kept.was i x h.1 in
@@ -121,7 +122,7 @@ module _ (arena : Arena) (rs mid : List Record) (n : ℕ) (m t : Record) (kept :
         queued = λ i x e linked none. by_cases
             (λ h. absurd (free_not_linked t.state is (ap (λ (y : Record). y.state) h.1 ∙ linked)))
             (λ h. let w = kept.was i x h.1 in
-            stack.flags i ∙ k.queued i w.0 w.1 (sym w.7 ∙ linked) (sym w.5 ∙ none))
+            k.queued i w.0 w.1 (sym w.7 ∙ linked) (sym w.5 ∙ none))
             (set_which mid n m t there i x e);
       }
 
@@ -148,15 +149,16 @@ module _ (arena : Arena) (rs mid : List Record) (n : ℕ) (m t : Record) (kept :
         size)
 
     -- and after that
-    pub retired_kept : (links more : List Links) (heads heads' places places' : List ℕ) (top : ℕ)
+    pub retired_kept : (links more : List Links) (heads heads' places places' : List ℕ) (flags : List Bool)
         → t.next ≡ head_of heads' 0 → length heads' ≡ length heads → length places' ≡ length places
-        → KeepsStack links more
+        → length more ≡ length links
         → IsFiled (next_of mid) no_record (head_of heads') (unfiled n (chain_under arena (length heads - 1) rs))
         → AreListed more places' (unfiled n (list_under rs))
         → ((i : ℕ) → kept_hash more i ≡ kept_hash links i)
-        → HoldsNodes arena rs links heads places top
-        → HoldsNodes new (set mid n t) more (set heads' 0 n) places' top
-    retired_kept links more heads heads' places places' top next same_heads same_places stack chains lists hashes k =
+        → HoldsNodes arena rs links heads places flags
+        → HoldsNodes new (set mid n t) more (set heads' 0 n) places' flags
+    retired_kept links more heads heads' places places' flags next same_heads same_places same_links chains lists
+        hashes k =
         let apart = subst (λ l. IsUntaken l m.start) (set_twice mid n (between m) t)
         (untaken arena new (set mid n (between m)) n (between m) t here still_inside refl is stored_between well
         gave list size)
@@ -165,9 +167,9 @@ module _ (arena : Arena) (rs mid : List Record) (n : ℕ) (m t : Record) (kept :
         (given_same arena new (set mid n t) stored_cleared well list m.start m.length gave size apart)
         (given_longer arena new (set mid n t) stored_cleared well list m.start m.length gave size apart)
         (given_bound arena new (set mid n t) stored_cleared well list m.start m.length gave size apart)
-        more (set heads' 0 n) places' top
-        (cleared_kept links more heads heads' places places' top next same_heads same_places stack chains lists hashes
-        stored_cleared k)
+        more (set heads' 0 n) places' flags
+        (cleared_kept links more heads heads' places places' flags next same_heads same_places same_links chains lists
+        hashes stored_cleared k)
 
     -- the nodes are those of the two steps
     pub nodes_retired : (k : ℕ × List (ℕ × ℕ)) → get (nodes_of arena rs).linked n ≡ Some k

@@ -1,6 +1,6 @@
 -- Where a record stands: in the chain and the list of its state.
 use Rattle.std.proofs.Common.{◌≡◌, ◌≢◌, ℕ, ◌+◌, ◌<◌, bit_and, List, length, get_or, slice_get}
-use Rattle.std.proofs.Common.{Option, Some, None, refl, sym, ap, subst, ◌∙◌, arith}
+use Rattle.std.proofs.Common.{Option, Some, None, sym, ap, subst, ◌∙◌, arith}
 use Rattle.std.proofs.Math.ListN.{set}
 use Rattle.std.proofs.lemmas.Bool.{cases_eq}
 use Rattle.std.specs.Option.{option_and_then, IsSome}
@@ -13,12 +13,11 @@ use Rattle.sd_unique.specs.declared.record.RecordState.TheVariants.{Linked, Deta
 use Rattle.sd_unique.specs.Filed.{unfiled, filed_at}
 use Rattle.sd_unique.specs.Record.{if_detached, IsNode, uses_of_record, detached_key, key_of}
 use Rattle.sd_unique.specs.Record.{nodes_of, AreRecordsStored}
-use Rattle.sd_unique.specs.Chains.{chain_by, list_by, chain_under, list_under, stack_under, bucket_of, top_of}
-use Rattle.sd_unique.specs.Chains.{waiting_of, hash_of, kept_hash, no_record, AreHashed, KeepsRecords, KeepsStack}
-use Rattle.sd_unique.specs.Chains.{AreStacked}
+use Rattle.sd_unique.specs.Chains.{chain_by, list_by, chain_under, list_under, bucket_of}
+use Rattle.sd_unique.specs.Chains.{hash_of, kept_hash, no_record, AreHashed, KeepsRecords}
 use Rattle.sd_unique.proofs.Both.{unfiled_here, unfiled_other, filed_here, filed_other}
 use Rattle.sd_unique.proofs.Entries.{slice_get_at, slice_get_inside, slice_get_set, slice_get_set_other}
-use Rattle.sd_unique.proofs.Filed.{filed_same, none_is}
+use Rattle.sd_unique.proofs.Filed.{none_is}
 use Rattle.sd_unique.proofs.Numbered.{linked_there, detached_there, detached_at, uses_in_at, node_some, picked_from}
 use Rattle.sd_unique.proofs.Relinked.{chain_kept, list_kept}
 
@@ -172,10 +171,3 @@ module _ (arena : Arena) (rs mid : List Record) (n : ℕ) (m t : Record) (kept :
       (λ ne. list_other i ne
       ∙ sym (filed_other n b (unfiled n (list_under rs)) i ne ∙ unfiled_other n (list_under rs) i ne))
       (cases_eq i n)
-
--- the stack, where the links keep it
-pub stacked_kept : (links new : List Links) (top : ℕ) → KeepsStack links new → AreStacked links top
-    → AreStacked new top
-stacked_kept links new top k f =
-    filed_same (waiting_of links) (waiting_of new) no_record (top_of top) (top_of top) (stack_under links)
-    (stack_under new) (λ b i e. k.waiting i) (λ b. refl) k.flags f

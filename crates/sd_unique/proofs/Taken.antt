@@ -1,5 +1,5 @@
 -- A run is taken from the arena or given back.
-use Rattle.std.proofs.Common.{◌≡◌, ℕ, suc, zero, ◌+◌, ◌-◌, ◌<◌, ◌≤◌, ◌^◌, List, [], ◌∷◌, length, slice_get}
+use Rattle.std.proofs.Common.{Bool, ◌≡◌, ℕ, suc, zero, ◌+◌, ◌-◌, ◌<◌, ◌≤◌, ◌^◌, List, [], ◌∷◌, length, slice_get}
 use Rattle.std.proofs.Common.{Option, Some, None, unwrap_or, refl, sym, ap, subst, ◌∙◌, arith}
 use Rattle.std.proofs.lemmas.Bool.{cases_eq}
 use Rattle.std.specs.Option.{option_map, option_and_then}
@@ -166,19 +166,19 @@ module _ (arena new : Arena) (rs : List Record) (st : AreRecordsStored arena rs)
       (λ node. ap (λ k. bucket_of k count) (key_kept n r e node)))
 
   -- the chains stay as they are
-  pub kept_arena : (links : List Links) (heads places : List ℕ) (candidates : ℕ)
-      → HoldsNodes arena rs links heads places candidates
-      → HoldsNodes new rs links heads places candidates
-  kept_arena links heads places candidates k =
+  pub kept_arena : (links : List Links) (heads places : List ℕ) (flags : List Bool)
+      → HoldsNodes arena rs links heads places flags
+      → HoldsNodes new rs links heads places flags
+  kept_arena links heads places flags k =
       record {
         stored = stored_arena;
         linked_all = k.linked_all;
+        flags_all = k.flags_all;
         at_least_one = k.at_least_one;
         places_all = k.places_all;
         in_chains = filed_same _ _ no_record _ _ _ _ (λ b i e. refl) (λ b. refl)
             (chain_arena (length heads - 1)) k.in_chains;
         in_lists = k.in_lists;
-        in_stack = k.in_stack;
         hashed = λ i r e linked. k.hashed i r e linked
             ∙ ap hash_of (sym (key_kept i r e (linked_state r.state linked)));
         queued = k.queued;

@@ -1,10 +1,10 @@
--- The chains of the records: of each bucket and of the free records, the lists of each place and of the detached, and
--- the stack of candidates.
-use Rattle.std.specs.Prelude.{◌≡◌, ℕ, suc, zero, ◌+◌, ◌*◌, ◌/◌, ◌%◌, ◌-◌, ◌<◌, ◌^◌, List, length, map, get_or}
-use Rattle.std.specs.Prelude.{Bool, not, ◌==◌, cond, Option, Some, None, slice_get, bit_and, max}
-use Rattle.std.specs.List.{fold, sum_by}
+-- The chains of the records: of each bucket and of the free records, and the lists of each place and of the detached.
+use Rattle.std.specs.Prelude.{◌≡◌, ℕ, suc, ◌+◌, ◌*◌, ◌/◌, ◌%◌, ◌-◌, ◌<◌, ◌^◌, List, length, map, get_or}
+use Rattle.std.specs.Prelude.{Bool, Option, Some, None, slice_get, bit_and, max}
+use Rattle.std.specs.List.{fold}
 use Rattle.std.specs.Option.{option_and_then}
 use Rattle.sd_runs.specs.Arena.{Arena}
+use Rattle.sd_unique.specs.Candidates.{Waits}
 use Rattle.sd_unique.specs.Filed.{IsFiled, IsFiledBoth}
 use Rattle.sd_unique.specs.Record.{key_of, AreRecordsStored}
 use Rattle.sd_unique.specs.declared.record.Record.{Record}
@@ -47,10 +47,6 @@ after_of links n = get_or (map (λ l. l.after) links) n 0
 abbrev pub before_of : List Links → ℕ → ℕ
 before_of links n = get_or (map (λ l. l.before) links) n 0
 
--- what follows it in the stack
-abbrev pub waiting_of : List Links → ℕ → ℕ
-waiting_of links n = get_or (map (λ l. l.waiting) links) n 0
-
 -- the hash that is kept for it
 abbrev pub kept_hash : List Links → ℕ → ℕ
 kept_hash links n = get_or (map (λ l. l.hash) links) n 0
@@ -58,11 +54,6 @@ kept_hash links n = get_or (map (λ l. l.hash) links) n 0
 -- the first number of a chain
 abbrev pub head_of : List ℕ → ℕ → ℕ
 head_of heads b = get_or heads b no_record
-
--- the stack is the one chain with a head
-abbrev pub top_of : ℕ → ℕ → ℕ
-top_of top zero = top
-top_of top (suc b) = no_record
 
 -- A free record stands in the first chain, a linked one in that of its bucket, a detached one in none.
 abbrev pub chain_by : RecordState → ℕ → Option ℕ
@@ -85,18 +76,6 @@ chain_under arena count records n =
 abbrev pub list_under : List Record → ℕ → Option ℕ
 list_under records n = option_and_then (λ r. list_by r.state (bit_and r.place 2047)) (slice_get records n)
 
--- stands for what follows, where a number is not in the stack
-abbrev pub not_waiting : ℕ
-not_waiting = 2 ^ 32 - 2
-
--- whether a number stands in the stack, by its links
-abbrev pub is_waiting : Links → Bool
-is_waiting l = not (l.waiting == not_waiting)
-
--- a number stands in the stack of candidates where its links say so
-abbrev pub stack_under : List Links → ℕ → Option ℕ
-stack_under links n = option_and_then (λ l. cond (is_waiting l) (Some 0) None) (slice_get links n)
-
 -- the lists of the links
 abbrev pub AreInLists : List Links → List ℕ → (ℕ → Option ℕ) → Type 0
 AreInLists links places under = IsFiledBoth (after_of links) (before_of links) no_record (head_of places) under
@@ -104,28 +83,6 @@ AreInLists links places under = IsFiledBoth (after_of links) (before_of links) n
 -- The lists are kept from the first move of the vtree on: before that they have no heads.
 abbrev pub AreListed : List Links → List ℕ → (ℕ → Option ℕ) → Type 0
 AreListed links places under = 0 < length places → AreInLists links places under
-
--- the stack of the links
-abbrev pub AreStacked : List Links → ℕ → Type 0
-AreStacked links top = IsFiled (waiting_of links) no_record (top_of top) (stack_under links)
-
--- the links of the lists and the hashes are as before
-pub record KeepsLists (old new : List Links) : Type 0 where
-  pub size : length new ≡ length old
-  pub after : (n : ℕ) → after_of new n ≡ after_of old n
-  pub before : (n : ℕ) → before_of new n ≡ before_of old n
-  pub hashes : (n : ℕ) → kept_hash new n ≡ kept_hash old n
-
--- the stack is as before
-pub record KeepsStack (old new : List Links) : Type 0 where
-  pub size : length new ≡ length old
-  pub waiting : (n : ℕ) → waiting_of new n ≡ waiting_of old n
-  pub flags : (n : ℕ) → stack_under new n ≡ stack_under old n
-
--- the number stands in the stack, and so does each other that stood there
-pub record IsPushed (old new : List Links) (number : ℕ) : Type 0 where
-  pub here : stack_under new number ≡ Some 0
-  pub others : (n : ℕ) → stack_under old n ≡ Some 0 → stack_under new n ≡ Some 0
 
 -- the hash that is kept for each linked record is that of its key
 abbrev pub AreHashed : Arena → List Record → List Links → Type 0
@@ -136,20 +93,19 @@ AreHashed arena records links =
 -- What holds of the fields. The first head is that of the free records, the others are those of the buckets; the first
 -- place, where there are any, is that of the detached records.
 pub record HoldsNodes (arena : Arena) (records : List Record) (links : List Links) (heads places : List ℕ)
-    (candidates : ℕ) : Type 0 where
+    (flags : List Bool) : Type 0 where
   pub stored : AreRecordsStored arena records
   pub linked_all : length links ≡ length records
+  pub flags_all : length flags ≡ length records
   -- there is a bucket, and a head for each remainder of places, or for none
   pub at_least_one : 1 < length heads
   pub places_all : 0 < length places → length places ≡ 2049
   -- each record stands where its state says
   pub in_chains : IsFiled (next_of records) no_record (head_of heads) (chain_under arena (length heads - 1) records)
   pub in_lists : AreListed links places (list_under records)
-  pub in_stack : AreStacked links candidates
   pub hashed : AreHashed arena records links
   -- each linked node without uses is a candidate
-  pub queued : (n : ℕ) (r : Record) → slice_get records n ≡ Some r → r.state ≡ Linked → r.uses ≡ 0
-      → stack_under links n ≡ Some 0
+  pub queued : (n : ℕ) (r : Record) → slice_get records n ≡ Some r → r.state ≡ Linked → r.uses ≡ 0 → Waits flags n
 
 -- the records are as before but for the links of their chains
 pub record KeepsRecords (old new : List Record) : Type 0 where
@@ -167,7 +123,3 @@ pub record IsRecordAt (r : Record) (place : ℕ) : Type 0 where
 pub record IsUnused (r : Record) : Type 0 where
   pub linked : r.state ≡ Linked
   pub none : r.uses ≡ 0
-
--- how many numbers stand in the stack
-abbrev pub waiting_count : List Links → ℕ
-waiting_count links = sum_by (λ (l : Links). cond (is_waiting l) 1 0) links

@@ -1,16 +1,18 @@
 //! Numbered nodes, found by their place and list: no two linked nodes have the same place and list.
 //!
 //! Each number has a record and its links. A record is free, linked or detached, and stands where its
-//! state says: `next` chains the free records and those of each bucket, `waiting` the candidates for
-//! removal, and from `list_places` on `before` and `after` the linked ones of each place and the
-//! detached ones.
+//! state says: `next` chains the free records and those of each bucket, and from `list_places` on
+//! `before` and `after` the linked ones of each place and the detached ones. The numbers of the
+//! candidates for removal are a stack, and a flag for each number says whether it stands there.
 //!
 //! ```text
 //! heads     [ free | bucket 0 | bucket 1 | .. ]        places  [ detached | 0 | 1 | .. | 2047 ]
 //!               \       \ next                                     \ before, after
-//! records   [ place start length next uses mark state ]   links  [ before after waiting hash ]
-//!                    \                                             / candidates: the top of a stack
+//! records   [ place start length next uses mark state ]   links  [ before after hash ]
+//!                    \
 //! runs      [ .. | (2, 3) (4, 5) | .. ]
+//!
+//! candidates: the numbers  [ 4 0 | .. ]  and who waits  [ yes | no | no | no | yes | no | .. ]
 //! ```
 //!
 //! A look-up reads a head, then the records of its bucket until one has the key, and of these the list
@@ -29,9 +31,10 @@
 //! the records. That takes a step for each record, and reads no list: the links keep the hash of each
 //! linked record.
 //!
-//! A node of two elements has a record of 32 bytes, links of 16, a run of 16 with a mark of 1 for each
-//! element, and 4 to 8 of the buckets: 70 to 74 bytes, beside the room that vectors keep for growth. The
-//! heads of the lists have 8 KB, which are written at the first `list_places`.
+//! A node of two elements has a record of 32 bytes, links of 12, a run of 16 with a mark of 1 for each
+//! element, 4 of the stack with a flag of 1, and 4 to 8 of the buckets: 71 to 75 bytes, beside the room
+//! that vectors keep for growth. The heads of the lists have 8 KB, which are written at the first
+//! `list_places`.
 #![tactic(auto)]
 
 mod buckets;

@@ -3,7 +3,7 @@ ghost use Rattle.std.specs.Prelude.{◌≡◌, ◌+◌, ◌-◌, ◌<◌, ◌^�
 ghost use Rattle.std.specs.FinMap.{get, empty};
 ghost use Rattle.std.specs.Option.{IsSome};
 ghost use Rattle.sd_runs.specs.Arena.{Arena};
-ghost use Rattle.sd_unique.specs.Chains.{AreInLists, KeepsStack, IsRecordAt, head_of, kept_hash};
+ghost use Rattle.sd_unique.specs.Chains.{AreInLists, IsRecordAt, head_of, kept_hash};
 ghost use Rattle.sd_unique.specs.Chains.{list_by, list_under, no_record};
 ghost use Rattle.sd_unique.specs.Record.{nodes_of};
 ghost use Rattle.sd_unique.specs.Relinking.{IsLinkedAt};
@@ -18,7 +18,6 @@ pub(crate) fn list_all(records: &[Record], links: &mut [Links], places: &mut [u3
     requires heads { length places.old ≡ 2049 }
     requires empty { (b : ℕ) → head_of places.old b ≡ no_record }
     ensures listed { AreInLists links.new places.new (list_under records.now) }
-    ensures stack { KeepsStack links.old links.new }
     ensures hashes { (n : ℕ) → kept_hash links.new n ≡ kept_hash links.old n }
 {
     for number in 0..records.len() {
@@ -34,7 +33,6 @@ fn list(records: &[Record], links: &mut [Links], places: &mut [u32], number: usi
     requires heads { length places.old ≡ 2049 }
     requires listed { AreInLists links.old places.old (list_under (take number records.now)) }
     ensures listed { AreInLists links.new places.new (list_under (take (number + 1) records.now)) }
-    ensures stack { KeepsStack links.old links.new }
     ensures hashes { (n : ℕ) → kept_hash links.new n ≡ kept_hash links.old n }
 {
     let Some(head) = head_for(&records[number]) else {

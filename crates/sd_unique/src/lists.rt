@@ -2,7 +2,7 @@
 // kept once they have heads: only moves of the vtree use them, and what comes before pays one test.
 ghost use Rattle.std.specs.Prelude.{◌≡◌, ◌≢◌, ◌<◌, length, slice_get, Some, None, Option, List, ℕ};
 ghost use Rattle.sd_unique.specs.declared.record.Record.{Record};
-ghost use Rattle.sd_unique.specs.Chains.{AreInLists, AreListed, KeepsStack, after_of, before_of, head_of, kept_hash};
+ghost use Rattle.sd_unique.specs.Chains.{AreInLists, AreListed, after_of, before_of, head_of, kept_hash};
 ghost use Rattle.sd_unique.specs.Chains.{no_record};
 ghost use Rattle.sd_runs.specs.Arena.{IsMember};
 ghost use Rattle.sd_unique.specs.Filed.{unfiled, filed_at, IsChain, IsLed};
@@ -21,7 +21,6 @@ pub(crate) fn take_out(links: &mut [Links], places: &mut [u32], head: usize, num
     ensures listed { (under : ℕ → Option ℕ) → under number ≡ Some head
         → AreListed links.old places.old under
         → AreListed links.new places.new (unfiled number under) }
-    ensures stack { KeepsStack links.old links.new }
     ensures hashes { (n : ℕ) → kept_hash links.new n ≡ kept_hash links.old n }
 {
     if head < places.len() {
@@ -40,7 +39,6 @@ fn lead_past(links: &mut [Links], places: &mut [u32], head: usize, number: u32)
     ensures listed { (under : ℕ → Option ℕ) → under number ≡ Some head
         → AreInLists links.old places.old under
         → AreInLists links.new places.new (unfiled number under) }
-    ensures stack { KeepsStack links.old links.new }
     ensures hashes { (n : ℕ) → kept_hash links.new n ≡ kept_hash links.old n }
 {
     let link = links[number as usize];
@@ -55,7 +53,6 @@ fn lead(links: &mut [Links], places: &mut [u32], head: usize, from: u32, to: u32
     ensures led { IsLed (after_of links.old) (after_of links.new) no_record (head_of places.old)
         (head_of places.new) head from to }
     ensures before { (n : ℕ) → before_of links.new n ≡ before_of links.old n }
-    ensures stack { KeepsStack links.old links.new }
     ensures hashes { (n : ℕ) → kept_hash links.new n ≡ kept_hash links.old n }
 {
     if from == NO_RECORD {
@@ -70,7 +67,6 @@ fn lead_back(links: &mut [Links], to: u32, from: u32)
     requires inside { from ≢ no_record → from < length links.old }
     ensures led { IsLedBack (before_of links.old) (before_of links.new) no_record to from }
     ensures after { (n : ℕ) → after_of links.new n ≡ after_of links.old n }
-    ensures stack { KeepsStack links.old links.new }
     ensures hashes { (n : ℕ) → kept_hash links.new n ≡ kept_hash links.old n }
 {
     if from != NO_RECORD {
@@ -97,7 +93,6 @@ pub(crate) fn put_first(
     ensures listed { (under : ℕ → Option ℕ) → under number ≡ None
         → AreListed links.old places.old under
         → AreListed links.new places.new (filed_at number head under) }
-    ensures stack { KeepsStack links.old links.new }
     ensures hash { kept_hash links.new number ≡ hash }
     ensures hashes { (n : ℕ) → n ≢ number → kept_hash links.new n ≡ kept_hash links.old n }
 {
@@ -126,7 +121,6 @@ pub(crate) fn link_first(
     ensures listed { (under : ℕ → Option ℕ) → under number ≡ None
         → AreInLists links.old places.old under
         → AreInLists links.new places.new (filed_at number head under) }
-    ensures stack { KeepsStack links.old links.new }
     ensures hash { kept_hash links.new number ≡ hash }
     ensures hashes { (n : ℕ) → n ≢ number → kept_hash links.new n ≡ kept_hash links.old n }
 {

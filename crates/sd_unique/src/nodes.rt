@@ -7,7 +7,7 @@ use crate::hash::{bucket_at, hash};
 use crate::listing::{detached_among, linked_among, list_all};
 use crate::lists::{at_place, put_first};
 use crate::record::{Links, NO_RECORD, Record, RecordState};
-use crate::stack::{pop_top, pop_used, push, push_unused};
+use crate::stack::Candidates;
 use crate::states::{attach, detach, free, release};
 use sd_runs::{Runs, TakeError};
 use std::alloc::{AllocError, Global};
@@ -47,8 +47,8 @@ pub struct Nodes {
     /// The first detached record, then the first number of the list of each place, by its remainder.
     /// Nothing before the first move: no lists are kept until then.
     places: Vec<u32>,
-    /// The top of the stack of candidates.
-    candidates: u32,
+    /// The stack of numbers that may be those of linked nodes without uses.
+    candidates: Candidates,
     /// How many numbers `retire` freed since the free numbers were last put in order, or the greatest
     /// `u32`.
     freed: u32,
@@ -69,7 +69,7 @@ impl Model for Nodes {
 
     ghost invariant = { λ a. HoldsNodes a.runs a.records.items a.links.items a.heads.items
         a.places.items
-        a.candidates };
+        a.candidates.0 };
 }
 
 impl Nodes {
@@ -98,7 +98,7 @@ impl Nodes {
             links: Vec::with_capacity(alloc, FIRST_RECORDS)?,
             heads: empty_heads(alloc, 17)?,
             places: Vec::with_capacity(alloc, LISTS)?,
-            candidates: NO_RECORD,
+            candidates: Candidates::with_capacity(alloc, FIRST_RECORDS)?,
             freed: 0,
             newest: 0,
         })
@@ -269,6 +269,7 @@ impl Nodes {
     {
         self.records.reserve(1)?;
         self.links.reserve(1)?;
+        self.candidates.reserve()?;
         let start = self.runs.take(list)?;
         let run = (start, list.len() as u32);
         let number = self.records.len() as u32;
@@ -278,10 +279,11 @@ impl Nodes {
             .records
             .push(Record::linked(place, run, self.heads[head]));
         let _ = self.links.push(Links::new());
+        self.candidates.add();
         self.heads[head] = number;
         let list = (place & 2047) as usize + 1;
         put_first(&mut self.links, &mut self.places, list, number, hash);
-        self.candidates = push(&mut self.links, self.candidates, number);
+        self.candidates.push(number);
         Ok(number)
     }
 
@@ -318,7 +320,7 @@ impl Nodes {
             number,
             hash,
         );
-        self.candidates = push(&mut self.links, self.candidates, number);
+        self.candidates.push(number);
         number
     }
 
@@ -406,7 +408,7 @@ impl Nodes {
         ensures nodes { IsNodes self.new }
     {
         let uses = self.records[node as usize].uses - 1;
-        self.candidates = push_unused(&mut self.links, self.candidates, node, uses);
+        self.candidates.push_unused(node, uses);
         self.records[node as usize].uses = uses;
     }
 
@@ -533,7 +535,7 @@ impl Nodes {
         ensures nodes { IsNodes self.new }
     {
         let uses = self.records[node as usize].uses;
-        self.candidates = push_unused(&mut self.links, self.candidates, node, uses);
+        self.candidates.push_unused(node, uses);
         attach(
             &self.runs,
             &mut self.records,
@@ -579,7 +581,7 @@ impl Nodes {
             &mut self.places,
             node,
         );
-        self.candidates = pop_top(&mut self.links, self.candidates, node);
+        self.candidates.pop_top(node);
         self.freed = self.freed.saturating_add(1);
     }
 
@@ -589,12 +591,11 @@ impl Nodes {
         ensures none { IfNone result ((n : ℕ) → ¬ IsIdle self.new n) }
         ensures same { self.new ≡ self.old }
     {
-        self.candidates = pop_used(&self.records, &mut self.links, self.candidates);
-        if self.candidates == NO_RECORD {
+        let Some(node) = self.candidates.pop_used(&self.records) else {
             self.end_sweep();
             return None;
-        }
-        Some(self.candidates)
+        };
+        Some(node)
     }
 
     // Puts the free numbers and the free runs of two in order where a great part of the records was freed

@@ -38,18 +38,12 @@ pub(crate) struct Links {
     pub(crate) before: u32,
     /// From then on, the number after in that list.
     pub(crate) after: u32,
-    /// The number that follows in the stack of candidates, or `NOT_WAITING` where this number does not
-    /// stand there. That of a linked node without uses does, and that of another record may.
-    pub(crate) waiting: u32,
     /// The hash of the node's place and list, while it is linked.
     pub(crate) hash: u32,
 }
 
 /// Ends a chain: no record has this number.
 pub(crate) const NO_RECORD: u32 = u32::MAX;
-
-/// Stands for what follows in the stack, where a number is not in it: no record has this number.
-pub(crate) const NOT_WAITING: u32 = u32::MAX - 1;
 
 impl Record {
     ghost use Rattle.std.specs.Prelude.{◌≡◌};
@@ -79,17 +73,11 @@ impl Record {
 }
 
 impl Links {
-    ghost use Rattle.std.specs.Prelude.{◌≡◌, false};
-    ghost use Rattle.sd_unique.specs.Chains.{is_waiting};
-
-    // Of a number that stands nowhere.
-    pub(crate) fn new() -> Links
-        ensures { is_waiting result ≡ false }
-    {
+    // Of a number that stands in no list.
+    pub(crate) fn new() -> Links {
         Links {
             before: NO_RECORD,
             after: NO_RECORD,
-            waiting: NOT_WAITING,
             hash: 0,
         }
     }

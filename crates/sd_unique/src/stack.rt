@@ -1,67 +1,132 @@
 // The stack of candidates: numbers that may be those of linked nodes without uses.
-ghost use Rattle.std.specs.Prelude.{◌≡◌, ◌≢◌, ◌<◌, ◌-◌, ◌^◌, length, slice_get, Some, ℕ, MatchBool};
+ghost use Rattle.std.specs.Prelude.{◌≡◌, ◌≢◌, ◌<◌, ◌++◌, [], ◌∷◌, false, length, slice_get, Some, ℕ, MatchBool};
+ghost use Rattle.std.specs.Prelude.{IfOk, OnOk, IfSome, IfNone};
 ghost use Rattle.sd_unique.specs.declared.record.Record.{Record};
-ghost use Rattle.sd_unique.specs.Chains.{AreStacked, KeepsLists, IsPushed, IsUnused, stack_under, no_record};
-ghost use Rattle.sd_unique.specs.Chains.{waiting_count};
-ghost use Rattle.sd_unique.specs.Filed.{unfiled};
+ghost use Rattle.sd_unique.specs.Candidates.{Waits, HasRoom};
+ghost use Rattle.sd_unique.specs.Chains.{IsUnused};
 
-use crate::record::{Links, NO_RECORD, NOT_WAITING, Record, RecordState};
+use crate::record::{Record, RecordState};
+use std::alloc::{AllocError, Global};
+use std::marker::Model;
 
-// Puts a number on the stack, where it is not there yet, and answers the top.
-pub(crate) fn push(links: &mut [Links], top: u32, number: u32) -> u32
-    requires inside { number < length links.old }
-    requires fits { length links.old < 2 ^ 32 - 1 }
-    requires stacked { AreStacked links.old top }
-    ensures stacked { AreStacked links.new result }
-    ensures lists { KeepsLists links.old links.new }
-    ensures pushed { IsPushed links.old links.new number }
-{
-    let mut link = links[number as usize];
-    if link.waiting != NOT_WAITING {
-        return top;
-    }
-    link.waiting = top;
-    links[number as usize] = link;
-    number
+/// The stack of candidates, and for each number whether it stands there. That of a linked node
+/// without uses does, and that of another record may. A push and a pop touch the end of the stack
+/// and one flag, so those of a sweep bring few lines into the cache.
+#[derive(Drop)]
+pub(crate) struct Candidates {
+    /// As many as the records: those below `depth` are the stack.
+    numbers: Vec<u32>,
+    /// For each number whether it stands in the stack.
+    waits: Vec<bool>,
+    /// How many stand there.
+    depth: usize,
 }
 
-// Puts a number on the stack if it has no uses, and answers the top.
-pub(crate) fn push_unused(links: &mut [Links], top: u32, number: u32, uses: u64) -> u32
-    requires inside { number < length links.old }
-    requires fits { length links.old < 2 ^ 32 - 1 }
-    requires stacked { AreStacked links.old top }
-    ensures stacked { AreStacked links.new result }
-    ensures lists { KeepsLists links.old links.new }
-    ensures others { (n : ℕ) → stack_under links.old n ≡ Some 0 → stack_under links.new n ≡ Some 0 }
-    ensures here { uses ≡ 0 → stack_under links.new number ≡ Some 0 }
-{
-    if uses == 0 {
-        push(links, top, number)
-    } else {
-        top
-    }
+impl Model for Candidates {
+    ghost use Rattle.std.specs.Prelude.{ℕ, List, Bool};
+    ghost use Rattle.sd_unique.specs.Candidates.{AreCandidates};
+
+    // who waits, and for how many numbers the vectors have memory
+    ghost Value = { List Bool × (ℕ × ℕ) };
+
+    ghost view = { λ a. (a.waits.items, (a.numbers.cap, a.waits.cap)) };
+
+    ghost invariant = { λ a. AreCandidates a.numbers.items a.waits.items a.depth };
 }
 
-// Takes numbers off the stack until its top is that of a linked node without uses, and answers the
-// top.
-pub(crate) fn pop_used(records: &[Record], links: &mut [Links], top: u32) -> u32
-    requires size { length links.old ≡ length records.now }
-    requires stacked { AreStacked links.old top }
-    ensures stacked { AreStacked links.new result }
-    ensures lists { KeepsLists links.old links.new }
-    ensures others { (n : ℕ) (r : Record) → slice_get records.now n ≡ Some r → IsUnused r
-        → stack_under links.old n ≡ Some 0 → stack_under links.new n ≡ Some 0 }
-    ensures first { result ≢ no_record
-        → (r : Record) × (slice_get records.now result ≡ Some r) × IsUnused r }
-{
-    let mut top = top;
-    while top != NO_RECORD {
-        if is_unused(&records[top as usize]) {
-            return top;
+impl Candidates {
+    // Of no numbers, with memory for so many.
+    pub(crate) fn with_capacity(alloc: Global, count: usize) -> Result<Candidates, AllocError>
+        ensures { IfOk result (λ candidates. candidates.0 ≡ []) }
+    {
+        Ok(Candidates {
+            numbers: Vec::with_capacity(alloc, count)?,
+            waits: Vec::with_capacity(alloc, count)?,
+            depth: 0,
+        })
+    }
+
+    // Makes room for one more number.
+    pub(crate) fn reserve(&mut self) -> Result<(), AllocError>
+        ensures same { self.new.0 ≡ self.old.0 }
+        ensures room { OnOk result (HasRoom self.new) }
+    {
+        self.numbers.reserve(1)?;
+        self.waits.reserve(1)?;
+        Ok(())
+    }
+
+    // One more number, which does not stand in the stack.
+    pub(crate) fn add(&mut self)
+        requires room { HasRoom self.old }
+        ensures { self.new.0 ≡ self.old.0 ++ false ∷ [] }
+    {
+        let _ = self.numbers.push(0);
+        let _ = self.waits.push(false);
+    }
+
+    // Puts a number on the stack, where it is not there yet.
+    #[inline(always)]
+    pub(crate) fn push(&mut self, number: u32)
+        requires inside { number < length self.old.0 }
+        ensures size { length self.new.0 ≡ length self.old.0 }
+        ensures here { Waits self.new.0 number }
+        ensures others { (n : ℕ) → Waits self.old.0 n → Waits self.new.0 n }
+    {
+        if self.waits[number as usize] {
+            return;
         }
-        top = pop(links, top);
+        self.waits[number as usize] = true;
+        self.numbers[self.depth] = number;
+        self.depth += 1;
     }
-    top
+
+    // Puts a number on the stack if it has no uses.
+    #[inline(always)]
+    pub(crate) fn push_unused(&mut self, number: u32, uses: u64)
+        requires inside { number < length self.old.0 }
+        ensures size { length self.new.0 ≡ length self.old.0 }
+        ensures here { uses ≡ 0 → Waits self.new.0 number }
+        ensures others { (n : ℕ) → Waits self.old.0 n → Waits self.new.0 n }
+    {
+        if uses == 0 {
+            self.push(number);
+        }
+    }
+
+    // Takes numbers off the stack until its top is that of a linked node without uses, and answers
+    // that one, or None where all were taken off.
+    pub(crate) fn pop_used(&mut self, records: &[Record]) -> Option<u32>
+        requires size { length self.old.0 ≡ length records.now }
+        ensures size { length self.new.0 ≡ length self.old.0 }
+        ensures others { (n : ℕ) (r : Record) → slice_get records.now n ≡ Some r → IsUnused r
+            → Waits self.old.0 n → Waits self.new.0 n }
+        ensures some { IfSome result
+            (λ n. (r : Record) × (slice_get records.now n ≡ Some r) × IsUnused r) }
+        ensures none { IfNone result ((n : ℕ) → ¬ Waits self.new.0 n) }
+    {
+        while self.depth > 0 {
+            let top = self.numbers[self.depth - 1];
+            if is_unused(&records[top as usize]) {
+                return Some(top);
+            }
+            self.depth -= 1;
+            self.waits[top as usize] = false;
+        }
+        None
+    }
+
+    // Takes a number off the stack where it is the top.
+    #[inline(always)]
+    pub(crate) fn pop_top(&mut self, number: u32)
+        ensures size { length self.new.0 ≡ length self.old.0 }
+        ensures others { (n : ℕ) → n ≢ number → Waits self.old.0 n → Waits self.new.0 n }
+    {
+        if self.depth > 0 && self.numbers[self.depth - 1] == number {
+            self.depth -= 1;
+            self.waits[number as usize] = false;
+        }
+    }
 }
 
 // Whether the record is that of a linked node without uses.
@@ -69,30 +134,4 @@ fn is_unused(node: &Record) -> bool
     ensures { MatchBool result (IsUnused node.now) (¬ IsUnused node.now) }
 {
     matches!(node.state, RecordState::Linked) && node.uses == 0
-}
-
-// Takes the top off the stack, and answers what follows it.
-fn pop(links: &mut [Links], top: u32) -> u32
-    requires at_least_one { top ≢ no_record }
-    requires stacked { AreStacked links.old top }
-    ensures stacked { AreStacked links.new result }
-    ensures lists { KeepsLists links.old links.new }
-    ensures off { (n : ℕ) → stack_under links.new n ≡ unfiled top (stack_under links.old) n }
-    ensures fewer { waiting_count links.new < waiting_count links.old }
-{
-    let next = links[top as usize].waiting;
-    links[top as usize].waiting = NOT_WAITING;
-    next
-}
-
-// Takes a number off the stack where it is the top, and answers the top.
-pub(crate) fn pop_top(links: &mut [Links], top: u32, number: u32) -> u32
-    requires record { number ≢ no_record }
-    requires stacked { AreStacked links.old top }
-    ensures stacked { AreStacked links.new result }
-    ensures lists { KeepsLists links.old links.new }
-    ensures others { (n : ℕ) → n ≢ number → stack_under links.old n ≡ Some 0
-        → stack_under links.new n ≡ Some 0 }
-{
-    if top == number { pop(links, top) } else { top }
 }

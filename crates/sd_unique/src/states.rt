@@ -1,9 +1,10 @@
 // A record comes to another state: it leaves its chain and its list for those of that state.
-ghost use Rattle.std.specs.Prelude.{◌≡◌, slice_get, Some, ℕ, List};
+ghost use Rattle.std.specs.Prelude.{◌≡◌, slice_get, Some, Bool, ℕ, List};
 ghost use Rattle.sd_unique.specs.declared.record.Record.{Record};
 ghost use Rattle.std.specs.Option.{IsSome};
 ghost use Rattle.std.specs.FinMap.{get};
-ghost use Rattle.sd_unique.specs.Chains.{HoldsNodes, stack_under};
+ghost use Rattle.sd_unique.specs.Chains.{HoldsNodes};
+ghost use Rattle.sd_unique.specs.Candidates.{Waits};
 ghost use Rattle.sd_unique.specs.Record.{nodes_of};
 ghost use Rattle.sd_unique.specs.Relinking.{unlinked, relinked, removed, IsAbsent};
 
@@ -23,9 +24,11 @@ pub(crate) fn detach(
     number: u32,
 )
     requires linked { IsSome (get (nodes_of runs.now records.old).linked number) }
-    requires kept { (top : ℕ) × HoldsNodes runs.now records.old links.old heads.old places.old top }
-    ensures kept { (top : ℕ) → HoldsNodes runs.now records.old links.old heads.old places.old top
-        → HoldsNodes runs.now records.new links.new heads.new places.new top }
+    requires kept { (flags : List Bool)
+        × HoldsNodes runs.now records.old links.old heads.old places.old flags }
+    ensures kept { (flags : List Bool)
+        → HoldsNodes runs.now records.old links.old heads.old places.old flags
+        → HoldsNodes runs.now records.new links.new heads.new places.new flags }
     ensures nodes { (k : ℕ × List (ℕ × ℕ))
         → get (nodes_of runs.now records.old).linked number ≡ Some k
         → nodes_of runs.now records.new ≡ unlinked (nodes_of runs.now records.old) number k }
@@ -39,7 +42,7 @@ pub(crate) fn detach(
     records[number as usize].state = RecordState::Detached;
 }
 
-// Makes a detached record a linked one, which stands on the stack of candidates if it has no uses.
+// Makes a detached record a linked one, whose number waits if it has no uses.
 pub(crate) fn attach(
     runs: &Runs,
     records: &mut [Record],
@@ -52,11 +55,12 @@ pub(crate) fn attach(
     requires absent { (k : ℕ × List (ℕ × ℕ))
         → get (nodes_of runs.now records.old).detached number ≡ Some k
         → IsAbsent (nodes_of runs.now records.old) k }
-    requires queued { get (nodes_of runs.now records.old).uses number ≡ Some 0
-        → stack_under links.old number ≡ Some 0 }
-    requires kept { (top : ℕ) × HoldsNodes runs.now records.old links.old heads.old places.old top }
-    ensures kept { (top : ℕ) → HoldsNodes runs.now records.old links.old heads.old places.old top
-        → HoldsNodes runs.now records.new links.new heads.new places.new top }
+    requires kept { (flags : List Bool)
+        × HoldsNodes runs.now records.old links.old heads.old places.old flags }
+    ensures kept { (flags : List Bool)
+        → (get (nodes_of runs.now records.old).uses number ≡ Some 0 → Waits flags number)
+        → HoldsNodes runs.now records.old links.old heads.old places.old flags
+        → HoldsNodes runs.now records.new links.new heads.new places.new flags }
     ensures nodes { (k : ℕ × List (ℕ × ℕ))
         → get (nodes_of runs.now records.old).detached number ≡ Some k
         → nodes_of runs.now records.new ≡ relinked (nodes_of runs.now records.old) number k }
@@ -84,9 +88,11 @@ pub(crate) fn release(
     number: u32,
 )
     requires detached { IsSome (get (nodes_of runs.old records.old).detached number) }
-    requires kept { (top : ℕ) × HoldsNodes runs.old records.old links.old heads.old places.old top }
-    ensures kept { (top : ℕ) → HoldsNodes runs.old records.old links.old heads.old places.old top
-        → HoldsNodes runs.new records.new links.new heads.new places.new top }
+    requires kept { (flags : List Bool)
+        × HoldsNodes runs.old records.old links.old heads.old places.old flags }
+    ensures kept { (flags : List Bool)
+        → HoldsNodes runs.old records.old links.old heads.old places.old flags
+        → HoldsNodes runs.new records.new links.new heads.new places.new flags }
     ensures nodes { (k : ℕ × List (ℕ × ℕ))
         → get (nodes_of runs.old records.old).detached number ≡ Some k
         → nodes_of runs.new records.new ≡ removed (nodes_of runs.old records.old) number k.1 }
@@ -110,9 +116,11 @@ pub(crate) fn free(
     node: u32,
 )
     requires linked { IsSome (get (nodes_of runs.old records.old).linked node) }
-    requires kept { (top : ℕ) × HoldsNodes runs.old records.old links.old heads.old places.old top }
-    ensures kept { (top : ℕ) → HoldsNodes runs.old records.old links.old heads.old places.old top
-        → HoldsNodes runs.new records.new links.new heads.new places.new top }
+    requires kept { (flags : List Bool)
+        × HoldsNodes runs.old records.old links.old heads.old places.old flags }
+    ensures kept { (flags : List Bool)
+        → HoldsNodes runs.old records.old links.old heads.old places.old flags
+        → HoldsNodes runs.new records.new links.new heads.new places.new flags }
     ensures free { (r : Record) → slice_get records.new node ≡ Some r
         → r.state ≡ RecordState.Free }
     ensures nodes { (k : ℕ × List (ℕ × ℕ))

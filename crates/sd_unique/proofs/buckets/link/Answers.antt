@@ -10,14 +10,14 @@ use Rattle.sd_unique.specs.declared.record.Record.{Record}
 use Rattle.sd_unique.specs.declared.record.RecordState.TheVariants.{Free}
 use Rattle.sd_unique.proofs.Entries.{slice_get_at}
 use Rattle.sd_unique.proofs.Rechaining.{one_up, rechained_next}
-use Rattle.sd_unique.proofs.Stacked.{get_or_any}
+use Rattle.sd_unique.proofs.Reading.{get_or_any}
 use Rattle.sd_unique.proofs.buckets.link.Goals as goal
 
 abbrev blank : Record
 blank = record { place = 0; start = 0; length = 0; next = 0; uses = 0; mark = 0; state = Free }
 
 abbrev blank_links : Links
-blank_links = record { before = 0; after = 0; waiting = 0; hash = 0 }
+blank_links = record { before = 0; after = 0; hash = 0 }
 
 pub returns-clause-linked : goal.returns-clause-linked
 returns-clause-linked c =

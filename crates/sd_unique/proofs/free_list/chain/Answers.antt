@@ -10,7 +10,7 @@ use Rattle.sd_unique.proofs.Entries.{slice_get_at}
 use Rattle.sd_unique.proofs.Cutting.{all_kept}
 use Rattle.sd_unique.proofs.Ordering.{buckets_next, buckets_same, not_free}
 use Rattle.sd_unique.proofs.Rechaining.{one_down, rechained_next, rechained_pass}
-use Rattle.sd_unique.proofs.Stacked.{get_or_any}
+use Rattle.sd_unique.proofs.Reading.{get_or_any}
 use Rattle.sd_unique.proofs.free_list.chain.Goals as goal
 
 abbrev blank : Record

@@ -9,7 +9,6 @@ loop-number-init c =
     record {
       heads = c.requires.heads;
       listed = listed_none c.args.links.now c.args.places.now c.args.records.now c.requires.empty;
-      stack = record { size = refl; waiting = λ n. refl; flags = λ n. refl };
       hashes = λ n. refl;
     }
 

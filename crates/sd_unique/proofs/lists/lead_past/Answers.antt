@@ -1,11 +1,11 @@
 use Rattle.std.proofs.Common.{◌<◌, length, sym, ◌∙◌, subst}
 use Rattle.sd_unique.specs.Chains.{after_of, before_of}
 use Rattle.sd_unique.specs.declared.record.Links.{Links}
-use Rattle.sd_unique.proofs.Listed.{before_there, after_there, taken_steps, keeps_both, link_read}
+use Rattle.sd_unique.proofs.Listed.{before_there, after_there, taken_steps, link_read}
 use Rattle.sd_unique.proofs.lists.lead_past.Goals as goal
 
 abbrev blank : Links
-blank = record { before = 0; after = 0; waiting = 0; hash = 0 }
+blank = record { before = 0; after = 0; hash = 0 }
 
 pub lead-requires-clause-inside : goal.lead-requires-clause-inside
 lead-requires-clause-inside c = λ ne.
@@ -20,7 +20,7 @@ lead_back-requires c = record {
   inside = λ ne.
       let is = link_read (λ (l : Links). l.after) c.args.links.now c.args.number blank c.requires.inside in
       subst (λ k. k < length c.lead.new.links) is
-      (subst (λ s. after_of c.args.links.now c.args.number < s) (sym c.lead.ensures.stack.size)
+      (subst (λ s. after_of c.args.links.now c.args.number < s) (sym c.lead.auto.links)
       (c.requires.listed.2 (after_of c.args.links.now c.args.number) c.args.head
       (after_there c.args.links.now c.args.places.now c.requires.listed.0 c.args.number c.args.head
       c.requires.listed.1 c.requires.listed.3 (λ z. ne (sym is ∙ z)))));
@@ -33,10 +33,6 @@ returns-clause-listed c = λ under there f.
     (sym (link_read (λ (l : Links). l.before) c.args.links.now c.args.number blank c.requires.inside))
     (sym (link_read (λ (l : Links). l.after) c.args.links.now c.args.number blank c.requires.inside))
     c.lead.ensures.led c.lead.ensures.before c.lead_back.ensures.led c.lead_back.ensures.after
-
-pub returns-clause-stack : goal.returns-clause-stack
-returns-clause-stack c =
-    keeps_both c.args.links.now c.lead.new.links c.lead_back.new.links c.lead.ensures.stack c.lead_back.ensures.stack
 
 pub returns-clause-hashes : goal.returns-clause-hashes
 returns-clause-hashes c = λ n. c.lead_back.ensures.hashes n ∙ c.lead.ensures.hashes n

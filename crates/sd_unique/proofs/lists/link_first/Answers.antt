@@ -3,12 +3,12 @@ use Rattle.sd_unique.specs.Chains.{before_of, head_of, no_record}
 use Rattle.sd_unique.specs.Filed.{IsLedBack}
 use Rattle.sd_unique.specs.declared.record.Links.{Links}
 use Rattle.sd_unique.proofs.Entries.{slice_get_at}
-use Rattle.sd_unique.proofs.Listed.{head_there, put_steps, keeps_both, keeps_stack}
-use Rattle.sd_unique.proofs.Stacked.{get_or_any, link_there, link_other}
+use Rattle.sd_unique.proofs.Listed.{head_there, put_steps}
+use Rattle.sd_unique.proofs.Reading.{get_or_any, link_there, link_other}
 use Rattle.sd_unique.proofs.lists.link_first.Goals as goal
 
 abbrev blank : Links
-blank = record { before = 0; after = 0; waiting = 0; hash = 0 }
+blank = record { before = 0; after = 0; hash = 0 }
 
 pub lead_back-requires : goal.lead_back-requires
 lead_back-requires c = record {
@@ -26,23 +26,16 @@ returns-clause-listed c = λ under gone f.
     put_steps c.args.links.now c.args.places.now under c.args.number c.args.head gone f c.lead_back.new.links
     (get_or c.lead_back.new.links c.args.number blank) _ c.requires.at_least_one
     (slice_get_at c.lead_back.new.links c.args.number blank
-    (subst (λ s. c.args.number < s) (sym c.lead_back.ensures.stack.size) c.requires.inside))
+    (subst (λ s. c.args.number < s) (sym c.lead_back.auto.links) c.requires.inside))
     c.requires.head
     (subst (λ k. IsLedBack (before_of c.args.links.now) (before_of c.lead_back.new.links) no_record c.args.number k)
     (sym is) c.lead_back.ensures.led)
     c.lead_back.ensures.after refl (sym is)
 
-pub returns-clause-stack : goal.returns-clause-stack
-returns-clause-stack c =
-    keeps_both c.args.links.now c.lead_back.new.links _ c.lead_back.ensures.stack
-    (keeps_stack c.lead_back.new.links c.args.number (get_or c.lead_back.new.links c.args.number blank) _
-    (slice_get_at c.lead_back.new.links c.args.number blank
-    (subst (λ s. c.args.number < s) (sym c.lead_back.ensures.stack.size) c.requires.inside)) refl refl)
-
 pub returns-clause-hash : goal.returns-clause-hash
 returns-clause-hash c =
     link_there (λ (l : Links). l.hash) c.lead_back.new.links c.args.number _
-    (subst (λ s. c.args.number < s) (sym c.lead_back.ensures.stack.size) c.requires.inside)
+    (subst (λ s. c.args.number < s) (sym c.lead_back.auto.links) c.requires.inside)
 
 pub returns-clause-hashes : goal.returns-clause-hashes
 returns-clause-hashes c = λ n ne.

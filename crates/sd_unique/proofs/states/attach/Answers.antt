@@ -7,9 +7,8 @@ use Rattle.sd_unique.specs.Record.{key_of}
 use Rattle.sd_unique.proofs.Attaching.{bucket_at, attached_kept, nodes_attached}
 use Rattle.sd_unique.proofs.Both.{unfiled_here}
 use Rattle.sd_unique.proofs.Detached.{detached_node}
-use Rattle.sd_unique.proofs.Listed.{keeps_both}
 use Rattle.sd_unique.proofs.Numbered.{detached_inside}
-use Rattle.sd_unique.proofs.Stacked.{get_or_any}
+use Rattle.sd_unique.proofs.Reading.{get_or_any}
 use Rattle.sd_unique.proofs.Standing.{list_inside, detached_here, detached_list, detached_key_is, detached_uses}
 use Rattle.sd_unique.proofs.Standing.{is_record, unfiled_inside}
 use Rattle.sd_unique.proofs.states.attach.Goals as goal
@@ -48,7 +47,7 @@ pub put_first-requires-clause-inside : goal.put_first-requires-clause-inside
 put_first-requires-clause-inside c =
     omega (
       arith,
-      c.take_out.ensures.stack.size,
+      c.take_out.auto.links,
       c.requires.kept.1.linked_all,
       detached_inside c.args.runs.now c.args.records.now c.args.number c.requires.detached,
     )
@@ -66,7 +65,7 @@ put_first-requires-clause-listed c =
       unfiled_inside (list_under c.args.records.now) c.args.number (length c.take_out.new.links)
           (λ i b e. omega (
             arith,
-            c.take_out.ensures.stack.size,
+            c.take_out.auto.links,
             c.requires.kept.1.linked_all,
             list_inside c.args.records.now i b e,
           )),
@@ -80,7 +79,7 @@ pub bounds-records-number : goal.bounds-records-number
 bounds-records-number c = detached_inside c.args.runs.now c.args.records.now c.args.number c.requires.detached
 
 pub returns-clause-kept : goal.returns-clause-kept
-returns-clause-kept c = λ top k.
+returns-clause-kept c = λ flags queued k.
     let read = detached_here c.args.runs.now c.args.records.now c.args.number blank c.requires.detached in
     let inside : c.bucket_at-head.result + 1 < length c.args.heads.now = omega (
       arith,
@@ -89,7 +88,7 @@ returns-clause-kept c = λ top k.
     ) in
     attached_kept c.args.runs.now c.args.records.now c.args.number (get_or c.args.records.now c.args.number blank) _
     read.0 refl refl refl refl refl read.1 refl c.args.links.now c.put_first.new.links c.args.heads.now
-    c.args.places.now c.put_first.new.places top c.bucket_at-head.result
+    c.args.places.now c.put_first.new.places flags c.bucket_at-head.result
     (bucket_at c.args.runs.now (get_or c.args.records.now c.args.number blank) c.get-list.result.now
     (length c.args.heads.now - 1) c.bucket_at-head.result c.get-list.ensures (c.bucket_at-head.ensures.is (
       (get_or c.args.records.now c.args.number blank).place,
@@ -97,8 +96,7 @@ returns-clause-kept c = λ top k.
     ) c.hash-hash.ensures))
     inside (get_or_any c.args.heads.now (c.bucket_at-head.result + 1) 0 no_record inside)
     (c.put_first.auto.places ∙ c.take_out.auto.places)
-    (keeps_both c.args.links.now c.take_out.new.links c.put_first.new.links c.take_out.ensures.stack
-    c.put_first.ensures.stack)
+    (c.put_first.auto.links ∙ c.take_out.auto.links)
     (c.put_first.ensures.listed (unfiled c.args.number (list_under c.args.records.now))
     (unfiled_here c.args.number (list_under c.args.records.now) c.args.number refl)
     (c.take_out.ensures.listed (list_under c.args.records.now)
@@ -108,7 +106,7 @@ returns-clause-kept c = λ top k.
     (c.requires.absent (key_of c.args.runs.now (get_or c.args.records.now c.args.number blank))
     (detached_key_is c.args.runs.now c.args.records.now c.args.number
     (get_or c.args.records.now c.args.number blank) read.0 read.1))
-    (λ none. c.requires.queued (detached_uses c.args.runs.now c.args.records.now c.args.number
+    (λ none. queued (detached_uses c.args.runs.now c.args.records.now c.args.number
     (get_or c.args.records.now c.args.number blank) read.0 read.1 ∙ ap Some none))
     (c.put_first.ensures.hash ∙ c.hash-hash.ensures
     ∙ ap (λ o. hash_of ((get_or c.args.records.now c.args.number blank).place, unwrap_or o []))

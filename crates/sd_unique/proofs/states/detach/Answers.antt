@@ -4,7 +4,7 @@ use Rattle.sd_unique.specs.declared.record.RecordState.TheVariants.{Free}
 use Rattle.sd_unique.specs.Chains.{chain_under, list_under}
 use Rattle.sd_unique.specs.Filed.{unfiled}
 use Rattle.sd_unique.proofs.Both.{unfiled_here}
-use Rattle.sd_unique.proofs.Listed.{keeps_both, link_read}
+use Rattle.sd_unique.proofs.Listed.{link_read}
 use Rattle.sd_unique.specs.declared.record.Links.{Links}
 use Rattle.sd_unique.proofs.Detaching.{detached_kept, nodes_detached}
 use Rattle.sd_unique.proofs.Standing.{chain_inside, list_inside, linked_head, linked_place}
@@ -17,7 +17,7 @@ abbrev blank : Record
 blank = record { place = 0; start = 0; length = 0; next = 0; uses = 0; mark = 0; state = Free }
 
 abbrev blank_links : Links
-blank_links = record { before = 0; after = 0; waiting = 0; hash = 0 }
+blank_links = record { before = 0; after = 0; hash = 0 }
 
 pub bounds-records-number : goal.bounds-records-number
 bounds-records-number c = linked_inside c.args.runs.now c.args.records.now c.args.number c.requires.linked
@@ -69,7 +69,7 @@ pub put_first-requires-clause-inside : goal.put_first-requires-clause-inside
 put_first-requires-clause-inside c =
     omega (
       arith,
-      c.take_out.ensures.stack.size,
+      c.take_out.auto.links,
       c.requires.kept.1.linked_all,
       linked_inside c.args.runs.now c.args.records.now c.args.number c.requires.linked,
     )
@@ -86,7 +86,7 @@ put_first-requires-clause-listed c = (
   unfiled_inside (list_under c.args.records.now) c.args.number (length c.take_out.new.links)
       (λ i b e. omega (
         arith,
-        c.take_out.ensures.stack.size,
+        c.take_out.auto.links,
         c.requires.kept.1.linked_all,
         list_inside c.args.records.now i b e,
       )),
@@ -104,7 +104,7 @@ bounds-records-number-2 c =
     )
 
 pub returns-clause-kept : goal.returns-clause-kept
-returns-clause-kept c = λ top k.
+returns-clause-kept c = λ flags k.
     let inside : c.args.number < length c.cut.new.records = omega (
       arith,
       c.cut.ensures.kept.size,
@@ -113,10 +113,9 @@ returns-clause-kept c = λ top k.
     detached_kept c.args.runs.now c.args.records.now c.cut.new.records c.args.number
     (get_or c.cut.new.records c.args.number blank) _ c.cut.ensures.kept
     (slice_get_at c.cut.new.records c.args.number blank inside) refl refl refl refl refl refl c.args.links.now
-    c.put_first.new.links c.args.heads.now c.cut.new.heads c.args.places.now c.put_first.new.places top
+    c.put_first.new.links c.args.heads.now c.cut.new.heads c.args.places.now c.put_first.new.places flags
     c.requires.linked refl c.cut.auto.heads (c.put_first.auto.places ∙ c.take_out.auto.places)
-    (keeps_both c.args.links.now c.take_out.new.links c.put_first.new.links c.take_out.ensures.stack
-    c.put_first.ensures.stack)
+    (c.put_first.auto.links ∙ c.take_out.auto.links)
     (c.cut.ensures.chained (chain_under c.args.runs.now (length c.args.heads.now - 1) c.args.records.now)
     (linked_head c.args.runs.now c.args.records.now c.args.links.now c.args.number _ blank
     (length c.args.heads.now - 1) c.bucket_at-head.result c.requires.linked k.hashed

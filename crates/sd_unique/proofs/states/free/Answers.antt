@@ -8,7 +8,7 @@ use Rattle.sd_unique.proofs.Entries.{option_map_some, slice_get_at}
 use Rattle.sd_unique.proofs.Listed.{link_read}
 use Rattle.sd_unique.proofs.Numbered.{linked_inside}
 use Rattle.sd_unique.proofs.Retired.{run_live, retired_kept, nodes_retired, state_set}
-use Rattle.sd_unique.proofs.Stacked.{get_or_any}
+use Rattle.sd_unique.proofs.Reading.{get_or_any}
 use Rattle.sd_unique.proofs.Standing.{chain_inside, list_inside, linked_head, linked_place}
 use Rattle.sd_unique.proofs.states.free.Goals as goal
 
@@ -16,7 +16,7 @@ abbrev blank : Record
 blank = record { place = 0; start = 0; length = 0; next = 0; uses = 0; mark = 0; state = Free }
 
 abbrev blank_links : Links
-blank_links = record { before = 0; after = 0; waiting = 0; hash = 0 }
+blank_links = record { before = 0; after = 0; hash = 0 }
 
 pub bounds-records-node : goal.bounds-records-node
 bounds-records-node c = linked_inside c.args.runs.now c.args.records.now c.args.node c.requires.linked
@@ -92,7 +92,7 @@ give-requires c =
     c.requires.linked c.requires.kept.1.stored
 
 pub returns-clause-kept : goal.returns-clause-kept
-returns-clause-kept c = λ top k.
+returns-clause-kept c = λ flags k.
     let inside : c.args.node < length c.cut.new.records = omega (
       arith,
       c.cut.ensures.kept.size,
@@ -107,9 +107,9 @@ returns-clause-kept c = λ top k.
     retired_kept c.args.runs.now c.args.records.now c.cut.new.records c.args.node
     (get_or c.cut.new.records c.args.node blank) _ c.cut.ensures.kept there refl c.give.new.self k.stored
     c.requires.linked c.give.ensures.arena c.give.ensures.given_back had.0 had.1 had.2
-    c.args.links.now c.take_out.new.links c.args.heads.now c.cut.new.heads c.args.places.now c.take_out.new.places top
+    c.args.links.now c.take_out.new.links c.args.heads.now c.cut.new.heads c.args.places.now c.take_out.new.places flags
     (get_or_any c.cut.new.heads 0 0 no_record (omega (arith, k.at_least_one, c.cut.auto.heads)))
-    c.cut.auto.heads c.take_out.auto.places c.take_out.ensures.stack
+    c.cut.auto.heads c.take_out.auto.places c.take_out.auto.links
     (c.cut.ensures.chained (chain_under c.args.runs.now (length c.args.heads.now - 1) c.args.records.now)
     (linked_head c.args.runs.now c.args.records.now c.args.links.now c.args.node _ blank
     (length c.args.heads.now - 1) c.bucket_at-head.result c.requires.linked k.hashed

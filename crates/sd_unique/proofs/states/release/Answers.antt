@@ -7,7 +7,7 @@ use Rattle.sd_unique.proofs.Detached.{detached_node}
 use Rattle.sd_unique.proofs.Entries.{option_map_some}
 use Rattle.sd_unique.proofs.Freeing.{released_kept, nodes_released}
 use Rattle.sd_unique.proofs.Numbered.{detached_inside}
-use Rattle.sd_unique.proofs.Stacked.{get_or_any}
+use Rattle.sd_unique.proofs.Reading.{get_or_any}
 use Rattle.sd_unique.proofs.Standing.{list_inside, detached_here, detached_list}
 use Rattle.sd_unique.proofs.states.release.Goals as goal
 
@@ -45,7 +45,7 @@ give-requires c =
     (detached_node (get_or c.args.records.now c.args.number blank).state read.1)
 
 pub returns-clause-kept : goal.returns-clause-kept
-returns-clause-kept c = λ top k.
+returns-clause-kept c = λ flags k.
     let read = detached_here c.args.runs.now c.args.records.now c.args.number blank c.requires.detached in
     let had = option_map_some length
     (get c.args.runs.now.live (get_or c.args.records.now c.args.number blank).start)
@@ -55,9 +55,9 @@ returns-clause-kept c = λ top k.
     released_kept c.args.runs.now c.args.records.now c.args.number
     (get_or c.args.records.now c.args.number blank) _ read.0 read.1 refl c.give.new.self k.stored
     c.give.ensures.arena c.give.ensures.given_back had.0 had.1 had.2 c.args.links.now c.take_out.new.links
-    c.args.heads.now c.args.places.now c.take_out.new.places top
+    c.args.heads.now c.args.places.now c.take_out.new.places flags
     (get_or_any c.args.heads.now 0 0 no_record (omega (arith, k.at_least_one))) c.take_out.auto.places
-    c.take_out.ensures.stack
+    c.take_out.auto.links
     (c.take_out.ensures.listed (list_under c.args.records.now)
     (detached_list c.args.runs.now c.args.records.now c.args.number (get_or c.args.records.now c.args.number blank)
     read.0 read.1)

@@ -12,7 +12,7 @@ use Rattle.sd_unique.proofs.nodes.Nodes.add.Goals as goal
 pub add_record-requires-clause-all : goal.add_record-requires-clause-all
 add_record-requires-clause-all c = λ m below.
     all_named c.self.inside.runs c.self.inside.records.items c.self.inside.links.items c.self.inside.heads.items
-    c.self.inside.places.items c.self.inside.candidates c.self.invariant c.args.self.now c.self.view_is
+    c.self.inside.places.items c.self.inside.candidates.0 c.self.invariant c.args.self.now c.self.view_is
     c.index.result.now c.index.ensures c.if-index.true m below
 
 pub returns-in_err-start-clause-nodes : goal.returns-in_err-start-clause-nodes
@@ -32,7 +32,7 @@ pub invariant_of-self-2 : goal.invariant_of-self-2
 invariant_of-self-2 c =
     free_kept c.self.inside.runs c.take.new.self c.self.inside.records.items c.self.inside.links.items
     c.self.inside.heads.items
-    c.self.inside.places.items c.self.inside.candidates c.self.invariant c.take.ensures.arena c.args.list.now
+    c.self.inside.places.items c.self.inside.candidates.0 c.self.invariant c.take.ensures.arena c.args.list.now
     c.in_ok-start.start c.in_ok-start.ensures.ok c.in_ok-start.ensures.start c.in_ok-start.ensures.fresh
     c.in_ok-start.ensures.kept c.args.self.now c.self.view_is c.self.inside.records.items c.self.inside.links.items
     refl refl
@@ -41,7 +41,7 @@ pub occupy-requires-clause-run : goal.occupy-requires-clause-run
 occupy-requires-clause-run c =
     free_run c.self.inside.runs c.take.new.self c.self.inside.records.items c.self.inside.links.items
     c.self.inside.heads.items
-    c.self.inside.places.items c.self.inside.candidates c.self.invariant c.take.ensures.arena c.args.list.now
+    c.self.inside.places.items c.self.inside.candidates.0 c.self.invariant c.take.ensures.arena c.args.list.now
     c.in_ok-start.start c.in_ok-start.ensures.ok c.in_ok-start.ensures.start c.in_ok-start.ensures.fresh
     c.in_ok-start.ensures.kept c.args.self.now c.self.view_is c.self.inside.records.items c.self.inside.links.items
     refl refl
@@ -51,7 +51,7 @@ pub occupy-requires-clause-free : goal.occupy-requires-clause-free
 occupy-requires-clause-free c =
     free_number c.self.inside.runs c.take.new.self c.self.inside.records.items c.self.inside.links.items
     c.self.inside.heads.items
-    c.self.inside.places.items c.self.inside.candidates c.self.invariant c.take.ensures.arena c.args.list.now
+    c.self.inside.places.items c.self.inside.candidates.0 c.self.invariant c.take.ensures.arena c.args.list.now
     c.in_ok-start.start c.in_ok-start.ensures.ok c.in_ok-start.ensures.start c.in_ok-start.ensures.fresh
     c.in_ok-start.ensures.kept c.args.self.now c.self.view_is c.self.inside.records.items c.self.inside.links.items
     refl refl
@@ -61,7 +61,7 @@ pub returns-clause-number : goal.returns-clause-number
 returns-clause-number c =
     free_new c.self.inside.runs c.take.new.self c.self.inside.records.items c.self.inside.links.items
     c.self.inside.heads.items
-    c.self.inside.places.items c.self.inside.candidates c.self.invariant c.take.ensures.arena c.args.list.now
+    c.self.inside.places.items c.self.inside.candidates.0 c.self.invariant c.take.ensures.arena c.args.list.now
     c.in_ok-start.start c.in_ok-start.ensures.ok c.in_ok-start.ensures.start c.in_ok-start.ensures.fresh
     c.in_ok-start.ensures.kept c.args.self.now c.self.view_is c.self.inside.records.items c.self.inside.links.items
     refl refl
@@ -71,7 +71,7 @@ pub returns-clause-ok : goal.returns-clause-ok
 returns-clause-ok c =
     free_inserted c.self.inside.runs c.take.new.self c.self.inside.records.items c.self.inside.links.items
     c.self.inside.heads.items
-    c.self.inside.places.items c.self.inside.candidates c.self.invariant c.take.ensures.arena c.args.list.now
+    c.self.inside.places.items c.self.inside.candidates.0 c.self.invariant c.take.ensures.arena c.args.list.now
     c.in_ok-start.start c.in_ok-start.ensures.ok c.in_ok-start.ensures.start c.in_ok-start.ensures.fresh
     c.in_ok-start.ensures.kept c.args.self.now c.self.view_is c.self.inside.records.items c.self.inside.links.items
     refl refl

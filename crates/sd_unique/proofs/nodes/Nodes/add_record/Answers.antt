@@ -1,16 +1,16 @@
-use Rattle.std.proofs.Common.{◌≡◌, ◌+◌, bit_and, [], ◌∷◌, ◌++◌, length, take, drop, refl, sym, ap, subst, ◌∙◌, arith}
+use Rattle.std.proofs.Common.{◌≡◌, ◌+◌, bit_and, false, [], ◌∷◌, ◌++◌, length, refl, sym, ap, subst, ◌∙◌, arith}
 use Rattle.std.proofs.lemmas.List.{nil_from_length}
 use Rattle.sd_runs.proofs.Places.{pushed}
-use Rattle.sd_unique.specs.Chains.{bucket_of, kept_hash, list_under, AreListed, AreStacked, KeepsLists, KeepsStack}
-use Rattle.sd_unique.specs.Chains.{no_record, IsPushed}
+use Rattle.sd_unique.specs.Candidates.{Waits}
+use Rattle.sd_unique.specs.Chains.{bucket_of, kept_hash, list_under, no_record, AreListed}
 use Rattle.sd_unique.specs.Inserting.{IsFull, IsRefusal}
 use Rattle.sd_unique.specs.Record.{AreRecordsStored}
 use Rattle.sd_unique.proofs.Appended.{blank, appended_kept, appended_lists, appended_new, appended_nodes}
-use Rattle.sd_unique.proofs.Appended.{none_waits, appended_ready, appended_stacked, appended_unlisted}
+use Rattle.sd_unique.proofs.Appended.{none_waits, appended_ready, appended_unlisted}
 use Rattle.sd_unique.proofs.Counts.{count_is}
 use Rattle.sd_unique.proofs.Numbered.{is_nodes}
-use Rattle.sd_unique.proofs.Occupied.{kept_fields, stack_kept}
-use Rattle.sd_unique.proofs.Stacked.{whole_slice}
+use Rattle.sd_unique.proofs.Occupied.{kept_fields}
+use Rattle.sd_unique.proofs.Reading.{whole_slice}
 use Rattle.sd_unique.proofs.Taken.{refusal_is, refused_by}
 use Rattle.sd_unique.proofs.nodes.Nodes.add_record.Goals as goal
 
@@ -20,6 +20,10 @@ returns-in_err-reserve-clause-nodes c =
 
 pub returns-in_err-reserve-2-clause-nodes : goal.returns-in_err-reserve-2-clause-nodes
 returns-in_err-reserve-2-clause-nodes c =
+    is_nodes (subst (AreRecordsStored c.self.inside.runs) (sym c.in_ok-reserve.ensures.items) c.self.invariant.stored)
+
+pub returns-in_err-reserve-3-clause-nodes : goal.returns-in_err-reserve-3-clause-nodes
+returns-in_err-reserve-3-clause-nodes c =
     is_nodes (subst (AreRecordsStored c.self.inside.runs) (sym c.in_ok-reserve.ensures.items) c.self.invariant.stored)
 
 pub returns-in_err-start-clause-nodes : goal.returns-in_err-start-clause-nodes
@@ -43,35 +47,14 @@ put_first-requires-clause-listed c =
     c.push-2.ensures.items
     ∙ ap (λ l. l ++ c.new.result ∷ []) c.in_ok-reserve-2.ensures.items in
     appended_ready c.self.inside.runs c.take.new.self c.self.inside.records.items c.self.inside.links.items
-    c.self.inside.heads.items c.self.inside.places.items c.self.inside.candidates c.self.invariant
+    c.self.inside.heads.items c.self.inside.places.items c.self.inside.candidates.0 c.self.invariant
     c.take.ensures.arena c.args.list.now c.in_ok-start.start c.in_ok-start.ensures.ok c.in_ok-start.ensures.start
-    c.in_ok-start.ensures.fresh c.in_ok-start.ensures.kept c.args.self.now c.self.view_is c.new.result c.new.ensures
+    c.in_ok-start.ensures.fresh c.in_ok-start.ensures.kept c.args.self.now c.self.view_is c.new.result
     no_record (none_waits c.self.inside.runs c.self.inside.records.items c.self.inside.links.items
-    c.self.inside.heads.items c.self.inside.places.items c.self.inside.candidates c.self.invariant c.args.self.now
+    c.self.inside.heads.items c.self.inside.places.items c.self.inside.candidates.0 c.self.invariant c.args.self.now
     c.self.view_is c.requires.all) refl c.requires.at_least_one c.len-number.result
     (omega (arith, ap length c.in_ok-reserve.ensures.items))
     c.deref_mut.result.now c.deref_mut-2.result.now (c.deref_mut.ensures.value ∙ linked) c.deref_mut-2.ensures.value
-
-pub push-self-inside-requires-clause-stacked : goal.push-self-inside-requires-clause-stacked
-push-self-inside-requires-clause-stacked c =
-    let linked : c.push-2.new.self.items ≡ c.self.inside.links.items ++ c.new.result ∷ [] =
-    pushed c.push-2.result _ _ _ (c.push-2.ensures.succeeds (omega (arith, c.in_ok-reserve-2.ensures.ok)))
-    c.push-2.ensures.items
-    ∙ ap (λ l. l ++ c.new.result ∷ []) c.in_ok-reserve-2.ensures.items in
-    let mid : c.deref_mut-3.result.now ≡ c.put_first.new.links = c.deref_mut-3.ensures.value
-    ∙ whole_slice c.put_first.new.links c.push-2.new.self.items c.push-2.new.self.len
-    (c.put_first.auto.links ∙ c.deref_mut.ensures.len) in
-    subst (λ l. AreStacked l c.self.inside.candidates) (sym mid)
-    (stack_kept c.deref_mut.result.now c.put_first.new.links c.self.inside.candidates c.put_first.ensures.stack
-    (subst (λ l. AreStacked l c.self.inside.candidates) (sym (c.deref_mut.ensures.value ∙ linked))
-    (appended_stacked c.self.inside.runs c.take.new.self c.self.inside.records.items c.self.inside.links.items
-    c.self.inside.heads.items c.self.inside.places.items c.self.inside.candidates c.self.invariant
-    c.take.ensures.arena c.args.list.now c.in_ok-start.start c.in_ok-start.ensures.ok c.in_ok-start.ensures.start
-    c.in_ok-start.ensures.fresh c.in_ok-start.ensures.kept c.args.self.now c.self.view_is c.new.result c.new.ensures
-    no_record (none_waits c.self.inside.runs c.self.inside.records.items c.self.inside.links.items
-    c.self.inside.heads.items c.self.inside.places.items c.self.inside.candidates c.self.invariant c.args.self.now
-    c.self.view_is c.requires.all) refl c.requires.at_least_one c.len-number.result
-    (omega (arith, ap length c.in_ok-reserve.ensures.items)))))
 
 pub invariant_of-self-2 : goal.invariant_of-self-2
 invariant_of-self-2 c =
@@ -83,23 +66,20 @@ invariant_of-self-2 c =
     pushed c.push-2.result _ _ _ (c.push-2.ensures.succeeds (omega (arith, c.in_ok-reserve-2.ensures.ok)))
     c.push-2.ensures.items
     ∙ ap (λ l. l ++ c.new.result ∷ []) c.in_ok-reserve-2.ensures.items in
-    let mid : c.deref_mut-3.result.now ≡ c.put_first.new.links = c.deref_mut-3.ensures.value
-    ∙ whole_slice c.put_first.new.links c.push-2.new.self.items c.push-2.new.self.len
-    (c.put_first.auto.links ∙ c.deref_mut.ensures.len) in
     let places = whole_slice c.put_first.new.places c.self.inside.places.items c.self.inside.places.len
     (c.put_first.auto.places ∙ c.deref_mut-2.ensures.len) in
-    let links = whole_slice c.push-self-inside.new.links
-    (take c.push-2.new.self.len (c.put_first.new.links
-    ++ drop (length c.put_first.new.links) c.push-2.new.self.items)) c.push-2.new.self.len
-    (c.push-self-inside.auto.links ∙ c.deref_mut-3.ensures.len) in
-    kept_fields c.take.new.self _ c.push-self-inside.new.links _ _ c.put_first.new.places _
-    c.push-self-inside.result links places
+    let links = whole_slice c.put_first.new.links c.push-2.new.self.items c.push-2.new.self.len
+    (c.put_first.auto.links ∙ c.deref_mut.ensures.len) in
+    let flags : c.add.new.self.0 ≡ c.self.inside.candidates.0 ++ false ∷ [] =
+    c.add.ensures ∙ ap (λ f. f ++ false ∷ []) c.in_ok-reserve-3.ensures.same in
+    kept_fields c.take.new.self _ c.put_first.new.links _ _ c.put_first.new.places _
+    c.push-3.new.self.0 links places
     (appended_kept c.self.inside.runs c.take.new.self c.self.inside.records.items c.self.inside.links.items
-    c.self.inside.heads.items c.self.inside.places.items c.self.inside.candidates c.self.invariant
+    c.self.inside.heads.items c.self.inside.places.items c.self.inside.candidates.0 c.self.invariant
     c.take.ensures.arena c.args.list.now c.in_ok-start.start c.in_ok-start.ensures.ok c.in_ok-start.ensures.start
-    c.in_ok-start.ensures.fresh c.in_ok-start.ensures.kept c.args.self.now c.self.view_is c.new.result c.new.ensures
+    c.in_ok-start.ensures.fresh c.in_ok-start.ensures.kept c.args.self.now c.self.view_is c.new.result
     no_record (none_waits c.self.inside.runs c.self.inside.records.items c.self.inside.links.items
-    c.self.inside.heads.items c.self.inside.places.items c.self.inside.candidates c.self.invariant c.args.self.now
+    c.self.inside.heads.items c.self.inside.places.items c.self.inside.candidates.0 c.self.invariant c.args.self.now
     c.self.view_is c.requires.all) refl c.requires.at_least_one c.len-number.result
     (omega (arith, ap length c.in_ok-reserve.ensures.items))
     c.args.hash c.args.place c.index.result.now c.requires.hash c.requires.absent c.push.new.self.items grown
@@ -107,15 +87,15 @@ invariant_of-self-2 c =
     (c.bucket_at-head.ensures.is (c.args.place, c.args.list.now) c.requires.hash
     ∙ ap (bucket_of (c.args.place, c.args.list.now)) (omega arith))
     (omega (arith, c.bucket_at-head.ensures.inside)) (omega arith) c.index.ensures
-    c.put_first.new.links c.push-self-inside.new.links c.put_first.new.places c.push-self-inside.result
+    c.put_first.new.links c.put_first.new.places c.push-3.new.self.0
     (bit_and c.args.place 2047 + 1) (omega arith)
     (c.put_first.ensures.listed (list_under (c.self.inside.records.items ++ blank ∷ []))
     (appended_unlisted c.self.inside.runs c.take.new.self c.self.inside.records.items c.self.inside.links.items
-    c.self.inside.heads.items c.self.inside.places.items c.self.inside.candidates c.self.invariant
+    c.self.inside.heads.items c.self.inside.places.items c.self.inside.candidates.0 c.self.invariant
     c.take.ensures.arena c.args.list.now c.in_ok-start.start c.in_ok-start.ensures.ok c.in_ok-start.ensures.start
-    c.in_ok-start.ensures.fresh c.in_ok-start.ensures.kept c.args.self.now c.self.view_is c.new.result c.new.ensures
+    c.in_ok-start.ensures.fresh c.in_ok-start.ensures.kept c.args.self.now c.self.view_is c.new.result
     no_record (none_waits c.self.inside.runs c.self.inside.records.items c.self.inside.links.items
-    c.self.inside.heads.items c.self.inside.places.items c.self.inside.candidates c.self.invariant c.args.self.now
+    c.self.inside.heads.items c.self.inside.places.items c.self.inside.candidates.0 c.self.invariant c.args.self.now
     c.self.view_is c.requires.all) refl c.requires.at_least_one c.len-number.result
     (omega (arith, ap length c.in_ok-reserve.ensures.items)))
     (subst (λ l. AreListed l c.deref_mut-2.result.now (list_under (c.self.inside.records.items ++ blank ∷ [])))
@@ -124,30 +104,28 @@ invariant_of-self-2 c =
     (list_under (c.self.inside.records.items ++ blank ∷ [])))
     (sym c.deref_mut-2.ensures.value)
     (appended_lists c.self.inside.runs c.take.new.self c.self.inside.records.items c.self.inside.links.items
-    c.self.inside.heads.items c.self.inside.places.items c.self.inside.candidates c.self.invariant
+    c.self.inside.heads.items c.self.inside.places.items c.self.inside.candidates.0 c.self.invariant
     c.take.ensures.arena c.args.list.now c.in_ok-start.start c.in_ok-start.ensures.ok c.in_ok-start.ensures.start
-    c.in_ok-start.ensures.fresh c.in_ok-start.ensures.kept c.args.self.now c.self.view_is c.new.result c.new.ensures
+    c.in_ok-start.ensures.fresh c.in_ok-start.ensures.kept c.args.self.now c.self.view_is c.new.result
     no_record (none_waits c.self.inside.runs c.self.inside.records.items c.self.inside.links.items
-    c.self.inside.heads.items c.self.inside.places.items c.self.inside.candidates c.self.invariant c.args.self.now
+    c.self.inside.heads.items c.self.inside.places.items c.self.inside.candidates.0 c.self.invariant c.args.self.now
     c.self.view_is c.requires.all) refl c.requires.at_least_one c.len-number.result
     (omega (arith, ap length c.in_ok-reserve.ensures.items))))))
-    (subst (λ l. KeepsStack l c.put_first.new.links) (c.deref_mut.ensures.value ∙ linked) c.put_first.ensures.stack)
+    (c.put_first.auto.links ∙ ap length (c.deref_mut.ensures.value ∙ linked))
     (c.put_first.auto.places ∙ ap length c.deref_mut-2.ensures.value)
-    (subst (λ l. KeepsLists l c.push-self-inside.new.links) mid c.push-self-inside.ensures.lists)
-    c.push-self-inside.ensures.stacked
-    (subst (λ l. IsPushed l c.push-self-inside.new.links c.len-number.result) mid
-    c.push-self-inside.ensures.pushed)
+    (c.push-3.ensures.size ∙ ap length flags)
+    (λ m on. c.push-3.ensures.others m (subst (λ f. Waits f m) (sym flags) on)) c.push-3.ensures.here
     c.put_first.ensures.hash
     (λ m ne. c.put_first.ensures.hashes m ne ∙ ap (λ l. kept_hash l m) (c.deref_mut.ensures.value ∙ linked)))
 
 pub returns-clause-number : goal.returns-clause-number
 returns-clause-number c =
     appended_new c.self.inside.runs c.take.new.self c.self.inside.records.items c.self.inside.links.items
-    c.self.inside.heads.items c.self.inside.places.items c.self.inside.candidates c.self.invariant
+    c.self.inside.heads.items c.self.inside.places.items c.self.inside.candidates.0 c.self.invariant
     c.take.ensures.arena c.args.list.now c.in_ok-start.start c.in_ok-start.ensures.ok c.in_ok-start.ensures.start
-    c.in_ok-start.ensures.fresh c.in_ok-start.ensures.kept c.args.self.now c.self.view_is c.new.result c.new.ensures
+    c.in_ok-start.ensures.fresh c.in_ok-start.ensures.kept c.args.self.now c.self.view_is c.new.result
     no_record (none_waits c.self.inside.runs c.self.inside.records.items c.self.inside.links.items
-    c.self.inside.heads.items c.self.inside.places.items c.self.inside.candidates c.self.invariant c.args.self.now
+    c.self.inside.heads.items c.self.inside.places.items c.self.inside.candidates.0 c.self.invariant c.args.self.now
     c.self.view_is c.requires.all) refl c.requires.at_least_one c.len-number.result
     (omega (arith, ap length c.in_ok-reserve.ensures.items))
 
@@ -158,11 +136,11 @@ returns-clause-ok c =
     ∙ ap (λ l. l ++ c.linked.result ∷ []) c.in_ok-reserve.ensures.items
     ∙ ap (λ r. c.self.inside.records.items ++ r ∷ []) c.linked.ensures in
     appended_nodes c.self.inside.runs c.take.new.self c.self.inside.records.items c.self.inside.links.items
-    c.self.inside.heads.items c.self.inside.places.items c.self.inside.candidates c.self.invariant
+    c.self.inside.heads.items c.self.inside.places.items c.self.inside.candidates.0 c.self.invariant
     c.take.ensures.arena c.args.list.now c.in_ok-start.start c.in_ok-start.ensures.ok c.in_ok-start.ensures.start
-    c.in_ok-start.ensures.fresh c.in_ok-start.ensures.kept c.args.self.now c.self.view_is c.new.result c.new.ensures
+    c.in_ok-start.ensures.fresh c.in_ok-start.ensures.kept c.args.self.now c.self.view_is c.new.result
     no_record (none_waits c.self.inside.runs c.self.inside.records.items c.self.inside.links.items
-    c.self.inside.heads.items c.self.inside.places.items c.self.inside.candidates c.self.invariant c.args.self.now
+    c.self.inside.heads.items c.self.inside.places.items c.self.inside.candidates.0 c.self.invariant c.args.self.now
     c.self.view_is c.requires.all) refl c.requires.at_least_one c.len-number.result
     (omega (arith, ap length c.in_ok-reserve.ensures.items))
     c.args.hash c.args.place c.index.result.now c.requires.hash c.requires.absent c.push.new.self.items grown

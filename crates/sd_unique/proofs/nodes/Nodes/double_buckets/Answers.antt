@@ -7,7 +7,7 @@ use Rattle.sd_unique.specs.Record.{nodes_of}
 use Rattle.sd_unique.proofs.Growing.{linked_none}
 use Rattle.sd_unique.proofs.Rechained.{kept_rechained, kept_tables}
 use Rattle.sd_unique.proofs.Relinked.{nodes_kept}
-use Rattle.sd_unique.proofs.Stacked.{get_or_any, whole_slice}
+use Rattle.sd_unique.proofs.Reading.{get_or_any, whole_slice}
 use Rattle.sd_unique.proofs.nodes.Nodes.double_buckets.Goals as goal
 
 pub link_all-requires-clause-linked : goal.link_all-requires-clause-linked
@@ -41,10 +41,10 @@ invariant_of-self c =
       c.self.invariant.at_least_one,
     ) in
     kept_tables c.self.inside.runs c.link_all.new.records _ c.self.inside.links.items c.link_all.new.heads _
-    c.self.inside.places.items c.self.inside.candidates records heads
+    c.self.inside.places.items c.self.inside.candidates.0 records heads
     (kept_rechained c.self.inside.runs c.self.inside.records.items c.link_all.new.records
     c.self.inside.links.items c.self.inside.heads.items c.link_all.new.heads c.self.inside.places.items
-    c.self.inside.candidates
+    c.self.inside.candidates.0
     (subst (λ rs. KeepsRecords rs c.link_all.new.records) c.deref_mut.ensures.value c.link_all.ensures.kept)
     some c.link_all.ensures.linked c.self.invariant)
 

@@ -11,7 +11,7 @@ use Rattle.sd_unique.proofs.Listed.{link_read}
 use Rattle.sd_unique.proofs.Numbered.{is_nodes}
 use Rattle.sd_unique.proofs.Sought.{pair_decides, sought_first, sought_end, sought_out, sought_inside}
 use Rattle.sd_unique.proofs.Sought.{sought_read, sought_found, other_place, other_length, other_list, sought_on}
-use Rattle.sd_unique.proofs.Stacked.{get_or_any}
+use Rattle.sd_unique.proofs.Reading.{get_or_any}
 use Rattle.sd_unique.proofs.nodes.Nodes.lookup.Goals.{else-record-place-via-then-record-place+then-record-list+else-eq}
 use Rattle.sd_unique.proofs.nodes.Nodes.lookup.Goals.{else-record-place-via-then-record-place+else-record-list}
 use Rattle.sd_unique.proofs.nodes.Nodes.lookup.Goals.{else-record-place-via-else-record-place}

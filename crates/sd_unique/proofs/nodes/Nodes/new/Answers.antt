@@ -7,8 +7,9 @@ pub invariant_of-result : goal.invariant_of-result
 invariant_of-result c =
     kept_new c.new.result c.args.bound c.in_ok-with_capacity.field-0.items c.new.ensures.empty
     c.in_ok-with_capacity.ensures.items c.in_ok-with_capacity-2.field-0.items c.in_ok-empty_heads.field-0.items
-    c.in_ok-with_capacity-3.field-0.items 17 c.new.ensures.arena c.requires c.in_ok-with_capacity-2.ensures.items
-    c.in_ok-empty_heads.ensures c.in_ok-with_capacity-3.ensures.items (omega arith)
+    c.in_ok-with_capacity-3.field-0.items c.in_ok-with_capacity-4.field-0.0 17 c.new.ensures.arena c.requires
+    c.in_ok-with_capacity-2.ensures.items c.in_ok-empty_heads.ensures c.in_ok-with_capacity-3.ensures.items
+    c.in_ok-with_capacity-4.ensures (omega arith)
 
 pub returns-clause-empty : goal.returns-clause-empty
 returns-clause-empty c =

@@ -1,9 +1,8 @@
-use Rattle.std.proofs.Common.{◌≡◌, ◌+◌, ◌-◌, bit_and, ℕ, List, Some, unwrap_or, [], length, take, drop, ◌++◌, refl}
+use Rattle.std.proofs.Common.{◌≡◌, ◌+◌, ◌-◌, bit_and, ℕ, List, Some, unwrap_or, [], length, refl}
 use Rattle.std.proofs.Common.{sym, ap, subst}
 use Rattle.std.proofs.Common.{◌∙◌, arith}
 use Rattle.std.specs.FinMap.{get}
-use Rattle.sd_unique.specs.Chains.{bucket_of, hash_of, AreListed, AreStacked, KeepsLists, KeepsStack, IsPushed}
-use Rattle.sd_unique.specs.Chains.{list_under, kept_hash}
+use Rattle.sd_unique.specs.Chains.{bucket_of, hash_of, list_under, kept_hash, AreListed}
 use Rattle.sd_unique.specs.Occupying.{IsFreeNumber, occupied}
 use Rattle.sd_unique.specs.Relinking.{IsAbsent, IsLoose}
 use Rattle.sd_unique.specs.declared.record.Record.{Record}
@@ -11,8 +10,8 @@ use Rattle.sd_unique.specs.declared.record.RecordState.TheVariants.{Linked}
 use Rattle.sd_unique.proofs.Listed.{link_read}
 use Rattle.sd_unique.proofs.Numbered.{is_nodes}
 use Rattle.sd_unique.proofs.Occupied.{first_some, first_inside, first_linked, first_number, first_ready}
-use Rattle.sd_unique.proofs.Occupied.{first_unlisted, kept_fields, kept_steps, nodes_steps, stack_kept}
-use Rattle.sd_unique.proofs.Stacked.{whole_slice}
+use Rattle.sd_unique.proofs.Occupied.{first_unlisted, kept_fields, kept_steps, nodes_steps}
+use Rattle.sd_unique.proofs.Reading.{whole_slice}
 use Rattle.sd_unique.proofs.nodes.Nodes.occupy.Goals as goal
 
 pub index-requires : goal.index-requires
@@ -20,7 +19,7 @@ index-requires c =
     omega (
       arith,
       first_inside c.self.inside.runs c.self.inside.records.items c.self.inside.links.items
-          c.self.inside.heads.items c.self.inside.places.items c.self.inside.candidates c.self.invariant
+          c.self.inside.heads.items c.self.inside.places.items c.self.inside.candidates.0 c.self.invariant
           c.index-number.result.now c.index-number.ensures
           (subst (λ a. (m : ℕ) × IsFreeNumber a m) (sym c.self.view_is) c.requires.free),
     )
@@ -30,7 +29,7 @@ index_mut-requires-2 c =
     omega (
       arith,
       first_inside c.self.inside.runs c.self.inside.records.items c.self.inside.links.items
-          c.self.inside.heads.items c.self.inside.places.items c.self.inside.candidates c.self.invariant
+          c.self.inside.heads.items c.self.inside.places.items c.self.inside.candidates.0 c.self.invariant
           c.index-number.result.now c.index-number.ensures
           (subst (λ a. (m : ℕ) × IsFreeNumber a m) (sym c.self.view_is) c.requires.free),
     )
@@ -41,7 +40,7 @@ put_first-requires-clause-inside c =
       arith,
       ap length c.deref_mut.ensures.value,
       first_linked c.self.inside.runs c.self.inside.records.items c.self.inside.links.items
-          c.self.inside.heads.items c.self.inside.places.items c.self.inside.candidates c.self.invariant
+          c.self.inside.heads.items c.self.inside.places.items c.self.inside.candidates.0 c.self.invariant
           c.index-number.result.now c.index-number.ensures
           (subst (λ a. (m : ℕ) × IsFreeNumber a m) (sym c.self.view_is) c.requires.free),
     )
@@ -49,14 +48,14 @@ put_first-requires-clause-inside c =
 pub put_first-requires-clause-at_least_one : goal.put_first-requires-clause-at_least_one
 put_first-requires-clause-at_least_one c =
     first_some c.self.inside.runs c.self.inside.records.items c.self.inside.links.items
-    c.self.inside.heads.items c.self.inside.places.items c.self.inside.candidates c.self.invariant
+    c.self.inside.heads.items c.self.inside.places.items c.self.inside.candidates.0 c.self.invariant
     c.index-number.result.now c.index-number.ensures
     (subst (λ a. (m : ℕ) × IsFreeNumber a m) (sym c.self.view_is) c.requires.free)
 
 pub put_first-requires-clause-listed : goal.put_first-requires-clause-listed
 put_first-requires-clause-listed c =
     let ready = first_ready c.self.inside.runs c.self.inside.records.items c.self.inside.links.items
-    c.self.inside.heads.items c.self.inside.places.items c.self.inside.candidates c.self.invariant
+    c.self.inside.heads.items c.self.inside.places.items c.self.inside.candidates.0 c.self.invariant
     c.index-number.result.now c.index-number.ensures
     (subst (λ a. (m : ℕ) × IsFreeNumber a m) (sym c.self.view_is) c.requires.free) in (
       ready.0,
@@ -66,58 +65,40 @@ put_first-requires-clause-listed c =
           (subst (λ p. AreListed c.self.inside.links.items p ready.0) (sym c.deref_mut-2.ensures.value) ready.3),
     )
 
-pub push-self-inside-requires-clause-inside : goal.push-self-inside-requires-clause-inside
-push-self-inside-requires-clause-inside c =
-    let links : c.deref_mut-3.result.now ≡ c.put_first.new.links = c.deref_mut-3.ensures.value
-    ∙ whole_slice c.put_first.new.links c.self.inside.links.items c.self.inside.links.len
-    (c.put_first.auto.links ∙ c.deref_mut.ensures.len) in
-    omega (
-      arith,
-      ap length links,
-      c.put_first.auto.links,
-      ap length c.deref_mut.ensures.value,
-      first_linked c.self.inside.runs c.self.inside.records.items c.self.inside.links.items
-          c.self.inside.heads.items c.self.inside.places.items c.self.inside.candidates c.self.invariant
-          c.index-number.result.now c.index-number.ensures
-          (subst (λ a. (m : ℕ) × IsFreeNumber a m) (sym c.self.view_is) c.requires.free),
-    )
-
-pub push-self-inside-requires-clause-stacked : goal.push-self-inside-requires-clause-stacked
-push-self-inside-requires-clause-stacked c =
-    let links : c.deref_mut-3.result.now ≡ c.put_first.new.links = c.deref_mut-3.ensures.value
-    ∙ whole_slice c.put_first.new.links c.self.inside.links.items c.self.inside.links.len
-    (c.put_first.auto.links ∙ c.deref_mut.ensures.len) in
-    subst (λ l. AreStacked l c.self.inside.candidates) (sym links)
-    (stack_kept c.deref_mut.result.now c.put_first.new.links c.self.inside.candidates c.put_first.ensures.stack
-    (subst (λ l. AreStacked l c.self.inside.candidates) (sym c.deref_mut.ensures.value) c.self.invariant.in_stack))
+pub push-requires : goal.push-requires
+push-requires c = record {
+  inside = omega (
+    arith,
+    c.self.invariant.flags_all,
+    first_inside c.self.inside.runs c.self.inside.records.items c.self.inside.links.items
+        c.self.inside.heads.items c.self.inside.places.items c.self.inside.candidates.0 c.self.invariant
+        c.index-number.result.now c.index-number.ensures
+        (subst (λ a. (m : ℕ) × IsFreeNumber a m) (sym c.self.view_is) c.requires.free),
+  );
+}
 
 pub invariant_of-self : goal.invariant_of-self
 invariant_of-self c =
-    let mid : c.deref_mut-3.result.now ≡ c.put_first.new.links = c.deref_mut-3.ensures.value
-    ∙ whole_slice c.put_first.new.links c.self.inside.links.items c.self.inside.links.len
-    (c.put_first.auto.links ∙ c.deref_mut.ensures.len) in
     let places = whole_slice c.put_first.new.places c.self.inside.places.items c.self.inside.places.len
     (c.put_first.auto.places ∙ c.deref_mut-2.ensures.len) in
-    let links = whole_slice c.push-self-inside.new.links
-    (take c.self.inside.links.len (c.put_first.new.links
-    ++ drop (length c.put_first.new.links) c.self.inside.links.items)) c.self.inside.links.len
-    (c.push-self-inside.auto.links ∙ c.deref_mut-3.ensures.len) in
+    let links = whole_slice c.put_first.new.links c.self.inside.links.items c.self.inside.links.len
+    (c.put_first.auto.links ∙ c.deref_mut.ensures.len) in
     let unlisted = first_unlisted c.self.inside.runs c.self.inside.records.items c.self.inside.links.items
-    c.self.inside.heads.items c.self.inside.places.items c.self.inside.candidates c.self.invariant
+    c.self.inside.heads.items c.self.inside.places.items c.self.inside.candidates.0 c.self.invariant
     c.index-number.result.now c.index-number.ensures
     (subst (λ a. (m : ℕ) × IsFreeNumber a m) (sym c.self.view_is) c.requires.free) in
     let inside = first_inside c.self.inside.runs c.self.inside.records.items c.self.inside.links.items
-    c.self.inside.heads.items c.self.inside.places.items c.self.inside.candidates c.self.invariant
+    c.self.inside.heads.items c.self.inside.places.items c.self.inside.candidates.0 c.self.invariant
     c.index-number.result.now c.index-number.ensures
     (subst (λ a. (m : ℕ) × IsFreeNumber a m) (sym c.self.view_is) c.requires.free) in
     let asked = subst (λ a. (list : List (ℕ × ℕ)) × IsLoose a c.args.run.0 c.args.run.1 list
     × (c.args.hash ≡ hash_of (c.args.place, list)) × IsAbsent a (c.args.place, list)) (sym c.self.view_is)
     c.requires.run in
     let count : c.self.inside.heads.len - 1 ≡ length c.self.inside.heads.items - 1 = omega arith in
-    kept_fields c.self.inside.runs _ c.push-self-inside.new.links _ _ c.put_first.new.places _
-    c.push-self-inside.result links places
+    kept_fields c.self.inside.runs _ c.put_first.new.links _ _ c.put_first.new.places _
+    c.push.new.self.0 links places
     (kept_steps c.self.inside.runs c.self.inside.records.items c.self.inside.links.items
-    c.self.inside.heads.items c.self.inside.places.items c.self.inside.candidates c.self.invariant
+    c.self.inside.heads.items c.self.inside.places.items c.self.inside.candidates.0 c.self.invariant
     c.index-number.result.now c.index-number.ensures
     (subst (λ a. (m : ℕ) × IsFreeNumber a m) (sym c.self.view_is) c.requires.free)
     (record {
@@ -136,19 +117,16 @@ invariant_of-self c =
     (c.bucket_at-head.ensures.is (c.args.place, asked.0) asked.2
     ∙ ap (bucket_of (c.args.place, asked.0)) (omega arith))
     (omega (arith, c.bucket_at-head.ensures.inside)) (omega arith) c.index-2.ensures
-    c.put_first.new.links c.push-self-inside.new.links c.put_first.new.places c.push-self-inside.result
+    c.put_first.new.links c.put_first.new.places c.push.new.self.0
     (bit_and c.args.place 2047 + 1) (omega arith)
     (c.put_first.ensures.listed (list_under c.self.inside.records.items) unlisted
     (subst (λ l. AreListed l c.deref_mut-2.result.now (list_under c.self.inside.records.items))
     (sym c.deref_mut.ensures.value)
     (subst (λ p. AreListed c.self.inside.links.items p (list_under c.self.inside.records.items))
     (sym c.deref_mut-2.ensures.value) c.self.invariant.in_lists)))
-    (subst (λ l. KeepsStack l c.put_first.new.links) c.deref_mut.ensures.value c.put_first.ensures.stack)
+    (c.put_first.auto.links ∙ ap length c.deref_mut.ensures.value)
     (c.put_first.auto.places ∙ ap length c.deref_mut-2.ensures.value)
-    (subst (λ l. KeepsLists l c.push-self-inside.new.links) mid c.push-self-inside.ensures.lists)
-    c.push-self-inside.ensures.stacked
-    (subst (λ l. IsPushed l c.push-self-inside.new.links c.index-number.result.now) mid
-    c.push-self-inside.ensures.pushed)
+    c.push.ensures.size c.push.ensures.others c.push.ensures.here
     (c.put_first.ensures.hash ∙ asked.2)
     (λ m ne. c.put_first.ensures.hashes m ne ∙ ap (λ l. kept_hash l m) c.deref_mut.ensures.value))
 
@@ -156,7 +134,7 @@ pub returns-clause-number : goal.returns-clause-number
 returns-clause-number c =
     subst (λ a. IsFreeNumber a c.index-number.result.now) c.self.view_is
     (first_number c.self.inside.runs c.self.inside.records.items c.self.inside.links.items
-    c.self.inside.heads.items c.self.inside.places.items c.self.inside.candidates c.self.invariant
+    c.self.inside.heads.items c.self.inside.places.items c.self.inside.candidates.0 c.self.invariant
     c.index-number.result.now c.index-number.ensures
     (subst (λ a. (m : ℕ) × IsFreeNumber a m) (sym c.self.view_is) c.requires.free))
 
@@ -168,7 +146,7 @@ returns-clause-ok c = λ list loose.
     let is : Some asked.0 ≡ Some list = sym asked.1.is ∙ ap (λ a. get a.loose c.args.run.0) c.self.view_is ∙ loose.is
     in
     nodes_steps c.self.inside.runs c.self.inside.records.items c.self.inside.links.items
-    c.self.inside.heads.items c.self.inside.places.items c.self.inside.candidates c.self.invariant
+    c.self.inside.heads.items c.self.inside.places.items c.self.inside.candidates.0 c.self.invariant
     c.index-number.result.now c.index-number.ensures
     (subst (λ a. (m : ℕ) × IsFreeNumber a m) (sym c.self.view_is) c.requires.free)
     (record {

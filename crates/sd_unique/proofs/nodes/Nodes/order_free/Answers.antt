@@ -4,7 +4,7 @@ use Rattle.sd_unique.specs.Record.{nodes_of}
 use Rattle.sd_unique.proofs.Ordering.{nodes_reordered, kept_reordered}
 use Rattle.sd_unique.proofs.Rechained.{kept_rechained, kept_tables}
 use Rattle.sd_unique.proofs.Relinked.{nodes_kept}
-use Rattle.sd_unique.proofs.Stacked.{whole_slice}
+use Rattle.sd_unique.proofs.Reading.{whole_slice}
 use Rattle.sd_unique.proofs.nodes.Nodes.order_free.Goals as goal
 
 pub invariant_of-self : goal.invariant_of-self
@@ -21,12 +21,12 @@ invariant_of-self c =
     ) in
     kept_reordered c.self.inside.runs c.order_twos.new.self 2 c.order_twos.ensures.reordered
     c.self.invariant.stored.well c.order_twos.ensures.arena _ c.self.inside.links.items _
-    c.self.inside.places.items c.self.inside.candidates
+    c.self.inside.places.items c.self.inside.candidates.0
     (kept_tables c.self.inside.runs c.order_free.new.records _ c.self.inside.links.items c.order_free.new.heads _
-    c.self.inside.places.items c.self.inside.candidates records heads
+    c.self.inside.places.items c.self.inside.candidates.0 records heads
     (kept_rechained c.self.inside.runs c.self.inside.records.items c.order_free.new.records
     c.self.inside.links.items c.self.inside.heads.items c.order_free.new.heads c.self.inside.places.items
-    c.self.inside.candidates
+    c.self.inside.candidates.0
     (subst (λ rs. KeepsRecords rs c.order_free.new.records) c.deref_mut.ensures.value c.order_free.ensures.kept)
     some c.order_free.ensures.chained c.self.invariant))
 

@@ -7,13 +7,13 @@ pub invariant_of-self : goal.invariant_of-self
 invariant_of-self c =
     kept_whole c.self.inside.runs c.detach.new.records c.self.inside.records.items c.detach.new.links
     c.self.inside.links.items c.detach.new.heads c.self.inside.heads.items c.detach.new.places
-    c.self.inside.places.items c.self.inside.candidates _ _ _ _
+    c.self.inside.places.items c.self.inside.candidates.0 _ _ _ _
     (c.detach.auto.records ∙ c.deref_mut.ensures.len) (c.detach.auto.links ∙ c.deref_mut-2.ensures.len)
     (c.detach.auto.heads ∙ c.deref_mut-3.ensures.len) (c.detach.auto.places ∙ c.deref_mut-4.ensures.len)
-    (c.detach.ensures.kept c.self.inside.candidates
+    (c.detach.ensures.kept c.self.inside.candidates.0
     (kept_as c.self.inside.runs c.self.inside.records.items c.deref_mut.result.now c.self.inside.links.items
     c.deref_mut-2.result.now c.self.inside.heads.items c.deref_mut-3.result.now c.self.inside.places.items
-    c.deref_mut-4.result.now c.self.inside.candidates c.deref_mut.ensures.value c.deref_mut-2.ensures.value
+    c.deref_mut-4.result.now c.self.inside.candidates.0 c.deref_mut.ensures.value c.deref_mut-2.ensures.value
     c.deref_mut-3.ensures.value c.deref_mut-4.ensures.value c.self.invariant))
 
 pub returns-clause-nodes : goal.returns-clause-nodes
