@@ -9,6 +9,7 @@ mod TakenOff
 mod Steps
 mod Passes
 mod Whole
+mod Filled
 pub mod Reached
 pub mod StaysRight
 mod Worked

@@ -1,11 +1,9 @@
--- The counts as a whole: a slice that was lent, a number more, and nothing queued.
+-- The counts as a whole: a slice of them all, a number more, and nothing queued.
 use Rattle.std.proofs.Common.{◌≡◌, ℕ, zero, suc, ◌+◌, ◌<◌, ◌^◌, Bool, true, false, ◌&&◌, not, List, [], ◌∷◌, ◌++◌}
 use Rattle.std.proofs.Common.{length, take, drop}
 use Rattle.std.proofs.Common.{refl, sym, ◌∙◌, ap, subst, arith}
 use Rattle.std.proofs.Math.Seq.{take-append_seam}
 use Rattle.std.proofs.lemmas.List.{length-append}
-use Rattle.sd_unique.specs.Nodes.{Nodes}
-use Rattle.sd_counts.specs.Right.{AreOf}
 use Rattle.sd_counts.specs.declared.count.Count.{Count}
 use Rattle.sd_counts.specs.Counts.{IsSettled}
 use Rattle.sd_counts.specs.Queued.{no_number, blank, at, seen, next_of, rises, falls, IsSettledAt, AreQueued}
@@ -17,15 +15,6 @@ pub whole_slice : {X : Type 0} (new old : List X) (size : ℕ) → length new �
     → take size (new ++ drop (length new) old) ≡ new
 whole_slice new old size e =
     ap (λ k. take k (new ++ drop (length new) old)) (sym e) ∙ take-append_seam new (drop (length new) old)
-
--- what is queued in a slice that was lent is so in the vector
-pub queued_lent : (items lent new : List Count) (size rising falling rising' falling' : ℕ) → lent ≡ items
-    → length new ≡ size
-    → (AreQueued lent rising falling → AreQueued new rising' falling') → AreQueued items rising falling
-    → AreQueued (take size (new ++ drop (length new) items)) rising' falling'
-queued_lent items lent new size rising falling rising' falling' same whole step q =
-    subst (λ l. AreQueued l rising' falling') (sym (whole_slice new items size whole))
-    (step (subst (λ l. AreQueued l rising falling) (sym same) q))
 
 -- a number more changes no number
 at_pushed : (counts : List Count) (n : ℕ) → at (counts ++ blank ∷ []) n ≡ at counts n
@@ -74,11 +63,3 @@ all_settled counts total q =
           ∙ (one_settled counts n q (at counts n).is_queued (at counts n).is_counted refl refl).unused
           (sym (counted_is counts total n) ∙ off);
     }
-
--- and what is right there is so in the vector
-pub right_lent : (a : Nodes) (held : ℕ → ℕ) (items lent new : List Count) (size total total' : ℕ) → lent ≡ items
-    → length new ≡ size → (AreOf a held (seen lent total) → AreOf a held (seen new total'))
-    → AreOf a held (seen items total) → AreOf a held (seen (take size (new ++ drop (length new) items)) total')
-right_lent a held items lent new size total total' same whole step of =
-    subst (λ l. AreOf a held (seen l total')) (sym (whole_slice new items size whole))
-    (step (subst (λ l. AreOf a held (seen l total)) (sym same) of))

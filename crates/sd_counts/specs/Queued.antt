@@ -1,6 +1,6 @@
 -- The counts as they are kept, and the two stacks of numbers that may have to be counted, or no longer.
 use Rattle.std.specs.Prelude.{◌≡◌, ℕ, ◌+◌, ◌-◌, ◌<◌, ◌^◌, ◌*◌, Bool, true, false, ◌&&◌, not, List, length, map}
-use Rattle.std.specs.Prelude.{get_or, slice_set}
+use Rattle.std.specs.Prelude.{◌≤◌, ◌++◌, get_or, replicate, slice_set}
 use Rattle.std.specs.List.{count_by}
 use Rattle.sd_runs.specs.Arena.{IsMember, HasNoCopies}
 use Rattle.sd_unique.specs.Filed.{IsChain}
@@ -14,6 +14,10 @@ no_number = 2 ^ 32 - 1
 -- what stands for a number past the last
 abbrev pub blank : Count
 blank = record { live = 0; next = 0; is_counted = false; is_queued = false }
+
+-- what is kept for the numbers below `size`, of which the last ones were not written yet
+abbrev pub with_blanks : List Count → ℕ → List Count
+with_blanks written size = written ++ replicate (size - length written) blank
 
 -- what is kept for a number
 abbrev pub at : List Count → ℕ → Count
@@ -58,6 +62,12 @@ pub record AreQueued (counts : List Count) (rising falling : ℕ) : Type 0 where
   pub up : IsStack (next_of counts) no_number rising (rises counts)
   pub down : IsStack (next_of counts) no_number falling (falls counts)
   pub rest : (n : ℕ) → (at counts n).is_queued ≡ false → IsSettledAt (at counts n)
+
+-- So it is with what is kept for the numbers below `size`, which has room, and of which these were written.
+pub record AreKept (written : List Count) (size room rising falling : ℕ) : Type 0 where
+  pub queued : AreQueued (with_blanks written size) rising falling
+  pub inside : length written ≤ size
+  pub fits : size ≤ room
 
 -- The number was taken off its stack and settled; all else is as before.
 pub record IsTaken (old new : List Count) (n : ℕ) : Type 0 where

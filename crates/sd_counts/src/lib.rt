@@ -15,7 +15,8 @@
 //! counts   [ live next is_counted is_queued ]     16 bytes a number, the stacks through `next`
 //! ```
 //!
-//! `grow` alone takes memory, before a node is made; `hold`, `release`, `relisted` and `settle` take none.
+//! `grow` alone takes memory, before a node is made; `hold`, `release`, `relisted` and `settle` take none. What `grow`
+//! takes is room, in which the others write what they need. As long as nothing is held, counts are addresses alone.
 #![tactic(auto)]
 
 mod count;

@@ -1,6 +1,6 @@
 // The counts of all numbers.
 
-use crate::count::{Count, NO_NUMBER, add_blank};
+use crate::count::{Count, NO_NUMBER, fill, make_room};
 use crate::pairs::{lower_all, raise_all};
 use crate::settling::{fall_all, rise_all};
 use crate::stacks::{lower, raise};
@@ -11,8 +11,10 @@ use std::marker::Model;
 /// Which nodes are under what is held, and how many elements they have together, as far as it was settled.
 #[derive(Drop)]
 pub struct LiveCounts {
-    /// What is kept for each number.
+    /// What is kept for the numbers, as far as it was written. It has room for all of them.
     counts: Vec<Count>,
+    /// How many numbers there are. Those that were not written are not counted and not used.
+    size: u32,
     /// The first of the numbers that may have to be counted.
     rising: u32,
     /// The first of those that may have to be counted no more.
@@ -22,16 +24,17 @@ pub struct LiveCounts {
 }
 
 impl Model for LiveCounts {
+    ghost use Rattle.std.specs.Prelude.{vec_capacity};
     ghost use Rattle.sd_counts.specs.Counts.{Counts, counts_code};
-    ghost use Rattle.sd_counts.specs.Queued.{AreQueued, seen};
+    ghost use Rattle.sd_counts.specs.Queued.{AreKept, seen, with_blanks};
 
     ghost Value = { Counts };
 
     ghost coded = { counts_code };
 
-    ghost view = { λ a. seen a.counts.items a.total };
+    ghost view = { λ a. seen (with_blanks a.counts.items a.size) a.total };
 
-    ghost invariant = { λ a. AreQueued a.counts.items a.rising a.falling };
+    ghost invariant = { λ a. AreKept a.counts.items a.size (vec_capacity a.counts) a.rising a.falling };
 }
 
 impl LiveCounts {
@@ -48,6 +51,7 @@ impl LiveCounts {
     {
         LiveCounts {
             counts: Vec::new(alloc),
+            size: 0,
             rising: NO_NUMBER,
             falling: NO_NUMBER,
             total: 0,
@@ -55,7 +59,8 @@ impl LiveCounts {
     }
 
     /// Sees to it that this number has counts, where each number below it has. A new number is not counted and not
-    /// used. The only error: out of memory, or of numbers. Then nothing is changed.
+    /// used; it gets room, and nothing is written. The only error: out of memory, or of numbers. Then nothing is
+    /// changed.
     pub fn grow(&mut self, number: u32) -> Result<(), AllocError>
         requires next { number ≤ length self.old.live }
         ensures grown { OnOk result (IsGrown self.old self.new) }
@@ -63,13 +68,14 @@ impl LiveCounts {
         ensures same { number < length self.old.live → self.new ≡ self.old }
         ensures err { OnErr result (self.new ≡ self.old) }
     {
-        if (number as usize) < self.counts.len() {
+        if number < self.size {
             return Ok(());
         }
         if number == NO_NUMBER {
             return Err(AllocError);
         }
-        add_blank(&mut self.counts)?;
+        make_room(&mut self.counts, number)?;
+        self.size = number + 1;
         Ok(())
     }
 
@@ -85,6 +91,9 @@ impl LiveCounts {
         requires { number < length self.now.live }
         ensures { result ≡ counted_at self.now number }
     {
+        if number as usize >= self.counts.len() {
+            return false;
+        }
         self.counts[number as usize].is_counted
     }
 
@@ -94,6 +103,7 @@ impl LiveCounts {
         requires room { 2050 ≤ code → live_at self.old (code - 2050) < 2 ^ 64 - 1 }
         ensures held { Adds self.old self.new (λ c. counts_one c code) }
     {
+        fill(&mut self.counts, self.size);
         self.rising = raise(&mut self.counts, self.rising, code);
     }
 
@@ -102,6 +112,7 @@ impl LiveCounts {
         requires used { 2050 ≤ code → 0 < live_at self.old (code - 2050) }
         ensures released { Adds self.new self.old (λ c. counts_one c code) }
     {
+        fill(&mut self.counts, self.size);
         self.falling = lower(&mut self.counts, self.falling, code);
     }
 
@@ -119,7 +130,8 @@ impl LiveCounts {
         ensures relisted { counted_at self.old number ≡ true → IsRelisted self.old self.new old.now new.now }
         ensures same { counted_at self.old number ≡ false → self.new ≡ self.old }
     {
-        if self.counts[number as usize].is_counted {
+        if self.is_counted(number) {
+            fill(&mut self.counts, self.size);
             self.rising = raise_all(&mut self.counts, self.rising, new);
             self.falling = lower_all(&mut self.counts, self.falling, old);
             self.total = self.total - old.len() as u32 + new.len() as u32;
@@ -134,6 +146,7 @@ impl LiveCounts {
         ensures settled { IsSettled self.new }
         ensures right { (held : ℕ → ℕ) → AreOf nodes.now held self.old → AreOf nodes.now held self.new }
     {
+        fill(&mut self.counts, self.size);
         // Its contract tells that there are few elements.
         let _ = nodes.used();
         self.total = rise_all(&mut self.counts, nodes, self.rising, self.total);

@@ -1,6 +1,6 @@
 -- The counts of what roots hold after each step of the calls: roots come and go, and nodes are made, detached, linked,
 -- and removed.
-use Rattle.std.proofs.Common.{◌≡◌, ◌≢◌, inl, inr, ℕ, ◌+◌, ◌-◌, ◌^◌, ◌<◌, ◌≤◌, cond, eqb, max, true, false, List}
+use Rattle.std.proofs.Common.{◌≡◌, ◌≢◌, inl, inr, ℕ, ◌+◌, ◌-◌, ◌^◌, ◌<◌, ◌≤◌, max, true, false, List}
 use Rattle.std.proofs.Common.{[], ◌∷◌, length, unwrap_or, Option, Some, None, refl, sym, ap, subst, ◌∙◌, arith}
 use Rattle.std.proofs.lemmas.Bool.{cases_eq}
 use Rattle.std.specs.Option.{IsSome, option_map}
@@ -17,17 +17,15 @@ use Rattle.sd_counts.proofs.StaysRight.{right_held, right_released, right_grown}
 use Rattle.sd_manager.specs.Counting.{counts_one, AreCounted}
 use Rattle.sd_manager.specs.Stored.{held_count}
 use Rattle.sd_manager.specs.Recounting.{HasOtherList}
-use Rattle.sd_manager.proofs.CountsKept.{held_few, held_more, held_less, held_again, counts_same_keys}
+use Rattle.sd_manager.proofs.CountsKept.{held_none, held_few, held_more, held_less, held_again, counts_same_keys}
 use Rattle.sd_manager.proofs.CountsKept.{counts_other_uses, counts_same_list, counts_but_one, not_counted, not_held}
 use Rattle.sd_manager.proofs.Holding.{some_value, len_more, len_again}
-use Rattle.sd_manager.proofs.Valid.{no_total}
 
--- no nodes, and no roots
-pub counts_none : (bound : ℕ) (a : Nodes) (m : FinMap nat_cmp ℕ) (v : Counts) → a ≡ no_nodes bound → m ≡ empty →
-    v ≡ no_counts → AreOf a (held_count m) v
-counts_none bound a m v none no_roots no_numbers =
-    subst (λ x. AreOf x (held_count m) v) (sym none)
-    (subst (λ r. AreOf (no_nodes bound) (held_count r) v) (sym no_roots)
+-- no nodes, and no roots that are counted
+pub counts_none : (bound : ℕ) (a : Nodes) (v : Counts) → a ≡ no_nodes bound → v ≡ no_counts →
+    AreOf a (held_count empty) v
+counts_none bound a v none no_numbers =
+    subst (λ x. AreOf x (held_count empty) v) (sym none)
     (subst (λ w. AreOf (no_nodes bound) (held_count empty) w) (sym no_numbers)
     (record {
       right = record { live = λ n. omega (arith, nobody n); total = refl };
@@ -36,10 +34,10 @@ counts_none bound a m v none no_roots no_numbers =
       few = λ n. omega (arith, nobody n);
       room = omega arith;
       within = refl;
-    })))
+    }))
   where
     nobody : (n : ℕ) → held_count empty n ≡ 0
-    nobody n = no_total (λ held. cond (eqb held (2050 + n)) 1 0)
+    nobody n = held_none n
 
 -- roots
 

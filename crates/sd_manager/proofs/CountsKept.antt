@@ -5,7 +5,7 @@ use Rattle.std.proofs.Common.{true, false, get_or}
 use Rattle.std.proofs.lemmas.Bool.{cases_eq}
 use Rattle.std.specs.Option.{IsSome, option_map}
 use Rattle.std.specs.Ordering.{nat_cmp}
-use Rattle.std.specs.FinMap.{FinMap, get, insert, remove, len, values}
+use Rattle.std.specs.FinMap.{FinMap, empty, get, insert, remove, len, values}
 use Rattle.sd_runs.proofs.Places.{by_cases}
 use Rattle.sd_vtree.specs.Numbered.{Numbered}
 use Rattle.sd_unique.specs.Nodes.{Nodes, IsNodes, key_at as key_of_nodes, total_length as length_of_nodes}
@@ -18,7 +18,7 @@ use Rattle.sd_counts.proofs.StaysRight.{live_most, uses_live, length_total, reli
 use Rattle.sd_counts.proofs.Sums.{sum_some}
 use Rattle.sd_manager.specs.Table.{uses_of}
 use Rattle.sd_manager.specs.Counting.{counts_one, AreCounted}
-use Rattle.sd_manager.specs.Stored.{table_of, held_count, IsStored}
+use Rattle.sd_manager.specs.Stored.{table_of, counted_roots, held_count, IsStored}
 use Rattle.sd_manager.specs.Recounting.{HasOtherList, IsUnused}
 use Rattle.sd_manager.proofs.Counted.{counts_same}
 use Rattle.sd_manager.proofs.GivenBack.{list_counted}
@@ -27,6 +27,7 @@ use Rattle.sd_manager.proofs.Reading.{key_again}
 use Rattle.sd_manager.proofs.Standing.{no_uses}
 use Rattle.sd_manager.proofs.Totals.{total_new, total_without, total_replaced}
 use Rattle.sd_manager.proofs.Unused.{not_in_node}
+use Rattle.sd_manager.proofs.Valid.{no_total}
 
 -- roots
 
@@ -39,6 +40,15 @@ held_few m n few =
       length_values m,
       few,
     )
+
+-- no root holds a number
+pub held_none : (n : ℕ) → held_count empty n ≡ 0
+held_none n = no_total (λ held. cond (eqb held (2050 + n)) 1 0)
+
+-- of the roots that are counted at most as many hold a number as of all
+pub held_counted : (on : Bool) (m : FinMap nat_cmp ℕ) (n : ℕ) → held_count (counted_roots on m) n ≤ held_count m n
+held_counted true m n = omega arith
+held_counted false m n = omega (arith, held_none n)
 
 -- a root more
 pub held_more : (m : FinMap nat_cmp ℕ) (root c : ℕ) → get m root ≡ None → (n : ℕ) →
@@ -225,9 +235,10 @@ module _ (v : Numbered) (a : Nodes) (m : FinMap nat_cmp ℕ) (e : ℕ) (g : Opti
   nodes_few = omega (arith, stored.valid.total, stored.valid.bounded, stored.table.bound_fits)
 
   -- a node that nothing uses
-  pub unused_node : (n : ℕ) → uses_of (table_of v a m e g) (2050 + n) ≡ 0 → IsUnused a (held_count m) n
-  unused_node n unused = record {
-    free = omega (arith, unused);
+  pub unused_node : (on : Bool) (n : ℕ) → uses_of (table_of v a m e g) (2050 + n) ≡ 0 →
+      IsUnused a (held_count (counted_roots on m)) n
+  unused_node on n unused = record {
+    free = omega (arith, unused, held_counted on m n);
     lists = λ q. go q (key_of_nodes a q) refl;
   }
     where

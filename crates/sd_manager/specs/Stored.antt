@@ -1,10 +1,10 @@
 -- How a manager is kept: its nodes with their uses, and its roots in slots.
 use Rattle.std.specs.Prelude.{◌≡◌, ℕ, ◌+◌, ◌^◌, ◌<◌, ◌≤◌, List, [], ◌∷◌, length, Option, Some, None, slice_index_or}
-use Rattle.std.specs.Prelude.{◌==◌, if◌then◌else◌}
+use Rattle.std.specs.Prelude.{Bool, true, false, ◌==◌, if◌then◌else◌}
 use Rattle.std.specs.List.{sum_by}
 use Rattle.std.specs.Option.{IsSome}
 use Rattle.std.specs.Ordering.{nat_cmp}
-use Rattle.std.specs.FinMap.{FinMap, get, values, from_entries}
+use Rattle.std.specs.FinMap.{FinMap, empty, get, values, from_entries}
 use Rattle.sd_unique.specs.Nodes.{Nodes, IsNodes}
 use Rattle.sd_counts.specs.Counts.{Counts}
 use Rattle.sd_counts.specs.Right.{AreOf}
@@ -59,7 +59,12 @@ pub record IsStored (nodes : Nodes) (t : Table) : Type 0 where
 abbrev pub held_count : FinMap nat_cmp ℕ → ℕ → ℕ
 held_count roots n = sum_by (λ held. if held == 2050 + n then 1 else 0) (values roots)
 
--- The parts are stored so, and the counts are right for the lists of the nodes and for what the roots hold.
-pub record IsKept (nodes : Nodes) (counts : Counts) (t : Table) : Type 0 where
+-- the roots that are counted: all of them from some call on, and none before
+abbrev pub counted_roots : Bool → FinMap nat_cmp ℕ → FinMap nat_cmp ℕ
+counted_roots true roots = roots
+counted_roots false roots = empty
+
+-- The parts are stored so, and the counts are right for the lists of the nodes and for what the counted roots hold.
+pub record IsKept (nodes : Nodes) (counts : Counts) (is_counting : Bool) (t : Table) : Type 0 where
   pub stored : IsStored nodes t
-  pub counted : AreOf nodes (held_count t.roots) counts
+  pub counted : AreOf nodes (held_count (counted_roots is_counting t.roots)) counts

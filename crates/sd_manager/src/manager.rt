@@ -26,7 +26,7 @@ ghost use Rattle.sd_manager.specs.Total.{IsTotal};
 use crate::finding::find_two;
 use crate::node_id::NodeId;
 use crate::pairs::{sort_into, trimmed, trimmed_pair};
-use crate::recount::uncount;
+use crate::recount::{count_one, uncount, uncount_one};
 use crate::roots::{Root, Roots};
 use crate::taking::take_away;
 use crate::uses::{add_two, add_use, add_uses, drop_use};
@@ -53,6 +53,8 @@ pub struct Manager {
     pub(crate) sorted: Vec<(u32, u32)>,
     // Which nodes are under what roots hold, and how many elements these have.
     pub(crate) counts: LiveCounts,
+    // Whether roots are counted there. None is before the total is asked for, since counts take memory.
+    is_counting: bool,
 }
 
 impl Model for Manager {
@@ -65,7 +67,7 @@ impl Model for Manager {
 
     ghost view = { λ a. table_of a.vtree a.nodes a.roots a.epoch a.moving };
 
-    ghost invariant = { λ a. IsKept a.nodes a.counts
+    ghost invariant = { λ a. IsKept a.nodes a.counts a.is_counting
         (table_of a.vtree a.nodes a.roots a.epoch a.moving) };
 }
 
@@ -85,6 +87,7 @@ impl Manager {
             moving: None,
             sorted: Vec::new(alloc),
             counts: LiveCounts::new(alloc),
+            is_counting: false,
         })
     }
 
@@ -195,7 +198,7 @@ impl Manager {
     {
         let root = self.roots.hold(node.0)?;
         add_use(&mut self.nodes, node.0);
-        self.counts.hold(node.0);
+        count_one(&mut self.counts, self.is_counting, node.0);
         Ok(root)
     }
 
@@ -208,7 +211,7 @@ impl Manager {
     {
         let held = self.roots.release(&root);
         drop_use(&mut self.nodes, held);
-        self.counts.release(held);
+        uncount_one(&mut self.counts, self.is_counting, held);
     }
 
     /// Makes a root hold another node, and hands the old one back.
@@ -224,8 +227,8 @@ impl Manager {
         let former = self.roots.rebind(root, node.0);
         add_use(&mut self.nodes, node.0);
         drop_use(&mut self.nodes, former);
-        self.counts.release(former);
-        self.counts.hold(node.0);
+        uncount_one(&mut self.counts, self.is_counting, former);
+        count_one(&mut self.counts, self.is_counting, node.0);
         NodeId(former)
     }
 
@@ -467,14 +470,16 @@ impl Manager {
     }
 
     /// The total size: how many elements the nodes under the held roots have together, each node once. It costs the
-    /// lists of the nodes that came under a root, or are under none any more, since it was last asked for. Takes no
-    /// memory.
+    /// lists of the nodes that came under a root, or are under none any more, since it was last asked for; the first
+    /// call counts all roots. Takes no memory.
     pub fn total(&mut self) -> u32
         requires no_move { self.old.moving ≡ None }
         ensures total { IsTotal self.old result }
         ensures same { self.new ≡ self.old }
         ensures table { IsTable self.new }
     {
+        self.roots.count(&mut self.counts, self.is_counting);
+        self.is_counting = true;
         self.counts.settle(&self.nodes);
         self.counts.total()
     }

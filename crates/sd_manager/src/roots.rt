@@ -1,11 +1,15 @@
 //! Roots: numbers that hold nodes.
 
-ghost use Rattle.std.specs.Prelude.{◌≡◌, ◌≤◌, ◌<◌, ℕ, length, slice_index_or};
+ghost use Rattle.std.specs.Prelude.{◌≡◌, ◌≤◌, ◌<◌, ◌^◌, ℕ, length, slice_index_or};
 ghost use Rattle.std.specs.Prelude.{Some, None, IfOk, OnErr};
 ghost use Rattle.std.specs.Option.{IsSome};
 ghost use Rattle.std.specs.FinMap.{empty, get, insert, remove};
-ghost use Rattle.sd_manager.specs.Stored.{AreFilled};
+ghost use Rattle.sd_unique.specs.Nodes.{Nodes as NodesSeen};
+ghost use Rattle.sd_counts.specs.Right.{AreOf};
+ghost use Rattle.sd_manager.specs.Stored.{AreFilled, counted_roots, held_count, held_map};
+ghost use Rattle.sd_manager.specs.Recounting.{MayCount};
 
+use sd_counts::LiveCounts;
 use std::alloc::{AllocError, Global};
 use std::marker::Model;
 
@@ -105,6 +109,36 @@ impl Roots {
         ensures bound { self.new ≡ insert self.old root.now code }
     {
         self.slots[root.0 as usize].replace(code).unwrap()
+    }
+
+    // Counts all roots, where none is counted yet.
+    pub(crate) fn count(&self, counts: &mut LiveCounts, is_counting: bool)
+        requires may { (a : NodesSeen) × MayCount a self.now
+            × AreOf a (held_count (counted_roots is_counting self.now)) counts.old }
+        ensures { (a : NodesSeen) → MayCount a self.now
+            → AreOf a (held_count (counted_roots is_counting self.now)) counts.old
+            → AreOf a (held_count self.now) counts.new }
+    {
+        if is_counting {
+            return;
+        }
+        count_slots(self.slots.as_slice(), counts);
+    }
+}
+
+// Counts all codes in slots, where none is counted yet.
+fn count_slots(slots: &[Option<u32>], counts: &mut LiveCounts)
+    requires few { length slots.now < 2 ^ 32 }
+    requires may { (a : NodesSeen) × MayCount a (held_map slots.now)
+        × AreOf a (held_count empty) counts.old }
+    ensures { (a : NodesSeen) → MayCount a (held_map slots.now)
+        → AreOf a (held_count empty) counts.old
+        → AreOf a (held_count (held_map slots.now)) counts.new }
+{
+    for index in 0..slots.len() {
+        if let Some(code) = slots[index] {
+            counts.hold(code);
+        }
     }
 }
 

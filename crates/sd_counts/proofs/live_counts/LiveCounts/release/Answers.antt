@@ -1,10 +1,27 @@
-use Rattle.std.proofs.Common.{◌∙◌}
-use Rattle.sd_counts.proofs.Whole.{queued_lent}
+use Rattle.std.proofs.Common.{sym, ap, ◌∙◌}
+use Rattle.sd_counts.specs.Queued.{seen}
+use Rattle.sd_counts.proofs.Filled.{full_filled, full_lent, kept_full, seen_lent, adds_seen}
 use Rattle.sd_counts.proofs.live_counts.LiveCounts.release.Goals as goal
 
 pub invariant_of-self : goal.invariant_of-self
 invariant_of-self c =
-    queued_lent c.self.inside.counts.items c.deref_mut.result.now c.lower-self-inside.new.counts
-    c.self.inside.counts.len c.self.inside.rising c.self.inside.falling c.self.inside.rising
-    c.lower-self-inside.result c.deref_mut.ensures.value (c.lower-self-inside.auto.counts ∙ c.deref_mut.ensures.len)
-    (c.lower-self-inside.ensures.queued c.self.inside.rising) c.self.invariant
+    let s = c.self.inside in
+    kept_full _ _ _ _ _ (full_lent c.fill.new.counts.items c.deref_mut.result.now c.lower-self-inside.new.counts _ _ _
+    s.rising s.falling s.rising c.lower-self-inside.result c.deref_mut.ensures.value
+    c.deref_mut.ensures.len c.lower-self-inside.auto.counts (c.lower-self-inside.ensures.queued s.rising)
+    (full_filled s.counts.items c.fill.new.counts.items s.size _ _ s.rising s.falling c.self.invariant
+    c.fill.ensures.filled c.fill.ensures.room))
+
+pub returns : goal.returns
+returns c =
+    let s = c.self.inside in
+    let lent = c.deref_mut.result.now in
+    let new = c.lower-self-inside.new.counts in
+    let full = full_filled s.counts.items c.fill.new.counts.items s.size _ _ s.rising s.falling c.self.invariant
+    c.fill.ensures.filled c.fill.ensures.room in
+    let before = ap (λ l. seen l s.total) (c.deref_mut.ensures.value ∙ c.fill.ensures.filled) ∙ c.self.view_is in
+    let after = seen_lent c.fill.new.counts.items lent new _ s.size _ s.total s.rising s.falling
+    c.deref_mut.ensures.value c.deref_mut.ensures.len c.lower-self-inside.auto.counts full in
+    record {
+      released = adds_seen _ _ new lent s.total _ (sym after) (sym before) c.lower-self-inside.ensures.lowered;
+    }

@@ -6,7 +6,7 @@ use Rattle.sd_manager.proofs.manager.Manager.begin_move.Goals as goal
 pub invariant_of-self : goal.invariant_of-self
 invariant_of-self c =
     let s = c.self.inside in
-    subst (λ a. IsKept a s.counts (table_of s.vtree a s.roots s.epoch (Some c.args.place)))
+    subst (λ a. IsKept a s.counts s.is_counting (table_of s.vtree a s.roots s.epoch (Some c.args.place)))
     (sym c.list_places.ensures.same)
     (record {
       stored = begun_stored s.vtree s.nodes s.roots s.epoch s.moving c.args.place c.self.invariant.stored

@@ -2,7 +2,7 @@ use Rattle.std.proofs.Common.{◌≡◌, ◌+◌, sym, subst}
 use Rattle.std.specs.FinMap.{get}
 use Rattle.std.specs.Option.{IsSome}
 use Rattle.sd_manager.specs.Table.{uses_of}
-use Rattle.sd_manager.specs.Stored.{table_of, held_count}
+use Rattle.sd_manager.specs.Stored.{table_of, counted_roots, held_count}
 use Rattle.sd_manager.specs.Moving.{IsDiscarded}
 use Rattle.sd_manager.proofs.DetachedList.{detached_node, detached_counted, detached_used}
 use Rattle.sd_manager.proofs.Discarded.{discarding_node, discarding_unused, discarded_stored, node_discarded}
@@ -30,7 +30,8 @@ uncount-requires-clause-closed c =
     let s = c.self.inside in nodes_closed s.vtree s.nodes s.roots s.epoch s.moving c.self.invariant.stored
 
 pub uncount-requires-clause-right : goal.uncount-requires-clause-right
-uncount-requires-clause-right c = (held_count (c.self.inside).roots, c.self.invariant.counted)
+uncount-requires-clause-right c =
+    let s = c.self.inside in (held_count (counted_roots s.is_counting s.roots), c.self.invariant.counted)
 
 pub drop_uses-requires-clause-counted : goal.drop_uses-requires-clause-counted
 drop_uses-requires-clause-counted c =
@@ -67,18 +68,20 @@ remove-requires-clause-unused c =
 pub invariant_of-self : goal.invariant_of-self
 invariant_of-self c =
     let s = c.self.inside in
+    let held = held_count (counted_roots s.is_counting s.roots) in
     let w = some_value (get s.nodes.detached c.args.number)
     (subst (λ t. IsSome (get t.detached c.args.number)) (sym c.self.view_is) c.requires.node) in
     let unused = subst (λ t. uses_of t (2050 + c.args.number) ≡ 0) (sym c.self.view_is) c.requires.unused in
-    let of = c.uncount.ensures.right (held_count s.roots) c.self.invariant.counted in
-    let nowhere = unused_node s.vtree s.nodes s.roots s.epoch s.moving c.self.invariant.stored c.args.number unused in
-    let off = c.uncount.ensures.uncounted (held_count s.roots) c.self.invariant.counted nowhere in
+    let of = c.uncount.ensures.right held c.self.invariant.counted in
+    let nowhere = unused_node s.vtree s.nodes s.roots s.epoch s.moving c.self.invariant.stored s.is_counting
+    c.args.number unused in
+    let off = c.uncount.ensures.uncounted held c.self.invariant.counted nowhere in
     record {
       stored = discarded_stored s.vtree s.nodes s.roots s.epoch s.moving c.self.invariant.stored c.args.number w.0 w.1
           unused c.drop_uses.new.nodes c.drop_uses.ensures.uses c.remove.new.self c.remove.ensures.removed
           c.remove.ensures.nodes;
-      counted = counts_removed c.drop_uses.new.nodes c.remove.new.self (held_count s.roots) c.uncount.new.counts
-          (counts_other_uses s.nodes c.drop_uses.new.nodes (held_count s.roots) c.uncount.new.counts of
+      counted = counts_removed c.drop_uses.new.nodes c.remove.new.self held c.uncount.new.counts
+          (counts_other_uses s.nodes c.drop_uses.new.nodes held c.uncount.new.counts of
           c.drop_uses.ensures.uses.rest)
           c.args.number off nowhere.free (let s = c.self.inside in
           let w = some_value (get s.nodes.detached c.args.number)

@@ -4,7 +4,7 @@ use Rattle.sd_manager.specs.Stored.{table_of}
 use Rattle.sd_manager.specs.Moving.{IsGivenBack}
 use Rattle.sd_manager.proofs.GivenBack.{giving_loose, giving_counted, giving_used, giving_still}
 use Rattle.sd_manager.proofs.GivenBack.{given_stored, given_run}
-use Rattle.sd_manager.specs.Stored.{held_count}
+use Rattle.sd_manager.specs.Stored.{counted_roots, held_count}
 use Rattle.sd_manager.proofs.CountsKept.{counts_other_uses}
 use Rattle.sd_manager.proofs.CountsAfter.{counts_given}
 use Rattle.sd_manager.proofs.manager.Manager.give_run.Goals as goal
@@ -41,14 +41,15 @@ give_run-requires c =
 pub invariant_of-self : goal.invariant_of-self
 invariant_of-self c =
     let s = c.self.inside in
+    let held = held_count (counted_roots s.is_counting s.roots) in
     let loose = subst (λ t. (list : List (ℕ × ℕ)) × (get t.loose c.args.run.0 ≡ Some list)
     × (length list ≡ c.args.run.1)) (sym c.self.view_is) c.requires.loose in
     record {
       stored = given_stored s.vtree s.nodes s.roots s.epoch s.moving c.self.invariant.stored c.args.run.0 c.args.run.1
           loose c.drop_run_uses.new.nodes c.drop_run_uses.ensures.uses c.give_run.new.self
           c.give_run.ensures.given_back c.give_run.ensures.nodes;
-      counted = counts_given c.drop_run_uses.new.nodes c.give_run.new.self (held_count s.roots) s.counts
-          (counts_other_uses s.nodes c.drop_run_uses.new.nodes (held_count s.roots) s.counts
+      counted = counts_given c.drop_run_uses.new.nodes c.give_run.new.self held s.counts
+          (counts_other_uses s.nodes c.drop_run_uses.new.nodes held s.counts
           c.self.invariant.counted c.drop_run_uses.ensures.uses.rest)
           c.args.run.0 c.args.run.1 (let s = c.self.inside in
           let loose = subst (λ t. (list : List (ℕ × ℕ)) × (get t.loose c.args.run.0 ≡ Some list)

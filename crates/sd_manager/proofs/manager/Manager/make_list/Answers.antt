@@ -4,7 +4,7 @@ use Rattle.sd_unique.specs.Inserting.{inserted, IsNewNumber, IsFull}
 use Rattle.sd_manager.specs.Table.{uses_in}
 use Rattle.sd_manager.specs.Making.{Extends, IsMade, IsRefusal, KeepsRule, IsNeeded, HasNewNode}
 use Rattle.sd_manager.specs.Counting.{AreCounted}
-use Rattle.sd_manager.specs.Stored.{table_of, held_count, IsStored, IsKept}
+use Rattle.sd_manager.specs.Stored.{table_of, counted_roots, held_count, IsStored, IsKept}
 use Rattle.sd_manager.proofs.Linking.{asked, partition_inside, made_trimmed, made_found, two_pairs, refused, kept_rule}
 use Rattle.sd_manager.proofs.Linking.{list_counted, list_room, new_short, at_new, stored_new, made_new, kept_new}
 use Rattle.sd_manager.proofs.Linking.{grown_new}
@@ -156,28 +156,32 @@ add_uses-requires-clause-room c =
 pub invariant_of-self-in-Err : goal.invariant_of-self-in-Err
 invariant_of-self-in-Err c =
     let s = c.self.inside in
-    subst (λ x. IsKept x c.grow.new.self (table_of s.vtree x s.roots s.epoch s.moving)) (sym c.in-Err.ensures.err)
+    let held = held_count (counted_roots s.is_counting s.roots) in
+    subst (λ x. IsKept x c.grow.new.self s.is_counting (table_of s.vtree x s.roots s.epoch s.moving))
+    (sym c.in-Err.ensures.err)
     (record {
       stored = c.self.invariant.stored;
-      counted = right_grown s.nodes (held_count s.roots) s.counts c.grow.new.self c.self.invariant.counted
+      counted = right_grown s.nodes held s.counts c.grow.new.self c.self.invariant.counted
           c.in_ok-grow.ensures.grown;
     })
 
 pub invariant_of-self-in-Present : goal.invariant_of-self-in-Present
 invariant_of-self-in-Present c =
     let s = c.self.inside in
+    let held = held_count (counted_roots s.is_counting s.roots) in
     let same = if_present c.in-Ok.found c.in-Present.number (λ n. c.find_or_insert.new.self ≡ s.nodes)
     c.in-Present.is c.in-Ok.ensures.same in
-    subst (λ x. IsKept x c.grow.new.self (table_of s.vtree x s.roots s.epoch s.moving)) (sym same)
+    subst (λ x. IsKept x c.grow.new.self s.is_counting (table_of s.vtree x s.roots s.epoch s.moving)) (sym same)
     (record {
       stored = c.self.invariant.stored;
-      counted = right_grown s.nodes (held_count s.roots) s.counts c.grow.new.self c.self.invariant.counted
+      counted = right_grown s.nodes held s.counts c.grow.new.self c.self.invariant.counted
           c.in_ok-grow.ensures.grown;
     })
 
 pub invariant_of-self-2 : goal.invariant_of-self-2
 invariant_of-self-2 c =
     let s = c.self.inside in
+    let held = held_count (counted_roots s.is_counting s.roots) in
     let h = asked s.vtree s.nodes s.roots s.epoch s.moving c.args.self.now c.place.inside.0 c.args.place
     c.args.elements.now
     c.as_slice-list.result.now c.sort_into.new.list.items c.self.invariant.stored c.self.view_is c.place.view_is
@@ -199,7 +203,7 @@ invariant_of-self-2 c =
           (λ w counts valid. stored_new s.vtree s.nodes s.roots s.epoch s.moving c.place.inside.0 c.args.elements.now
           c.as_slice-list.result.now h none
           c.in-New.number number w counts valid);
-      counted = counts_made s.nodes c.find_or_insert.new.self c.add_uses.new.nodes (held_count s.roots) s.counts
+      counted = counts_made s.nodes c.find_or_insert.new.self c.add_uses.new.nodes held s.counts
           c.grow.new.self c.self.invariant.counted c.in_ok-grow.ensures.grown
           (omega (arith, c.in_ok-grow.ensures.room, c.records.ensures.records)) c.in-New.number c.place.inside.0
           c.as_slice-list.result.now number

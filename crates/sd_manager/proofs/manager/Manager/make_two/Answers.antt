@@ -4,7 +4,7 @@ use Rattle.sd_unique.specs.Inserting.{inserted, IsNewNumber, IsFull}
 use Rattle.sd_manager.specs.Table.{uses_in}
 use Rattle.sd_manager.specs.Making.{Extends, IsMade, IsRefusal, KeepsRule, IsNeeded, HasNewNode}
 use Rattle.sd_manager.specs.Counting.{AreCounted}
-use Rattle.sd_manager.specs.Stored.{table_of, held_count, IsStored, IsKept}
+use Rattle.sd_manager.specs.Stored.{table_of, counted_roots, held_count, IsStored, IsKept}
 use Rattle.sd_manager.proofs.Linking.{asked_two, partition_inside, made_trimmed, made_found, refused, kept_rule}
 use Rattle.sd_manager.proofs.Linking.{list_counted, list_room, new_short, at_new, stored_new, made_new, kept_new}
 use Rattle.sd_manager.proofs.Linking.{grown_new}
@@ -160,28 +160,32 @@ add_two-requires-clause-room c =
 pub invariant_of-self-in-Err : goal.invariant_of-self-in-Err
 invariant_of-self-in-Err c =
     let s = c.self.inside in
-    subst (λ x. IsKept x c.grow.new.self (table_of s.vtree x s.roots s.epoch s.moving)) (sym c.in-Err.ensures.err)
+    let held = held_count (counted_roots s.is_counting s.roots) in
+    subst (λ x. IsKept x c.grow.new.self s.is_counting (table_of s.vtree x s.roots s.epoch s.moving))
+    (sym c.in-Err.ensures.err)
     (record {
       stored = c.self.invariant.stored;
-      counted = right_grown s.nodes (held_count s.roots) s.counts c.grow.new.self c.self.invariant.counted
+      counted = right_grown s.nodes held s.counts c.grow.new.self c.self.invariant.counted
           c.in_ok-grow.ensures.grown;
     })
 
 pub invariant_of-self-in-Present : goal.invariant_of-self-in-Present
 invariant_of-self-in-Present c =
     let s = c.self.inside in
+    let held = held_count (counted_roots s.is_counting s.roots) in
     let same = if_present c.in-Ok.found c.in-Present.number (λ n. c.find_two.new.nodes ≡ s.nodes)
     c.in-Present.is c.in-Ok.ensures.same in
-    subst (λ x. IsKept x c.grow.new.self (table_of s.vtree x s.roots s.epoch s.moving)) (sym same)
+    subst (λ x. IsKept x c.grow.new.self s.is_counting (table_of s.vtree x s.roots s.epoch s.moving)) (sym same)
     (record {
       stored = c.self.invariant.stored;
-      counted = right_grown s.nodes (held_count s.roots) s.counts c.grow.new.self c.self.invariant.counted
+      counted = right_grown s.nodes held s.counts c.grow.new.self c.self.invariant.counted
           c.in_ok-grow.ensures.grown;
     })
 
 pub invariant_of-self-2 : goal.invariant_of-self-2
 invariant_of-self-2 c =
     let s = c.self.inside in
+    let held = held_count (counted_roots s.is_counting s.roots) in
     let two = c.args.first ∷ c.args.second ∷ [] in
     let h = asked_two s.vtree s.nodes s.roots s.epoch s.moving c.args.self.now c.place.inside.0 c.args.place
     c.args.elements.now c.args.first c.args.second c.self.invariant.stored c.self.view_is c.place.view_is
@@ -202,7 +206,7 @@ invariant_of-self-2 c =
           (λ w counts valid. stored_new s.vtree s.nodes s.roots s.epoch s.moving c.place.inside.0 c.args.elements.now
           two h none
           c.in-New.number number w counts valid);
-      counted = counts_made s.nodes c.find_two.new.nodes c.add_two.new.nodes (held_count s.roots) s.counts
+      counted = counts_made s.nodes c.find_two.new.nodes c.add_two.new.nodes held s.counts
           c.grow.new.self c.self.invariant.counted c.in_ok-grow.ensures.grown
           (omega (arith, c.in_ok-grow.ensures.room, c.records.ensures.records)) c.in-New.number c.place.inside.0
           two number

@@ -6,8 +6,7 @@ pub invariant_of-result : goal.invariant_of-result
 invariant_of-result c = record {
   stored = empty_stored c.args.vtree c.args.bound c.in_ok-new.field-0 c.new-2.result c.variables.ensures.numbered
       c.requires c.in_ok-new.ensures.nodes c.in_ok-new.ensures.empty c.new-2.ensures;
-  counted = counts_none c.args.bound c.in_ok-new.field-0 c.new-2.result c.new-4.result c.in_ok-new.ensures.empty
-      c.new-2.ensures c.new-4.ensures;
+  counted = counts_none c.args.bound c.in_ok-new.field-0 c.new-4.result c.in_ok-new.ensures.empty c.new-4.ensures;
 }
 
 pub returns-clause-table : goal.returns-clause-table

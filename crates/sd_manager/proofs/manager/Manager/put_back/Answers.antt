@@ -1,7 +1,7 @@
 use Rattle.std.proofs.Common.{refl, sym, subst}
 use Rattle.std.specs.FinMap.{get}
 use Rattle.std.specs.Option.{IsSome}
-use Rattle.sd_manager.specs.Stored.{table_of, held_count}
+use Rattle.sd_manager.specs.Stored.{table_of, counted_roots, held_count}
 use Rattle.sd_manager.specs.Moving.{IsPutBack}
 use Rattle.sd_manager.proofs.DetachedList.{detached_node, detached_counted, detached_used}
 use Rattle.sd_manager.proofs.Holding.{some_value}
@@ -65,7 +65,7 @@ recount-requires c =
     c.args.run.0 c.args.run.1 asks c.drop_uses.new.nodes c.drop_uses.ensures.uses
     c.replace_run-former.result c.replace_run-former.new.self c.replace_run-former.ensures.exchanged
     c.replace_run-former.ensures.fresh c.replace_run-former.ensures.nodes in
-    record { may = (s.nodes, held_count s.roots, other, c.self.invariant.counted) }
+    record { may = (s.nodes, held_count (counted_roots s.is_counting s.roots), other, c.self.invariant.counted) }
 
 pub give_run-requires : goal.give_run-requires
 give_run-requires c =
@@ -127,6 +127,7 @@ relink-requires-clause-absent c =
 pub invariant_of-self : goal.invariant_of-self
 invariant_of-self c =
     let s = c.self.inside in
+    let held = held_count (counted_roots s.is_counting s.roots) in
     let asks = putting s.vtree s.nodes s.roots s.epoch s.moving c.args.self.now c.args.number c.args.place
     c.place.inside.0 c.args.run.0 c.args.run.1 c.self.view_is c.place.view_is c.requires.node c.requires.run
     c.requires.fits
@@ -143,10 +144,10 @@ invariant_of-self c =
           c.replace_run-former.result c.replace_run-former.new.self c.replace_run-former.ensures.exchanged
           c.replace_run-former.ensures.fresh c.give_run.new.self c.give_run.ensures.given_back
           c.retag.new.self c.retag.ensures.retagged c.relink.new.self c.relink.ensures.relinked c.relink.ensures.nodes;
-      counted = counts_relinked c.retag.new.self c.relink.new.self (held_count s.roots) c.recount.new.counts
-          (counts_retagged c.give_run.new.self c.retag.new.self (held_count s.roots) c.recount.new.counts
-          (counts_given c.replace_run-former.new.self c.give_run.new.self (held_count s.roots) c.recount.new.counts
-          (c.recount.ensures.right s.nodes (held_count s.roots) other c.self.invariant.counted)
+      counted = counts_relinked c.retag.new.self c.relink.new.self held c.recount.new.counts
+          (counts_retagged c.give_run.new.self c.retag.new.self held c.recount.new.counts
+          (counts_given c.replace_run-former.new.self c.give_run.new.self held c.recount.new.counts
+          (c.recount.ensures.right s.nodes held other c.self.invariant.counted)
           c.replace_run-former.result.0 c.replace_run-former.result.1 (let s = c.self.inside in
           let asks = putting s.vtree s.nodes s.roots s.epoch s.moving c.args.self.now c.args.number c.args.place
           c.args.place c.args.run.0 c.args.run.1 c.self.view_is refl c.requires.node c.requires.run c.requires.fits

@@ -1,7 +1,7 @@
 use Rattle.std.proofs.Common.{sym, subst}
 use Rattle.std.specs.Option.{IsSome}
 use Rattle.std.specs.FinMap.{get}
-use Rattle.sd_manager.specs.Stored.{table_of, held_count}
+use Rattle.sd_manager.specs.Stored.{table_of, counted_roots, held_count}
 use Rattle.sd_manager.proofs.Retagged.{may_retag, tagged_detached, tagged_absent, retagged_is}
 use Rattle.sd_manager.proofs.Retagged.{retagged_stored}
 use Rattle.sd_manager.proofs.CountsAfter.{counts_retagged, counts_relinked}
@@ -26,6 +26,7 @@ relink-requires-clause-absent c =
 pub invariant_of-self : goal.invariant_of-self
 invariant_of-self c =
     let s = c.self.inside in
+    let held = held_count (counted_roots s.is_counting s.roots) in
     let may = may_retag (table_of s.vtree s.nodes s.roots s.epoch s.moving) c.args.self.now c.args.number
     c.place.inside.0 c.args.place c.self.view_is c.place.view_is c.requires.node c.requires.fits c.requires.absent in
     let detached = subst (λ t. IsSome (get t.detached c.args.number)) (sym c.self.view_is) c.requires.node in
@@ -33,8 +34,8 @@ invariant_of-self c =
       stored = retagged_stored s.vtree s.nodes s.roots s.epoch s.moving c.self.invariant.stored c.args.number
           c.place.inside.0 may c.retag.new.self c.retag.ensures.retagged c.relink.new.self c.relink.ensures.relinked
           c.relink.ensures.nodes;
-      counted = counts_relinked c.retag.new.self c.relink.new.self (held_count s.roots) s.counts
-          (counts_retagged s.nodes c.retag.new.self (held_count s.roots) s.counts c.self.invariant.counted
+      counted = counts_relinked c.retag.new.self c.relink.new.self held s.counts
+          (counts_retagged s.nodes c.retag.new.self held s.counts c.self.invariant.counted
           c.args.number c.place.inside.0 c.self.invariant.stored.valid detached c.retag.ensures.retagged)
           c.args.number c.retag.ensures.nodes (let s = c.self.inside in
           let may = may_retag (table_of s.vtree s.nodes s.roots s.epoch s.moving) c.args.self.now c.args.number

@@ -1,5 +1,5 @@
 use Rattle.std.proofs.Common.{sym, subst}
-use Rattle.sd_manager.specs.Stored.{table_of, held_count}
+use Rattle.sd_manager.specs.Stored.{table_of, counted_roots, held_count}
 use Rattle.sd_manager.specs.Retiring.{IsIdle, IsRetired}
 use Rattle.sd_manager.proofs.Leaving.{may_leave, left_counts, left_stored, left_retired}
 use Rattle.sd_manager.proofs.CountsKept.{nodes_closed, unused_node}
@@ -16,7 +16,8 @@ uncount-requires-clause-closed c =
     let s = c.self.inside in nodes_closed s.vtree s.nodes s.roots s.epoch s.moving c.self.invariant.stored
 
 pub uncount-requires-clause-right : goal.uncount-requires-clause-right
-uncount-requires-clause-right c = (held_count (c.self.inside).roots, c.self.invariant.counted)
+uncount-requires-clause-right c =
+    let s = c.self.inside in (held_count (counted_roots s.is_counting s.roots), c.self.invariant.counted)
 
 pub take_away-requires-clause-may : goal.take_away-requires-clause-may
 take_away-requires-clause-may c =
@@ -27,17 +28,19 @@ take_away-requires-clause-may c =
 pub invariant_of-self : goal.invariant_of-self
 invariant_of-self c =
     let s = c.self.inside in
+    let held = held_count (counted_roots s.is_counting s.roots) in
     let idle = subst (λ t. IsIdle t c.args.number) (sym c.self.view_is) c.requires.idle in
-    let of = c.uncount.ensures.right (held_count s.roots) c.self.invariant.counted in
-    let unused = unused_node s.vtree s.nodes s.roots s.epoch s.moving c.self.invariant.stored c.args.number idle.unused
+    let of = c.uncount.ensures.right held c.self.invariant.counted in
+    let unused = unused_node s.vtree s.nodes s.roots s.epoch s.moving c.self.invariant.stored s.is_counting
+    c.args.number idle.unused
     in
-    let off = c.uncount.ensures.uncounted (held_count s.roots) c.self.invariant.counted unused in
+    let off = c.uncount.ensures.uncounted held c.self.invariant.counted unused in
     record {
       stored = left_stored s.vtree s.nodes s.roots s.epoch s.moving c.self.invariant.stored c.args.number idle
           c.take_away.new.nodes c.take_away.ensures.left c.take_away.ensures.valid
           c.epoch_after-self-inside.result c.epoch_after-self-inside.ensures;
       counted = left_counts s.vtree s.nodes s.roots s.epoch s.moving c.self.invariant.stored c.args.number idle
-          c.take_away.new.nodes c.take_away.ensures.left c.take_away.ensures.valid (held_count s.roots)
+          c.take_away.new.nodes c.take_away.ensures.left c.take_away.ensures.valid held
           c.uncount.new.counts of off unused.free;
     }
 

@@ -1,6 +1,6 @@
 use Rattle.std.proofs.Common.{length, sym, subst}
 use Rattle.sd_manager.specs.Making.{IsRefusal, KeepsRule}
-use Rattle.sd_manager.specs.Stored.{table_of, held_count}
+use Rattle.sd_manager.specs.Stored.{table_of, counted_roots, held_count}
 use Rattle.sd_manager.specs.Moving.{IsRewritten}
 use Rattle.sd_manager.proofs.Linking.{refused, kept_rule}
 use Rattle.sd_manager.proofs.Rewritten.{rewriting, rewriting_some, rewriting_counted, rewriting_room, rewriting_node}
@@ -102,7 +102,7 @@ recount-requires c =
     c.add_uses.new.nodes c.add_uses.ensures.uses c.in-Ok.run'.1 c.in-Ok.ensures.ok.0 c.replace_run-former.result
     c.replace_run-former.new.self
     c.replace_run-former.ensures.exchanged c.replace_run-former.ensures.fresh c.replace_run-former.ensures.nodes in
-    record { may = (s.nodes, held_count s.roots, other, c.self.invariant.counted) }
+    record { may = (s.nodes, held_count (counted_roots s.is_counting s.roots), other, c.self.invariant.counted) }
 
 pub relink-requires-clause-node : goal.relink-requires-clause-node
 relink-requires-clause-node c =
@@ -135,6 +135,7 @@ relink-requires-clause-absent c =
 pub invariant_of-self-2 : goal.invariant_of-self-2
 invariant_of-self-2 c =
     let s = c.self.inside in
+    let held = held_count (counted_roots s.is_counting s.roots) in
     let asks = rewriting s.vtree s.nodes s.roots s.epoch s.moving c.args.self.now c.args.number c.args.elements.now
     c.as_slice-list.result.now c.sort_into.new.list.items c.self.invariant.stored c.self.view_is c.requires.node
     c.requires.fits c.requires.absent c.in_ok-sort_into.ensures.permutation c.in_ok-sort_into.ensures.sorted
@@ -154,9 +155,9 @@ invariant_of-self-2 c =
           c.replace_run-former.ensures.exchanged c.replace_run-former.ensures.fresh
           c.relink.new.self c.relink.ensures.relinked
           c.relink.ensures.nodes;
-      counted = counts_relinked c.replace_run-former.new.self c.relink.new.self (held_count s.roots)
+      counted = counts_relinked c.replace_run-former.new.self c.relink.new.self held
           c.recount.new.counts
-          (c.recount.ensures.right s.nodes (held_count s.roots) other c.self.invariant.counted) c.args.number
+          (c.recount.ensures.right s.nodes held other c.self.invariant.counted) c.args.number
           c.replace_run-former.ensures.nodes (let s = c.self.inside in
           let asks = rewriting s.vtree s.nodes s.roots s.epoch s.moving c.args.self.now c.args.number
           c.args.elements.now
