@@ -11,7 +11,7 @@ use Rattle.sd_counts.specs.declared.count.Count.{Count}
 abbrev pub no_number : ℕ
 no_number = 2 ^ 32 - 1
 
--- what stands for a number past the last
+-- what stands for a number past the last, or for one that was not written yet
 abbrev pub blank : Count
 blank = record { live = 0; next = 0; is_counted = false; is_queued = false }
 

@@ -16,7 +16,8 @@
 //! ```
 //!
 //! `grow` alone takes memory, before a node is made; `hold`, `release`, `relisted` and `settle` take none. What `grow`
-//! takes is room, in which the others write what they need. As long as nothing is held, counts are addresses alone.
+//! takes is room, in which the others write what they need. Until the first of them is called, counts are addresses
+//! alone.
 #![tactic(auto)]
 
 mod count;

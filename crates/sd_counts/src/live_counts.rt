@@ -139,7 +139,8 @@ impl LiveCounts {
     }
 
     /// Counts just the nodes that are used by what is held and counted. Takes no memory, and costs the elements of
-    /// the nodes that came to be used or are no longer used since it was last called.
+    /// the nodes that came to be used or are no longer used since it was last called, and a store for each number that
+    /// is new since.
     pub fn settle(&mut self, nodes: &Nodes)
         requires closed { AreClosed nodes.now }
         requires right { (held : ℕ → ℕ) × AreOf nodes.now held self.old }

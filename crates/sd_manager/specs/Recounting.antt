@@ -26,7 +26,7 @@ pub record IsUnused (a : Nodes) (held : ℕ → ℕ) (n : ℕ) : Type 0 where
   pub free : held n ≡ 0
   pub lists : (q : ℕ) → uses_in (2050 + n) (list_at a q) ≡ 0
 
--- roots hold codes of nodes that are there, and these have few elements
+-- the nodes are valid and have few elements, and each root holds the code of a constant, a literal or one of them
 pub record MayCount (a : Nodes) (roots : FinMap nat_cmp ℕ) : Type 0 where
   pub valid : IsNodes a
   pub few : total_length a < 2 ^ 31

@@ -470,8 +470,8 @@ impl Manager {
     }
 
     /// The total size: how many elements the nodes under the held roots have together, each node once. It costs the
-    /// lists of the nodes that came under a root, or are under none any more, since it was last asked for; the first
-    /// call counts all roots. Takes no memory.
+    /// lists of the nodes that came under a root, or are under none any more, since it was last asked for, and a store
+    /// for each number that is new since; the first call counts all roots. Takes no memory.
     pub fn total(&mut self) -> u32
         requires no_move { self.old.moving ≡ None }
         ensures total { IsTotal self.old result }

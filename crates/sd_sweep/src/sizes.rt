@@ -33,7 +33,8 @@ pub fn size_of(m: &mut Manager, root: &Root) -> u32
 }
 
 /// The total size: that of the diagrams which the held roots show, where each distinct decomposition counts once. It
-/// takes no memory, and costs what came under a root, or is under none any more, since it was last asked for.
+/// takes no memory, and costs what came under a root, or is under none any more, since it was last asked for, and a
+/// store for each number that is new since.
 pub fn size(m: &mut Manager) -> u32
     requires no_move { m.old.moving ≡ None }
     ensures size { (ds : List Diagram) → AreHeldDiagrams m.old ds → result ≡ size_of ds }
