@@ -80,8 +80,8 @@ pub(crate) fn sweep_kept(m: &mut Manager, c: &Cache)
 
 /// Sweeps where more elements are in use than `most` or than the limit. Then `most` becomes what may be in use before
 /// the next sweep: `often` a quarter more than what is left, and at least 4,096 elements more (from 40,000 elements on
-/// half more, and at least three times what is left or 500,000, the lesser of the two), and else twice what is left, and
-/// at least `LEAST_GARBAGE`.
+/// half more, and at least the lesser of three times what is left and 500,000), and else twice what is left, and at
+/// least `LEAST_GARBAGE`.
 pub fn sweep_past(m: &mut Manager, c: &Cache, most: &mut u32, often: bool, limit: u32)
     requires no_move { m.old.moving ≡ None }
     requires unmarked { AreUnmarked m.old }
