@@ -6,8 +6,9 @@
 //! children. Since what a node uses stands below it, no ring of nodes keeps itself, and counts of uses find all that
 //! is not reached.
 //!
-//! So a sweep costs what died and what is new since the last one, and no visit of what stays. Clearing all marks and
-//! walking from the roots, which is the usual form, would cost the whole table each time.
+//! So a sweep costs what died and what is new since the last one. Clearing all marks and walking from the roots, which
+//! is the usual form, would cost the whole table each time. Only behind what freed a great part of a large table does
+//! a sweep end with a pass over all records, in a row: it puts the free numbers in order, and chains the others anew.
 
 ghost use Rattle.std.specs.Prelude.{◌≡◌, ℕ, None};
 ghost use Rattle.std.specs.Option.{IsSome};

@@ -1,5 +1,5 @@
 -- The record of a new node is put behind the others at once, which is as if a free one were put there and occupied.
-use Rattle.std.proofs.Common.{Bool, ◌≡◌, ◌≢◌, ◌-◌, bit_and, false, ℕ, suc, ◌+◌, ◌<◌, List, [], ◌∷◌, ◌++◌, length}
+use Rattle.std.proofs.Common.{◌≡◌, ◌≢◌, ◌-◌, bit_and, false, ℕ, suc, ◌+◌, ◌<◌, List, [], ◌∷◌, ◌++◌, length}
 use Rattle.std.proofs.Common.{Bool, get_or, Option, None, Some, unwrap_or, refl, sym, ap, subst, ◌∙◌, arith}
 use Rattle.std.proofs.Math.ListN.{set}
 use Rattle.std.proofs.lemmas.List.{length-set, get_or-set_same}
@@ -38,25 +38,26 @@ set_back [] n none h e = refl
 set_back (x ∷ xs) n none h e = ap (λ y. y ∷ xs) (sym e)
 
 -- where each number is that of a node, no record is free
-pub none_waits : (arena : Arena) (rs : List Record) (links : List Links) (heads places : List ℕ) (flags : List Bool)
-    → HoldsNodes arena rs links heads places flags → (a : Nodes) → nodes_of arena rs ≡ a
+pub none_waits : {chained : Bool} (arena : Arena) (rs : List Record) (links : List Links) (heads places : List ℕ)
+    (flags : List Bool) → HoldsNodes chained arena rs links heads places flags → (a : Nodes) → nodes_of arena rs ≡ a
     → ((m : ℕ) → m < a.records → IsSome (key_at a m)) → no_record ≡ get_or heads 0 no_record
-none_waits arena rs links heads places flags k a view all =
+none_waits {chained} arena rs links heads places flags k a view all =
     by_cases
     (λ e. sym e)
-    (λ ne. let free = free_first arena rs heads (length heads - 1) k.in_chains ne in
+    (λ ne. let free = free_first chained arena rs heads (length heads - 1) k.in_chains ne in
     let node = subst (λ b. IsSome (key_at b (head_of heads 0))) (sym view)
     (all (head_of heads 0) (omega (arith, free.0, ap (λ b. b.records) view))) in
     let no = subst IsSome free.1 node in cc)
     (cases_eq (head_of heads 0) no_record)
 
 -- and the reverse
-pub all_named : (arena : Arena) (rs : List Record) (links : List Links) (heads places : List ℕ) (flags : List Bool)
-    → HoldsNodes arena rs links heads places flags → (a : Nodes) → nodes_of arena rs ≡ a → (first : ℕ)
+pub all_named : {chained : Bool} (arena : Arena) (rs : List Record) (links : List Links) (heads places : List ℕ)
+    (flags : List Bool) → HoldsNodes chained arena rs links heads places flags → (a : Nodes) → nodes_of arena rs ≡ a
+    → (first : ℕ)
     → first ≡ get_or heads 0 first → first ≡ no_record → (m : ℕ) → m < a.records → IsSome (key_at a m)
-all_named arena rs links heads places flags k a view first read last m below =
+all_named {chained} arena rs links heads places flags k a view first read last m below =
     subst (λ b. IsSome (key_at b m)) view
-    (all_nodes arena rs heads (length heads - 1) k.in_chains
+    (all_nodes chained arena rs heads (length heads - 1) k.in_chains
     (get_or_any heads 0 no_record first (omega (arith, k.at_least_one)) ∙ sym read ∙ last) m
     (omega (arith, below, ap (λ b. b.records) view)))
 
@@ -67,15 +68,16 @@ abbrev pub made : ℕ → ℕ → ℕ → ℕ → Record
 made place start size next =
     record { place = place; start = start; length = size; next = next; uses = 0; mark = 0; state = Linked }
 
-module _ (arena new : Arena) (rs : List Record) (links : List Links) (heads places : List ℕ) (flags : List Bool)
-    (k : HoldsNodes arena rs links heads places flags) (well : IsArena new) (list : List (ℕ × ℕ)) (start : ℕ)
+module _ {chained : Bool} (arena new : Arena) (rs : List Record) (links : List Links) (heads places : List ℕ)
+    (flags : List Bool) (k : HoldsNodes chained arena rs links heads places flags) (well : IsArena new)
+    (list : List (ℕ × ℕ)) (start : ℕ)
     (is : new ≡ taken arena list) (at : start ≡ next_start arena (length list))
     (fresh : get arena.live start ≡ None) (keeps : KeepsLive arena new) (a : Nodes)
     (view : nodes_of arena rs ≡ a) (l : Links) (first : ℕ)
     (read : first ≡ get_or heads 0 first) (last : first ≡ no_record) (some : 0 < length list) (n : ℕ)
     (size : n ≡ length rs) where
   -- what would hold with a free record
-  held : HoldsNodes new (rs ++ blank ∷ []) (links ++ l ∷ []) (set heads 0 n) places (flags ++ false ∷ [])
+  held : HoldsNodes chained new (rs ++ blank ∷ []) (links ++ l ∷ []) (set heads 0 n) places (flags ++ false ∷ [])
   held =
       pushed_kept arena new rs links heads places flags k well list start is at fresh keeps a view (rs ++ blank ∷ [])
       (links ++ l ∷ []) blank l refl refl refl refl first read last some n size
@@ -150,11 +152,11 @@ module _ (arena new : Arena) (rs : List Record) (links : List Links) (heads plac
         → length flags' ≡ length (flags ++ false ∷ [])
         → ((m : ℕ) → Waits (flags ++ false ∷ []) m → Waits flags' m) → Waits flags' n → kept_hash ends n ≡ hash
         → ((m : ℕ) → m ≢ n → kept_hash ends m ≡ kept_hash (links ++ l ∷ []) m)
-        → HoldsNodes new ts ends (set heads head n) places' flags'
+        → HoldsNodes chained new ts ends (set heads head n) places' flags'
     appended_kept b head bucket fits head_is next_is ends places' flags' list_at at_is listed same_links sizes fsize
         wait waits kept hashes =
-        subst (λ x. HoldsNodes new x ends (set heads head n) places' flags') whole
-        (subst (λ h. HoldsNodes new (set (rs ++ blank ∷ []) n (made place start (length list) next)) ends
+        subst (λ x. HoldsNodes chained new x ends (set heads head n) places' flags') whole
+        (subst (λ h. HoldsNodes chained new (set (rs ++ blank ∷ []) n (made place start (length list) next)) ends
         (set h head n) places' flags') back
         (kept_steps new (rs ++ blank ∷ []) (links ++ l ∷ []) (set heads 0 n) places (flags ++ false ∷ []) held n here
         number

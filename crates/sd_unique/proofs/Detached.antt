@@ -16,10 +16,11 @@ use Rattle.sd_unique.specs.Relinking.{with_key, exchanged}
 use Rattle.sd_unique.specs.Record.{if_linked, if_detached, if_node, IsNode, without_run, key_of, linked_key}
 use Rattle.sd_unique.specs.Record.{detached_key, uses_of_record, mark_of_record, loose_of, counts_of}
 use Rattle.sd_unique.specs.Record.{nodes_of, AreRecordsStored}
-use Rattle.sd_unique.specs.Chains.{next_of, chain_by, list_by, chain_under, list_under}
+use Rattle.sd_unique.specs.Chains.{next_of, chain_in, list_by, under_by, list_under}
 use Rattle.sd_unique.specs.Chains.{bucket_of, no_record, HoldsNodes}
 use Rattle.sd_unique.proofs.Changed.{set_which, read_same, stored_set}
 use Rattle.sd_unique.proofs.Filed.{filed_same, both_same}
+use Rattle.sd_unique.proofs.FirstChain.{detached_in}
 use Rattle.sd_unique.proofs.Loose.{Map, removes, insert_removed, loose_same, loose_split, loose_there}
 use Rattle.sd_unique.proofs.Loose.{loose_untaken, loose_live}
 use Rattle.sd_unique.proofs.Picked.{picked_set, picked_same}
@@ -79,11 +80,14 @@ loose_exchanged live rs n r t l inside there node new differ had =
 
 module _ (arena : Arena) (rs : List Record) (n : ℕ) (r t : Record) (there : slice_get rs n ≡ Some r)
     (inside : n < length rs) (was : r.state ≡ Detached) (is : t.state ≡ Detached) where
-  chain_kept : (count i : ℕ) → chain_under arena count (set rs n t) i ≡ chain_under arena count rs i
-  chain_kept count i =
-      read_same rs n r t there (λ (x : Record). chain_by x.state (bucket_of (key_of arena x) count))
-      (ap (λ s. chain_by s (bucket_of (key_of arena t) count)) is
-      ∙ sym (ap (λ s. chain_by s (bucket_of (key_of arena r) count)) was)) i
+  chain_kept : (chained : Bool) (count i : ℕ)
+      → under_by (chain_in chained) arena count (set rs n t) i ≡ under_by (chain_in chained) arena count rs i
+  chain_kept chained count i =
+      read_same rs n r t there (λ (x : Record). chain_in chained x.state (bucket_of (key_of arena x) count))
+      (ap (λ s. chain_in chained s (bucket_of (key_of arena t) count)) is
+      ∙ detached_in chained (bucket_of (key_of arena t) count)
+      ∙ sym (ap (λ s. chain_in chained s (bucket_of (key_of arena r) count)) was
+      ∙ detached_in chained (bucket_of (key_of arena r) count))) i
 
   list_kept : (i : ℕ) → list_under (set rs n t) i ≡ list_under rs i
   list_kept i =
@@ -101,11 +105,11 @@ module _ (arena : Arena) (rs : List Record) (n : ℕ) (r t : Record) (there : sl
       stored_set arena rs n r t there (λ node. live) (λ i x ne e nx nt. apart i x ne e nx)
       (λ i x ne e nx nt same. not_linked t.state is nt) st
 
-  pub kept_detached : (links : List Links) (heads places : List ℕ) (flags : List Bool)
+  pub kept_detached : {chained : Bool} (links : List Links) (heads places : List ℕ) (flags : List Bool)
       → t.next ≡ r.next → r ≡ get_or rs n r → AreRecordsStored arena (set rs n t)
-      → HoldsNodes arena rs links heads places flags
-      → HoldsNodes arena (set rs n t) links heads places flags
-  kept_detached links heads places flags next read st k =
+      → HoldsNodes chained arena rs links heads places flags
+      → HoldsNodes chained arena (set rs n t) links heads places flags
+  kept_detached {chained} links heads places flags next read st k =
       record {
         stored = st;
         linked_all = k.linked_all ∙ sym (length-set rs n t);
@@ -113,7 +117,7 @@ module _ (arena : Arena) (rs : List Record) (n : ℕ) (r t : Record) (there : sl
         at_least_one = k.at_least_one;
         places_all = k.places_all;
         in_chains = filed_same _ _ no_record _ _ _ _ (λ b i e. links_kept next read i) (λ b. refl)
-            (chain_kept (length heads - 1)) k.in_chains;
+            (chain_kept chained (length heads - 1)) k.in_chains;
         in_lists = λ some. both_same _ _ _ _ no_record _ _ _ _ (λ b i e. refl) (λ b i e. refl) (λ b. refl) list_kept
             (k.in_lists some);
         hashed = λ i x e linked. by_cases

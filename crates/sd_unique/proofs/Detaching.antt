@@ -13,7 +13,7 @@ use Rattle.sd_unique.specs.declared.record.Links.{Links}
 use Rattle.sd_unique.specs.declared.record.RecordState.TheVariants.{Linked, Detached}
 use Rattle.sd_unique.specs.Filed.{IsFiled, unfiled, filed_at}
 use Rattle.sd_unique.specs.Record.{key_of, nodes_of}
-use Rattle.sd_unique.specs.Chains.{next_of, chain_by, list_by, chain_under, list_under, bucket_of, head_of}
+use Rattle.sd_unique.specs.Chains.{next_of, chain_in, list_by, under_by, list_under, bucket_of, heads_in, head_of}
 use Rattle.sd_unique.specs.Chains.{no_record, hash_of, kept_hash, HoldsNodes, KeepsRecords, AreListed}
 use Rattle.sd_unique.specs.Relinking.{unlinked}
 use Rattle.sd_unique.proofs.Changed.{set_which}
@@ -23,6 +23,7 @@ use Rattle.sd_unique.proofs.Moved.{stored_unlinked, nodes_unlinked, not_both}
 use Rattle.sd_unique.proofs.Numbered.{linked_there, linked_is}
 use Rattle.sd_unique.proofs.Relinked.{nodes_kept, stored_kept}
 use Rattle.sd_unique.proofs.Reading.{link_same}
+use Rattle.sd_unique.proofs.FirstChain.{detached_in}
 use Rattle.sd_unique.proofs.Standing.{unchained, listed_at}
 
 -- The chain and the lists were changed, then the state: what holds of the fields is kept, and the node is detached.
@@ -40,15 +41,18 @@ module _ (arena : Arena) (rs mid : List Record) (n : ℕ) (m t : Record) (kept :
   key_back : (r x : Record) → x.place ≡ r.place → x.start ≡ r.start → key_of arena r ≡ key_of arena x
   key_back r x p s i = (sym p i, unwrap_or (get arena.live (sym s i)) [])
 
-  pub detached_kept : (links new : List Links) (heads heads' places places' : List ℕ) (flags : List Bool)
+  pub detached_kept : {chained : Bool} (links new : List Links) (heads heads' places places' : List ℕ)
+      (flags : List Bool)
       → IsSome (get (nodes_of arena rs).linked n) → t.next ≡ m.next → length heads' ≡ length heads
       → length places' ≡ length places → length new ≡ length links
-      → IsFiled (next_of mid) no_record (head_of heads') (unfiled n (chain_under arena (length heads - 1) rs))
+      → IsFiled (next_of mid) no_record (head_of (heads_in chained heads'))
+      (unfiled n (under_by (chain_in chained) arena (length heads - 1) rs))
       → AreListed new places' (filed_at n 0 (unfiled n (list_under rs)))
       → ((i : ℕ) → i ≢ n → kept_hash new i ≡ kept_hash links i)
-      → HoldsNodes arena rs links heads places flags → HoldsNodes arena (set mid n t) new heads' places' flags
-  detached_kept links new heads heads' places places' flags was next same_heads same_places same_links chains lists
-      hashes k =
+      → HoldsNodes chained arena rs links heads places flags
+      → HoldsNodes chained arena (set mid n t) new heads' places' flags
+  detached_kept {chained} links new heads heads' places places' flags was next same_heads same_places same_links chains
+      lists hashes k =
       record {
         stored = stored_unlinked arena mid n m t there (slice_get_inside mid n m there) place start size uses mark
             (was_linked was) is (stored_kept rs mid kept arena k.stored);
@@ -56,12 +60,14 @@ module _ (arena : Arena) (rs mid : List Record) (n : ℕ) (m t : Record) (kept :
         flags_all = k.flags_all ∙ sym kept.size ∙ sym (length-set mid n t);
         at_least_one = omega (arith, k.at_least_one, same_heads);
         places_all = λ some. same_places ∙ k.places_all (omega (arith, some, same_places));
-        in_chains = filed_same (next_of mid) (next_of (set mid n t)) no_record (head_of heads') (head_of heads')
-            (unfiled n (chain_under arena (length heads - 1) rs)) (chain_under arena (length heads' - 1) (set mid n t))
+        in_chains = filed_same (next_of mid) (next_of (set mid n t)) no_record (head_of (heads_in chained heads'))
+            (head_of (heads_in chained heads')) (unfiled n (under_by (chain_in chained) arena (length heads - 1) rs))
+            (under_by (chain_in chained) arena (length heads' - 1) (set mid n t))
             (λ b i e. link_same (λ (x : Record). x.next) mid n t m there next i) (λ b. refl)
-            (λ i. ap (λ h. chain_under arena (h - 1) (set mid n t) i) same_heads
-            ∙ unchained arena rs mid n m t kept there (length heads - 1)
-            (ap (λ s. chain_by s (bucket_of (key_of arena t) (length heads - 1))) is) i) chains;
+            (λ i. ap (λ h. under_by (chain_in chained) arena (h - 1) (set mid n t) i) same_heads
+            ∙ unchained arena rs mid n m t kept there (chain_in chained) (length heads - 1)
+            (ap (λ s. chain_in chained s (bucket_of (key_of arena t) (length heads - 1))) is
+            ∙ detached_in chained (bucket_of (key_of arena t) (length heads - 1))) i) chains;
         in_lists = λ some. both_same _ _ _ _ no_record _ _ (filed_at n 0 (unfiled n (list_under rs)))
             (list_under (set mid n t)) (λ b i e. refl) (λ b i e. refl) (λ b. refl)
             (listed_at arena rs mid n m t kept there 0 (ap (λ s. list_by s (bit_and t.place 2047)) is)) (lists some);

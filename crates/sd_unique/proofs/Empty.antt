@@ -1,11 +1,11 @@
 -- No records: what holds of the fields holds of them.
-use Rattle.std.proofs.Common.{◌≡◌, ℕ, ◌<◌, ◌^◌, List, [], length, refl, arith}
+use Rattle.std.proofs.Common.{true, ◌≡◌, ℕ, ◌<◌, ◌^◌, List, [], length, refl, arith}
 use Rattle.sd_runs.specs.Arena.{Arena, IsArena}
 use Rattle.sd_unique.specs.Chains.{HoldsNodes, head_of, no_record}
 
 -- with no records, no record at any head and no lists, the fields are in order
 pub kept_nothing : (arena : Arena) (heads : List ℕ) → IsArena arena → arena.bound < 2 ^ 31 → 1 < length heads
-    → ((b : ℕ) → head_of heads b ≡ no_record) → HoldsNodes arena [] [] heads [] []
+    → ((b : ℕ) → head_of heads b ≡ no_record) → HoldsNodes true arena [] [] heads [] []
 kept_nothing arena heads well fits some no_heads =
     record {
       stored = record {

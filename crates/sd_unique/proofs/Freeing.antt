@@ -1,8 +1,8 @@
 -- A detached record becomes a free one.
-use Rattle.std.proofs.Common.{Bool, ◌≡◌, ◌≢◌, ℕ, ◌-◌, ◌<◌, bit_and, List, length, slice_get, Some, refl, sym, ap, subst}
+use Rattle.std.proofs.Common.{Bool, ◌≡◌, ℕ, ◌-◌, ◌<◌, bit_and, List, length, slice_get, Some, refl, sym, ap, subst}
 use Rattle.std.proofs.Common.{[], unwrap_or, ◌∙◌, arith}
 use Rattle.std.proofs.Math.ListN.{set}
-use Rattle.std.proofs.lemmas.List.{length-set, get_or-set_same, get_or-set_other}
+use Rattle.std.proofs.lemmas.List.{length-set}
 use Rattle.std.specs.FinMap.{get}
 use Rattle.sd_runs.specs.Arena.{Arena, IsArena}
 use Rattle.sd_runs.specs.Taking.{given_back}
@@ -11,58 +11,43 @@ use Rattle.sd_unique.specs.declared.record.Record.{Record}
 use Rattle.sd_unique.specs.declared.record.Links.{Links}
 use Rattle.sd_unique.specs.declared.record.RecordState.TheVariants.{Free, Detached}
 use Rattle.sd_unique.specs.Filed.{IsFiled, unfiled}
-use Rattle.sd_unique.specs.Record.{key_of, nodes_of, AreRecordsStored}
-use Rattle.sd_unique.specs.Chains.{next_of, chain_by, list_by, chain_under, list_under, bucket_of, head_of}
+use Rattle.sd_unique.specs.Record.{nodes_of, AreRecordsStored}
+use Rattle.sd_unique.specs.Chains.{next_of, chain_in, list_by, under_by, list_under, heads_in, head_of}
 use Rattle.sd_unique.specs.Chains.{no_record, kept_hash, HoldsNodes, AreListed}
 use Rattle.sd_unique.specs.Relinking.{removed}
 use Rattle.sd_unique.proofs.Changed.{set_which}
 use Rattle.sd_unique.proofs.Cutting.{all_kept}
 use Rattle.sd_unique.proofs.Entries.{slice_get_inside}
-use Rattle.sd_unique.proofs.Filed.{filed_first, both_same}
+use Rattle.sd_unique.proofs.Filed.{both_same}
+use Rattle.sd_unique.proofs.Leaving.{filed_nowhere, freed_first}
 use Rattle.sd_unique.proofs.Moved.{stored_freed, untaken, nodes_removed, free_not_linked}
 use Rattle.sd_unique.proofs.Numbered.{detached_is}
-use Rattle.sd_unique.proofs.Reading.{link_there, link_other}
-use Rattle.sd_unique.proofs.Standing.{chain_here, chain_other, unlisted, is_record, detached_chain}
+use Rattle.sd_unique.proofs.Standing.{unlisted, is_record, detached_chain}
 use Rattle.sd_unique.proofs.Taken.{kept_arena, given_same, given_longer, given_bound}
 
 module _ (arena : Arena) (rs : List Record) (n : ℕ) (r t : Record) (there : slice_get rs n ≡ Some r)
     (was : r.state ≡ Detached) (is : t.state ≡ Free) where
-  -- the record is put first in the chain of the free ones
-  chained : (count : ℕ) (heads : List ℕ) → n ≢ no_record → 0 < length heads → t.next ≡ head_of heads 0
-      → IsFiled (next_of rs) no_record (head_of heads) (chain_under arena count rs)
-      → IsFiled (next_of (set rs n t)) no_record (head_of (set heads 0 n)) (chain_under arena count (set rs n t))
-  chained count heads some inside next f =
-      filed_first (next_of rs) (next_of (set rs n t)) no_record (head_of heads) (head_of (set heads 0 n))
-      (chain_under arena count rs) (chain_under arena count (set rs n t)) 0 n some
-      (detached_chain arena rs n r there was count)
-      (record {
-        after = link_there (λ (x : Record). x.next) rs n t (slice_get_inside rs n r there) ∙ next;
-        kept = λ y c e ne. link_other (λ (x : Record). x.next) rs n t y ne;
-        first = get_or-set_same heads 0 n no_record inside;
-        heads = λ c ne. get_or-set_other heads 0 c n no_record ne;
-        there = chain_here arena rs rs n r t (all_kept rs) there count
-            ∙ ap (λ s. chain_by s (bucket_of (key_of arena t) count)) is;
-        others = λ y ne. chain_other arena rs rs n r t (all_kept rs) there count y ne;
-      })
-      f
-
   -- what holds of the fields is kept, before the run is given back
-  freed_kept : (links new : List Links) (heads places places' : List ℕ) (flags : List Bool) → t.next ≡ head_of heads 0
-      → length places' ≡ length places → length new ≡ length links → AreListed new places' (unfiled n (list_under rs))
-      → ((i : ℕ) → kept_hash new i ≡ kept_hash links i) → AreRecordsStored arena (set rs n t)
-      → HoldsNodes arena rs links heads places flags
-      → HoldsNodes arena (set rs n t) new (set heads 0 n) places' flags
-  freed_kept links new heads places places' flags next same_places same_links lists hashes st k =
+  freed_kept : {chained : Bool} (links new : List Links) (heads places places' : List ℕ) (flags : List Bool)
+      → t.next ≡ head_of heads 0 → length places' ≡ length places → length new ≡ length links
+      → AreListed new places' (unfiled n (list_under rs)) → ((i : ℕ) → kept_hash new i ≡ kept_hash links i)
+      → AreRecordsStored arena (set rs n t)
+      → HoldsNodes chained arena rs links heads places flags
+      → HoldsNodes chained arena (set rs n t) new (set heads 0 n) places' flags
+  freed_kept {chained} links new heads places places' flags next same_places same_links lists hashes st k =
       record {
         stored = st;
         linked_all = same_links ∙ k.linked_all ∙ sym (length-set rs n t);
         flags_all = k.flags_all ∙ sym (length-set rs n t);
         at_least_one = omega (arith, k.at_least_one, length-set heads 0 n);
         places_all = λ some. same_places ∙ k.places_all (omega (arith, some, same_places));
-        in_chains = subst (λ h. IsFiled (next_of (set rs n t)) no_record (head_of (set heads 0 n))
-            (chain_under arena (h - 1) (set rs n t))) (sym (length-set heads 0 n))
-            (chained (length heads - 1) heads (is_record n k.stored (slice_get_inside rs n r there))
-            (omega (arith, k.at_least_one)) next k.in_chains);
+        in_chains = subst (λ h. IsFiled (next_of (set rs n t)) no_record (head_of (heads_in chained (set heads 0 n)))
+            (under_by (chain_in chained) arena (h - 1) (set rs n t))) (sym (length-set heads 0 n))
+            (freed_first arena rs rs n r t (all_kept rs) there is chained (length heads - 1) heads
+            (is_record n k.stored (slice_get_inside rs n r there)) (omega (arith, k.at_least_one)) next
+            (filed_nowhere (next_of rs) (head_of (heads_in chained heads))
+            (under_by (chain_in chained) arena (length heads - 1) rs) n
+            (detached_chain arena rs n r there was chained (length heads - 1)) k.in_chains));
         in_lists = λ some. both_same _ _ _ _ no_record _ _ (unfiled n (list_under rs)) (list_under (set rs n t))
             (λ b i e. refl) (λ b i e. refl) (λ b. refl)
             (unlisted arena rs rs n r t (all_kept rs) there (ap (λ s. list_by s (bit_and t.place 2047)) is))
@@ -84,11 +69,11 @@ module _ (arena : Arena) (rs : List Record) (n : ℕ) (r t : Record) (there : sl
     inside = slice_get_inside rs n r there
 
     -- and after that
-    pub released_kept : (links more : List Links) (heads places places' : List ℕ) (flags : List Bool)
+    pub released_kept : {chained : Bool} (links more : List Links) (heads places places' : List ℕ) (flags : List Bool)
         → t.next ≡ head_of heads 0 → length places' ≡ length places → length more ≡ length links
         → AreListed more places' (unfiled n (list_under rs)) → ((i : ℕ) → kept_hash more i ≡ kept_hash links i)
-        → HoldsNodes arena rs links heads places flags
-        → HoldsNodes new (set rs n t) more (set heads 0 n) places' flags
+        → HoldsNodes chained arena rs links heads places flags
+        → HoldsNodes chained new (set rs n t) more (set heads 0 n) places' flags
     released_kept links more heads places places' flags next same_places same_links lists hashes k =
         let stored = stored_freed arena new rs n r t there inside was is st well gave list size in
         let apart = untaken arena new rs n r t there inside was is st well gave list size in

@@ -20,14 +20,17 @@ mod Empty
 mod Hashed
 mod Relinked
 mod Standing
+mod Leaving
 mod Detaching
 mod Attaching
 mod Freeing
 mod Retired
 mod AtPlace
 mod Idle
+mod Unchained
 mod Whole
 mod Sought
+mod FirstChain
 mod Occupied
 mod Pushed
 mod Appended

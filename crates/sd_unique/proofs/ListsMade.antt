@@ -113,10 +113,11 @@ module _ (rs : List Record) (n : ℕ) (d : Record) (inside : n < length rs) wher
         f
 
 -- what holds of the fields is kept when the lists are made
-pub kept_listed : (arena : Arena) (rs : List Record) (links new : List Links) (heads places places' : List ℕ)
-    (flags : List Bool) → length places' ≡ 2049 → AreInLists new places' (list_under rs) → length new ≡ length links
-    → ((n : ℕ) → kept_hash new n ≡ kept_hash links n) → HoldsNodes arena rs links heads places flags
-    → HoldsNodes arena rs new heads places' flags
+pub kept_listed : {chained : Bool} (arena : Arena) (rs : List Record) (links new : List Links)
+    (heads places places' : List ℕ) (flags : List Bool) → length places' ≡ 2049
+    → AreInLists new places' (list_under rs) → length new ≡ length links
+    → ((n : ℕ) → kept_hash new n ≡ kept_hash links n) → HoldsNodes chained arena rs links heads places flags
+    → HoldsNodes chained arena rs new heads places' flags
 kept_listed arena rs links new heads places places' flags size lists same_links hashes k =
     record {
       stored = k.stored;

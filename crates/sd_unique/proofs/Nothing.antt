@@ -1,5 +1,6 @@
 -- No nodes: what holds of new fields, and the nodes that they stand for.
-use Rattle.std.proofs.Common.{◌≡◌, Bool, ℕ, ◌<◌, ◌^◌, List, [], length, map, replicate, sym, ap, subst, ◌∙◌, arith}
+use Rattle.std.proofs.Common.{◌≡◌, Bool, true, ℕ, ◌<◌, ◌^◌, List, [], length, map, replicate, sym, ap, subst, ◌∙◌}
+use Rattle.std.proofs.Common.{arith}
 use Rattle.std.proofs.lemmas.List.{length-replicate}
 use Rattle.std.specs.FinMap.{empty, from_entries}
 use Rattle.sd_runs.specs.Arena.{Arena, IsArena}
@@ -37,9 +38,9 @@ module _ (arena : Arena) (bound : ℕ) (rs : List Record) (is : arena ≡ empty_
   pub kept_new : (links : List Links) (heads places : List ℕ) (flags : List Bool) (buckets : ℕ)
       → IsArena arena → bound < 2 ^ 31 → links ≡ []
       → heads ≡ replicate buckets no_record → places ≡ [] → flags ≡ [] → 1 < buckets
-      → HoldsNodes arena rs links heads places flags
+      → HoldsNodes true arena rs links heads places flags
   kept_new links heads places flags buckets well fits no_links no_chains no_lists no_flags some =
-      subst (HoldsNodes arena rs links heads places) (sym no_flags)
+      subst (HoldsNodes true arena rs links heads places) (sym no_flags)
       (kept_tables arena [] rs links (replicate buckets no_record) heads places [] none no_chains
       (kept_fields arena [] [] links (replicate buckets no_record) [] places []
       no_links no_lists

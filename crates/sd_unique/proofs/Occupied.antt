@@ -1,6 +1,6 @@
 -- A free record becomes that of a linked node over a loose run.
-use Rattle.std.proofs.Common.{Bool, ◌≡◌, ◌≢◌, ◌-◌, bit_and, ℕ, suc, ◌<◌, List, [], length, get_or, slice_get}
-use Rattle.std.proofs.Common.{Bool, Option, Some, None, unwrap_or, refl, sym, ap, subst, ◌∙◌, arith}
+use Rattle.std.proofs.Common.{◌≡◌, ◌≢◌, ◌-◌, bit_and, ℕ, suc, ◌<◌, List, [], length, get_or, slice_get}
+use Rattle.std.proofs.Common.{Bool, true, false, Option, Some, None, unwrap_or, refl, sym, ap, subst, ◌∙◌, arith}
 use Rattle.std.proofs.Math.ListN.{set}
 use Rattle.std.proofs.lemmas.Bool.{cases_eq}
 use Rattle.std.proofs.lemmas.List.{length-set, get_or-set_same, get_or-set_other}
@@ -19,15 +19,16 @@ use Rattle.sd_unique.specs.Relinking.{IsAbsent, IsLoose}
 use Rattle.sd_unique.specs.Record.{if_linked, if_detached, if_node, IsNode, key_of, linked_key}
 use Rattle.sd_unique.specs.Record.{detached_key, uses_of_record, mark_of_record, loose_of, counts_of}
 use Rattle.sd_unique.specs.Record.{nodes_of, AreRecordsStored}
-use Rattle.sd_unique.specs.Filed.{IsFiled, unfiled, filed_at}
-use Rattle.sd_unique.specs.Chains.{next_of, head_of, chain_by, list_by, chain_under, list_under}
-use Rattle.sd_unique.specs.Chains.{bucket_of, no_record, HoldsNodes, AreListed, hash_of, kept_hash}
+use Rattle.sd_unique.specs.Filed.{IsChain, IsFiled, unfiled, filed_at}
+use Rattle.sd_unique.specs.Chains.{next_of, head_of, heads_in, chain_by, free_by, chain_in, list_by, under_by}
+use Rattle.sd_unique.specs.Chains.{list_under, bucket_of, no_record, HoldsNodes, AreListed, hash_of, kept_hash}
 use Rattle.sd_unique.proofs.Both.{unfiled_here, unfiled_other, filed_here, filed_other}
 use Rattle.sd_unique.proofs.Changed.{set_which, stored_set}
 use Rattle.sd_unique.proofs.Cut.{filed_cut_first}
 use Rattle.sd_unique.proofs.Detached.{set_twice, slice_set_same}
 use Rattle.sd_unique.proofs.Entries.{slice_get_at, slice_get_inside, slice_get_set, slice_get_set_other}
-use Rattle.sd_unique.proofs.Filed.{filed_first, both_same}
+use Rattle.sd_unique.proofs.Filed.{filed_first, filed_same, both_same}
+use Rattle.sd_unique.proofs.FirstChain.{free_in, in_first, head_first, head_set, head_kept, no_others}
 use Rattle.sd_unique.proofs.Loose.{loose_same, loose_split, loose_live, loose_untaken}
 use Rattle.sd_unique.proofs.Numbered.{linked_at, key_at_is, node_key, node_some, picked_from}
 use Rattle.sd_unique.proofs.Picked.{picked_set, picked_same}
@@ -35,11 +36,6 @@ use Rattle.sd_unique.proofs.Reading.{link_there, link_other, head_has, chain_emp
 
 linked_node : (s : RecordState) → s ≡ Linked → IsNode s
 linked_node s e = subst IsNode (sym e) tt
-
-in_first : (s : RecordState) (b : ℕ) → chain_by s b ≡ Some 0 → s ≡ Free
-in_first Free b e = refl
-in_first Linked b e = let no : suc b ≡ 0 = cc in absurd (omega arith)
-in_first Detached b e = cc
 
 module _ (arena : Arena) (rs : List Record) (n : ℕ) (r t : Record) (there : slice_get rs n ≡ Some r)
     (was : r.state ≡ Free) (is : t.state ≡ Linked) where
@@ -64,18 +60,40 @@ module _ (arena : Arena) (rs : List Record) (n : ℕ) (r t : Record) (there : sl
       ap (option_and_then (λ x. list_by x.state (bit_and x.place 2047))) there
       ∙ ap (λ s. list_by s (bit_and r.place 2047)) was
 
-  -- the chains after the first free record was put into a bucket
-  pub chains_occupied : (heads : List ℕ) (b count : ℕ) → suc b < length heads → head_of heads 0 ≡ n
+  -- the first free record is taken out of its chain
+  chains_cut : (chained : Bool) (heads : List ℕ) (count : ℕ) → 0 < length heads → head_of heads 0 ≡ n
+      → IsFiled (next_of rs) no_record (head_of (heads_in chained heads)) (under_by (chain_in chained) arena count rs)
+      → IsFiled (next_of rs) no_record (head_of (heads_in chained (set heads 0 (next_of rs n))))
+      (unfiled n (under_by (chain_in chained) arena count rs))
+  chains_cut chained heads count some first f =
+      filed_cut_first (next_of rs) no_record (head_of (heads_in chained heads))
+      (under_by (chain_in chained) arena count rs) n 0
+      (ap (option_and_then (λ x. chain_in chained x.state (bucket_of (key_of arena x) count))) there
+      ∙ ap (λ s. chain_in chained s (bucket_of (key_of arena r) count)) was
+      ∙ free_in chained (bucket_of (key_of arena r) count))
+      f (next_of rs) (head_of (heads_in chained (set heads 0 (next_of rs n)))) (head_first chained heads ∙ first)
+      (head_set chained heads (next_of rs n) some) (λ y. refl) (head_kept chained heads (next_of rs n))
+
+  -- the others stand where they stood
+  under_cut : (by : RecordState → ℕ → Option ℕ) (count y : ℕ) → y ≢ n
+      → under_by by arena count (set rs n t) y ≡ unfiled n (under_by by arena count rs) y
+  under_cut by count y ne =
+      ap (option_and_then (λ x. by x.state (bucket_of (key_of arena x) count))) (slice_get_set_other rs n t y ne)
+      ∙ sym (unfiled_other n (under_by by arena count rs) y ne)
+
+  -- the chains after the first free record was put into a bucket, or into none where those of the buckets do not stand
+  pub chains_occupied : (chained : Bool) (heads : List ℕ) (b count : ℕ) → suc b < length heads → head_of heads 0 ≡ n
       → n ≢ no_record → b ≡ bucket_of (key_of arena t) count
       → t.next ≡ head_of (set heads 0 (next_of rs n)) (suc b)
-      → IsFiled (next_of rs) no_record (head_of heads) (chain_under arena count rs)
-      → IsFiled (next_of (set rs n t)) no_record (head_of (set (set heads 0 (next_of rs n)) (suc b) n))
-      (chain_under arena count (set rs n t))
-  chains_occupied heads b count fits first some bucket next f =
+      → IsFiled (next_of rs) no_record (head_of (heads_in chained heads)) (under_by (chain_in chained) arena count rs)
+      → IsFiled (next_of (set rs n t)) no_record
+      (head_of (heads_in chained (set (set heads 0 (next_of rs n)) (suc b) n)))
+      (under_by (chain_in chained) arena count (set rs n t))
+  chains_occupied true heads b count fits first some bucket next f =
       filed_first (next_of rs) (next_of (set rs n t)) no_record (head_of (set heads 0 (next_of rs n)))
-      (head_of (set (set heads 0 (next_of rs n)) (suc b) n)) (unfiled n (chain_under arena count rs))
-      (chain_under arena count (set rs n t)) (suc b) n some
-      (unfiled_here n (chain_under arena count rs) n refl)
+      (head_of (set (set heads 0 (next_of rs n)) (suc b) n)) (unfiled n (under_by chain_by arena count rs))
+      (under_by chain_by arena count (set rs n t)) (suc b) n some
+      (unfiled_here n (under_by chain_by arena count rs) n refl)
       (record {
         after = link_there (λ (x : Record). x.next) rs n t inside ∙ next;
         kept = λ y c e ne. link_other (λ (x : Record). x.next) rs n t y ne;
@@ -85,18 +103,34 @@ module _ (arena : Arena) (rs : List Record) (n : ℕ) (r t : Record) (there : sl
         there = ap (option_and_then (λ x. chain_by x.state (bucket_of (key_of arena x) count)))
             (slice_get_set rs n t inside)
             ∙ ap (λ s. chain_by s (bucket_of (key_of arena t) count)) is ∙ ap (λ k. Some (suc k)) (sym bucket);
-        others = λ y ne. ap (option_and_then (λ x. chain_by x.state (bucket_of (key_of arena x) count)))
-            (slice_get_set_other rs n t y ne) ∙ sym (unfiled_other n (chain_under arena count rs) y ne);
+        others = under_cut chain_by count;
       })
-      (filed_cut_first (next_of rs) no_record (head_of heads) (chain_under arena count rs) n 0 free_there f
-      (next_of rs) (head_of (set heads 0 (next_of rs n))) first
-      (get_or-set_same heads 0 (next_of rs n) no_record (omega arith)) (λ y. refl)
-      (λ c ne. get_or-set_other heads 0 c (next_of rs n) no_record ne))
+      (chains_cut true heads count (omega (arith, fits)) first f)
+  chains_occupied false heads b count fits first some bucket next f =
+      filed_same (next_of rs) (next_of (set rs n t)) no_record (head_of (heads_in false (set heads 0 (next_of rs n))))
+      (head_of (heads_in false (set (set heads 0 (next_of rs n)) (suc b) n)))
+      (unfiled n (under_by free_by arena count rs)) (under_by free_by arena count (set rs n t))
+      (λ c y e. link_other (λ (x : Record). x.next) rs n t y (λ same. not_there y c same e))
+      (λ c. by_cases
+      (λ e. ap (head_of (heads_in false (set (set heads 0 (next_of rs n)) (suc b) n))) e
+      ∙ head_first false (set (set heads 0 (next_of rs n)) (suc b) n)
+      ∙ get_or-set_other (set heads 0 (next_of rs n)) (suc b) 0 n no_record (λ z. omega arith)
+      ∙ sym (ap (head_of (heads_in false (set heads 0 (next_of rs n)))) e
+      ∙ head_first false (set heads 0 (next_of rs n))))
+      (λ ne. no_others (set (set heads 0 (next_of rs n)) (suc b) n) c ne
+      ∙ sym (no_others (set heads 0 (next_of rs n)) c ne))
+      (cases_eq c 0))
+      (λ y. by_cases
+      (λ e. ap (under_by free_by arena count (set rs n t)) e
+      ∙ ap (option_and_then (λ x. free_by x.state (bucket_of (key_of arena x) count))) (slice_get_set rs n t inside)
+      ∙ ap (λ s. free_by s (bucket_of (key_of arena t) count)) is
+      ∙ sym (unfiled_here n (under_by free_by arena count rs) y e))
+      (under_cut free_by count y)
+      (cases_eq y n))
+      (chains_cut false heads count (omega (arith, fits)) first f)
     where
-      free_there : chain_under arena count rs n ≡ Some 0
-      free_there =
-          ap (option_and_then (λ x. chain_by x.state (bucket_of (key_of arena x) count))) there
-          ∙ ap (λ s. chain_by s (bucket_of (key_of arena r) count)) was
+      not_there : (y c : ℕ) → y ≡ n → unfiled n (under_by free_by arena count rs) y ≡ Some c → ⊥
+      not_there y c same e = let no = sym (unfiled_here n (under_by free_by arena count rs) y same) ∙ e in cc
 
   module _ (list : List (ℕ × ℕ)) (run : get (nodes_of arena rs).loose t.start ≡ Some list)
       (size : t.length ≡ length list) where
@@ -142,25 +176,26 @@ module _ (arena : Arena) (rs : List Record) (n : ℕ) (r t : Record) (there : sl
         }
 
     -- what holds of the fields is kept
-    pub kept_occupied : (links new : List Links) (heads heads' places places' : List ℕ)
+    pub kept_occupied : {chained : Bool} (links new : List Links) (heads heads' places places' : List ℕ)
         (flags flags' : List Bool) → IsAbsent (nodes_of arena rs) (t.place, list)
         → length new ≡ length links → length heads' ≡ length heads → length places' ≡ length places
-        → IsFiled (next_of (set rs n t)) no_record (head_of heads')
-        (chain_under arena (length heads - 1) (set rs n t))
+        → IsFiled (next_of (set rs n t)) no_record (head_of (heads_in chained heads'))
+        (under_by (chain_in chained) arena (length heads - 1) (set rs n t))
         → AreListed new places' (list_under (set rs n t)) → length flags' ≡ length flags
         → ((m : ℕ) → Waits flags m → Waits flags' m) → Waits flags' n
         → kept_hash new n ≡ hash_of (t.place, list) → ((m : ℕ) → m ≢ n → kept_hash new m ≡ kept_hash links m)
-        → HoldsNodes arena rs links heads places flags → HoldsNodes arena (set rs n t) new heads' places' flags'
-    kept_occupied links new heads heads' places places' flags flags' absent size hsize psize chains lists fsize wait
-        here hash hashes k =
+        → HoldsNodes chained arena rs links heads places flags
+        → HoldsNodes chained arena (set rs n t) new heads' places' flags'
+    kept_occupied {chained} links new heads heads' places places' flags flags' absent size hsize psize chains lists
+        fsize wait here hash hashes k =
         record {
           stored = stored_occupied absent k.stored;
           linked_all = size ∙ k.linked_all ∙ sym (length-set rs n t);
           flags_all = fsize ∙ k.flags_all ∙ sym (length-set rs n t);
           at_least_one = omega (arith, hsize, k.at_least_one);
           places_all = λ some. psize ∙ k.places_all (omega (arith, some, psize));
-          in_chains = subst (λ s. IsFiled (next_of (set rs n t)) no_record (head_of heads')
-              (chain_under arena (s - 1) (set rs n t))) (sym hsize) chains;
+          in_chains = subst (λ s. IsFiled (next_of (set rs n t)) no_record (head_of (heads_in chained heads'))
+              (under_by (chain_in chained) arena (s - 1) (set rs n t))) (sym hsize) chains;
           in_lists = lists;
           hashed = λ i x e linked. by_cases
               (λ h. ap (kept_hash new) h.0 ∙ hash ∙ ap hash_of (sym key_new)
@@ -179,16 +214,20 @@ pub lists_by : (links : List Links) (places : List ℕ) (under under' : ℕ → 
 lists_by links places under under' same f =
     λ some. both_same _ _ _ _ no_record _ _ _ _ (λ b i e. refl) (λ b i e. refl) (λ b. refl) same (f some)
 
-module _ (arena : Arena) (rs : List Record) (heads : List ℕ) (count : ℕ)
-    (f : IsFiled (next_of rs) no_record (head_of heads) (chain_under arena count rs)) where
+module _ (chained : Bool) (arena : Arena) (rs : List Record) (heads : List ℕ) (count : ℕ)
+    (f : IsFiled (next_of rs) no_record (head_of (heads_in chained heads))
+    (under_by (chain_in chained) arena count rs)) where
+  first_chain : IsChain (next_of rs) no_record (head_of heads 0) (f.lists 0)
+  first_chain = subst (λ at. IsChain (next_of rs) no_record at (f.lists 0)) (head_first chained heads) (f.chained 0)
+
   -- the first number of the first chain is that of a free record
   pub first_free : head_of heads 0 ≢ no_record
       → (r : Record) × (slice_get rs (head_of heads 0) ≡ Some r) × (r.state ≡ Free)
   first_free ne =
-      let r = picked_from (λ (x : Record). chain_by x.state (bucket_of (key_of arena x) count))
+      let r = picked_from (λ (x : Record). chain_in chained x.state (bucket_of (key_of arena x) count))
       (slice_get rs (head_of heads 0)) 0
-      (f.only 0 (head_of heads 0) (head_has (next_of rs) no_record (head_of heads 0) (f.lists 0) (f.chained 0) ne)) in
-      (r.0, r.1, in_first (r.0).state (bucket_of (key_of arena r.0) count) r.2)
+      (f.only 0 (head_of heads 0) (head_has (next_of rs) no_record (head_of heads 0) (f.lists 0) first_chain ne)) in
+      (r.0, r.1, in_first chained (r.0).state (bucket_of (key_of arena r.0) count) r.2)
 
   pub free_first : head_of heads 0 ≢ no_record → IsFreeNumber (nodes_of arena rs) (head_of heads 0)
   free_first ne =
@@ -201,9 +240,10 @@ module _ (arena : Arena) (rs : List Record) (heads : List ℕ) (count : ℕ)
   -- where the first chain is empty, each record is that of a node
   pub none_free : head_of heads 0 ≡ no_record → (m : ℕ) (r : Record) → slice_get rs m ≡ Some r → IsNode r.state
   none_free e m r there =
-      by_state r.state (λ free. chain_empty (next_of rs) no_record (head_of heads 0) m (f.lists 0) (f.chained 0) e
-      (f.filed 0 m (ap (option_and_then (λ x. chain_by x.state (bucket_of (key_of arena x) count))) there
-      ∙ ap (λ s. chain_by s (bucket_of (key_of arena r) count)) free)))
+      by_state r.state (λ free. chain_empty (next_of rs) no_record (head_of heads 0) m (f.lists 0) first_chain e
+      (f.filed 0 m (ap (option_and_then (λ x. chain_in chained x.state (bucket_of (key_of arena x) count))) there
+      ∙ ap (λ s. chain_in chained s (bucket_of (key_of arena r) count)) free
+      ∙ free_in chained (bucket_of (key_of arena r) count))))
     where
       by_state : (s : RecordState) → ¬ (s ≡ Free) → IsNode s
       by_state Free h = absurd (h refl)
@@ -224,27 +264,29 @@ module _ (arena : Arena) (rs : List Record) (heads : List ℕ) (count : ℕ)
       let node = all_nodes e m free.0 in let no = subst IsSome free.1 node in cc
 
 -- the fields are the same, each by its equation
-pub kept_fields : (arena : Arena) (rs : List Record) (links links' : List Links) (heads places places' : List ℕ)
-    (flags : List Bool) → links' ≡ links → places' ≡ places → HoldsNodes arena rs links heads places flags
-    → HoldsNodes arena rs links' heads places' flags
-kept_fields arena rs links links' heads places places' flags e f k =
-    subst (λ l. HoldsNodes arena rs l heads places' flags) (sym e)
-    (subst (λ p. HoldsNodes arena rs links heads p flags) (sym f) k)
+pub kept_fields : {chained : Bool} (arena : Arena) (rs : List Record) (links links' : List Links)
+    (heads places places' : List ℕ) (flags : List Bool) → links' ≡ links → places' ≡ places
+    → HoldsNodes chained arena rs links heads places flags
+    → HoldsNodes chained arena rs links' heads places' flags
+kept_fields {chained} arena rs links links' heads places places' flags e f k =
+    subst (λ l. HoldsNodes chained arena rs l heads places' flags) (sym e)
+    (subst (λ p. HoldsNodes chained arena rs links heads p flags) (sym f) k)
 
-module _ (arena : Arena) (rs : List Record) (links : List Links) (heads places : List ℕ) (flags : List Bool)
-    (k : HoldsNodes arena rs links heads places flags) (first : ℕ) (read : first ≡ get_or heads 0 first)
+module _ {chained : Bool} (arena : Arena) (rs : List Record) (links : List Links) (heads places : List ℕ)
+    (flags : List Bool) (k : HoldsNodes chained arena rs links heads places flags) (first : ℕ)
+    (read : first ≡ get_or heads 0 first)
     (free : (m : ℕ) × IsFreeNumber (nodes_of arena rs) m) where
   first_is : head_of heads 0 ≡ first
   first_is = get_or_any heads 0 no_record first (omega (arith, k.at_least_one)) ∙ sym read
 
   pub first_some : first ≢ no_record
-  first_some e = some_free arena rs heads (length heads - 1) k.in_chains free.0 free.1 (first_is ∙ e)
+  first_some e = some_free chained arena rs heads (length heads - 1) k.in_chains free.0 free.1 (first_is ∙ e)
 
   -- the first free number has a free record
   pub first_there : (r : Record) × (slice_get rs first ≡ Some r) × (r.state ≡ Free)
   first_there =
       subst (λ n. (r : Record) × (slice_get rs n ≡ Some r) × (r.state ≡ Free)) first_is
-      (first_free arena rs heads (length heads - 1) k.in_chains (λ e. first_some (sym first_is ∙ e)))
+      (first_free chained arena rs heads (length heads - 1) k.in_chains (λ e. first_some (sym first_is ∙ e)))
 
   pub first_inside : first < length rs
   first_inside = let r = first_there in slice_get_inside rs first r.0 r.1
@@ -293,7 +335,7 @@ module _ (arena : Arena) (rs : List Record) (links : List Links) (heads places :
         → ((m : ℕ) → Waits flags m → Waits flags' m) → Waits flags' first
         → kept_hash new first ≡ hash_of (t.place, list)
         → ((m : ℕ) → m ≢ first → kept_hash new m ≡ kept_hash links m)
-        → HoldsNodes arena (set rs first t) new (set (set heads 0 next) head first) places' flags'
+        → HoldsNodes chained arena (set rs first t) new (set (set heads 0 next) head first) places' flags'
     kept_steps next b head next_is bucket fits head_is t_next new places' flags' at at_is listed same_links size fsize
         wait here hash hashes =
         let r = first_there in
@@ -302,12 +344,14 @@ module _ (arena : Arena) (rs : List Record) (links : List Links) (heads places :
         kept_occupied arena rs first r.0 t r.1 r.2 linked list run.is (sym run.counted) links new heads
         (set (set heads 0 next) head first) places places' flags flags' absent same_links
         (length-set (set heads 0 next) head first ∙ length-set heads 0 next) size
-        (subst (λ h. IsFiled (next_of (set rs first t)) no_record (head_of (set (set heads 0 next) h first))
-        (chain_under arena (length heads - 1) (set rs first t))) (sym head_is)
-        (subst (λ x. IsFiled (next_of (set rs first t)) no_record (head_of (set (set heads 0 x) (suc b) first))
-        (chain_under arena (length heads - 1) (set rs first t))) (sym next_is)
-        (chains_occupied arena rs first r.0 t r.1 r.2 linked heads b (length heads - 1) (omega (arith, fits)) first_is
-        first_some (bucket ∙ ap (λ y. bucket_of y (length heads - 1)) (sym key))
+        (subst (λ h. IsFiled (next_of (set rs first t)) no_record
+        (head_of (heads_in chained (set (set heads 0 next) h first)))
+        (under_by (chain_in chained) arena (length heads - 1) (set rs first t))) (sym head_is)
+        (subst (λ x. IsFiled (next_of (set rs first t)) no_record
+        (head_of (heads_in chained (set (set heads 0 x) (suc b) first)))
+        (under_by (chain_in chained) arena (length heads - 1) (set rs first t))) (sym next_is)
+        (chains_occupied arena rs first r.0 t r.1 r.2 linked chained heads b (length heads - 1)
+        (omega (arith, fits)) first_is first_some (bucket ∙ ap (λ y. bucket_of y (length heads - 1)) (sym key))
         (t_next ∙ get_or_any (set heads 0 next) head t.next no_record
         (omega (arith, fits, head_is, length-set heads 0 next))
         ∙ ap (head_of (set heads 0 next)) head_is ∙ ap (λ x. head_of (set heads 0 x) (suc b)) next_is)

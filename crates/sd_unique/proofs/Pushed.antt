@@ -1,11 +1,11 @@
 -- A free record is put behind the others, and the numbers and nodes that come of taking it.
-use Rattle.std.proofs.Common.{◌≡◌, ◌≢◌, ◌-◌, ◌⊎◌, inl, inr, bit_and, ℕ, suc, zero, ◌+◌, ◌<◌, ◌≤◌, ◌^◌, max, Bool}
-use Rattle.std.proofs.Common.{false}
+use Rattle.std.proofs.Common.{◌≡◌, ◌≢◌, ◌-◌, ◌⊎◌, inl, inr, bit_and, ℕ, suc, zero, ◌+◌, ◌<◌, ◌≤◌, ◌^◌, max}
+use Rattle.std.proofs.Common.{Bool, false}
 use Rattle.std.proofs.Common.{List, [], ◌∷◌, ◌++◌, length, map, get_or, slice_get, Option, Some, None}
 use Rattle.std.proofs.Common.{refl, sym, ap, subst, ◌∙◌, arith}
 use Rattle.std.proofs.Math.ListN.{set}
 use Rattle.std.proofs.lemmas.Bool.{cases_eq}
-use Rattle.std.proofs.lemmas.List.{length-set, length_push, get_or-set_same, get_or-set_other}
+use Rattle.std.proofs.lemmas.List.{length-set, length_push}
 use Rattle.std.proofs.lemmas.List.Sums.{sum_by-cons}
 use Rattle.std.specs.List.{sum_by}
 use Rattle.std.specs.Option.{option_and_then, IsSome}
@@ -27,10 +27,11 @@ use Rattle.sd_unique.specs.Record.{linked_key}
 use Rattle.sd_unique.specs.Record.{detached_key, uses_of_record, mark_of_record, loose_of, counts_of}
 use Rattle.sd_unique.specs.Record.{nodes_of, AreRecordsStored}
 use Rattle.sd_unique.specs.Filed.{IsFiled}
-use Rattle.sd_unique.specs.Chains.{next_of, head_of, chain_by, list_by, chain_under, list_under}
+use Rattle.sd_unique.specs.Chains.{next_of, head_of, heads_in, chain_in, list_by, under_by, list_under}
 use Rattle.sd_unique.specs.Chains.{bucket_of, hash_of, no_record, HoldsNodes}
 use Rattle.sd_unique.proofs.Entries.{slice_get_inside, slice_get_push, slice_get_before}
 use Rattle.sd_unique.proofs.Filed.{filed_first, both_same}
+use Rattle.sd_unique.proofs.FirstChain.{free_in, head_first, head_set, head_kept}
 use Rattle.sd_unique.proofs.Loose.{loose_none, loose_push, length_in, total_remove, total_loose, remove_insert}
 use Rattle.sd_unique.proofs.Entries.{option_map_some}
 use Rattle.sd_unique.proofs.Numbered.{some_length, length_there, picked_from, key_at_is, node_key}
@@ -119,41 +120,48 @@ module _ (arena : Arena) (rs : List Record) (r : Record) (free : r.state ≡ Fre
         bound_fits = st.bound_fits;
       }
 
-  chains_free : (heads : List ℕ) (count : ℕ) → 0 < length heads → head_of heads 0 ≡ r.next → length rs < 2 ^ 32 - 1
-      → IsFiled (next_of rs) no_record (head_of heads) (chain_under arena count rs)
-      → IsFiled (next_of (rs ++ r ∷ [])) no_record (head_of (set heads 0 (length rs)))
-      (chain_under arena count (rs ++ r ∷ []))
-  chains_free heads count some next fits f =
-      filed_first (next_of rs) (next_of (rs ++ r ∷ [])) no_record (head_of heads) (head_of (set heads 0 (length rs)))
-      (chain_under arena count rs) (chain_under arena count (rs ++ r ∷ [])) 0 (length rs) (λ e. omega arith)
-      (ap (option_and_then (λ x. chain_by x.state (bucket_of (key_of arena x) count))) (no_place rs))
+  chains_free : (chained : Bool) (heads : List ℕ) (count : ℕ) → 0 < length heads → head_of heads 0 ≡ r.next
+      → length rs < 2 ^ 32 - 1
+      → IsFiled (next_of rs) no_record (head_of (heads_in chained heads)) (under_by (chain_in chained) arena count rs)
+      → IsFiled (next_of (rs ++ r ∷ [])) no_record (head_of (heads_in chained (set heads 0 (length rs))))
+      (under_by (chain_in chained) arena count (rs ++ r ∷ []))
+  chains_free chained heads count some next fits f =
+      filed_first (next_of rs) (next_of (rs ++ r ∷ [])) no_record (head_of (heads_in chained heads))
+      (head_of (heads_in chained (set heads 0 (length rs))))
+      (under_by (chain_in chained) arena count rs) (under_by (chain_in chained) arena count (rs ++ r ∷ [])) 0
+      (length rs) (λ e. omega arith)
+      (ap (option_and_then (λ x. chain_in chained x.state (bucket_of (key_of arena x) count))) (no_place rs))
       (record {
-        after = link_last (λ (x : Record). x.next) rs r ∙ sym next;
+        after = link_last (λ (x : Record). x.next) rs r ∙ sym (head_first chained heads ∙ next);
         kept = λ y c e ne. link_before (λ (x : Record). x.next) rs r y ne;
-        first = get_or-set_same heads 0 (length rs) no_record some;
-        heads = λ c ne. get_or-set_other heads 0 c (length rs) no_record ne;
-        there = ap (option_and_then (λ x. chain_by x.state (bucket_of (key_of arena x) count))) (slice_get_push rs r)
-            ∙ ap (λ s. chain_by s (bucket_of (key_of arena r) count)) free;
-        others = λ y ne. ap (option_and_then (λ x. chain_by x.state (bucket_of (key_of arena x) count)))
+        first = head_set chained heads (length rs) some;
+        heads = head_kept chained heads (length rs);
+        there = ap (option_and_then (λ x. chain_in chained x.state (bucket_of (key_of arena x) count)))
+            (slice_get_push rs r)
+            ∙ ap (λ s. chain_in chained s (bucket_of (key_of arena r) count)) free
+            ∙ free_in chained (bucket_of (key_of arena r) count);
+        others = λ y ne. ap (option_and_then (λ x. chain_in chained x.state (bucket_of (key_of arena x) count)))
             (slice_get_before rs r y ne);
       })
       f
 
   -- what holds of the fields is kept when a free record is put behind the others
-  pub kept_free : (links : List Links) (l : Links) (heads places : List ℕ) (flags : List Bool)
+  pub kept_free : {chained : Bool} (links : List Links) (l : Links) (heads places : List ℕ) (flags : List Bool)
       → length rs + 1 ≤ arena.extent → length rs < 2 ^ 32 - 1 → head_of heads 0 ≡ r.next
-      → HoldsNodes arena rs links heads places flags
-      → HoldsNodes arena (rs ++ r ∷ []) (links ++ l ∷ []) (set heads 0 (length rs)) places (flags ++ false ∷ [])
-  kept_free links l heads places flags room fits next k =
+      → HoldsNodes chained arena rs links heads places flags
+      → HoldsNodes chained arena (rs ++ r ∷ []) (links ++ l ∷ []) (set heads 0 (length rs)) places
+      (flags ++ false ∷ [])
+  kept_free {chained} links l heads places flags room fits next k =
       record {
         stored = stored_free room k.stored;
         linked_all = omega (arith, length_push rs r, length_push links l, k.linked_all);
         flags_all = omega (arith, length_push rs r, length_push flags false, k.flags_all);
         at_least_one = omega (arith, length-set heads 0 (length rs), k.at_least_one);
         places_all = k.places_all;
-        in_chains = subst (λ s. IsFiled (next_of (rs ++ r ∷ [])) no_record (head_of (set heads 0 (length rs)))
-            (chain_under arena (s - 1) (rs ++ r ∷ []))) (sym (length-set heads 0 (length rs)))
-            (chains_free heads (length heads - 1) (omega (arith, k.at_least_one)) next fits k.in_chains);
+        in_chains = subst (λ s. IsFiled (next_of (rs ++ r ∷ [])) no_record
+            (head_of (heads_in chained (set heads 0 (length rs))))
+            (under_by (chain_in chained) arena (s - 1) (rs ++ r ∷ []))) (sym (length-set heads 0 (length rs)))
+            (chains_free chained heads (length heads - 1) (omega (arith, k.at_least_one)) next fits k.in_chains);
         in_lists = λ some. both_same _ _ _ _ no_record _ _ _ _
             (λ b i e. link_before (λ (x : Links). x.after) links l i (listed_other i b e))
             (λ b i e. link_before (λ (x : Links). x.before) links l i (listed_other i b e)) (λ b. refl)
@@ -261,12 +269,13 @@ number_new a n all free =
     node : IsSome (key_at a n) → ⊥
     node h = let no = subst IsSome free.1 h in cc
 
-module _ (arena new : Arena) (rs : List Record) (links : List Links) (heads places : List ℕ) (flags : List Bool)
-    (k : HoldsNodes arena rs links heads places flags) (well : IsArena new) (list : List (ℕ × ℕ)) (start : ℕ)
+module _ {chained : Bool} (arena new : Arena) (rs : List Record) (links : List Links) (heads places : List ℕ)
+    (flags : List Bool) (k : HoldsNodes chained arena rs links heads places flags) (well : IsArena new)
+    (list : List (ℕ × ℕ)) (start : ℕ)
     (is : new ≡ taken arena list) (at : start ≡ next_start arena (length list))
     (fresh : get arena.live start ≡ None) (keeps : KeepsLive arena new) (a : Nodes)
     (view : nodes_of arena rs ≡ a) where
-  kept_taken : HoldsNodes new rs links heads places flags
+  kept_taken : HoldsNodes chained new rs links heads places flags
   kept_taken =
       kept_arena arena new rs k.stored well
       (taken_same arena new rs k.stored well list start is at fresh keeps)
@@ -283,10 +292,10 @@ module _ (arena new : Arena) (rs : List Record) (links : List Links) (heads plac
 
   -- a free record is there
   module _ (ts : List Record) (ls : List Links) (same : ts ≡ rs) (alike : ls ≡ links) where
-    pub free_kept : HoldsNodes new ts ls heads places flags
+    pub free_kept : HoldsNodes chained new ts ls heads places flags
     free_kept =
-        subst (λ x. HoldsNodes new x ls heads places flags) (sym same)
-        (subst (λ x. HoldsNodes new rs x heads places flags) (sym alike) kept_taken)
+        subst (λ x. HoldsNodes chained new x ls heads places flags) (sym same)
+        (subst (λ x. HoldsNodes chained new rs x heads places flags) (sym alike) kept_taken)
 
     free_view : nodes_of new ts ≡ with_loose a start list
     free_view = ap (nodes_of new) same ∙ view_taken
@@ -305,7 +314,7 @@ module _ (arena new : Arena) (rs : List Record) (links : List Links) (heads plac
         ∙ sym read in (
           head_of heads 0,
           subst (λ x. IsFreeNumber (nodes_of new x) (head_of heads 0)) (sym same)
-              (free_first new rs heads (length heads - 1) kept_taken.in_chains (λ e. ne (sym head ∙ e))),
+              (free_first chained new rs heads (length heads - 1) kept_taken.in_chains (λ e. ne (sym head ∙ e))),
         )
 
     pub free_new : (n : ℕ) → IsFreeNumber (nodes_of new ts) n → IsNewNumber a n
@@ -332,14 +341,16 @@ module _ (arena new : Arena) (rs : List Record) (links : List Links) (heads plac
     room : length rs + 1 ≤ new.extent
     room =
         few_free new rs start list kept_taken.stored
-        (none_free new rs heads (length heads - 1) kept_taken.in_chains none_first)
+        (none_free chained new rs heads (length heads - 1) kept_taken.in_chains none_first)
         (ap (λ b. get b.loose start) view_taken ∙ get_insert_same a.loose start list) some
 
-    pub pushed_kept : (n : ℕ) → n ≡ length rs → HoldsNodes new ts ls (set heads 0 n) places (flags ++ false ∷ [])
+    pub pushed_kept : (n : ℕ) → n ≡ length rs
+        → HoldsNodes chained new ts ls (set heads 0 n) places (flags ++ false ∷ [])
     pushed_kept n size =
-        subst (λ x. HoldsNodes new x ls (set heads 0 n) places (flags ++ false ∷ [])) (sym grown)
-        (subst (λ x. HoldsNodes new (rs ++ r ∷ []) x (set heads 0 n) places (flags ++ false ∷ [])) (sym linked)
-        (subst (λ x. HoldsNodes new (rs ++ r ∷ []) (links ++ l ∷ []) (set heads 0 x) places (flags ++ false ∷ []))
+        subst (λ x. HoldsNodes chained new x ls (set heads 0 n) places (flags ++ false ∷ [])) (sym grown)
+        (subst (λ x. HoldsNodes chained new (rs ++ r ∷ []) x (set heads 0 n) places (flags ++ false ∷ [])) (sym linked)
+        (subst (λ x. HoldsNodes chained new (rs ++ r ∷ []) (links ++ l ∷ []) (set heads 0 x) places
+        (flags ++ false ∷ []))
         (sym size)
         (kept_free new rs r free links l heads places flags room
         (omega (arith, room, (kept_taken.stored).bound_fits, ((kept_taken.stored).well).bounded))
@@ -365,7 +376,7 @@ module _ (arena new : Arena) (rs : List Record) (links : List Links) (heads plac
     all : (m : ℕ) → m < a.records → IsSome (key_at a m)
     all m below =
         subst (λ b. IsSome (key_at b m)) view_taken
-        (all_nodes new rs heads (length heads - 1) kept_taken.in_chains none_first m
+        (all_nodes chained new rs heads (length heads - 1) kept_taken.in_chains none_first m
         (omega (arith, below, ap (λ b. b.records) view)))
 
     pub pushed_new : (n : ℕ) → IsFreeNumber (nodes_of new ts) n → IsNewNumber a n

@@ -1,13 +1,11 @@
 -- Records in other chains: what holds of the fields is kept.
-use Rattle.std.proofs.Common.{Bool, ◌≡◌, ℕ, ◌-◌, ◌<◌, List, [], length, unwrap_or, refl, sym, ap, subst, ◌∙◌}
+use Rattle.std.proofs.Common.{Bool, true, ◌≡◌, ℕ, ◌<◌, List, [], length, unwrap_or, refl, sym, ap, subst, ◌∙◌}
 use Rattle.std.specs.FinMap.{get}
 use Rattle.sd_runs.specs.Arena.{Arena}
 use Rattle.sd_unique.specs.declared.record.Record.{Record}
 use Rattle.sd_unique.specs.declared.record.Links.{Links}
-use Rattle.sd_unique.specs.Filed.{IsFiled}
 use Rattle.sd_unique.specs.Record.{key_of}
-use Rattle.sd_unique.specs.Chains.{next_of, head_of, hash_of, chain_under, no_record, HoldsNodes, KeepsRecords}
-use Rattle.sd_unique.specs.Chains.{AreHashed}
+use Rattle.sd_unique.specs.Chains.{hash_of, no_record, HoldsNodes, KeepsRecords, AreChained, AreHashed}
 use Rattle.sd_unique.proofs.Filed.{both_same}
 use Rattle.sd_unique.proofs.Relinked.{list_kept, stored_kept}
 
@@ -21,11 +19,11 @@ hashes_kept arena rs ts links keeps hashed i t e linked =
     let w = keeps.was i t e in
     hashed i w.0 w.1 (sym w.7 ∙ linked) ∙ ap hash_of (sym (key_kept arena t w.0 w.2 w.3))
 
--- what holds of the fields is kept when the records are in other chains
-pub kept_rechained : (arena : Arena) (rs ts : List Record) (links : List Links) (heads heads' places : List ℕ)
-    (flags : List Bool) → KeepsRecords rs ts → 1 < length heads'
-    → IsFiled (next_of ts) no_record (head_of heads') (chain_under arena (length heads' - 1) ts)
-    → HoldsNodes arena rs links heads places flags → HoldsNodes arena ts links heads' places flags
+-- what holds of the fields is kept when the records are in other chains, and all of those stand
+pub kept_rechained : {chained : Bool} (arena : Arena) (rs ts : List Record) (links : List Links)
+    (heads heads' places : List ℕ) (flags : List Bool) → KeepsRecords rs ts → 1 < length heads'
+    → AreChained true arena ts heads'
+    → HoldsNodes chained arena rs links heads places flags → HoldsNodes true arena ts links heads' places flags
 kept_rechained arena rs ts links heads heads' places flags keeps some filed k =
     record {
       stored = stored_kept rs ts keeps arena k.stored;
@@ -43,9 +41,9 @@ kept_rechained arena rs ts links heads heads' places flags keeps some filed k =
     }
 
 -- the records and heads are the same, each by its equation
-pub kept_tables : (arena : Arena) (rs ts : List Record) (links : List Links) (heads heads' places : List ℕ)
-    (flags : List Bool) → ts ≡ rs → heads' ≡ heads → HoldsNodes arena rs links heads places flags
-    → HoldsNodes arena ts links heads' places flags
-kept_tables arena rs ts links heads heads' places flags e f k =
-    subst (λ l. HoldsNodes arena l links heads' places flags) (sym e)
-    (subst (λ h. HoldsNodes arena rs links h places flags) (sym f) k)
+pub kept_tables : {chained : Bool} (arena : Arena) (rs ts : List Record) (links : List Links)
+    (heads heads' places : List ℕ) (flags : List Bool) → ts ≡ rs → heads' ≡ heads
+    → HoldsNodes chained arena rs links heads places flags → HoldsNodes chained arena ts links heads' places flags
+kept_tables {chained} arena rs ts links heads heads' places flags e f k =
+    subst (λ l. HoldsNodes chained arena l links heads' places flags) (sym e)
+    (subst (λ h. HoldsNodes chained arena rs links h places flags) (sym f) k)

@@ -6,10 +6,11 @@ use Rattle.std.specs.FinMap.{get}
 use Rattle.sd_runs.specs.Arena.{Arena, live_length}
 use Rattle.sd_runs.proofs.Maps.{same_at_each}
 use Rattle.sd_unique.specs.declared.record.Record.{Record}
+use Rattle.sd_unique.specs.declared.record.RecordState.{RecordState}
 use Rattle.sd_unique.specs.Record.{if_linked, if_detached, if_node, IsNode, without_run, key_of, linked_key}
 use Rattle.sd_unique.specs.Record.{detached_key, uses_of_record, mark_of_record, loose_of, counts_of, picked_map}
 use Rattle.sd_unique.specs.Record.{nodes_of, AreRecordsStored}
-use Rattle.sd_unique.specs.Chains.{chain_by, list_by, chain_under, list_under, bucket_of, KeepsRecords}
+use Rattle.sd_unique.specs.Chains.{list_by, under_by, list_under, bucket_of, KeepsRecords}
 use Rattle.sd_unique.proofs.Entries.{slice_get_at, slice_get_inside}
 use Rattle.sd_unique.proofs.Filed.{none_is}
 use Rattle.sd_unique.proofs.Loose.{Map}
@@ -49,10 +50,11 @@ module _ (rs ts : List Record) (k : KeepsRecords rs ts) where
           let w = k.was i t e in
           ap (option_and_then f) e ∙ same w.0 t w.2 w.3 w.5 w.6 w.7 ∙ sym (ap (option_and_then f) w.1)
 
-  pub chain_kept : (arena : Arena) (count i : ℕ) → chain_under arena count ts i ≡ chain_under arena count rs i
-  chain_kept arena count i =
-      read_kept (λ (x : Record). chain_by x.state (bucket_of (key_of arena x) count))
-      (λ r t place start uses mark state j. chain_by (state j)
+  pub chain_kept : (by : RecordState → ℕ → Option ℕ) (arena : Arena) (count i : ℕ)
+      → under_by by arena count ts i ≡ under_by by arena count rs i
+  chain_kept by arena count i =
+      read_kept (λ (x : Record). by x.state (bucket_of (key_of arena x) count))
+      (λ r t place start uses mark state j. by (state j)
       (bucket_of (place j, unwrap_or (get arena.live (start j)) []) count)) i
 
   pub list_kept : (i : ℕ) → list_under ts i ≡ list_under rs i

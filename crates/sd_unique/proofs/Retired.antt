@@ -1,8 +1,8 @@
 -- A linked record becomes a free one, as if it were unlinked and then removed.
-use Rattle.std.proofs.Common.{Bool, ◌≡◌, ◌≢◌, ℕ, ◌-◌, ◌<◌, bit_and, List, [], length, slice_get, Some, unwrap_or}
+use Rattle.std.proofs.Common.{Bool, ◌≡◌, ℕ, ◌-◌, ◌<◌, bit_and, List, [], length, slice_get, Some, unwrap_or}
 use Rattle.std.proofs.Common.{refl, sym, ap, subst, ◌∙◌, arith}
 use Rattle.std.proofs.Math.ListN.{set}
-use Rattle.std.proofs.lemmas.List.{length-set, get_or-set_same, get_or-set_other}
+use Rattle.std.proofs.lemmas.List.{length-set}
 use Rattle.std.specs.Option.{IsSome}
 use Rattle.std.specs.FinMap.{get}
 use Rattle.sd_runs.specs.Arena.{Arena, IsArena, live_length}
@@ -13,21 +13,20 @@ use Rattle.sd_unique.specs.declared.record.Links.{Links}
 use Rattle.sd_unique.specs.declared.record.RecordState.TheVariants.{Free, Linked, Detached}
 use Rattle.sd_unique.specs.Filed.{IsFiled, unfiled}
 use Rattle.sd_unique.specs.Record.{key_of, nodes_of, AreRecordsStored}
-use Rattle.sd_unique.specs.Chains.{next_of, chain_by, list_by, chain_under, list_under, bucket_of, head_of}
+use Rattle.sd_unique.specs.Chains.{next_of, chain_in, list_by, under_by, list_under, heads_in, head_of}
 use Rattle.sd_unique.specs.Chains.{no_record, hash_of, kept_hash, HoldsNodes, KeepsRecords, AreListed}
 use Rattle.sd_unique.specs.Relinking.{unlinked, removed}
-use Rattle.sd_unique.proofs.Both.{unfiled_here, unfiled_other}
 use Rattle.sd_unique.proofs.Changed.{set_which}
 use Rattle.sd_unique.proofs.Detached.{set_twice, slice_set_same}
 use Rattle.sd_unique.proofs.Detaching.{was_linked, nodes_detached}
 use Rattle.sd_unique.proofs.Entries.{slice_get_inside}
-use Rattle.sd_unique.proofs.Filed.{filed_first, both_same}
+use Rattle.sd_unique.proofs.Filed.{both_same}
+use Rattle.sd_unique.proofs.Leaving.{freed_first}
 use Rattle.sd_unique.proofs.Loose.{IsUntaken}
 use Rattle.sd_unique.proofs.Moved.{stored_unlinked, stored_freed, untaken, nodes_removed, free_not_linked}
 use Rattle.sd_unique.proofs.Numbered.{linked_is}
 use Rattle.sd_unique.proofs.Relinked.{nodes_kept, stored_kept}
-use Rattle.sd_unique.proofs.Reading.{link_there, link_other}
-use Rattle.sd_unique.proofs.Standing.{chain_here, chain_other, unlisted, is_record}
+use Rattle.sd_unique.proofs.Standing.{unlisted, is_record}
 use Rattle.sd_unique.proofs.Taken.{linked_state, kept_arena, given_same, given_longer, given_bound}
 
 -- the record as a detached one, in thought
@@ -68,46 +67,27 @@ module _ (arena : Arena) (rs mid : List Record) (n : ℕ) (m t : Record) (kept :
   key_back : (r x : Record) → x.place ≡ r.place → x.start ≡ r.start → key_of arena r ≡ key_of arena x
   key_back r x p s i = (sym p i, unwrap_or (get arena.live (sym s i)) [])
 
-  -- the record is put first in the chain of the free ones
-  chained : (count : ℕ) (heads : List ℕ) → n ≢ no_record → 0 < length heads → t.next ≡ head_of heads 0
-      → IsFiled (next_of mid) no_record (head_of heads) (unfiled n (chain_under arena count rs))
-      → IsFiled (next_of (set mid n t)) no_record (head_of (set heads 0 n)) (chain_under arena count (set mid n t))
-  chained count heads some at_least_one next f =
-      filed_first (next_of mid) (next_of (set mid n t)) no_record (head_of heads) (head_of (set heads 0 n))
-      (unfiled n (chain_under arena count rs)) (chain_under arena count (set mid n t)) 0 n some
-      (unfiled_here n (chain_under arena count rs) n refl)
-      (record {
-        after = link_there (λ (x : Record). x.next) mid n t within ∙ next;
-        kept = λ y c e ne. link_other (λ (x : Record). x.next) mid n t y ne;
-        first = get_or-set_same heads 0 n no_record at_least_one;
-        heads = λ c ne. get_or-set_other heads 0 c n no_record ne;
-        there = chain_here arena rs mid n m t kept there count
-            ∙ ap (λ s. chain_by s (bucket_of (key_of arena t) count)) is;
-        others = λ y ne. chain_other arena rs mid n m t kept there count y ne
-            ∙ sym (unfiled_other n (chain_under arena count rs) y ne);
-      })
-      f
-
   -- before the run is given back
-  cleared_kept : (links more : List Links) (heads heads' places places' : List ℕ) (flags : List Bool)
+  cleared_kept : {chained : Bool} (links more : List Links) (heads heads' places places' : List ℕ) (flags : List Bool)
       → t.next ≡ head_of heads' 0 → length heads' ≡ length heads → length places' ≡ length places
       → length more ≡ length links
-      → IsFiled (next_of mid) no_record (head_of heads') (unfiled n (chain_under arena (length heads - 1) rs))
+      → IsFiled (next_of mid) no_record (head_of (heads_in chained heads'))
+      (unfiled n (under_by (chain_in chained) arena (length heads - 1) rs))
       → AreListed more places' (unfiled n (list_under rs))
       → ((i : ℕ) → kept_hash more i ≡ kept_hash links i) → AreRecordsStored arena (set mid n t)
-      → HoldsNodes arena rs links heads places flags
-      → HoldsNodes arena (set mid n t) more (set heads' 0 n) places' flags
-  cleared_kept links more heads heads' places places' flags next same_heads same_places same_links chains lists hashes
-      st k =
+      → HoldsNodes chained arena rs links heads places flags
+      → HoldsNodes chained arena (set mid n t) more (set heads' 0 n) places' flags
+  cleared_kept {chained} links more heads heads' places places' flags next same_heads same_places same_links chains
+      lists hashes st k =
       record {
         stored = st;
         linked_all = same_links ∙ k.linked_all ∙ sym kept.size ∙ sym (length-set mid n t);
         flags_all = k.flags_all ∙ sym kept.size ∙ sym (length-set mid n t);
         at_least_one = omega (arith, k.at_least_one, same_heads, length-set heads' 0 n);
         places_all = λ some. same_places ∙ k.places_all (omega (arith, some, same_places));
-        in_chains = subst (λ h. IsFiled (next_of (set mid n t)) no_record (head_of (set heads' 0 n))
-            (chain_under arena (h - 1) (set mid n t))) (sym (length-set heads' 0 n ∙ same_heads))
-            (chained (length heads - 1) heads'
+        in_chains = subst (λ h. IsFiled (next_of (set mid n t)) no_record (head_of (heads_in chained (set heads' 0 n)))
+            (under_by (chain_in chained) arena (h - 1) (set mid n t))) (sym (length-set heads' 0 n ∙ same_heads))
+            (freed_first arena rs mid n m t kept there is chained (length heads - 1) heads'
             (is_record n k.stored (omega (arith, within, kept.size)))
             (omega (arith, k.at_least_one, same_heads)) next chains);
         in_lists = λ some. both_same _ _ _ _ no_record _ _ (unfiled n (list_under rs)) (list_under (set mid n t))
@@ -149,14 +129,16 @@ module _ (arena : Arena) (rs mid : List Record) (n : ℕ) (m t : Record) (kept :
         size)
 
     -- and after that
-    pub retired_kept : (links more : List Links) (heads heads' places places' : List ℕ) (flags : List Bool)
+    pub retired_kept : {chained : Bool} (links more : List Links) (heads heads' places places' : List ℕ)
+        (flags : List Bool)
         → t.next ≡ head_of heads' 0 → length heads' ≡ length heads → length places' ≡ length places
         → length more ≡ length links
-        → IsFiled (next_of mid) no_record (head_of heads') (unfiled n (chain_under arena (length heads - 1) rs))
+        → IsFiled (next_of mid) no_record (head_of (heads_in chained heads'))
+        (unfiled n (under_by (chain_in chained) arena (length heads - 1) rs))
         → AreListed more places' (unfiled n (list_under rs))
         → ((i : ℕ) → kept_hash more i ≡ kept_hash links i)
-        → HoldsNodes arena rs links heads places flags
-        → HoldsNodes new (set mid n t) more (set heads' 0 n) places' flags
+        → HoldsNodes chained arena rs links heads places flags
+        → HoldsNodes chained new (set mid n t) more (set heads' 0 n) places' flags
     retired_kept links more heads heads' places places' flags next same_heads same_places same_links chains lists
         hashes k =
         let apart = subst (λ l. IsUntaken l m.start) (set_twice mid n (between m) t)

@@ -1,6 +1,7 @@
--- A key is sought along the chain of its bucket.
+-- A key is sought among all records, and along the chain of its bucket.
 use Rattle.std.proofs.Common.{◌≡◌, ◌≢◌, inl, inr, ℕ, suc, ◌+◌, ◌<◌, ◌≤◌, List, [], ◌∷◌, length, get_or, slice_get}
 use Rattle.std.proofs.Common.{Some, None, Option, unwrap_or, ◌&&◌, eqb, refl, sym, ◌∙◌, ap, subst, arith}
+use Rattle.std.proofs.lemmas.Bool.{cases_eq}
 use Rattle.std.proofs.lemmas.Bool.Decides.{Decides-and, Decides-eqb}
 use Rattle.std.specs.Bool.{Decides}
 use Rattle.std.specs.Option.{option_and_then, option_map}
@@ -12,7 +13,7 @@ use Rattle.sd_unique.specs.declared.record.RecordState.{RecordState}
 use Rattle.sd_unique.specs.declared.record.RecordState.TheVariants.{Free, Linked, Detached}
 use Rattle.sd_unique.specs.Filed.{IsChain, IsFiled}
 use Rattle.sd_unique.specs.Record.{if_linked, IsNode, key_of, linked_key, nodes_of, AreRecordsStored}
-use Rattle.sd_unique.specs.Chains.{chain_by, chain_under, bucket_of, next_of, head_of, no_record}
+use Rattle.sd_unique.specs.Chains.{IsRecordAt, chain_by, chain_under, bucket_of, next_of, head_of, no_record}
 use Rattle.sd_unique.proofs.Both.{chain_short}
 use Rattle.sd_unique.proofs.Entries.{slice_get_at, slice_get_inside}
 use Rattle.sd_unique.proofs.Numbered.{linked_at, linked_record, picked_from}
@@ -22,6 +23,69 @@ pub pair_decides : (a b : ℕ × ℕ) → Decides (eqb a.0 b.0 && eqb a.1 b.1) (
 pair_decides a b =
     let d = Decides-and (eqb a.0 b.0) (eqb a.1 b.1) (Decides-eqb a.0 b.0) (Decides-eqb a.1 b.1) in
     (λ e i. ((d.0 e).0 i, (d.0 e).1 i), λ e. d.1 (ap (λ p. p.0) e, ap (λ p. p.1) e))
+
+module _ (arena : Arena) (rs : List Record) (key : ℕ × List (ℕ × ℕ)) (n : ℕ) (t : Record)
+    (there : slice_get rs n ≡ Some t) (linked : t.state ≡ Linked) where
+  key_there : get (nodes_of arena rs).linked n ≡ Some (key_of arena t)
+  key_there =
+      linked_at arena rs n ∙ ap (option_and_then (λ r. linked_key arena r)) there
+      ∙ ap (λ s. if_linked s (key_of arena t)) linked
+
+  -- a linked record with this place and list is that of the node with the key
+  pub key_found : (l : List (ℕ × ℕ)) → t.place ≡ key.0 → get arena.live t.start ≡ Some l → l ≡ key.1
+      → get (nodes_of arena rs).linked n ≡ Some key
+  key_found l p g e = key_there ∙ ap Some (λ i. (p i, (ap (λ o. unwrap_or o []) g ∙ e) i))
+
+  key_same : get (nodes_of arena rs).linked n ≡ Some key → key_of arena t ≡ key
+  key_same e = ap (λ o. unwrap_or o key) (sym key_there ∙ e)
+
+  -- one with another place is not, nor one with another list
+  pub other_place : ¬ (t.place ≡ key.0) → get (nodes_of arena rs).linked n ≢ Some key
+  other_place differ e = differ (ap (λ k. k.0) (key_same e))
+
+  pub other_length : AreRecordsStored arena rs → ¬ (t.length ≡ length key.1)
+      → get (nodes_of arena rs).linked n ≢ Some key
+  other_length st differ e = differ (sym length_of ∙ ap (λ k. length k.1) (key_same e))
+    where
+      length_there : (o : Option (List (ℕ × ℕ))) (n : ℕ) → option_map length o ≡ Some n
+          → length (unwrap_or o []) ≡ n
+      length_there None n e = cc
+      length_there (Some l) n e = cc
+
+      length_of : length (unwrap_or (get arena.live t.start) []) ≡ t.length
+      length_of =
+          length_there (get arena.live t.start) t.length (st.live n t there (subst IsNode (sym linked) tt))
+
+  pub other_list : (l : List (ℕ × ℕ)) → get arena.live t.start ≡ Some l → ¬ (l ≡ key.1)
+      → get (nodes_of arena rs).linked n ≢ Some key
+  other_list l g differ e = differ (sym (ap (λ o. unwrap_or o []) g) ∙ ap (λ k. k.1) (key_same e))
+
+-- nor is one that is not linked at this place
+pub other_record : (arena : Arena) (rs : List Record) (place : ℕ) (list : List (ℕ × ℕ)) (n : ℕ) (t : Record)
+    → slice_get rs n ≡ Some t → ¬ IsRecordAt t place → get (nodes_of arena rs).linked n ≢ Some (place, list)
+other_record arena rs place list n t there differ e =
+    let r = linked_record arena rs n (place, list) e in
+    let same : Some r.0 ≡ Some t = sym r.1 ∙ there in
+    let is : r.0 ≡ t = cc in
+    differ (subst (λ x. IsRecordAt x place) is (record { linked = r.2; at = ap (λ k. k.0) r.3 }))
+
+-- one record more was passed
+pub passed_on : (arena : Arena) (rs : List Record) (key : ℕ × List (ℕ × ℕ)) (number : ℕ)
+    → ((n : ℕ) → n < number → get (nodes_of arena rs).linked n ≢ Some key)
+    → get (nodes_of arena rs).linked number ≢ Some key
+    → (n : ℕ) → n < number + 1 → get (nodes_of arena rs).linked n ≢ Some key
+passed_on arena rs key number before here n inside e =
+    by_cases (λ same. here (subst (λ k. get (nodes_of arena rs).linked k ≡ Some key) same e))
+    (λ ne. before n (omega (arith, ne)) e)
+    (cases_eq n number)
+
+-- and all were
+pub passed_all : (arena : Arena) (rs : List Record) (key : ℕ × List (ℕ × ℕ)) (number : ℕ) → length rs ≤ number
+    → ((n : ℕ) → n < number → get (nodes_of arena rs).linked n ≢ Some key)
+    → (n : ℕ) → get (nodes_of arena rs).linked n ≢ Some key
+passed_all arena rs key number all before n e =
+    let r = linked_record arena rs n key e in
+    before n (omega (arith, slice_get_inside rs n r.0 r.1)) e
 
 -- What is known on the way: the rest of the chain is as short as the steps that are left, each of its records is
 -- linked, and a linked node with the key is in it.
@@ -108,41 +172,6 @@ module _ (arena : Arena) (rs : List Record) (heads : List ℕ) (key : ℕ × Lis
         let same : Some r.0 ≡ Some t = sym r.1 ∙ there in
         let is : r.0 ≡ t = cc in
         (there, ap (λ (x : Record). x.state) (sym is) ∙ r.2)
-
-    pub sought_key : get (nodes_of arena rs).linked at ≡ Some (key_of arena t)
-    sought_key =
-        linked_at arena rs at ∙ ap (option_and_then (λ r. linked_key arena r)) (sought_read).0
-        ∙ ap (λ s. if_linked s (key_of arena t)) (sought_read).1
-
-    -- a record with this place and list is that of the node with the key
-    pub sought_found : (l : List (ℕ × ℕ)) → t.place ≡ key.0 → get arena.live t.start ≡ Some l → l ≡ key.1
-        → get (nodes_of arena rs).linked at ≡ Some key
-    sought_found l p g e = sought_key ∙ ap Some (λ i. (p i, (ap (λ o. unwrap_or o []) g ∙ e) i))
-
-    key_same : get (nodes_of arena rs).linked at ≡ Some key → key_of arena t ≡ key
-    key_same e = ap (λ o. unwrap_or o key) (sym sought_key ∙ e)
-
-    -- one with another place is not, nor one with another list
-    pub other_place : ¬ (t.place ≡ key.0) → get (nodes_of arena rs).linked at ≢ Some key
-    other_place differ e = differ (ap (λ k. k.0) (key_same e))
-
-    pub other_length : AreRecordsStored arena rs → ¬ (t.length ≡ length key.1)
-        → get (nodes_of arena rs).linked at ≢ Some key
-    other_length st differ e = differ (sym (length_of st) ∙ ap (λ k. length k.1) (key_same e))
-      where
-        length_there : (o : Option (List (ℕ × ℕ))) (n : ℕ) → option_map length o ≡ Some n
-            → length (unwrap_or o []) ≡ n
-        length_there None n e = cc
-        length_there (Some l) n e = cc
-
-        length_of : AreRecordsStored arena rs → length (unwrap_or (get arena.live t.start) []) ≡ t.length
-        length_of st =
-            length_there (get arena.live t.start) t.length
-            (st.live at t (sought_read).0 (subst IsNode (sym (sought_read).1) tt))
-
-    pub other_list : (l : List (ℕ × ℕ)) → get arena.live t.start ≡ Some l → ¬ (l ≡ key.1)
-        → get (nodes_of arena rs).linked at ≢ Some key
-    other_list l g differ e = differ (sym (ap (λ o. unwrap_or o []) g) ∙ ap (λ k. k.1) (key_same e))
 
     -- one step on
     pub sought_on : get (nodes_of arena rs).linked at ≢ Some key → (next : ℕ) → next ≡ next_of rs at

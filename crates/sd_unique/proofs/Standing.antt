@@ -1,5 +1,5 @@
 -- Where a record stands: in the chain and the list of its state.
-use Rattle.std.proofs.Common.{◌≡◌, ◌≢◌, ℕ, ◌+◌, ◌<◌, bit_and, List, length, get_or, slice_get}
+use Rattle.std.proofs.Common.{◌≡◌, ◌≢◌, Bool, ℕ, ◌+◌, ◌<◌, bit_and, List, length, get_or, slice_get}
 use Rattle.std.proofs.Common.{Option, Some, None, sym, ap, subst, ◌∙◌, arith}
 use Rattle.std.proofs.Math.ListN.{set}
 use Rattle.std.proofs.lemmas.Bool.{cases_eq}
@@ -9,15 +9,17 @@ use Rattle.sd_runs.specs.Arena.{Arena}
 use Rattle.sd_runs.proofs.Places.{by_cases}
 use Rattle.sd_unique.specs.declared.record.Record.{Record}
 use Rattle.sd_unique.specs.declared.record.Links.{Links}
+use Rattle.sd_unique.specs.declared.record.RecordState.{RecordState}
 use Rattle.sd_unique.specs.declared.record.RecordState.TheVariants.{Linked, Detached}
 use Rattle.sd_unique.specs.Filed.{unfiled, filed_at}
 use Rattle.sd_unique.specs.Record.{if_detached, IsNode, uses_of_record, detached_key, key_of}
 use Rattle.sd_unique.specs.Record.{nodes_of, AreRecordsStored}
-use Rattle.sd_unique.specs.Chains.{chain_by, list_by, chain_under, list_under, bucket_of}
+use Rattle.sd_unique.specs.Chains.{chain_by, free_by, chain_in, list_by, under_by, chain_under, list_under, bucket_of}
 use Rattle.sd_unique.specs.Chains.{hash_of, kept_hash, no_record, AreHashed, KeepsRecords}
 use Rattle.sd_unique.proofs.Both.{unfiled_here, unfiled_other, filed_here, filed_other}
 use Rattle.sd_unique.proofs.Entries.{slice_get_at, slice_get_inside, slice_get_set, slice_get_set_other}
 use Rattle.sd_unique.proofs.Filed.{none_is}
+use Rattle.sd_unique.proofs.FirstChain.{detached_in}
 use Rattle.sd_unique.proofs.Numbered.{linked_there, detached_there, detached_at, uses_in_at, node_some, picked_from}
 use Rattle.sd_unique.proofs.Relinked.{chain_kept, list_kept}
 
@@ -63,6 +65,12 @@ module _ (arena : Arena) (rs : List Record) (n : ℕ) (r : Record) (there : slic
       ap (option_and_then (λ (x : Record). chain_by x.state (bucket_of (key_of arena x) count))) there
       ∙ ap (λ s. chain_by s (bucket_of (key_of arena r) count)) linked ∙ ap Some (omega arith)
 
+  -- where the chains of the buckets don't stand, it stands in none
+  pub linked_in_none : (count : ℕ) → under_by free_by arena count rs n ≡ None
+  linked_in_none count =
+      ap (option_and_then (λ (x : Record). free_by x.state (bucket_of (key_of arena x) count))) there
+      ∙ ap (λ s. free_by s (bucket_of (key_of arena r) count)) linked
+
   pub linked_list : list_under rs n ≡ Some (bit_and r.place 2047 + 1)
   linked_list =
       ap (option_and_then (λ (x : Record). list_by x.state (bit_and x.place 2047))) there
@@ -71,10 +79,11 @@ module _ (arena : Arena) (rs : List Record) (n : ℕ) (r : Record) (there : slic
 module _ (arena : Arena) (rs : List Record) (n : ℕ) (r : Record) (there : slice_get rs n ≡ Some r)
     (detached : r.state ≡ Detached) where
   -- where a detached record stands, and its key
-  pub detached_chain : (count : ℕ) → chain_under arena count rs n ≡ None
-  detached_chain count =
-      ap (option_and_then (λ (x : Record). chain_by x.state (bucket_of (key_of arena x) count))) there
-      ∙ ap (λ s. chain_by s (bucket_of (key_of arena r) count)) detached
+  pub detached_chain : (chained : Bool) (count : ℕ) → under_by (chain_in chained) arena count rs n ≡ None
+  detached_chain chained count =
+      ap (option_and_then (λ (x : Record). chain_in chained x.state (bucket_of (key_of arena x) count))) there
+      ∙ ap (λ s. chain_in chained s (bucket_of (key_of arena r) count)) detached
+      ∙ detached_in chained (bucket_of (key_of arena r) count)
 
   pub detached_list : list_under rs n ≡ Some 0
   detached_list =
@@ -127,14 +136,15 @@ module _ (arena : Arena) (rs mid : List Record) (n : ℕ) (m t : Record) (kept :
   here : slice_get (set mid n t) n ≡ Some t
   here = slice_get_set mid n t (slice_get_inside mid n m there)
 
-  pub chain_other : (count i : ℕ) → i ≢ n → chain_under arena count (set mid n t) i ≡ chain_under arena count rs i
-  chain_other count i ne =
-      ap (option_and_then (λ (x : Record). chain_by x.state (bucket_of (key_of arena x) count)))
-      (slice_get_set_other mid n t i ne) ∙ chain_kept rs mid kept arena count i
+  pub chain_other : (by : RecordState → ℕ → Option ℕ) (count i : ℕ) → i ≢ n
+      → under_by by arena count (set mid n t) i ≡ under_by by arena count rs i
+  chain_other by count i ne =
+      ap (option_and_then (λ (x : Record). by x.state (bucket_of (key_of arena x) count)))
+      (slice_get_set_other mid n t i ne) ∙ chain_kept rs mid kept by arena count i
 
-  pub chain_here : (count : ℕ)
-      → chain_under arena count (set mid n t) n ≡ chain_by t.state (bucket_of (key_of arena t) count)
-  chain_here count = ap (option_and_then (λ (x : Record). chain_by x.state (bucket_of (key_of arena x) count))) here
+  pub chain_here : (by : RecordState → ℕ → Option ℕ) (count : ℕ)
+      → under_by by arena count (set mid n t) n ≡ by t.state (bucket_of (key_of arena t) count)
+  chain_here by count = ap (option_and_then (λ (x : Record). by x.state (bucket_of (key_of arena x) count))) here
 
   list_other : (i : ℕ) → i ≢ n → list_under (set mid n t) i ≡ list_under rs i
   list_other i ne =
@@ -145,13 +155,13 @@ module _ (arena : Arena) (rs mid : List Record) (n : ℕ) (m t : Record) (kept :
   list_here = ap (option_and_then (λ (x : Record). list_by x.state (bit_and x.place 2047))) here
 
   -- in no chain, in no list, in another list
-  pub unchained : (count : ℕ) → chain_by t.state (bucket_of (key_of arena t) count) ≡ None → (i : ℕ)
-      → chain_under arena count (set mid n t) i ≡ unfiled n (chain_under arena count rs) i
-  unchained count none i =
+  pub unchained : (by : RecordState → ℕ → Option ℕ) (count : ℕ) → by t.state (bucket_of (key_of arena t) count) ≡ None
+      → (i : ℕ) → under_by by arena count (set mid n t) i ≡ unfiled n (under_by by arena count rs) i
+  unchained by count none i =
       by_cases
-      (λ e. ap (chain_under arena count (set mid n t)) e ∙ chain_here count ∙ none
-      ∙ sym (unfiled_here n (chain_under arena count rs) i e))
-      (λ ne. chain_other count i ne ∙ sym (unfiled_other n (chain_under arena count rs) i ne))
+      (λ e. ap (under_by by arena count (set mid n t)) e ∙ chain_here by count ∙ none
+      ∙ sym (unfiled_here n (under_by by arena count rs) i e))
+      (λ ne. chain_other by count i ne ∙ sym (unfiled_other n (under_by by arena count rs) i ne))
       (cases_eq i n)
 
   pub unlisted : list_by t.state (bit_and t.place 2047) ≡ None → (i : ℕ)

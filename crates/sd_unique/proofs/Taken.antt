@@ -1,6 +1,6 @@
 -- A run is taken from the arena or given back.
-use Rattle.std.proofs.Common.{Bool, ◌≡◌, ℕ, suc, zero, ◌+◌, ◌-◌, ◌<◌, ◌≤◌, ◌^◌, List, [], ◌∷◌, length, slice_get}
-use Rattle.std.proofs.Common.{Option, Some, None, unwrap_or, refl, sym, ap, subst, ◌∙◌, arith}
+use Rattle.std.proofs.Common.{Bool, true, false, ◌≡◌, ℕ, suc, zero, ◌+◌, ◌-◌, ◌<◌, ◌≤◌, ◌^◌, List, [], ◌∷◌, length}
+use Rattle.std.proofs.Common.{slice_get, Option, Some, None, unwrap_or, refl, sym, ap, subst, ◌∙◌, arith}
 use Rattle.std.proofs.lemmas.Bool.{cases_eq}
 use Rattle.std.specs.Option.{option_map, option_and_then}
 use Rattle.std.proofs.Common.{Result, Ok, Err, IfErr}
@@ -22,7 +22,7 @@ use Rattle.sd_unique.specs.Inserting.{with_count, extent_after, IsRefusal}
 use Rattle.sd_unique.specs.Relinking.{with_loose, without_loose}
 use Rattle.sd_unique.specs.Record.{if_linked, if_detached, IsNode, picked_map, key_of, linked_key, detached_key}
 use Rattle.sd_unique.specs.Record.{uses_of_record, mark_of_record, loose_of, counts_of, nodes_of, AreRecordsStored}
-use Rattle.sd_unique.specs.Chains.{chain_by, chain_under, bucket_of, hash_of, no_record, HoldsNodes}
+use Rattle.sd_unique.specs.Chains.{chain_in, under_by, bucket_of, hash_of, no_record, HoldsNodes}
 use Rattle.sd_unique.proofs.Counts.{get_counts, count_is}
 use Rattle.sd_unique.proofs.Entries.{option_map_some}
 use Rattle.sd_unique.proofs.Filed.{filed_same}
@@ -114,10 +114,14 @@ module _ {X : Type 0} where
   detached_by Linked x y e = refl
   detached_by Detached x y e = ap Some (e tt)
 
-chain_of : (s : RecordState) (b c : ℕ) → (IsNode s → b ≡ c) → chain_by s b ≡ chain_by s c
-chain_of Free b c e = refl
-chain_of Linked b c e = ap (λ n. Some (suc n)) (e tt)
-chain_of Detached b c e = refl
+chain_of : (chained : Bool) (s : RecordState) (b c : ℕ) → (IsNode s → b ≡ c)
+    → chain_in chained s b ≡ chain_in chained s c
+chain_of true Free b c e = refl
+chain_of true Linked b c e = ap (λ n. Some (suc n)) (e tt)
+chain_of true Detached b c e = refl
+chain_of false Free b c e = refl
+chain_of false Linked b c e = refl
+chain_of false Detached b c e = refl
 
 pub linked_state : (s : RecordState) → s ≡ Linked → IsNode s
 linked_state s e = subst IsNode (sym e) tt
@@ -158,18 +162,19 @@ module _ (arena new : Arena) (rs : List Record) (st : AreRecordsStored arena rs)
       ap from_entries (picked_by (λ (r : Record). detached_key new r) (λ (r : Record). detached_key arena r) rs
       (λ i r e. detached_by r.state (key_of new r) (key_of arena r) (key_kept i r e)) 0)
 
-  pub chain_arena : (count n : ℕ) → chain_under new count rs n ≡ chain_under arena count rs n
-  chain_arena count n =
-      read_by (λ (r : Record). chain_by r.state (bucket_of (key_of new r) count))
-      (λ (r : Record). chain_by r.state (bucket_of (key_of arena r) count)) (slice_get rs n)
-      (λ r e. chain_of r.state (bucket_of (key_of new r) count) (bucket_of (key_of arena r) count)
+  pub chain_arena : (chained : Bool) (count n : ℕ)
+      → under_by (chain_in chained) new count rs n ≡ under_by (chain_in chained) arena count rs n
+  chain_arena chained count n =
+      read_by (λ (r : Record). chain_in chained r.state (bucket_of (key_of new r) count))
+      (λ (r : Record). chain_in chained r.state (bucket_of (key_of arena r) count)) (slice_get rs n)
+      (λ r e. chain_of chained r.state (bucket_of (key_of new r) count) (bucket_of (key_of arena r) count)
       (λ node. ap (λ k. bucket_of k count) (key_kept n r e node)))
 
   -- the chains stay as they are
-  pub kept_arena : (links : List Links) (heads places : List ℕ) (flags : List Bool)
-      → HoldsNodes arena rs links heads places flags
-      → HoldsNodes new rs links heads places flags
-  kept_arena links heads places flags k =
+  pub kept_arena : {chained : Bool} (links : List Links) (heads places : List ℕ) (flags : List Bool)
+      → HoldsNodes chained arena rs links heads places flags
+      → HoldsNodes chained new rs links heads places flags
+  kept_arena {chained} links heads places flags k =
       record {
         stored = stored_arena;
         linked_all = k.linked_all;
@@ -177,7 +182,7 @@ module _ (arena new : Arena) (rs : List Record) (st : AreRecordsStored arena rs)
         at_least_one = k.at_least_one;
         places_all = k.places_all;
         in_chains = filed_same _ _ no_record _ _ _ _ (λ b i e. refl) (λ b. refl)
-            (chain_arena (length heads - 1)) k.in_chains;
+            (chain_arena chained (length heads - 1)) k.in_chains;
         in_lists = k.in_lists;
         hashed = λ i r e linked. k.hashed i r e linked
             ∙ ap hash_of (sym (key_kept i r e (linked_state r.state linked)));

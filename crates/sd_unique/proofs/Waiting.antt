@@ -229,10 +229,10 @@ module _ (records : List Record) (old flags : List Bool) (numbers : List ℕ) (d
       }
 
 -- what holds of the fields is kept where the stack has all linked nodes without uses
-pub kept_queued : (arena : Arena) (rs : List Record) (links : List Links) (heads places : List ℕ)
+pub kept_queued : {chained : Bool} (arena : Arena) (rs : List Record) (links : List Links) (heads places : List ℕ)
     (flags new : List Bool) → length new ≡ length flags
     → ((n : ℕ) (r : Record) → slice_get rs n ≡ Some r → IsUnused r → Waits flags n → Waits new n)
-    → HoldsNodes arena rs links heads places flags → HoldsNodes arena rs links heads places new
+    → HoldsNodes chained arena rs links heads places flags → HoldsNodes chained arena rs links heads places new
 kept_queued arena rs links heads places flags new size others k =
     record {
       stored = k.stored;

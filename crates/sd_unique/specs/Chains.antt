@@ -1,6 +1,6 @@
 -- The chains of the records: of each bucket and of the free records, and the lists of each place and of the detached.
 use Rattle.std.specs.Prelude.{◌≡◌, ℕ, suc, ◌+◌, ◌*◌, ◌/◌, ◌%◌, ◌-◌, ◌<◌, ◌^◌, List, length, map, get_or}
-use Rattle.std.specs.Prelude.{Bool, Option, Some, None, slice_get, bit_and, max}
+use Rattle.std.specs.Prelude.{Bool, true, false, Option, Some, None, slice_get, bit_and, max, take}
 use Rattle.std.specs.List.{fold}
 use Rattle.std.specs.Option.{option_and_then}
 use Rattle.sd_runs.specs.Arena.{Arena}
@@ -55,11 +55,27 @@ kept_hash links n = get_or (map (λ l. l.hash) links) n 0
 abbrev pub head_of : List ℕ → ℕ → ℕ
 head_of heads b = get_or heads b no_record
 
--- A free record stands in the first chain, a linked one in that of its bucket, a detached one in none.
+-- Where all chains stand, a free record stands in the first one, a linked one in that of its bucket, a detached one in
+-- none.
 abbrev pub chain_by : RecordState → ℕ → Option ℕ
 chain_by Free b = Some 0
 chain_by Linked b = Some (suc b)
 chain_by Detached b = None
+
+-- Where the chains of the buckets do not stand, a free record stands in the first chain, another in none.
+abbrev pub free_by : RecordState → ℕ → Option ℕ
+free_by Free b = Some 0
+free_by Linked b = None
+free_by Detached b = None
+
+-- by which rule the records stand, and from which heads the chains begin: from all of them, or from the first alone
+abbrev pub chain_in : Bool → RecordState → ℕ → Option ℕ
+chain_in true = chain_by
+chain_in false = free_by
+
+abbrev pub heads_in : Bool → List ℕ → List ℕ
+heads_in true heads = heads
+heads_in false heads = take 1 heads
 
 -- A detached record stands in the first list, a linked one in that of its place, a free one in none.
 abbrev pub list_by : RecordState → ℕ → Option ℕ
@@ -67,10 +83,20 @@ list_by Free b = None
 list_by Linked b = Some (suc b)
 list_by Detached b = Some 0
 
--- under which head the number of a record is filed, among the chains
+-- under which head the number of a record is filed by such a rule, among so many buckets
+abbrev pub under_by : (RecordState → ℕ → Option ℕ) → Arena → ℕ → List Record → ℕ → Option ℕ
+under_by by arena count records n =
+    option_and_then (λ r. by r.state (bucket_of (key_of arena r) count)) (slice_get records n)
+
+-- and where all chains stand
 abbrev pub chain_under : Arena → ℕ → List Record → ℕ → Option ℕ
-chain_under arena count records n =
-    option_and_then (λ r. chain_by r.state (bucket_of (key_of arena r) count)) (slice_get records n)
+chain_under = under_by chain_by
+
+-- The records stand in the chains: in all of them, or in that of the free ones alone.
+abbrev pub AreChained : Bool → Arena → List Record → List ℕ → Type 0
+AreChained chained arena records heads =
+    IsFiled (next_of records) no_record (head_of (heads_in chained heads))
+    (under_by (chain_in chained) arena (length heads - 1) records)
 
 -- and among the lists
 abbrev pub list_under : List Record → ℕ → Option ℕ
@@ -90,10 +116,11 @@ AreHashed arena records links =
     (n : ℕ) (r : Record) → slice_get records n ≡ Some r → r.state ≡ Linked
     → kept_hash links n ≡ hash_of (key_of arena r)
 
--- What holds of the fields. The first head is that of the free records, the others are those of the buckets; the first
--- place, where there are any, is that of the detached records.
-pub record HoldsNodes (arena : Arena) (records : List Record) (links : List Links) (heads places : List ℕ)
-    (flags : List Bool) : Type 0 where
+-- What holds of the fields, where the chains of the buckets stand and where they don't. The first head is that of the
+-- free records, the others are those of the buckets; the first place, where there are any, is that of the detached
+-- records.
+pub record HoldsNodes (chained : Bool) (arena : Arena) (records : List Record) (links : List Links)
+    (heads places : List ℕ) (flags : List Bool) : Type 0 where
   pub stored : AreRecordsStored arena records
   pub linked_all : length links ≡ length records
   pub flags_all : length flags ≡ length records
@@ -101,7 +128,7 @@ pub record HoldsNodes (arena : Arena) (records : List Record) (links : List Link
   pub at_least_one : 1 < length heads
   pub places_all : 0 < length places → length places ≡ 2049
   -- each record stands where its state says
-  pub in_chains : IsFiled (next_of records) no_record (head_of heads) (chain_under arena (length heads - 1) records)
+  pub in_chains : AreChained chained arena records heads
   pub in_lists : AreListed links places (list_under records)
   pub hashed : AreHashed arena records links
   -- each linked node without uses is a candidate

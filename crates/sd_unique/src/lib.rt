@@ -22,14 +22,19 @@
 //! pays a test for them: `places` has no heads, and `first_at` and `first_detached` go over all records.
 //! `list_places` makes the lists, a step for each record, once. `idle` takes candidates off the stack
 //! until it finds one, each of them once for each time that it was put there; `retire` takes the node
-//! off that `idle` just answered. Where `idle` finds none in a large table, and `retire` freed more
-//! than an eighth of the records since that was last done, it puts the free numbers and the free
-//! runs of two elements in order, those from that of the newest node on first and then the smallest, a step
-//! for each record and each element: nodes that are made behind a large sweep then stand next to one
-//! another, in the order in which they are made, as those of a new table do. The other calls are a few
-//! loads and stores, but for `new`, which makes the heads. The buckets double where they are as few as
-//! the records. That takes a step for each record, and reads no list: the links keep the hash of each
-//! linked record.
+//! off that `idle` just answered. The other calls are a few loads and stores, but for `new`, which makes
+//! the heads.
+//!
+//! A sweep takes idle nodes until `idle` finds none, and ends there. Once more than an eighth of the
+//! records of a large table was freed, its end makes all chains anew, in one pass over records and heads:
+//! the linked ones among the buckets, and the free numbers in order, with the free runs of two elements,
+//! those from that of the newest node on first and then the smallest. Nodes that are made behind a large
+//! sweep then stand next to one another, in the order in which they are made, as those of a new table do.
+//! In the midst of a sweep of more candidates than an eighth of the records, once a 64th of them was freed,
+//! the chains of the buckets do not stand any more, and the sweep ends with that pass: until then `retire`
+//! leaves them as they are and is a few loads and stores too, `find` goes over all records, and `insert` and
+//! `find_or_insert` call for the pass at once. The buckets double where they are as few as the records, by
+//! the same pass. It reads no list: the links keep the hash of each linked record.
 //!
 //! A node of two elements has a record of 32 bytes, links of 12, a run of 16 with a mark of 1 for each
 //! element, 4 of the stack with a flag of 1, and 4 to 8 of the buckets: 71 to 75 bytes, beside the room
@@ -38,9 +43,9 @@
 #![tactic(auto)]
 
 mod buckets;
+mod chaining;
 mod chains;
 mod found;
-mod free_list;
 mod hash;
 mod listing;
 mod lists;

@@ -1,15 +1,17 @@
-// The lists are made, and what they tell is found without them.
-ghost use Rattle.std.specs.Prelude.{◌≡◌, ◌+◌, ◌-◌, ◌<◌, ◌^◌, bit_and, length, take, IfSome, IfNone, MatchBool, ℕ};
+// The lists are made, and what they and the buckets tell is found without them.
+ghost use Rattle.std.specs.Prelude.{◌≡◌, ◌≢◌, ◌+◌, ◌-◌, ◌<◌, ◌^◌, bit_and, length, take, ℕ};
+ghost use Rattle.std.specs.Prelude.{IfSome, IfNone, MatchBool, Some};
 ghost use Rattle.std.specs.FinMap.{get, empty};
 ghost use Rattle.std.specs.Option.{IsSome};
 ghost use Rattle.sd_runs.specs.Arena.{Arena};
 ghost use Rattle.sd_unique.specs.Chains.{AreInLists, IsRecordAt, head_of, kept_hash};
 ghost use Rattle.sd_unique.specs.Chains.{list_by, list_under, no_record};
-ghost use Rattle.sd_unique.specs.Record.{nodes_of};
+ghost use Rattle.sd_unique.specs.Record.{nodes_of, AreRecordsStored};
 ghost use Rattle.sd_unique.specs.Relinking.{IsLinkedAt};
 
 use crate::lists::link_first;
 use crate::record::{Links, Record, RecordState};
+use sd_runs::Runs;
 
 // Puts each record that is that of a node in its list, where all lists are empty.
 pub(crate) fn list_all(records: &[Record], links: &mut [Links], places: &mut [u32])
@@ -63,6 +65,29 @@ pub(crate) fn linked_among(records: &[Record], place: u32) -> Option<u32>
 {
     for number in 0..records.len() {
         if is_at(&records[number], place) {
+            return Some(number as u32);
+        }
+    }
+    None
+}
+
+// The number of the linked node with this place and list, or None where there is none.
+pub(crate) fn keyed_among(
+    runs: &Runs,
+    records: &[Record],
+    place: u32,
+    list: &[(u32, u32)],
+) -> Option<u32>
+    requires stored { AreRecordsStored runs.now records.now }
+    ensures some { IfSome result (λ n. get (nodes_of runs.now records.now).linked n ≡ Some (place, list.now)) }
+    ensures none { IfNone result ((n : ℕ) → get (nodes_of runs.now records.now).linked n ≢ Some (place, list.now)) }
+{
+    for number in 0..records.len() {
+        let record = &records[number];
+        if is_at(record, place)
+            && record.length as usize == list.len()
+            && runs.get(record.start, record.length) == list
+        {
             return Some(number as u32);
         }
     }

@@ -1,10 +1,10 @@
 // Nodes by number and by key.
 
-use crate::buckets::{empty_heads, link_all};
+use crate::buckets::{empty_chains, empty_heads};
+use crate::chaining::chain_all;
 use crate::found::Found;
-use crate::free_list::order_free;
 use crate::hash::{bucket_at, hash};
-use crate::listing::{detached_among, linked_among, list_all};
+use crate::listing::{detached_among, keyed_among, linked_among, list_all};
 use crate::lists::{at_place, put_first};
 use crate::record::{Links, NO_RECORD, Record, RecordState};
 use crate::stack::Candidates;
@@ -17,11 +17,15 @@ use std::marker::Model;
 // exchange no record of a smaller table is ever copied.
 const FIRST_RECORDS: usize = 65_536;
 
-// The free numbers are put in order once more than this part of the records was freed since they were
-// last put in order. That reads each record and the mark of each element once: a number that was freed
-// pays for fewer than eight records, 256 bytes in a row, and their elements' marks. Small sweeps of a
-// large table go on without a pass until then: what they scramble costs less than a pass for each.
+// A sweep ends with a pass that chains all records anew, and puts the free numbers in order with that, once more than
+// this part of the records was freed since the last pass. Small sweeps of a large table go on without one until then:
+// what they scramble costs less than a pass for each.
 const PART_FREED: usize = 8;
+
+// Where a sweep is of more candidates than the part above, and more than this part was freed since the last pass, what
+// goes on dying is not taken out of its bucket any more, and the sweep ends with the pass. What was freed by then bounds
+// how often that comes where nodes are taken away and made in turn.
+const PART_DYING: usize = 64;
 
 // So many records at least, as fewer stay near in any order: those of a table that is put in order do
 // not fit the cache of a processor.
@@ -49,11 +53,13 @@ pub struct Nodes {
     places: Vec<u32>,
     /// The stack of numbers that may be those of linked nodes without uses.
     candidates: Candidates,
-    /// How many numbers `retire` freed since the free numbers were last put in order, or the greatest
-    /// `u32`.
+    /// How many numbers `retire` freed since `rechain` was last called, or the greatest `u32`.
     freed: u32,
     /// The number that was given last: where they are put in order, the free ones from it on come first.
     newest: u32,
+    /// Whether the chains of the buckets stand. In the midst of a large sweep they don't: its end makes them
+    /// anew, and what it takes away need not be taken out of them.
+    chained: bool,
 }
 
 impl Model for Nodes {
@@ -67,7 +73,7 @@ impl Model for Nodes {
 
     ghost view = { λ a. nodes_of a.runs a.records.items };
 
-    ghost invariant = { λ a. HoldsNodes a.runs a.records.items a.links.items a.heads.items
+    ghost invariant = { λ a. HoldsNodes a.chained a.runs a.records.items a.links.items a.heads.items
         a.places.items
         a.candidates.0 };
 }
@@ -76,7 +82,7 @@ impl Nodes {
     ghost use Rattle.sd_unique.specs.Chains.{hash_of};
     ghost use Rattle.sd_unique.specs.Finding.{IfPresent, IfNew};
     ghost use Rattle.sd_unique.specs.Occupying.{IsFreeNumber, occupied};
-    ghost use Rattle.std.specs.Prelude.{◌≡◌, ◌≢◌, ◌+◌, ◌-◌, ◌<◌, ◌^◌, length};
+    ghost use Rattle.std.specs.Prelude.{◌≡◌, ◌≢◌, ◌+◌, ◌-◌, ◌<◌, ◌≤◌, ◌^◌, length};
     ghost use Rattle.std.specs.Prelude.{OnOk, OnErr, IfOk, IfErr, IfSome, IfNone, Some, None, ℕ, List};
     ghost use Rattle.std.specs.Option.{option_map, IsSome};
     ghost use Rattle.std.specs.FinMap.{get, contains_key, empty};
@@ -101,11 +107,12 @@ impl Nodes {
             candidates: Candidates::with_capacity(alloc, FIRST_RECORDS)?,
             freed: 0,
             newest: 0,
+            chained: true,
         })
     }
 
     /// The number of the linked node with this place and list, or None where no linked node has
-    /// them.
+    /// them. In the midst of a large sweep this goes over all records.
     pub fn find(&self, place: u32, list: &[(u32, u32)]) -> Option<u32>
         ensures some { IfSome result (λ n. get self.now.linked n ≡ Some (place, list.now)) }
         ensures none { IfNone result ((n : ℕ) → get self.now.linked n ≢ Some (place, list.now)) }
@@ -122,6 +129,9 @@ impl Nodes {
         ensures none { IfNone result ((n : ℕ) → get self.now.linked n ≢ Some (place, list.now)) }
         ensures nodes { IsNodes self.now }
     {
+        if !self.chained {
+            return keyed_among(&self.runs, &self.records, place, list);
+        }
         let mut number = self.heads[bucket_at(hash, self.heads.len() - 1) + 1];
         // A chain has no more records than there are in all.
         for _step in 0..self.records.len() {
@@ -142,7 +152,7 @@ impl Nodes {
 
     /// Makes a linked node with this place and list, with no uses and mark 0, and answers its number.
     /// No linked node may have them yet, and the list has one element or more. After an error nothing
-    /// is changed.
+    /// is changed. In the midst of a large sweep this chains all records first.
     #[inline(always)]
     pub fn insert(&mut self, place: u32, list: &[(u32, u32)]) -> Result<u32, TakeError>
         requires at_least_one { 0 < length list.now }
@@ -154,11 +164,13 @@ impl Nodes {
         ensures err { OnErr result (self.new ≡ self.old) }
         ensures full { IfErr result (λ e. IsRefusal self.old (length list.now) e) }
     {
+        self.ensure_chained();
         self.insert_hashed(hash(place, list), place, list)
     }
 
     /// Finds the linked node with this place and list, or makes it as `insert` does. The list has one
-    /// element or more. After an error nothing is changed.
+    /// element or more. After an error nothing is changed. In the midst of a large sweep this chains all
+    /// records first.
     #[inline(always)]
     pub fn find_or_insert(&mut self, place: u32, list: &[(u32, u32)]) -> Result<Found, TakeError>
         requires at_least_one { 0 < length list.now }
@@ -177,6 +189,7 @@ impl Nodes {
         ensures refused { OnErr result (IsAbsent self.old (place, list.now)) }
         ensures full { IfErr result (λ e. IsRefusal self.old (length list.now) e) }
     {
+        self.ensure_chained();
         let hash = hash(place, list);
         if let Some(node) = self.lookup(hash, place, list) {
             return Ok(Found::Present(node));
@@ -227,9 +240,20 @@ impl Nodes {
     {
         let buckets = self.heads.len() - 1;
         if let Ok(mut heads) = empty_heads(self.alloc, 2 * buckets + 1) {
-            heads[0] = self.heads[0];
-            link_all(&self.runs, &self.links, &mut self.records, &mut heads);
+            let from = self.first_in_order();
+            chain_all(&self.runs, &self.links, &mut self.records, &mut heads, from);
             self.heads = heads;
+            self.chained = true;
+        }
+    }
+
+    // Makes the chains of the buckets, where they don't stand.
+    #[inline(always)]
+    fn ensure_chained(&mut self)
+        ensures { self.new ≡ self.old }
+    {
+        if !self.chained {
+            self.rechain();
         }
     }
 
@@ -521,6 +545,7 @@ impl Nodes {
             &mut self.heads,
             &mut self.places,
             node,
+            self.chained,
         );
     }
 
@@ -580,17 +605,20 @@ impl Nodes {
             &mut self.heads,
             &mut self.places,
             node,
+            self.chained,
         );
         self.candidates.pop_top(node);
         self.freed = self.freed.saturating_add(1);
     }
 
-    /// A linked node without uses, where there is one: any of them.
+    /// A linked node without uses, where there is one: any of them. The answer None ends a sweep, and
+    /// behind a large one it comes with a step for each record.
     pub fn idle(&mut self) -> Option<u32>
         ensures some { IfSome result (λ n. IsIdle self.new n) }
         ensures none { IfNone result ((n : ℕ) → ¬ IsIdle self.new n) }
         ensures same { self.new ≡ self.old }
     {
+        self.begin_sweep();
         let Some(node) = self.candidates.pop_used(&self.records) else {
             self.end_sweep();
             return None;
@@ -598,33 +626,70 @@ impl Nodes {
         Some(node)
     }
 
-    // Puts the free numbers and the free runs of two in order where a great part of the records was freed
-    // since that was done.
+    // Lets the chains of the buckets go in a large sweep, which ends with making them anew.
+    #[inline(always)]
+    fn begin_sweep(&mut self)
+        ensures { self.new ≡ self.old }
+    {
+        let count = self.records.len();
+        if self.chained
+            && self.is_large()
+            && self.freed as usize > count / PART_DYING
+            && self.candidates.depth() > count / PART_FREED
+        {
+            self.chained = false;
+        }
+    }
+
+    // Chains the records anew, and puts the free runs of two in order, where the chains don't stand or a great
+    // part of the records was freed since that was done.
     #[inline(always)]
     fn end_sweep(&mut self)
         ensures { self.new ≡ self.old }
     {
-        let count = self.records.len();
-        if count > LEAST_ORDERED && self.freed as usize > count / PART_FREED {
-            self.order_free();
+        if !self.chained
+            || self.is_large() && self.freed as usize > self.records.len() / PART_FREED
+        {
+            self.rechain();
         }
     }
 
-    // Puts the free numbers in order, those from that of the newest node on first and then the smallest, and the
-    // free runs of two, the length of most lists, likewise. A sweep frees them in the order of the stack,
-    // and nodes that got them in that order stand all over the records, links and runs, where those made
-    // one after the other are read one after the other. Going on behind the newest node, and not from the
-    // smallest number again, new nodes take the place of the oldest ones: numbers mostly stay in the
-    // order in which nodes were made, round and round, and what dies together stands together.
+    // Whether the records of the table do not stay near in any order.
+    #[inline(always)]
+    fn is_large(&self) -> bool {
+        self.records.len() > LEAST_ORDERED
+    }
+
+    // Makes all chains anew: the free numbers in order, those from that of the newest node on first and then the
+    // smallest, and the linked ones among the buckets. Puts the free runs of two, the length of most lists, in order
+    // likewise. A sweep frees them in the order of the stack, and nodes that got them in that order stand all over the
+    // records, links and runs, where those made one after the other are read one after the other. Going on behind the
+    // newest node, and not from the smallest number again, new nodes take the place of the oldest ones: numbers mostly
+    // stay in the order in which nodes were made, round and round, and what dies together stands together.
     #[inline(never)]
-    fn order_free(&mut self)
+    fn rechain(&mut self)
         ensures { self.new ≡ self.old }
     {
-        let from = (self.newest as usize).min(self.records.len());
+        let from = self.first_in_order();
         let start = self.start_at(from);
-        order_free(&self.runs, &mut self.records, &mut self.heads, from);
+        empty_chains(&mut self.heads);
+        chain_all(
+            &self.runs,
+            &self.links,
+            &mut self.records,
+            &mut self.heads,
+            from,
+        );
         self.runs.order_twos(start);
         self.freed = 0;
+        self.chained = true;
+    }
+
+    // The number from which the free ones are put in order: that of the newest node.
+    fn first_in_order(&self) -> usize
+        ensures { result ≤ self.now.records }
+    {
+        (self.newest as usize).min(self.records.len())
     }
 
     // Where the run of a record starts, or 0 where there is no such record.

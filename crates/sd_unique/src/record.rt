@@ -20,13 +20,14 @@ pub(crate) struct Record {
     pub(crate) start: u32,
     /// The length of that run.
     pub(crate) length: u32,
-    /// The number that follows in the chain of the node's bucket, or among the free records.
+    /// The number that follows among the free records, or in the chain of the node's bucket while that
+    /// chain stands.
     pub(crate) next: u32,
     /// How often the layer above uses the node.
     pub(crate) uses: u64,
     /// A word of the layer above.
     pub(crate) mark: u32,
-    /// Says in which chain and in which list the record stands.
+    /// Says in which chain, where that stands, and in which list the record stands.
     pub(crate) state: RecordState,
 }
 

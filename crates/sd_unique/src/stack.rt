@@ -46,6 +46,12 @@ impl Candidates {
         })
     }
 
+    // How many numbers stand in the stack.
+    #[inline(always)]
+    pub(crate) fn depth(&self) -> usize {
+        self.depth
+    }
+
     // Makes room for one more number.
     pub(crate) fn reserve(&mut self) -> Result<(), AllocError>
         ensures same { self.new.0 ≡ self.old.0 }

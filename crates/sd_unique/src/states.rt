@@ -8,7 +8,7 @@ ghost use Rattle.sd_unique.specs.Candidates.{Waits};
 ghost use Rattle.sd_unique.specs.Record.{nodes_of};
 ghost use Rattle.sd_unique.specs.Relinking.{unlinked, relinked, removed, IsAbsent};
 
-use crate::chains::cut;
+use crate::chains::leave_bucket;
 use crate::hash::{bucket_at, hash};
 use crate::lists::{put_first, take_out};
 use crate::record::{Links, Record, RecordState};
@@ -22,21 +22,21 @@ pub(crate) fn detach(
     heads: &mut [u32],
     places: &mut [u32],
     number: u32,
+    chained: bool,
 )
     requires linked { IsSome (get (nodes_of runs.now records.old).linked number) }
     requires kept { (flags : List Bool)
-        × HoldsNodes runs.now records.old links.old heads.old places.old flags }
+        × HoldsNodes chained runs.now records.old links.old heads.old places.old flags }
     ensures kept { (flags : List Bool)
-        → HoldsNodes runs.now records.old links.old heads.old places.old flags
-        → HoldsNodes runs.now records.new links.new heads.new places.new flags }
+        → HoldsNodes chained runs.now records.old links.old heads.old places.old flags
+        → HoldsNodes chained runs.now records.new links.new heads.new places.new flags }
     ensures nodes { (k : ℕ × List (ℕ × ℕ))
         → get (nodes_of runs.now records.old).linked number ≡ Some k
         → nodes_of runs.now records.new ≡ unlinked (nodes_of runs.now records.old) number k }
 {
     let place = records[number as usize].place;
     let hash = links[number as usize].hash;
-    let head = bucket_at(hash, heads.len() - 1) + 1;
-    cut(records, heads, head, number);
+    leave_bucket(runs, links, records, heads, number, chained);
     take_out(links, places, (place & 2047) as usize + 1, number);
     put_first(links, places, 0, number, hash);
     records[number as usize].state = RecordState::Detached;
@@ -55,12 +55,12 @@ pub(crate) fn attach(
     requires absent { (k : ℕ × List (ℕ × ℕ))
         → get (nodes_of runs.now records.old).detached number ≡ Some k
         → IsAbsent (nodes_of runs.now records.old) k }
-    requires kept { (flags : List Bool)
-        × HoldsNodes runs.now records.old links.old heads.old places.old flags }
-    ensures kept { (flags : List Bool)
+    requires kept { (chained : Bool) × (flags : List Bool)
+        × HoldsNodes chained runs.now records.old links.old heads.old places.old flags }
+    ensures kept { (chained : Bool) (flags : List Bool)
         → (get (nodes_of runs.now records.old).uses number ≡ Some 0 → Waits flags number)
-        → HoldsNodes runs.now records.old links.old heads.old places.old flags
-        → HoldsNodes runs.now records.new links.new heads.new places.new flags }
+        → HoldsNodes chained runs.now records.old links.old heads.old places.old flags
+        → HoldsNodes chained runs.now records.new links.new heads.new places.new flags }
     ensures nodes { (k : ℕ × List (ℕ × ℕ))
         → get (nodes_of runs.now records.old).detached number ≡ Some k
         → nodes_of runs.now records.new ≡ relinked (nodes_of runs.now records.old) number k }
@@ -88,11 +88,11 @@ pub(crate) fn release(
     number: u32,
 )
     requires detached { IsSome (get (nodes_of runs.old records.old).detached number) }
-    requires kept { (flags : List Bool)
-        × HoldsNodes runs.old records.old links.old heads.old places.old flags }
-    ensures kept { (flags : List Bool)
-        → HoldsNodes runs.old records.old links.old heads.old places.old flags
-        → HoldsNodes runs.new records.new links.new heads.new places.new flags }
+    requires kept { (chained : Bool) × (flags : List Bool)
+        × HoldsNodes chained runs.old records.old links.old heads.old places.old flags }
+    ensures kept { (chained : Bool) (flags : List Bool)
+        → HoldsNodes chained runs.old records.old links.old heads.old places.old flags
+        → HoldsNodes chained runs.new records.new links.new heads.new places.new flags }
     ensures nodes { (k : ℕ × List (ℕ × ℕ))
         → get (nodes_of runs.old records.old).detached number ≡ Some k
         → nodes_of runs.new records.new ≡ removed (nodes_of runs.old records.old) number k.1 }
@@ -114,13 +114,14 @@ pub(crate) fn free(
     heads: &mut [u32],
     places: &mut [u32],
     node: u32,
+    chained: bool,
 )
     requires linked { IsSome (get (nodes_of runs.old records.old).linked node) }
     requires kept { (flags : List Bool)
-        × HoldsNodes runs.old records.old links.old heads.old places.old flags }
+        × HoldsNodes chained runs.old records.old links.old heads.old places.old flags }
     ensures kept { (flags : List Bool)
-        → HoldsNodes runs.old records.old links.old heads.old places.old flags
-        → HoldsNodes runs.new records.new links.new heads.new places.new flags }
+        → HoldsNodes chained runs.old records.old links.old heads.old places.old flags
+        → HoldsNodes chained runs.new records.new links.new heads.new places.new flags }
     ensures free { (r : Record) → slice_get records.new node ≡ Some r
         → r.state ≡ RecordState.Free }
     ensures nodes { (k : ℕ × List (ℕ × ℕ))
@@ -129,9 +130,7 @@ pub(crate) fn free(
         ≡ removed (unlinked (nodes_of runs.old records.old) node k) node k.1 }
 {
     let place = records[node as usize].place;
-    let hash = links[node as usize].hash;
-    let head = bucket_at(hash, heads.len() - 1) + 1;
-    cut(records, heads, head, node);
+    leave_bucket(runs, links, records, heads, node, chained);
     take_out(links, places, (place & 2047) as usize + 1, node);
     let mut record = records[node as usize];
     record.next = heads[0];

@@ -248,6 +248,53 @@ fn as_many_again(rt: HostRuntime) -> Result<(), Fail> {
     Ok(())
 }
 
+/// Of 40,000 nodes all but every fourth are retired in a sweep. In its midst, where the buckets have no chains any
+/// more, nodes are found by their keys, and a new one gets the greatest number that is free; behind it the nodes that
+/// are used are found and no others, and the next new one gets the least number that is free.
+#[test]
+fn found_within_a_sweep(rt: HostRuntime) -> Result<(), Fail> {
+    let mut nodes = Nodes::new(rt.alloc(), 100_000)?;
+    for place in 0..40_000_u32 {
+        nodes.find_or_insert(place, &[(place, 1), (place, 0)])?;
+        if place % 4 == 0 {
+            use_once(&mut nodes, place);
+        }
+    }
+    retire_idle(&mut nodes, 5_000);
+    assert_eq!(rt; nodes.find(39_998, &[(39_998, 1), (39_998, 0)]), None);
+    assert_eq!(rt;
+        nodes.find(39_996, &[(39_996, 1), (39_996, 0)]),
+        Some(39_996)
+    );
+    assert_eq!(rt; nodes.find(2, &[(2, 1), (2, 0)]), Some(2));
+    let found = nodes.find_or_insert(50_000, &[(50_000, 1), (50_000, 0)])?;
+    assert_eq!(rt; found, Found::New(39_999));
+    use_once(&mut nodes, 50_000);
+    retire_idle(&mut nodes, 40_000);
+    assert_eq!(rt; (nodes.idle(), nodes.used()), (None, 20_002));
+    for place in 0..40_000_u32 {
+        let is_there = nodes.find(place, &[(place, 1), (place, 0)]).is_some();
+        assert_eq!(rt; is_there, place % 4 == 0);
+    }
+    assert_eq!(rt;
+        nodes.find(50_000, &[(50_000, 1), (50_000, 0)]),
+        Some(39_999)
+    );
+    let next = nodes.find_or_insert(50_001, &[(50_001, 1), (50_001, 0)])?;
+    assert_eq!(rt; (next, nodes.records()), (Found::New(1), 40_000));
+    Ok(())
+}
+
+// Retires so many idle nodes, as far as there are.
+fn retire_idle(nodes: &mut Nodes, count: u32) {
+    for _step in 0..count {
+        let Some(node) = nodes.idle() else {
+            return;
+        };
+        nodes.retire(node);
+    }
+}
+
 // Counts one use of the node of this place, if it has none.
 fn use_once(nodes: &mut Nodes, place: u32) {
     if let Some(node) = nodes.find(place, &[(place, 1), (place, 0)]) {

@@ -68,5 +68,7 @@ pub(crate) fn swept(nodes: &mut Nodes, count: u32) -> u64 {
             sum = sum.wrapping_add(u64::from(node));
         }
     }
+    // the answer None ends the sweep
+    let _ = nodes.idle();
     sum
 }

@@ -22,14 +22,14 @@ slice_copy_out-record c = detached_inside c.args.runs.now c.args.records.now c.a
 pub get-list-requires : goal.get-list-requires
 get-list-requires c =
     let read = detached_here c.args.runs.now c.args.records.now c.args.number blank c.requires.detached in
-    c.requires.kept.1.stored.live c.args.number (get_or c.args.records.now c.args.number blank) read.0
+    c.requires.kept.2.stored.live c.args.number (get_or c.args.records.now c.args.number blank) read.0
     (detached_node (get_or c.args.records.now c.args.number blank).state read.1)
 
 pub take_out-requires-clause-inside : goal.take_out-requires-clause-inside
 take_out-requires-clause-inside c =
     omega (
       arith,
-      c.requires.kept.1.linked_all,
+      c.requires.kept.2.linked_all,
       detached_inside c.args.runs.now c.args.records.now c.args.number c.requires.detached,
     )
 
@@ -39,8 +39,8 @@ take_out-requires-clause-listed c =
       list_under c.args.records.now,
       detached_list c.args.runs.now c.args.records.now c.args.number (get_or c.args.records.now c.args.number blank)
           read.0 read.1,
-      (λ i b e. omega (arith, c.requires.kept.1.linked_all, list_inside c.args.records.now i b e)),
-      c.requires.kept.1.in_lists,
+      (λ i b e. omega (arith, c.requires.kept.2.linked_all, list_inside c.args.records.now i b e)),
+      c.requires.kept.2.in_lists,
     )
 
 pub put_first-requires-clause-inside : goal.put_first-requires-clause-inside
@@ -48,13 +48,13 @@ put_first-requires-clause-inside c =
     omega (
       arith,
       c.take_out.auto.links,
-      c.requires.kept.1.linked_all,
+      c.requires.kept.2.linked_all,
       detached_inside c.args.runs.now c.args.records.now c.args.number c.requires.detached,
     )
 
 pub put_first-requires-clause-at_least_one : goal.put_first-requires-clause-at_least_one
 put_first-requires-clause-at_least_one c =
-    is_record c.args.number c.requires.kept.1.stored
+    is_record c.args.number c.requires.kept.2.stored
     (detached_inside c.args.runs.now c.args.records.now c.args.number c.requires.detached)
 
 pub put_first-requires-clause-listed : goal.put_first-requires-clause-listed
@@ -66,25 +66,25 @@ put_first-requires-clause-listed c =
           (λ i b e. omega (
             arith,
             c.take_out.auto.links,
-            c.requires.kept.1.linked_all,
+            c.requires.kept.2.linked_all,
             list_inside c.args.records.now i b e,
           )),
       c.take_out.ensures.listed (list_under c.args.records.now)
           (detached_list c.args.runs.now c.args.records.now c.args.number
           (get_or c.args.records.now c.args.number blank) read.0 read.1)
-          c.requires.kept.1.in_lists,
+          c.requires.kept.2.in_lists,
     )
 
 pub bounds-records-number : goal.bounds-records-number
 bounds-records-number c = detached_inside c.args.runs.now c.args.records.now c.args.number c.requires.detached
 
 pub returns-clause-kept : goal.returns-clause-kept
-returns-clause-kept c = λ flags queued k.
+returns-clause-kept c = λ chained flags queued k.
     let read = detached_here c.args.runs.now c.args.records.now c.args.number blank c.requires.detached in
     let inside : c.bucket_at-head.result + 1 < length c.args.heads.now = omega (
       arith,
       c.bucket_at-head.ensures.inside,
-      c.requires.kept.1.at_least_one,
+      c.requires.kept.2.at_least_one,
     ) in
     attached_kept c.args.runs.now c.args.records.now c.args.number (get_or c.args.records.now c.args.number blank) _
     read.0 refl refl refl refl refl read.1 refl c.args.links.now c.put_first.new.links c.args.heads.now

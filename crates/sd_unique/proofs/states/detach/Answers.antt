@@ -1,13 +1,11 @@
-use Rattle.std.proofs.Common.{◌<◌, ◌-◌, length, get_or, refl, ◌∙◌, arith}
+use Rattle.std.proofs.Common.{◌<◌, length, get_or, refl, ◌∙◌, arith}
 use Rattle.sd_unique.specs.declared.record.Record.{Record}
 use Rattle.sd_unique.specs.declared.record.RecordState.TheVariants.{Free}
-use Rattle.sd_unique.specs.Chains.{chain_under, list_under}
+use Rattle.sd_unique.specs.Chains.{list_under}
 use Rattle.sd_unique.specs.Filed.{unfiled}
 use Rattle.sd_unique.proofs.Both.{unfiled_here}
-use Rattle.sd_unique.proofs.Listed.{link_read}
-use Rattle.sd_unique.specs.declared.record.Links.{Links}
 use Rattle.sd_unique.proofs.Detaching.{detached_kept, nodes_detached}
-use Rattle.sd_unique.proofs.Standing.{chain_inside, list_inside, linked_head, linked_place}
+use Rattle.sd_unique.proofs.Standing.{list_inside, linked_place}
 use Rattle.sd_unique.proofs.Standing.{is_record, unfiled_inside}
 use Rattle.sd_unique.proofs.Entries.{slice_get_at}
 use Rattle.sd_unique.proofs.Numbered.{linked_inside}
@@ -15,9 +13,6 @@ use Rattle.sd_unique.proofs.states.detach.Goals as goal
 
 abbrev blank : Record
 blank = record { place = 0; start = 0; length = 0; next = 0; uses = 0; mark = 0; state = Free }
-
-abbrev blank_links : Links
-blank_links = record { before = 0; after = 0; hash = 0 }
 
 pub bounds-records-number : goal.bounds-records-number
 bounds-records-number c = linked_inside c.args.runs.now c.args.records.now c.args.number c.requires.linked
@@ -29,25 +24,6 @@ bounds-links-number c =
       c.requires.kept.1.linked_all,
       linked_inside c.args.runs.now c.args.records.now c.args.number c.requires.linked,
     )
-
-pub cut-requires-clause-inside : goal.cut-requires-clause-inside
-cut-requires-clause-inside c = linked_inside c.args.runs.now c.args.records.now c.args.number c.requires.linked
-
-pub cut-requires-clause-chained : goal.cut-requires-clause-chained
-cut-requires-clause-chained c = (
-  chain_under c.args.runs.now (length c.args.heads.now - 1) c.args.records.now,
-  linked_head c.args.runs.now c.args.records.now c.args.links.now c.args.number _ blank
-      (length c.args.heads.now - 1) c.bucket_at-head.result c.requires.linked c.requires.kept.1.hashed
-      (link_read (λ (l : Links). l.hash) c.args.links.now c.args.number blank_links
-      (omega (
-        arith,
-        c.requires.kept.1.linked_all,
-        linked_inside c.args.runs.now c.args.records.now c.args.number c.requires.linked,
-      )))
-      c.bucket_at-head.ensures.is,
-  chain_inside c.args.runs.now (length c.args.heads.now - 1) c.args.records.now,
-  c.requires.kept.1.in_chains,
-)
 
 pub take_out-requires-clause-inside : goal.take_out-requires-clause-inside
 take_out-requires-clause-inside c =
@@ -99,34 +75,24 @@ pub bounds-records-number-2 : goal.bounds-records-number-2
 bounds-records-number-2 c =
     omega (
       arith,
-      c.cut.ensures.kept.size,
+      c.leave_bucket.ensures.kept.size,
       linked_inside c.args.runs.now c.args.records.now c.args.number c.requires.linked,
     )
 
 pub returns-clause-kept : goal.returns-clause-kept
 returns-clause-kept c = λ flags k.
-    let inside : c.args.number < length c.cut.new.records = omega (
+    let inside : c.args.number < length c.leave_bucket.new.records = omega (
       arith,
-      c.cut.ensures.kept.size,
+      c.leave_bucket.ensures.kept.size,
       linked_inside c.args.runs.now c.args.records.now c.args.number c.requires.linked,
     ) in
-    detached_kept c.args.runs.now c.args.records.now c.cut.new.records c.args.number
-    (get_or c.cut.new.records c.args.number blank) _ c.cut.ensures.kept
-    (slice_get_at c.cut.new.records c.args.number blank inside) refl refl refl refl refl refl c.args.links.now
-    c.put_first.new.links c.args.heads.now c.cut.new.heads c.args.places.now c.put_first.new.places flags
-    c.requires.linked refl c.cut.auto.heads (c.put_first.auto.places ∙ c.take_out.auto.places)
+    detached_kept c.args.runs.now c.args.records.now c.leave_bucket.new.records c.args.number
+    (get_or c.leave_bucket.new.records c.args.number blank) _ c.leave_bucket.ensures.kept
+    (slice_get_at c.leave_bucket.new.records c.args.number blank inside) refl refl refl refl refl refl c.args.links.now
+    c.put_first.new.links c.args.heads.now c.leave_bucket.new.heads c.args.places.now c.put_first.new.places flags
+    c.requires.linked refl c.leave_bucket.auto.heads (c.put_first.auto.places ∙ c.take_out.auto.places)
     (c.put_first.auto.links ∙ c.take_out.auto.links)
-    (c.cut.ensures.chained (chain_under c.args.runs.now (length c.args.heads.now - 1) c.args.records.now)
-    (linked_head c.args.runs.now c.args.records.now c.args.links.now c.args.number _ blank
-    (length c.args.heads.now - 1) c.bucket_at-head.result c.requires.linked k.hashed
-    (link_read (λ (l : Links). l.hash) c.args.links.now c.args.number blank_links
-    (omega (
-      arith,
-      k.linked_all,
-      linked_inside c.args.runs.now c.args.records.now c.args.number c.requires.linked,
-    )))
-    c.bucket_at-head.ensures.is)
-    k.in_chains)
+    c.leave_bucket.ensures.left
     (c.put_first.ensures.listed (unfiled c.args.number (list_under c.args.records.now))
     (unfiled_here c.args.number (list_under c.args.records.now) c.args.number refl)
     (c.take_out.ensures.listed (list_under c.args.records.now)
@@ -136,11 +102,11 @@ returns-clause-kept c = λ flags k.
 
 pub returns-clause-nodes : goal.returns-clause-nodes
 returns-clause-nodes c = λ k e.
-    let inside : c.args.number < length c.cut.new.records = omega (
+    let inside : c.args.number < length c.leave_bucket.new.records = omega (
       arith,
-      c.cut.ensures.kept.size,
+      c.leave_bucket.ensures.kept.size,
       linked_inside c.args.runs.now c.args.records.now c.args.number c.requires.linked,
     ) in
-    nodes_detached c.args.runs.now c.args.records.now c.cut.new.records c.args.number
-    (get_or c.cut.new.records c.args.number blank) _ c.cut.ensures.kept
-    (slice_get_at c.cut.new.records c.args.number blank inside) refl refl refl refl refl refl k e
+    nodes_detached c.args.runs.now c.args.records.now c.leave_bucket.new.records c.args.number
+    (get_or c.leave_bucket.new.records c.args.number blank) _ c.leave_bucket.ensures.kept
+    (slice_get_at c.leave_bucket.new.records c.args.number blank inside) refl refl refl refl refl refl k e

@@ -1,52 +1,20 @@
-use Rattle.std.proofs.Common.{◌<◌, ◌-◌, length, get_or, refl, arith}
+use Rattle.std.proofs.Common.{◌<◌, length, get_or, refl, arith}
 use Rattle.std.specs.FinMap.{get}
-use Rattle.sd_unique.specs.declared.record.Links.{Links}
 use Rattle.sd_unique.specs.declared.record.Record.{Record}
 use Rattle.sd_unique.specs.declared.record.RecordState.TheVariants.{Free}
-use Rattle.sd_unique.specs.Chains.{chain_under, list_under, no_record}
+use Rattle.sd_unique.specs.Chains.{list_under, no_record}
 use Rattle.sd_unique.proofs.Entries.{option_map_some, slice_get_at}
-use Rattle.sd_unique.proofs.Listed.{link_read}
 use Rattle.sd_unique.proofs.Numbered.{linked_inside}
 use Rattle.sd_unique.proofs.Retired.{run_live, retired_kept, nodes_retired, state_set}
 use Rattle.sd_unique.proofs.Reading.{get_or_any}
-use Rattle.sd_unique.proofs.Standing.{chain_inside, list_inside, linked_head, linked_place}
+use Rattle.sd_unique.proofs.Standing.{list_inside, linked_place}
 use Rattle.sd_unique.proofs.states.free.Goals as goal
 
 abbrev blank : Record
 blank = record { place = 0; start = 0; length = 0; next = 0; uses = 0; mark = 0; state = Free }
 
-abbrev blank_links : Links
-blank_links = record { before = 0; after = 0; hash = 0 }
-
 pub bounds-records-node : goal.bounds-records-node
 bounds-records-node c = linked_inside c.args.runs.now c.args.records.now c.args.node c.requires.linked
-
-pub bounds-links-node : goal.bounds-links-node
-bounds-links-node c =
-    omega (
-      arith,
-      c.requires.kept.1.linked_all,
-      linked_inside c.args.runs.now c.args.records.now c.args.node c.requires.linked,
-    )
-
-pub cut-requires-clause-inside : goal.cut-requires-clause-inside
-cut-requires-clause-inside c = linked_inside c.args.runs.now c.args.records.now c.args.node c.requires.linked
-
-pub cut-requires-clause-chained : goal.cut-requires-clause-chained
-cut-requires-clause-chained c = (
-  chain_under c.args.runs.now (length c.args.heads.now - 1) c.args.records.now,
-  linked_head c.args.runs.now c.args.records.now c.args.links.now c.args.node _ blank
-      (length c.args.heads.now - 1) c.bucket_at-head.result c.requires.linked c.requires.kept.1.hashed
-      (link_read (λ (l : Links). l.hash) c.args.links.now c.args.node blank_links
-      (omega (
-        arith,
-        c.requires.kept.1.linked_all,
-        linked_inside c.args.runs.now c.args.records.now c.args.node c.requires.linked,
-      )))
-      c.bucket_at-head.ensures.is,
-  chain_inside c.args.runs.now (length c.args.heads.now - 1) c.args.records.now,
-  c.requires.kept.1.in_chains,
-)
 
 pub take_out-requires-clause-inside : goal.take_out-requires-clause-inside
 take_out-requires-clause-inside c =
@@ -68,7 +36,7 @@ pub slice_copy_out-record : goal.slice_copy_out-record
 slice_copy_out-record c =
     omega (
       arith,
-      c.cut.ensures.kept.size,
+      c.leave_bucket.ensures.kept.size,
       linked_inside c.args.runs.now c.args.records.now c.args.node c.requires.linked,
     )
 
@@ -76,77 +44,70 @@ pub bounds-records-node-2 : goal.bounds-records-node-2
 bounds-records-node-2 c =
     omega (
       arith,
-      c.cut.ensures.kept.size,
+      c.leave_bucket.ensures.kept.size,
       linked_inside c.args.runs.now c.args.records.now c.args.node c.requires.linked,
     )
 
 pub give-requires : goal.give-requires
 give-requires c =
-    run_live c.args.runs.now c.args.records.now c.cut.new.records c.args.node
-    (get_or c.cut.new.records c.args.node blank) c.cut.ensures.kept
-    (slice_get_at c.cut.new.records c.args.node blank (omega (
+    run_live c.args.runs.now c.args.records.now c.leave_bucket.new.records c.args.node
+    (get_or c.leave_bucket.new.records c.args.node blank) c.leave_bucket.ensures.kept
+    (slice_get_at c.leave_bucket.new.records c.args.node blank (omega (
       arith,
-      c.cut.ensures.kept.size,
+      c.leave_bucket.ensures.kept.size,
       linked_inside c.args.runs.now c.args.records.now c.args.node c.requires.linked,
     )))
     c.requires.linked c.requires.kept.1.stored
 
 pub returns-clause-kept : goal.returns-clause-kept
 returns-clause-kept c = λ flags k.
-    let inside : c.args.node < length c.cut.new.records = omega (
+    let inside : c.args.node < length c.leave_bucket.new.records = omega (
       arith,
-      c.cut.ensures.kept.size,
+      c.leave_bucket.ensures.kept.size,
       linked_inside c.args.runs.now c.args.records.now c.args.node c.requires.linked,
     ) in
-    let there = slice_get_at c.cut.new.records c.args.node blank inside in
+    let there = slice_get_at c.leave_bucket.new.records c.args.node blank inside in
     let had = option_map_some length
-    (get c.args.runs.now.live (get_or c.cut.new.records c.args.node blank).start)
-    (get_or c.cut.new.records c.args.node blank).length
-    (run_live c.args.runs.now c.args.records.now c.cut.new.records c.args.node
-    (get_or c.cut.new.records c.args.node blank) c.cut.ensures.kept there c.requires.linked k.stored) in
-    retired_kept c.args.runs.now c.args.records.now c.cut.new.records c.args.node
-    (get_or c.cut.new.records c.args.node blank) _ c.cut.ensures.kept there refl c.give.new.self k.stored
-    c.requires.linked c.give.ensures.arena c.give.ensures.given_back had.0 had.1 had.2
-    c.args.links.now c.take_out.new.links c.args.heads.now c.cut.new.heads c.args.places.now c.take_out.new.places flags
-    (get_or_any c.cut.new.heads 0 0 no_record (omega (arith, k.at_least_one, c.cut.auto.heads)))
-    c.cut.auto.heads c.take_out.auto.places c.take_out.auto.links
-    (c.cut.ensures.chained (chain_under c.args.runs.now (length c.args.heads.now - 1) c.args.records.now)
-    (linked_head c.args.runs.now c.args.records.now c.args.links.now c.args.node _ blank
-    (length c.args.heads.now - 1) c.bucket_at-head.result c.requires.linked k.hashed
-    (link_read (λ (l : Links). l.hash) c.args.links.now c.args.node blank_links
-    (omega (
-      arith,
-      k.linked_all,
-      linked_inside c.args.runs.now c.args.records.now c.args.node c.requires.linked,
-    )))
-    c.bucket_at-head.ensures.is)
-    k.in_chains)
+    (get c.args.runs.now.live (get_or c.leave_bucket.new.records c.args.node blank).start)
+    (get_or c.leave_bucket.new.records c.args.node blank).length
+    (run_live c.args.runs.now c.args.records.now c.leave_bucket.new.records c.args.node
+    (get_or c.leave_bucket.new.records c.args.node blank) c.leave_bucket.ensures.kept there c.requires.linked
+    k.stored) in
+    retired_kept c.args.runs.now c.args.records.now c.leave_bucket.new.records c.args.node
+    (get_or c.leave_bucket.new.records c.args.node blank) _ c.leave_bucket.ensures.kept there refl c.give.new.self
+    k.stored c.requires.linked c.give.ensures.arena c.give.ensures.given_back had.0 had.1 had.2
+    c.args.links.now c.take_out.new.links c.args.heads.now c.leave_bucket.new.heads c.args.places.now
+    c.take_out.new.places flags
+    (get_or_any c.leave_bucket.new.heads 0 0 no_record (omega (arith, k.at_least_one, c.leave_bucket.auto.heads)))
+    c.leave_bucket.auto.heads c.take_out.auto.places c.take_out.auto.links
+    c.leave_bucket.ensures.left
     (c.take_out.ensures.listed (list_under c.args.records.now)
     (linked_place c.args.runs.now c.args.records.now c.args.node blank c.requires.linked) k.in_lists)
     c.take_out.ensures.hashes k
 
 pub returns-clause-free : goal.returns-clause-free
 returns-clause-free c = λ r e.
-    let inside : c.args.node < length c.cut.new.records = omega (
+    let inside : c.args.node < length c.leave_bucket.new.records = omega (
       arith,
-      c.cut.ensures.kept.size,
+      c.leave_bucket.ensures.kept.size,
       linked_inside c.args.runs.now c.args.records.now c.args.node c.requires.linked,
     ) in
-    state_set c.cut.new.records c.args.node _ r inside refl e
+    state_set c.leave_bucket.new.records c.args.node _ r inside refl e
 
 pub returns-clause-nodes : goal.returns-clause-nodes
 returns-clause-nodes c = λ k e.
-    let inside : c.args.node < length c.cut.new.records = omega (
+    let inside : c.args.node < length c.leave_bucket.new.records = omega (
       arith,
-      c.cut.ensures.kept.size,
+      c.leave_bucket.ensures.kept.size,
       linked_inside c.args.runs.now c.args.records.now c.args.node c.requires.linked,
     ) in
-    let there = slice_get_at c.cut.new.records c.args.node blank inside in
+    let there = slice_get_at c.leave_bucket.new.records c.args.node blank inside in
     let had = option_map_some length
-    (get c.args.runs.now.live (get_or c.cut.new.records c.args.node blank).start)
-    (get_or c.cut.new.records c.args.node blank).length
-    (run_live c.args.runs.now c.args.records.now c.cut.new.records c.args.node
-    (get_or c.cut.new.records c.args.node blank) c.cut.ensures.kept there c.requires.linked c.requires.kept.1.stored) in
-    nodes_retired c.args.runs.now c.args.records.now c.cut.new.records c.args.node
-    (get_or c.cut.new.records c.args.node blank) _ c.cut.ensures.kept there refl c.give.new.self
+    (get c.args.runs.now.live (get_or c.leave_bucket.new.records c.args.node blank).start)
+    (get_or c.leave_bucket.new.records c.args.node blank).length
+    (run_live c.args.runs.now c.args.records.now c.leave_bucket.new.records c.args.node
+    (get_or c.leave_bucket.new.records c.args.node blank) c.leave_bucket.ensures.kept there c.requires.linked
+    c.requires.kept.1.stored) in
+    nodes_retired c.args.runs.now c.args.records.now c.leave_bucket.new.records c.args.node
+    (get_or c.leave_bucket.new.records c.args.node blank) _ c.leave_bucket.ensures.kept there refl c.give.new.self
     c.requires.kept.1.stored c.requires.linked c.give.ensures.arena c.give.ensures.given_back had.0 had.1 had.2 k e

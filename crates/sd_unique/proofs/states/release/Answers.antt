@@ -18,7 +18,7 @@ pub take_out-requires-clause-inside : goal.take_out-requires-clause-inside
 take_out-requires-clause-inside c =
     omega (
       arith,
-      c.requires.kept.1.linked_all,
+      c.requires.kept.2.linked_all,
       detached_inside c.args.runs.now c.args.records.now c.args.number c.requires.detached,
     )
 
@@ -28,8 +28,8 @@ take_out-requires-clause-listed c =
       list_under c.args.records.now,
       detached_list c.args.runs.now c.args.records.now c.args.number (get_or c.args.records.now c.args.number blank)
           read.0 read.1,
-      (λ i b e. omega (arith, c.requires.kept.1.linked_all, list_inside c.args.records.now i b e)),
-      c.requires.kept.1.in_lists,
+      (λ i b e. omega (arith, c.requires.kept.2.linked_all, list_inside c.args.records.now i b e)),
+      c.requires.kept.2.in_lists,
     )
 
 pub slice_copy_out-record : goal.slice_copy_out-record
@@ -41,11 +41,11 @@ bounds-records-number c = detached_inside c.args.runs.now c.args.records.now c.a
 pub give-requires : goal.give-requires
 give-requires c =
     let read = detached_here c.args.runs.now c.args.records.now c.args.number blank c.requires.detached in
-    c.requires.kept.1.stored.live c.args.number (get_or c.args.records.now c.args.number blank) read.0
+    c.requires.kept.2.stored.live c.args.number (get_or c.args.records.now c.args.number blank) read.0
     (detached_node (get_or c.args.records.now c.args.number blank).state read.1)
 
 pub returns-clause-kept : goal.returns-clause-kept
-returns-clause-kept c = λ flags k.
+returns-clause-kept c = λ chained flags k.
     let read = detached_here c.args.runs.now c.args.records.now c.args.number blank c.requires.detached in
     let had = option_map_some length
     (get c.args.runs.now.live (get_or c.args.records.now c.args.number blank).start)
@@ -70,8 +70,8 @@ returns-clause-nodes c = λ k e.
     let had = option_map_some length
     (get c.args.runs.now.live (get_or c.args.records.now c.args.number blank).start)
     (get_or c.args.records.now c.args.number blank).length
-    (c.requires.kept.1.stored.live c.args.number (get_or c.args.records.now c.args.number blank) read.0
+    (c.requires.kept.2.stored.live c.args.number (get_or c.args.records.now c.args.number blank) read.0
     (detached_node (get_or c.args.records.now c.args.number blank).state read.1)) in
     nodes_released c.args.runs.now c.args.records.now c.args.number
-    (get_or c.args.records.now c.args.number blank) _ read.0 read.1 refl c.give.new.self c.requires.kept.1.stored
+    (get_or c.args.records.now c.args.number blank) _ read.0 read.1 refl c.give.new.self c.requires.kept.2.stored
     c.give.ensures.arena c.give.ensures.given_back had.0 had.1 had.2 k e

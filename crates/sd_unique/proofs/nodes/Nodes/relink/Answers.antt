@@ -37,6 +37,7 @@ attach-requires-clause-absent c = λ k e n f.
 
 pub attach-requires-clause-kept : goal.attach-requires-clause-kept
 attach-requires-clause-kept c = (
+  c.self.inside.chained,
   c.self.inside.candidates.0,
   kept_as c.self.inside.runs c.self.inside.records.items c.deref_mut.result.now c.self.inside.links.items
       c.deref_mut-2.result.now c.self.inside.heads.items c.deref_mut-3.result.now c.self.inside.places.items
@@ -54,7 +55,7 @@ invariant_of-self c =
     c.self.inside.places.items c.push_unused.new.self.0 _ _ _ _
     (c.attach.auto.records ∙ c.deref_mut.ensures.len) (c.attach.auto.links ∙ c.deref_mut-2.ensures.len)
     (c.attach.auto.heads ∙ c.deref_mut-3.ensures.len) (c.attach.auto.places ∙ c.deref_mut-4.ensures.len)
-    (c.attach.ensures.kept c.push_unused.new.self.0
+    (c.attach.ensures.kept c.self.inside.chained c.push_unused.new.self.0
     (λ e.
     let uses : Some c.index.result.now.uses ≡ Some 0 =
     sym (detached_uses c.self.inside.runs c.self.inside.records.items c.args.node c.index.result.now read.0 read.1)

@@ -10,7 +10,7 @@ invariant_of-self c =
     c.self.inside.places.items c.self.inside.candidates.0 _ _ _ _
     (c.release.auto.records ∙ c.deref_mut.ensures.len) (c.release.auto.links ∙ c.deref_mut-2.ensures.len)
     (c.release.auto.heads ∙ c.deref_mut-3.ensures.len) (c.release.auto.places ∙ c.deref_mut-4.ensures.len)
-    (c.release.ensures.kept c.self.inside.candidates.0
+    (c.release.ensures.kept c.self.inside.chained c.self.inside.candidates.0
     (kept_as c.self.inside.runs c.self.inside.records.items c.deref_mut.result.now c.self.inside.links.items
     c.deref_mut-2.result.now c.self.inside.heads.items c.deref_mut-3.result.now c.self.inside.places.items
     c.deref_mut-4.result.now c.self.inside.candidates.0 c.deref_mut.ensures.value c.deref_mut-2.ensures.value
