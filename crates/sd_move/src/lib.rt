@@ -15,7 +15,7 @@
 //!   limit (`bounding.rt`), or it is settled, which frees the runs (`settling.rt`).
 //!
 //! The cost is in the nodes at these places and the products below them, but for two things: the first move of a
-//! manager lists all nodes by place once, and a sweep may put the free numbers in order. To compile anew under the
+//! manager lists all nodes by place once, and a sweep may chain all records anew. To compile anew under the
 //! moved vtree takes the whole diagram's time: docs/SPEED.md has both measured, and docs/DEFINITIONS.md the argument
 //! with its pictures.
 #![tactic(auto)]

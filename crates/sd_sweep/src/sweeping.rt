@@ -7,8 +7,9 @@
 //! is not reached.
 //!
 //! So a sweep costs what died and what is new since the last one. Clearing all marks and walking from the roots, which
-//! is the usual form, would cost the whole table each time. Only behind what freed a great part of a large table does
-//! a sweep end with a pass over all records, in a row: it puts the free numbers in order, and chains the others anew.
+//! is the usual form, would cost the whole table each time. Only where much of a large table was freed since the last
+//! pass, or less of it in a sweep of very many candidates, does a sweep end with a pass over all records, in a row: it
+//! puts the free numbers in order, and chains the others anew.
 
 ghost use Rattle.std.specs.Prelude.{◌≡◌, ℕ, None};
 ghost use Rattle.std.specs.Option.{IsSome};
@@ -19,7 +20,7 @@ ghost use Rattle.sd_sweep.specs.Reached.{IsReached, IsSwept};
 use sd_manager::Manager;
 
 /// Takes all nodes away that are under no held root and no loose run. Takes no memory, and costs what died and what is
-/// new since the last sweep.
+/// new since the last sweep, and some sweeps of a large table a pass over all records.
 pub fn sweep(m: &mut Manager)
     requires no_move { m.old.moving ≡ None }
     ensures swept { IsSwept m.old m.new }

@@ -98,7 +98,7 @@ AreChained chained arena records heads =
     IsFiled (next_of records) no_record (head_of (heads_in chained heads))
     (under_by (chain_in chained) arena (length heads - 1) records)
 
--- and among the lists
+-- under which head the number of a record is filed among the lists
 abbrev pub list_under : List Record → ℕ → Option ℕ
 list_under records n = option_and_then (λ r. list_by r.state (bit_and r.place 2047)) (slice_get records n)
 

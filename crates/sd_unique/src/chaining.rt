@@ -1,4 +1,4 @@
-// All records are chained anew, by their numbers.
+// All records are chained anew, in the order of their numbers.
 ghost use Rattle.std.specs.Prelude.{◌≡◌, ◌<◌, ◌≤◌, ◌⊎◌, ◌-◌, length, true, ℕ};
 ghost use Rattle.sd_unique.specs.Chains.{head_of, no_record, AreChained, AreHashed, KeepsRecords};
 ghost use Rattle.sd_unique.specs.Record.{AreRecordsStored};
@@ -32,8 +32,8 @@ pub(crate) fn chain_all(
     chain_part(runs, links, records, heads, from, count);
 }
 
-// Puts the records from `below` on and before `above` first in their chains, the last one first, where those before
-// `below` stand in theirs.
+// Where those before `below` stand in their chains, puts the records from `below` on and before `above` in front of
+// them, the last one first, so that the least stands first.
 fn chain_part(
     runs: &Runs,
     links: &[Links],
@@ -60,7 +60,7 @@ fn chain_part(
     }
 }
 
-// Puts the next record of a part first in the chain where it stands, if it stands in any. The part is there for the
+// Puts the next record of a part first in the chain where it has to stand, if in any. The part is there for the
 // contract alone.
 #[inline(always)]
 fn chain_one(

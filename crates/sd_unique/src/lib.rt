@@ -25,16 +25,16 @@
 //! off that `idle` just answered. The other calls are a few loads and stores, but for `new`, which makes
 //! the heads.
 //!
-//! A sweep takes idle nodes until `idle` finds none, and ends there. Once more than an eighth of the
-//! records of a large table was freed, its end makes all chains anew, in one pass over records and heads:
-//! the linked ones among the buckets, and the free numbers in order, with the free runs of two elements,
-//! those from that of the newest node on first and then the smallest. Nodes that are made behind a large
-//! sweep then stand next to one another, in the order in which they are made, as those of a new table do.
-//! In the midst of a sweep of more candidates than an eighth of the records, once a 64th of them was freed,
-//! the chains of the buckets do not stand any more, and the sweep ends with that pass: until then `retire`
-//! leaves them as they are and is a few loads and stores too, `find` goes over all records, and `insert` and
-//! `find_or_insert` call for the pass at once. The buckets double where they are as few as the records, by
-//! the same pass. It reads no list: the links keep the hash of each linked record.
+//! A sweep takes idle nodes until `idle` finds none, and ends there. In a table of more than 32,768 records it
+//! may end with a pass that makes all chains anew: the linked records among the buckets, and the free numbers
+//! in order, with the free runs of two elements, those from that of the newest node on first and then the
+//! smallest. Nodes made behind it stand next to one another, in the order in which they are made, as those of
+//! a new table do. It goes over the records, the links, the heads and the marks of the elements. It comes where
+//! `retire` freed more than an eighth of the records since the last pass, or more than a 32nd, if more than an
+//! eighth stood on the stack in this sweep. In that second case the chains of the buckets do not stand from
+//! then on until the pass: `retire` and `unlink` take nothing out of them and are a few loads and stores too,
+//! `find` goes over all records, and `insert` and `find_or_insert` begin with the pass. The buckets double where
+//! they are as few as the records, which chains all records too. No list is read: the links keep each hash.
 //!
 //! A node of two elements has a record of 32 bytes, links of 12, a run of 16 with a mark of 1 for each
 //! element, 4 of the stack with a flag of 1, and 4 to 8 of the buckets: 71 to 75 bytes, beside the room

@@ -19,13 +19,13 @@ const FIRST_RECORDS: usize = 65_536;
 
 // A sweep ends with a pass that chains all records anew, and puts the free numbers in order with that, once more than
 // this part of the records was freed since the last pass. Small sweeps of a large table go on without one until then:
-// what they scramble costs less than a pass for each.
+// what they scramble costs less than a pass for each. A sweep is large where more than this part stood on the stack.
 const PART_FREED: usize = 8;
 
-// Where a sweep is of more candidates than the part above, and more than this part was freed since the last pass, what
-// goes on dying is not taken out of its bucket any more, and the sweep ends with the pass. What was freed by then bounds
-// how often that comes where nodes are taken away and made in turn.
-const PART_DYING: usize = 64;
+// Where a sweep is large, and more than this part was freed since the last pass, what goes on dying is not taken out
+// of its bucket any more, and the sweep ends with the pass. What must have been freed first bounds how often the pass
+// comes where nodes are taken away and made in turn.
+const PART_DYING: usize = 32;
 
 // So many records at least, as fewer stay near in any order: those of a table that is put in order do
 // not fit the cache of a processor.
@@ -45,8 +45,8 @@ pub struct Nodes {
     records: Vec<Record>,
     /// The links of each record, at its number.
     links: Vec<Links>,
-    /// The first free record, then the first number of the chain of each bucket. There are about as
-    /// many buckets as records, or more.
+    /// The first free record, and while `chained` the first number of each bucket's chain. There are about
+    /// as many buckets as records, or more.
     heads: Vec<u32>,
     /// The first detached record, then the first number of the list of each place, by its remainder.
     /// Nothing before the first move: no lists are kept until then.
@@ -57,8 +57,11 @@ pub struct Nodes {
     freed: u32,
     /// The number that was given last: where they are put in order, the free ones from it on come first.
     newest: u32,
-    /// Whether the chains of the buckets stand. In the midst of a large sweep they don't: its end makes them
-    /// anew, and what it takes away need not be taken out of them.
+    /// Whether the sweep is large: since the last sweep or pass ended, `idle` met more than an eighth of the
+    /// records of a large table on the stack.
+    many: bool,
+    /// Whether the chains of the buckets stand. From some time of a large sweep on they don't, and what dies
+    /// then is not taken out of them: the end of the sweep, or an insertion, makes them anew.
     chained: bool,
 }
 
@@ -107,12 +110,13 @@ impl Nodes {
             candidates: Candidates::with_capacity(alloc, FIRST_RECORDS)?,
             freed: 0,
             newest: 0,
+            many: false,
             chained: true,
         })
     }
 
     /// The number of the linked node with this place and list, or None where no linked node has
-    /// them. In the midst of a large sweep this goes over all records.
+    /// them. In the midst of a large sweep this may go over all records.
     pub fn find(&self, place: u32, list: &[(u32, u32)]) -> Option<u32>
         ensures some { IfSome result (λ n. get self.now.linked n ≡ Some (place, list.now)) }
         ensures none { IfNone result ((n : ℕ) → get self.now.linked n ≢ Some (place, list.now)) }
@@ -152,7 +156,7 @@ impl Nodes {
 
     /// Makes a linked node with this place and list, with no uses and mark 0, and answers its number.
     /// No linked node may have them yet, and the list has one element or more. After an error nothing
-    /// is changed. In the midst of a large sweep this chains all records first.
+    /// is changed. In the midst of a large sweep this may chain all records first.
     #[inline(always)]
     pub fn insert(&mut self, place: u32, list: &[(u32, u32)]) -> Result<u32, TakeError>
         requires at_least_one { 0 < length list.now }
@@ -169,7 +173,7 @@ impl Nodes {
     }
 
     /// Finds the linked node with this place and list, or makes it as `insert` does. The list has one
-    /// element or more. After an error nothing is changed. In the midst of a large sweep this chains all
+    /// element or more. After an error nothing is changed. In the midst of a large sweep this may chain all
     /// records first.
     #[inline(always)]
     pub fn find_or_insert(&mut self, place: u32, list: &[(u32, u32)]) -> Result<Found, TakeError>
@@ -611,8 +615,8 @@ impl Nodes {
         self.freed = self.freed.saturating_add(1);
     }
 
-    /// A linked node without uses, where there is one: any of them. The answer None ends a sweep, and
-    /// behind a large one it comes with a step for each record.
+    /// A linked node without uses, where there is one: any of them. The answer None ends a sweep; where
+    /// that chains all records anew, it takes a step for each record, each bucket and the mark of each element.
     pub fn idle(&mut self) -> Option<u32>
         ensures some { IfSome result (λ n. IsIdle self.new n) }
         ensures none { IfNone result ((n : ℕ) → ¬ IsIdle self.new n) }
@@ -626,18 +630,18 @@ impl Nodes {
         Some(node)
     }
 
-    // Lets the chains of the buckets go in a large sweep, which ends with making them anew.
+    // Notes whether the sweep is large, and lets the chains of the buckets go once enough was freed in it: its end
+    // makes them anew.
     #[inline(always)]
     fn begin_sweep(&mut self)
         ensures { self.new ≡ self.old }
     {
-        let count = self.records.len();
-        if self.chained
-            && self.is_large()
-            && self.freed as usize > count / PART_DYING
-            && self.candidates.depth() > count / PART_FREED
-        {
-            self.chained = false;
+        if self.chained && self.is_large() {
+            let count = self.records.len();
+            self.many = self.many || self.candidates.depth() > count / PART_FREED;
+            if self.many && self.freed as usize > count / PART_DYING {
+                self.chained = false;
+            }
         }
     }
 
@@ -647,6 +651,7 @@ impl Nodes {
     fn end_sweep(&mut self)
         ensures { self.new ≡ self.old }
     {
+        self.many = false;
         if !self.chained
             || self.is_large() && self.freed as usize > self.records.len() / PART_FREED
         {
@@ -682,6 +687,7 @@ impl Nodes {
         );
         self.runs.order_twos(start);
         self.freed = 0;
+        self.many = false;
         self.chained = true;
     }
 

@@ -1,4 +1,4 @@
-// A record comes to another state: it leaves its chain and its list for those of that state.
+// A record comes to another state: it leaves its chain, where that stands, and its list for those of that state.
 ghost use Rattle.std.specs.Prelude.{◌≡◌, slice_get, Some, Bool, ℕ, List};
 ghost use Rattle.sd_unique.specs.declared.record.Record.{Record};
 ghost use Rattle.std.specs.Option.{IsSome};
@@ -42,7 +42,8 @@ pub(crate) fn detach(
     records[number as usize].state = RecordState::Detached;
 }
 
-// Makes a detached record a linked one, whose number waits if it has no uses.
+// Makes a detached record a linked one, whose number waits if it has no uses. Where the buckets have no chains, what
+// this writes to a head and to `next` means nothing.
 pub(crate) fn attach(
     runs: &Runs,
     records: &mut [Record],

@@ -285,6 +285,61 @@ fn found_within_a_sweep(rt: HostRuntime) -> Result<(), Fail> {
     Ok(())
 }
 
+/// In the midst of a large sweep, where the buckets have no chains, a node is unlinked that stood behind a dead one in
+/// its bucket, gets another place and is linked again: it is found there at once and behind the sweep, and no more where
+/// it was.
+#[test]
+fn moved_within_a_sweep(rt: HostRuntime) -> Result<(), Fail> {
+    let mut nodes = Nodes::new(rt.alloc(), 100_000)?;
+    for place in 0..40_000_u32 {
+        nodes.find_or_insert(place, &[(place, 1), (place, 0)])?;
+        if place % 4 == 0 {
+            use_once(&mut nodes, place);
+        }
+    }
+    retire_idle(&mut nodes, 5_000);
+    unlink_at(&mut nodes, 34_068);
+    let list = [(34_068, 1), (34_068, 0)];
+    assert_eq!(rt; nodes.find(34_068, &list), None);
+    assert_eq!(rt; nodes.first_detached(), Some(34_068));
+    if let Some(node) = nodes.first_detached() {
+        nodes.retag(node, 50_000);
+    }
+    link_detached(&mut nodes);
+    assert_eq!(rt; nodes.find(50_000, &list), Some(34_068));
+    retire_idle(&mut nodes, 40_000);
+    assert_eq!(rt; (nodes.idle(), nodes.used()), (None, 20_000));
+    assert_eq!(rt; nodes.find(50_000, &list), Some(34_068));
+    assert_eq!(rt; nodes.find(34_068, &list), None);
+    Ok(())
+}
+
+/// A sweep is large where many nodes stood on the stack in it, also if those that die are few and stand below the
+/// others: behind it the free numbers are in order.
+#[test]
+fn many_on_the_stack(rt: HostRuntime) -> Result<(), Fail> {
+    let mut nodes = Nodes::new(rt.alloc(), 100_000)?;
+    for place in 0..40_000 {
+        nodes.find_or_insert(place, &[(place, 1), (place, 0)])?;
+        use_once(&mut nodes, place);
+    }
+    assert_eq!(rt; nodes.idle(), None);
+    for step in 0..6_000_u32 {
+        drop_one(&mut nodes, step * 37 % 40_000);
+    }
+    for step in 4_000..6_000_u32 {
+        use_once(&mut nodes, step * 37 % 40_000);
+    }
+    retire_idle(&mut nodes, 40_000);
+    assert_eq!(rt; (nodes.idle(), nodes.used()), (None, 72_000));
+    for place in 50_000..50_002 {
+        nodes.find_or_insert(place, &[(place, 1), (place, 0)])?;
+    }
+    assert_eq!(rt; nodes.find(50_000, &[(50_000, 1), (50_000, 0)]), Some(0));
+    assert_eq!(rt; nodes.find(50_001, &[(50_001, 1), (50_001, 0)]), Some(28));
+    Ok(())
+}
+
 // Retires so many idle nodes, as far as there are.
 fn retire_idle(nodes: &mut Nodes, count: u32) {
     for _step in 0..count {
