@@ -99,7 +99,9 @@ fn bind_compiled(
         Ok(root) => root,
         Err(error) => return Err(compiling_error(error)),
     };
-    match state.name_root(name, root) {
+    // what compiling left is swept once more is made
+    let room = state.manager.used();
+    match state.name_root(name, root, room) {
         Ok(()) => Ok(None),
         Err(_) => Err(CommandError::OutOfMemory),
     }
@@ -132,7 +134,7 @@ fn bind_grown(
         Ok(root) => root,
         Err(error) => return Err(error),
     };
-    match state.name_root(name, root) {
+    match state.name_root(name, root, 0) {
         Ok(()) => Ok(None),
         Err(_) => Err(CommandError::OutOfMemory),
     }

@@ -40,7 +40,7 @@ pub struct RunState {
     pub(crate) slack: u32,
     // a search follows each group of the input whose number is a multiple of this
     pub(crate) every: Option<u32>,
-    // the number of elements in use from which on a sweep pays
+    // a sweep pays where more elements than this are in use
     pub(crate) most: u32,
 }
 
@@ -147,15 +147,15 @@ impl RunState {
             Ok(root) => root,
             Err(error) => return Err(holding_error(error, limit)),
         };
-        match self.name_root(name, root) {
+        match self.name_root(name, root, 0) {
             Ok(()) => Ok(()),
             Err(_) => Err(CommandError::OutOfMemory),
         }
     }
 
-    /// Binds a free name to a root that no other name has, and sweeps garbage. The only error: out of memory, and then
-    /// the root is released.
-    pub(crate) fn name_root(&mut self, name: u32, root: Root) -> Result<(), AllocError>
+    /// Binds a free name to a root that no other name has, and sweeps garbage where more than `room` elements are in
+    /// use. The only error: out of memory, and then the root is released.
+    pub(crate) fn name_root(&mut self, name: u32, root: Root, room: u32) -> Result<(), AllocError>
         requires represents { (seen : State) × Represents (without self.old root) seen }
         requires holds { (f : Expression) × HoldsValue self.old.manager root f }
         requires free { IsFree self.old name }
@@ -168,7 +168,7 @@ impl RunState {
     {
         match self.names.insert(name, root) {
             Ok(_) => {
-                self.sweep();
+                self.sweep(room);
                 Ok(())
             }
             Err(refused) => {
@@ -179,13 +179,14 @@ impl RunState {
         }
     }
 
-    // Takes garbage away where there is enough of it.
-    fn sweep(&mut self)
+    // Takes garbage away where there is enough of it, and more than `room` elements are in use.
+    fn sweep(&mut self, room: u32)
         requires represents { (seen : State) × Represents self.old seen }
         ensures represents { (seen : State) → Represents self.old seen → Represents self.new seen }
         ensures vtree { self.new.manager.vtree ≡ self.old.manager.vtree }
         ensures roots { root_count self.new ≡ root_count self.old }
     {
+        self.most = self.most.max(room);
         sweep_past(
             &mut self.manager,
             &self.cache,

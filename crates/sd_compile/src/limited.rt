@@ -37,7 +37,7 @@ pub const LEAST_GARBAGE: u32 = 262_144;
 const LEAST_ROOM: u32 = 4_096;
 
 // From so many elements on, the nodes fill the cache that a processor has for itself.
-const LARGE: u32 = 40_000;
+pub(crate) const LARGE: u32 = 40_000;
 
 // So many elements, garbage included, may be in use in any case before a large diagram is swept, where that is at most
 // three times what the last sweep left.

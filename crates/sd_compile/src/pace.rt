@@ -5,13 +5,16 @@
 // each makes few elements, hardly one does: then a sweep comes while what died is near, and what is made next takes its
 // room in place of new pages. Not so below a long chain of left children, where all work is in the primes and lives on
 // kept answers.
+//
+// Memory that a sweep emptied is there. So behind the largest sweep a large diagram is swept only as the room that was
+// in use then fills up again, and behind the last group never: nothing is made there any more.
 ghost use Rattle.std.specs.Prelude.{◌≡◌, ℕ, ◌<◌, length, None};
 ghost use Rattle.sd_manager.specs.Valid.{IsTable};
 ghost use Rattle.sd_manager.specs.Marking.{AreUnmarked};
 ghost use Rattle.sd_apply.specs.Serving.{Serves};
 ghost use Rattle.sd_compile.specs.Compiling.{MaySweep};
 
-use crate::limited::{room_over, sweep_kept};
+use crate::limited::{LARGE, room_over, sweep_kept};
 use crate::one_pass::is_right_linear;
 use sd_cache::Cache;
 use sd_formula::Formula;
@@ -43,6 +46,12 @@ pub(crate) struct Pace {
     left: u32,
     // how many groups were joined since
     groups: u32,
+    // how many were in use at most before a sweep, or 0
+    peak: u32,
+    // how many were in use behind the last group
+    used: u32,
+    // how many groups are left
+    to_come: usize,
 }
 
 /// The pace of a formula, before its first group.
@@ -55,6 +64,9 @@ pub(crate) fn pace_of(m: &Manager, f: &Formula) -> Pace {
         most: room_over(used, often),
         left: used,
         groups: 0,
+        peak: 0,
+        used,
+        to_come: f.groups(),
     }
 }
 
@@ -76,6 +88,21 @@ fn is_leaf_near(vtree: &Vtree) -> bool {
 }
 
 impl Pace {
+    // Whether what is made next has room without a sweep, where so many elements are in use and the last group made so
+    // many.
+    fn has_room(&self, used: u32, made: u32) -> bool {
+        if self.is_light(used) {
+            return false;
+        }
+        used <= self.most || self.is_in_peak(used, made)
+    }
+
+    // Whether the next group of a large diagram goes into room that was in use before a sweep, also if it makes twice
+    // as many elements as the last one.
+    fn is_in_peak(&self, used: u32, made: u32) -> bool {
+        self.often && self.left >= LARGE && used.saturating_add(made.saturating_mul(2)) <= self.peak
+    }
+
     // Whether the groups since the last sweep were light, and made enough that a sweep pays.
     fn is_light(&self, used: u32) -> bool {
         if !self.may_be_light {
@@ -86,7 +113,7 @@ impl Pace {
     }
 }
 
-/// Sweeps behind a group where it pays, and where more elements are in use than the limit.
+/// Sweeps behind a group where it pays, and where more elements are in use than the limit, but not behind the last one.
 pub(crate) fn sweep_between(m: &mut Manager, c: &Cache, pace: &mut Pace, limit: u32)
     requires no_move { m.old.moving ≡ None }
     requires unmarked { AreUnmarked m.old }
@@ -97,12 +124,17 @@ pub(crate) fn sweep_between(m: &mut Manager, c: &Cache, pace: &mut Pace, limit: 
     ensures table { IsTable m.new }
 {
     let used = m.used();
+    let made = used.saturating_sub(pace.used);
+    pace.used = used;
     pace.groups = pace.groups.saturating_add(1);
-    if used <= pace.most && used <= limit && !pace.is_light(used) {
+    pace.to_come = pace.to_come.saturating_sub(1);
+    if pace.to_come == 0 || used <= limit && pace.has_room(used, made) {
         return;
     }
     sweep_kept(m, c);
+    pace.peak = pace.peak.max(used);
     pace.left = m.used();
+    pace.used = pace.left;
     pace.most = room_over(pace.left, pace.often);
     pace.groups = 0;
 }
