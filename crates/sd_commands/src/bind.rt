@@ -99,7 +99,7 @@ fn bind_compiled(
         Ok(root) => root,
         Err(error) => return Err(compiling_error(error)),
     };
-    // what compiling left is swept once more is made
+    // within the limit, what compiling left is swept only once more is made
     let room = state.manager.used();
     match state.name_root(name, root, room) {
         Ok(()) => Ok(None),

@@ -153,8 +153,9 @@ impl RunState {
         }
     }
 
-    /// Binds a free name to a root that no other name has, and sweeps garbage where more than `room` elements are in
-    /// use. The only error: out of memory, and then the root is released.
+    /// Binds a free name to a root that no other name has, and sweeps where more elements are in use than the limit, or
+    /// than both `room` and what the last sweep allows; later sweeps wait for `room` too. The only error: out of memory,
+    /// and then the root is released.
     pub(crate) fn name_root(&mut self, name: u32, root: Root, room: u32) -> Result<(), AllocError>
         requires represents { (seen : State) × Represents (without self.old root) seen }
         requires holds { (f : Expression) × HoldsValue self.old.manager root f }
@@ -179,7 +180,8 @@ impl RunState {
         }
     }
 
-    // Takes garbage away where there is enough of it, and more than `room` elements are in use.
+    // Takes garbage away where more elements are in use than the limit, or there is enough of it and more than `room`
+    // are in use.
     fn sweep(&mut self, room: u32)
         requires represents { (seen : State) × Represents self.old seen }
         ensures represents { (seen : State) → Represents self.old seen → Represents self.new seen }

@@ -12,7 +12,7 @@
 // exclusive one asks for them, and they sweep where a quarter more is in use, and at least 4,096 elements more, or, of
 // a large diagram, half more to three times as many (`room_over`). `compile` also sweeps where a quarter more is in
 // use, and at least 8,192 elements more, where the groups are such that hardly one asks, does not where a large diagram
-// has room from an earlier sweep, and never behind the last group (`pace.rt`).
+// has room from an earlier sweep, and not behind the last group, unless it is refused (`pace.rt`).
 ghost use Rattle.std.specs.Prelude.{◌≡◌, ◌↔◌, ℕ, ◌+◌, ◌-◌, ◌^◌, ◌<◌, ◌≤◌, None, IfOk, IfErr, OnOk, OnErr, IsTrue};
 ghost use Rattle.std.specs.Prelude.{length};
 ghost use Rattle.std.specs.Option.{IsSome};

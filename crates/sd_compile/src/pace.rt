@@ -6,15 +6,16 @@
 // room in place of new pages. Not so below a long chain of left children, where all work is in the primes and lives on
 // kept answers.
 //
-// Memory that a sweep emptied is there. So behind the largest sweep a large diagram is swept only as the room that was
-// in use then fills up again, and behind the last group never: nothing is made there any more.
+// Memory that a sweep emptied is there. So where each left child is a leaf, a large diagram within the limit is swept
+// again only as the most that was ever in use before a sweep fills up. Nothing is swept behind the last group, unless it
+// is refused: nothing is made there any more. What an earlier formula left behind is swept behind the first group.
 ghost use Rattle.std.specs.Prelude.{◌≡◌, ℕ, ◌<◌, length, None};
 ghost use Rattle.sd_manager.specs.Valid.{IsTable};
 ghost use Rattle.sd_manager.specs.Marking.{AreUnmarked};
 ghost use Rattle.sd_apply.specs.Serving.{Serves};
 ghost use Rattle.sd_compile.specs.Compiling.{MaySweep};
 
-use crate::limited::{LARGE, room_over, sweep_kept};
+use crate::limited::{LARGE, LEAST_GARBAGE, room_over, sweep_kept};
 use crate::one_pass::is_right_linear;
 use sd_cache::Cache;
 use sd_formula::Formula;
@@ -42,13 +43,13 @@ pub(crate) struct Pace {
     may_be_light: bool,
     // how many elements may be in use before the next sweep
     most: u32,
-    // how many the last sweep left
+    // how many the last sweep left, or were in use at the start
     left: u32,
     // how many groups were joined since
     groups: u32,
-    // how many were in use at most before a sweep, or 0
+    // how many were in use at most before a sweep, but no more than half above what the sweep before allowed, or 0
     peak: u32,
-    // how many were in use behind the last group
+    // how many are in use as the next group begins
     used: u32,
     // how many groups are left
     to_come: usize,
@@ -61,13 +62,22 @@ pub(crate) fn pace_of(m: &Manager, f: &Formula) -> Pace {
     Pace {
         often,
         may_be_light: !often && has_few_groups(f) && is_leaf_near(m.vtree()),
-        most: room_over(used, often),
+        most: first_room(used, often),
         left: used,
         groups: 0,
         peak: 0,
         used,
         to_come: f.groups(),
     }
+}
+
+// How many elements may be in use before the first sweep: no more than there are now, where that may be garbage which
+// pays for a sweep.
+fn first_room(used: u32, often: bool) -> u32 {
+    if used > LEAST_GARBAGE {
+        return used;
+    }
+    room_over(used, often)
 }
 
 // Whether there are few groups to a variable.
@@ -97,8 +107,8 @@ impl Pace {
         used <= self.most || self.is_in_peak(used, made)
     }
 
-    // Whether the next group of a large diagram goes into room that was in use before a sweep, also if it makes twice
-    // as many elements as the last one.
+    // Whether the next group of a large diagram mostly goes into room that was in use before a sweep, also if it makes
+    // twice as many elements as the last one.
     fn is_in_peak(&self, used: u32, made: u32) -> bool {
         self.often && self.left >= LARGE && used.saturating_add(made.saturating_mul(2)) <= self.peak
     }
@@ -111,6 +121,11 @@ impl Pace {
         let made = used.saturating_sub(self.left);
         made >= (self.left / 4).max(LIGHT_ROOM) && made / LIGHT <= self.groups
     }
+}
+
+// So many and half as many.
+fn half_above(most: u32) -> u32 {
+    most.saturating_add(most / 2)
 }
 
 /// Sweeps behind a group where it pays, and where more elements are in use than the limit, but not behind the last one.
@@ -132,7 +147,7 @@ pub(crate) fn sweep_between(m: &mut Manager, c: &Cache, pace: &mut Pace, limit: 
         return;
     }
     sweep_kept(m, c);
-    pace.peak = pace.peak.max(used);
+    pace.peak = pace.peak.max(used.min(half_above(pace.most)));
     pace.left = m.used();
     pace.used = pace.left;
     pace.most = room_over(pace.left, pace.often);
