@@ -3,7 +3,7 @@
 //! The prefix is a root beside those of the names, so a search is one over its formula and those of the names. An error
 //! leaves the vtree after the walks that were finished, and the prefix's root is released.
 //!
-//! Sweeps come only where they pay, as in `compile`: one that takes a node away costs the cache its answers. A search
+//! Sweeps come only where they pay, by `sweep_past`: one that takes a node away costs the cache its answers. A search
 //! goes over no garbage, since each move begins with a sweep.
 ghost use Rattle.std.specs.Prelude.{◌≡◌, ℕ, ◌+◌, ◌-◌, ◌^◌, ◌<◌, ◌≤◌, Some, IfOk, IfErr, OnOk, OnErr, length};
 ghost use Rattle.std.specs.FinMap.{remove};

@@ -154,8 +154,8 @@ impl RunState {
     }
 
     /// Binds a free name to a root that no other name has, and sweeps where more elements are in use than the limit, or
-    /// than both `room` and what the last sweep allows; later sweeps wait for `room` too. The only error: out of memory,
-    /// and then the root is released.
+    /// than both `room` and what the last sweep allows; later sweeps wait for `room` too. The only error: out of
+    /// memory, and then the root is released.
     pub(crate) fn name_root(&mut self, name: u32, root: Root, room: u32) -> Result<(), AllocError>
         requires represents { (seen : State) × Represents (without self.old root) seen }
         requires holds { (f : Expression) × HoldsValue self.old.manager root f }

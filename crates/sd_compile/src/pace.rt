@@ -7,8 +7,8 @@
 // kept answers.
 //
 // Memory that a sweep emptied is there. So where each left child is a leaf, a large diagram within the limit is swept
-// again only as the most that was ever in use before a sweep fills up. Nothing is swept behind the last group, unless it
-// is refused: nothing is made there any more. What an earlier formula left behind is swept behind the first group.
+// again only as the most that was ever in use before a sweep fills up. Nothing is swept behind the last group, unless
+// it is refused: nothing is made there any more. What an earlier formula left behind is swept behind the first group.
 ghost use Rattle.std.specs.Prelude.{◌≡◌, ℕ, ◌<◌, length, None};
 ghost use Rattle.sd_manager.specs.Valid.{IsTable};
 ghost use Rattle.sd_manager.specs.Marking.{AreUnmarked};
