@@ -6,6 +6,11 @@ const NO_CLAUSES: &str = "p cnf 2 0\n";
 
 const TWO_TERMS: &str = "p dnf 4 2\n1 2 0\n3 4 0\n";
 
+// On the right tree each clause about doubles the diagram, which has 262,108 elements in the end.
+const SIXTEEN_PAIRS: &str =
+    "p cnf 32 16\n1 17 0\n2 18 0\n3 19 0\n4 20 0\n5 21 0\n6 22 0\n7 23 0\n8 24 0\n9 25 0\n\
+10 26 0\n11 27 0\n12 28 0\n13 29 0\n14 30 0\n15 31 0\n16 32 0\n";
+
 #[test]
 fn the_input_is_within_a_limit_or_passes_it(rt: HostRuntime) -> Result<(), Fail> {
     let alloc = rt.alloc();
@@ -56,5 +61,30 @@ fn a_limit_is_tested_where_it_is_set(rt: HostRuntime) -> Result<(), Fail> {
     let files = two_files(alloc, TWO_TERMS, "s", "input f\nlimit 7\n")?;
     let end = ran(&rt, alloc, "--dnf in --script s", files)?;
     assert!(rt; end.ended(4, "", "sddc: line 2: size 8 passes limit 7\n"));
+    Ok(())
+}
+
+#[test]
+fn what_a_large_input_left_is_not_counted(rt: HostRuntime) -> Result<(), Fail> {
+    let alloc = rt.alloc();
+    let table = [
+        (
+            "input a\ndrop a\ninput b\nsize b\ndrop b\nlimit 262108\ninput c\nsize c\n",
+            0,
+            "size 262108\nsize 262108\n",
+            "",
+        ),
+        (
+            "input a\ndrop a\nlimit 262107\ninput b\n",
+            4,
+            "",
+            "sddc: line 4: group 16: size 262108 passes limit 262107\n",
+        ),
+    ];
+    for (script, status, printed, line) in table {
+        let files = two_files(alloc, SIXTEEN_PAIRS, "s", script)?;
+        let end = ran(&rt, alloc, "--cnf in --start right --script s", files)?;
+        assert!(rt; end.ended(status, printed, line), "{script}");
+    }
     Ok(())
 }
