@@ -10,9 +10,10 @@
 // elements in use pass twice what the last sweep left, and at least `LEAST_GARBAGE`: a sweep that takes a node away
 // raises the epoch, and the kept answers are lost. Where each left child of the vtree is a leaf no group but an
 // exclusive one asks for them, and they sweep where a quarter more is in use, and at least 4,096 elements more, or, of
-// a large diagram, half more to three times as many (`room_over`). `compile` also sweeps where a quarter more is in
-// use, and at least 8,192 elements more, where the groups are such that hardly one asks, does not where a large diagram
-// has room from an earlier sweep, and not behind the last group, unless it is refused (`pace.rt`).
+// a large diagram, three fifths more to three times as many (`room_over`). `compile` also sweeps where a quarter more
+// is in use, and at least 8,192 elements more, where the groups are such that hardly one asks. It does not where a
+// large diagram has room from an earlier sweep, less often toward the end of the formula, and not behind the last
+// group, unless it is refused (`pace.rt`).
 ghost use Rattle.std.specs.Prelude.{◌≡◌, ◌↔◌, ℕ, ◌+◌, ◌-◌, ◌^◌, ◌<◌, ◌≤◌, None, IfOk, IfErr, OnOk, OnErr, IsTrue};
 ghost use Rattle.std.specs.Prelude.{length};
 ghost use Rattle.std.specs.Option.{IsSome};

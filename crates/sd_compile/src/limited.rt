@@ -41,14 +41,14 @@ pub(crate) const LARGE: u32 = 40_000;
 
 // So many elements, garbage included, may be in use in any case before a large diagram is swept, where that is at most
 // three times what the last sweep left.
-const ROOM_OF_LARGE: u32 = 500_000;
+const ROOM_OF_LARGE: u32 = 550_000;
 
 // How many elements may be in use before the next sweep, where so many are now. A sweep that takes a node away raises
 // the epoch, and what the cache keeps and lends is lost: twice as many, so that what is swept pays for the sweep, and a
 // small diagram is left alone. `often`, where hardly a group uses kept answers, a quarter more: what just died is near,
 // and rarer sweeps are paid for with new pages. What died of a large diagram is not near, and the more of it stands
-// together the fewer lines of the cache a sweep reads for each node: there half more, and up to three times as many
-// where that takes little memory.
+// together the fewer lines of the cache a sweep reads for each node: there three fifths more, and up to three times as
+// many where that takes little memory.
 pub(crate) fn room_over(used: u32, often: bool) -> u32
     ensures { used ≤ result }
 {
@@ -58,8 +58,8 @@ pub(crate) fn room_over(used: u32, often: bool) -> u32
     if used < LARGE {
         return used.saturating_add((used / 4).max(LEAST_ROOM));
     }
-    let half_more = used.saturating_add(used / 2);
-    half_more.max(used.saturating_mul(3).min(ROOM_OF_LARGE))
+    let more = used.saturating_add((used / 5).saturating_mul(3));
+    more.max(used.saturating_mul(3).min(ROOM_OF_LARGE))
 }
 
 // Takes away what no root and no loose run needs. The cache still serves.
@@ -80,8 +80,8 @@ pub(crate) fn sweep_kept(m: &mut Manager, c: &Cache)
 
 /// Sweeps where more elements are in use than `most` or than the limit. Then `most` becomes what may be in use before
 /// the next sweep: `often` a quarter more than what is left, and at least 4,096 elements more (from 40,000 elements on
-/// half more, and at least the lesser of three times what is left and 500,000), and else twice what is left, and at
-/// least `LEAST_GARBAGE`.
+/// three fifths more, and at least the lesser of three times what is left and 550,000), and else twice what is left,
+/// and at least `LEAST_GARBAGE`.
 pub fn sweep_past(m: &mut Manager, c: &Cache, most: &mut u32, often: bool, limit: u32)
     requires no_move { m.old.moving ≡ None }
     requires unmarked { AreUnmarked m.old }

@@ -7,8 +7,10 @@
 // kept answers.
 //
 // Memory that a sweep emptied is there. So where each left child is a leaf, a large diagram within the limit is swept
-// again only as the most that was ever in use before a sweep fills up. Nothing is swept behind the last group, unless
-// it is refused: nothing is made there any more. What an earlier formula left behind is swept behind the first group.
+// again only as the most that was ever in use before a sweep fills up. Toward the end of a formula hardly anything is
+// made that takes the room again: it is swept less often there, and behind the last group but one only past the limit.
+// Nothing is swept behind the last group, unless it is refused: nothing is made there any more. What an earlier formula
+// left behind is swept behind the first group.
 ghost use Rattle.std.specs.Prelude.{◌≡◌, ℕ, ◌<◌, length, None};
 ghost use Rattle.sd_manager.specs.Valid.{IsTable};
 ghost use Rattle.sd_manager.specs.Marking.{AreUnmarked};
@@ -34,6 +36,13 @@ const FEW: usize = 8;
 // The first leaf is fewer left children than this from the root where groups may be light.
 const NEAR: u32 = 32;
 
+// The end of a formula is so small a part of its groups, rounded down.
+const PART_AT_END: usize = 8;
+
+// So many elements, garbage included, may be in use there in any case before a large diagram is swept, where that is at
+// most four times what the last sweep left.
+const ROOM_AT_END: u32 = 900_000;
+
 /// What tells when the next sweep comes.
 #[derive(Drop)]
 pub(crate) struct Pace {
@@ -47,12 +56,14 @@ pub(crate) struct Pace {
     left: u32,
     // how many groups were joined since
     groups: u32,
-    // how many were in use at most before a sweep, but no more than half above what the sweep before allowed, or 0
+    // how many were in use at most before a sweep, but no more than half above what was allowed there, or 0
     peak: u32,
     // how many are in use as the next group begins
     used: u32,
     // how many groups are left
     to_come: usize,
+    // how many are the end of the formula
+    last_part: usize,
 }
 
 /// The pace of a formula, before its first group.
@@ -68,6 +79,7 @@ pub(crate) fn pace_of(m: &Manager, f: &Formula) -> Pace {
         peak: 0,
         used,
         to_come: f.groups(),
+        last_part: f.groups() / PART_AT_END,
     }
 }
 
@@ -104,7 +116,23 @@ impl Pace {
         if self.is_light(used) {
             return false;
         }
-        used <= self.most || self.is_in_peak(used, made)
+        used <= self.room() || self.is_in_peak(used, made)
+    }
+
+    // How many elements may be in use before the next sweep: at the end of a formula more of a large diagram that was
+    // swept before, and any number behind the last group but one.
+    fn room(&self) -> u32 {
+        if !self.often
+            || self.peak == 0
+            || self.left < LARGE
+            || self.to_come > self.last_part.max(1)
+        {
+            return self.most;
+        }
+        if self.to_come <= 1 {
+            return u32::MAX;
+        }
+        self.most.max(self.left.saturating_mul(4).min(ROOM_AT_END))
     }
 
     // Whether the next group of a large diagram mostly goes into room that was in use before a sweep, also if it makes
@@ -147,7 +175,7 @@ pub(crate) fn sweep_between(m: &mut Manager, c: &Cache, pace: &mut Pace, limit: 
         return;
     }
     sweep_kept(m, c);
-    pace.peak = pace.peak.max(used.min(half_above(pace.most)));
+    pace.peak = pace.peak.max(used.min(half_above(pace.room())));
     pace.left = m.used();
     pace.used = pace.left;
     pace.most = room_over(pace.left, pace.often);
