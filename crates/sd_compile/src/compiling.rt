@@ -11,9 +11,9 @@
 // raises the epoch, and the kept answers are lost. Where each left child of the vtree is a leaf no group but an
 // exclusive one asks for them, and they sweep where a quarter more is in use, and at least 4,096 elements more, or, of
 // a large diagram, three fifths more to three times as many (`room_over`). `compile` also sweeps where a quarter more
-// is in use, and at least 8,192 elements more, where the groups are such that hardly one asks. It does not where a
-// large diagram has room from an earlier sweep, less often toward the end of the formula, and not behind the last
-// group, unless it is refused (`pace.rt`).
+// is in use, and at least 8,192 elements more, where the groups are such that hardly one asks. Where each left child is
+// a leaf it does not sweep a large diagram within the limit that has room from an earlier sweep, and sweeps it less
+// often toward the end of the formula. Behind the last group it sweeps only if that is refused (`pace.rt`).
 ghost use Rattle.std.specs.Prelude.{◌≡◌, ◌↔◌, ℕ, ◌+◌, ◌-◌, ◌^◌, ◌<◌, ◌≤◌, None, IfOk, IfErr, OnOk, OnErr, IsTrue};
 ghost use Rattle.std.specs.Prelude.{length};
 ghost use Rattle.std.specs.Option.{IsSome};

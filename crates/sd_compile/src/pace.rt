@@ -7,10 +7,10 @@
 // kept answers.
 //
 // Memory that a sweep emptied is there. So where each left child is a leaf, a large diagram within the limit is swept
-// again only as the most that was ever in use before a sweep fills up. Toward the end of a formula hardly anything is
-// made that takes the room again: it is swept less often there, and behind the last group but one only past the limit.
-// Nothing is swept behind the last group, unless it is refused: nothing is made there any more. What an earlier formula
-// left behind is swept behind the first group.
+// again only as the most that was ever in use before a sweep fills up. Toward the end of a formula mostly little is
+// made that takes the room again: such a diagram is swept less often there, and behind the last group but one only past
+// the limit. Nothing is swept behind the last group, unless it is refused: nothing is made there any more. What an
+// earlier formula left behind, if it is much, is swept behind the first group that makes something.
 ghost use Rattle.std.specs.Prelude.{◌≡◌, ℕ, ◌<◌, length, None};
 ghost use Rattle.sd_manager.specs.Valid.{IsTable};
 ghost use Rattle.sd_manager.specs.Marking.{AreUnmarked};
@@ -36,7 +36,7 @@ const FEW: usize = 8;
 // The first leaf is fewer left children than this from the root where groups may be light.
 const NEAR: u32 = 32;
 
-// The end of a formula is so small a part of its groups, rounded down.
+// The end of a formula is so small a part of its groups, rounded down, and at least the last one.
 const PART_AT_END: usize = 8;
 
 // So many elements, garbage included, may be in use there in any case before a large diagram is swept, where that is at
@@ -50,19 +50,20 @@ pub(crate) struct Pace {
     often: bool,
     // whether groups may be light, so that a sweep comes sooner
     may_be_light: bool,
-    // how many elements may be in use before the next sweep
+    // how many elements may be in use before the next sweep, but at the end of a formula (`room`)
     most: u32,
     // how many the last sweep left, or were in use at the start
     left: u32,
     // how many groups were joined since
     groups: u32,
-    // how many were in use at most before a sweep, but no more than half above what was allowed there, or 0
+    // how many were in use at most before a sweep, but no more than half above what was allowed there, or 0 before the
+    // first sweep
     peak: u32,
     // how many are in use as the next group begins
     used: u32,
     // how many groups are left
     to_come: usize,
-    // how many are the end of the formula
+    // how many are the end of the formula, at least 1
     last_part: usize,
 }
 
@@ -79,7 +80,7 @@ pub(crate) fn pace_of(m: &Manager, f: &Formula) -> Pace {
         peak: 0,
         used,
         to_come: f.groups(),
-        last_part: f.groups() / PART_AT_END,
+        last_part: (f.groups() / PART_AT_END).max(1),
     }
 }
 
@@ -119,14 +120,10 @@ impl Pace {
         used <= self.room() || self.is_in_peak(used, made)
     }
 
-    // How many elements may be in use before the next sweep: at the end of a formula more of a large diagram that was
-    // swept before, and any number behind the last group but one.
+    // How many elements may be in use before the next sweep: `most`, but where each left child is a leaf and a large
+    // diagram was swept before, more at the end of the formula, and any number behind the last group but one.
     fn room(&self) -> u32 {
-        if !self.often
-            || self.peak == 0
-            || self.left < LARGE
-            || self.to_come > self.last_part.max(1)
-        {
+        if !self.is_large() || self.peak == 0 || self.to_come > self.last_part {
             return self.most;
         }
         if self.to_come <= 1 {
@@ -138,7 +135,12 @@ impl Pace {
     // Whether the next group of a large diagram mostly goes into room that was in use before a sweep, also if it makes
     // twice as many elements as the last one.
     fn is_in_peak(&self, used: u32, made: u32) -> bool {
-        self.often && self.left >= LARGE && used.saturating_add(made.saturating_mul(2)) <= self.peak
+        self.is_large() && used.saturating_add(made.saturating_mul(2)) <= self.peak
+    }
+
+    // Whether each left child is a leaf, and the last sweep left a large diagram.
+    fn is_large(&self) -> bool {
+        self.often && self.left >= LARGE
     }
 
     // Whether the groups since the last sweep were light, and made enough that a sweep pays.

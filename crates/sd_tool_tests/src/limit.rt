@@ -11,6 +11,18 @@ const SIXTEEN_PAIRS: &str =
     "p cnf 32 16\n1 17 0\n2 18 0\n3 19 0\n4 20 0\n5 21 0\n6 22 0\n7 23 0\n8 24 0\n9 25 0\n\
 10 26 0\n11 27 0\n12 28 0\n13 29 0\n14 30 0\n15 31 0\n16 32 0\n";
 
+// The same, and the first variable: the last clause halves the diagram.
+const SIXTEEN_PAIRS_AND_ONE: &str =
+    "p cnf 32 17\n1 17 0\n2 18 0\n3 19 0\n4 20 0\n5 21 0\n6 22 0\n7 23 0\n8 24 0\n9 25 0\n\
+10 26 0\n11 27 0\n12 28 0\n13 29 0\n14 30 0\n15 31 0\n16 32 0\n1 0\n";
+
+// Of each of 14 pairs one holds. Each of the last clauses makes tens of thousands of elements on the right tree and
+// leaves as many as garbage.
+const FOURTEEN_UNEQUAL_PAIRS: &str =
+    "p cnf 32 28\n1 17 0\n2 18 0\n3 19 0\n4 20 0\n5 21 0\n6 22 0\n7 23 0\n8 24 0\n9 25 0\n\
+10 26 0\n11 27 0\n12 28 0\n13 29 0\n14 30 0\n-1 -17 0\n-2 -18 0\n-3 -19 0\n-4 -20 0\n-5 -21 0\n\
+-6 -22 0\n-7 -23 0\n-8 -24 0\n-9 -25 0\n-10 -26 0\n-11 -27 0\n-12 -28 0\n-13 -29 0\n-14 -30 0\n";
+
 #[test]
 fn the_input_is_within_a_limit_or_passes_it(rt: HostRuntime) -> Result<(), Fail> {
     let alloc = rt.alloc();
@@ -85,6 +97,47 @@ fn what_a_large_input_left_is_not_counted(rt: HostRuntime) -> Result<(), Fail> {
         let files = two_files(alloc, SIXTEEN_PAIRS, "s", script)?;
         let end = ran(&rt, alloc, "--cnf in --start right --script s", files)?;
         assert!(rt; end.ended(status, printed, line), "{script}");
+    }
+    Ok(())
+}
+
+#[test]
+fn the_end_of_a_large_input_is_within_a_limit(rt: HostRuntime) -> Result<(), Fail> {
+    let alloc = rt.alloc();
+    let table = [
+        (
+            SIXTEEN_PAIRS_AND_ONE,
+            "--cnf in --start right --limit 262108",
+            0,
+            "size 131040\n",
+            "",
+        ),
+        (
+            SIXTEEN_PAIRS_AND_ONE,
+            "--cnf in --start right --limit 262107",
+            4,
+            "",
+            "sddc: line 1: group 16: size 262108 passes limit 262107\n",
+        ),
+        (
+            FOURTEEN_UNEQUAL_PAIRS,
+            "--cnf in --start right",
+            0,
+            "size 98294\n",
+            "",
+        ),
+        (
+            FOURTEEN_UNEQUAL_PAIRS,
+            "--cnf in --start right --limit 98293",
+            4,
+            "",
+            "sddc: line 1: group 28: size 98294 passes limit 98293\n",
+        ),
+    ];
+    for (text, words, status, printed, line) in table {
+        let files = vec![in alloc; file(alloc, "in", text.as_bytes())?]?;
+        let end = ran(&rt, alloc, words, files)?;
+        assert!(rt; end.ended(status, printed, line), "{words}");
     }
     Ok(())
 }

@@ -286,8 +286,8 @@ fn found_within_a_sweep(rt: HostRuntime) -> Result<(), Fail> {
 }
 
 /// In the midst of a large sweep, where the buckets have no chains, a node is unlinked that stood behind a dead one in
-/// its bucket, gets another place and is linked again: it is found there at once and behind the sweep, and no more where
-/// it was.
+/// its bucket, gets another place and is linked again: it is found there at once and behind the sweep, and no more
+/// where it was.
 #[test]
 fn moved_within_a_sweep(rt: HostRuntime) -> Result<(), Fail> {
     let mut nodes = Nodes::new(rt.alloc(), 100_000)?;
