@@ -12,8 +12,9 @@
 // exclusive one asks for them, and they sweep where a quarter more is in use, and at least 4,096 elements more, or, of
 // a large diagram, three fifths more to three times as many (`room_over`). `compile` also sweeps where a quarter more
 // is in use, and at least 8,192 elements more, where the groups are such that hardly one asks. Where each left child is
-// a leaf it does not sweep a large diagram within the limit that has room from an earlier sweep, and sweeps it less
-// often toward the end of the formula. Behind the last group it sweeps only if that is refused (`pace.rt`).
+// a leaf it leaves a large diagram unswept while no more is in use than the limit and there is room from an earlier
+// sweep, and toward the end of the formula it mostly sweeps it less often. Behind the last group it sweeps only if that
+// is refused (`pace.rt`).
 ghost use Rattle.std.specs.Prelude.{◌≡◌, ◌↔◌, ℕ, ◌+◌, ◌-◌, ◌^◌, ◌<◌, ◌≤◌, None, IfOk, IfErr, OnOk, OnErr, IsTrue};
 ghost use Rattle.std.specs.Prelude.{length};
 ghost use Rattle.std.specs.Option.{IsSome};

@@ -8,9 +8,10 @@
 //
 // Memory that a sweep emptied is there. So where each left child is a leaf, a large diagram within the limit is swept
 // again only as the most that was ever in use before a sweep fills up. Toward the end of a formula mostly little is
-// made that takes the room again: such a diagram is swept less often there, and behind the last group but one only past
-// the limit. Nothing is swept behind the last group, unless it is refused: nothing is made there any more. What an
-// earlier formula left behind, if it is much, is swept behind the first group that makes something.
+// made that takes the room again: it is swept less often there, and behind the last group but one only where more
+// elements are in use than the limit, garbage included. Nothing is swept behind the last group, unless it is refused:
+// nothing is made there any more. What an earlier formula left behind, if it is much, is swept behind the first group
+// that makes something, unless that is the last.
 ghost use Rattle.std.specs.Prelude.{◌≡◌, ℕ, ◌<◌, length, None};
 ghost use Rattle.sd_manager.specs.Valid.{IsTable};
 ghost use Rattle.sd_manager.specs.Marking.{AreUnmarked};
@@ -50,7 +51,8 @@ pub(crate) struct Pace {
     often: bool,
     // whether groups may be light, so that a sweep comes sooner
     may_be_light: bool,
-    // how many elements may be in use before the next sweep, but at the end of a formula (`room`)
+    // how many elements may be in use before the next sweep, where neither the end of a formula (`room`) nor an earlier
+    // peak lets more be in use, nor light groups less
     most: u32,
     // how many the last sweep left, or were in use at the start
     left: u32,
@@ -120,8 +122,8 @@ impl Pace {
         used <= self.room() || self.is_in_peak(used, made)
     }
 
-    // How many elements may be in use before the next sweep: `most`, but where each left child is a leaf and a large
-    // diagram was swept before, more at the end of the formula, and any number behind the last group but one.
+    // How many elements may be in use before the next sweep: `most`, but where each left child is a leaf and the last
+    // sweep left a large diagram, mostly more at the end of the formula, and any number behind the last group but one.
     fn room(&self) -> u32 {
         if !self.is_large() || self.peak == 0 || self.to_come > self.last_part {
             return self.most;
@@ -138,7 +140,7 @@ impl Pace {
         self.is_large() && used.saturating_add(made.saturating_mul(2)) <= self.peak
     }
 
-    // Whether each left child is a leaf, and the last sweep left a large diagram.
+    // Whether each left child is a leaf, and the last sweep left a large diagram, or one was there at the start.
     fn is_large(&self) -> bool {
         self.often && self.left >= LARGE
     }
