@@ -76,15 +76,18 @@ adds_one a b code valid least there e = record {
 }
 
 -- one use less
-pub drops_one : (a b : Nodes) (code : ℕ) → IsNodes a → 2050 ≤ code → IsSome (key_at a (code - 2050)) →
+pub drops_count : (a b : Nodes) (code : ℕ) → 2050 ≤ code → IsSome (get a.uses (code - 2050)) →
     b ≡ with_uses a (code - 2050) (uses_at a (code - 2050) - 1) → DropsUse a b code
-drops_one a b code valid least there e = record {
+drops_count a b code least there e = record {
   rest = uses_alone a b (code - 2050) _ e;
-  uses = changed a b code (uses_at a (code - 2050) - 1) (λ c k. k - counts_one c code) least e
-      (counted_there a (code - 2050) valid there)
+  uses = changed a b code (uses_at a (code - 2050) - 1) (λ c k. k - counts_one c code) least e there
       (ap (λ m. uses_at a (code - 2050) - m) (counts_same code code refl))
       (λ c k ne. omega (arith, counts_other c code ne));
 }
+
+pub drops_one : (a b : Nodes) (code : ℕ) → IsNodes a → 2050 ≤ code → IsSome (key_at a (code - 2050)) →
+    b ≡ with_uses a (code - 2050) (uses_at a (code - 2050) - 1) → DropsUse a b code
+drops_one a b code valid least there e = drops_count a b code least (counted_there a (code - 2050) valid there) e
 
 -- a code that is counted is so after uses were added
 pub still_counted : {more : ℕ → ℕ} (a b : Nodes) (code : ℕ) → AddsUses a b more → IsCounted a code → IsCounted b code

@@ -25,3 +25,8 @@ pub record IsRetired (old new : Table) (n : ℕ) : Type 0 where
   pub list : List (ℕ × ℕ)
   pub was : get old.linked n ≡ Some (place, list)
   pub is : new ≡ retired old n list
+
+-- some were taken away so, one after the other, and nothing used any when its turn came
+pub data AreRetired (old : Table) : Table → Type 0 where
+  none_retired : AreRetired old old
+  one_more : {t new : Table} {n : ℕ} → AreRetired old t → IsIdle t n → IsRetired t new n → AreRetired old new

@@ -8,7 +8,7 @@ use Rattle.sd_runs.proofs.Maps.{get_remove_same, get_remove_other}
 use Rattle.sd_manager.specs.Table.{Table}
 use Rattle.sd_manager.specs.Valid.{IsTable}
 use Rattle.sd_manager.specs.Moving.{IsLater, next_epoch}
-use Rattle.sd_manager.specs.Retiring.{IsIdle, IsRetired, retired}
+use Rattle.sd_manager.specs.Retiring.{AreRetired, IsIdle, IsRetired, none_retired, one_more, retired}
 use Rattle.sd_manager.proofs.Totals.{left_was}
 use Rattle.sd_manager.proofs.Unused.{not_in_linked, not_in_run, not_held}
 use Rattle.sd_sweep.specs.Reached.{IsReached, IsSwept, HasUnreached}
@@ -130,6 +130,18 @@ sweep_less now new n r =
       fewer_entries now.linked n (r.place, r.list) r.was,
       ap (λ (t : Table). entry_count t.linked) r.is,
     )
+
+-- a sweep goes on where some are taken away, one after the other
+pub sweep_on_all : (old now new : Table) → IsSweeping old now → AreRetired now new → IsSweeping old new
+sweep_on_all old now new s none_retired = s
+sweep_on_all old now new s (one_more {t = t} {n = n} before idle last) =
+    sweep_on old t new (sweep_on_all old now t s before) n idle last
+
+-- and no more nodes are there then
+pub sweep_less_all : (now new : Table) → AreRetired now new → entry_count new.linked ≤ entry_count now.linked
+sweep_less_all now new none_retired = omega arith
+sweep_less_all now new (one_more {t = t} {n = n} before idle last) =
+    omega (arith, sweep_less_all now t before, sweep_less t new n last)
 
 -- where nothing is idle outside a move, each node is reached
 pub all_reached : (t : Table) → IsTable t → t.moving ≡ None → ((n : ℕ) → ¬ IsIdle t n) → (n : ℕ) →

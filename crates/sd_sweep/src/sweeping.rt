@@ -31,5 +31,7 @@ pub fn sweep(m: &mut Manager)
     let _ = m.epoch();
     while let Some(number) = m.idle() {
         m.retire(number);
+        // in the midst of a large sweep what dies goes in one loop there, while it has two elements
+        m.retire_twos();
     }
 }

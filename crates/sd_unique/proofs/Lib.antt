@@ -41,3 +41,4 @@ mod Rechaining
 mod Nothing
 mod ListsMade
 mod Retiring
+mod Twos

@@ -22,8 +22,9 @@
 //! pays a test for them: `places` has no heads, and `first_at` and `first_detached` go over all records.
 //! `list_places` makes the lists, a step for each record, once. `idle` takes candidates off the stack
 //! until it finds one, each of them once for each time that it was put there; `retire` takes the node
-//! off that `idle` just answered. The other calls are a few loads and stores, but for `new`, which makes
-//! the heads.
+//! off that `idle` just answered. In the midst of a large sweep, before lists of places are kept, `retire_twos`
+//! does both in one loop, with the uses of the lists, until a node of another length is on top. The other calls
+//! are a few loads and stores, but for `new`, which makes the heads.
 //!
 //! A sweep takes idle nodes until `idle` finds none, and ends there. In a table of more than 32,768 records it
 //! may end with a pass that makes all chains anew: the linked records among the buckets, and the free numbers
@@ -53,6 +54,7 @@ mod nodes;
 mod record;
 mod stack;
 mod states;
+mod sweeping;
 
 pub use found::Found;
 pub use nodes::Nodes;

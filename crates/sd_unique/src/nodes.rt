@@ -9,6 +9,7 @@ use crate::lists::{at_place, put_first};
 use crate::record::{Links, NO_RECORD, Record, RecordState};
 use crate::stack::Candidates;
 use crate::states::{attach, detach, free, release};
+use crate::sweeping::retire_twos;
 use sd_runs::{Runs, TakeError};
 use std::alloc::{AllocError, Global};
 use std::marker::Model;
@@ -93,6 +94,7 @@ impl Nodes {
     ghost use Rattle.sd_unique.specs.Inserting.{no_nodes, inserted, with_uses, IsNewNumber, IsFull, IsRefusal};
     ghost use Rattle.sd_unique.specs.Relinking.{with_mark, with_loose, without_loose, exchanged, removed, unlinked};
     ghost use Rattle.sd_unique.specs.Relinking.{relinked, with_key, IsAbsent, IsLinkedAt, IsIdle, IsLoose};
+    ghost use Rattle.sd_unique.specs.Retiring.{HaveRetired, MayRetire};
 
     /// No nodes, over an arena of at most `bound` elements. The only error: out of memory.
     pub fn new(alloc: Global, bound: u32) -> Result<Nodes, AllocError>
@@ -613,6 +615,29 @@ impl Nodes {
         );
         self.candidates.pop_top(node);
         self.freed = self.freed.saturating_add(1);
+    }
+
+    /// In the midst of a large sweep, before lists of places are kept, removes linked nodes of two elements without
+    /// uses, one after the other, each with the uses of its list: a code of `first` or more names the node of the
+    /// number by which it is more. It ends at a node of another length or where none is left, and answers how many were
+    /// removed; elsewhere 0.
+    pub fn retire_twos(&mut self, first: u32) -> u32
+        requires may { MayRetire first self.old }
+        ensures retired { HaveRetired first self.old self.new result }
+        ensures nodes { IsNodes self.new }
+    {
+        if self.chained || !self.places.is_empty() {
+            return 0;
+        }
+        retire_twos(
+            &mut self.runs,
+            &mut self.records,
+            &mut self.links,
+            &mut self.heads,
+            &mut self.places,
+            &mut self.candidates,
+            first,
+        )
     }
 
     /// A linked node without uses, where there is one: any of them. The answer None ends a sweep; where
