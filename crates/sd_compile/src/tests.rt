@@ -195,3 +195,59 @@ fn a_wide_clause_on_the_left_vtree(rt: HostRuntime) -> Result<(), Fail> {
     assert!(rt; m.same(&root, &root));
     Ok(())
 }
+
+// The pairs `i or i + 15` over 30 variables.
+fn pairs(alloc: Global) -> Result<Formula, CompileError>
+    ensures { IfOk result (λ f. f.variables ≡ 30) }
+{
+    let text = b"p cnf 30 15
+1 16 0 2 17 0 3 18 0 4 19 0 5 20 0 6 21 0 7 22 0 8 23 0
+9 24 0 10 25 0 11 26 0 12 27 0 13 28 0 14 29 0 15 30 0
+"
+        .as_slice();
+    let Ok(f) = read_dimacs(alloc, text, Kind::Cnf) else {
+        return Err(CompileError::OutOfMemory);
+    };
+    if f.variables() != 30 {
+        return Err(CompileError::OutOfMemory);
+    }
+    Ok(f)
+}
+
+// A right vtree, of which a caller's proof sees the number of variables and not the tree.
+fn right_vtree(alloc: Global, variables: u32) -> Result<Vtree, AllocError>
+    requires at_least_one { 1 ≤ variables }
+    requires within_limit { variables ≤ 1024 }
+    ensures { IfOk result (λ t. leaves (plain_tree t) ≡ variables) }
+{
+    let Ok(vtree) = Vtree::right(alloc, variables) else {
+        return Err(AllocError);
+    };
+    Ok(vtree)
+}
+
+// Takes away what nothing uses, in at most so many steps.
+fn sweep_in_steps(m: &mut Manager, steps: u32) {
+    for _step in 0..steps {
+        let Some(number) = m.idle() else {
+            return;
+        };
+        m.retire(number);
+        m.retire_twos();
+    }
+}
+
+/// What dies with the root of a diagram of 65,519 nodes, and what compiling left beside it, goes in 5,000 steps: a 32nd
+/// of the table one by one, and the rest in one loop.
+#[test]
+fn a_large_diagram_dies_in_few_steps(rt: HostRuntime) -> Result<(), Fail> {
+    let alloc = rt.alloc();
+    let f = pairs(alloc)?;
+    let mut m = Manager::new(alloc, right_vtree(alloc, 30)?, 1_000_000)?;
+    let mut c = Cache::new(alloc)?;
+    let root = compile(alloc, &mut m, &mut c, &f, 1_000_000)?;
+    m.release(root);
+    sweep_in_steps(&mut m, 5_000);
+    assert_eq!(rt; (m.idle(), m.used()), (None, 0));
+    Ok(())
+}
