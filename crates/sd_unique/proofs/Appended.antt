@@ -1,5 +1,5 @@
 -- The record of a new node is put behind the others at once, which is as if a free one were put there and occupied.
-use Rattle.std.proofs.Common.{◌≡◌, ◌≢◌, ◌-◌, bit_and, false, ℕ, suc, ◌+◌, ◌<◌, List, [], ◌∷◌, ◌++◌, length}
+use Rattle.std.proofs.Common.{◌≡◌, ◌-◌, bit_and, false, ℕ, suc, ◌+◌, ◌<◌, List, [], ◌∷◌, ◌++◌, length}
 use Rattle.std.proofs.Common.{Bool, get_or, Option, None, Some, unwrap_or, refl, sym, ap, subst, ◌∙◌, arith}
 use Rattle.std.proofs.Math.ListN.{set}
 use Rattle.std.proofs.lemmas.List.{length-set, get_or-set_same}
@@ -19,13 +19,14 @@ use Rattle.sd_unique.specs.Inserting.{inserted, IsNewNumber}
 use Rattle.sd_unique.specs.Relinking.{with_loose, IsLoose, IsAbsent}
 use Rattle.sd_unique.specs.Record.{nodes_of}
 use Rattle.sd_unique.specs.Filed.{filed_at}
-use Rattle.sd_unique.specs.Chains.{next_of, head_of, list_under, bucket_of, hash_of, no_record, kept_hash}
-use Rattle.sd_unique.specs.Chains.{HoldsNodes, AreListed}
-use Rattle.sd_unique.proofs.Occupied.{first_number, first_ready, kept_steps, nodes_steps}
+use Rattle.sd_unique.specs.Chains.{next_of, head_of, list_under, bucket_of, hash_of, no_record}
+use Rattle.sd_unique.specs.Chains.{HoldsNodes, AreInLists, AreListed}
+use Rattle.sd_unique.proofs.Occupied.{first_number, kept_steps, nodes_steps}
 use Rattle.sd_unique.proofs.Occupied.{first_unlisted, free_first, all_nodes}
 use Rattle.sd_unique.proofs.Pushed.{link_last, run_taken, pushed_kept, pushed_number, pushed_view, pushed_new}
 use Rattle.sd_unique.proofs.Pushed.{pushed_inserted, with_records}
 use Rattle.sd_unique.proofs.Reading.{get_or_any}
+use Rattle.sd_unique.proofs.Standing.{list_inside}
 
 set_last : {X : Type 0} (xs : List X) (x y : X) → set (xs ++ x ∷ []) (length xs) y ≡ xs ++ y ∷ []
 set_last [] x y = refl
@@ -90,25 +91,29 @@ module _ {chained : Bool} (arena new : Arena) (rs : List Record) (links : List L
   here : n ≡ get_or (set heads 0 n) 0 n
   here = sym (get_or-set_same heads 0 n n (omega (arith, k.at_least_one)))
 
-  pub appended_ready : (ls : List Links) (ps : List ℕ) → ls ≡ links ++ l ∷ [] → ps ≡ places
-      → (under : ℕ → Option ℕ) × (under n ≡ None) × ((m b : ℕ) → under m ≡ Some b → m < length ls)
-      × AreListed ls ps under
-  appended_ready ls ps linked same =
-      subst (λ x. (under : ℕ → Option ℕ) × (under n ≡ None) × ((m b : ℕ) → under m ≡ Some b → m < length x)
-      × AreListed x ps under) (sym linked)
-      (subst (λ p. (under : ℕ → Option ℕ) × (under n ≡ None)
-      × ((m b : ℕ) → under m ≡ Some b → m < length (links ++ l ∷ [])) × AreListed (links ++ l ∷ []) p under)
-      (sym same)
-      (first_ready new (rs ++ blank ∷ []) (links ++ l ∷ []) (set heads 0 n) places (flags ++ false ∷ []) held n here
-      number))
-
   pub appended_unlisted : list_under (rs ++ blank ∷ []) n ≡ None
   appended_unlisted =
       first_unlisted new (rs ++ blank ∷ []) (links ++ l ∷ []) (set heads 0 n) places (flags ++ false ∷ []) held n here
       number
 
-  pub appended_lists : AreListed (links ++ l ∷ []) places (list_under (rs ++ blank ∷ []))
-  appended_lists = held.in_lists
+  pub appended_lists : (ls : List Links) (ps : List ℕ) → (0 < length places → ls ≡ links ++ l ∷ []) → ps ≡ places
+      → AreListed ls ps (list_under (rs ++ blank ∷ []))
+  appended_lists ls ps linked same = λ some.
+      let any : 0 < length places = omega (arith, some, ap length same) in
+      subst (λ x. AreInLists x ps (list_under (rs ++ blank ∷ []))) (sym (linked any))
+      (subst (λ p. AreInLists (links ++ l ∷ []) p (list_under (rs ++ blank ∷ []))) (sym same) (held.in_lists any))
+
+  pub appended_ready : (ls : List Links) (ps : List ℕ) → (0 < length places → ls ≡ links ++ l ∷ []) → ps ≡ places
+      → (under : ℕ → Option ℕ) × (under n ≡ None)
+      × (0 < length ps → (m b : ℕ) → under m ≡ Some b → m < length ls) × AreListed ls ps under
+  appended_ready ls ps linked same = (
+    list_under (rs ++ blank ∷ []),
+    appended_unlisted,
+    λ some m b e.
+        let any : 0 < length places = omega (arith, some, ap length same) in
+        omega (arith, held.linked_all any, list_inside (rs ++ blank ∷ []) m b e, ap length (linked any)),
+    appended_lists ls ps linked same,
+  )
 
   free : IsFreeNumber (nodes_of new (rs ++ blank ∷ [])) n
   free =
@@ -148,13 +153,12 @@ module _ {chained : Bool} (arena new : Arena) (rs : List Record) (links : List L
         → (ends : List Links) (places' : List ℕ) (flags' : List Bool) (list_at : ℕ)
         → list_at ≡ suc (bit_and place 2047)
         → AreListed ends places' (filed_at n list_at (list_under (rs ++ blank ∷ [])))
-        → length ends ≡ length (links ++ l ∷ []) → length places' ≡ length places
+        → (0 < length places' → length ends ≡ length (links ++ l ∷ [])) → length places' ≡ length places
         → length flags' ≡ length (flags ++ false ∷ [])
-        → ((m : ℕ) → Waits (flags ++ false ∷ []) m → Waits flags' m) → Waits flags' n → kept_hash ends n ≡ hash
-        → ((m : ℕ) → m ≢ n → kept_hash ends m ≡ kept_hash (links ++ l ∷ []) m)
+        → ((m : ℕ) → Waits (flags ++ false ∷ []) m → Waits flags' m) → Waits flags' n
         → HoldsNodes chained new ts ends (set heads head n) places' flags'
     appended_kept b head bucket fits head_is next_is ends places' flags' list_at at_is listed same_links sizes fsize
-        wait waits kept hashes =
+        wait waits =
         subst (λ x. HoldsNodes chained new x ends (set heads head n) places' flags') whole
         (subst (λ h. HoldsNodes chained new (set (rs ++ blank ∷ []) n (made place start (length list) next)) ends
         (set h head n) places' flags') back
@@ -165,7 +169,7 @@ module _ {chained : Bool} (arena new : Arena) (rs : List Record) (links : List L
         (bucket ∙ ap (λ s. bucket_of (place, list) (s - 1)) (sym (length-set heads 0 n)))
         (omega (arith, fits, length-set heads 0 n)) head_is
         (next_is ∙ ap (λ h. get_or h head next) (sym back)) ends places' flags' list_at at_is listed same_links
-        sizes fsize wait waits (kept ∙ hashed) hashes))
+        sizes fsize wait waits))
 
     pub appended_nodes : nodes_of new ts ≡ inserted a n place list
     appended_nodes =

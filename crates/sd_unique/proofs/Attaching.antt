@@ -13,7 +13,7 @@ use Rattle.sd_unique.specs.declared.record.RecordState.TheVariants.{Linked, Deta
 use Rattle.sd_unique.specs.Filed.{IsFiled, unfiled, filed_at}
 use Rattle.sd_unique.specs.Record.{key_of, nodes_of}
 use Rattle.sd_unique.specs.Chains.{next_of, chain_by, free_by, chain_in, list_by, under_by, chain_under, list_under}
-use Rattle.sd_unique.specs.Chains.{bucket_of, heads_in, head_of, hash_of, kept_hash, no_record, HoldsNodes, AreListed}
+use Rattle.sd_unique.specs.Chains.{bucket_of, heads_in, head_of, no_record, HoldsNodes, AreListed}
 use Rattle.sd_unique.specs.Relinking.{relinked, IsAbsent}
 use Rattle.sd_unique.proofs.Changed.{set_which}
 use Rattle.sd_unique.proofs.Cutting.{all_kept}
@@ -97,15 +97,14 @@ module _ (arena : Arena) (rs : List Record) (n : ℕ) (r t : Record) (there : sl
       → length places' ≡ length places → length new ≡ length links
       → AreListed new places' (filed_at n (bit_and r.place 2047 + 1) (unfiled n (list_under rs)))
       → IsAbsent (nodes_of arena rs) (key_of arena r) → (r.uses ≡ 0 → Waits flags n)
-      → kept_hash new n ≡ hash_of (key_of arena r) → ((i : ℕ) → i ≢ n → kept_hash new i ≡ kept_hash links i)
       → HoldsNodes chained arena rs links heads places flags
       → HoldsNodes chained arena (set rs n t) new (set heads (b + 1) n) places' flags
   attached_kept {chained} links new heads places places' flags b at inside next same_places same_links lists absent
-      queued hash hashes k =
+      queued k =
       record {
         stored = stored_relinked arena rs n r t there (slice_get_inside rs n r there) place start size uses mark
             was is absent k.stored;
-        linked_all = same_links ∙ k.linked_all ∙ sym (length-set rs n t);
+        linked_all = λ some. same_links ∙ k.linked_all (omega (arith, some, same_places)) ∙ sym (length-set rs n t);
         flags_all = k.flags_all ∙ sym (length-set rs n t);
         at_least_one = omega (arith, k.at_least_one, length-set heads (b + 1) n);
         places_all = λ some. same_places ∙ k.places_all (omega (arith, some, same_places));
@@ -116,10 +115,6 @@ module _ (arena : Arena) (rs : List Record) (n : ℕ) (r t : Record) (there : sl
             (filed_at n (bit_and r.place 2047 + 1) (unfiled n (list_under rs))) (list_under (set rs n t))
             (λ b i e. refl) (λ b i e. refl) (λ b. refl)
             (listed_at arena rs rs n r t (all_kept rs) there (bit_and r.place 2047 + 1) list_new) (lists some);
-        hashed = λ i x e linked. by_cases
-            (λ h. ap (kept_hash new) h.0 ∙ hash ∙ ap hash_of (sym key_same) ∙ ap (λ y. hash_of (key_of arena y)) h.1)
-            (λ h. hashes i h.0 ∙ k.hashed i x h.1 linked)
-            (set_which rs n r t there i x e);
         queued = λ i x e linked none. by_cases
             (λ h. ap (slice_get flags) h.0
             ∙ queued (sym uses ∙ ap (λ (y : Record). y.uses) h.1 ∙ none))

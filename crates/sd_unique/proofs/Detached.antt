@@ -112,7 +112,7 @@ module _ (arena : Arena) (rs : List Record) (n : ℕ) (r t : Record) (there : sl
   kept_detached {chained} links heads places flags next read st k =
       record {
         stored = st;
-        linked_all = k.linked_all ∙ sym (length-set rs n t);
+        linked_all = λ some. k.linked_all some ∙ sym (length-set rs n t);
         flags_all = k.flags_all ∙ sym (length-set rs n t);
         at_least_one = k.at_least_one;
         places_all = k.places_all;
@@ -120,10 +120,6 @@ module _ (arena : Arena) (rs : List Record) (n : ℕ) (r t : Record) (there : sl
             (chain_kept chained (length heads - 1)) k.in_chains;
         in_lists = λ some. both_same _ _ _ _ no_record _ _ _ _ (λ b i e. refl) (λ b i e. refl) (λ b. refl) list_kept
             (k.in_lists some);
-        hashed = λ i x e linked. by_cases
-            (λ h. absurd (not_linked t.state is (ap (λ y. y.state) h.1 ∙ linked)))
-            (λ h. k.hashed i x h.1 linked)
-            (set_which rs n r t there i x e);
         queued = λ i x e linked none. by_cases
             (λ h. absurd (not_linked t.state is (ap (λ y. y.state) h.1 ∙ linked)))
             (λ h. k.queued i x h.1 linked none)

@@ -1,5 +1,5 @@
 -- A linked record becomes a detached one.
-use Rattle.std.proofs.Common.{Bool, ◌≡◌, ◌≢◌, ℕ, ◌-◌, bit_and, List, [], length, slice_get, Some, unwrap_or}
+use Rattle.std.proofs.Common.{Bool, ◌≡◌, ℕ, ◌-◌, bit_and, List, length, slice_get, Some}
 use Rattle.std.proofs.Common.{refl, sym, ap}
 use Rattle.std.proofs.Common.{subst, ◌∙◌, arith}
 use Rattle.std.proofs.Math.ListN.{set}
@@ -14,7 +14,7 @@ use Rattle.sd_unique.specs.declared.record.RecordState.TheVariants.{Linked, Deta
 use Rattle.sd_unique.specs.Filed.{IsFiled, unfiled, filed_at}
 use Rattle.sd_unique.specs.Record.{key_of, nodes_of}
 use Rattle.sd_unique.specs.Chains.{next_of, chain_in, list_by, under_by, list_under, bucket_of, heads_in, head_of}
-use Rattle.sd_unique.specs.Chains.{no_record, hash_of, kept_hash, HoldsNodes, KeepsRecords, AreListed}
+use Rattle.sd_unique.specs.Chains.{no_record, HoldsNodes, KeepsRecords, AreListed}
 use Rattle.sd_unique.specs.Relinking.{unlinked}
 use Rattle.sd_unique.proofs.Changed.{set_which}
 use Rattle.sd_unique.proofs.Entries.{slice_get_inside}
@@ -38,9 +38,6 @@ module _ (arena : Arena) (rs mid : List Record) (n : ℕ) (m t : Record) (kept :
       let is : r.0 ≡ w.0 = cc in
       w.7 ∙ subst (λ (x : Record). x.state ≡ Linked) is r.2
 
-  key_back : (r x : Record) → x.place ≡ r.place → x.start ≡ r.start → key_of arena r ≡ key_of arena x
-  key_back r x p s i = (sym p i, unwrap_or (get arena.live (sym s i)) [])
-
   pub detached_kept : {chained : Bool} (links new : List Links) (heads heads' places places' : List ℕ)
       (flags : List Bool)
       → IsSome (get (nodes_of arena rs).linked n) → t.next ≡ m.next → length heads' ≡ length heads
@@ -48,15 +45,15 @@ module _ (arena : Arena) (rs mid : List Record) (n : ℕ) (m t : Record) (kept :
       → IsFiled (next_of mid) no_record (head_of (heads_in chained heads'))
       (unfiled n (under_by (chain_in chained) arena (length heads - 1) rs))
       → AreListed new places' (filed_at n 0 (unfiled n (list_under rs)))
-      → ((i : ℕ) → i ≢ n → kept_hash new i ≡ kept_hash links i)
       → HoldsNodes chained arena rs links heads places flags
       → HoldsNodes chained arena (set mid n t) new heads' places' flags
   detached_kept {chained} links new heads heads' places places' flags was next same_heads same_places same_links chains
-      lists hashes k =
+      lists k =
       record {
         stored = stored_unlinked arena mid n m t there (slice_get_inside mid n m there) place start size uses mark
             (was_linked was) is (stored_kept rs mid kept arena k.stored);
-        linked_all = same_links ∙ k.linked_all ∙ sym kept.size ∙ sym (length-set mid n t);
+        linked_all = λ some. same_links ∙ k.linked_all (omega (arith, some, same_places)) ∙ sym kept.size
+            ∙ sym (length-set mid n t);
         flags_all = k.flags_all ∙ sym kept.size ∙ sym (length-set mid n t);
         at_least_one = omega (arith, k.at_least_one, same_heads);
         places_all = λ some. same_places ∙ k.places_all (omega (arith, some, same_places));
@@ -71,12 +68,6 @@ module _ (arena : Arena) (rs mid : List Record) (n : ℕ) (m t : Record) (kept :
         in_lists = λ some. both_same _ _ _ _ no_record _ _ (filed_at n 0 (unfiled n (list_under rs)))
             (list_under (set mid n t)) (λ b i e. refl) (λ b i e. refl) (λ b. refl)
             (listed_at arena rs mid n m t kept there 0 (ap (λ s. list_by s (bit_and t.place 2047)) is)) (lists some);
-        hashed = λ i x e linked. by_cases
-            (λ h. absurd (not_both t.state is (ap (λ y. y.state) h.1 ∙ linked)))
-            (λ h. let w = kept.was i x h.1 in
-            hashes i h.0 ∙ k.hashed i w.0 w.1 (sym w.7 ∙ linked)
-            ∙ ap hash_of (key_back w.0 x w.2 w.3))
-            (set_which mid n m t there i x e);
         queued = λ i x e linked none. by_cases
             (λ h. absurd (not_both t.state is (ap (λ y. y.state) h.1 ∙ linked)))
             (λ h. let w = kept.was i x h.1 in

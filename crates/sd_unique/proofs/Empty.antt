@@ -16,7 +16,7 @@ kept_nothing arena heads well fits some no_heads =
         within_limit = omega arith;
         bound_fits = fits;
       };
-      linked_all = refl;
+      linked_all = λ some. refl;
       flags_all = refl;
       at_least_one = some;
       places_all = λ any. absurd (omega (arith, any));
@@ -28,6 +28,5 @@ kept_nothing arena heads well fits some no_heads =
         only = λ b n h. absurd h;
       };
       in_lists = λ any. absurd (omega (arith, any));
-      hashed = λ n r e linked. cc;
       queued = λ n r e linked none. cc;
     }

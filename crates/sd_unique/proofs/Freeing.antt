@@ -13,7 +13,7 @@ use Rattle.sd_unique.specs.declared.record.RecordState.TheVariants.{Free, Detach
 use Rattle.sd_unique.specs.Filed.{IsFiled, unfiled}
 use Rattle.sd_unique.specs.Record.{nodes_of, AreRecordsStored}
 use Rattle.sd_unique.specs.Chains.{next_of, chain_in, list_by, under_by, list_under, heads_in, head_of}
-use Rattle.sd_unique.specs.Chains.{no_record, kept_hash, HoldsNodes, AreListed}
+use Rattle.sd_unique.specs.Chains.{no_record, HoldsNodes, AreListed}
 use Rattle.sd_unique.specs.Relinking.{removed}
 use Rattle.sd_unique.proofs.Changed.{set_which}
 use Rattle.sd_unique.proofs.Cutting.{all_kept}
@@ -30,14 +30,14 @@ module _ (arena : Arena) (rs : List Record) (n : ℕ) (r t : Record) (there : sl
   -- what holds of the fields is kept, before the run is given back
   freed_kept : {chained : Bool} (links new : List Links) (heads places places' : List ℕ) (flags : List Bool)
       → t.next ≡ head_of heads 0 → length places' ≡ length places → length new ≡ length links
-      → AreListed new places' (unfiled n (list_under rs)) → ((i : ℕ) → kept_hash new i ≡ kept_hash links i)
+      → AreListed new places' (unfiled n (list_under rs))
       → AreRecordsStored arena (set rs n t)
       → HoldsNodes chained arena rs links heads places flags
       → HoldsNodes chained arena (set rs n t) new (set heads 0 n) places' flags
-  freed_kept {chained} links new heads places places' flags next same_places same_links lists hashes st k =
+  freed_kept {chained} links new heads places places' flags next same_places same_links lists st k =
       record {
         stored = st;
-        linked_all = same_links ∙ k.linked_all ∙ sym (length-set rs n t);
+        linked_all = λ some. same_links ∙ k.linked_all (omega (arith, some, same_places)) ∙ sym (length-set rs n t);
         flags_all = k.flags_all ∙ sym (length-set rs n t);
         at_least_one = omega (arith, k.at_least_one, length-set heads 0 n);
         places_all = λ some. same_places ∙ k.places_all (omega (arith, some, same_places));
@@ -52,10 +52,6 @@ module _ (arena : Arena) (rs : List Record) (n : ℕ) (r t : Record) (there : sl
             (λ b i e. refl) (λ b i e. refl) (λ b. refl)
             (unlisted arena rs rs n r t (all_kept rs) there (ap (λ s. list_by s (bit_and t.place 2047)) is))
             (lists some);
-        hashed = λ i x e linked. by_cases
-            (λ h. absurd (free_not_linked t.state is (ap (λ (y : Record). y.state) h.1 ∙ linked)))
-            (λ h. hashes i ∙ k.hashed i x h.1 linked)
-            (set_which rs n r t there i x e);
         queued = λ i x e linked none. by_cases
             (λ h. absurd (free_not_linked t.state is (ap (λ (y : Record). y.state) h.1 ∙ linked)))
             (λ h. k.queued i x h.1 linked none)
@@ -71,10 +67,10 @@ module _ (arena : Arena) (rs : List Record) (n : ℕ) (r t : Record) (there : sl
     -- and after that
     pub released_kept : {chained : Bool} (links more : List Links) (heads places places' : List ℕ) (flags : List Bool)
         → t.next ≡ head_of heads 0 → length places' ≡ length places → length more ≡ length links
-        → AreListed more places' (unfiled n (list_under rs)) → ((i : ℕ) → kept_hash more i ≡ kept_hash links i)
+        → AreListed more places' (unfiled n (list_under rs))
         → HoldsNodes chained arena rs links heads places flags
         → HoldsNodes chained new (set rs n t) more (set heads 0 n) places' flags
-    released_kept links more heads places places' flags next same_places same_links lists hashes k =
+    released_kept links more heads places places' flags next same_places same_links lists k =
         let stored = stored_freed arena new rs n r t there inside was is st well gave list size in
         let apart = untaken arena new rs n r t there inside was is st well gave list size in
         kept_arena arena new (set rs n t) stored well
@@ -82,7 +78,7 @@ module _ (arena : Arena) (rs : List Record) (n : ℕ) (r t : Record) (there : sl
         (given_longer arena new (set rs n t) stored well list r.start r.length gave size apart)
         (given_bound arena new (set rs n t) stored well list r.start r.length gave size apart)
         more (set heads 0 n) places' flags
-        (freed_kept links more heads places places' flags next same_places same_links lists hashes stored k)
+        (freed_kept links more heads places places' flags next same_places same_links lists stored k)
 
     pub nodes_released : (k : ℕ × List (ℕ × ℕ)) → get (nodes_of arena rs).detached n ≡ Some k
         → nodes_of new (set rs n t) ≡ removed (nodes_of arena rs) n k.1

@@ -18,6 +18,7 @@ mod Walked
 mod Cutting
 mod Empty
 mod Hashed
+mod Hashes
 mod Relinked
 mod Standing
 mod Leaving

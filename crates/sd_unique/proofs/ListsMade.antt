@@ -19,7 +19,7 @@ use Rattle.sd_unique.specs.declared.record.RecordState.TheVariants.{Detached}
 use Rattle.sd_unique.specs.Filed.{filed_at}
 use Rattle.sd_unique.specs.Record.{detached_key, if_detached, key_of, nodes_of}
 use Rattle.sd_unique.specs.Relinking.{IsLinkedAt}
-use Rattle.sd_unique.specs.Chains.{AreInLists, HoldsNodes, IsRecordAt, head_of, kept_hash, list_by}
+use Rattle.sd_unique.specs.Chains.{AreInLists, HoldsNodes, IsRecordAt, head_of, list_by}
 use Rattle.sd_unique.specs.Chains.{list_under, no_record}
 use Rattle.sd_unique.proofs.Both.{filed_here, filed_other}
 use Rattle.sd_unique.proofs.Entries.{slice_get_push, slice_get_before}
@@ -115,19 +115,18 @@ module _ (rs : List Record) (n : ℕ) (d : Record) (inside : n < length rs) wher
 -- what holds of the fields is kept when the lists are made
 pub kept_listed : {chained : Bool} (arena : Arena) (rs : List Record) (links new : List Links)
     (heads places places' : List ℕ) (flags : List Bool) → length places' ≡ 2049
-    → AreInLists new places' (list_under rs) → length new ≡ length links
-    → ((n : ℕ) → kept_hash new n ≡ kept_hash links n) → HoldsNodes chained arena rs links heads places flags
+    → AreInLists new places' (list_under rs) → length new ≡ length rs
+    → HoldsNodes chained arena rs links heads places flags
     → HoldsNodes chained arena rs new heads places' flags
-kept_listed arena rs links new heads places places' flags size lists same_links hashes k =
+kept_listed arena rs links new heads places places' flags size lists links_size k =
     record {
       stored = k.stored;
-      linked_all = same_links ∙ k.linked_all;
       flags_all = k.flags_all;
       at_least_one = k.at_least_one;
       places_all = λ some. size;
+      linked_all = λ some. links_size;
       in_chains = k.in_chains;
       in_lists = λ some. lists;
-      hashed = λ i r e linked. hashes i ∙ k.hashed i r e linked;
       queued = λ i r e linked none. k.queued i r e linked none;
     }
 

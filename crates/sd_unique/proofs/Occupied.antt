@@ -21,7 +21,7 @@ use Rattle.sd_unique.specs.Record.{detached_key, uses_of_record, mark_of_record,
 use Rattle.sd_unique.specs.Record.{nodes_of, AreRecordsStored}
 use Rattle.sd_unique.specs.Filed.{IsChain, IsFiled, unfiled, filed_at}
 use Rattle.sd_unique.specs.Chains.{next_of, head_of, heads_in, chain_by, free_by, chain_in, list_by, under_by}
-use Rattle.sd_unique.specs.Chains.{list_under, bucket_of, no_record, HoldsNodes, AreListed, hash_of, kept_hash}
+use Rattle.sd_unique.specs.Chains.{list_under, bucket_of, no_record, HoldsNodes, AreListed}
 use Rattle.sd_unique.proofs.Both.{unfiled_here, unfiled_other, filed_here, filed_other}
 use Rattle.sd_unique.proofs.Changed.{set_which, stored_set}
 use Rattle.sd_unique.proofs.Cut.{filed_cut_first}
@@ -178,30 +178,25 @@ module _ (arena : Arena) (rs : List Record) (n : ℕ) (r t : Record) (there : sl
     -- what holds of the fields is kept
     pub kept_occupied : {chained : Bool} (links new : List Links) (heads heads' places places' : List ℕ)
         (flags flags' : List Bool) → IsAbsent (nodes_of arena rs) (t.place, list)
-        → length new ≡ length links → length heads' ≡ length heads → length places' ≡ length places
+        → (0 < length places' → length new ≡ length links) → length heads' ≡ length heads
+        → length places' ≡ length places
         → IsFiled (next_of (set rs n t)) no_record (head_of (heads_in chained heads'))
         (under_by (chain_in chained) arena (length heads - 1) (set rs n t))
         → AreListed new places' (list_under (set rs n t)) → length flags' ≡ length flags
         → ((m : ℕ) → Waits flags m → Waits flags' m) → Waits flags' n
-        → kept_hash new n ≡ hash_of (t.place, list) → ((m : ℕ) → m ≢ n → kept_hash new m ≡ kept_hash links m)
         → HoldsNodes chained arena rs links heads places flags
         → HoldsNodes chained arena (set rs n t) new heads' places' flags'
     kept_occupied {chained} links new heads heads' places places' flags flags' absent size hsize psize chains lists
-        fsize wait here hash hashes k =
+        fsize wait here k =
         record {
           stored = stored_occupied absent k.stored;
-          linked_all = size ∙ k.linked_all ∙ sym (length-set rs n t);
+          linked_all = λ some. size some ∙ k.linked_all (omega (arith, some, psize)) ∙ sym (length-set rs n t);
           flags_all = fsize ∙ k.flags_all ∙ sym (length-set rs n t);
           at_least_one = omega (arith, hsize, k.at_least_one);
           places_all = λ some. psize ∙ k.places_all (omega (arith, some, psize));
           in_chains = subst (λ s. IsFiled (next_of (set rs n t)) no_record (head_of (heads_in chained heads'))
               (under_by (chain_in chained) arena (s - 1) (set rs n t))) (sym hsize) chains;
           in_lists = lists;
-          hashed = λ i x e linked. by_cases
-              (λ h. ap (kept_hash new) h.0 ∙ hash ∙ ap hash_of (sym key_new)
-              ∙ ap (λ y. hash_of (key_of arena y)) h.1)
-              (λ h. hashes i h.0 ∙ k.hashed i x h.1 linked)
-              (set_which rs n r t there i x e);
           queued = λ i x e linked none. by_cases
               (λ h. ap (slice_get flags') h.0 ∙ here)
               (λ h. wait i (k.queued i x h.1 linked none))
@@ -291,8 +286,8 @@ module _ {chained : Bool} (arena : Arena) (rs : List Record) (links : List Links
   pub first_inside : first < length rs
   first_inside = let r = first_there in slice_get_inside rs first r.0 r.1
 
-  pub first_linked : first < length links
-  first_linked = omega (arith, first_inside, k.linked_all)
+  pub first_linked : 0 < length places → first < length links
+  first_linked some = omega (arith, first_inside, k.linked_all some)
 
   -- the number is free in the nodes too
   pub first_number : IsFreeNumber (nodes_of arena rs) first
@@ -312,13 +307,13 @@ module _ {chained : Bool} (arena : Arena) (rs : List Record) (links : List Links
 
   -- what putting it first in the list of its place asks
   pub first_ready : (under : ℕ → Option ℕ) × (under first ≡ None)
-      × ((n b : ℕ) → under n ≡ Some b → n < length links) × AreListed links places under
+      × (0 < length places → (n b : ℕ) → under n ≡ Some b → n < length links) × AreListed links places under
   first_ready = (
     list_under rs,
     first_unlisted,
-    λ n b e.
+    λ some n b e.
         let x = picked_from (λ (x : Record). list_by x.state (bit_and x.place 2047)) (slice_get rs n) b e in
-        omega (arith, slice_get_inside rs n x.0 x.1, k.linked_all),
+        omega (arith, slice_get_inside rs n x.0 x.1, k.linked_all some),
     k.in_lists,
   )
 
@@ -330,14 +325,13 @@ module _ {chained : Bool} (arena : Arena) (rs : List Record) (links : List Links
         → b ≡ bucket_of (t.place, list) (length heads - 1) → b < length heads - 1 → head ≡ suc b
         → t.next ≡ get_or (set heads 0 next) head t.next
         → (new : List Links) (places' : List ℕ) (flags' : List Bool) (at : ℕ) → at ≡ suc (bit_and t.place 2047)
-        → AreListed new places' (filed_at first at (list_under rs)) → length new ≡ length links
+        → AreListed new places' (filed_at first at (list_under rs))
+        → (0 < length places' → length new ≡ length links)
         → length places' ≡ length places → length flags' ≡ length flags
         → ((m : ℕ) → Waits flags m → Waits flags' m) → Waits flags' first
-        → kept_hash new first ≡ hash_of (t.place, list)
-        → ((m : ℕ) → m ≢ first → kept_hash new m ≡ kept_hash links m)
         → HoldsNodes chained arena (set rs first t) new (set (set heads 0 next) head first) places' flags'
     kept_steps next b head next_is bucket fits head_is t_next new places' flags' at at_is listed same_links size fsize
-        wait here hash hashes =
+        wait here =
         let r = first_there in
         let key : key_of arena t ≡ (t.place, list) = key_new arena rs first r.0 t r.1 r.2 linked list run.is
         (sym run.counted) in
@@ -359,7 +353,7 @@ module _ {chained : Bool} (arena : Arena) (rs : List Record) (links : List Links
         (lists_by new places' (filed_at first at (list_under rs)) (list_under (set rs first t))
         (λ m. list_occupied arena rs first r.0 t r.1 r.2 linked m
         ∙ ap (λ h. filed_at first h (list_under rs) m) (sym at_is)) listed)
-        fsize wait here hash hashes k
+        fsize wait here k
 
     pub nodes_steps : t.uses ≡ 0 → t.mark ≡ 0
         → nodes_of arena (set rs first t) ≡ occupied (nodes_of arena rs) first t.place t.start list

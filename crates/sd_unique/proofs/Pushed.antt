@@ -154,7 +154,7 @@ module _ (arena : Arena) (rs : List Record) (r : Record) (free : r.state ≡ Fre
   kept_free {chained} links l heads places flags room fits next k =
       record {
         stored = stored_free room k.stored;
-        linked_all = omega (arith, length_push rs r, length_push links l, k.linked_all);
+        linked_all = λ some. omega (arith, length_push rs r, length_push links l, k.linked_all some);
         flags_all = omega (arith, length_push rs r, length_push flags false, k.flags_all);
         at_least_one = omega (arith, length-set heads 0 (length rs), k.at_least_one);
         places_all = k.places_all;
@@ -163,16 +163,10 @@ module _ (arena : Arena) (rs : List Record) (r : Record) (free : r.state ≡ Fre
             (under_by (chain_in chained) arena (s - 1) (rs ++ r ∷ []))) (sym (length-set heads 0 (length rs)))
             (chains_free chained heads (length heads - 1) (omega (arith, k.at_least_one)) next fits k.in_chains);
         in_lists = λ some. both_same _ _ _ _ no_record _ _ _ _
-            (λ b i e. link_before (λ (x : Links). x.after) links l i (listed_other i b e))
-            (λ b i e. link_before (λ (x : Links). x.before) links l i (listed_other i b e)) (λ b. refl)
+            (λ b i e. link_before (λ (x : Links). x.after) links l i (listed_other some i b e))
+            (λ b i e. link_before (λ (x : Links). x.before) links l i (listed_other some i b e)) (λ b. refl)
             (read_push rs r (λ x. list_by x.state (bit_and x.place 2047))
             (ap (λ s. list_by s (bit_and r.place 2047)) free)) (k.in_lists some);
-        hashed = λ i x e linked. by_cases
-            (λ h. absurd (free_no_link r.state free (ap (λ z. z.state) h.1 ∙ linked)))
-            (λ h. link_before (λ (x : Links). x.hash) links l i
-            (λ same. let inside = slice_get_inside rs i x h in omega (arith, same, inside, k.linked_all))
-            ∙ k.hashed i x h linked)
-            (push_which rs r i x e);
         queued = λ i x e linked none. by_cases
             (λ h. absurd (free_no_link r.state free (ap (λ z. z.state) h.1 ∙ linked)))
             (λ h. slice_get_before flags false i
@@ -181,10 +175,10 @@ module _ (arena : Arena) (rs : List Record) (r : Record) (free : r.state ≡ Fre
             (push_which rs r i x e);
       }
     where
-      listed_other : (i b : ℕ) → list_under rs i ≡ Some b → ¬ (i ≡ length links)
-      listed_other i b e same =
+      listed_other : 0 < length places → (i b : ℕ) → list_under rs i ≡ Some b → ¬ (i ≡ length links)
+      listed_other some i b e same =
           let x = picked_from (λ (x : Record). list_by x.state (bit_and x.place 2047)) (slice_get rs i) b e in
-          let inside = slice_get_inside rs i x.0 x.1 in omega (arith, inside, k.linked_all)
+          let inside = slice_get_inside rs i x.0 x.1 in omega (arith, inside, k.linked_all some)
 
   -- the nodes are as before but for the number of records
   pub nodes_free : nodes_of arena (rs ++ r ∷ []) ≡ with_records (nodes_of arena rs) (length rs + 1)

@@ -1,23 +1,11 @@
 -- Records in other chains: what holds of the fields is kept.
-use Rattle.std.proofs.Common.{Bool, true, ◌≡◌, ℕ, ◌<◌, List, [], length, unwrap_or, refl, sym, ap, subst, ◌∙◌}
-use Rattle.std.specs.FinMap.{get}
+use Rattle.std.proofs.Common.{Bool, true, ◌≡◌, ℕ, ◌<◌, List, length, refl, sym, subst, ◌∙◌}
 use Rattle.sd_runs.specs.Arena.{Arena}
 use Rattle.sd_unique.specs.declared.record.Record.{Record}
 use Rattle.sd_unique.specs.declared.record.Links.{Links}
-use Rattle.sd_unique.specs.Record.{key_of}
-use Rattle.sd_unique.specs.Chains.{hash_of, no_record, HoldsNodes, KeepsRecords, AreChained, AreHashed}
+use Rattle.sd_unique.specs.Chains.{no_record, HoldsNodes, KeepsRecords, AreChained}
 use Rattle.sd_unique.proofs.Filed.{both_same}
 use Rattle.sd_unique.proofs.Relinked.{list_kept, stored_kept}
-
-key_kept : (arena : Arena) (t r : Record) → t.place ≡ r.place → t.start ≡ r.start → key_of arena t ≡ key_of arena r
-key_kept arena t r place start i = (place i, unwrap_or (get arena.live (start i)) [])
-
--- the kept hashes are those of the keys when the records are in other chains
-pub hashes_kept : (arena : Arena) (rs ts : List Record) (links : List Links) → KeepsRecords rs ts
-    → AreHashed arena rs links → AreHashed arena ts links
-hashes_kept arena rs ts links keeps hashed i t e linked =
-    let w = keeps.was i t e in
-    hashed i w.0 w.1 (sym w.7 ∙ linked) ∙ ap hash_of (sym (key_kept arena t w.0 w.2 w.3))
 
 -- what holds of the fields is kept when the records are in other chains, and all of those stand
 pub kept_rechained : {chained : Bool} (arena : Arena) (rs ts : List Record) (links : List Links)
@@ -27,14 +15,13 @@ pub kept_rechained : {chained : Bool} (arena : Arena) (rs ts : List Record) (lin
 kept_rechained arena rs ts links heads heads' places flags keeps some filed k =
     record {
       stored = stored_kept rs ts keeps arena k.stored;
-      linked_all = k.linked_all ∙ sym keeps.size;
+      linked_all = λ some. k.linked_all some ∙ sym keeps.size;
       flags_all = k.flags_all ∙ sym keeps.size;
       at_least_one = some;
       places_all = k.places_all;
       in_chains = filed;
       in_lists = λ some. both_same _ _ _ _ no_record _ _ _ _ (λ b i e. refl) (λ b i e. refl) (λ b. refl)
           (list_kept rs ts keeps) (k.in_lists some);
-      hashed = hashes_kept arena rs ts links keeps k.hashed;
       queued = λ i t e linked none.
           let w = keeps.was i t e in
           k.queued i w.0 w.1 (sym w.7 ∙ linked) (sym w.5 ∙ none);

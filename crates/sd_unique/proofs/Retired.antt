@@ -12,9 +12,9 @@ use Rattle.sd_unique.specs.declared.record.Record.{Record}
 use Rattle.sd_unique.specs.declared.record.Links.{Links}
 use Rattle.sd_unique.specs.declared.record.RecordState.TheVariants.{Free, Linked, Detached}
 use Rattle.sd_unique.specs.Filed.{IsFiled, unfiled}
-use Rattle.sd_unique.specs.Record.{key_of, nodes_of, AreRecordsStored}
+use Rattle.sd_unique.specs.Record.{nodes_of, AreRecordsStored}
 use Rattle.sd_unique.specs.Chains.{next_of, chain_in, list_by, under_by, list_under, heads_in, head_of}
-use Rattle.sd_unique.specs.Chains.{no_record, hash_of, kept_hash, HoldsNodes, KeepsRecords, AreListed}
+use Rattle.sd_unique.specs.Chains.{no_record, HoldsNodes, KeepsRecords, AreListed}
 use Rattle.sd_unique.specs.Relinking.{unlinked, removed}
 use Rattle.sd_unique.proofs.Changed.{set_which}
 use Rattle.sd_unique.proofs.Detached.{set_twice, slice_set_same}
@@ -64,9 +64,6 @@ module _ (arena : Arena) (rs mid : List Record) (n : ℕ) (m t : Record) (kept :
   within : n < length mid
   within = slice_get_inside mid n m there
 
-  key_back : (r x : Record) → x.place ≡ r.place → x.start ≡ r.start → key_of arena r ≡ key_of arena x
-  key_back r x p s i = (sym p i, unwrap_or (get arena.live (sym s i)) [])
-
   -- before the run is given back
   cleared_kept : {chained : Bool} (links more : List Links) (heads heads' places places' : List ℕ) (flags : List Bool)
       → t.next ≡ head_of heads' 0 → length heads' ≡ length heads → length places' ≡ length places
@@ -74,14 +71,15 @@ module _ (arena : Arena) (rs mid : List Record) (n : ℕ) (m t : Record) (kept :
       → IsFiled (next_of mid) no_record (head_of (heads_in chained heads'))
       (unfiled n (under_by (chain_in chained) arena (length heads - 1) rs))
       → AreListed more places' (unfiled n (list_under rs))
-      → ((i : ℕ) → kept_hash more i ≡ kept_hash links i) → AreRecordsStored arena (set mid n t)
+      → AreRecordsStored arena (set mid n t)
       → HoldsNodes chained arena rs links heads places flags
       → HoldsNodes chained arena (set mid n t) more (set heads' 0 n) places' flags
   cleared_kept {chained} links more heads heads' places places' flags next same_heads same_places same_links chains
-      lists hashes st k =
+      lists st k =
       record {
         stored = st;
-        linked_all = same_links ∙ k.linked_all ∙ sym kept.size ∙ sym (length-set mid n t);
+        linked_all = λ some. same_links ∙ k.linked_all (omega (arith, some, same_places)) ∙ sym kept.size
+            ∙ sym (length-set mid n t);
         flags_all = k.flags_all ∙ sym kept.size ∙ sym (length-set mid n t);
         at_least_one = omega (arith, k.at_least_one, same_heads, length-set heads' 0 n);
         places_all = λ some. same_places ∙ k.places_all (omega (arith, some, same_places));
@@ -93,12 +91,6 @@ module _ (arena : Arena) (rs mid : List Record) (n : ℕ) (m t : Record) (kept :
         in_lists = λ some. both_same _ _ _ _ no_record _ _ (unfiled n (list_under rs)) (list_under (set mid n t))
             (λ b i e. refl) (λ b i e. refl) (λ b. refl)
             (unlisted arena rs mid n m t kept there (ap (λ s. list_by s (bit_and t.place 2047)) is)) (lists some);
-        hashed = λ i x e linked. by_cases
-            (λ h. absurd (free_not_linked t.state is (ap (λ (y : Record). y.state) h.1 ∙ linked)))
-            (λ h. let w = kept.was i x h.1 in
-            hashes i ∙ k.hashed i w.0 w.1 (sym w.7 ∙ linked)
-            ∙ ap hash_of (key_back w.0 x w.2 w.3))
-            (set_which mid n m t there i x e);
         queued = λ i x e linked none. by_cases
             (λ h. absurd (free_not_linked t.state is (ap (λ (y : Record). y.state) h.1 ∙ linked)))
             (λ h. let w = kept.was i x h.1 in
@@ -136,11 +128,10 @@ module _ (arena : Arena) (rs mid : List Record) (n : ℕ) (m t : Record) (kept :
         → IsFiled (next_of mid) no_record (head_of (heads_in chained heads'))
         (unfiled n (under_by (chain_in chained) arena (length heads - 1) rs))
         → AreListed more places' (unfiled n (list_under rs))
-        → ((i : ℕ) → kept_hash more i ≡ kept_hash links i)
         → HoldsNodes chained arena rs links heads places flags
         → HoldsNodes chained new (set mid n t) more (set heads' 0 n) places' flags
     retired_kept links more heads heads' places places' flags next same_heads same_places same_links chains lists
-        hashes k =
+        k =
         let apart = subst (λ l. IsUntaken l m.start) (set_twice mid n (between m) t)
         (untaken arena new (set mid n (between m)) n (between m) t here still_inside refl is stored_between well
         gave list size)
@@ -151,7 +142,7 @@ module _ (arena : Arena) (rs mid : List Record) (n : ℕ) (m t : Record) (kept :
         (given_bound arena new (set mid n t) stored_cleared well list m.start m.length gave size apart)
         more (set heads' 0 n) places' flags
         (cleared_kept links more heads heads' places places' flags next same_heads same_places same_links chains lists
-        hashes stored_cleared k)
+        stored_cleared k)
 
     -- the nodes are those of the two steps
     pub nodes_retired : (k : ℕ × List (ℕ × ℕ)) → get (nodes_of arena rs).linked n ≡ Some k

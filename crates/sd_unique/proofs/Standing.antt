@@ -8,19 +8,19 @@ use Rattle.std.specs.FinMap.{get}
 use Rattle.sd_runs.specs.Arena.{Arena}
 use Rattle.sd_runs.proofs.Places.{by_cases}
 use Rattle.sd_unique.specs.declared.record.Record.{Record}
-use Rattle.sd_unique.specs.declared.record.Links.{Links}
 use Rattle.sd_unique.specs.declared.record.RecordState.{RecordState}
 use Rattle.sd_unique.specs.declared.record.RecordState.TheVariants.{Linked, Detached}
 use Rattle.sd_unique.specs.Filed.{unfiled, filed_at}
-use Rattle.sd_unique.specs.Record.{if_detached, IsNode, uses_of_record, detached_key, key_of}
+use Rattle.sd_unique.specs.Record.{if_detached, if_linked, linked_key, IsNode, uses_of_record, detached_key, key_of}
 use Rattle.sd_unique.specs.Record.{nodes_of, AreRecordsStored}
 use Rattle.sd_unique.specs.Chains.{chain_by, free_by, chain_in, list_by, under_by, chain_under, list_under, bucket_of}
-use Rattle.sd_unique.specs.Chains.{hash_of, kept_hash, no_record, AreHashed, KeepsRecords}
+use Rattle.sd_unique.specs.Chains.{hash_of, no_record, AreHashed, KeepsRecords}
 use Rattle.sd_unique.proofs.Both.{unfiled_here, unfiled_other, filed_here, filed_other}
 use Rattle.sd_unique.proofs.Entries.{slice_get_at, slice_get_inside, slice_get_set, slice_get_set_other}
 use Rattle.sd_unique.proofs.Filed.{none_is}
 use Rattle.sd_unique.proofs.FirstChain.{detached_in}
 use Rattle.sd_unique.proofs.Numbered.{linked_there, detached_there, detached_at, uses_in_at, node_some, picked_from}
+use Rattle.sd_unique.proofs.Numbered.{linked_at}
 use Rattle.sd_unique.proofs.Relinked.{chain_kept, list_kept}
 
 -- what is read at a number stands there
@@ -71,6 +71,11 @@ module _ (arena : Arena) (rs : List Record) (n : ℕ) (r : Record) (there : slic
       ap (option_and_then (λ (x : Record). free_by x.state (bucket_of (key_of arena x) count))) there
       ∙ ap (λ s. free_by s (bucket_of (key_of arena r) count)) linked
 
+  pub linked_key_is : get (nodes_of arena rs).linked n ≡ Some (key_of arena r)
+  linked_key_is =
+      linked_at arena rs n ∙ ap (option_and_then (λ (x : Record). linked_key arena x)) there
+      ∙ ap (λ s. if_linked s (key_of arena r)) linked
+
   pub linked_list : list_under rs n ≡ Some (bit_and r.place 2047 + 1)
   linked_list =
       ap (option_and_then (λ (x : Record). list_by x.state (bit_and x.place 2047))) there
@@ -101,15 +106,16 @@ module _ (arena : Arena) (rs : List Record) (n : ℕ) (r : Record) (there : slic
       ∙ node_some r.state r.uses (subst IsNode (sym detached) tt)
 
 -- the bucket that the code computed, and the place that it read, are where the node stands
-pub linked_head : (arena : Arena) (rs : List Record) (links : List Links) (n hash : ℕ) (d : Record) (count b : ℕ)
-    → IsSome (get (nodes_of arena rs).linked n) → AreHashed arena rs links → kept_hash links n ≡ hash
+pub linked_head : (arena : Arena) (rs : List Record) (hashes : List ℕ) (n hash : ℕ) (d : Record) (count b : ℕ)
+    → IsSome (get (nodes_of arena rs).linked n) → AreHashed hashes (nodes_of arena rs) → get_or hashes n 0 ≡ hash
     → ((key : ℕ × List (ℕ × ℕ)) → hash ≡ hash_of key → b ≡ bucket_of key count)
     → chain_under arena count rs n ≡ Some (b + 1)
-linked_head arena rs links n hash d count b h hashed kept is =
+linked_head arena rs hashes n hash d count b h hashed kept is =
     let read = linked_here arena rs n d h in
     linked_chain arena rs n (get_or rs n d) read.0 read.1 count
     ∙ ap (λ k. Some (k + 1))
-    (sym (is (key_of arena (get_or rs n d)) (sym kept ∙ hashed n (get_or rs n d) read.0 read.1)))
+    (sym (is (key_of arena (get_or rs n d)) (sym kept
+    ∙ hashed.linked n (key_of arena (get_or rs n d)) (linked_key_is arena rs n (get_or rs n d) read.0 read.1))))
 
 pub linked_place : (arena : Arena) (rs : List Record) (n : ℕ) (d : Record)
     → IsSome (get (nodes_of arena rs).linked n) → list_under rs n ≡ Some (bit_and (get_or rs n d).place 2047 + 1)

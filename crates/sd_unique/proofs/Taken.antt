@@ -22,7 +22,7 @@ use Rattle.sd_unique.specs.Inserting.{with_count, extent_after, IsRefusal}
 use Rattle.sd_unique.specs.Relinking.{with_loose, without_loose}
 use Rattle.sd_unique.specs.Record.{if_linked, if_detached, IsNode, picked_map, key_of, linked_key, detached_key}
 use Rattle.sd_unique.specs.Record.{uses_of_record, mark_of_record, loose_of, counts_of, nodes_of, AreRecordsStored}
-use Rattle.sd_unique.specs.Chains.{chain_in, under_by, bucket_of, hash_of, no_record, HoldsNodes}
+use Rattle.sd_unique.specs.Chains.{chain_in, under_by, bucket_of, no_record, HoldsNodes}
 use Rattle.sd_unique.proofs.Counts.{get_counts, count_is}
 use Rattle.sd_unique.proofs.Entries.{option_map_some}
 use Rattle.sd_unique.proofs.Filed.{filed_same}
@@ -184,8 +184,6 @@ module _ (arena new : Arena) (rs : List Record) (st : AreRecordsStored arena rs)
         in_chains = filed_same _ _ no_record _ _ _ _ (λ b i e. refl) (λ b. refl)
             (chain_arena chained (length heads - 1)) k.in_chains;
         in_lists = k.in_lists;
-        hashed = λ i r e linked. k.hashed i r e linked
-            ∙ ap hash_of (sym (key_kept i r e (linked_state r.state linked)));
         queued = k.queued;
       }
 

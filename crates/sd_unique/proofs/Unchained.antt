@@ -77,7 +77,6 @@ kept_unchained {chained = true} {arena = arena} {rs = rs} {heads = heads} k =
       places_all = k.places_all;
       in_chains = free_chained arena rs heads k.in_chains;
       in_lists = k.in_lists;
-      hashed = k.hashed;
       queued = k.queued;
     }
 kept_unchained {chained = false} k = k

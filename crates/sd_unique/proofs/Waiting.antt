@@ -1,6 +1,6 @@
 -- The stack of candidates: a number is put on it, or its top is taken off, and who has to wait still does.
 use Rattle.std.proofs.Common.{◌≡◌, ◌≢◌, ℕ, zero, suc, ◌+◌, ◌-◌, ◌<◌, ◌≤◌, ◌++◌, Bool, true, false, cond}
-use Rattle.std.proofs.Common.{List, [], ◌∷◌, length, get_or, slice_get, Some, refl, sym, ap, subst, ◌∙◌, arith}
+use Rattle.std.proofs.Common.{List, [], ◌∷◌, length, get_or, slice_get, Some, sym, ap, subst, ◌∙◌, arith}
 use Rattle.std.proofs.Math.ListN.{set}
 use Rattle.std.proofs.lemmas.Bool.{cases_eq}
 use Rattle.std.proofs.lemmas.List.{length-set, length_push}
@@ -12,7 +12,7 @@ use Rattle.sd_unique.specs.declared.record.Links.{Links}
 use Rattle.sd_unique.specs.Candidates.{Waits, AreCandidates, waiting_count}
 use Rattle.sd_unique.specs.Chains.{HoldsNodes, IsUnused}
 use Rattle.sd_unique.proofs.Entries.{slice_get_at, slice_get_inside, slice_get_set, slice_get_set_other}
-use Rattle.sd_unique.proofs.Entries.{slice_get_before}
+use Rattle.sd_unique.proofs.Entries.{slice_get_push, slice_get_before}
 
 one_value : (b : Bool) → cond {A = ℕ} b 1 0 ≤ 1
 one_value true = omega arith
@@ -99,133 +99,133 @@ not_both flags n on off =
     let no : Some true ≡ Some false = sym on ∙ off in
     let same : true ≡ false = cc in cc
 
-module _ (numbers : List ℕ) (flags : List Bool) (depth : ℕ) (k : AreCandidates numbers flags depth) where
-  -- the stack is no longer than the vectors
-  pub depth_inside : depth ≤ length numbers
-  depth_inside = omega (arith, k.size, k.counted, no_more_wait flags)
+module _ (numbers : List ℕ) (flags : List Bool) (room : ℕ) (k : AreCandidates numbers flags room) where
+  -- no more numbers stand in the stack than there are flags
+  pub depth_inside : length numbers ≤ length flags
+  depth_inside = omega (arith, k.counted, no_more_wait flags)
 
   -- the number that is read on the top
-  pub read_top : 0 < depth → (n : ℕ) → n ≡ get_or numbers (depth - 1) n → slice_get numbers (depth - 1) ≡ Some n
-  read_top some n read = slice_get_at numbers (depth - 1) n (omega (arith, some, depth_inside)) ∙ ap Some (sym read)
+  pub read_top : 0 < length numbers → (top n : ℕ) → top ≡ length numbers - 1 → n ≡ get_or numbers top n
+      → slice_get numbers (length numbers - 1) ≡ Some n
+  read_top some top n at read =
+      ap (slice_get numbers) (sym at) ∙ slice_get_at numbers top n (omega (arith, some, at)) ∙ ap Some (sym read)
 
   -- there is one more number, which does not stand in the stack
-  pub number_added : AreCandidates (numbers ++ 0 ∷ []) (flags ++ false ∷ []) depth
-  number_added =
+  pub number_added : length flags < room → AreCandidates numbers (flags ++ false ∷ []) room
+  number_added h =
       record {
-        size = omega (arith, length_push numbers 0, length_push flags false, k.size);
         counted = k.counted ∙ sym (count_push flags);
-        waiting = λ i n below there.
-            let on = k.waiting i n below (sym (slice_get_before numbers 0 i (old i below)) ∙ there) in
+        waiting = λ i n there.
+            let on = k.waiting i n there in
             slice_get_before flags false n
             (λ same. let inside = slice_get_inside flags n true on in omega (arith, same, inside)) ∙ on;
-        apart = λ i j n below beneath there here. k.apart i j n below beneath
-            (sym (slice_get_before numbers 0 i (old i below)) ∙ there)
-            (sym (slice_get_before numbers 0 j (old j beneath)) ∙ here);
+        apart = k.apart;
+        fits = omega (arith, length_push flags false, h);
       }
-    where
-      old : (i : ℕ) → i < depth → ¬ (i ≡ length numbers)
-      old i below same = omega (arith, same, below, k.size, k.counted, no_more_wait flags)
 
   module _ (n : ℕ) (off : slice_get flags n ≡ Some false) where
-    pub push_inside : depth < length numbers
-    push_inside = omega (arith, k.size, k.counted, fewer_wait flags n off)
+    -- there is room for a number that does not stand in the stack
+    pub push_fits : length numbers < room
+    push_fits = omega (arith, k.counted, k.fits, fewer_wait flags n off)
 
-    -- a number that does not stand in the stack is put on it
-    pub number_pushed : AreCandidates (set numbers depth n) (set flags n true) (depth + 1)
+    -- such a number is put on it
+    pub number_pushed : AreCandidates (numbers ++ n ∷ []) (set flags n true) room
     number_pushed =
         record {
-          size = length-set numbers depth n ∙ k.size ∙ sym (length-set flags n true);
-          counted = omega (arith, k.counted, count_set flags n false true off);
-          waiting = λ i m below there. by_cases
-              (λ last.
-              let is : Some n ≡ Some m = sym (slice_get_set numbers depth n push_inside)
-              ∙ ap (slice_get (set numbers depth n)) (sym last) ∙ there in
-              let same : n ≡ m = cc in
-              ap (slice_get (set flags n true)) (sym same)
+          counted = omega (arith, length_push numbers n, k.counted, count_set flags n false true off);
+          waiting = λ i m there. by_cases
+              (λ last. ap (slice_get (set flags n true)) (same_as i m last there)
               ∙ waits_here flags n (slice_get_inside flags n false off))
-              (λ ne. waits_still flags n m (slice_get_inside flags n false off)
-              (k.waiting i m (omega (arith, below, ne)) (sym (slice_get_set_other numbers depth n i ne) ∙ there)))
-              (cases_eq i depth);
-          apart = λ i j m below beneath there here. by_cases
+              (λ ne. waits_still flags n m (slice_get_inside flags n false off) (k.waiting i m (before i m ne there)))
+              (cases_eq i (length numbers));
+          apart = λ i j m there here. by_cases
               (λ last. by_cases
               (λ too. last ∙ sym too)
-              (λ ne. absurd (twice j m i last there (omega (arith, beneath, ne))
-              (sym (slice_get_set_other numbers depth n j ne) ∙ here)))
-              (cases_eq j depth))
+              (λ ne. absurd (twice i m j last there (before j m ne here)))
+              (cases_eq j (length numbers)))
               (λ ne. by_cases
-              (λ last. absurd (twice i m j last here (omega (arith, below, ne))
-              (sym (slice_get_set_other numbers depth n i ne) ∙ there)))
-              (λ other. k.apart i j m (omega (arith, below, ne)) (omega (arith, beneath, other))
-              (sym (slice_get_set_other numbers depth n i ne) ∙ there)
-              (sym (slice_get_set_other numbers depth n j other) ∙ here))
-              (cases_eq j depth))
-              (cases_eq i depth);
+              (λ last. absurd (twice j m i last here (before i m ne there)))
+              (λ other. k.apart i j m (before i m ne there) (before j m other here))
+              (cases_eq j (length numbers)))
+              (cases_eq i (length numbers));
+          fits = omega (arith, length-set flags n true, k.fits);
         }
       where
-        twice : (i m j : ℕ) → j ≡ depth → slice_get (set numbers depth n) j ≡ Some m → i < depth
-            → slice_get numbers i ≡ Some m → ⊥
-        twice i m j last there below here =
-            let is : Some n ≡ Some m = sym (slice_get_set numbers depth n push_inside)
-            ∙ ap (slice_get (set numbers depth n)) (sym last) ∙ there in
-            let same : m ≡ n = cc in
-            not_both flags n (ap (slice_get flags) (sym same) ∙ k.waiting i m below here) off
+        before : (i m : ℕ) → ¬ (i ≡ length numbers) → slice_get (numbers ++ n ∷ []) i ≡ Some m
+            → slice_get numbers i ≡ Some m
+        before i m ne there = sym (slice_get_before numbers n i ne) ∙ there
 
-  module _ (n top : ℕ) (some : 0 < depth) (at : top ≡ depth - 1) (there : slice_get numbers top ≡ Some n) where
+        same_as : (i m : ℕ) → i ≡ length numbers → slice_get (numbers ++ n ∷ []) i ≡ Some m → m ≡ n
+        same_as i m last there =
+            let is : Some n ≡ Some m = sym (slice_get_push numbers n)
+            ∙ ap (slice_get (numbers ++ n ∷ [])) (sym last) ∙ there in cc
+
+        twice : (i m j : ℕ) → i ≡ length numbers → slice_get (numbers ++ n ∷ []) i ≡ Some m
+            → slice_get numbers j ≡ Some m → ⊥
+        twice i m j last there here =
+            not_both flags n (ap (slice_get flags) (sym (same_as i m last there)) ∙ k.waiting j m here) off
+
+  module _ (n : ℕ) (there : slice_get numbers (length numbers - 1) ≡ Some n) where
     pub top_waits : Waits flags n
-    top_waits = k.waiting top n (omega (arith, some, at)) there
+    top_waits = k.waiting (length numbers - 1) n there
 
     pub top_inside : n < length flags
     top_inside = slice_get_inside flags n true top_waits
 
     -- the top is taken off
-    pub number_popped : AreCandidates numbers (set flags n false) (depth - 1)
-    number_popped =
+    pub number_popped : (rest : List ℕ) (last : ℕ) → numbers ≡ rest ++ last ∷ []
+        → AreCandidates rest (set flags n false) room
+    number_popped rest last is =
         record {
-          size = k.size ∙ sym (length-set flags n false);
-          counted = omega (arith, k.counted, some, count_set flags n true false top_waits);
-          waiting = λ i m below here. waits_other flags n m
+          counted = omega (arith, shorter, k.counted, count_set flags n true false top_waits);
+          waiting = λ i m here. waits_other flags n m
               (λ same.
-              let is : i ≡ top = k.apart i top n (omega (arith, below)) (omega (arith, some, at))
-              (here ∙ ap Some same) there in
-              omega (arith, is, at, below))
-              (k.waiting i m (omega (arith, below)) here);
-          apart = λ i j m below beneath there here. k.apart i j m (omega (arith, below)) (omega (arith, beneath)) there
-              here;
+              let at : i ≡ length numbers - 1 = k.apart i (length numbers - 1) n (old i m here ∙ ap Some same) there in
+              omega (arith, at, shorter, slice_get_inside rest i m here))
+              (k.waiting i m (old i m here));
+          apart = λ i j m here beneath. k.apart i j m (old i m here) (old j m beneath);
+          fits = omega (arith, length-set flags n false, k.fits);
         }
+      where
+        shorter : length numbers ≡ length rest + 1
+        shorter = ap length is ∙ length_push rest last
+
+        old : (i m : ℕ) → slice_get rest i ≡ Some m → slice_get numbers i ≡ Some m
+        old i m here =
+            ap (λ l. slice_get l i) is
+            ∙ slice_get_before rest last i (λ same. omega (arith, same, slice_get_inside rest i m here))
+            ∙ here
 
 -- what is left of the stack: all that stand for linked nodes without uses
-pub record AreLeft (records : List Record) (old flags : List Bool) (numbers : List ℕ) (depth : ℕ) : Type 0 where
-  pub stack : AreCandidates numbers flags depth
+pub record AreLeft (records : List Record) (old flags : List Bool) (numbers : List ℕ) (room : ℕ) : Type 0 where
+  pub stack : AreCandidates numbers flags room
   pub size : length flags ≡ length records
   pub others : (n : ℕ) (r : Record) → slice_get records n ≡ Some r → IsUnused r → Waits old n → Waits flags n
 
-module _ (records : List Record) (old flags : List Bool) (numbers : List ℕ) (depth : ℕ)
-    (k : AreLeft records old flags numbers depth) (some : 0 < depth) (top : ℕ)
-    (read : top ≡ get_or numbers (depth - 1) top) where
+module _ (records : List Record) (old flags : List Bool) (numbers : List ℕ) (room : ℕ)
+    (k : AreLeft records old flags numbers room) (some : 0 < length numbers) (i top : ℕ)
+    (at : i ≡ length numbers - 1) (read : top ≡ get_or numbers i top) where
+  there : slice_get numbers (length numbers - 1) ≡ Some top
+  there = read_top numbers flags room k.stack some i top at read
+
   -- the top has a record
   pub left_inside : top < length records
-  left_inside =
-      omega (
-        arith,
-        k.size,
-        top_inside numbers flags depth k.stack top (depth - 1) some refl (read_top numbers flags depth k.stack some top
-            read),
-      )
+  left_inside = omega (arith, k.size, top_inside numbers flags room k.stack top there)
 
   -- a top that is not that of a linked node without uses is taken off
   pub left_popped : (r : Record) → slice_get records top ≡ Some r → ¬ IsUnused r
-      → AreLeft records old (set flags top false) numbers (depth - 1)
-  left_popped r there used =
+      → (rest : List ℕ) (last : ℕ) → numbers ≡ rest ++ last ∷ []
+      → AreLeft records old (set flags top false) rest room
+  left_popped r e used rest last is =
       record {
-        stack = number_popped numbers flags depth k.stack top (depth - 1) some refl
-            (read_top numbers flags depth k.stack some top read);
+        stack = number_popped numbers flags room k.stack top there rest last is;
         size = length-set flags top false ∙ k.size;
-        others = λ n x e unused waits. waits_other flags top n
+        others = λ n x has unused waits. waits_other flags top n
             (λ same.
-            let is : Some x ≡ Some r = sym e ∙ ap (slice_get records) same ∙ there in
+            let both : Some x ≡ Some r = sym has ∙ ap (slice_get records) same ∙ e in
             let r_is : x ≡ r = cc in
             used (subst IsUnused r_is unused))
-            (k.others n x e unused waits);
+            (k.others n x has unused waits);
       }
 
 -- what holds of the fields is kept where the stack has all linked nodes without uses
@@ -242,7 +242,6 @@ kept_queued arena rs links heads places flags new size others k =
       places_all = k.places_all;
       in_chains = k.in_chains;
       in_lists = k.in_lists;
-      hashed = k.hashed;
       queued = λ i r e linked none.
           others i r e (record { linked = linked; none = none }) (k.queued i r e linked none);
     }

@@ -17,6 +17,13 @@ kept_as {chained} arena rs rs' links links' heads heads' places places' flags a 
     (subst (λ l. HoldsNodes chained arena rs links l places' flags) (sym c)
     (subst (λ l. HoldsNodes chained arena rs links heads l flags) (sym d) k)))
 
+-- the same, by whether the chains stand
+pub kept_in : {stand chained : Bool} {arena : Arena} {rs : List Record} {links : List Links} {heads places : List ℕ}
+    {flags : List Bool} → stand ≡ chained → HoldsNodes chained arena rs links heads places flags
+    → HoldsNodes stand arena rs links heads places flags
+kept_in {arena = arena} {rs = rs} {links = links} {heads = heads} {places = places} {flags = flags} e k =
+    subst (λ b. HoldsNodes b arena rs links heads places flags) (sym e) k
+
 -- the four vectors after their slices were written back
 pub kept_whole : {chained : Bool} (arena : Arena) (rs rs' : List Record) (links links' : List Links)
     (heads heads' places places' : List ℕ) (flags : List Bool) (a b c d : ℕ) → length rs ≡ a → length links ≡ b

@@ -1,11 +1,13 @@
 -- The chains of the records: of each bucket and of the free records, and the lists of each place and of the detached.
-use Rattle.std.specs.Prelude.{◌≡◌, ℕ, suc, ◌+◌, ◌*◌, ◌/◌, ◌%◌, ◌-◌, ◌<◌, ◌^◌, List, length, map, get_or}
+use Rattle.std.specs.Prelude.{◌≡◌, ℕ, suc, ◌+◌, ◌*◌, ◌/◌, ◌%◌, ◌-◌, ◌<◌, ◌≤◌, ◌^◌, List, length, map, get_or}
 use Rattle.std.specs.Prelude.{Bool, true, false, Option, Some, None, slice_get, bit_and, max, take}
 use Rattle.std.specs.List.{fold}
 use Rattle.std.specs.Option.{option_and_then}
+use Rattle.std.specs.FinMap.{get}
 use Rattle.sd_runs.specs.Arena.{Arena}
 use Rattle.sd_unique.specs.Candidates.{Waits}
 use Rattle.sd_unique.specs.Filed.{IsFiled, IsFiledBoth}
+use Rattle.sd_unique.specs.Nodes.{Nodes}
 use Rattle.sd_unique.specs.Record.{key_of, AreRecordsStored}
 use Rattle.sd_unique.specs.declared.record.Record.{Record}
 use Rattle.sd_unique.specs.declared.record.Links.{Links}
@@ -47,9 +49,9 @@ after_of links n = get_or (map (λ l. l.after) links) n 0
 abbrev pub before_of : List Links → ℕ → ℕ
 before_of links n = get_or (map (λ l. l.before) links) n 0
 
--- the hash that is kept for it
-abbrev pub kept_hash : List Links → ℕ → ℕ
-kept_hash links n = get_or (map (λ l. l.hash) links) n 0
+-- the links of a number that stands in no list
+abbrev pub no_links : Links
+no_links = record { before = no_record; after = no_record }
 
 -- the first number of a chain
 abbrev pub head_of : List ℕ → ℕ → ℕ
@@ -110,11 +112,15 @@ AreInLists links places under = IsFiledBoth (after_of links) (before_of links) n
 abbrev pub AreListed : List Links → List ℕ → (ℕ → Option ℕ) → Type 0
 AreListed links places under = 0 < length places → AreInLists links places under
 
--- the hash that is kept for each linked record is that of its key
-abbrev pub AreHashed : Arena → List Record → List Links → Type 0
-AreHashed arena records links =
-    (n : ℕ) (r : Record) → slice_get records n ≡ Some r → r.state ≡ Linked
-    → kept_hash links n ≡ hash_of (key_of arena r)
+-- each record has a hash, and that which is kept for a linked node is that of its key
+pub record AreHashed (hashes : List ℕ) (a : Nodes) : Type 0 where
+  pub size : length hashes ≡ a.records
+  pub linked : (n : ℕ) (k : ℕ × List (ℕ × ℕ)) → get a.linked n ≡ Some k → get_or hashes n 0 ≡ hash_of k
+
+-- there is memory for the links of so many records, and for the heads of the lists
+pub record HasRoomForLists (records links places : ℕ) : Type 0 where
+  pub links_fit : records ≤ links
+  pub heads_fit : 2049 ≤ places
 
 -- What holds of the fields, where the chains of the buckets stand and where they don't. The first head is that of the
 -- free records, the others are those of the buckets; the first place, where there are any, is that of the detached
@@ -122,15 +128,15 @@ AreHashed arena records links =
 pub record HoldsNodes (chained : Bool) (arena : Arena) (records : List Record) (links : List Links)
     (heads places : List ℕ) (flags : List Bool) : Type 0 where
   pub stored : AreRecordsStored arena records
-  pub linked_all : length links ≡ length records
   pub flags_all : length flags ≡ length records
   -- there is a bucket, and a head for each remainder of places, or for none
   pub at_least_one : 1 < length heads
   pub places_all : 0 < length places → length places ≡ 2049
+  -- each record has links where lists are kept
+  pub linked_all : 0 < length places → length links ≡ length records
   -- each record stands where its state says
   pub in_chains : AreChained chained arena records heads
   pub in_lists : AreListed links places (list_under records)
-  pub hashed : AreHashed arena records links
   -- each linked node without uses is a candidate
   pub queued : (n : ℕ) (r : Record) → slice_get records n ≡ Some r → r.state ≡ Linked → r.uses ≡ 0 → Waits flags n
 

@@ -4,7 +4,7 @@ ghost use Rattle.std.specs.Prelude.{IfSome, IfNone, MatchBool, Some};
 ghost use Rattle.std.specs.FinMap.{get, empty};
 ghost use Rattle.std.specs.Option.{IsSome};
 ghost use Rattle.sd_runs.specs.Arena.{Arena};
-ghost use Rattle.sd_unique.specs.Chains.{AreInLists, IsRecordAt, head_of, kept_hash};
+ghost use Rattle.sd_unique.specs.Chains.{AreInLists, IsRecordAt, head_of};
 ghost use Rattle.sd_unique.specs.Chains.{list_by, list_under, no_record};
 ghost use Rattle.sd_unique.specs.Record.{nodes_of, AreRecordsStored};
 ghost use Rattle.sd_unique.specs.Relinking.{IsLinkedAt};
@@ -19,8 +19,7 @@ pub(crate) fn list_all(records: &[Record], links: &mut [Links], places: &mut [u3
     requires fits { length records.now < 2 ^ 32 - 1 }
     requires heads { length places.old ≡ 2049 }
     requires empty { (b : ℕ) → head_of places.old b ≡ no_record }
-    ensures listed { AreInLists links.new places.new (list_under records.now) }
-    ensures hashes { (n : ℕ) → kept_hash links.new n ≡ kept_hash links.old n }
+    ensures { AreInLists links.new places.new (list_under records.now) }
 {
     for number in 0..records.len() {
         list(records, links, places, number);
@@ -34,14 +33,12 @@ fn list(records: &[Record], links: &mut [Links], places: &mut [u32], number: usi
     requires inside { number < length records.now }
     requires heads { length places.old ≡ 2049 }
     requires listed { AreInLists links.old places.old (list_under (take number records.now)) }
-    ensures listed { AreInLists links.new places.new (list_under (take (number + 1) records.now)) }
-    ensures hashes { (n : ℕ) → kept_hash links.new n ≡ kept_hash links.old n }
+    ensures { AreInLists links.new places.new (list_under (take (number + 1) records.now)) }
 {
     let Some(head) = head_for(&records[number]) else {
         return;
     };
-    let hash = links[number].hash;
-    link_first(links, places, head, number as u32, hash);
+    link_first(links, places, head, number as u32);
 }
 
 // The head of the list in which a record is to stand, if it is that of a node.

@@ -5,7 +5,7 @@ use crate::chaining::chain_all;
 use crate::found::Found;
 use crate::hash::{bucket_at, hash};
 use crate::listing::{detached_among, keyed_among, linked_among, list_all};
-use crate::lists::{at_place, put_first};
+use crate::lists::{at_place, push_links, put_first};
 use crate::record::{Links, NO_RECORD, Record, RecordState};
 use crate::stack::Candidates;
 use crate::states::{attach, detach, free, release};
@@ -44,10 +44,12 @@ pub struct Nodes {
     runs: Runs,
     /// The records, by number.
     records: Vec<Record>,
-    /// The links of each record, at its number.
+    /// The hash of the place and list of each linked node, at its number.
+    hashes: Vec<u32>,
+    /// The links of each record, at its number, from the first move on. Before it there is room for them.
     links: Vec<Links>,
-    /// The first free record, and while `chained` the first number of each bucket's chain. There are about
-    /// as many buckets as records, or more.
+    /// The first free record, and while `chained` the first number of each bucket's chain. There are at least four
+    /// fifths as many buckets as records, where there was memory for them.
     heads: Vec<u32>,
     /// The first detached record, then the first number of the list of each place, by its remainder.
     /// Nothing before the first move: no lists are kept until then.
@@ -69,7 +71,7 @@ pub struct Nodes {
 impl Model for Nodes {
     ghost use Rattle.sd_unique.specs.Nodes.{Nodes as NodesSeen, nodes_code};
     ghost use Rattle.sd_unique.specs.Record.{nodes_of};
-    ghost use Rattle.sd_unique.specs.Chains.{HoldsNodes};
+    ghost use Rattle.sd_unique.specs.Chains.{AreHashed, HasRoomForLists, HoldsNodes};
 
     ghost Value = { NodesSeen };
 
@@ -78,8 +80,9 @@ impl Model for Nodes {
     ghost view = { λ a. nodes_of a.runs a.records.items };
 
     ghost invariant = { λ a. HoldsNodes a.chained a.runs a.records.items a.links.items a.heads.items
-        a.places.items
-        a.candidates.0 };
+        a.places.items a.candidates.0
+        × AreHashed a.hashes.items (nodes_of a.runs a.records.items)
+        × HasRoomForLists a.records.len a.links.cap a.places.cap };
 }
 
 impl Nodes {
@@ -106,6 +109,7 @@ impl Nodes {
             alloc,
             runs: Runs::new(alloc, bound),
             records: Vec::with_capacity(alloc, FIRST_RECORDS)?,
+            hashes: Vec::with_capacity(alloc, FIRST_RECORDS)?,
             links: Vec::with_capacity(alloc, FIRST_RECORDS)?,
             heads: empty_heads(alloc, 17)?,
             places: Vec::with_capacity(alloc, LISTS)?,
@@ -228,13 +232,13 @@ impl Nodes {
         self.add(hash, place, list)
     }
 
-    // Doubles the buckets where they are not more than the records. Where there is no memory for
-    // that, they stay.
+    // Doubles the buckets where the records are a quarter more. Where there is no memory for that, they stay.
     #[inline(always)]
     fn grow_buckets(&mut self)
         ensures { self.new ≡ self.old }
     {
-        if self.records.len() >= self.heads.len() - 1 {
+        let buckets = self.heads.len() - 1;
+        if self.records.len() >= buckets.saturating_add(buckets / 4) {
             self.double_buckets();
         }
     }
@@ -247,7 +251,13 @@ impl Nodes {
         let buckets = self.heads.len() - 1;
         if let Ok(mut heads) = empty_heads(self.alloc, 2 * buckets + 1) {
             let from = self.first_in_order();
-            chain_all(&self.runs, &self.links, &mut self.records, &mut heads, from);
+            chain_all(
+                &self.runs,
+                &self.hashes,
+                &mut self.records,
+                &mut heads,
+                from,
+            );
             self.heads = heads;
             self.chained = true;
         }
@@ -298,7 +308,10 @@ impl Nodes {
         ensures full { IfErr result (λ e. IsRefusal self.old (length list.now) e) }
     {
         self.records.reserve(1)?;
-        self.links.reserve(1)?;
+        self.hashes.reserve(1)?;
+        // room for the links of all records, since `list_places` takes no memory
+        let links = (self.records.len() + 1).saturating_sub(self.links.len());
+        self.links.reserve(links)?;
         self.candidates.reserve()?;
         let start = self.runs.take(list)?;
         let run = (start, list.len() as u32);
@@ -308,11 +321,12 @@ impl Nodes {
         let _ = self
             .records
             .push(Record::linked(place, run, self.heads[head]));
-        let _ = self.links.push(Links::new());
+        self.hashes.push_reserved(hash);
+        push_links(&mut self.links, &self.places);
         self.candidates.add();
         self.heads[head] = number;
         let list = (place & 2047) as usize + 1;
-        put_first(&mut self.links, &mut self.places, list, number, hash);
+        put_first(&mut self.links, &mut self.places, list, number);
         self.candidates.push(number);
         Ok(number)
     }
@@ -343,12 +357,12 @@ impl Nodes {
             state: RecordState::Linked,
         };
         self.heads[head] = number;
+        self.hashes[number as usize] = hash;
         put_first(
             &mut self.links,
             &mut self.places,
             (place & 2047) as usize + 1,
             number,
-            hash,
         );
         self.candidates.push(number);
         number
@@ -444,7 +458,7 @@ impl Nodes {
 
     /// Sees to it that the nodes of each place, and the detached ones, have a list from now on. That
     /// takes a step for each record the first time, and one test from then on. Takes no memory: there
-    /// is room for the heads since the table was made.
+    /// is room for the heads since the table was made, and for the links since the records were.
     pub fn list_places(&mut self)
         ensures same { self.new ≡ self.old }
         ensures nodes { IsNodes self.new }
@@ -452,9 +466,9 @@ impl Nodes {
         if !self.places.is_empty() {
             return;
         }
-        let Ok(()) = self.places.resize(LISTS, NO_RECORD) else {
-            return;
-        };
+        // there is room for both
+        let _ = self.links.resize(self.records.len(), Links::new());
+        let _ = self.places.resize(LISTS, NO_RECORD);
         list_all(&self.records, &mut self.links, &mut self.places);
     }
 
@@ -546,6 +560,7 @@ impl Nodes {
     {
         detach(
             &self.runs,
+            &self.hashes,
             &mut self.records,
             &mut self.links,
             &mut self.heads,
@@ -569,6 +584,7 @@ impl Nodes {
         self.candidates.push_unused(node, uses);
         attach(
             &self.runs,
+            &mut self.hashes,
             &mut self.records,
             &mut self.links,
             &mut self.heads,
@@ -606,6 +622,7 @@ impl Nodes {
     {
         free(
             &mut self.runs,
+            &self.hashes,
             &mut self.records,
             &mut self.links,
             &mut self.heads,
@@ -693,7 +710,7 @@ impl Nodes {
     // Makes all chains anew: the free numbers in order, those from that of the newest node on first and then the
     // smallest, and the linked ones among the buckets. Puts the free runs of two, the length of most lists, in order
     // likewise. A sweep frees them in the order of the stack, and nodes that got them in that order stand all over the
-    // records, links and runs, where those made one after the other are read one after the other. Going on behind the
+    // records, hashes and runs, where those made one after the other are read one after the other. Going on behind the
     // newest node, and not from the smallest number again, new nodes take the place of the oldest ones: numbers mostly
     // stay in the order in which nodes were made, round and round, and what dies together stands together.
     #[inline(never)]
@@ -705,7 +722,7 @@ impl Nodes {
         empty_chains(&mut self.heads);
         chain_all(
             &self.runs,
-            &self.links,
+            &self.hashes,
             &mut self.records,
             &mut self.heads,
             from,

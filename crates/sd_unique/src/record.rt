@@ -11,7 +11,7 @@ pub(crate) enum RecordState {
     Detached,
 }
 
-/// What is kept for a number, beside its links.
+/// What is kept for a number, beside its hash and its links.
 #[derive(Clone, Copy, Drop)]
 pub(crate) struct Record {
     /// A number that the layer above gives; part of the node's key.
@@ -31,16 +31,13 @@ pub(crate) struct Record {
     pub(crate) state: RecordState,
 }
 
-/// The links of a record that no look-up follows.
+/// The links of a record that no look-up follows, kept from `list_places` on.
 #[derive(Clone, Copy, Drop)]
 pub(crate) struct Links {
-    /// From `list_places` on, the number before in the list of the node's place, or in that of the
-    /// detached.
+    /// The number before in the list of the node's place, or in that of the detached.
     pub(crate) before: u32,
-    /// From then on, the number after in that list.
+    /// The number after in that list.
     pub(crate) after: u32,
-    /// The hash of the node's place and list, while it is linked.
-    pub(crate) hash: u32,
 }
 
 /// Ends a chain: no record has this number.
@@ -74,12 +71,16 @@ impl Record {
 }
 
 impl Links {
+    ghost use Rattle.std.specs.Prelude.{◌≡◌};
+    ghost use Rattle.sd_unique.specs.Chains.{no_links};
+
     // Of a number that stands in no list.
-    pub(crate) fn new() -> Links {
+    pub(crate) fn new() -> Links
+        ensures { result ≡ no_links }
+    {
         Links {
             before: NO_RECORD,
             after: NO_RECORD,
-            hash: 0,
         }
     }
 }

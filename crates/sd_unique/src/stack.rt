@@ -14,12 +14,10 @@ use std::marker::Model;
 /// and one flag, so those of a sweep bring few lines into the cache.
 #[derive(Drop)]
 pub(crate) struct Candidates {
-    /// As many as the records: those below `depth` are the stack.
+    /// The stack, with room for all numbers. Only as much of it is written as ever stood there.
     numbers: Vec<u32>,
     /// For each number whether it stands in the stack.
     waits: Vec<bool>,
-    /// How many stand there.
-    depth: usize,
 }
 
 impl Model for Candidates {
@@ -31,7 +29,7 @@ impl Model for Candidates {
 
     ghost view = { λ a. (a.waits.items, (a.numbers.cap, a.waits.cap)) };
 
-    ghost invariant = { λ a. AreCandidates a.numbers.items a.waits.items a.depth };
+    ghost invariant = { λ a. AreCandidates a.numbers.items a.waits.items a.numbers.cap };
 }
 
 impl Candidates {
@@ -42,22 +40,22 @@ impl Candidates {
         Ok(Candidates {
             numbers: Vec::with_capacity(alloc, count)?,
             waits: Vec::with_capacity(alloc, count)?,
-            depth: 0,
         })
     }
 
     // How many numbers stand in the stack.
     #[inline(always)]
     pub(crate) fn depth(&self) -> usize {
-        self.depth
+        self.numbers.len()
     }
 
-    // Makes room for one more number.
+    // Makes room for one more number: for its flag, and for as many on the stack as there are flags then.
     pub(crate) fn reserve(&mut self) -> Result<(), AllocError>
         ensures same { self.new.0 ≡ self.old.0 }
         ensures room { OnOk result (HasRoom self.new) }
     {
-        self.numbers.reserve(1)?;
+        let more = self.waits.len() + 1 - self.numbers.len();
+        self.numbers.reserve(more)?;
         self.waits.reserve(1)?;
         Ok(())
     }
@@ -67,8 +65,7 @@ impl Candidates {
         requires room { HasRoom self.old }
         ensures { self.new.0 ≡ self.old.0 ++ false ∷ [] }
     {
-        let _ = self.numbers.push(0);
-        let _ = self.waits.push(false);
+        self.waits.push_reserved(false);
     }
 
     // Puts a number on the stack, where it is not there yet.
@@ -83,8 +80,7 @@ impl Candidates {
             return;
         }
         self.waits[number as usize] = true;
-        self.numbers[self.depth] = number;
-        self.depth += 1;
+        self.numbers.push_reserved(number);
     }
 
     // Puts a number on the stack if it has no uses.
@@ -111,12 +107,12 @@ impl Candidates {
             (λ n. (r : Record) × (slice_get records.now n ≡ Some r) × IsUnused r) }
         ensures none { IfNone result ((n : ℕ) → ¬ Waits self.new.0 n) }
     {
-        while self.depth > 0 {
-            let top = self.numbers[self.depth - 1];
+        while self.numbers.len() > 0 {
+            let top = self.numbers[self.numbers.len() - 1];
             if is_unused(&records[top as usize]) {
                 return Some(top);
             }
-            self.depth -= 1;
+            let _ = self.numbers.take_last();
             self.waits[top as usize] = false;
         }
         None
@@ -128,8 +124,8 @@ impl Candidates {
         ensures size { length self.new.0 ≡ length self.old.0 }
         ensures others { (n : ℕ) → n ≢ number → Waits self.old.0 n → Waits self.new.0 n }
     {
-        if self.depth > 0 && self.numbers[self.depth - 1] == number {
-            self.depth -= 1;
+        if self.numbers.len() > 0 && self.numbers[self.numbers.len() - 1] == number {
+            let _ = self.numbers.take_last();
             self.waits[number as usize] = false;
         }
     }

@@ -1,7 +1,7 @@
 // Linked nodes without uses are taken away one after the other, with the uses of their lists.
 ghost use Rattle.std.specs.Prelude.{false, ℕ, List, [], ◌∷◌};
 ghost use Rattle.sd_unique.specs.declared.record.Links.{Links};
-ghost use Rattle.sd_unique.specs.Chains.{HoldsNodes};
+ghost use Rattle.sd_unique.specs.Chains.{AreHashed, HoldsNodes};
 ghost use Rattle.sd_unique.specs.Record.{nodes_of};
 ghost use Rattle.sd_unique.specs.Retiring.{AreCodesUsed, DropsCode, DropsCodes, HaveRetired, IsCodeUsed, MayRetire};
 
@@ -26,6 +26,8 @@ pub(crate) fn retire_twos(
     requires kept { HoldsNodes false runs.old records.old links.old heads.old places.old candidates.old.0 }
     requires may { MayRetire first (nodes_of runs.old records.old) }
     ensures kept { HoldsNodes false runs.new records.new links.new heads.new places.new candidates.new.0 }
+    ensures hashed { (hashes : List ℕ) → AreHashed hashes (nodes_of runs.old records.old)
+        → AreHashed hashes (nodes_of runs.new records.new) }
     ensures retired { HaveRetired first (nodes_of runs.old records.old) (nodes_of runs.new records.new) result }
 {
     // there are fewer nodes
@@ -37,7 +39,7 @@ pub(crate) fn retire_twos(
         let [one, two] = *runs.get(record.start, record.length) else {
             return count;
         };
-        free(runs, records, links, heads, places, node, false);
+        free(runs, &[], records, links, heads, places, node, false);
         candidates.pop_top(node);
         drop_two(runs, records, candidates, first, (one, two));
     }

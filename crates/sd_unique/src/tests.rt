@@ -119,6 +119,26 @@ fn lists_from_then_on(rt: HostRuntime) -> Result<(), Fail> {
     Ok(())
 }
 
+/// Lists are made of more nodes than a new table has room for, and kept of as many that come behind.
+#[test]
+fn lists_of_many(rt: HostRuntime) -> Result<(), Fail> {
+    let mut nodes = Nodes::new(rt.alloc(), 200_000)?;
+    for place in 0..70_000 {
+        nodes.find_or_insert(place, &[(place, 1)])?;
+    }
+    nodes.list_places();
+    for place in 70_000..140_000 {
+        nodes.find_or_insert(place, &[(place, 1)])?;
+    }
+    unlink_at(&mut nodes, 139_999);
+    assert_eq!(rt; nodes.first_at(139_999), None);
+    assert_eq!(rt; nodes.first_detached(), Some(139_999));
+    link_detached(&mut nodes);
+    assert_eq!(rt; nodes.first_at(7), Some(7));
+    assert_eq!(rt; nodes.first_at(139_999), Some(139_999));
+    Ok(())
+}
+
 // Makes a node at each of these places.
 fn add_at(nodes: &mut Nodes, places: &[u32]) -> Result<(), TakeError> {
     for place in places {

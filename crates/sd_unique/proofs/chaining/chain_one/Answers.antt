@@ -1,24 +1,24 @@
-use Rattle.std.proofs.Common.{◌≡◌, ◌-◌, ◌<◌, ◌≤◌, ◌⊎◌, ℕ, suc, get_or, length, Some, sym, ap, subst, ◌∙◌, arith}
+use Rattle.std.proofs.Common.{◌≡◌, ◌-◌, ◌<◌, ◌≤◌, ◌⊎◌, ℕ, suc, get_or, length, Some}
+use Rattle.std.proofs.Common.{sym, ap, subst, ◌∙◌, arith}
 use Rattle.std.proofs.Math.ListN.{set}
 use Rattle.std.proofs.lemmas.List.{length-set}
 use Rattle.sd_unique.specs.Chains.{bucket_of, chain_by, no_record}
 use Rattle.sd_unique.specs.Record.{key_of}
 use Rattle.sd_unique.specs.Rechaining.{IsRechained}
-use Rattle.sd_unique.specs.declared.record.Links.{Links}
 use Rattle.sd_unique.specs.declared.record.Record.{Record}
 use Rattle.sd_unique.specs.declared.record.RecordState.TheVariants.{Free}
 use Rattle.sd_unique.proofs.Entries.{slice_get_at}
-use Rattle.sd_unique.proofs.Listed.{link_read}
 use Rattle.sd_unique.proofs.Rechaining.{one_down, rechained_next}
 use Rattle.sd_unique.proofs.Reading.{get_or_any}
+use Rattle.sd_unique.proofs.Standing.{linked_key_is}
 use Rattle.sd_unique.proofs.chaining.chain_one.Goals as goal
 use Rattle.sd_unique.proofs.chaining.chain_one.Goals.{in-Free, in-Linked}
 
 abbrev blank : Record
 blank = record { place = 0; start = 0; length = 0; next = 0; uses = 0; mark = 0; state = Free }
 
-abbrev blank_links : Links
-blank_links = record { before = 0; after = 0; hash = 0 }
+pub bounds-hashes-number : goal.bounds-hashes-number
+bounds-hashes-number c = omega (arith, c.requires.inside, c.requires.hashed.size)
 
 pub returns-clause-chained : goal.returns-clause-chained
 returns-clause-chained c =
@@ -40,9 +40,8 @@ returns-clause-chained c =
       | in-Linked w ↦ (
         ap (λ s. chain_by s (bucket_of (key_of c.args.runs.now r) count)) w.in-Linked.is
             ∙ ap (λ b. Some (suc b)) (sym (w.bucket_at.ensures.is (key_of c.args.runs.now r)
-            (sym (link_read (λ (l : Links). l.hash) c.args.links.now c.args.number blank_links
-            (omega (arith, c.requires.inside, c.requires.size)))
-            ∙ c.requires.hashed c.args.number r there w.in-Linked.is)))
+            (c.requires.hashed.linked c.args.number (key_of c.args.runs.now r)
+            (linked_key_is c.args.runs.now c.args.records.now c.args.number r there w.in-Linked.is))))
             ∙ ap Some (omega (arith, w.head-is)),
         omega (arith, w.head-is, w.bucket_at.ensures.inside, c.requires.at_least_one),
       )

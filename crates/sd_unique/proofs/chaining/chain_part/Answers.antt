@@ -2,6 +2,7 @@ use Rattle.std.proofs.Common.{◌-◌, ◌<◌, ◌≤◌, ◌⊎◌, length, in
 use Rattle.sd_runs.proofs.Places.{by_cases}
 use Rattle.sd_unique.proofs.Rechaining.{rechained_same}
 use Rattle.sd_unique.proofs.Cutting.{all_kept}
+use Rattle.sd_unique.proofs.Hashes.{hashed_kept}
 use Rattle.sd_unique.proofs.chaining.chain_part.Goals as goal
 
 pub loop-number-init : goal.loop-number-init
@@ -14,3 +15,8 @@ loop-number-init c =
           c.args.heads.now (λ n h. inl h) (λ n. by_cases (λ h. h) (λ h. absurd (omega (arith, h.0, h.1))))
           c.requires.chained;
     }
+
+pub chain_one-requires-clause-hashed : goal.chain_one-requires-clause-hashed
+chain_one-requires-clause-hashed c =
+    hashed_kept c.args.runs.now c.args.records.now c.loop-number.records c.args.hashes.now c.loop-number.invariant.kept
+    c.requires.hashed

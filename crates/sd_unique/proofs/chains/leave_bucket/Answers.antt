@@ -1,12 +1,10 @@
-use Rattle.std.proofs.Common.{◌-◌, length, sym, subst, arith}
+use Rattle.std.proofs.Common.{◌-◌, length, refl, sym, subst, arith}
 use Rattle.sd_unique.specs.Chains.{next_of, head_of, heads_in, chain_in, under_by, chain_under, no_record}
 use Rattle.sd_unique.specs.Chains.{AreChained}
 use Rattle.sd_unique.specs.Filed.{IsFiled, unfiled}
-use Rattle.sd_unique.specs.declared.record.Links.{Links}
 use Rattle.sd_unique.specs.declared.record.Record.{Record}
 use Rattle.sd_unique.specs.declared.record.RecordState.TheVariants.{Free}
 use Rattle.sd_unique.proofs.Leaving.{left_as_is}
-use Rattle.sd_unique.proofs.Listed.{link_read}
 use Rattle.sd_unique.proofs.Numbered.{linked_inside}
 use Rattle.sd_unique.proofs.Standing.{chain_inside, linked_head}
 use Rattle.sd_unique.proofs.chains.leave_bucket.Goals as goal
@@ -14,19 +12,16 @@ use Rattle.sd_unique.proofs.chains.leave_bucket.Goals as goal
 abbrev blank : Record
 blank = record { place = 0; start = 0; length = 0; next = 0; uses = 0; mark = 0; state = Free }
 
-abbrev blank_links : Links
-blank_links = record { before = 0; after = 0; hash = 0 }
-
 pub returns-then-not-chained-clause-left : goal.returns-then-not-chained-clause-left
 returns-then-not-chained-clause-left c =
     left_as_is c.args.chained c.args.runs.now c.args.records.now c.args.heads.now c.args.number c.if-not-chained.true
     c.requires.linked c.requires.chained
 
-pub bounds-links-number : goal.bounds-links-number
-bounds-links-number c =
+pub bounds-hashes-number : goal.bounds-hashes-number
+bounds-hashes-number c =
     omega (
       arith,
-      c.requires.size,
+      (c.requires.hashed c.if-not-chained.false).size,
       linked_inside c.args.runs.now c.args.records.now c.args.number c.requires.linked,
     )
 
@@ -36,15 +31,9 @@ cut-requires-clause-inside c = linked_inside c.args.runs.now c.args.records.now 
 pub cut-requires-clause-chained : goal.cut-requires-clause-chained
 cut-requires-clause-chained c = (
   chain_under c.args.runs.now (length c.args.heads.now - 1) c.args.records.now,
-  linked_head c.args.runs.now c.args.records.now c.args.links.now c.args.number _ blank
-      (length c.args.heads.now - 1) c.bucket_at-head.result c.requires.linked c.requires.hashed
-      (link_read (λ (l : Links). l.hash) c.args.links.now c.args.number blank_links
-      (omega (
-        arith,
-        c.requires.size,
-        linked_inside c.args.runs.now c.args.records.now c.args.number c.requires.linked,
-      )))
-      c.bucket_at-head.ensures.is,
+  linked_head c.args.runs.now c.args.records.now c.args.hashes.now c.args.number _ blank
+      (length c.args.heads.now - 1) c.bucket_at-head.result c.requires.linked
+      (c.requires.hashed c.if-not-chained.false) refl c.bucket_at-head.ensures.is,
   chain_inside c.args.runs.now (length c.args.heads.now - 1) c.args.records.now,
   subst (λ b. AreChained b c.args.runs.now c.args.records.now c.args.heads.now) c.if-not-chained.false
       c.requires.chained,
@@ -56,14 +45,8 @@ returns-clause-left c =
     (unfiled c.args.number (under_by (chain_in b) c.args.runs.now (length c.args.heads.now - 1) c.args.records.now)))
     (sym c.if-not-chained.false)
     (c.cut.ensures.chained (chain_under c.args.runs.now (length c.args.heads.now - 1) c.args.records.now)
-    (linked_head c.args.runs.now c.args.records.now c.args.links.now c.args.number _ blank
-    (length c.args.heads.now - 1) c.bucket_at-head.result c.requires.linked c.requires.hashed
-    (link_read (λ (l : Links). l.hash) c.args.links.now c.args.number blank_links
-    (omega (
-      arith,
-      c.requires.size,
-      linked_inside c.args.runs.now c.args.records.now c.args.number c.requires.linked,
-    )))
-    c.bucket_at-head.ensures.is)
+    (linked_head c.args.runs.now c.args.records.now c.args.hashes.now c.args.number _ blank
+    (length c.args.heads.now - 1) c.bucket_at-head.result c.requires.linked
+    (c.requires.hashed c.if-not-chained.false) refl c.bucket_at-head.ensures.is)
     (subst (λ b. AreChained b c.args.runs.now c.args.records.now c.args.heads.now) c.if-not-chained.false
     c.requires.chained))

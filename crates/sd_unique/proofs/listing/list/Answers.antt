@@ -8,8 +8,8 @@ use Rattle.sd_unique.proofs.listing.list.Goals as goal
 abbrev blank : Record
 blank = record { place = 0; start = 0; length = 0; next = 0; uses = 0; mark = 0; state = Free }
 
-pub returns-in_default-clause-listed : goal.returns-in_default-clause-listed
-returns-in_default-clause-listed c =
+pub returns-in_default : goal.returns-in_default
+returns-in_default c =
     listed_free c.args.records.now c.args.number blank c.requires.inside c.args.links.now c.args.places.now
     (sym c.head_for.ensures ∙ c.in_default.is)
     c.requires.listed
@@ -26,9 +26,9 @@ link_first-requires-clause-listed c = (
   c.requires.listed,
 )
 
-pub returns-clause-listed : goal.returns-clause-listed
-returns-clause-listed c =
+pub returns : goal.returns
+returns c =
     listed_next c.args.records.now c.args.number blank c.requires.inside c.link_first.new.links c.link_first.new.places
     c.in-Some.head (sym c.head_for.ensures ∙ c.in-Some.is)
-    (c.link_first.ensures.listed (list_under (take c.args.number c.args.records.now))
+    (c.link_first.ensures (list_under (take c.args.number c.args.records.now))
     (next_unlisted c.args.records.now c.args.number blank c.requires.inside) c.requires.listed)

@@ -12,7 +12,7 @@ abbrev blank : Record
 blank = record { place = 0; start = 0; length = 0; next = 0; uses = 0; mark = 0; state = Free }
 
 abbrev blank_links : Links
-blank_links = record { before = 0; after = 0; hash = 0 }
+blank_links = record { before = 0; after = 0 }
 
 pub loop-step-init : goal.loop-step-init
 loop-step-init c = (c.requires.walk.0, place_first c.requires.walk.1)

@@ -5,7 +5,7 @@ use Rattle.sd_unique.proofs.Listed.{before_there, after_there, taken_steps, link
 use Rattle.sd_unique.proofs.lists.lead_past.Goals as goal
 
 abbrev blank : Links
-blank = record { before = 0; after = 0; hash = 0 }
+blank = record { before = 0; after = 0 }
 
 pub lead-requires-clause-inside : goal.lead-requires-clause-inside
 lead-requires-clause-inside c = λ ne.
@@ -26,13 +26,10 @@ lead_back-requires c = record {
       c.requires.listed.1 c.requires.listed.3 (λ z. ne (sym is ∙ z)))));
 }
 
-pub returns-clause-listed : goal.returns-clause-listed
-returns-clause-listed c = λ under there f.
+pub returns : goal.returns
+returns c = λ under there f.
     taken_steps c.args.links.now c.args.places.now under c.args.number c.args.head there f c.lead.new.links
     c.lead_back.new.links c.lead.new.places _ _
     (sym (link_read (λ (l : Links). l.before) c.args.links.now c.args.number blank c.requires.inside))
     (sym (link_read (λ (l : Links). l.after) c.args.links.now c.args.number blank c.requires.inside))
     c.lead.ensures.led c.lead.ensures.before c.lead_back.ensures.led c.lead_back.ensures.after
-
-pub returns-clause-hashes : goal.returns-clause-hashes
-returns-clause-hashes c = λ n. c.lead_back.ensures.hashes n ∙ c.lead.ensures.hashes n

@@ -4,11 +4,11 @@ use Rattle.sd_unique.specs.Filed.{IsLedBack}
 use Rattle.sd_unique.specs.declared.record.Links.{Links}
 use Rattle.sd_unique.proofs.Entries.{slice_get_at}
 use Rattle.sd_unique.proofs.Listed.{head_there, put_steps}
-use Rattle.sd_unique.proofs.Reading.{get_or_any, link_there, link_other}
+use Rattle.sd_unique.proofs.Reading.{get_or_any}
 use Rattle.sd_unique.proofs.lists.link_first.Goals as goal
 
 abbrev blank : Links
-blank = record { before = 0; after = 0; hash = 0 }
+blank = record { before = 0; after = 0 }
 
 pub lead_back-requires : goal.lead_back-requires
 lead_back-requires c = record {
@@ -20,8 +20,8 @@ lead_back-requires c = record {
       c.requires.listed.1 c.requires.listed.3 (λ z. ne (sym is ∙ z))));
 }
 
-pub returns-clause-listed : goal.returns-clause-listed
-returns-clause-listed c = λ under gone f.
+pub returns : goal.returns
+returns c = λ under gone f.
     let is = get_or_any c.args.places.now c.args.head no_record 0 c.requires.head in
     put_steps c.args.links.now c.args.places.now under c.args.number c.args.head gone f c.lead_back.new.links
     (get_or c.lead_back.new.links c.args.number blank) _ c.requires.at_least_one
@@ -31,12 +31,3 @@ returns-clause-listed c = λ under gone f.
     (subst (λ k. IsLedBack (before_of c.args.links.now) (before_of c.lead_back.new.links) no_record c.args.number k)
     (sym is) c.lead_back.ensures.led)
     c.lead_back.ensures.after refl (sym is)
-
-pub returns-clause-hash : goal.returns-clause-hash
-returns-clause-hash c =
-    link_there (λ (l : Links). l.hash) c.lead_back.new.links c.args.number _
-    (subst (λ s. c.args.number < s) (sym c.lead_back.auto.links) c.requires.inside)
-
-pub returns-clause-hashes : goal.returns-clause-hashes
-returns-clause-hashes c = λ n ne.
-    link_other (λ (l : Links). l.hash) c.lead_back.new.links c.args.number _ n ne ∙ c.lead_back.ensures.hashes n

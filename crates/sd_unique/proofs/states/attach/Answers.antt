@@ -3,11 +3,12 @@ use Rattle.sd_unique.specs.declared.record.Record.{Record}
 use Rattle.sd_unique.specs.declared.record.RecordState.TheVariants.{Free}
 use Rattle.sd_unique.specs.Chains.{hash_of, list_under, no_record}
 use Rattle.sd_unique.specs.Filed.{unfiled}
-use Rattle.sd_unique.specs.Record.{key_of}
+use Rattle.sd_unique.specs.Record.{key_of, nodes_of}
 use Rattle.sd_unique.proofs.Attaching.{bucket_at, attached_kept, nodes_attached}
 use Rattle.sd_unique.proofs.Both.{unfiled_here}
 use Rattle.sd_unique.proofs.Detached.{detached_node}
-use Rattle.sd_unique.proofs.Numbered.{detached_inside}
+use Rattle.sd_unique.proofs.Hashes.{hashed_put}
+use Rattle.sd_unique.proofs.Numbered.{detached_inside, is_nodes}
 use Rattle.sd_unique.proofs.Reading.{get_or_any}
 use Rattle.sd_unique.proofs.Standing.{list_inside, detached_here, detached_list, detached_key_is, detached_uses}
 use Rattle.sd_unique.proofs.Standing.{is_record, unfiled_inside}
@@ -26,10 +27,10 @@ get-list-requires c =
     (detached_node (get_or c.args.records.now c.args.number blank).state read.1)
 
 pub take_out-requires-clause-inside : goal.take_out-requires-clause-inside
-take_out-requires-clause-inside c =
+take_out-requires-clause-inside c = λ some.
     omega (
       arith,
-      c.requires.kept.2.linked_all,
+      c.requires.kept.2.linked_all some,
       detached_inside c.args.runs.now c.args.records.now c.args.number c.requires.detached,
     )
 
@@ -39,16 +40,16 @@ take_out-requires-clause-listed c =
       list_under c.args.records.now,
       detached_list c.args.runs.now c.args.records.now c.args.number (get_or c.args.records.now c.args.number blank)
           read.0 read.1,
-      (λ i b e. omega (arith, c.requires.kept.2.linked_all, list_inside c.args.records.now i b e)),
+      (λ some i b e. omega (arith, c.requires.kept.2.linked_all some, list_inside c.args.records.now i b e)),
       c.requires.kept.2.in_lists,
     )
 
 pub put_first-requires-clause-inside : goal.put_first-requires-clause-inside
-put_first-requires-clause-inside c =
+put_first-requires-clause-inside c = λ some.
     omega (
       arith,
       c.take_out.auto.links,
-      c.requires.kept.2.linked_all,
+      c.requires.kept.2.linked_all (omega (arith, some, c.take_out.auto.places)),
       detached_inside c.args.runs.now c.args.records.now c.args.number c.requires.detached,
     )
 
@@ -62,14 +63,14 @@ put_first-requires-clause-listed c =
     let read = detached_here c.args.runs.now c.args.records.now c.args.number blank c.requires.detached in (
       unfiled c.args.number (list_under c.args.records.now),
       unfiled_here c.args.number (list_under c.args.records.now) c.args.number refl,
-      unfiled_inside (list_under c.args.records.now) c.args.number (length c.take_out.new.links)
+      λ some. unfiled_inside (list_under c.args.records.now) c.args.number (length c.take_out.new.links)
           (λ i b e. omega (
             arith,
             c.take_out.auto.links,
-            c.requires.kept.2.linked_all,
+            c.requires.kept.2.linked_all (omega (arith, some, c.take_out.auto.places)),
             list_inside c.args.records.now i b e,
           )),
-      c.take_out.ensures.listed (list_under c.args.records.now)
+      c.take_out.ensures (list_under c.args.records.now)
           (detached_list c.args.runs.now c.args.records.now c.args.number
           (get_or c.args.records.now c.args.number blank) read.0 read.1)
           c.requires.kept.2.in_lists,
@@ -97,9 +98,9 @@ returns-clause-kept c = λ chained flags queued k.
     inside (get_or_any c.args.heads.now (c.bucket_at-head.result + 1) 0 no_record inside)
     (c.put_first.auto.places ∙ c.take_out.auto.places)
     (c.put_first.auto.links ∙ c.take_out.auto.links)
-    (c.put_first.ensures.listed (unfiled c.args.number (list_under c.args.records.now))
+    (c.put_first.ensures (unfiled c.args.number (list_under c.args.records.now))
     (unfiled_here c.args.number (list_under c.args.records.now) c.args.number refl)
-    (c.take_out.ensures.listed (list_under c.args.records.now)
+    (c.take_out.ensures (list_under c.args.records.now)
     (detached_list c.args.runs.now c.args.records.now c.args.number (get_or c.args.records.now c.args.number blank)
     read.0 read.1)
     k.in_lists))
@@ -108,10 +109,6 @@ returns-clause-kept c = λ chained flags queued k.
     (get_or c.args.records.now c.args.number blank) read.0 read.1))
     (λ none. queued (detached_uses c.args.runs.now c.args.records.now c.args.number
     (get_or c.args.records.now c.args.number blank) read.0 read.1 ∙ ap Some none))
-    (c.put_first.ensures.hash ∙ c.hash-hash.ensures
-    ∙ ap (λ o. hash_of ((get_or c.args.records.now c.args.number blank).place, unwrap_or o []))
-    (sym c.get-list.ensures))
-    (λ i ne. c.put_first.ensures.hashes i ne ∙ c.take_out.ensures.hashes i)
     k
 
 pub returns-clause-nodes : goal.returns-clause-nodes
@@ -119,3 +116,27 @@ returns-clause-nodes c = λ k e.
     let read = detached_here c.args.runs.now c.args.records.now c.args.number blank c.requires.detached in
     nodes_attached c.args.runs.now c.args.records.now c.args.number (get_or c.args.records.now c.args.number blank) _
     read.0 refl refl refl refl refl read.1 refl k e
+
+pub bounds-hashes-number : goal.bounds-hashes-number
+bounds-hashes-number c =
+    omega (
+      arith,
+      c.requires.size,
+      detached_inside c.args.runs.now c.args.records.now c.args.number c.requires.detached,
+    )
+
+pub returns-clause-hashed : goal.returns-clause-hashed
+returns-clause-hashed c =
+    let r = get_or c.args.records.now c.args.number blank in
+    let read = detached_here c.args.runs.now c.args.records.now c.args.number blank c.requires.detached in
+    let is = returns-clause-nodes c (key_of c.args.runs.now r)
+    (detached_key_is c.args.runs.now c.args.records.now c.args.number r read.0 read.1) in
+    hashed_put c.args.hashes.now (nodes_of c.args.runs.now c.args.records.now) _ c.args.number c.hash-hash.result
+    (key_of c.args.runs.now r)
+    (omega (
+      arith,
+      c.requires.size,
+      detached_inside c.args.runs.now c.args.records.now c.args.number c.requires.detached,
+    ))
+    (c.hash-hash.ensures ∙ ap (λ o. hash_of (r.place, unwrap_or o [])) (sym c.get-list.ensures))
+    (ap (λ a. a.linked) is) (ap (λ a. a.records) is) (is_nodes c.requires.kept.2.stored)

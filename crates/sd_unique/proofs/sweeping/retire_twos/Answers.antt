@@ -4,6 +4,7 @@ use Rattle.sd_unique.specs.declared.record.RecordState.TheVariants.{Free}
 use Rattle.sd_unique.specs.Record.{nodes_of}
 use Rattle.sd_unique.specs.Retiring.{AreCodesUsed, DropsCodes, HaveRetired, one_more, none_retired}
 use Rattle.sd_unique.proofs.Entries.{slice_get_inside}
+use Rattle.sd_unique.proofs.Hashes.{hashed_retired}
 use Rattle.sd_unique.proofs.Idle.{idle_some}
 use Rattle.sd_unique.proofs.Numbered.{is_nodes}
 use Rattle.sd_unique.proofs.Twos.{two_of, top_run, top_key, kept_without}
@@ -84,3 +85,27 @@ loop-count-preserved c =
             nodes = is_nodes kept.stored;
           })),
     )
+
+pub returns-in_default-clause-hashed : goal.returns-in_default-clause-hashed
+returns-in_default-clause-hashed c = λ hashes.
+    let l = c.loop-count in
+    hashed_retired hashes c.args.first (nodes_of c.args.runs.now c.args.records.now) (nodes_of l.runs l.records) l.count
+    l.invariant.1
+
+pub returns-in_default-get-clause-hashed : goal.returns-in_default-get-clause-hashed
+returns-in_default-get-clause-hashed c = λ hashes.
+    let l = c.loop-count in
+    hashed_retired hashes c.args.first (nodes_of c.args.runs.now c.args.records.now) (nodes_of l.runs l.records) l.count
+    l.invariant.1
+
+pub returns-in_default-get-2-clause-hashed : goal.returns-in_default-get-2-clause-hashed
+returns-in_default-get-2-clause-hashed c = λ hashes.
+    let l = c.loop-count in
+    hashed_retired hashes c.args.first (nodes_of c.args.runs.now c.args.records.now) (nodes_of l.runs l.records) l.count
+    l.invariant.1
+
+pub returns-clause-hashed : goal.returns-clause-hashed
+returns-clause-hashed c = λ hashes.
+    let l = c.loop-count in
+    hashed_retired hashes c.args.first (nodes_of c.args.runs.now c.args.records.now) (nodes_of l.runs l.records) l.count
+    l.invariant.1

@@ -30,7 +30,7 @@ loop-step-init c =
     sought_first c.self.inside.runs c.self.inside.records.items heads (c.args.place, c.args.list.now)
     (length heads - 1) c.index-number.result.now
     (subst (λ b. AreChained b c.self.inside.runs c.self.inside.records.items heads) c.if-not-self.false
-    c.self.invariant.in_chains)
+    c.self.invariant.0.in_chains)
     (c.index-number.ensures
     ∙ get_or_any heads (c.bucket_at.result + 1) c.index-number.result.now no_record
     (omega (arith, c.bucket_at.ensures.inside))
@@ -43,10 +43,10 @@ returns-then-number-clause-none c = λ n e.
     c.loop-step.invariant.1 c.if-number.true (ap (λ a. get a.linked n) c.self.view_is ∙ e)
 
 pub returns-then-number-clause-nodes : goal.returns-then-number-clause-nodes
-returns-then-number-clause-nodes c = subst IsNodes c.self.view_is (is_nodes c.self.invariant.stored)
+returns-then-number-clause-nodes c = subst IsNodes c.self.view_is (is_nodes c.self.invariant.0.stored)
 
 pub returns-then-not-self-clause-nodes : goal.returns-then-not-self-clause-nodes
-returns-then-not-self-clause-nodes c = subst IsNodes c.self.view_is (is_nodes c.self.invariant.stored)
+returns-then-not-self-clause-nodes c = subst IsNodes c.self.view_is (is_nodes c.self.invariant.0.stored)
 
 pub index-record-requires : goal.index-record-requires
 index-record-requires c =
@@ -62,7 +62,7 @@ get-requires c =
     let read = sought_read c.self.inside.runs c.self.inside.records.items c.self.inside.heads.items
     (c.args.place, c.args.list.now) c.loop-step.number c.loop-step._step c.loop-step.invariant.0
     c.loop-step.invariant.1 c.if-number.false c.index-record.result.now c.index-record.ensures in
-    c.self.invariant.stored.live c.loop-step.number c.index-record.result.now read.0
+    c.self.invariant.0.stored.live c.loop-step.number c.index-record.result.now read.0
     (subst IsNode (sym read.1) tt)
 
 pub returns-then-eq-clause-some : goal.returns-then-eq-clause-some
@@ -76,7 +76,7 @@ returns-then-eq-clause-some c =
     ((slice_eq-Decides pair_decides c.get.result.now c.args.list.now _ c.eq.ensures).0 c.if-eq.true)
 
 pub returns-then-eq-clause-nodes : goal.returns-then-eq-clause-nodes
-returns-then-eq-clause-nodes c = subst IsNodes c.self.view_is (is_nodes c.self.invariant.stored)
+returns-then-eq-clause-nodes c = subst IsNodes c.self.view_is (is_nodes c.self.invariant.0.stored)
 
 pub loop-step-preserved : goal.loop-step-preserved
 loop-step-preserved c =
@@ -99,7 +99,7 @@ loop-step-preserved c =
       | else-record-place-via-then-record-place+else-record-list w ↦
           other_length c.self.inside.runs c.self.inside.records.items (c.args.place, c.args.list.now) c.loop-step.number
           c.index-record.result.now read.0 read.1
-          c.self.invariant.stored (λ same. w.if-record-list.false (same ∙ omega arith))
+          c.self.invariant.0.stored (λ same. w.if-record-list.false (same ∙ omega arith))
       | else-record-place-via-else-record-place w ↦
           other_place c.self.inside.runs c.self.inside.records.items (c.args.place, c.args.list.now) c.loop-step.number
           c.index-record.result.now read.0 read.1 w.if-record-place.false
@@ -116,4 +116,4 @@ returns-clause-none c = λ n e.
     c.loop-step.invariant.1 (omega arith) (ap (λ a. get a.linked n) c.self.view_is ∙ e)
 
 pub returns-clause-nodes : goal.returns-clause-nodes
-returns-clause-nodes c = subst IsNodes c.self.view_is (is_nodes c.self.invariant.stored)
+returns-clause-nodes c = subst IsNodes c.self.view_is (is_nodes c.self.invariant.0.stored)
