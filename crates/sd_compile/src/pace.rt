@@ -40,9 +40,9 @@ const NEAR: u32 = 32;
 // The end of a formula is so small a part of its groups, rounded down, and at least the last one.
 const PART_AT_END: usize = 8;
 
-// So many elements, garbage included, may be in use there in any case before a large diagram is swept, where that is at
-// most four times what the last sweep left.
-const ROOM_AT_END: u32 = 900_000;
+// So many elements more than the last sweep left may be in use there before a large diagram is swept again, but no more
+// than four times what it left.
+const MORE_AT_END: u32 = 600_000;
 
 /// What tells when the next sweep comes.
 #[derive(Drop)]
@@ -131,7 +131,8 @@ impl Pace {
         if self.to_come <= 1 {
             return u32::MAX;
         }
-        self.most.max(self.left.saturating_mul(4).min(ROOM_AT_END))
+        let room = self.left.saturating_add(MORE_AT_END);
+        self.most.max(room.min(self.left.saturating_mul(4)))
     }
 
     // Whether the next group of a large diagram mostly goes into room that was in use before a sweep, also if it makes
