@@ -38,8 +38,11 @@ invariant_of-self c = (
       (subst (λ rs. AreInLists c.list_all.new.links c.list_all.new.places (list_under rs)) c.deref.ensures.value
       c.list_all.ensures)
       (c.list_all.auto.links ∙ c.deref_mut.ensures.len ∙ c.resize.ensures.len
-      ∙ ap (λ b. if b then c.len.result else c.self.inside.links.len) (c.resize.ensures.succeeds (omega (arith,
-      c.self.invariant.2.links_fit, c.len.ensures)))
+      ∙ ap (λ b. if b then c.len.result else c.self.inside.links.len) (c.resize.ensures.succeeds (omega (
+        arith,
+        c.self.invariant.2.links_fit,
+        c.len.ensures,
+      )))
       ∙ c.len.ensures ∙ omega arith)
       c.self.invariant.0),
   c.self.invariant.1,
