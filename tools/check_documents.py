@@ -3,7 +3,7 @@
 
 README's table of options against the options of `sd_words`, the fault texts of docs/FORMATS.md against the tables
 of the readers and the table of answers of `sd_tool`, the crates and what they stand on in docs/MAP.md against
-crates.txt, each clause, edit and test that docs/ANSWERS.md names and each path that a document names against the
+crates.txt, each clause, edit, plant and test that docs/ANSWERS.md names and each path that a document names against the
 files, the number of definitions in README and docs/PROVED.md against the count, and the commands of README and
 docs/TOUR.md against examples/expected.txt, which has what each prints and writes. With --run PROGRAM it runs these
 too, as `python3 tools/check_documents.py --run ./sddc` does. No sentence of README has over 40 words. Its status is
@@ -135,8 +135,8 @@ def check_answers():
             homes.setdefault(name, set()).add(crate)
             if re.search(r"^{}$", rest, re.M):
                 laws.setdefault(name, set()).add(crate)
-    for path in glob.glob(TOP + "/crates/*/must-fail/*.edit"):
-        edits.setdefault(os.path.basename(path)[:-5], set()).add(path.split("/")[-3])
+    for path in glob.glob(TOP + "/crates/*/must-fail/*.edit") + glob.glob(TOP + "/tools/plants/*/*.edit"):
+        edits.setdefault(os.path.basename(path)[:-5], set()).update(path.split("/")[-3:-1])
     calls = []
     for row in rows_of(text_of("docs/ANSWERS.md"))[2:]:
         calls = [name for name in re.findall(r"`(\w+)`", row[0]) if name in homes] or calls
