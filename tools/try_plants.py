@@ -1,10 +1,10 @@
 #!/usr/bin/env python3
-"""Tries the planted bugs of tools/plants/ outside the gate: `try_plants.py [CRATE ..]`, all of them where no crate is named.
+"""Tries the planted bugs of tools/plants/ outside the gate: `try_plants.py [CRATE ..]`, all where no crate is named.
 
 A plant, tools/plants/CRATE/NAME.edit, turns the meaning of the code of CRATE, as the must-fail edits of the gate do and
-in the same form: a line `file: PATH`, then pairs of lines `old: TEXT` (standing once in that file) and `new: TEXT`. Its
-first line, `refused-by: ..`, says which clause or goal refuses it. Those that tell most stand in crates/CRATE/must-fail,
-and the gate tries them; the others stand here, so that the gate stays short.
+in their form: a line `file: PATH`, then pairs of lines `old: TEXT` (standing once in that file) and `new: TEXT`. Its
+first line, `refused-by: ..`, says which clause or goal refuses it. Those that tell most stand in crates/CRATE/must-fail
+and are tried by the gate; the others stand here, so that the gate stays short.
 
 The repository is copied to a temporary folder in which the plants are the must-fail edits of their crates, and there
 `rt must-fail` tries them. For each plant one line is printed:
@@ -16,9 +16,9 @@ The repository is copied to a temporary folder in which the plants are the must-
   bad         it cannot be applied, compiled or read: mend it
   not tried   for another reason, which is told below it
 
-The status is 0 where all are refused, else 1. Each plant takes a check of its crate, 6 to 90 seconds, after those of the
-crate and the crates below, which take minutes where no check or `rt check` on this machine kept them; all take more than
-an hour on four processors. With --list it tries nothing, and prints for each plant whether its texts still stand once.
+The status is 0 where all are refused, else 1. Each plant takes a check of its crate, 6 to 90 seconds, after those of
+the crate and of the crates below, which take minutes where no `rt check` on this machine kept them; all together take
+more than an hour on four processors. With --list nothing is tried: it prints for each plant whether its texts stand.
 """
 import glob
 import os
@@ -105,12 +105,11 @@ def main(words):
     for crate in crates:
         if not plants_of(crate):
             sys.exit("there are no plants of %s in tools/plants" % crate)
-    faults = [(crate, plant, fault_of(crate, plant)) for crate in crates for plant in plants_of(crate)]
     if "--list" in words:
-        for crate, plant, fault in faults:
-            print("%-11s %s/%s%s" % ("bad" if fault else "stands", crate, os.path.basename(plant)[:-5],
-                                     ": " + fault if fault else ""))
-        return int(any(fault for _, _, fault in faults))
+        faults = [(plant, fault_of(crate, plant)) for crate in crates for plant in plants_of(crate)]
+        for plant, fault in faults:
+            print("bad    %s: %s" % (plant, fault) if fault else "stands %s" % plant)
+        return int(any(fault for _, fault in faults))
     with tempfile.TemporaryDirectory(prefix="plants-") as room:
         copied(room, crates)
         return int(not all([tried(crate, room) for crate in crates]))
