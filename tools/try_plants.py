@@ -61,7 +61,7 @@ def fault_of(crate, plant):
             texts[path], old = texts[path].replace(old, text), None
         else:
             return "a line that says nothing: " + line
-    return None if texts else "it has no file"
+    return None if texts else "it names no file"
 
 
 def copied(room, crates):
@@ -102,13 +102,13 @@ def tried(crate, room):
 def main(words):
     names = [word for word in words if word != "--list"]
     crates = names or sorted(os.listdir(os.path.join(TOP, "tools/plants")))
-    for crate in crates:
-        if not plants_of(crate):
-            sys.exit("there are no plants of %s in tools/plants" % crate)
+    if not all(plants_of(crate) for crate in crates):
+        sys.exit("tools/plants has no plants of one of these: " + ", ".join(crates))
     if "--list" in words:
         faults = [(plant, fault_of(crate, plant)) for crate in crates for plant in plants_of(crate)]
         for plant, fault in faults:
-            print("bad    %s: %s" % (plant, fault) if fault else "stands %s" % plant)
+            name = os.path.relpath(plant, TOP)
+            print("bad    %s: %s" % (name, fault) if fault else "stands %s" % name)
         return int(any(fault for _, fault in faults))
     with tempfile.TemporaryDirectory(prefix="plants-") as room:
         copied(room, crates)
