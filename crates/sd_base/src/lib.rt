@@ -10,8 +10,6 @@ mod read_whole;
 mod shelf;
 mod sink;
 mod span;
-#[cfg(test)]
-mod tests;
 mod write_whole;
 
 pub use lines::{ContentLines, Line, Lines, Words};

@@ -14,6 +14,3 @@ mod computed;
 
 pub use cache::Cache;
 pub use computed::ComputedTable;
-
-#[cfg(test)]
-mod tests;

@@ -22,6 +22,3 @@ pub use compiling::{Compiling, add_group, add_group_past, begin, compile, finish
 pub use connectives::connect;
 pub use error::{CompileError, HoldError};
 pub use limited::{LEAST_GARBAGE, hold_within, sweep_past, total_over};
-
-#[cfg(test)]
-mod tests;

@@ -7,4 +7,3 @@ pub mod Elements
 pub mod Serving
 pub mod Whole
 pub mod Forgotten
-pub mod Tried

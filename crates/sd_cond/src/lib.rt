@@ -19,6 +19,3 @@ mod operations;
 mod places;
 
 pub use operations::{forget, given};
-
-#[cfg(test)]
-mod tests;

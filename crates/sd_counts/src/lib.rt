@@ -28,6 +28,3 @@ mod settling;
 mod stacks;
 
 pub use live_counts::LiveCounts;
-
-#[cfg(test)]
-mod tests;

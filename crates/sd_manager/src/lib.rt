@@ -22,6 +22,3 @@ pub use node_id::{FIRST_NODE, NodeId};
 pub use roots::Root;
 pub use values::value_of;
 pub use view::View;
-
-#[cfg(test)]
-mod tests;

@@ -16,6 +16,3 @@ pub use moves::{MovedError, moved};
 pub use sizes::size_of;
 pub use texts::{text_of, texts_of};
 pub use trees::{Move, Operation, Side, Tree};
-
-#[cfg(test)]
-mod tests;

@@ -16,6 +16,3 @@ mod writing;
 
 pub use error::TakeError;
 pub use runs::Runs;
-
-#[cfg(test)]
-mod tests;

@@ -6,6 +6,3 @@ mod sweeping;
 
 pub use sizes::{size, size_of};
 pub use sweeping::sweep;
-
-#[cfg(test)]
-mod tests;

@@ -41,5 +41,4 @@ mod Ordering
 mod Rechaining
 mod Nothing
 mod ListsMade
-mod Retiring
 mod Twos

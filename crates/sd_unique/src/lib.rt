@@ -59,6 +59,3 @@ mod sweeping;
 
 pub use found::Found;
 pub use nodes::Nodes;
-
-#[cfg(test)]
-mod tests;

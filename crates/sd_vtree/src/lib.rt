@@ -12,6 +12,3 @@ mod vtree;
 
 pub use shape::{NotMovable, VNode};
 pub use vtree::Vtree;
-
-#[cfg(test)]
-mod tests;

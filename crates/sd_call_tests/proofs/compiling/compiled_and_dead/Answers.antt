@@ -1,0 +1,11 @@
+use Rattle.std.proofs.Common.{◌≡◌, ℕ, ap, ◌∙◌, arith}
+use Rattle.std.specs.Ordering.{nat_cmp}
+use Rattle.std.specs.FinMap.{len, len-empty}
+use Rattle.sd_manager.specs.Table.{Table}
+use Rattle.sd_call_tests.proofs.compiling.compiled_and_dead.Goals as goal
+
+pub compile-requires-clause-room : goal.compile-requires-clause-room
+compile-requires-clause-room c =
+    let none : len c.in-Ok-new.m.roots ≡ 0 =
+    ap (λ (t : Table). len t.roots) c.in-Ok-new.ensures.ok ∙ len-empty nat_cmp ℕ in
+    omega (arith, none)

@@ -1,0 +1,143 @@
+// Plain diagrams and trees, whose texts, sizes and moves the program does without.
+use sd_model::{
+    Diagram, Element, Move, MovedError, Side, Tree, compare, moved, size_of, text_of, texts_of,
+};
+use std::alloc::{AllocError, Global};
+use std::cmp::Ordering;
+use std::test::Fail;
+
+// The literal of a variable at its leaf in a balanced vtree over four.
+fn literal(variable: u8, positive: bool) -> Diagram {
+    Diagram::Literal {
+        position: 2 * (u32::from(variable).max(1) - 1),
+        variable: u32::from(variable),
+        positive,
+    }
+}
+
+// A decomposition of two elements, each a prime and a sub.
+fn two(
+    alloc: Global,
+    position: u32,
+    (prime, sub): (Diagram, Diagram),
+    (second_prime, second_sub): (Diagram, Diagram),
+) -> Result<Diagram, AllocError> {
+    let mut elements = Vec::new(alloc);
+    elements.push(Element { prime, sub })?;
+    elements.push(Element {
+        prime: second_prime,
+        sub: second_sub,
+    })?;
+    Ok(Diagram::Decomposition { position, elements })
+}
+
+// A decomposition at a position by the cases of a variable: what is so where it fails, and where it holds.
+fn cases(
+    alloc: Global,
+    position: u32,
+    variable: u8,
+    no: Diagram,
+    yes: Diagram,
+) -> Result<Diagram, AllocError> {
+    let first = (literal(variable, false), no);
+    let second = (literal(variable, true), yes);
+    two(alloc, position, first, second)
+}
+
+// 1 and 2, for the vtree (1 2), and for ((1 2) (3 4)) too.
+fn both(alloc: Global) -> Result<Diagram, AllocError> {
+    cases(alloc, 1, 1, Diagram::Bottom, literal(2, true))
+}
+
+// 1 or 2, for the vtree (1 2).
+fn one_or_two(alloc: Global) -> Result<Diagram, AllocError> {
+    cases(alloc, 1, 1, literal(2, true), Diagram::Top)
+}
+
+// (1 and 2) or (3 and 4), for the vtree ((1 2) (3 4)).
+fn two_terms(alloc: Global) -> Result<Diagram, AllocError> {
+    let not_both = cases(alloc, 1, 1, Diagram::Top, literal(2, false))?;
+    let others = cases(alloc, 5, 3, Diagram::Bottom, literal(4, true))?;
+    let first = (both(alloc)?, Diagram::Top);
+    two(alloc, 3, first, (not_both, others))
+}
+
+const DISJUNCTION: &str = "sdd 5\nL 0 0 -1\nL 1 2 2\nL 2 0 1\nT 3\nD 4 1 2 0 1 2 3\n";
+
+const TWO_TERMS: &str =
+    "sdd 13\nL 0 0 -1\nF 1\nL 2 0 1\nL 3 2 2\nD 4 1 2 0 1 2 3\nT 5\nL 6 2 -2\nD 7 1 2 0 5 2 6\n\
+    L 8 4 -3\nL 9 4 3\nL 10 6 4\nD 11 5 2 8 1 9 10\nD 12 3 2 4 5 7 11\n";
+
+const BOTH: &str =
+    "sdd 7\nL 0 0 -1\nF 1\nL 2 0 1\nL 3 2 2\nD 4 1 2 0 1 2 3\nT 5\nD 6 1 2 0 3 2 5\nc root 0 4\n\
+    c root 1 6\n";
+
+// Whether a diagram has this text and this size.
+fn is_so(alloc: Global, d: &Diagram, text: &str, size: u64) -> Result<bool, AllocError> {
+    Ok(text_of(alloc, d)?.as_slice() == text.as_bytes() && size_of(alloc, d)? == size)
+}
+
+/// Two diagrams with their texts and sizes, and two that share their literals in one text.
+#[test]
+fn texts_and_sizes(rt: HostRuntime) -> Result<(), Fail> {
+    let alloc = rt.alloc();
+    assert!(rt; is_so(alloc, &one_or_two(alloc)?, DISJUNCTION, 2)?);
+    assert!(rt; is_so(alloc, &two_terms(alloc)?, TWO_TERMS, 8)?);
+    let roots = [both(alloc)?, one_or_two(alloc)?];
+    assert_eq!(rt; texts_of(alloc, &roots)?.as_slice(), BOTH.as_bytes());
+    Ok(())
+}
+
+/// The negative literal comes first, and true before a literal.
+#[test]
+fn order_of_literals(rt: HostRuntime) {
+    let (no, yes) = (literal(1, false), literal(1, true));
+    assert_eq!(rt; compare(&no, &yes), Ordering::Less);
+    assert_eq!(rt; compare(&yes, &Diagram::Top), Ordering::Greater);
+}
+
+fn node(alloc: Global, left: Tree, right: Tree) -> Result<Tree, AllocError> {
+    Ok(Tree::Node(Box::new(alloc, left)?, Box::new(alloc, right)?))
+}
+
+// ((a b) 3)
+fn left_tree(alloc: Global, a: u32, b: u32) -> Result<Tree, AllocError> {
+    node(
+        alloc,
+        node(alloc, Tree::Leaf(a), Tree::Leaf(b))?,
+        Tree::Leaf(3),
+    )
+}
+
+// (1 (2 3))
+fn right_tree(alloc: Global) -> Result<Tree, AllocError> {
+    node(
+        alloc,
+        Tree::Leaf(1),
+        node(alloc, Tree::Leaf(2), Tree::Leaf(3))?,
+    )
+}
+
+/// ((1 2) 3) is rotated to the right and back, its left child is swapped, and its right child is a leaf.
+#[test]
+fn moves_of_three_leaves(rt: HostRuntime) -> Result<(), Fail> {
+    let alloc = rt.alloc();
+    let (left, right) = (left_tree(alloc, 1, 2)?, right_tree(alloc)?);
+    assert_eq!(rt;
+        moved(alloc, &left, &[], Move::RotateRight).ok(),
+        Some(right)
+    );
+    let right = right_tree(alloc)?;
+    assert_eq!(rt;
+        moved(alloc, &right, &[], Move::RotateLeft).ok(),
+        Some(left)
+    );
+    let (left, swapped) = (left_tree(alloc, 1, 2)?, left_tree(alloc, 2, 1)?);
+    assert_eq!(rt;
+        moved(alloc, &left, &[Side::Left], Move::Swap).ok(),
+        Some(swapped)
+    );
+    let leaf = moved(alloc, &left, &[Side::Right], Move::Swap);
+    assert!(rt; matches!(leaf, Err(MovedError::NotMovable)));
+    Ok(())
+}

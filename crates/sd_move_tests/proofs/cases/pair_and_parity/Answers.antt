@@ -1,6 +1,0 @@
-use Rattle.sd_sweep.proofs.Tried.{node_on}
-use Rattle.sd_move_tests.proofs.cases.pair_and_parity.Goals as goal
-
-pub hold_both-requires-clause-one : goal.hold_both-requires-clause-one
-hold_both-requires-clause-one c =
-    node_on c.both.new.m c.parity.new.m c.in_ok-odd.ensures.kept c.in_ok-pair.pair c.in_ok-pair.ensures.shown

@@ -1,5 +1,0 @@
-use Rattle.sd_move_tests.proofs.moves.spend.Goals as goal
-
-pub keep-requires-clause-can_settle : goal.keep-requires-clause-can_settle
-keep-requires-clause-can_settle c =
-    c.stays_settleable.ensures.undoable c.args.journal c.args.state.now.m c.requires.can_undo
