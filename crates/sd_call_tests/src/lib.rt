@@ -21,6 +21,8 @@ mod plain;
 #[cfg(test)]
 mod plan;
 #[cfg(test)]
+mod readers;
+#[cfg(test)]
 mod seen;
 #[cfg(test)]
 mod tests;

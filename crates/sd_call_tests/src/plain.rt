@@ -77,14 +77,18 @@ fn is_so(alloc: Global, d: &Diagram, text: &str, size: u64) -> Result<bool, Allo
     Ok(text_of(alloc, d)?.as_slice() == text.as_bytes() && size_of(alloc, d)? == size)
 }
 
-/// Two diagrams with their texts and sizes, and two that share their literals in one text.
+// Whether two diagrams have their texts and sizes, and two that share their literals the text of both.
+fn are_so(alloc: Global) -> Result<[bool; 3], AllocError> {
+    let disjunction = is_so(alloc, &one_or_two(alloc)?, DISJUNCTION, 2)?;
+    let terms = is_so(alloc, &two_terms(alloc)?, TWO_TERMS, 8)?;
+    let text = texts_of(alloc, &[both(alloc)?, one_or_two(alloc)?])?;
+    Ok([disjunction, terms, text.as_slice() == BOTH.as_bytes()])
+}
+
+/// Diagrams have the texts and sizes that were found by hand.
 #[test]
 fn texts_and_sizes(rt: HostRuntime) -> Result<(), Fail> {
-    let alloc = rt.alloc();
-    assert!(rt; is_so(alloc, &one_or_two(alloc)?, DISJUNCTION, 2)?);
-    assert!(rt; is_so(alloc, &two_terms(alloc)?, TWO_TERMS, 8)?);
-    let roots = [both(alloc)?, one_or_two(alloc)?];
-    assert_eq!(rt; texts_of(alloc, &roots)?.as_slice(), BOTH.as_bytes());
+    assert_eq!(rt; are_so(rt.alloc())?, [true; 3]);
     Ok(())
 }
 
@@ -118,26 +122,36 @@ fn right_tree(alloc: Global) -> Result<Tree, AllocError> {
     )
 }
 
-/// ((1 2) 3) is rotated to the right and back, its left child is swapped, and its right child is a leaf.
+// Whether a tree is moved to another one.
+fn is_moved(alloc: Global, tree: Tree, place: &[Side], kind: Move, to: Tree) -> bool {
+    match moved(alloc, &tree, place, kind) {
+        Ok(found) => found == to,
+        Err(_) => false,
+    }
+}
+
+// Whether `((1 2) 3)` is rotated to the right and back, and its left child swapped.
+fn are_moved(alloc: Global) -> Result<[bool; 3], AllocError> {
+    let (from, to) = (left_tree(alloc, 1, 2)?, right_tree(alloc)?);
+    let right = is_moved(alloc, from, &[], Move::RotateRight, to);
+    let (from, to) = (right_tree(alloc)?, left_tree(alloc, 1, 2)?);
+    let left = is_moved(alloc, from, &[], Move::RotateLeft, to);
+    let (from, to) = (left_tree(alloc, 1, 2)?, left_tree(alloc, 2, 1)?);
+    let swapped = is_moved(alloc, from, &[Side::Left], Move::Swap, to);
+    Ok([right, left, swapped])
+}
+
+// Whether the right child of `((1 2) 3)` is not movable.
+fn is_leaf_kept(alloc: Global) -> Result<bool, AllocError> {
+    let tree = left_tree(alloc, 1, 2)?;
+    let leaf = moved(alloc, &tree, &[Side::Right], Move::Swap);
+    Ok(matches!(leaf, Err(MovedError::NotMovable)))
+}
+
+/// `((1 2) 3)` is rotated to the right and back, its left child is swapped, and its right child is a leaf.
 #[test]
 fn moves_of_three_leaves(rt: HostRuntime) -> Result<(), Fail> {
-    let alloc = rt.alloc();
-    let (left, right) = (left_tree(alloc, 1, 2)?, right_tree(alloc)?);
-    assert_eq!(rt;
-        moved(alloc, &left, &[], Move::RotateRight).ok(),
-        Some(right)
-    );
-    let right = right_tree(alloc)?;
-    assert_eq!(rt;
-        moved(alloc, &right, &[], Move::RotateLeft).ok(),
-        Some(left)
-    );
-    let (left, swapped) = (left_tree(alloc, 1, 2)?, left_tree(alloc, 2, 1)?);
-    assert_eq!(rt;
-        moved(alloc, &left, &[Side::Left], Move::Swap).ok(),
-        Some(swapped)
-    );
-    let leaf = moved(alloc, &left, &[Side::Right], Move::Swap);
-    assert!(rt; matches!(leaf, Err(MovedError::NotMovable)));
+    assert_eq!(rt; are_moved(rt.alloc())?, [true; 3]);
+    assert!(rt; is_leaf_kept(rt.alloc())?);
     Ok(())
 }
