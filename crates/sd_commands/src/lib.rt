@@ -14,8 +14,6 @@ mod moving;
 mod searching;
 mod state;
 mod steps;
-#[cfg(test)]
-mod tests;
 
 pub use command::{Effect, NumberedCommand, RunCommand};
 pub use error::CommandError;

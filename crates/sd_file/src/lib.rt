@@ -27,6 +27,3 @@ pub use fault::SddFault;
 pub use file::{FileNode, SddFile};
 pub use reader::read_sdd;
 pub use writer::{write_nodes, write_sdd};
-
-#[cfg(test)]
-mod tests;

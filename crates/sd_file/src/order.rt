@@ -411,6 +411,3 @@ pub(crate) fn in_order(alloc: Global, m: &Manager, nodes: &[NodeId]) -> Result<O
     rank_below(alloc, m, &mut found.groups, &mut o, m.vtree().root())?;
     Ok(o)
 }
-
-#[cfg(test)]
-mod tests;

@@ -17,6 +17,3 @@ pub use error::FormulaError;
 pub use formula::{Formula, Kind};
 pub use generated::{GenerateError, generate};
 pub use reader::read_dimacs;
-
-#[cfg(test)]
-mod tests;

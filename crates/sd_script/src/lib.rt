@@ -18,6 +18,3 @@ pub use command::{Action, Command};
 pub use fault::ScriptFault;
 pub use indices::Indices;
 pub use script::{Script, read_script};
-
-#[cfg(test)]
-mod tests;

@@ -13,6 +13,3 @@ mod writer;
 pub use fault::VtreeFault;
 pub use reader::read_vtree;
 pub use writer::write_vtree;
-
-#[cfg(test)]
-mod tests;

@@ -18,6 +18,3 @@ pub use faults::WordsFault;
 pub use jobs::{InputWord, Job, TreeWord};
 pub use options::OptionName;
 pub use read::read_words;
-
-#[cfg(test)]
-mod tests;
