@@ -19,7 +19,7 @@ use Rattle.sd_manager.specs.Table.{Table}
 use Rattle.sd_manager.specs.Shown.{ShowsCanonical, IsNodeOf, constant_diagram}
 use Rattle.sd_manager.specs.Making.{Extends}
 use Rattle.sd_apply.specs.Answers.{HasAnswer, Combines}
-use Rattle.sd_apply.proofs.Listed.{shown_on, answer_on}
+use Rattle.sd_apply.proofs.Listed.{answer_on}
 use Rattle.sd_file.specs.Built.{values_of, value_at, pair_value, AreBuilt}
 use Rattle.sd_file.specs.declared.file.FileNode.TheVariants as kinds
 use Rattle.sd_file.specs.Files.{IsFile, entry_at, pairs_in, entry_pairs, kind_of}
@@ -31,16 +31,6 @@ use Rattle.sd_file.proofs.Values.{value_there, last_value}
 -- a node that shows a value is answer_node
 pub answer_node : (t : Table) (f : List Bool → Bool) (c : ℕ) → HasAnswer t f c → IsNodeOf t c
 answer_node t f c h = record { diagram = h.diagram; is = h.is }
-
--- it stays answer_node in a larger table
-pub known_on : (old new : Table) (c : ℕ) → Extends old new → IsNodeOf old c → IsNodeOf new c
-known_on old new c kept k = record { diagram = k.diagram; is = shown_on old new kept c k.diagram k.is }
-
--- the answer of a connective is answer_node
-pub known_combined : (old new : Table) (o : Operation) (a b c : ℕ) → Combines old new o a b c → IsNodeOf old a
-    → IsNodeOf old b → IsNodeOf new c
-known_combined old new o a b c combines p q =
-    let r = combines.each p.diagram q.diagram p.is q.is in record { diagram = r.diagram; is = r.is }
 
 -- a node shows each equal value
 pub answer_same : (t : Table) (f g : List Bool → Bool) (c : ℕ)

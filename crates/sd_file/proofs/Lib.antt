@@ -34,7 +34,6 @@ pub mod Readable
 pub mod Roots
 pub mod Rows
 pub mod Standing
-pub mod Tried
 pub mod Values
 pub mod Walking
 pub mod WholeText
