@@ -11,6 +11,7 @@ pub mod Blend
 pub mod Valued
 pub mod Parity
 pub mod FileValues
+pub mod Valuations
 -- uniqueness
 pub mod Partition
 pub mod Members
@@ -32,3 +33,4 @@ mod WorkedDiagrams
 mod WorkedTrees
 mod WorkedFormulas
 mod WorkedCanonical
+mod WorkedCircuits

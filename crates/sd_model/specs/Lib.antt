@@ -1,4 +1,5 @@
 pub mod Assignment
+pub mod Circuit
 pub mod Expression
 pub mod Tree
 pub mod Moves

@@ -1,9 +1,11 @@
 // Laws of the definitions: functions whose contracts state a fact, and that do nothing.
 
-ghost use Rattle.std.specs.Prelude.{◌≡◌, ◌≢◌, ◌↔◌, ◌≤◌, Bool, true, List, map, length, IsSome};
+ghost use Rattle.std.specs.Prelude.{◌≡◌, ◌≢◌, ◌↔◌, ◌≤◌, ℕ, Bool, true, List, map, length, IsSome};
 ghost use Rattle.std.specs.Option.{option_and_then};
 ghost use Rattle.std.specs.Ordering.{ordering_reverse};
 ghost use Rattle.std.specs.declared.cmp.Ordering.TheVariants.{Less, Equal};
+ghost use Rattle.sd_model.specs.Circuit.{Circuit, wire_holds, is_valuation, output_literal};
+ghost use Rattle.sd_model.specs.Expression.{OutputOf, expression_value};
 ghost use Rattle.sd_model.specs.Moves.{moved, inverse_move};
 ghost use Rattle.sd_model.specs.Tree.{IsVtree, leaves};
 ghost use Rattle.sd_model.specs.Diagram.{meaning, diagram_cmp, Bottom};
@@ -61,4 +63,16 @@ pub fn total_order(a: &Diagram, b: &Diagram, c: &Diagram)
     ensures transitive { diagram_cmp (diagram_of a.now) (diagram_of b.now) ≡ Less
         → diagram_cmp (diagram_of b.now) (diagram_of c.now) ≡ Less
         → diagram_cmp (diagram_of a.now) (diagram_of c.now) ≡ Less }
+{}
+
+/// An output of a circuit is true under an assignment of the inputs just where its literal is true in every valuation
+/// of the circuit's text. A valuation gives each of the circuit's variables a truth value; each input has the value of
+/// the assignment's variable of its number, and each and-line defines the conjunction of its two right sides.
+#[tactic(auto, using(crate::proofs::Valuations::in_every_valuation))]
+pub fn output_in_every_valuation()
+    ensures { (circuit : Circuit) (output : ℕ) (assignment : List Bool)
+        → (expression_value (OutputOf circuit output) assignment ≡ true)
+        ↔ ((values : List Bool) → length values ≡ circuit.variables
+        → is_valuation circuit assignment values ≡ true
+        → wire_holds values (output_literal circuit output) ≡ true) }
 {}
