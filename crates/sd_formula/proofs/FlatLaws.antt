@@ -25,22 +25,22 @@ last_within from (e ∷ es) total rise =
 -- ---- one more literal
 
 -- a part is the same of a longer list
-slice_range_push : (zs : List ℤ) (z : ℤ) (from to : ℕ) → from ≤ to → to ≤ length zs
-    → slice_range (zs ++ z ∷ []) from to ≡ slice_range zs from to
-slice_range_push zs z from to order within =
+slice_range_more : (zs ws : List ℤ) (from to : ℕ) → from ≤ to → to ≤ length zs
+    → slice_range (zs ++ ws) from to ≡ slice_range zs from to
+slice_range_more zs ws from to order within =
     let begins : from ≤ length zs = omega arith in
     let short : to - from ≤ length (drop from zs) = omega (arith, length-drop from zs) in
-    let behind = take-append-le (to - from) (drop from zs) (z ∷ []) short in
-    ap (take (to - from)) (drop-append-le from zs (z ∷ []) begins) ∙ behind
+    let behind = take-append-le (to - from) (drop from zs) ws short in
+    ap (take (to - from)) (drop-append-le from zs ws begins) ∙ behind
 
 -- and so are the groups
-cut_push : (from : ℕ) (ends : List End) (zs : List ℤ) (z : ℤ) → AreEnds from ends (length zs)
-    → cut from ends (zs ++ z ∷ []) ≡ cut from ends zs
-cut_push from [] zs z rise = refl
-cut_push from (e ∷ es) zs z rise =
+pub cut_more : (from : ℕ) (ends : List End) (zs ws : List ℤ) → AreEnds from ends (length zs)
+    → cut from ends (zs ++ ws) ≡ cut from ends zs
+cut_more from [] zs ws rise = refl
+cut_more from (e ∷ es) zs ws rise =
     let within = last_within e.index es (length zs) rise.1 in
-    let here = slice_range_push zs z from e.index rise.0 (omega (arith, within.0, within.1)) in
-    let later = cut_push e.index es zs z rise.1 in
+    let here = slice_range_more zs ws from e.index rise.0 (omega (arith, within.0, within.1)) in
+    let later = cut_more e.index es zs ws rise.1 in
     rw (here, later) refl
 
 -- a literal goes behind the open part
@@ -48,7 +48,7 @@ pub literal_is : (ends : List End) (zs : List ℤ) (marked : Bool) (z : ℤ) →
     → parts_of ends (zs ++ z ∷ []) marked ≡ extended (parts_of ends zs marked) z
 literal_is ends zs marked z rise =
     let within = last_within 0 ends (length zs) rise in
-    rw (cut_push 0 ends zs z rise, drop-append-le (last_end 0 ends) zs (z ∷ []) within.1) refl
+    rw (cut_more 0 ends zs (z ∷ []) rise, drop-append-le (last_end 0 ends) zs (z ∷ []) within.1) refl
 
 -- the ends stay below a longer list
 pub ends_more : (from : ℕ) (ends : List End) (total : ℕ) → AreEnds from ends total → AreEnds from ends (total + 1)

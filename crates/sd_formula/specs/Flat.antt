@@ -1,5 +1,5 @@
 -- Groups that stand one after another in one list, with the indices where they end.
-use Rattle.std.specs.Prelude.{ℕ, zero, suc, ◌≤◌, List, [], ◌∷◌, slice_range, ℤ}
+use Rattle.std.specs.Prelude.{ℕ, zero, suc, ◌-◌, ◌≤◌, List, [], ◌∷◌, slice_range, ℤ}
 use Rattle.std.specs.Coded.{le_prop}
 use mathlib.Core.HLevel.{×_prop}
 use Rattle.sd_model.specs.Expression.{Group}
@@ -32,3 +32,7 @@ cut from [] literals = []
 cut from (end ∷ ends) literals =
     record { exclusive = end.exclusive; literals = slice_range literals from end.index }
     ∷ cut end.index ends literals
+
+-- an end, where so many literals are left out before it
+abbrev pub moved_back : ℕ → End → End
+moved_back before end = record { index = end.index - before; exclusive = end.exclusive }

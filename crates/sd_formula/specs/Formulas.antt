@@ -1,5 +1,5 @@
 -- What a formula is seen as, and the propositional formula that it is.
-use Rattle.std.specs.Prelude.{◌≡◌, ℕ, ◌≤◌, Bool, false, List, length, map, ℤ, unsigned_abs}
+use Rattle.std.specs.Prelude.{◌≡◌, ℕ, ◌≤◌, Bool, false, List, [], length, map, slice_range, ℤ, unsigned_abs}
 use Rattle.std.specs.List.{AllByRecursion}
 use Rattle.sd_model.specs.Expression as expressions
 use Rattle.sd_model.specs.Expression.{Expression, Group}
@@ -48,3 +48,11 @@ of_kind Dnf terms = expressions.Dnf (map (λ term. term.literals) terms)
 -- the propositional formula of the groups
 abbrev pub expression_of : Groups → Expression
 expression_of f = of_kind f.kind f.groups
+
+-- the formula without groups, of a kind and over so many variables
+abbrev pub no_groups : Kind → ℕ → Groups
+no_groups kind variables = record { kind = kind; variables = variables; groups = [] }
+
+-- the formula of the groups from one number up to another, which is not among them; they are counted from 0
+abbrev pub groups_part : Groups → ℕ → ℕ → Groups
+groups_part f from to = record { kind = f.kind; variables = f.variables; groups = slice_range f.groups from to }

@@ -1,7 +1,11 @@
 //! Groups that stand one after another in one list.
 
-ghost use Rattle.std.specs.Prelude.{◌≡◌, ◌<◌, ◌≤◌, List, ℤ, length, slice_get, option_map};
-ghost use Rattle.sd_formula.specs.Flat.{AreEnds, start_at, cut};
+ghost use Rattle.std.specs.Prelude.{◌≡◌, ◌<◌, ◌≤◌, List, ℤ, length, map, slice_get, slice_range};
+ghost use Rattle.std.specs.Prelude.{option_map, IfOk};
+ghost use Rattle.std.specs.List.{AllByRecursion};
+ghost use Rattle.sd_formula.specs.Flat.{AreEnds, start_at, cut, moved_back};
+
+use std::alloc::{AllocError, Global};
 
 /// Where a group ends in a list of literals.
 #[derive(Clone, Copy, Debug)]
@@ -44,4 +48,39 @@ pub(crate) fn start_of(ends: &[End], index: usize) -> usize
     } else {
         ends[index - 1].index as usize
     }
+}
+
+/// The literals of the groups from a number up to another, where the groups end so.
+pub(crate) fn literals_between<'a>(
+    literals: &'a [i32],
+    ends: &[End],
+    from: usize,
+    to: usize,
+) -> &'a [i32]
+    requires rise { AreEnds 0 ends.now (length literals.now) }
+    requires order { from ≤ to }
+    requires within { to ≤ length ends.now }
+    ensures { result.now
+        ≡ slice_range literals.now (start_at 0 ends.now from) (start_at 0 ends.now to) }
+{
+    &literals[start_of(ends, from)..start_of(ends, to)]
+}
+
+/// The ends, where so many literals are left out before them.
+pub(crate) fn ends_without(
+    alloc: Global,
+    ends: &[End],
+    before: usize,
+) -> Result<Vec<End>, AllocError>
+    requires { AllByRecursion (λ end. before ≤ end.index) ends.now }
+    ensures { IfOk result (λ moved. moved.items ≡ map (moved_back before) ends.now) }
+{
+    let mut moved = Vec::with_capacity(alloc, ends.len())?;
+    for end in ends {
+        moved.push(End {
+            index: (end.index as usize - before) as u32,
+            exclusive: end.exclusive,
+        })?;
+    }
+    Ok(moved)
 }

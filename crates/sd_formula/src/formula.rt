@@ -1,14 +1,15 @@
 //! A formula in groups.
 
-ghost use Rattle.std.specs.Prelude.{◌≡◌, ◌<◌, ◌≤◌, true, length, slice_get, option_map};
+ghost use Rattle.std.specs.Prelude.{◌≡◌, ◌<◌, ◌≤◌, true, length, slice_get, option_map, IfOk};
 ghost use Rattle.std.specs.List.{list_any, list_all};
 ghost use Rattle.sd_model.specs.Assignment.{literal_holds};
 ghost use Rattle.sd_model.specs.Expression.{expression_value, group_holds};
 ghost use Rattle.sd_formula.specs.WordByWord.{kind_word};
-ghost use Rattle.sd_formula.specs.Formulas.{AreLiterals, expression_of};
+ghost use Rattle.sd_formula.specs.Formulas.{AreLiterals, expression_of, no_groups, groups_part};
 
-use crate::flat::{End, group_between, is_marked};
+use crate::flat::{End, ends_without, group_between, is_marked, literals_between, start_of};
 use crate::literals::{all_hold, odd_hold, some_holds};
+use std::alloc::{AllocError, Global};
 use std::marker::Model;
 
 /// Whether the groups are clauses, some of them exclusive groups, or terms.
@@ -59,6 +60,40 @@ impl Model for Formula {
 }
 
 impl Formula {
+    /// The formula without groups, over 1 to 1,024 variables. It takes no memory.
+    pub fn empty(alloc: Global, kind: Kind, variables: u32) -> Formula
+        requires at_least_one { 1 ≤ variables }
+        requires within_limit { variables ≤ 1024 }
+        ensures { result ≡ no_groups kind variables }
+    {
+        Formula {
+            kind,
+            variables,
+            literals: Vec::new(alloc),
+            ends: Vec::new(alloc),
+        }
+    }
+
+    /// The formula of the groups from `from` up to but not including `to`, counted from 0, of the same kind and over
+    /// the same variables. It copies these groups alone.
+    pub fn part(&self, alloc: Global, from: usize, to: usize) -> Result<Formula, AllocError>
+        requires order { from ≤ to }
+        requires within { to ≤ length self.now.groups }
+        ensures { IfOk result (λ part. part ≡ groups_part self.now from to) }
+    {
+        let part = literals_between(&self.literals, &self.ends, from, to);
+        let mut literals = Vec::with_capacity(alloc, part.len())?;
+        literals.extend_from_slice(part)?;
+        let before = start_of(&self.ends, from);
+        let ends = ends_without(alloc, &self.ends[from..to], before)?;
+        Ok(Formula {
+            kind: self.kind,
+            variables: self.variables,
+            literals,
+            ends,
+        })
+    }
+
     /// Whether the groups are clauses or exclusive groups, or terms.
     pub fn kind(&self) -> Kind
         ensures { result ≡ self.now.kind }
