@@ -125,6 +125,9 @@ fn vtree_parts(file: &[u8], fault: VtreeFault) -> Parts<'_>
         VtreeFault::VariableMissing { variable } => {
             numbered(file, b": variable missing: ", u64::from(variable), b"")
         }
+        VtreeFault::NodesRange { found } => {
+            numbered(file, b": nodes out of range: ", found, b"")
+        }
         VtreeFault::OutOfMemory => plain(file, b""),
     }
 }

@@ -19,6 +19,7 @@ plain (fault.VariableWrong n) = fault.VariableWrong 0
 plain (fault.CountDiffers s f) = fault.CountDiffers 0 0
 plain (fault.NotOneRoot r) = fault.NotOneRoot 0
 plain (fault.VariableMissing x) = fault.VariableMissing 0
+plain (fault.NodesRange n) = fault.NodesRange 0
 plain e = e
 
 -- its words are the same
@@ -48,5 +49,8 @@ fault_back (fault.NotOneRoot m) (fault.NotOneRoot n) h =
 fault_back (fault.VariableMissing m) (fault.VariableMissing n) h =
     let f : number_text m ≡ number_text n = cc in
     ap fault.VariableMissing (number_back m n f)
+fault_back (fault.NodesRange m) (fault.NodesRange n) h =
+    let f : number_text m ≡ number_text n = cc in
+    ap fault.NodesRange (number_back m n f)
 fault_back fault.OutOfMemory fault.OutOfMemory h = refl
 fault_back e f h = absurd (other_words vtree_fault_text plain told e f refl h)

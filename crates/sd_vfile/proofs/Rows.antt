@@ -3,7 +3,7 @@ use Rattle.std.proofs.Common.{◌≡◌, refl, Ok, Err}
 use Rattle.std.specs.Prelude.{codes}
 use Rattle.sd_model.specs.Text.{number_text}
 use Rattle.sd_model.specs.Tree.{Leaf, Node}
-use Rattle.sd_vfile.specs.Reads.{vtree_file}
+use Rattle.sd_vfile.specs.Reads.{vtree_file, variables_stated}
 
 -- ids in any order
 with_comment : vtree_file 2 (codes "c a comment\nvtree 3\nL 2 1\nL 0 2\nI 1 2 0\n") ≡ Ok (Node (Leaf 1) (Leaf 2))
@@ -56,3 +56,34 @@ one_missing = refl
 id_twice : vtree_file 2 (codes "vtree 3\nL 0 1\n\nL 0 7\n") ≡ Err (codes ": line 4: id twice")
 unfolding vtree_file number_text
 id_twice = refl
+
+-- ---- the header alone
+
+-- a vtree over two variables has three nodes; the lines behind the header play no part
+three_nodes : variables_stated (codes "c a comment\nvtree 3\nL\n") ≡ Ok 2
+unfolding variables_stated
+three_nodes = refl
+
+one_node : variables_stated (codes "vtree 1\n") ≡ Ok 1
+unfolding variables_stated
+one_node = refl
+
+most_nodes : variables_stated (codes "vtree 2047\n") ≡ Ok 1024
+unfolding variables_stated
+most_nodes = refl
+
+even_number : variables_stated (codes "vtree 4\n") ≡ Err (codes ": nodes out of range: 4")
+unfolding variables_stated number_text
+even_number = refl
+
+zero_nodes : variables_stated (codes "vtree 0\n") ≡ Err (codes ": nodes out of range: 0")
+unfolding variables_stated number_text
+zero_nodes = refl
+
+past_the_most : variables_stated (codes "vtree 2049\n") ≡ Err (codes ": nodes out of range: 2049")
+unfolding variables_stated number_text
+past_the_most = refl
+
+headless : variables_stated (codes "L 0 1\n") ≡ Err (codes ": no header")
+unfolding variables_stated
+headless = refl

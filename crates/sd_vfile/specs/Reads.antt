@@ -1,5 +1,6 @@
 -- The tree that a vtree file stands for, or the text of its first fault, behind the name of the file.
-use Rattle.std.specs.Prelude.{◌≡◌, ℕ, Bool, false, not, ◌&&◌, ◌||◌, ◌==◌, if◌then◌else◌, codes, bytes_eq}
+use Rattle.std.specs.Prelude.{◌≡◌, ℕ, ◌+◌, ◌/◌, ◌%◌, Bool, false, not, ◌&&◌, ◌||◌, ◌==◌, nat_lt, if◌then◌else◌}
+use Rattle.std.specs.Prelude.{codes, bytes_eq}
 use Rattle.std.specs.Prelude.{List, [], ◌∷◌, ◌++◌, length, filter, find, slice_index}
 use Rattle.std.specs.Prelude.{Option, Some, None, is_some, ok_or, option_and_then, option_map, Result, Ok, Err}
 use Rattle.std.specs.List.{list_any, range_with_len}
@@ -97,12 +98,31 @@ vtree_file v bytes = do
   option_map_or (λ x. Err (codes ": variable missing: " ++ number_text x))
       (find (λ x. not (has_leaf x entries)) (range_with_len 1 v)) (Ok tree)
 
--- ---- for the contracts of private functions, and for proofs
+-- ---- the header alone
 
 -- the number of a header of two words, of which this is the first
 abbrev pub stated_behind : List ℕ → List (List ℕ) → Option ℕ
 stated_behind own (name ∷ number ∷ []) = if bytes_eq name own then natural_value number else None
 stated_behind own words = None
+
+-- the number of nodes that the header states
+abbrev pub nodes_stated : List TextLine → Result ℕ (List ℕ)
+nodes_stated [] = Err (codes ": no header")
+nodes_stated (header ∷ lines) = ok_or (stated_behind (codes "vtree") header.words) (codes ": no header")
+
+-- the text of the fault that no vtree over 1 to 1,024 variables has so many nodes
+abbrev pub nodes_out_of_range : ℕ → List ℕ
+nodes_out_of_range nodes = codes ": nodes out of range: " ++ number_text nodes
+
+-- The number of variables of the vtree that a text's header announces, or the text of the header's first fault. A vtree
+-- over v variables has 2 * v - 1 nodes.
+unfoldable pub variables_stated : List ℕ → Result ℕ (List ℕ)
+variables_stated bytes = do
+  nodes ← nodes_stated (content_of 99 bytes)
+  fault_if (nodes % 2 == 0 || nat_lt 2047 nodes) (nodes_out_of_range nodes)
+  Ok ((nodes + 1) / 2)
+
+-- ---- for the contracts of private functions, and for proofs
 
 -- What is made of the nodes of a file, where its lines are a header of a word and the number of the nodes, and the
 -- nodes, each in the light of the earlier ones. Without the header, and where the number differs, it has these faults.
@@ -205,6 +225,7 @@ vtree_fault_text (fault.VariableWrong n) = at_line n (codes ": variable wrong")
 vtree_fault_text (fault.CountDiffers s f) = counts s f
 vtree_fault_text (fault.NotOneRoot r) = codes ": " ++ number_text r ++ codes " roots"
 vtree_fault_text (fault.VariableMissing x) = codes ": variable missing: " ++ number_text x
+vtree_fault_text (fault.NodesRange n) = nodes_out_of_range n
 vtree_fault_text fault.OutOfMemory = []
 
 -- a reading has the text of this fault; OutOfMemory says nothing of it

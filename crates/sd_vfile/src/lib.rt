@@ -11,5 +11,5 @@ mod whole;
 mod writer;
 
 pub use fault::VtreeFault;
-pub use reader::read_vtree;
+pub use reader::{count_variables, read_vtree};
 pub use writer::write_vtree;

@@ -1,12 +1,13 @@
 //! The vtree of a text.
 
-ghost use Rattle.std.specs.Prelude.{◌≡◌, ◌≤◌, length, Ok, IfOk, IfErr};
-ghost use Rattle.sd_base.specs.Views.{line_view};
+ghost use Rattle.std.specs.Prelude.{◌≡◌, ◌≤◌, length, Ok, Err, IfOk, IfErr};
+ghost use Rattle.sd_base.specs.Lines.{content_of};
+ghost use Rattle.sd_base.specs.Views.{line_view, content_left};
 ghost use Rattle.sd_model.specs.Seen.{tree_of};
 ghost use Rattle.sd_model.specs.Tree.{leaves};
 ghost use Rattle.sd_vtree.specs.Numbered.{IsNumbered, plain_tree};
 ghost use Rattle.sd_vfile.specs.Reads as texts;
-ghost use Rattle.sd_vfile.specs.Reads.{Fails, Gives, vtree_file};
+ghost use Rattle.sd_vfile.specs.Reads.{Fails, Gives, vtree_file, variables_stated, vtree_fault_text};
 
 use crate::fault::VtreeFault;
 use crate::nodes::read_nodes;
@@ -36,6 +37,42 @@ pub fn read_vtree(alloc: Global, bytes: &[u8], variables: u32) -> Result<Vtree, 
     Ok(vtree)
 }
 
+/// The number of variables, 1 to 1,024, of the vtree that a text's header announces, or the header's first fault. A
+/// vtree over V variables has 2V - 1 nodes. The lines behind the header are not read. The text has at most 67,108,864
+/// bytes. It takes no memory.
+#[tactic(auto, unfolding(crate::specs::Reads::variables_stated))]
+pub fn count_variables(bytes: &[u8]) -> Result<u32, VtreeFault>
+    requires { length bytes.now ≤ 67108864 }
+    ensures ok { IfOk result (λ v. variables_stated bytes.now ≡ Ok v) }
+    ensures range { IfOk result (λ v. (1 ≤ v) × (v ≤ 1024)) }
+    ensures fault { IfErr result (λ e. variables_stated bytes.now ≡ Err (vtree_fault_text e)) }
+{
+    let found = nodes_stated(bytes)?;
+    if found % 2 == 0 || found > 2047 {
+        return Err(VtreeFault::NodesRange { found });
+    }
+    Ok((found as u32 + 1) / 2)
+}
+
+/// The number of nodes that the header of a text states.
+fn nodes_stated(bytes: &[u8]) -> Result<u64, VtreeFault>
+    requires { length bytes.now ≤ 67108864 }
+    ensures ok { IfOk result (λ n. texts.nodes_stated (content_of 99 bytes.now) ≡ Ok n) }
+    ensures fault { IfErr result (λ e.
+        texts.nodes_stated (content_of 99 bytes.now) ≡ Err (vtree_fault_text e)) }
+{
+    let header = content(bytes).next().ok_or(VtreeFault::NoHeader)?;
+    stated_by(&header).ok_or(VtreeFault::NoHeader)
+}
+
+/// The lines of a text that count.
+fn content(bytes: &[u8]) -> ContentLines<'_>
+    requires { length bytes.now ≤ 67108864 }
+    ensures { content_left result ≡ content_of 99 bytes.now }
+{
+    ContentLines::new(bytes, b'c')
+}
+
 /// The plain tree of a text.
 #[tactic(auto, using(crate::proofs::ByNumbers::vtree_file_is))]
 fn read_tree(alloc: Global, bytes: &[u8], variables: u32) -> Result<Tree, VtreeFault>
@@ -43,7 +80,7 @@ fn read_tree(alloc: Global, bytes: &[u8], variables: u32) -> Result<Tree, VtreeF
     requires fits { length bytes.now ≤ 67108864 }
     ensures { Gives tree_of result (vtree_file variables bytes.now) }
 {
-    let mut lines = ContentLines::new(bytes, b'c');
+    let mut lines = content(bytes);
     let Some(header) = lines.next() else {
         return Err(VtreeFault::NoHeader);
     };
