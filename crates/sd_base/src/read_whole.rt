@@ -1,11 +1,11 @@
 //! Whole files, read from a shelf.
 
-ghost use Rattle.std.specs.Prelude.{◌≡◌, ◌⊎◌, ◌≤◌, ℕ, List, [], length, OnOk, IfOk, IsErrOf};
+ghost use Rattle.std.specs.Prelude.{◌≡◌, ◌⊎◌, ◌≤◌, ◌+◌, ℕ, List, [], length, OnOk, IfOk, IsErrOf};
 ghost use Rattle.std.specs.Prelude.{◌∷◌};
 ghost use Rattle.sd_base.specs.Asked.{Adds, ToRead};
 ghost use Rattle.sd_base.specs.Faults.{Rose};
 ghost use Rattle.sd_base.specs.Files.{HasBytes, HasLonger, IsTold, Lacks};
-ghost use Rattle.sd_base.specs.Shelf.{NoFile};
+ghost use Rattle.sd_base.specs.Shelf.{NoFile, Reading};
 ghost use Rattle.sd_base.specs.WholeFile.{IsReadingOf, IsLeftUnfinished};
 ghost use Rattle.sd_base.specs.WholeFile.{IsHeldAfter, IsPlacedAfter};
 
@@ -50,6 +50,12 @@ pub fn read_all<F: Shelf>(alloc: Global, shelf: &mut F, name: &str) -> Result<By
         → IsReadingOf bytes LONGEST_FILE result
         ⊎ Rose (F.read_faults shelf.old) (F.read_faults shelf.new) }
 
+    // A fault that was counted is answered, but where the `finish` of a file that is too long failed.
+    ensures answered { OnOk result (F.read_faults shelf.new ≡ F.read_faults shelf.old) }
+    ensures passed_over { IsErrOf result ReadError.TooLong
+        → (F.read_faults shelf.new ≡ F.read_faults shelf.old)
+        ⊎ (F.unfinished shelf.new ≡ Reading name.now (LONGEST_FILE + 1)) }
+
     // A `finish` that failed changes nothing, but where the whole file was read.
     ensures unfinished { IsLeftUnfinished (F.files shelf.old) name.now LONGEST_FILE result
         (F.unfinished shelf.old) (F.unfinished shelf.new) }
@@ -88,6 +94,9 @@ fn take_in<F: Shelf>(shelf: &mut F, name: &str, bytes: &mut Vec<u8>) -> Result<(
         ⊎ Rose (F.read_faults shelf.old) (F.read_faults shelf.new) }
     ensures too_long { IsErrOf result ReadError.TooLong
         → HasLonger (F.files shelf.old) name.now LONGEST_FILE }
+    ensures answered { OnOk result (F.read_faults shelf.new ≡ F.read_faults shelf.old) }
+    ensures answered_long { IsErrOf result ReadError.TooLong
+        → F.read_faults shelf.new ≡ F.read_faults shelf.old }
     ensures read_faults { F.read_faults shelf.old ≤ F.read_faults shelf.new }
     ensures write_faults { F.write_faults shelf.new ≡ F.write_faults shelf.old }
     ensures asked { Adds F.asked shelf.old shelf.new (ToRead name.now ∷ []) }

@@ -1,10 +1,10 @@
 //! Whole texts, written to a file of a shelf or to a sink.
 
-ghost use Rattle.std.specs.Prelude.{◌≡◌, ◌≤◌, [], ◌∷◌, OnOk, OnErr};
+ghost use Rattle.std.specs.Prelude.{◌≡◌, ◌⊎◌, ◌≤◌, [], ◌∷◌, OnOk, OnErr};
 ghost use Rattle.sd_base.specs.Asked.{Adds, ToWrite};
 ghost use Rattle.sd_base.specs.Faults.{Rose};
 ghost use Rattle.sd_base.specs.Files.{told_with, WritesPart};
-ghost use Rattle.sd_base.specs.Shelf.{NoFile};
+ghost use Rattle.sd_base.specs.Shelf.{NoFile, Writing};
 ghost use Rattle.sd_base.specs.Sink.{told_then, AppendsPart};
 
 use crate::{Shelf, Sink};
@@ -23,6 +23,13 @@ pub fn write_all_to<F: Shelf>(shelf: &mut F, name: &str, bytes: &[u8]) -> Result
     ensures err { OnErr result (
         WritesPart (F.files shelf.old) name.now bytes.now (F.files shelf.new)) }
     ensures cause { OnErr result (Rose (F.write_faults shelf.old) (F.write_faults shelf.new)) }
+
+    // Where anything failed, `finish` too, that is answered.
+    ensures answered { OnOk result (F.write_faults shelf.new ≡ F.write_faults shelf.old) }
+    ensures finished { OnOk result (F.unfinished shelf.new ≡ F.unfinished shelf.old) }
+    ensures unfinished { OnErr result (
+        (F.unfinished shelf.new ≡ F.unfinished shelf.old)
+        ⊎ (F.unfinished shelf.new ≡ Writing name.now)) }
     ensures write_faults { F.write_faults shelf.old ≤ F.write_faults shelf.new }
     ensures read_faults { F.read_faults shelf.new ≡ F.read_faults shelf.old }
     ensures asked { Adds F.asked shelf.old shelf.new (ToWrite name.now ∷ []) }
@@ -48,6 +55,7 @@ pub fn write_all<S: Sink>(sink: &mut S, bytes: &[u8]) -> Result<(), WriteFault>
     ensures ok { OnOk result (S.written sink.new ≡ told_then (S.written sink.old) bytes.now) }
     ensures err { OnErr result (AppendsPart (S.written sink.old) bytes.now (S.written sink.new)) }
     ensures cause { OnErr result (Rose (S.faults sink.old) (S.faults sink.new)) }
+    ensures answered { OnOk result (S.faults sink.new ≡ S.faults sink.old) }
     ensures faults { S.faults sink.old ≤ S.faults sink.new }
 {
     let mut left = bytes;

@@ -89,6 +89,17 @@ fn count_up(count: &mut u64) -> u64
     *count
 }
 
+/// Counts a fault for which memory was refused, and the refusal. At its last value a count stands.
+pub(crate) fn count_refusal(refusals: &mut u64, faults: &mut u64) -> Failed
+    ensures refused { Rose refusals.old refusals.new }
+    ensures later { faults.old ≤ faults.new }
+    ensures rose { Rose faults.old faults.new }
+    ensures one { faults.new ≡ min (faults.old + 1) (2 ^ 64 - 1) }
+{
+    *refusals = refusals.saturating_add(1);
+    count_fault(faults)
+}
+
 /// Counts a fault. At its last value the count stands.
 pub(crate) fn count_fault(faults: &mut u64) -> Failed
     ensures later { faults.old ≤ faults.new }

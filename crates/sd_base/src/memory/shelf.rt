@@ -4,7 +4,7 @@
 ghost use Rattle.std.specs.Prelude.{◌+◌, ◌<◌, ◌≤◌, ◌^◌, length};
 ghost use Rattle.sd_base.specs.Shelf.{AreNext};
 
-use super::fault_plan::{FaultPlan, count_fault};
+use super::fault_plan::{FaultPlan, count_fault, count_refusal};
 use super::named_bytes::{extend_file, find_bytes, make_empty};
 use crate::{Failed, Name, NamedBytes, PlannedFault, Shelf, ShelfCall};
 use std::alloc::Global;
@@ -27,10 +27,12 @@ pub struct MemoryShelf {
     piece: usize,
     plan: FaultPlan,
     hand: InHand,
-    // what was being read when a `finish` of it last failed
+    // what was in hand when a `finish` last failed
     unfinished: InHand,
     read_faults: u64,
     write_faults: u64,
+    // how often memory was refused for a name or for bytes
+    refusals: u64,
     ghost takes_some: { 0 < piece },
 }
 
@@ -41,6 +43,7 @@ impl MemoryShelf {
     ghost use Rattle.sd_base.specs.Memory.{files_of};
     ghost use Rattle.sd_base.specs.MemoryShown.{memory_files, memory_hand, memory_unfinished};
     ghost use Rattle.sd_base.specs.MemoryShown.{memory_piece, memory_plan, read_faults_of, write_faults_of};
+    ghost use Rattle.sd_base.specs.MemoryShown.{refusals_of};
     ghost use Rattle.sd_base.specs.FaultPlan.{IsNewPlan};
     ghost use Rattle.std.specs.Prelude.{[]};
     ghost use Rattle.sd_base.specs.Asked.{AreCalls};
@@ -61,6 +64,7 @@ impl MemoryShelf {
         ensures unfinished { memory_unfinished result ≡ NoFile }
         ensures planned { IsNewPlan planned.items (memory_plan result) }
         ensures faults { (read_faults_of result ≡ 0) × (write_faults_of result ≡ 0) }
+        ensures refusals { refusals_of result ≡ 0 }
         ensures asked { AreCalls (memory_plan result) [] }
     {
         MemoryShelf {
@@ -72,6 +76,7 @@ impl MemoryShelf {
             unfinished: InHand::Nothing,
             read_faults: 0,
             write_faults: 0,
+            refusals: 0,
         }
     }
 
@@ -109,7 +114,7 @@ impl Shelf for MemoryShelf {
     ghost use Rattle.sd_base.specs.Shelf.{NoFile, Reading, Writing, IsReading, IsWriting, TakesNext, appended};
     ghost use Rattle.sd_base.specs.MemoryShown.{memory_hand, memory_piece, memory_plan, told};
     ghost use Rattle.sd_base.specs.MemoryShown.{memory_unfinished};
-    ghost use Rattle.sd_base.specs.MemoryShown.{read_faults_of, write_faults_of};
+    ghost use Rattle.sd_base.specs.MemoryShown.{read_faults_of, write_faults_of, refusals_of};
     ghost use Rattle.sd_base.specs.declared.memory.fault_plan.ShelfCall.TheVariants as calls;
     ghost use Rattle.sd_base.specs.Memory.{files_of, hand_of};
     ghost use Rattle.std.specs.Prelude.{◌∷◌};
@@ -146,6 +151,11 @@ impl Shelf for MemoryShelf {
         ensures unfinished { memory_unfinished self.new ≡ memory_unfinished self.old }
         ensures plan { GoesByPlan (memory_plan self.old) calls.StartRead (memory_plan self.new)
             result }
+        ensures unplanned { OnErr result (
+            IsPlanned (memory_plan self.old) calls.StartRead
+            (calls_of (memory_plan self.new) calls.StartRead)
+            ⊎ Lacks (told self.old) name.now
+            ⊎ Rose (refusals_of self.old) (refusals_of self.new)) }
         ensures asked { Adds memory_asked self.old self.new (ToRead name.now ∷ []) }
     {
         let planned = self.plan.fails(ShelfCall::StartRead);
@@ -156,7 +166,7 @@ impl Shelf for MemoryShelf {
             return Err(count_fault(&mut self.read_faults));
         }
         let Ok(held) = Name::copy_of(self.alloc, name) else {
-            return Err(count_fault(&mut self.read_faults));
+            return Err(count_refusal(&mut self.refusals, &mut self.read_faults));
         };
         self.hand = InHand::Read(held, 0);
         Ok(())
@@ -206,18 +216,23 @@ impl Shelf for MemoryShelf {
         ensures read_faults { read_faults_of self.new ≡ read_faults_of self.old }
         ensures cause { HasCause (write_faults_of self.old) (write_faults_of self.new) result }
         ensures counts { CountsOne (write_faults_of self.old) (write_faults_of self.new) result }
+        ensures unfinished { memory_unfinished self.new ≡ memory_unfinished self.old }
         ensures plan { GoesByPlan (memory_plan self.old) calls.StartWrite (memory_plan self.new)
             result }
+        ensures unplanned { OnErr result (
+            IsPlanned (memory_plan self.old) calls.StartWrite
+            (calls_of (memory_plan self.new) calls.StartWrite)
+            ⊎ Rose (refusals_of self.old) (refusals_of self.new)) }
         ensures asked { Adds memory_asked self.old self.new (ToWrite name.now ∷ []) }
     {
         if self.plan.fails(ShelfCall::StartWrite) {
             return Err(count_fault(&mut self.write_faults));
         }
         let Ok(held) = Name::copy_of(self.alloc, name) else {
-            return Err(count_fault(&mut self.write_faults));
+            return Err(count_refusal(&mut self.refusals, &mut self.write_faults));
         };
         if make_empty(self.alloc, &mut self.files, name).is_err() {
-            return Err(count_fault(&mut self.write_faults));
+            return Err(count_refusal(&mut self.refusals, &mut self.write_faults));
         }
         self.hand = InHand::Write(held);
         Ok(())
@@ -238,8 +253,13 @@ impl Shelf for MemoryShelf {
         ensures counts { CountsOne (write_faults_of self.old) (write_faults_of self.new) result }
         ensures piece { IfOk result (λ count. count
             ≡ min (length piece.now) (memory_piece self.old)) }
+        ensures unfinished { memory_unfinished self.new ≡ memory_unfinished self.old }
         ensures plan { GoesByPlan (memory_plan self.old) calls.Append (memory_plan self.new)
             result }
+        ensures unplanned { OnErr result (
+            IsPlanned (memory_plan self.old) calls.Append
+            (calls_of (memory_plan self.new) calls.Append)
+            ⊎ Rose (refusals_of self.old) (refusals_of self.new)) }
         ensures asked { AsksNothing memory_asked self.old self.new }
     {
         if self.plan.fails(ShelfCall::Append) {
@@ -252,7 +272,7 @@ impl Shelf for MemoryShelf {
         let count = piece.len().min(self.piece);
         if extend_file(&mut self.files, name.as_str(), &piece[..count]).is_err() {
             self.hand = InHand::Nothing;
-            return Err(count_fault(&mut self.write_faults));
+            return Err(count_refusal(&mut self.refusals, &mut self.write_faults));
         }
         Ok(count)
     }
@@ -272,8 +292,7 @@ impl Shelf for MemoryShelf {
         ensures counts_write { IsWriting (memory_hand self.old)
             → CountsOne (write_faults_of self.old) (write_faults_of self.new) result }
         ensures finished { OnOk result (memory_unfinished self.new ≡ memory_unfinished self.old) }
-        ensures unfinished { IsReading (memory_hand self.old)
-            → OnErr result (memory_unfinished self.new ≡ memory_hand self.old) }
+        ensures unfinished { OnErr result (memory_unfinished self.new ≡ memory_hand self.old) }
         ensures plan { GoesByPlan (memory_plan self.old) calls.Finish (memory_plan self.new)
             result }
         ensures planned { IsErr result
@@ -289,6 +308,7 @@ impl Shelf for MemoryShelf {
             self.unfinished = held;
             return Err(count_fault(&mut self.read_faults));
         }
+        self.unfinished = held;
         Err(count_fault(&mut self.write_faults))
     }
 }

@@ -1,4 +1,4 @@
-use Rattle.std.proofs.Common.{◌≡◌, ◌++◌, take, rules, arith, sym, subst}
+use Rattle.std.proofs.Common.{◌≡◌, ◌++◌, take, rules, arith, sym, subst, ◌∙◌}
 use Rattle.std.proofs.lemmas.Grind.{common_steps}
 use Rattle.sd_base.proofs.ReadLemmas.{HasFront, no_bytes_yet, read_more, read_all_of_it}
 use Rattle.sd_base.proofs.read_whole.take_in.Goals as goal
@@ -32,7 +32,7 @@ reading-preserved g c =
       so_far =
           read_more _ _ _ _ _ _ _ _ c.in-Ok.count was.so_far was.files c.in-Ok.ensures.within c.in-Ok.ensures.ok more;
       within = grind (arith, common_steps);
-      read_faults = omega arith;
+      read_faults = c.in-Ok.ensures.cause.answered ∙ was.read_faults;
       unfinished = search rules;
       write_faults = search rules;
       asked = λ before had. c.in-Ok.ensures.asked _ (was.asked before had);

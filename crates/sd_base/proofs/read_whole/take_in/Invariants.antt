@@ -9,7 +9,7 @@ invariant-reading g l = record {
   files : g.F.Shelf.files l.shelf ≡ g.F.Shelf.files l.fn.shelf;
   so_far : ReadSoFar (g.F.Shelf.files l.fn.shelf) (g.F.Shelf.hand l.shelf) l.name l.bytes.items;
   within : length l.bytes.items ≤ 67108865;
-  read_faults : g.F.Shelf.read_faults l.fn.shelf ≤ g.F.Shelf.read_faults l.shelf;
+  read_faults : g.F.Shelf.read_faults l.shelf ≡ g.F.Shelf.read_faults l.fn.shelf;
   unfinished : g.F.Shelf.unfinished l.shelf ≡ g.F.Shelf.unfinished l.fn.shelf;
   write_faults : g.F.Shelf.write_faults l.shelf ≡ g.F.Shelf.write_faults l.fn.shelf;
   asked : Adds g.F.Shelf.asked l.fn.shelf l.shelf (ToRead l.name ∷ []);

@@ -1,4 +1,4 @@
-use Rattle.std.proofs.Common.{◌++◌, take, arith}
+use Rattle.std.proofs.Common.{◌++◌, take, ◌∙◌}
 use Rattle.sd_base.proofs.FileLemmas.{front_more, told_then_more}
 use Rattle.sd_base.proofs.write_whole.write_all.Goals as goal
 
@@ -10,5 +10,5 @@ loop-left-preserved g c =
         front_more was.0 c.loop-left.left.now _ c.in-Ok.count was.1,
         told_then_more _ _ _ _ _ was.2 c.in-Ok.ensures.ok,
       ),
-      omega arith,
+      c.in-Ok.ensures.cause.answered ∙ c.loop-left.invariant.1,
     )

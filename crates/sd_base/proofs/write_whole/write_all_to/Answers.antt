@@ -1,4 +1,4 @@
-use Rattle.std.proofs.Common.{◌++◌, take, rules, arith}
+use Rattle.std.proofs.Common.{◌++◌, take, rules, ◌∙◌}
 use Rattle.sd_base.proofs.FileLemmas.{front_more, appended_more}
 use Rattle.sd_base.proofs.write_whole.write_all_to.Goals as goal
 
@@ -11,7 +11,8 @@ loop-rest-preserved g c =
         appended_more _ _ _ _ _ _ _ c.loop-rest.invariant.1 was.2 c.in-Ok.ensures.ok.1,
       ),
       search rules,
-      omega arith,
+      c.in-Ok.ensures.cause.answered ∙ c.loop-rest.invariant.2,
       search rules,
-      λ before had. c.in-Ok.ensures.asked _ (c.loop-rest.invariant.4 before had),
+      search rules,
+      λ before had. c.in-Ok.ensures.asked _ (c.loop-rest.invariant.5 before had),
     )

@@ -1,4 +1,4 @@
-use Rattle.std.proofs.Common.{◌≡◌, ◌≤◌, ℕ, List, [], ◌∷◌, ◌++◌, length}
+use Rattle.std.proofs.Common.{◌≡◌, ℕ, List, [], ◌∷◌, ◌++◌, length}
 use Rattle.sd_base.specs.Asked.{Adds, ToWrite}
 use Rattle.sd_base.specs.Files.{told_with}
 use Rattle.sd_base.specs.Shelf.{Writing}
@@ -10,8 +10,9 @@ invariant-loop-rest g l =
     ((front : List ℕ) × (front ++ l.rest ≡ l.bytes)
     × (g.F.Shelf.files l.shelf ≡ told_with (g.F.Shelf.files l.fn.shelf) l.name front))
     × (g.F.Shelf.hand l.shelf ≡ Writing l.name)
-    × (g.F.Shelf.write_faults l.fn.shelf ≤ g.F.Shelf.write_faults l.shelf)
+    × (g.F.Shelf.write_faults l.shelf ≡ g.F.Shelf.write_faults l.fn.shelf)
     × (g.F.Shelf.read_faults l.shelf ≡ g.F.Shelf.read_faults l.fn.shelf)
+    × (g.F.Shelf.unfinished l.shelf ≡ g.F.Shelf.unfinished l.fn.shelf)
     × Adds g.F.Shelf.asked l.fn.shelf l.shelf (ToWrite l.name ∷ [])
 
 abbrev pub decreases-loop-rest : goal.decreases-loop-rest
