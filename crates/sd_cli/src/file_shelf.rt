@@ -2,9 +2,9 @@
 use crate::retry::{read_some, write_some};
 use sd_base::{Failed, Name, Shelf};
 use std::alloc::Global;
-use std::fs;
 use std::io::Write;
 use std::rt::Files;
+use std::{fs, mem};
 
 /// What is in hand: no file, or an opened one with its name.
 #[derive(Drop)]
@@ -22,6 +22,8 @@ pub struct FileShelf<'a, R: Files> {
     rt: &'a R,
     alloc: Global,
     hand: InHand<R::File>,
+    // the file that was written when a `finish` last failed
+    unfinished: Option<Name>,
     // how many calls have failed; at its last value a count stands
     read_faults: u64,
     write_faults: u64,
@@ -34,17 +36,19 @@ impl<'a, R: Files> FileShelf<'a, R> {
     ghost use Rattle.std.specs.Prelude.{◌≡◌, []};
     ghost use Rattle.sd_base.specs.Asked.{AreCounts};
     ghost use Rattle.sd_base.specs.Shelf.{NoFile};
-    ghost use Rattle.sd_cli.specs.Outside.{hand_of};
+    ghost use Rattle.sd_cli.specs.Outside.{hand_of, unfinished_of};
 
     /// The shelf with no file in hand, no fault counted, and nothing asked of it.
     pub fn new(rt: &'a R, alloc: Global) -> Self
         ensures hand { hand_of result.hand ≡ NoFile }
+        ensures unfinished { unfinished_of result.unfinished ≡ NoFile }
         ensures asked { AreCounts result.readings result.writings [] }
     {
         FileShelf {
             rt,
             alloc,
             hand: InHand::Nothing,
+            unfinished: None,
             read_faults: 0,
             write_faults: 0,
             readings: 0,
@@ -56,7 +60,7 @@ impl<'a, R: Files> FileShelf<'a, R> {
 impl<'a, R: Files> Shelf for FileShelf<'a, R> {
     ghost use Rattle.std.specs.Prelude.{None};
     ghost use Rattle.sd_base.specs.Asked.{AreCounts};
-    ghost use Rattle.sd_cli.specs.Outside.{hand_of};
+    ghost use Rattle.sd_cli.specs.Outside.{hand_of, unfinished_of};
 
     ghost files = { λ _. None };
 
@@ -65,6 +69,8 @@ impl<'a, R: Files> Shelf for FileShelf<'a, R> {
     ghost read_faults = { λ shelf. shelf.read_faults };
 
     ghost write_faults = { λ shelf. shelf.write_faults };
+
+    ghost unfinished = { λ shelf. unfinished_of shelf.unfinished };
 
     // the readings and the writings that are begun are counted
     ghost asked = { λ shelf requests. AreCounts shelf.readings shelf.writings requests };
@@ -131,14 +137,13 @@ impl<'a, R: Files> Shelf for FileShelf<'a, R> {
     }
 
     fn finish(&mut self) -> Result<(), Failed> {
-        let flushed = match &mut self.hand {
-            InHand::Write(file, _) => file.flush().is_ok(),
-            InHand::Nothing | InHand::Read(_, _, _) => true,
+        let InHand::Write(mut file, name) = mem::replace(&mut self.hand, InHand::Nothing) else {
+            return Ok(());
         };
-        self.hand = InHand::Nothing;
-        if flushed {
+        if file.flush().is_ok() {
             return Ok(());
         }
+        self.unfinished = Some(name);
         self.write_faults = self.write_faults.saturating_add(1);
         Err(Failed)
     }
