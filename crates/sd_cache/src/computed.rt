@@ -6,7 +6,7 @@
 // inside it asks this table: one load to ask, one store to keep, and an answer whose entry is taken
 // drops the one there. What was dropped is found anew, which costs time and changes no answer, so the
 // contracts say that each entry is blank or was kept, and that where there are entries an answer is kept,
-// but not which ones it drops.
+// but not which ones it drops, nor that one that stands is found.
 //
 // An entry has 16 bytes. There are none until the first answer is kept, then 64, 1 KB, and at most
 // 65,536, 1 MB: four times as many whenever as many answers were kept as there are entries.
@@ -134,7 +134,8 @@ impl ComputedTable {
         }
     }
 
-    /// The answer that stands here for the operation at these numbers.
+    /// An answer that was kept for the operation at these numbers, where it still stands. None tells
+    /// nothing: an answer may be dropped at any call, and is then found anew.
     #[inline(always)]
     pub fn look(&self, operation: u8, a: u32, b: u32) -> Option<u32>
         ensures { IfSome result (λ r. Contains self.now (call 0 operation a b, r)) }

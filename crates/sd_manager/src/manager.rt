@@ -469,13 +469,14 @@ impl Manager {
         self.epoch = epoch_after(self.epoch);
     }
 
-    /// In the midst of a large sweep takes nodes of two elements away that nothing uses, one after the other, as `idle`
-    /// and `retire` in turn would; else, and where nodes are counted as under roots, nothing is done. Takes no memory.
+    /// Takes some nodes away that nothing uses, or none, one after the other, as `idle` and `retire` in turn would. How
+    /// many is chosen for speed: a sweep goes on until `idle` finds none. Takes no memory.
     pub fn retire_twos(&mut self)
         ensures retired { AreRetired self.old self.new }
         ensures table { IsTable self.new }
     {
-        // where the total is 0 no node is counted, and none has to be taken out of the counts
+        // In the midst of a large sweep nodes of two elements go in one loop. Where the total is 0 no node is counted,
+        // and none has to be taken out of the counts.
         if self.counts.total() == 0 {
             let count = self.nodes.retire_twos(2050);
             self.epoch = self.epoch.saturating_add(u64::from(count));

@@ -173,13 +173,15 @@ impl Runs {
         self.used -= length;
     }
 
-    /// Puts the free runs of two elements in the order of their starts from `from` on, and behind them
-    /// those before `from`, so that the least from there on is taken next. Takes no memory and cannot
-    /// fail. Takes a step for each element of the arena, and none where no run of two is free.
+    /// May change the order in which free runs of two elements are taken, and changes nothing else. In
+    /// which order they come then is chosen for speed, and no caller may build on it. Takes no memory and
+    /// cannot fail.
     pub fn order_twos(&mut self, from: u32)
         ensures reordered { IsReordered self.old self.new 2 }
         ensures arena { IsArena self.new }
     {
+        // Those from `from` on come in the order of their starts, and then those before it. That takes a
+        // step for each element of the arena, and none where no run of two is free.
         if self.heads.len() > 2 && self.heads[2] != NONE {
             let from = (from as usize).min(self.marks.len());
             self.heads[2] = chain_marked(&self.marks, &mut self.elements, from);

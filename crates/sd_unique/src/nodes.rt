@@ -634,15 +634,15 @@ impl Nodes {
         self.freed = self.freed.saturating_add(1);
     }
 
-    /// In the midst of a large sweep, before lists of places are kept, removes linked nodes of two elements without
-    /// uses, one after the other, each with the uses of its list: a code of `first` or more names the node of the
-    /// number by which it is more. It ends at a node of another length or where none is left, and answers how many were
-    /// removed; elsewhere 0.
+    /// Removes some linked nodes without uses, or none, one after the other, each with the uses of its list: a code of
+    /// `first` or more names the node of the number by which it is more. Answers how many were removed. How many that
+    /// is, and which, is chosen for speed.
     pub fn retire_twos(&mut self, first: u32) -> u32
         requires may { MayRetire first self.old }
         ensures retired { HaveRetired first self.old self.new result }
         ensures nodes { IsNodes self.new }
     {
+        // in the midst of a large sweep, before lists of places are kept, up to a node that has not two elements
         if self.chained || !self.places.is_empty() {
             return 0;
         }
