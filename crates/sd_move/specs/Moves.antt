@@ -78,12 +78,6 @@ IsMoveRefusal old new kind place most (OverMost size limit) =
 IsMoveRefusal old new kind place most (ArenaFull elements) = IsMovable old kind place × IsPastBound new elements
 IsMoveRefusal old new kind place most OutOfMemory = IsMovable old kind place
 
--- the extent, the number of records and the epoch did not fall
-pub record NeverFalls (old new : Table) : Type 0 where
-  pub extent : old.extent ≤ new.extent
-  pub records : old.records ≤ new.records
-  pub epoch : old.epoch ≤ new.epoch
-
 -- ---- for the contracts of private functions
 
 -- A move that can be made was refused on its way: the arena was full by its rule, or memory ran out.

@@ -6,8 +6,9 @@ ghost use Rattle.sd_manager.specs.Valid.{IsTable};
 ghost use Rattle.sd_manager.specs.Table.{Table};
 ghost use Rattle.sd_manager.specs.Moving.{IsLater};
 ghost use Rattle.sd_sweep.specs.Reached.{KeepsReached};
+ghost use Rattle.sd_sweep.specs.Falling.{NeverFalls};
 ghost use Rattle.sd_move.specs.Journal.{CanUndo};
-ghost use Rattle.sd_move.specs.Moves.{IsMoved, IsMoveRefusal, HasSizeAfter, NeverFalls};
+ghost use Rattle.sd_move.specs.Moves.{IsMoved, IsMoveRefusal, HasSizeAfter};
 
 use crate::error::MoveError;
 use crate::journal::{Journal, Moved};

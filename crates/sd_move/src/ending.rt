@@ -7,7 +7,8 @@ ghost use Rattle.sd_manager.specs.Marking.{AreUnmarked};
 ghost use Rattle.sd_manager.specs.Moving.{at_rest, IsLater};
 ghost use Rattle.sd_manager.specs.Valid.{IsTable};
 ghost use Rattle.sd_sweep.specs.Reached.{KeepsReached};
-ghost use Rattle.sd_move.specs.Moves.{IsMoved, IsRefusedOnTheWay, NeverFalls};
+ghost use Rattle.sd_sweep.specs.Falling.{NeverFalls};
+ghost use Rattle.sd_move.specs.Moves.{IsMoved, IsRefusedOnTheWay};
 ghost use Rattle.sd_move.specs.OnTheWay.{IsOnTheWay, AreAllReached};
 
 use crate::error::MoveError;

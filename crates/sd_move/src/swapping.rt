@@ -8,8 +8,8 @@ ghost use Rattle.sd_manager.specs.Marking.{AreUnmarked};
 ghost use Rattle.sd_manager.specs.Valid.{IsTable};
 ghost use Rattle.sd_apply.specs.Serving.{Serves};
 ghost use Rattle.sd_sweep.specs.Reached.{IsReached, KeepsReached};
+ghost use Rattle.sd_sweep.specs.Falling.{NeverFalls};
 ghost use Rattle.sd_move.specs.Moves.{IsMovable, IsMoved, IsMoveRefusal, IsRefusedOnTheWay, HasSizeAfter};
-ghost use Rattle.sd_move.specs.Moves.{NeverFalls};
 ghost use Rattle.sd_move.specs.Swapping.{HasSwapped};
 
 use crate::beginning::begin_at;

@@ -6,7 +6,7 @@ use Rattle.sd_move.proofs.AfterSweep.{moved_swept}
 use Rattle.sd_move.proofs.RotationWhole.{lower_same}
 use Rattle.sd_move.proofs.ServesLater.{serves_later, serves_swept}
 use Rattle.sd_move.proofs.SwapWhole.{refusal_on_way}
-use Rattle.sd_move.proofs.NeverFalling.{never_both, never_swept}
+use Rattle.sd_sweep.proofs.NeverFalling.{never_both, never_swept}
 use Rattle.sd_move.proofs.rotating.rotate.Goals as goal
 
 pub rotate_nodes-requires-clause-lower : goal.rotate_nodes-requires-clause-lower

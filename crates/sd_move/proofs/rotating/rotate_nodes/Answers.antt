@@ -7,7 +7,7 @@ use Rattle.sd_move.specs.Sorting.{rotation_of, place_entry, CanRotate}
 use Rattle.sd_move.proofs.MoveEnd.{last_way}
 use Rattle.sd_move.proofs.RotationWhole.{lower_child, can_rotate}
 use Rattle.sd_move.proofs.ServesLater.{serves_later, serves_rest}
-use Rattle.sd_move.proofs.NeverFalling.{never_same}
+use Rattle.sd_sweep.proofs.NeverFalling.{never_same}
 use Rattle.sd_move.proofs.rotating.rotate_nodes.Goals as goal
 
 pub begin_at_both-requires-clause-child : goal.begin_at_both-requires-clause-child

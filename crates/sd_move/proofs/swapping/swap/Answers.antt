@@ -8,7 +8,7 @@ use Rattle.sd_apply.specs.Serving.{Serves}
 use Rattle.sd_move.proofs.AfterSweep.{moved_swept}
 use Rattle.sd_move.proofs.ServesLater.{serves_later, serves_swept}
 use Rattle.sd_move.proofs.SwapWhole.{swap_movable, refusal_on_way}
-use Rattle.sd_move.proofs.NeverFalling.{never_both, never_swept}
+use Rattle.sd_sweep.proofs.NeverFalling.{never_both, never_swept}
 use Rattle.sd_move.proofs.swapping.swap.Goals as goal
 
 pub returns-in_default-clause-refused : goal.returns-in_default-clause-refused

@@ -9,7 +9,7 @@ use Rattle.sd_move.specs.Rewriting.{CanRewriteAll, HasRewritten}
 use Rattle.sd_move.proofs.MoveEnd.{last_way, none_waits}
 use Rattle.sd_move.proofs.ServesLater.{serves_later, serves_rest}
 use Rattle.sd_move.proofs.SwapEnd.{swap_may, later_turned, swap_on_way}
-use Rattle.sd_move.proofs.NeverFalling.{never_same}
+use Rattle.sd_sweep.proofs.NeverFalling.{never_same}
 use Rattle.sd_move.proofs.swapping.swap_nodes.Goals as goal
 
 pub rewrite_all-done-requires-clause-may : goal.rewrite_all-done-requires-clause-may
