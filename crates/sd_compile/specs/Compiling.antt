@@ -1,5 +1,6 @@
 -- A formula that is compiled group by group: its prefixes, and where their size passes a limit.
 use Rattle.std.specs.Prelude.{◌≡◌, ◌≢◌, ◌⊎◌, ℕ, ◌+◌, ◌<◌, ◌≤◌, length, take, Some, None, cond}
+use Rattle.std.specs.Option.{IsSome}
 use Rattle.std.specs.FinMap.{get}
 use Rattle.sd_model.specs.Diagram.{Diagram}
 use Rattle.sd_model.specs.Expression.{Expression, expression_value}
@@ -8,10 +9,11 @@ use Rattle.sd_formula.specs.Formulas.{expression_of}
 use Rattle.sd_runs.specs.declared.error.TakeError.{TakeError}
 use Rattle.sd_runs.specs.declared.error.TakeError.TheVariants as taking
 use Rattle.sd_manager.specs.Table.{Table}
+use Rattle.sd_manager.specs.Valid.{total_length}
 use Rattle.sd_manager.specs.Shown.{HoldsDiagram}
 use Rattle.sd_manager.specs.Making.{IsPastBound, with_root, without_root}
 use Rattle.sd_apply.specs.Answers.{HasAnswer}
-use Rattle.sd_sweep.specs.Reached.{IsSwept, KeepsReached}
+use Rattle.sd_sweep.specs.Reached.{IsReached, IsSwept, KeepsReached}
 use Rattle.sd_compile.specs.Joined.{neutral, outer}
 use Rattle.sd_compile.specs.Total.{HasTotalWith, IsWithinLimit}
 use Rattle.sd_compile.specs.declared.error.CompileError.{CompileError}
@@ -63,6 +65,11 @@ pub record KeepsAll (old new : Table) : Type 0 where
 -- a sweep, or nothing
 abbrev pub MaySweep : Table → Table → Type 0
 MaySweep old new = (new ≡ old) ⊎ IsSwept old new
+
+-- Each node is reached, or no more elements are in use than either of two numbers.
+abbrev pub IsSweptPast : Table → ℕ → ℕ → Type 0
+IsSweptPast t most limit =
+    ((n : ℕ) → IsSome (get t.linked n) → IsReached t n) ⊎ ((total_length t ≤ most) × (total_length t ≤ limit))
 
 -- Why a node that shows the formula's diagram is not held: with it the total size passes the limit, or there was no
 -- memory.

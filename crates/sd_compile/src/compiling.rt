@@ -28,10 +28,11 @@ ghost use Rattle.sd_manager.specs.Making.{Extends, KeepsRule, without_root};
 ghost use Rattle.sd_apply.specs.Answers.{HasAnswer};
 ghost use Rattle.sd_apply.specs.Serving.{Serves};
 ghost use Rattle.sd_sweep.specs.Reached.{IsReached};
+ghost use Rattle.sd_sweep.specs.Falling.{NeverFalls};
 ghost use Rattle.sd_compile.specs.Total.{IsWithinLimit};
 ghost use Rattle.sd_manager.specs.Marking.{AreUnmarked};
 ghost use Rattle.sd_compile.specs.Compiling.{prefix_of, HoldsFormula, HoldsPrefix, IsBegun, KeepsOtherRoots, KeepsAll};
-ghost use Rattle.sd_compile.specs.Compiling.{IsGroupRefused, IsFormulaRefused, AreWithinLimit};
+ghost use Rattle.sd_compile.specs.Compiling.{IsGroupRefused, IsFormulaRefused, AreWithinLimit, IsSweptPast};
 
 use crate::connectives::{between_groups, connect, neutral_value, within_group};
 use crate::error::{CompileError, compile_error};
@@ -100,6 +101,7 @@ pub fn add_group(
     ensures all_kept { OnErr result (KeepsAll m.old m.new) }
     ensures root { work.new.root ≡ work.old.root }
     ensures kept { KeepsOtherRoots m.old m.new work.old.root }
+    ensures never_falls { NeverFalls m.old m.new }
     ensures swept { (n : ℕ) → IsSome (get m.new.linked n) → IsReached m.new n }
     ensures serves { Serves c.new m.new }
     ensures unmarked { AreUnmarked m.new }
@@ -110,7 +112,9 @@ pub fn add_group(
     answer
 }
 
-/// Joins the next group as `add_group` does, and sweeps behind it as `sweep_past` does, so only where it pays.
+/// Joins the next group as `add_group` does. Behind it garbage stays only where no more elements are in use than `most`
+/// and than the limit; it may be swept where fewer are. Then `most` is what may be in use behind the next group, no less
+/// than what is in use.
 pub fn add_group_past(
     alloc: Global,
     m: &mut Manager,
@@ -136,6 +140,8 @@ pub fn add_group_past(
     ensures all_kept { OnErr result (KeepsAll m.old m.new) }
     ensures root { work.new.root ≡ work.old.root }
     ensures kept { KeepsOtherRoots m.old m.new work.old.root }
+    ensures never_falls { NeverFalls m.old m.new }
+    ensures past { IsSweptPast m.new most.old limit }
     ensures used { total_length m.new ≤ most.new }
     ensures serves { Serves c.new m.new }
     ensures unmarked { AreUnmarked m.new }
@@ -172,6 +178,7 @@ fn join_next(
     ensures all_kept { OnErr result (KeepsAll m.old m.new) }
     ensures root { work.new.root ≡ work.old.root }
     ensures kept { KeepsOtherRoots m.old m.new work.old.root }
+    ensures never_falls { NeverFalls m.old m.new }
     ensures serves { Serves c.new m.new }
     ensures unmarked { AreUnmarked m.new }
     ensures table { IsTable m.new }
@@ -286,6 +293,7 @@ fn add_groups(
     ensures held { IsSome (get m.new.roots work.new.root) }
     ensures root { work.new.root ≡ work.old.root }
     ensures kept { KeepsOtherRoots m.old m.new work.old.root }
+    ensures never_falls { NeverFalls m.old m.new }
     ensures serves { Serves c.new m.new }
     ensures unmarked { AreUnmarked m.new }
     ensures table { IsTable m.new }
@@ -331,6 +339,7 @@ pub fn compile(
     ensures kept { IfOk result (λ root. KeepsOtherRoots m.old m.new root) }
     ensures err { IfErr result (λ e. IsFormulaRefused m.old m.new f.now limit 0 e) }
     ensures all_kept { OnErr result (KeepsAll m.old m.new) }
+    ensures never_falls { NeverFalls m.old m.new }
     ensures serves { Serves c.new m.new }
     ensures unmarked { AreUnmarked m.new }
     ensures table { IsTable m.new }

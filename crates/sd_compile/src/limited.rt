@@ -5,7 +5,8 @@
 // asked only where more elements are in use than the limit, garbage included (`total_over`), which on most formulas is
 // never.
 //
-// No contract of a run says when it is swept. A sweep costs what died since the last one, but it raises the
+// No contract of a run says when it is swept: garbage stays only within a number and the limit (`sweep_past`), and the
+// number is chosen for speed. A sweep costs what died since the last one, but it raises the
 // epoch, and with it goes what the cache knows: where groups use kept answers, rare sweeps pay (`room_over`). Where
 // they don't, what just died of a small diagram is still near, and its records are taken again.
 ghost use Rattle.std.specs.Prelude.{◌≡◌, ℕ, ◌<◌, ◌≤◌, ◌-◌, ◌^◌, List, None, IfSome, IfNone, IfOk, IfErr, OnOk, OnErr};
@@ -17,12 +18,14 @@ ghost use Rattle.sd_model.specs.Size.{size_of, IsDiagramOf};
 ghost use Rattle.sd_vtree.specs.Numbered.{plain_tree};
 ghost use Rattle.sd_manager.specs.Valid.{IsTable, total_length};
 ghost use Rattle.sd_manager.specs.Shown.{ShowsCanonical, IsNodeOf};
-ghost use Rattle.sd_manager.specs.Making.{with_root};
+ghost use Rattle.sd_manager.specs.Making.{with_root, without_root};
+ghost use Rattle.sd_cache.specs.Entries.{Answers};
 ghost use Rattle.sd_apply.specs.Serving.{Serves};
 ghost use Rattle.sd_sweep.specs.Reached.{IsReached, IsSwept, AreHeldDiagrams};
+ghost use Rattle.sd_sweep.specs.Falling.{NeverFalls};
 ghost use Rattle.sd_manager.specs.Marking.{AreUnmarked};
-ghost use Rattle.sd_compile.specs.Total.{IsTotal, IsTotalWithin, IsWithinLimit};
-ghost use Rattle.sd_compile.specs.Compiling.{MaySweep, KeepsAll, IsHoldRefused};
+ghost use Rattle.sd_compile.specs.Total.{HasTotalWith, IsTotal, IsTotalWithin, IsWithinLimit};
+ghost use Rattle.sd_compile.specs.Compiling.{MaySweep, IsSweptPast, KeepsAll, IsHoldRefused};
 
 use crate::error::HoldError;
 use sd_cache::Cache;
@@ -68,6 +71,7 @@ pub(crate) fn sweep_kept(m: &mut Manager, c: &Cache)
     requires unmarked { AreUnmarked m.old }
     requires serves { Serves c.now m.old }
     ensures swept { IsSwept m.old m.new }
+    ensures never_falls { NeverFalls m.old m.new }
     ensures reached { (n : ℕ) → IsSome (get m.new.linked n) → IsReached m.new n }
     ensures serves { Serves c.now m.new }
     ensures unmarked { AreUnmarked m.new }
@@ -78,16 +82,19 @@ pub(crate) fn sweep_kept(m: &mut Manager, c: &Cache)
     sweep(m);
 }
 
-/// Sweeps where more elements are in use than `most` or than the limit. Then `most` becomes what may be in use before
-/// the next sweep: `often` a quarter more than what is left, and at least 4,096 elements more (from 40,000 elements on
-/// three fifths more, and at least the lesser of three times what is left and 550,000), and else twice what is left,
-/// and at least `LEAST_GARBAGE`.
+/// Sweeps where more elements are in use than `most` or than the limit, and then sets `most` anew: to no less than what
+/// is left. Else nothing is changed. `often` where hardly an answer of the cache is asked for again, so that a sweep
+/// costs little. How much more than what is left may be in use before the next sweep is chosen for speed alone.
 pub fn sweep_past(m: &mut Manager, c: &Cache, most: &mut u32, often: bool, limit: u32)
     requires no_move { m.old.moving ≡ None }
     requires unmarked { AreUnmarked m.old }
     requires serves { Serves c.now m.old }
     ensures swept { MaySweep m.old m.new }
+    ensures past { IsSweptPast m.new most.old limit }
+    ensures within { total_length m.old ≤ most.old → total_length m.old ≤ limit
+        → (m.new ≡ m.old) × (most.new ≡ most.old) }
     ensures kept { KeepsAll m.old m.new }
+    ensures never_falls { NeverFalls m.old m.new }
     ensures used { total_length m.new ≤ most.new }
     ensures serves { Serves c.now m.new }
     ensures unmarked { AreUnmarked m.new }
@@ -132,10 +139,9 @@ pub fn hold_within(m: &mut Manager, node: NodeId, limit: u32) -> Result<Root, Ho
     }
 }
 
-// Makes a root hold a node, if the total size is then within the limit. Else it holds what it held, and the answer is
-// that size.
-pub(crate) fn try_hold(m: &mut Manager, root: &mut Root, node: NodeId, limit: u32) -> Option<u32>
-    requires table { IsTable m.old }
+/// Makes a root hold a node in place of its own, if the total size is then within the limit. Else it holds what it
+/// held, and the answer is the size that passes the limit. Takes no memory.
+pub fn try_hold(m: &mut Manager, root: &mut Root, node: NodeId, limit: u32) -> Option<u32>
     requires no_move { m.old.moving ≡ None }
     requires unmarked { AreUnmarked m.old }
     requires root { IsSome (get m.old.roots root.old) }
@@ -144,10 +150,19 @@ pub(crate) fn try_hold(m: &mut Manager, root: &mut Root, node: NodeId, limit: u3
         (λ n. (limit < n) × IsTotal (with_root m.old root.old node) n × (m.new ≡ m.old)) }
     ensures none { IfNone result (IsTotalWithin (with_root m.old root.old node) limit
         × (m.new ≡ with_root m.old root.old node)) }
+    ensures over { (f : Expression) (d : Diagram) → ShowsCanonical m.old node d →
+        IsDiagramOf (plain_tree m.old.vtree) f d
+        → IfSome result (λ n. HasTotalWith (without_root m.old root.old) f n) }
+    ensures within { (f : Expression) (d : Diagram) → ShowsCanonical m.old node d →
+        IsDiagramOf (plain_tree m.old.vtree) f d
+        → IfNone result (IsWithinLimit (without_root m.old root.old) f limit) }
     ensures root { root.new ≡ root.old }
+    ensures serves { (c : Answers) → Serves c m.old → Serves c m.new }
     ensures unmarked { AreUnmarked m.new }
     ensures table { IsTable m.new }
 {
+    // its contract tells that the table is valid
+    let _ = m.vtree();
     let former = m.rebind(root, node);
     let Some(size) = total_over(m, limit) else {
         return None;

@@ -16,6 +16,7 @@ ghost use Rattle.std.specs.Prelude.{◌≡◌, ℕ, ◌<◌, length, None};
 ghost use Rattle.sd_manager.specs.Valid.{IsTable};
 ghost use Rattle.sd_manager.specs.Marking.{AreUnmarked};
 ghost use Rattle.sd_apply.specs.Serving.{Serves};
+ghost use Rattle.sd_sweep.specs.Falling.{NeverFalls};
 ghost use Rattle.sd_compile.specs.Compiling.{MaySweep};
 
 use crate::limited::{LARGE, LEAST_GARBAGE, room_over, sweep_kept};
@@ -167,6 +168,7 @@ pub(crate) fn sweep_between(m: &mut Manager, c: &Cache, pace: &mut Pace, limit: 
     requires unmarked { AreUnmarked m.old }
     requires serves { Serves c.now m.old }
     ensures swept { MaySweep m.old m.new }
+    ensures never_falls { NeverFalls m.old m.new }
     ensures serves { Serves c.now m.new }
     ensures unmarked { AreUnmarked m.new }
     ensures table { IsTable m.new }

@@ -1,6 +1,7 @@
 use Rattle.std.proofs.Common.{inr}
 use Rattle.std.proofs.lemmas.Result.{IfErr-weaker, on_ok_weaker, on_err_weaker}
 use Rattle.sd_manager.specs.Making.{without_root}
+use Rattle.sd_sweep.proofs.NeverFalling.{never_both}
 use Rattle.sd_compile.specs.Compiling.{IsGroupRefused}
 use Rattle.sd_compile.proofs.Kept.{all_may, others_may, prefix_may, refused_swept}
 use Rattle.sd_compile.proofs.compiling.add_group.Goals as goal
@@ -31,3 +32,8 @@ pub returns-clause-kept : goal.returns-clause-kept
 returns-clause-kept c =
     others_may c.args.m.now c.join_next-answer.new.m c.sweep_kept.new.m c.args.work.now.root
     c.join_next-answer.ensures.kept (inr c.sweep_kept.ensures.swept)
+
+pub returns-clause-never_falls : goal.returns-clause-never_falls
+returns-clause-never_falls c =
+    never_both c.args.m.now c.join_next-answer.new.m c.sweep_kept.new.m c.join_next-answer.ensures.never_falls
+    c.sweep_kept.ensures.never_falls

@@ -1,5 +1,6 @@
 use Rattle.std.proofs.lemmas.Result.{IfErr-weaker, on_ok_weaker, on_err_weaker}
 use Rattle.sd_manager.specs.Making.{without_root}
+use Rattle.sd_sweep.proofs.NeverFalling.{never_both}
 use Rattle.sd_compile.specs.Compiling.{IsGroupRefused}
 use Rattle.sd_compile.proofs.Kept.{all_may, others_may, prefix_may, refused_may}
 use Rattle.sd_compile.proofs.compiling.add_group_past.Goals as goal
@@ -30,3 +31,8 @@ pub returns-clause-kept : goal.returns-clause-kept
 returns-clause-kept c =
     others_may c.args.m.now c.join_next-answer.new.m c.sweep_past.new.m c.args.work.now.root
     c.join_next-answer.ensures.kept c.sweep_past.ensures.swept
+
+pub returns-clause-never_falls : goal.returns-clause-never_falls
+returns-clause-never_falls c =
+    never_both c.args.m.now c.join_next-answer.new.m c.sweep_past.new.m c.join_next-answer.ensures.never_falls
+    c.sweep_past.ensures.never_falls

@@ -1,5 +1,6 @@
 use Rattle.std.proofs.Common.{inr, ◌+◌, ◌∙◌, subst, arith}
 use Rattle.sd_manager.specs.Making.{without_root}
+use Rattle.sd_sweep.proofs.NeverFalling.{never_both}
 use Rattle.sd_compile.specs.Total.{IsWithinLimit}
 use Rattle.sd_compile.specs.Compiling.{prefix_of, IsGroupRefused, KeepsOtherRoots}
 use Rattle.sd_compile.proofs.Kept.{others_both, others_may, prefix_may, refused_swept}
@@ -32,6 +33,12 @@ returns-in-Err-clause-kept c =
     (subst (KeepsOtherRoots c.left.m c.join_next.new.m) c.left.invariant.root c.in-Err.ensures.kept)
     (inr c.sweep_kept.ensures.swept))
 
+pub returns-in-Err-clause-never_falls : goal.returns-in-Err-clause-never_falls
+returns-in-Err-clause-never_falls c =
+    never_both c.args.m.now c.left.m c.sweep_kept.new.m c.left.invariant.never
+    (never_both c.left.m c.join_next.new.m c.sweep_kept.new.m c.in-Err.ensures.never_falls
+    c.sweep_kept.ensures.never_falls)
+
 pub left-preserved : goal.left-preserved
 left-preserved c =
     let root = c.args.work.now.root in
@@ -55,6 +62,10 @@ left-preserved c =
           (others_may c.left.m c.join_next.new.m c.sweep_between.new.m root
           (subst (KeepsOtherRoots c.left.m c.join_next.new.m) c.left.invariant.root c.in_default.ensures.kept)
           c.sweep_between.ensures.swept);
+      never =
+          never_both c.args.m.now c.left.m c.sweep_between.new.m c.left.invariant.never
+          (never_both c.left.m c.join_next.new.m c.sweep_between.new.m c.in_default.ensures.never_falls
+          c.sweep_between.ensures.never_falls);
       serves = c.sweep_between.ensures.serves;
       unmarked = c.sweep_between.ensures.unmarked;
       table = c.sweep_between.ensures.table;

@@ -3,6 +3,7 @@ use Rattle.sd_manager.specs.Valid.{IsTable}
 use Rattle.sd_manager.specs.Making.{without_root}
 use Rattle.sd_apply.specs.Serving.{Serves}
 use Rattle.sd_manager.specs.Marking.{AreUnmarked}
+use Rattle.sd_sweep.specs.Falling.{NeverFalls}
 use Rattle.sd_compile.specs.Compiling.{HoldsPrefix, KeepsOtherRoots, AreWithinLimit}
 use Rattle.sd_compile.proofs.compiling.add_groups.Given as goal
 
@@ -14,6 +15,7 @@ invariant-left l = record {
   far : l.fn.work.groups ≤ l.work.groups;
   within : AreWithinLimit (without_root l.fn.m l.fn.work.root) l.f l.limit l.fn.work.groups l.work.groups;
   kept : KeepsOtherRoots l.fn.m l.m l.fn.work.root;
+  never : NeverFalls l.fn.m l.m;
   serves : Serves l.c l.m;
   unmarked : AreUnmarked l.m;
   table : IsTable l.m;

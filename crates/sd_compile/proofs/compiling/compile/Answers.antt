@@ -1,5 +1,6 @@
 use Rattle.std.proofs.Common.{◌≡◌, ◌∙◌, cond, sym, ap, subst, length}
 use Rattle.sd_manager.specs.Making.{without_root}
+use Rattle.sd_sweep.proofs.NeverFalling.{never_same, never_both, never_rooted, never_released}
 use Rattle.sd_compile.specs.Joined.{neutral, outer}
 use Rattle.sd_compile.specs.Compiling.{KeepsOtherRoots}
 use Rattle.sd_compile.proofs.Kept.{serves_rebound}
@@ -58,3 +59,23 @@ returns-in-Err-add_groups-clause-count c =
     no_more c.args.m.now c.release.new.self
     (new_all c.args.m.now c.begin.new.m c.add_groups.new.m c.release.new.self c.args.f.now c.in-Ok.work
     c.in-Ok.ensures.ok c.in-Err-add_groups.ensures.kept is)
+
+-- ---- what never falls
+
+pub returns-in-Err-clause-never_falls : goal.returns-in-Err-clause-never_falls
+returns-in-Err-clause-never_falls c = never_same c.args.m.now c.begin.new.m c.in-Err.ensures.err
+
+pub returns-in-Ok-add_groups-clause-never_falls : goal.returns-in-Ok-add_groups-clause-never_falls
+returns-in-Ok-add_groups-clause-never_falls c =
+    never_both c.args.m.now c.begin.new.m c.add_groups.new.m
+    (never_rooted c.args.m.now c.begin.new.m c.in-Ok.work.root (cond (neutral (outer c.args.f.now.kind)) 1 0)
+    c.in-Ok.ensures.ok.is) c.add_groups.ensures.never_falls
+
+pub returns-in-Err-add_groups-clause-never_falls : goal.returns-in-Err-add_groups-clause-never_falls
+returns-in-Err-add_groups-clause-never_falls c =
+    never_both c.args.m.now c.begin.new.m c.release.new.self
+    (never_rooted c.args.m.now c.begin.new.m c.in-Ok.work.root (cond (neutral (outer c.args.f.now.kind)) 1 0)
+    c.in-Ok.ensures.ok.is)
+    (never_both c.begin.new.m c.add_groups.new.m c.release.new.self c.add_groups.ensures.never_falls
+    (never_released c.add_groups.new.m c.release.new.self c.finish-in-Err-add_groups.result
+    c.release.ensures.released))

@@ -2,6 +2,7 @@ use Rattle.std.proofs.Common.{◌+◌, ap, sym, subst, arith}
 use Rattle.sd_apply.specs.Serving.{Serves}
 use Rattle.sd_compile.specs.Compiling.{CompiledPrefix, prefix_of, HoldsFormula, KeepsOtherRoots, KeepsAll}
 use Rattle.sd_manager.proofs.Marking.{unmarked_extended}
+use Rattle.sd_sweep.proofs.NeverFalling.{never_same, never_both, never_extended, never_rooted}
 use Rattle.sd_compile.proofs.Kept.{extended_all, all_others, held_others, serves_rebound}
 use Rattle.sd_compile.proofs.Adding.{group_over, group_within, group_held}
 use Rattle.sd_compile.proofs.compiling.join_next.Goals as goal
@@ -70,3 +71,20 @@ pub returns-clause-serves : goal.returns-clause-serves
 returns-clause-serves c =
     serves_rebound c.next_node.new.c c.next_node.new.m c.try_hold.new.m c.work.inside.root c.in-Ok.node
     c.in_default.ensures.none.1 c.next_node.ensures.serves
+
+-- ---- what never falls
+
+pub returns-in-Err-clause-never_falls : goal.returns-in-Err-clause-never_falls
+returns-in-Err-clause-never_falls c = never_extended c.args.m.now c.next_node.new.m c.next_node.ensures.kept
+
+pub returns-in-Some-clause-never_falls : goal.returns-in-Some-clause-never_falls
+returns-in-Some-clause-never_falls c =
+    never_both c.args.m.now c.next_node.new.m c.try_hold.new.m
+    (never_extended c.args.m.now c.next_node.new.m c.next_node.ensures.kept)
+    (never_same c.next_node.new.m c.try_hold.new.m c.in-Some.ensures.some.2)
+
+pub returns-clause-never_falls : goal.returns-clause-never_falls
+returns-clause-never_falls c =
+    never_both c.args.m.now c.next_node.new.m c.try_hold.new.m
+    (never_extended c.args.m.now c.next_node.new.m c.next_node.ensures.kept)
+    (never_rooted c.next_node.new.m c.try_hold.new.m c.work.inside.root c.in-Ok.node c.in_default.ensures.none.1)
