@@ -113,8 +113,8 @@ pub fn add_group(
 }
 
 /// Joins the next group as `add_group` does. Behind it garbage stays only where no more elements are in use than `most`
-/// and than the limit; it may be swept where fewer are. Then `most` is what may be in use behind the next group, no less
-/// than what is in use.
+/// and than the limit; it may be swept where fewer are. Then `most` is what may be in use behind the next group, and no
+/// less than what is in use.
 pub fn add_group_past(
     alloc: Global,
     m: &mut Manager,
