@@ -1,11 +1,16 @@
 -- Words that are written out, and the answer that the definition gives: it computes.
-use Rattle.std.proofs.Common.{◌≡◌, refl, [], ◌∷◌, Ok, Err, codes, None}
+use Rattle.std.proofs.Common.{◌≡◌, refl, true, false, List, [], ◌∷◌, Ok, Err, codes, None, Some}
 use Rattle.std.specs.Prelude.{⊤}
+use Rattle.clap.specs.Walk.{Text}
 use Rattle.clap.proofs.OnLiterals.{clap_on_literals}
 use Rattle.sd_words.specs.Command.{parsed_by, sddc}
 use Rattle.sd_words.specs.JobOf.{job_from, job_of_parsed, job_of}
+use Rattle.sd_words.specs.Ordinary.{Setting, can_stand_apart}
 use Rattle.sd_words.specs.declared.jobs.InputWord.TheVariants as input
+use Rattle.sd_words.specs.declared.jobs.Job.{Job}
 use Rattle.sd_words.specs.declared.jobs.TreeWord.TheVariants as tree
+use Rattle.sd_words.specs.declared.options.OptionName.TheVariants as option
+use Rattle.sd_words.proofs.OrdinaryLaw.{ordinary_values_kept}
 
 -- all that has to unfold for the words of an example
 unfoldable job_on_literals : ⊤
@@ -56,3 +61,30 @@ generated_formula : job_of (codes "--generate" ∷ codes "4:0" ∷ []) ≡ Ok (r
 })
 unfolding job_on_literals
 generated_formula = refl
+
+-- ---- of any names, by the law of ordinary words
+
+-- an input and an output, each in a word of its own
+abbrev in_and_out : Text → Text → List Setting
+in_and_out file out =
+    record { option = option.Cnf; value = file; is_attached = false }
+    ∷ record { option = option.OutSdd; value = out; is_attached = false } ∷ []
+
+-- where such words are accepted, the job has the two names and what is there where nothing is said
+any_names : (file out : Text) (job : Job) → can_stand_apart file ≡ true → can_stand_apart out ≡ true
+    → job_of (codes "--cnf" ∷ file ∷ codes "--out-sdd" ∷ out ∷ []) ≡ Ok job
+    → job ≡ record {
+      input = input.Cnf file;
+      tree = tree.Balanced;
+      script = None;
+      out_vtree = None;
+      out_sdd = Some out;
+      minimise = None;
+      every = None;
+      slack = 200;
+      limit = 16777216;
+    }
+unfolding job_of_parsed
+any_names file out job apart other named =
+    ordinary_values_kept (in_and_out file out) _ job
+    (record { once = refl; spelled = rw (apart, other) refl; written = refl }) named

@@ -1,7 +1,7 @@
 -- How a reading that goes from check to check comes to the answer.
 use Rattle.std.proofs.Common.{rules, ◌≡◌, ◌≢◌, ◌∙◌, ◌==◌, ap, sym, refl, inl, inr}
 use Rattle.std.proofs.Common.{Bool, true, false, true≢false, List, [], ◌∷◌, drop}
-use Rattle.std.proofs.Common.{None, Option, Result, Some, Err, is_none, is_some}
+use Rattle.std.proofs.Common.{None, Option, Result, Some, Ok, Err, is_none, is_some}
 use Rattle.std.specs.Prelude.{ℕ, codes, count_by, find, if◌then◌else◌, map, not, option_and_then, option_map}
 use Rattle.std.specs.Bool.{then_some}
 use Rattle.std.specs.Str.{bytes_eq}
@@ -122,6 +122,14 @@ job_from_rows parsed =
     (word_looked_for _ fault.EmptyName _ _ _ [] job (λ o. refl)
     (first_word (λ word. option_map_or is_empty (parsed word) false) file_option_names) refl))
     ∙ ap (λ (f : Option WordsFault). unless (first_some (f ∷ drop 6 (rows parsed))) job) (twice vtree sdd))))))
+
+-- a job that is accepted has the values in their places
+pub job_where_accepted : (parsed : ParsedOptions) (job : Job) → job_from parsed ≡ Ok job → job ≡ job_of_parsed parsed
+job_where_accepted parsed job is = go (first_some (rows parsed)) (sym (job_from_rows parsed) ∙ is)
+  where
+    go : (f : Option WordsFault) → unless f (job_of_parsed parsed) ≡ Ok job → job ≡ job_of_parsed parsed
+    go (Some f) e = cc
+    go None e = cc
 
 -- the exit of a `?` at the first fault
 pub refused : (parsed : ParsedOptions) (r : Result Job WordsFault) (f : WordsFault) → IsErrAnd r (λ e. e ≡ f)

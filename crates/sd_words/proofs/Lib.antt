@@ -4,4 +4,4 @@ pub mod FaultBack
 mod Examples
 mod OptionSteps
 mod OrdinaryWalk
-mod OrdinaryLaw
+pub mod OrdinaryLaw

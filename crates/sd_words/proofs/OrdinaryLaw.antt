@@ -1,20 +1,22 @@
 -- The ordinary words are accepted, and each option has the value that they give it.
-use Rattle.std.proofs.Common.{◌≡◌, ◌∙◌, ◌||◌, ℕ, Bool, cond, ap, refl, true, false, subst}
-use Rattle.std.proofs.Common.{List, [], ◌∷◌, map, None, Result}
-use Rattle.std.specs.Prelude.{fold}
-use Rattle.std.specs.List.{list_all}
+use Rattle.std.proofs.Common.{arith, ◌≡◌, ◌∙◌, ◌||◌, ℕ, Bool, cond, ap, sym, refl, true, false, subst}
+use Rattle.std.proofs.Common.{List, [], ◌∷◌, map, slice_index_or, None, Ok, Result, Some, zero, suc}
+use Rattle.std.specs.Prelude.{fold, not}
+use Rattle.std.specs.List.{All, list_all}
 use Rattle.std.specs.Str.{bytes_eq}
+use Rattle.std.proofs.lemmas.List.Sums.{AllPass-from_list_all}
+use Rattle.std.proofs.lemmas.Slice.Eq.{bytes_eq-Decides}
 use Rattle.clap.specs.Walk.{Row, Rule, Text, first_of, has_row, with_default}
 use Rattle.clap.specs.Faults.{default_fault, defaults_fault, given_default_fault}
 use Rattle.clap.proofs.WalkLemmas.{both}
 use Rattle.sd_words.specs.Command.{parsed_by, handed, sddc, usage_faults}
-use Rattle.sd_words.specs.JobOf.{Answers, job_from, job_of}
+use Rattle.sd_words.specs.JobOf.{Answers, job_from, job_of, job_of_parsed}
 use Rattle.sd_words.specs.Options.{word_of}
-use Rattle.sd_words.specs.Ordinary.{Setting, Spells, has_each_once, is_spelled, setting_of, words_of_settings}
+use Rattle.sd_words.specs.Ordinary.{Setting, Spells, has_each_once, is_spelled, setting_of, sets, words_of_settings}
 use Rattle.sd_words.specs.declared.faults.WordsFault.{WordsFault}
 use Rattle.sd_words.specs.declared.jobs.Job.{Job}
-use Rattle.sd_words.proofs.JobLemmas.{taken}
-use Rattle.sd_words.proofs.OptionSteps.{left_passes, left_used, row_of, the_rules, with_left}
+use Rattle.sd_words.proofs.JobLemmas.{job_where_accepted, taken}
+use Rattle.sd_words.proofs.OptionSteps.{false_of, left_passes, left_used, row_of, the_rules, with_left}
 use Rattle.sd_words.proofs.OrdinaryWalk.{faults_all, fresh_in, row_for, walk_all}
 
 -- ---- after the words: no option has a default of `clap`'s
@@ -122,9 +124,53 @@ job_of_words_of settings once spelled =
     λ i word. ordinary_values settings word once spelled i in
     taken (words_of_settings settings) (ordinary_accepted settings once spelled) ∙ ap job_from parsed
 
+-- ordinary words have the job of their values, or the text of the first fault of these
+pub job_of_ordinary : (settings : List Setting) (words : List Text) → Spells settings words
+    → job_of words ≡ job_from (setting_of settings)
+job_of_ordinary settings words spells = ap job_of spells.written ∙ job_of_words_of settings spells.once spells.spelled
+
+-- and where they have one, it has these values
+pub ordinary_values_kept : (settings : List Setting) (words : List Text) (job : Job) → Spells settings words
+    → job_of words ≡ Ok job → job ≡ job_of_parsed (setting_of settings)
+ordinary_values_kept settings words job spells named =
+    job_where_accepted (setting_of settings) job (sym (job_of_ordinary settings words spells) ∙ named)
+
 -- so an answer at such words is the one at the settings' values
 pub answers_ordinary : (words : List Text) (r : Result Job WordsFault) → Answers (job_of words) r
     → (settings : List Setting) → Spells settings words → Answers (job_from (setting_of settings)) r
 answers_ordinary words r answer settings spells =
-    subst (λ (a : Result Job (List ℕ)). Answers a r)
-    (ap job_of spells.written ∙ job_of_words_of settings spells.once spells.spelled) answer
+    subst (λ (a : Result Job (List ℕ)). Answers a r) (job_of_ordinary settings words spells) answer
+
+-- ---- the values that settings give
+
+-- the first setting gives its option its value
+first_value : (s : Setting) (rest : List Setting) → setting_of (s ∷ rest) (word_of s.option) ≡ Some s.value
+first_value s rest =
+    let own = word_of s.option in
+    let same : bytes_eq own own ≡ true = (bytes_eq-Decides own own).1 refl in
+    rw same refl
+
+-- at a word that it does not set, the others do
+later_value : (s : Setting) (rest : List Setting) (word : Text) → sets word s ≡ false
+    → setting_of (s ∷ rest) word ≡ setting_of rest word
+later_value s rest word other = rw other refl
+
+-- where no option stands twice, each has the value of its setting
+pub each_value : (settings : List Setting) → has_each_once settings ≡ true
+    → All (λ s. setting_of settings (word_of s.option) ≡ Some s.value) settings
+each_value [] once k d lt = absurd (omega arith)
+each_value (s ∷ rest) once zero d lt = first_value s rest
+each_value (s ∷ rest) once (suc k) d lt =
+    let once_each = both _ _ once in
+    let own = slice_index_or rest k d in
+    later_value s rest (word_of own.option)
+    (false_of _ (AllPass-from_list_all (λ q. not (sets (word_of q.option) s)) rest once_each.0 k d (omega arith)))
+    ∙ each_value rest once_each.1 k d (omega arith)
+
+-- an option that no setting sets has none
+pub no_value : (settings : List Setting) (word : Text) → list_all (λ s. not (sets word s)) settings ≡ true
+    → setting_of settings word ≡ None
+no_value [] word none = refl
+no_value (s ∷ rest) word none =
+    let none_each = both _ _ none in
+    later_value s rest word (false_of _ none_each.0) ∙ no_value rest word none_each.1
