@@ -1,7 +1,7 @@
 -- At status 0 a run without a script writes the texts of the input's diagram and of its vtree.
 -- Equal texts of diagrams are one function.
 use Rattle.std.proofs.Common.{◌≡◌, ◌↔◌, ℕ, ◌+◌, List, [], ◌∷◌, ◌++◌, length, Option, Some, None}
-use Rattle.std.proofs.Common.{Result, Ok, Err}
+use Rattle.std.proofs.Common.{Result, Ok, Err, codes}
 use Rattle.std.proofs.Common.{inl, inr, refl, sym, ap, subst, ◌∙◌}
 use Rattle.std.specs.List.{AllZip}
 use Rattle.sd_base.specs.Files.{Files, told_with}
@@ -19,7 +19,10 @@ use Rattle.sd_formula.specs.Generated.{generated_formula}
 use Rattle.sd_formula.specs.declared.formula.Kind.TheVariants as kinds
 use Rattle.sd_vfile.specs.Reads.{vtree_file}
 use Rattle.sd_manager.specs.Table.{Table}
-use Rattle.sd_words.specs.JobOf.{job_of}
+use Rattle.sd_words.specs.JobOf.{job_of, job_of_parsed}
+use Rattle.sd_words.specs.Ordinary.{setting_of}
+use Rattle.sd_words.specs.ParsedOptions.{ParsedOptions}
+use Rattle.sd_words.proofs.OrdinaryLaw.{ordinary_values_kept}
 use Rattle.sd_words.specs.declared.jobs.Job.{Job}
 use Rattle.sd_words.specs.declared.jobs.InputWord.{InputWord}
 use Rattle.sd_words.specs.declared.jobs.InputWord.TheVariants as inputs
@@ -49,11 +52,11 @@ use Rattle.sd_tool.specs.Readings.{announcement}
 use Rattle.sd_tool.specs.inside.Readings.{search_of}
 use Rattle.sd_tool.specs.Ends.{Finished}
 use Rattle.sd_tool.specs.Devices.{Seen}
-use Rattle.sd_tool.specs.Laws.{HasWritten}
+use Rattle.sd_tool.specs.Laws.{HasWritten, HasWrittenValues}
 use Rattle.sd_tool.specs.Course.{Goes, Course}
 use Rattle.sd_tool.specs.Texts.{WritesAt}
 use Rattle.sd_tool.specs.inside.ByStatus.{IsOneCourse}
-use Rattle.sd_tool.specs.Written.{ReadsAs, IsFormulaOf, IsStartTree, IsWritten, PlainRun, WritesInput}
+use Rattle.sd_tool.specs.Written.{ReadsAs, IsFormulaOf, IsStartTree, IsWritten, PlainRun, WritesInput, WritesJob}
 use Rattle.sd_tool.specs.Written.{with_output, with_announcement, IsFound}
 use Rattle.sd_tool.proofs.AskLemmas.{by_reads_to}
 use Rattle.sd_tool.proofs.ByStatus.{effects_at}
@@ -544,36 +547,84 @@ plan_writes words files job plan last effects old new there from valid steps is 
     ∙ after_searched job.minimise state searched.tree searched.before searched.others (record old { printed = printed })
     searched.search)
 
--- at status 0 the formula of the input was written
-pub written_at : (words : List (List ℕ)) (status : ℕ) (kept : Option Table) (seen : Seen)
-    → IsOneCourse words status kept seen → HasWritten words status seen
-written_at words status kept seen went = λ zero_ plain.
+-- at status 0 the formula of the job was written
+wrote : (words : List (List ℕ)) (status : ℕ) (kept : Option Table) (seen : Seen) (files : Files) (job : Job)
+    → IsOneCourse words status kept seen → status ≡ 0 → seen.old.contents.files ≡ Some files → job_of words ≡ Ok job
+    → job.script ≡ None → WritesJob job files seen
+wrote words status kept seen files job went zero_ told named alone =
     let all = (effects_at words status kept seen went).all zero_ in
-    go plain.0 plain.1 plain.2 plain.3 plain.4 all.0 (subst (λ f. MayEnd words f all.0 Finished) plain.2 all.1) all.2
+    go all.0 (subst (λ f. MayEnd words f all.0 Finished) told all.1) all.2
   where
-    go : (files : Files) (job : Job) → seen.old.contents.files ≡ Some files → job_of words ≡ Ok job
-        → job.script ≡ None → (effects : List Effect) → MayEnd words (Some files) effects Finished
-        → seen.new.contents ≡ after_effects effects seen.old.contents
-        → (run : PlainRun words seen) × WritesInput run
-    go files job told named alone effects (inl p) is = absurd p.0
-    go files job told named alone effects (inr p) is =
+    go : (effects : List Effect) → MayEnd words (Some files) effects Finished
+        → seen.new.contents ≡ after_effects effects seen.old.contents → WritesJob job files seen
+    go effects (inl p) is = absurd p.0
+    go effects (inr p) is =
         let from = from_input words files job p.0 named alone p.1 in (
-          record {
-            given = record {
-              files = files;
-              told = told;
-              job = job;
-              named = named;
-              formula = from.formula;
-              input = from.input.input;
-              tree = from.tree;
-              starts = from.start;
-            };
-            alone = alone;
-          },
+          from.formula,
+          from.input.input,
+          from.tree,
+          from.start,
           plan_writes words files job p.0 p.2.0 effects seen.old.contents seen.new.contents told from
               (valid_start (Some files) words p.0 p.1) (whole_plan p.0 p.2.0 effects p.2.1) is,
         )
+
+-- so that of the input
+pub written_at : (words : List (List ℕ)) (status : ℕ) (kept : Option Table) (seen : Seen)
+    → IsOneCourse words status kept seen → HasWritten words status seen
+written_at words status kept seen went = λ zero_ plain. go plain.0 plain.1 plain.2 plain.3 plain.4
+    (wrote words status kept seen plain.0 plain.1 went zero_ plain.2 plain.3 plain.4)
+  where
+    go : (files : Files) (job : Job) → seen.old.contents.files ≡ Some files → job_of words ≡ Ok job
+        → job.script ≡ None → WritesJob job files seen → (run : PlainRun words seen) × WritesInput run
+    go files job told named alone (formula, input, tree, starts, writes) = (
+      record {
+        given = record {
+          files = files;
+          told = told;
+          job = job;
+          named = named;
+          formula = formula;
+          input = input;
+          tree = tree;
+          starts = starts;
+        };
+        alone = alone;
+      },
+      writes,
+    )
+
+-- ---- by the values of ordinary words
+
+-- at status 0 the words have a job
+has_job : (words : List (List ℕ)) (status : ℕ) (kept : Option Table) (seen : Seen)
+    → IsOneCourse words status kept seen → status ≡ 0 → (job : Job) × (job_of words ≡ Ok job)
+has_job words status kept seen went zero_ =
+    let all = (effects_at words status kept seen went).all zero_ in
+    go seen.old.contents.files (job_of words) refl all.0 all.1
+  where
+    go : (told : Option Files) (answer : Result Job (List ℕ)) → job_of words ≡ answer → (effects : List Effect)
+        → MayEnd words told effects Finished → (job : Job) × (job_of words ≡ Ok job)
+    go told (Ok job) is effects end = (job, is)
+    go told (Err text) is effects (inl p) = absurd p.0
+    go told (Err text) is effects (inr p) =
+        let refused : point_of p.0 ≡ Refuses (1, text) =
+        subst (λ j. ReadsTo told (with_job j) (point_of p.0)) is p.1 in
+        let bad : ⊥ = cc in absurd bad
+
+-- the script of a job is the value of its option
+script_of_values : (parsed : ParsedOptions) → parsed (codes "script") ≡ None → (job_of_parsed parsed).script ≡ None
+unfolding job_of_parsed
+script_of_values parsed none = none
+
+-- at status 0 the formula of the values was written
+pub values_written_at : (words : List (List ℕ)) (status : ℕ) (kept : Option Table) (seen : Seen)
+    → IsOneCourse words status kept seen → HasWrittenValues words status seen
+values_written_at words status kept seen went settings files zero_ spells none told =
+    let parsed = setting_of settings in
+    let found = has_job words status kept seen went zero_ in
+    let named : job_of words ≡ Ok (job_of_parsed parsed) =
+    found.1 ∙ ap (λ (job : Job). Ok job) (ordinary_values_kept settings words found.0 spells found.1) in
+    wrote words status kept seen files (job_of_parsed parsed) went zero_ told named (script_of_values parsed none)
 
 -- ---- equal texts
 

@@ -1,14 +1,17 @@
 -- What follows from the course of a run, without speaking of it: of runs without a script, of a script of four lines,
 -- and of what is asked of the shelf. The functions of src/laws.rt state it; a reader of `run` need believe none of it.
-use Rattle.std.specs.Prelude.{◌≡◌, ◌⊎◌, ℕ, List, [], ◌++◌, map, Option}
+use Rattle.std.specs.Prelude.{◌≡◌, ◌⊎◌, ℕ, List, [], ◌++◌, codes, map, None, Option, Some}
 use Rattle.sd_base.specs.Asked.{Request, ToRead, ToWrite}
 use Rattle.sd_base.specs.declared.shelf.Shelf as shelves
 use Rattle.sd_base.specs.declared.sink.Sink as sinks
+use Rattle.sd_base.specs.Files.{Files}
 use Rattle.sd_manager.specs.Table.{Table}
+use Rattle.sd_words.specs.JobOf.{job_of_parsed}
+use Rattle.sd_words.specs.Ordinary.{Setting, Spells, setting_of}
 use Rattle.sd_tool.specs.Devices.{Seen, IsCalm, seen}
 use Rattle.sd_tool.specs.Joined.{FourLines, WritesJoined}
 use Rattle.sd_tool.specs.Theorem.{IsCourse}
-use Rattle.sd_tool.specs.Written.{PlainRun, IsPlain, WritesInput, PassesAt, TellsGroup}
+use Rattle.sd_tool.specs.Written.{PlainRun, IsPlain, WritesInput, WritesJob, PassesAt, TellsGroup}
 
 -- for all words, whatever the shelf and the sinks: what shows the course of a run has this property
 abbrev pub FollowsCourse : {F O E : Type 0} → shelves.Ghosts F → sinks.Ghosts O → sinks.Ghosts E
@@ -21,6 +24,13 @@ FollowsCourse {F = F} {O = O} {E = E} files prints errs Holds =
 -- written: at 0 a run without a script, over told files, wrote the diagram of its formula, its vtree and its size
 abbrev pub HasWritten : List (List ℕ) → ℕ → Seen → Type 0
 HasWritten words status seen = status ≡ 0 → IsPlain words seen → (run : PlainRun words seen) × WritesInput run
+
+-- written: at 0 a run of ordinary words without a script, over told files, wrote the same, of the job that has the
+-- values of these words
+abbrev pub HasWrittenValues : List (List ℕ) → ℕ → Seen → Type 0
+HasWrittenValues words status seen = (settings : List Setting) (files : Files) → status ≡ 0 → Spells settings words
+    → setting_of settings (codes "script") ≡ None → seen.old.contents.files ≡ Some files
+    → WritesJob (job_of_parsed (setting_of settings)) files seen
 
 -- there was no memory, or no room in the arena
 abbrev pub LacksRoom : ℕ → Type 0

@@ -107,6 +107,12 @@ abbrev pub WritesInput : {words : List (List ℕ)} {seen : Seen} → PlainRun wo
 WritesInput {seen = seen} run = let given = run.given in
     IsWritten given.files given.job given.formula given.tree seen.old.contents seen.new.contents
 
+-- the same of a job over told files: of its formula, over its start tree
+abbrev pub WritesJob : Job → Files → Seen → Type 0
+WritesJob job files seen = (formula : Groups) × IsFormulaOf files job.input formula
+    × (tree : Tree) × IsStartTree files job.tree formula.variables tree
+    × IsWritten files job formula tree seen.old.contents seen.new.contents
+
 -- The groups of the formula before this one are within the limit of the words, each on the tree to which those before
 -- it lead from the start tree; with this one the size passes it.
 abbrev pub PassesAt : {words : List (List ℕ)} {seen : Seen} → PlainRun words seen → ℕ → ℕ → Type 0

@@ -1,7 +1,8 @@
 //! What follows from the clause `course` of [`run`](crate::run), said without a course: functions whose contracts state
 //! a fact of every run, and that do nothing. Each holds of whatever shelf and sinks a run was over.
 
-ghost use Rattle.sd_tool.specs.Laws.{FollowsCourse, HasWritten, HasLimit, IsDoneOrOverLimit};
+ghost use Rattle.sd_tool.specs.Laws.{FollowsCourse, HasWritten, HasWrittenValues, HasLimit};
+ghost use Rattle.sd_tool.specs.Laws.{IsDoneOrOverLimit};
 ghost use Rattle.sd_tool.specs.Laws.{HasJoined, HasAsked};
 
 use sd_base::{Shelf, Sink};
@@ -9,7 +10,12 @@ use sd_base::{Shelf, Sink};
 /// At status 0 a run without a script, over told files, wrote the text of the canonical diagram of its formula and that
 /// of its vtree, changed no other file, and printed the size.
 pub fn written<F: Shelf, O: Sink, E: Sink>()
-    ensures { FollowsCourse F.Shelf O.Sink E.Sink HasWritten }
+    // By the job that the words have.
+    ensures job { FollowsCourse F.Shelf O.Sink E.Sink HasWritten }
+
+    // By the values of ordinary words, which are `--WORD=VALUE`, and `--WORD VALUE` where the value begins with no
+    // hyphen, each option at most once.
+    ensures values { FollowsCourse F.Shelf O.Sink E.Sink HasWrittenValues }
 {}
 
 /// Without a script, over told files, status 4 comes only where the first groups of the input pass the limit, and the
