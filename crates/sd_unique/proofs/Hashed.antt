@@ -1,15 +1,13 @@
 -- The hash of a key, and its bucket.
 use Rattle.std.proofs.Common.{◌≡◌, ℕ, List, bit_and, ◌+◌, ◌/◌, ◌%◌, ◌-◌, ◌^◌, ap, ◌∙◌}
 use Rattle.std.specs.List.{fold}
-use Rattle.sd_unique.specs.Chains.{bucket_of, hash_of, mixed, greatest}
+use Rattle.sd_unique.specs.Chains.{bucket_of, hash_of, mixed}
 
--- the hash of a key from its parts
-pub hash_is : (place : ℕ) (list : List (ℕ × ℕ)) (hash top : ℕ)
-    → hash ≡ fold mixed place list → top ≡ fold greatest 0 list
-    → (hash / 2 ^ 51 + top) % 2 ^ 32 ≡ hash_of (place, list)
+-- the hash of a key from what its place and pairs give
+pub hash_is : (place : ℕ) (list : List (ℕ × ℕ)) (hash : ℕ) → hash ≡ fold mixed place list
+    → hash / 2 ^ 32 ≡ hash_of (place, list)
 unfolding hash_of
-hash_is place list hash top e t = ap (λ h. (h / 2 ^ 51 + top) % 2 ^ 32) e
-    ∙ ap (λ n. (fold mixed place list / 2 ^ 51 + n) % 2 ^ 32) t
+hash_is place list hash e = ap (λ h. h / 2 ^ 32) e
 
 -- the bucket of a key from its hash
 pub bucket_from : (key : ℕ × List (ℕ × ℕ)) (hash count : ℕ) → hash ≡ hash_of key

@@ -1,6 +1,6 @@
 -- The chains of the records: of each bucket and of the free records, and the lists of each place and of the detached.
 use Rattle.std.specs.Prelude.{◌≡◌, ℕ, suc, ◌+◌, ◌*◌, ◌/◌, ◌%◌, ◌-◌, ◌<◌, ◌≤◌, ◌^◌, List, length, map, get_or}
-use Rattle.std.specs.Prelude.{Bool, true, false, Option, Some, None, slice_get, bit_and, max, take}
+use Rattle.std.specs.Prelude.{Bool, true, false, Option, Some, None, slice_get, bit_and, take}
 use Rattle.std.specs.List.{fold}
 use Rattle.std.specs.Option.{option_and_then}
 use Rattle.std.specs.FinMap.{get}
@@ -20,14 +20,9 @@ mixed hash pair =
     ((hash * 11400714819323198485 % 2 ^ 64 + pair.0 * 11562461410679940143 % 2 ^ 64) % 2 ^ 64
     + pair.1 * 15485907386658061715 % 2 ^ 64) % 2 ^ 64
 
--- the greater of a number and those of a pair
-abbrev pub greatest : ℕ → ℕ × ℕ → ℕ
-greatest n pair = max (max n pair.0) pair.1
-
--- the hash of a place and a list: the greatest number in the list, and thirteen bits of what the place and all pairs
--- give
+-- the hash of a place and a list: the higher half of what the place and all pairs give
 unfoldable pub hash_of : ℕ × List (ℕ × ℕ) → ℕ
-hash_of key = (fold mixed key.0 key.1 / 2 ^ 51 + fold greatest 0 key.1) % 2 ^ 32
+hash_of key = fold mixed key.0 key.1 / 2 ^ 32
 
 -- the bucket of a key among so many
 unfoldable pub bucket_of : ℕ × List (ℕ × ℕ) → ℕ → ℕ

@@ -1,9 +1,9 @@
 // The hash of a key, and the bucket of a hash.
 //
-// A node stands near its newest child: the hash is the greatest number in the list, plus 13 mixed bits. What an
-// operation makes one after another, and what it looks for, has its buckets, the records there and their pages near
-// each other, where a hash of mixed bits alone touches the whole table at each step. The 8,192 buckets are there for
-// a child of many nodes, all of which may have it as their greatest number.
+// All bits of a hash are mixed, so that the chain of a bucket is in expectation as long as the table is full, whatever
+// the keys are. Nodes that are made one after another do not stand near each other so; a hash that keeps them near,
+// by the greatest child, lets all nodes over one child share a part of the buckets, and the time for these grow with
+// the square of their number.
 ghost use Rattle.std.specs.Prelude.{◌≡◌, ◌<◌, ℕ, List};
 ghost use Rattle.sd_unique.specs.Chains.{bucket_of, hash_of, mixed};
 
@@ -13,12 +13,10 @@ pub(crate) fn hash(place: u32, list: &[(u32, u32)]) -> u32
     ensures { result ≡ hash_of (place, list.now) }
 {
     let mut hash = u64::from(place);
-    let mut greatest = 0;
     for pair in list {
         hash = mix(hash, pair.0, pair.1);
-        greatest = greatest.max(pair.0).max(pair.1);
     }
-    ((hash >> 51) as u32).wrapping_add(greatest)
+    (hash >> 32) as u32
 }
 
 // The bucket of a key of this hash among so many.
