@@ -2,12 +2,12 @@
 """Checks that the documents say what the code says, and prints what differs.
 
 README's table of options against the options of `sd_words`, the fault texts of docs/FORMATS.md against the tables
-of the readers and the table of answers of `sd_tool`, the crates and what they stand on in docs/MAP.md against
-crates.txt, each clause, edit, plant and test that docs/ANSWERS.md names and each path that a document names against the
-files, the number of definitions in README and docs/PROVED.md against the count, and the commands of README and
-docs/TOUR.md against examples/expected.txt, which has what each prints and writes. With --run PROGRAM it runs these
-too, as `python3 tools/check_documents.py --run ./sddc` does. No sentence of README has over 40 words. Its status is
-1 where something differs.
+of the readers and the table of answers of `sd_tool`, the crates of docs/MAP.md against crates.txt, each clause, edit,
+case and test that the answers of docs/PROVED.md name and each path that a document names against the files, the number
+of definitions in README against the count, and the commands of README and docs/TOUR.md against examples/expected.txt,
+which has what each prints and writes. With --run PROGRAM it runs these too. No sentence of README has over 40 words; in
+no document has a paragraph over 120, a cell or a sentence over 45, and none names a commit. Its status is 1 where
+something differs.
 """
 import glob
 import os
@@ -17,7 +17,7 @@ import sys
 import tempfile
 
 TOP = os.path.join(os.path.dirname(os.path.abspath(__file__)), "..")
-DOCUMENTS = ["README.md", "CHANGES.md"] + sorted(os.path.relpath(p, TOP) for p in glob.glob(TOP + "/docs/*.md"))
+DOCUMENTS = ["README.md", "CHANGES.md", "CONTRIBUTING.md"] + sorted(os.path.relpath(p, TOP) for p in glob.glob(TOP + "/docs/*.md"))
 faults = []
 
 
@@ -108,15 +108,10 @@ def check_faults():
 
 
 def check_crates():
-    stands = {}
-    for line in text_of("crates.txt").splitlines():
-        if not line.startswith("#"):
-            name, below = line.split(":")
-            stands[name] = sorted(below.split())
-    table = {row[0].strip("`"): row for row in rows_of(text_of("docs/MAP.md")) if len(row) == 5}
-    for name, below in stands.items():
-        said = sorted(re.findall(r"`(\w+)`", table[name][4])) if name in table else None
-        expect(said == below, "docs/MAP.md: %s stands on %s" % (name, ", ".join(below)))
+    listed = set(re.findall(r"^(\w+):", text_of("crates.txt"), re.M))
+    told = {row[0].strip("`") for row in rows_of(text_of("docs/MAP.md")) if len(row) == 4} - {"crate", "---"}
+    for name in sorted(listed ^ told):
+        faults.append("docs/MAP.md: %s a row for %s" % ("lacks" if name in listed else "needs no", name))
 
 
 def sources():
@@ -137,17 +132,21 @@ def check_answers():
                 laws.setdefault(name, set()).add(crate)
     for path in glob.glob(TOP + "/crates/*/must-fail/*.edit") + glob.glob(TOP + "/tools/plants/*/*.edit"):
         edits.setdefault(os.path.basename(path)[:-5], set()).update(path.split("/")[-3:-1])
+    cases = set()
+    for path in glob.glob(TOP + "/crates/sd_cases/data/*.cases"):
+        cases.update(re.findall(r"^(?:case|differs) (\w+)$", text_of(os.path.relpath(path, TOP)), re.M))
     calls = []
-    for row in rows_of(text_of("docs/ANSWERS.md"))[2:]:
+    answers = text_of("docs/PROVED.md").partition("## Answers and their causes")[2]
+    for row in rows_of(answers)[2:]:
         calls = [name for name in re.findall(r"`(\w+)`", row[0]) if name in homes] or calls
         known = set().union(*(clauses[name] for name in calls))
         crates = set().union(*(homes[name] for name in calls))
         for name in re.findall(r"`(\w+)`", row[3]):
             expect(name in known or laws.get(name, set()) & crates,
-                   "docs/ANSWERS.md: %s: no clause or law is named %s" % (row[0], name))
+                   "docs/PROVED.md: %s: no clause or law is named %s" % (row[0], name))
         for name in re.findall(r"`(\w+)`", row[4]):
-            expect(name in homes or edits.get(name, set()) & crates,
-                   "docs/ANSWERS.md: %s: no edit or test is named %s" % (row[0], name))
+            expect(name in homes or name in cases or edits.get(name, set()) & crates,
+                   "docs/PROVED.md: %s: no edit, case or test is named %s" % (row[0], name))
 
 
 def check_paths():
@@ -174,8 +173,7 @@ def check_count():
                              stdout=subprocess.PIPE, text=True, check=True).stdout
     definitions, lines = re.findall(r"\d+", counted)
     said = "{} definitions of {:,} lines".format(definitions, int(lines))
-    for path in ("README.md", "docs/PROVED.md"):
-        expect(said in text_of(path), "%s: a reader believes %s" % (path, said))
+    expect(said in text_of("README.md"), "README.md: a reader believes %s" % said)
 
 
 def stored_runs():
@@ -215,8 +213,29 @@ def check_sentences():
     """A sentence ends at a mark before a capital, at the end of a cell, of a line of a list, or of a paragraph."""
     text = re.sub(r"^```.*?^```", "", text_of("README.md"), flags=re.M | re.S)
     for line in re.split(r"[|\n]", text):
-        for sentence in re.split(r"(?<=[.!?:;])\s+(?=[A-Z`*(\[])", line):
+        for sentence in sentences_of(line):
             expect(len(sentence.split()) <= 40, "README.md: a sentence has over 40 words: %s" % sentence[:60])
+
+
+def sentences_of(text):
+    return re.split(r"(?<=[.!?:;])\s+(?=[A-Z`*(\[])", text)
+
+
+def check_lengths():
+    for document in DOCUMENTS:
+        text = re.sub(r"^```.*?^```", "", text_of(document), flags=re.M | re.S)
+        for number, line in enumerate(text_of(document).splitlines(), 1):
+            for word in re.findall(r"\b[0-9a-f]{7,40}\b", line):
+                named = re.search(r"\d", word) and re.search(r"[a-f]", word) and word != "dac8208d650f15bf"
+                expect(not named, "%s:%d: names a commit: %s" % (document, number, word))
+        for paragraph in re.split(r"\n\s*\n|\n(?=[-|#>]|\d+\. )", text):
+            if paragraph.lstrip().startswith("|"):
+                for cell in paragraph.strip().strip("|").split("|"):
+                    expect(len(cell.split()) <= 45, "%s: a cell of over 45 words: %s" % (document, cell.strip()[:60]))
+                continue
+            expect(len(paragraph.split()) <= 120, "%s: a paragraph of over 120 words: %s" % (document, paragraph[:60]))
+            for sentence in sentences_of(paragraph):
+                expect(len(sentence.split()) <= 45, "%s: a sentence of over 45 words: %s" % (document, sentence[:60]))
 
 
 def check_commands(program):
@@ -261,6 +280,7 @@ def main():
     check_crate_paths()
     check_count()
     check_sentences()
+    check_lengths()
     check_commands(sys.argv[2] if sys.argv[1:2] == ["--run"] else None)
     for fault in faults:
         print(fault)
