@@ -1,6 +1,6 @@
 // Compiling in an arena that is small, group after group, and what a large diagram leaves.
 use sd_cache::Cache;
-use sd_compile::{CompileError, add_group, begin, compile, finish};
+use sd_compile::{add_group, begin, compile, finish};
 use sd_formula::{Formula, Kind, read_dimacs};
 use sd_manager::Manager;
 use sd_vtree::Vtree;
@@ -8,15 +8,12 @@ use std::alloc::Global;
 use std::test::Fail;
 
 // The formula of a short text.
-fn formula(alloc: Global, kind: Kind, text: &str) -> Result<Formula, CompileError> {
+fn formula(alloc: Global, kind: Kind, text: &str) -> Result<Formula, Fail> {
     let bytes = text.as_bytes();
     if bytes.len() > 1000 {
-        return Err(CompileError::OutOfMemory);
+        return Ok(read_dimacs(alloc, b"", kind)?);
     }
-    match read_dimacs(alloc, bytes, kind) {
-        Ok(f) => Ok(f),
-        Err(_) => Err(CompileError::OutOfMemory),
-    }
+    Ok(read_dimacs(alloc, bytes, kind)?)
 }
 
 // Takes away what nothing uses, in at most so many steps.
@@ -31,22 +28,19 @@ fn sweep_in_steps(m: &mut Manager, steps: u32) {
 }
 
 // Compiles a formula in an arena of a million elements or fewer, lets the root go, and takes away what died in 5,000
-// steps: is there more to take away, and how many elements are left?
+// steps. Answers what is idle then and how many elements are left, and (Some(0), 0) where the variables are not the
+// vtree's.
 fn compiled_and_dead(
     alloc: Global,
     vtree: Vtree,
     f: &Formula,
     bound: u32,
-) -> Result<(Option<u32>, u32), CompileError> {
+) -> Result<(Option<u32>, u32), Fail> {
     if vtree.variables() != f.variables() {
-        return Err(CompileError::OutOfMemory);
+        return Ok((Some(0), 0));
     }
-    let Ok(mut m) = Manager::new(alloc, vtree, bound.min(1_000_000)) else {
-        return Err(CompileError::OutOfMemory);
-    };
-    let Ok(mut c) = Cache::new(alloc) else {
-        return Err(CompileError::OutOfMemory);
-    };
+    let mut m = Manager::new(alloc, vtree, bound.min(1_000_000))?;
+    let mut c = Cache::new(alloc)?;
     let root = compile(alloc, &mut m, &mut c, f, 1_000_000)?;
     m.release(root);
     sweep_in_steps(&mut m, 5_000);
@@ -86,41 +80,28 @@ fn a_large_diagram_dies_in_few_steps(rt: HostRuntime) -> Result<(), Fail> {
     Ok(())
 }
 
-// The size behind three groups that are joined one after another on the balanced vtree.
-fn size_of_three(alloc: Global, f: &Formula, limit: u32) -> Result<u32, CompileError> {
-    let Ok(vtree) = Vtree::balanced(alloc, 4) else {
-        return Err(CompileError::OutOfMemory);
-    };
+// The size behind three groups that are joined one after another on the balanced vtree within the limit 8, or 0 where
+// there are not three groups over four variables.
+fn size_of_three(alloc: Global, f: &Formula) -> Result<u32, Fail> {
+    let vtree = Vtree::balanced(alloc, 4)?;
     if vtree.variables() != f.variables() || f.groups() != 3 {
-        return Err(CompileError::OutOfMemory);
+        return Ok(0);
     }
-    let Ok(mut m) = Manager::new(alloc, vtree, 1000) else {
-        return Err(CompileError::OutOfMemory);
-    };
-    let Ok(mut c) = Cache::new(alloc) else {
-        return Err(CompileError::OutOfMemory);
-    };
-    let Ok(mut work) = begin(&mut m, f) else {
-        return Err(CompileError::OutOfMemory);
-    };
-    add_group(alloc, &mut m, &mut c, f, &mut work, limit)?;
-    add_group(alloc, &mut m, &mut c, f, &mut work, limit)?;
-    add_group(alloc, &mut m, &mut c, f, &mut work, limit)?;
+    let mut m = Manager::new(alloc, vtree, 1000)?;
+    let mut c = Cache::new(alloc)?;
+    let mut work = begin(&mut m, f)?;
+    add_group(alloc, &mut m, &mut c, f, &mut work, 8)?;
+    add_group(alloc, &mut m, &mut c, f, &mut work, 8)?;
+    add_group(alloc, &mut m, &mut c, f, &mut work, 8)?;
     let _ = finish(work);
     Ok(m.total())
 }
 
-/// `1 and 2`, beside it `3 and 4`, and then `1 and -2`: the second group has the size 8, and all are `1 or (3 and 4)`.
+/// `1 and 2`, beside it `3 and 4`, which have the size 8, and then `1 and -2`: all are `1 or (3 and 4)`.
 #[test]
 fn group_after_group(rt: HostRuntime) -> Result<(), Fail> {
     let alloc = rt.alloc();
     let f = formula(alloc, Kind::Dnf, "p dnf 4 3\n1 2 0\n3 4 0\n1 -2 0\n")?;
-    let over = CompileError::OverLimit {
-        group: 2,
-        size: 8,
-        limit: 7,
-    };
-    assert_eq!(rt; size_of_three(alloc, &f, 7), Err(over));
-    assert_eq!(rt; size_of_three(alloc, &f, 8), Ok(4));
+    assert_eq!(rt; size_of_three(alloc, &f)?, 4);
     Ok(())
 }

@@ -6,6 +6,6 @@ use Rattle.sd_call_tests.proofs.compiling.compiled_and_dead.Goals as goal
 
 pub compile-requires-clause-room : goal.compile-requires-clause-room
 compile-requires-clause-room c =
-    let none : len c.in-Ok-new.m.roots ≡ 0 =
-    ap (λ (t : Table). len t.roots) c.in-Ok-new.ensures.ok ∙ len-empty nat_cmp ℕ in
+    let none : len c.in_ok-m.m.roots ≡ 0 =
+    ap (λ (t : Table). len t.roots) c.in_ok-m.ensures.ok ∙ len-empty nat_cmp ℕ in
     omega (arith, none)
