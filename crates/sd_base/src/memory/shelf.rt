@@ -270,6 +270,7 @@ impl Shelf for MemoryShelf {
             unreachable!()
         };
         let count = piece.len().min(self.piece);
+        // The file in hand is there, since `start_write` made it: memory was refused.
         if extend_file(&mut self.files, name.as_str(), &piece[..count]).is_err() {
             self.hand = InHand::Nothing;
             return Err(count_refusal(&mut self.refusals, &mut self.write_faults));
