@@ -13,3 +13,4 @@ pub mod AfterStep
 pub mod Rounds
 pub mod Walks
 pub mod SearchOn
+pub mod NeverFalling

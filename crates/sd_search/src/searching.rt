@@ -6,6 +6,7 @@ ghost use Rattle.sd_vtree.specs.Numbered.{numbers, plain_tree};
 ghost use Rattle.sd_manager.specs.Marking.{AreUnmarked};
 ghost use Rattle.sd_manager.specs.Valid.{IsTable};
 ghost use Rattle.sd_apply.specs.Serving.{Serves};
+ghost use Rattle.sd_sweep.specs.Falling.{NeverFalls};
 ghost use Rattle.sd_compile.specs.Total.{AreHeldFormulas};
 ghost use Rattle.sd_search.specs.Search.{IsRound, IsRoundBegun, IsSearch, IsSearchBegun};
 ghost use Rattle.sd_search.specs.Kept.{KeepsRoots, IsSizeOfHeld, IsSearchRefusal};
@@ -49,6 +50,7 @@ pub fn minimise(
     ensures begun { (fs : List Expression) → AreHeldFormulas m.old fs →
         OnErr result (IsSearchBegun fs slack rounds (plain_tree m.old.vtree) (plain_tree m.new.vtree)) }
     ensures kept { KeepsRoots m.old m.new }
+    ensures never_falls { NeverFalls m.old m.new }
     ensures refused { IfErr result (λ e. IsSearchRefusal m.new e) }
     ensures unmarked { AreUnmarked m.new }
     ensures serves { Serves c.new m.new }
@@ -103,6 +105,7 @@ fn round(
     ensures along { (path : List TheSide) → IsAtPath m.old.vtree path place
         → KeepsAlong m.old.vtree m.new.vtree path }
     ensures kept { KeepsRoots m.old m.new }
+    ensures never_falls { NeverFalls m.old m.new }
     ensures refused { IfErr result (λ e. IsSearchRefusal m.new e) }
     ensures unmarked { AreUnmarked m.new }
     ensures serves { Serves c.new m.new }

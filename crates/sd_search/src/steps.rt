@@ -8,6 +8,7 @@ ghost use Rattle.sd_manager.specs.Marking.{AreUnmarked};
 ghost use Rattle.sd_manager.specs.Valid.{IsTable};
 ghost use Rattle.sd_apply.specs.Serving.{Serves};
 ghost use Rattle.sd_sweep.specs.Reached.{KeepsReached};
+ghost use Rattle.sd_sweep.specs.Falling.{NeverFalls};
 ghost use Rattle.sd_compile.specs.Total.{AreHeldFormulas};
 ghost use Rattle.sd_search.specs.Walking.{move_of, child_on, AreStepsAt, HasStepped, IsStepRefusal};
 
@@ -45,11 +46,14 @@ pub(crate) fn make(
     ensures within { IfOk result (λ r. r.size ≤ most) }
     ensures refused { IfErr result (λ e. IsStepRefusal m.old m.new (move_of step) place most e) }
     ensures back { OnErr result (KeepsReached m.old m.new × (m.new.moving ≡ None)) }
+    ensures never_falls { NeverFalls m.old m.new }
     ensures bound { m.new.bound ≡ m.old.bound }
     ensures unmarked { AreUnmarked m.new }
     ensures serves { Serves c.new m.new }
     ensures table { IsTable m.new }
 {
+    // That the epoch is a `u64` tells that it is the last one where it no longer rises.
+    let _ = m.epoch();
     let _ = m.vtree();
     match step {
         Step::Swap => swap(alloc, m, c, place, most),

@@ -7,6 +7,7 @@ ghost use Rattle.sd_manager.specs.Marking.{AreUnmarked};
 ghost use Rattle.sd_manager.specs.Valid.{IsTable};
 ghost use Rattle.sd_apply.specs.Serving.{Serves};
 ghost use Rattle.sd_sweep.specs.Reached.{KeepsReached};
+ghost use Rattle.sd_sweep.specs.Falling.{NeverFalls};
 ghost use Rattle.sd_compile.specs.Total.{AreHeldFormulas};
 ghost use Rattle.sd_search.specs.Search.{IsWalk};
 ghost use Rattle.sd_search.specs.Kept.{KeepsRoots, IsSizeOfHeld, IsSearchRefusal};
@@ -49,6 +50,7 @@ fn ahead(
     ensures none { IfOk result (λ found. GoesBackAtNone found m.old m.new) }
     ensures back { OnErr result (KeepsReached m.old m.new) }
     ensures kept { KeepsRoots m.old m.new }
+    ensures never_falls { NeverFalls m.old m.new }
     ensures refused { IfErr result (λ e. IsSearchRefusal m.new e) }
     ensures unmarked { AreUnmarked m.new }
     ensures serves { Serves c.new m.new }
@@ -148,6 +150,7 @@ pub(crate) fn walk(
         → KeepsAlong m.old.vtree m.new.vtree path }
     ensures back { OnErr result (KeepsReached m.old m.new) }
     ensures kept { KeepsRoots m.old m.new }
+    ensures never_falls { NeverFalls m.old m.new }
     ensures refused { IfErr result (λ e. IsSearchRefusal m.new e) }
     ensures unmarked { AreUnmarked m.new }
     ensures serves { Serves c.new m.new }

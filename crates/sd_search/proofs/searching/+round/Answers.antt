@@ -1,4 +1,4 @@
-use Rattle.std.proofs.Common.{◌∙◌, ◌++◌, ◌<◌, [], ◌∷◌, length, sym, ap, subst, arith}
+use Rattle.std.proofs.Common.{◌∙◌, ◌++◌, ◌<◌, [], ◌∷◌, length, refl, sym, ap, subst, arith}
 use Rattle.std.proofs.lemmas.Result.{IfOk-weaker, on_err_weaker}
 use Rattle.sd_model.specs.declared.trees.Side.TheVariants.{Left, Right}
 use Rattle.sd_vtree.specs.Numbered.{children_at, numbers, plain_tree}
@@ -8,6 +8,7 @@ use Rattle.sd_search.proofs.KeptRoots.{kept_itself, kept_both}
 use Rattle.sd_search.proofs.Rounds.{has_path, left_less, right_less, round_leaf, begun_none, are_then, begun_left}
 use Rattle.sd_search.proofs.Rounds.{are_last}
 use Rattle.sd_search.proofs.Rounds.{round_whole, begun_right, kids, kids_within, some_kids, kid_paths}
+use Rattle.sd_sweep.proofs.NeverFalling.{never_same, never_both}
 use Rattle.sd_search.proofs.searching.+round.Goals as goal
 
 pub returns-in_default-clause-round : goal.returns-in_default-clause-round
@@ -306,3 +307,18 @@ children-requires-3 t c =
     (kids c.vtree-2.result.now c.walk.new.m.vtree c.children-2.result c.unwrap-first.result c.args.place
     c.unwrap-first.ensures
     c.children-2.ensures.children c.vtree-2.ensures.vtree)).0))) c.requires.place)
+
+-- ---- what never falls
+
+pub returns-in_default-clause-never_falls : goal.returns-in_default-clause-never_falls
+returns-in_default-clause-never_falls t c = never_same c.args.m.now c.args.m.now refl
+
+pub returns-in-Err-round-clause-never_falls : goal.returns-in-Err-round-clause-never_falls
+returns-in-Err-round-clause-never_falls t c =
+    never_both c.args.m.now c.walk.new.m c.round.new.m c.walk.ensures.never_falls c.round.ensures.never_falls
+
+pub returns-clause-never_falls : goal.returns-clause-never_falls
+returns-clause-never_falls t c =
+    never_both c.args.m.now c.walk.new.m c.round-2.new.m c.walk.ensures.never_falls
+    (never_both c.walk.new.m c.round.new.m c.round-2.new.m c.round.ensures.never_falls
+    c.round-2.ensures.never_falls)

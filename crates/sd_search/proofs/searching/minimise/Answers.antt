@@ -1,6 +1,7 @@
 use Rattle.std.proofs.Common.{◌∙◌, ◌<◌, length, sym, ap, subst, arith}
 use Rattle.sd_vtree.specs.Numbered.{number_of, numbers}
 use Rattle.sd_apply.specs.Serving.{Serves}
+use Rattle.sd_sweep.proofs.NeverFalling.{never_same, never_both}
 use Rattle.sd_search.proofs.SearchOn.{IsSearching, searching_first, kept_on, searching_more, searching_last}
 use Rattle.sd_search.proofs.SearchOn.{searching_broken, searching_end}
 use Rattle.sd_search.proofs.searching.minimise.Goals as goal
@@ -18,6 +19,7 @@ loop-done-init c =
           (subst (λ v. root < length (numbers v)) c.vtree.ensures.vtree c.root-root.ensures.node)
           c.size-before.ensures.size c.requires.unmarked);
       serves = subst (Serves c.args.c.now) same c.requires.serves;
+      never = never_same t c.size-before.new.m c.size-before.ensures.same;
     }
 
 pub returns-in-Err-clause-begun : goal.returns-in-Err-clause-begun
@@ -52,6 +54,7 @@ loop-done-preserved c = record {
       c.round.ensures.kept c.in-Ok.next c.in-Ok.ensures.size c.in-Ok.ensures.round
       (omega (arith, c.if-next-after.false)) c.round.ensures.along c.round.ensures.unmarked;
   serves = c.round.ensures.serves;
+  never = never_both c.args.m.now c.loop-done.m c.round.new.m c.loop-done.invariant.never c.round.ensures.never_falls;
 }
 
 pub returns-clause-search : goal.returns-clause-search
@@ -59,3 +62,13 @@ returns-clause-search c =
     searching_end c.args.m.now c.loop-done.m c.args.rounds c.args.slack c.root-root.result c.size-before.result
     c.loop-done.done c.loop-done.after c.loop-done.invariant.searching
     (omega (arith, c.loop-done-test.false, c.loop-done.auto.done-end))
+
+-- ---- what never falls
+
+pub returns-in-Err-clause-never_falls : goal.returns-in-Err-clause-never_falls
+returns-in-Err-clause-never_falls c =
+    never_both c.args.m.now c.loop-done.m c.round.new.m c.loop-done.invariant.never c.round.ensures.never_falls
+
+pub returns-then-next-after-clause-never_falls : goal.returns-then-next-after-clause-never_falls
+returns-then-next-after-clause-never_falls c =
+    never_both c.args.m.now c.loop-done.m c.round.new.m c.loop-done.invariant.never c.round.ensures.never_falls

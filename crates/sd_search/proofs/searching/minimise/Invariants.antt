@@ -1,4 +1,5 @@
 use Rattle.sd_apply.specs.Serving.{Serves}
+use Rattle.sd_sweep.specs.Falling.{NeverFalls}
 use Rattle.sd_search.proofs.SearchOn.{IsSearching}
 use Rattle.sd_search.proofs.searching.minimise.Given as goal
 
@@ -7,4 +8,5 @@ abbrev pub invariant-loop-done : goal.invariant-loop-done
 invariant-loop-done l = record {
   searching : IsSearching l.fn.m l.m l.rounds l.slack l.root l.before l.done l.after;
   serves : Serves l.c l.m;
+  never : NeverFalls l.fn.m l.m;
 }

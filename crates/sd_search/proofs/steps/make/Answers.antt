@@ -1,4 +1,4 @@
-use Rattle.std.proofs.Common.{sym, subst}
+use Rattle.std.proofs.Common.{refl, sym, subst, arith}
 use Rattle.sd_model.specs.declared.trees.Move.TheVariants.{RotateLeft, Swap as SwapMove}
 use Rattle.sd_search.specs.Walking.{move_of}
 use Rattle.sd_search.specs.declared.steps.Step.TheVariants.{Swap, Rotate, SwapChild}
@@ -6,6 +6,8 @@ use Rattle.sd_model.specs.Moves.{moved}
 use Rattle.std.proofs.Common.{◌≡◌, None, ◌++◌}
 use Rattle.sd_vtree.specs.Numbered.{plain_tree}
 use Rattle.sd_search.proofs.OneStep.{stands_here, stands_child, made_stepped, made_sized, made_refused, no_child}
+use Rattle.sd_sweep.proofs.NeverFalling.{never_same}
+use Rattle.sd_search.proofs.NeverFalling.{made_never}
 use Rattle.sd_search.proofs.steps.make.Goals as goal
 
 pub returns-in-Swap-clause-stepped : goal.returns-in-Swap-clause-stepped
@@ -81,3 +83,23 @@ returns-in-None-clause-refused c path at =
     (sym c.in-SwapChild.is)
     (no_child c.args.m.now.vtree c.in-SwapChild.side c.args.place c.vtree.ensures.table.numbered
     c.in-None.ensures.child path at)
+
+pub returns-in-Swap-clause-never_falls : goal.returns-in-Swap-clause-never_falls
+returns-in-Swap-clause-never_falls c =
+    made_never (λ r. r.journal) c.args.m.now c.swap.new.m SwapMove c.args.place c.swap.result
+    (omega (arith, c.epoch.type_inv, c.epoch.ensures.epoch)) c.swap.ensures.moved c.swap.ensures.never_falls
+
+pub returns-in-Rotate-clause-never_falls : goal.returns-in-Rotate-clause-never_falls
+returns-in-Rotate-clause-never_falls c =
+    made_never (λ r. r.journal) c.args.m.now c.rotate_left.new.m RotateLeft c.args.place c.rotate_left.result
+    (omega (arith, c.epoch.type_inv, c.epoch.ensures.epoch)) c.rotate_left.ensures.moved
+    c.rotate_left.ensures.never_falls
+
+pub returns-in-Some-clause-never_falls : goal.returns-in-Some-clause-never_falls
+returns-in-Some-clause-never_falls c =
+    made_never (λ r. r.journal) c.args.m.now c.swap-in-Some.new.m SwapMove c.in-Some.child c.swap-in-Some.result
+    (omega (arith, c.epoch.type_inv, c.epoch.ensures.epoch)) c.swap-in-Some.ensures.moved
+    c.swap-in-Some.ensures.never_falls
+
+pub returns-in-None-clause-never_falls : goal.returns-in-None-clause-never_falls
+returns-in-None-clause-never_falls c = never_same c.args.m.now c.args.m.now refl

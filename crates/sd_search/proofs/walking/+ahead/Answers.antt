@@ -10,6 +10,8 @@ use Rattle.sd_search.proofs.StepsAhead.{stop_rule, can_go_on, lesser_of}
 use Rattle.sd_search.proofs.Journals.{along_reached, can_settle, settled_kept, undone_reached, undone_kept, undoable}
 use Rattle.sd_search.proofs.Journals.{serves_runs, serves_undone}
 use Rattle.sd_search.proofs.AfterStep.{along_settled, unmarked_settled, rule_back, found_some, found_none, back_then}
+use Rattle.sd_sweep.proofs.NeverFalling.{never_same, never_both}
+use Rattle.sd_move.proofs.NeverFalling.{never_back_from, never_settled}
 use Rattle.sd_search.proofs.walking.+ahead.Goals as goal
 
 pub returns-in_default-clause-ahead : goal.returns-in_default-clause-ahead
@@ -255,3 +257,28 @@ returns-in-Err-found-clause-serves t c =
 pub returns-in-Err-found-clause-unmarked : goal.returns-in-Err-found-clause-unmarked
 returns-in-Err-found-clause-unmarked t c =
     c.undo-in-Err-found.ensures.unmarked c.ahead-found.ensures.unmarked
+
+-- ---- what never falls
+
+pub returns-in_default-clause-never_falls : goal.returns-in_default-clause-never_falls
+returns-in_default-clause-never_falls t c = never_same c.args.m.now c.args.m.now refl
+
+pub returns-in-Some-best-clause-never_falls : goal.returns-in-Some-best-clause-never_falls
+returns-in-Some-best-clause-never_falls t c =
+    never_both c.args.m.now c.make.new.m c.settle.new.m c.make.ensures.never_falls
+    (never_both c.make.new.m c.ahead-found.new.m c.settle.new.m c.ahead-found.ensures.never_falls
+    (never_settled c.ahead-found.new.m c.settle.new.m c.in-Ok.moved.journal c.settle.ensures.settled))
+
+pub returns-in-None-best-clause-never_falls : goal.returns-in-None-best-clause-never_falls
+returns-in-None-best-clause-never_falls t c =
+    never_both c.args.m.now c.make.new.m c.undo.new.m c.make.ensures.never_falls
+    (never_both c.make.new.m c.ahead-found.new.m c.undo.new.m c.ahead-found.ensures.never_falls
+    (never_back_from c.in-Ok.moved.journal c.ahead-found.new.m c.undo.new.m
+    (omega (arith, c.epoch.type_inv, c.epoch.ensures.epoch)) c.undo.ensures.undone))
+
+pub returns-in-Err-found-clause-never_falls : goal.returns-in-Err-found-clause-never_falls
+returns-in-Err-found-clause-never_falls t c =
+    never_both c.args.m.now c.make.new.m c.undo-in-Err-found.new.m c.make.ensures.never_falls
+    (never_both c.make.new.m c.ahead-found.new.m c.undo-in-Err-found.new.m c.ahead-found.ensures.never_falls
+    (never_back_from c.in-Ok.moved.journal c.ahead-found.new.m c.undo-in-Err-found.new.m
+    (omega (arith, c.epoch.type_inv, c.epoch.ensures.epoch)) c.undo-in-Err-found.ensures.undone))
