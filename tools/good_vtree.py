@@ -15,7 +15,7 @@ import sys
 
 MAX_BYTES, MAX_VARIABLES, MAX_GROUPS = 67108864, 1024, 1000000
 # Once so many pairs of variables were tested, the elimination goes on by degree alone.
-MAX_STEPS = 2000000
+MAX_STEPS = 1000000
 
 count = getattr(int, "bit_count", lambda bits: bin(bits).count("1"))
 

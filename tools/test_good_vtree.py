@@ -144,6 +144,11 @@ class GoodVtree(unittest.TestCase):
             written = good_vtree.read_formula(text_of(kind, variables, good_vtree.in_order(tree, groups)))
             self.assertEqual((written[0], written[1], sorted(written[2])), (kind, variables, sorted(groups)))
 
+    def test_example(self):
+        examples = pathlib.Path(EXAMPLES)
+        self.make((examples / "grid.cnf").read_bytes())
+        self.assertEqual(pathlib.Path(self.path("vtree")).read_text(), (examples / "grid.vtree").read_text())
+
     def test_time(self):
         """1,024 variables and 100,000 groups in ten seconds of the processor."""
         choose = random.Random("many")
