@@ -133,7 +133,7 @@ def update_fill(near, variable, fill):
     return steps
 
 def vtree_of_order(order):
-    """Each variable to the left of the tree of what it cuts: the parts that are left without it and those behind it."""
+    """Each variable to the left of what it cuts: the parts that are left without it and those behind it."""
     place = {variable: index for index, (variable, _) in enumerate(order)}
     below = {variable: [] for variable in place}
     whole = []
