@@ -118,6 +118,17 @@ class GoodVtree(unittest.TestCase):
                              cwd=self.folder)
         self.assertEqual((run.returncode, run.stderr.count("\n")), (1, 1), run.stderr)
 
+    def test_same_faults(self):
+        """The program says the same of each fault."""
+        if not os.path.exists(PROGRAM):
+            self.skipTest("there is no %s" % PROGRAM)
+        for data, said in FAULTS:
+            with open(self.path("in"), "wb") as file:
+                file.write(data)
+            kind = "--dnf" if b"p dnf" in data else "--cnf"
+            run = subprocess.run([PROGRAM, kind, self.path("in")], stderr=subprocess.PIPE, text=True)
+            self.assertEqual(run.stderr, "sddc: %s: %s\n" % (self.path("in"), said))
+
     def test_reading(self):
         for data, groups in READ:
             if groups is None:
