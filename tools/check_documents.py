@@ -73,6 +73,9 @@ def texts_defined(definition):
     for line in re.findall(r"^%s .*? = (.*)$" % definition, specs, re.M):
         if line == "[]":
             continue
+        named = re.fullmatch(r"(\w+) n", line)
+        if named:
+            line = re.search(r"^%s n\w* = (.*)$" % named.group(1), specs, re.M).group(1)
         parts = re.findall(r'codes "([^"]*)"|(number_text|signed_text|word_of|\+\+ name)', line)
         text = "".join(string if string else "#" for string, _ in parts)
         if line.startswith("at_line"):
