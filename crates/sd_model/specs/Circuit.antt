@@ -26,13 +26,14 @@ wire_holds values literal =
 
 -- each input has the value that its number, counted from 1, has in the assignment
 abbrev pub inputs_agree : List Bool → List Bool → List ℕ → Bool
-inputs_agree values assignment inputs =
-    list_all (λ (number, input). beq (wire_holds values input) (value_in assignment number)) (enumerate_from 1 inputs)
+inputs_agree values assignment inputs = list_all
+    (λ (number, input). beq (wire_holds values input) (value_in assignment number))
+    (enumerate_from 1 inputs)
 
 -- what an and-line defines has the value of the conjunction
 abbrev pub is_conjunction : List Bool → AndLine → Bool
-is_conjunction values line =
-    beq (wire_holds values line.defined) (wire_holds values line.first && wire_holds values line.second)
+is_conjunction values line = beq (wire_holds values line.defined)
+    (wire_holds values line.first && wire_holds values line.second)
 
 -- the values of the circuit's variables are a valuation of its text under an assignment of the inputs
 abbrev pub is_valuation : Circuit → List Bool → List Bool → Bool
