@@ -244,7 +244,10 @@ module _ (input : Groups) (code : RunState) (seen : State) (kind : Move) (p plac
             (plain_reordered kind code.manager.vtree h.2.tree p place law h.2.turned);
         passes = subst (λ l. l < size) (sym was.limit) h.1;
       })))
-  turn_stops new (refusals.ArenaFull elements) numbered bound h = (tt, record { whole = bound; rule = h.1 })
+  turn_stops new (refusals.ArenaFull elements) numbered bound h = (
+    subst IsSome (sym (state_tree (Some h.0.0) h.0.1)) refl,
+    record { whole = bound; rule = h.1 },
+  )
   turn_stops new refusals.OutOfMemory numbered bound h = tt
 
 -- all is as before a move that was refused

@@ -63,7 +63,7 @@ settled_stops input seen next command t (Err errors.OutOfMemory) step h = tt
 
 -- an operation before it stops
 pub operation_stops : (input : Groups) (seen : State) (command : RunCommand) (t : Table) (e : TakeError)
-    → MayFill command → t.bound ≡ 2147483647 → KeepsRule t e
+    → MayFill seen command → t.bound ≡ 2147483647 → KeepsRule t e
     → StopsAt input seen command t (error_of_operation e)
 operation_stops input seen command t (taking.ArenaFull elements) fill bound rule =
     (fill, record { whole = bound; rule = rule })

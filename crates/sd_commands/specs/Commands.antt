@@ -10,7 +10,7 @@ use Rattle.sd_model.specs.Diagram.{Diagram}
 use Rattle.sd_model.specs.Size.{IsDiagramOf, HasSize}
 use Rattle.sd_model.specs.Text.{number_text, line_of_words, roots_text, vtree_text}
 use Rattle.std.specs.List.{AllZip}
-use Rattle.std.specs.Option.{option_map_or}
+use Rattle.std.specs.Option.{option_map_or, IsSome}
 use Rattle.sd_formula.specs.Dimacs.{Groups}
 use Rattle.sd_formula.specs.Formulas.{expression_of}
 use Rattle.sd_file.specs.Reads.{expression_of_file}
@@ -153,17 +153,18 @@ Step input state (commands.Write names file) outcome =
     × Does state (Write file text) outcome
 Step input state (commands.WriteVtree file) outcome = Does state (Write file (vtree_text state.tree)) outcome
 
--- the command may need the arena of the diagrams
-abbrev pub MayFill : RunCommand → Type 0
-MayFill (commands.Input n) = Unit {0}
-MayFill (commands.Load n file) = Unit {0}
-MayFill (commands.Combine operation n a b) = Unit {0}
-MayFill (commands.Negate n a) = Unit {0}
-MayFill (commands.Given n a literal) = Unit {0}
-MayFill (commands.Forget n a x) = Unit {0}
-MayFill (commands.Turn kind p) = Unit {0}
-MayFill (commands.Minimise rounds) = Unit {0}
-MayFill command = ⊥
+-- The command may need the arena of the diagrams in this state. A move may only where it is defined: its place is
+-- looked at first.
+abbrev pub MayFill : State → RunCommand → Type 0
+MayFill state (commands.Input n) = Unit {0}
+MayFill state (commands.Load n file) = Unit {0}
+MayFill state (commands.Combine operation n a b) = Unit {0}
+MayFill state (commands.Negate n a) = Unit {0}
+MayFill state (commands.Given n a literal) = Unit {0}
+MayFill state (commands.Forget n a x) = Unit {0}
+MayFill state (commands.Turn kind p) = IsSome (moved_at kind state.tree p)
+MayFill state (commands.Minimise rounds) = Unit {0}
+MayFill state command = ⊥
 
 -- these commands are all done, one after another, with these effects
 abbrev pub Steps : Groups → State → List NumberedCommand → List Effect → State → Type 0

@@ -249,9 +249,9 @@ HandsOut (Ok effect) result = result ≡ Ok (Some effect)
 HandsOut (Err e) result = result ≡ Err errors.OutOfMemory
 
 -- The command stops in this state: its place is not movable, the total size passes the limit, the arena was full and
--- the command may need it, or there was no memory.
+-- the command may need it there, or there was no memory.
 abbrev pub StopsAt : Groups → State → RunCommand → Table → CommandError → Type 0
 StopsAt input seen command t (errors.OverLimit group size limit) = Step input seen command (OverLimit group size limit)
-StopsAt input seen command t (errors.ArenaFull elements) = MayFill command × IsFilled elements t
+StopsAt input seen command t (errors.ArenaFull elements) = MayFill seen command × IsFilled elements t
 StopsAt input seen command t errors.NotMovable = Step input seen command NotMovable
 StopsAt input seen command t errors.OutOfMemory = Unit {0}

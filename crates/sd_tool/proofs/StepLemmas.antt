@@ -187,7 +187,7 @@ goes_to_out_of_memory plan v index code t old now before after_ command next so_
 goes_to_full : {asks : List Request → Type 0} (plan : Plan) (v index : ℕ) (code : RunState) (t : Table)
     (old now : Contents)
     (before after_ : Faults) (command : NumberedCommand) (n : ℕ) → IsNext plan.commands index command
-    → (so_far : SoFar asks plan v index code old now) → MayFill command.command → IsFilled n t
+    → (so_far : SoFar asks plan v index code old now) → MayFill so_far.state command.command → IsFilled n t
     → IsTreeLeft plan.input so_far.state command.command (plain_tree t.vtree)
     → HoldsNames t so_far.state.names
     → RunsToEnd asks plan t (Err (ArenaFull n)) old now before after_

@@ -28,8 +28,8 @@ asked_by (Print line) = []
 
 -- The table of ends: at which point a run may end how, and what it asks of the shelf there. A refusal is the end. The
 -- file that is next is asked for, and not read. Where no command is left, all is done. At a command its effect fails,
--- the arena is full, which the command may need, or it is refused, since the total size passes the limit or its place
--- is not movable. Memory may run out at each point, and just behind a request to read.
+-- the arena is full, which the command may need in this state, or it is refused, since the total size passes the limit
+-- or its place is not movable. Memory may run out at each point, and just behind a request to read.
 abbrev pub EndsAt : Point → End → List Request → Type 0
 EndsAt (Refuses answer) (Refused found) [] = found ≡ answer
 EndsAt (Reads file next) (Unreadable name) begun = (name ≡ file) × (begun ≡ ToRead file ∷ [])
@@ -37,7 +37,7 @@ EndsAt (Reads file next) OutOfMemory (request ∷ []) = request ≡ ToRead file
 EndsAt (Stands input state []) Finished [] = Unit {0}
 EndsAt (Stands input state (next ∷ left)) (Unwritable effect) begun =
     (begun ≡ asked_by effect) × ((mid : State) × Step input state next.command (Done mid (effect ∷ [])))
-EndsAt (Stands input state (next ∷ left)) (ArenaFull elements) [] = MayFill next.command
+EndsAt (Stands input state (next ∷ left)) (ArenaFull elements) [] = MayFill state next.command
 EndsAt (Stands input state (next ∷ left)) (OverLimit line group size limit) [] =
     (line ≡ next.line) × Step input state next.command (PassesLimit group size limit)
 EndsAt (Stands input state (next ∷ left)) (NotMovable line) [] =

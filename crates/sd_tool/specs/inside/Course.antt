@@ -44,7 +44,7 @@ EndsAmong plan effects (Unwritable effect) =
     × ((then_on : State) × Step plan.input state next.command (Done then_on (effect ∷ [])))
 EndsAmong plan effects OutOfMemory = (state : State) × (left : List NumberedCommand) × Reaches plan effects state left
 EndsAmong plan effects (ArenaFull elements) =
-    (state : State) × (next : NumberedCommand) × IsAtCommand plan effects state next × MayFill next.command
+    (state : State) × (next : NumberedCommand) × IsAtCommand plan effects state next × MayFill state next.command
 EndsAmong plan effects (OverLimit line group size limit) =
     (state : State) × (next : NumberedCommand) × IsAtCommand plan effects state next × (next.line ≡ line)
     × Step plan.input state next.command (PassesLimit group size limit)

@@ -17,7 +17,7 @@ pub record HoldsAt (plan : Plan) (effects : List Effect) (t : Table) : Type 0 wh
   pub state : State
   pub next : NumberedCommand
   pub at : IsAtCommand plan effects state next
-  pub needs : MayFill next.command
+  pub needs : MayFill state next.command
   pub left : IsTreeLeft plan.input state next.command (plain_tree t.vtree)
   pub holds : HoldsNames t state.names
 
