@@ -5,6 +5,7 @@ use sd_file::{FileNode, SddFile, build, read_sdd};
 use sd_formula::{Formula, GenerateError, Kind, generate, read_dimacs};
 use sd_manager::Manager;
 use sd_runs::TakeError;
+use sd_vfile::{VtreeFault, count_variables};
 use sd_vtree::Vtree;
 use sd_words::read_words;
 use std::alloc::{AllocError, Global};
@@ -162,6 +163,59 @@ fn exclusive_groups(rt: HostRuntime) {
         (true, &[]),
     ];
     assert!(rt; is_formula(rt.alloc(), text, Kind::Cnf, &groups));
+}
+
+// The groups from the second up to the fourth, where there are so many.
+fn middle(alloc: Global, f: &Formula) -> Result<Option<Formula>, AllocError> {
+    if f.groups() < 3 {
+        return Ok(None);
+    }
+    Ok(Some(f.part(alloc, 1, 3)?))
+}
+
+/// A part has its groups alone, counted from 0, and the kind and the variables of the whole.
+#[test]
+fn the_middle_of_four_groups(rt: HostRuntime) -> Result<(), Fail> {
+    let text = b"p cnf 3 4\n1 -2 0 x2 3 0 0 -1 0\n";
+    let whole = read_dimacs(rt.alloc(), text, Kind::Cnf)?;
+    let part = middle(rt.alloc(), &whole)?.ok_or("too few groups")?;
+    assert_eq!(rt; (part.kind(), part.variables()), (Kind::Cnf, 3));
+    assert!(rt; has_groups(&part, &[(true, &[2, 3]), (false, &[])]));
+    Ok(())
+}
+
+/// A formula without groups, of either kind.
+#[test]
+fn no_groups_at_all(rt: HostRuntime) {
+    let formula = Formula::empty(rt.alloc(), Kind::Dnf, 1024);
+    assert_eq!(rt; (formula.kind(), formula.variables()), (Kind::Dnf, 1024));
+    assert!(rt; has_groups(&formula, &[]));
+}
+
+// How many variables the header of a short text announces.
+fn announced(text: &[u8]) -> Option<Result<u32, VtreeFault>> {
+    if text.len() > 1000 {
+        return None;
+    }
+    Some(count_variables(text))
+}
+
+/// The header alone tells how many variables a vtree has; the lines behind it are not read.
+#[test]
+fn variables_by_a_header(rt: HostRuntime) {
+    assert_eq!(rt; announced(b"vtree 1\n"), Some(Ok(1)));
+    assert_eq!(rt; announced(b"c a comment\nvtree 3\nL\n"), Some(Ok(2)));
+    assert_eq!(rt; announced(b"vtree 2047\n"), Some(Ok(1024)));
+    assert_eq!(rt; announced(b"L 0 1\n"), Some(Err(VtreeFault::NoHeader)));
+    for (text, found) in [
+        (b"vtree 4\n".as_slice(), 4),
+        (b"vtree 2049\n".as_slice(), 2049),
+    ] {
+        assert_eq!(rt;
+            announced(text),
+            Some(Err(VtreeFault::NodesRange { found }))
+        );
+    }
 }
 
 /// Numbers that the words refuse are refused here too.

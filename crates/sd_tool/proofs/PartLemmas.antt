@@ -5,6 +5,8 @@ use Rattle.std.proofs.lemmas.List.{append-nil}
 use Rattle.sd_model.specs.Text.{number_text}
 use Rattle.sd_formula.specs.declared.error.FormulaError.TheVariants.{VariablesRange}
 use Rattle.sd_formula.specs.Dimacs.{formula_fault_text}
+use Rattle.sd_vfile.specs.declared.fault.VtreeFault.TheVariants.{NodesRange}
+use Rattle.sd_vfile.specs.Reads.{vtree_fault_text}
 use Rattle.sd_tool.specs.Ends.{line_of}
 use Rattle.sd_tool.specs.Parts.{parts_text, number_seen}
 use Rattle.sd_tool.specs.declared.parts.Parts.{Parts}
@@ -54,7 +56,7 @@ pub line_is : (front back : List ℕ)
     → codes "sddc: " ++ front ++ back ++ 10 ∷ [] ≡ line_of (front ++ back)
 line_is front back = ap (λ (l : List ℕ). l ++ 10 ∷ []) (append_assoc (codes "sddc: ") front back)
 
--- ---- a fault of a formula file that ends in a number
+-- ---- a fault of a formula or a vtree file that ends in a number
 
 nothing_after : (file before number : List ℕ) → file ++ before ++ number ++ [] ≡ file ++ (before ++ number)
 nothing_after file before number = append-nil (file ++ before ++ number) ∙ append_assoc file before number
@@ -62,3 +64,7 @@ nothing_after file before number = append-nil (file ++ before ++ number) ∙ app
 pub variables_text : (file : List ℕ) (v : ℕ)
     → file ++ codes ": variables out of range: " ++ number_text v ++ [] ≡ file ++ formula_fault_text (VariablesRange v)
 variables_text file v = nothing_after file (codes ": variables out of range: ") (number_text v)
+
+pub nodes_text : (file : List ℕ) (n : ℕ)
+    → file ++ codes ": nodes out of range: " ++ number_text n ++ [] ≡ file ++ vtree_fault_text (NodesRange n)
+nodes_text file n = nothing_after file (codes ": nodes out of range: ") (number_text n)
