@@ -152,6 +152,12 @@ def check_answers():
                    "docs/PROVED.md: %s: no edit, case or test is named %s" % (row[0], name))
 
 
+def check_cases():
+    named = text_of("crates/sd_cases/args").split()
+    there = [os.path.basename(path) for path in glob.glob(TOP + "/crates/sd_cases/data/*.cases")]
+    expect(sorted(named) == sorted(there), "crates/sd_cases/args: names not just the files of data/")
+
+
 def check_paths():
     for document in DOCUMENTS:
         for path in re.findall(r"(?:crates|docs|examples|tools)/[\w./-]*\w", text_of(document)):
@@ -279,6 +285,7 @@ def main():
     check_faults()
     check_crates()
     check_answers()
+    check_cases()
     check_paths()
     check_crate_paths()
     check_count()

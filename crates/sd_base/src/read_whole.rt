@@ -50,7 +50,8 @@ pub fn read_all<F: Shelf>(alloc: Global, shelf: &mut F, name: &str) -> Result<By
         → IsReadingOf bytes LONGEST_FILE result
         ⊎ Rose (F.read_faults shelf.old) (F.read_faults shelf.new) }
 
-    // A fault that was counted is answered, but where the `finish` of a file that is too long failed.
+    // A fault that was counted is answered, but where memory ran out, or where the `finish` of a file that is too long
+    // failed.
     ensures answered { OnOk result (F.read_faults shelf.new ≡ F.read_faults shelf.old) }
     ensures passed_over { IsErrOf result ReadError.TooLong
         → (F.read_faults shelf.new ≡ F.read_faults shelf.old)

@@ -1,4 +1,4 @@
-// Which numbers a table of nodes gives, which no contract tells. The helpers have no contract, so a test owes nothing.
+// Which numbers a table of nodes gives, which no contract tells. The helpers have no contract, so a test has nothing to prove.
 use sd_runs::TakeError;
 use sd_unique::{Found, Nodes};
 use std::alloc::Global;
@@ -218,11 +218,11 @@ fn move_to(nodes: &mut Nodes, place: u32, other: u32) {
 // where it is and where it was.
 fn moved_in_the_midst(nodes: &mut Nodes) -> [Option<u32>; 5] {
     retire_idle(nodes, 5_000);
-    move_to(nodes, 34_068, 50_000);
-    let midst = nodes.find(50_000, &list_of(34_068));
+    move_to(nodes, 28_464, 50_000);
+    let midst = nodes.find(50_000, &list_of(28_464));
     retire_idle(nodes, 40_000);
     let [idle, used, _] = counts(nodes);
-    let (here, there) = (nodes.find(50_000, &list_of(34_068)), at(nodes, 34_068));
+    let (here, there) = (nodes.find(50_000, &list_of(28_464)), at(nodes, 28_464));
     [midst, idle, used, here, there]
 }
 
@@ -232,7 +232,7 @@ fn moved_in_the_midst(nodes: &mut Nodes) -> [Option<u32>; 5] {
 #[test]
 fn moved_within_a_sweep(rt: HostRuntime) -> Result<(), Fail> {
     let mut nodes = used_by_step(rt.alloc(), 4)?;
-    let expected = [Some(34_068), None, Some(20_000), Some(34_068), None];
+    let expected = [Some(28_464), None, Some(20_000), Some(28_464), None];
     assert_eq!(rt; moved_in_the_midst(&mut nodes), expected);
     Ok(())
 }

@@ -165,7 +165,7 @@ fn exclusive_groups(rt: HostRuntime) {
     assert!(rt; is_formula(rt.alloc(), text, Kind::Cnf, &groups));
 }
 
-// The groups from the second up to the fourth, where there are so many.
+// The second and the third group, where there are so many.
 fn middle(alloc: Global, f: &Formula) -> Result<Option<Formula>, AllocError> {
     if f.groups() < 3 {
         return Ok(None);

@@ -25,7 +25,7 @@ fn main(rt: HostRuntime) -> ExitCode {
         Ok(true) => ExitCode::from(0),
         Ok(false) => ExitCode::from(1),
         Err(_) => {
-            let _ = eprintln!(rt; "a device failed, or memory ran out");
+            let _ = eprintln!(rt; "a file was not read, or memory ran out");
             ExitCode::from(1)
         }
     }

@@ -6,7 +6,7 @@ use Rattle.std.specs.List.{AllByRecursion}
 use Rattle.sd_model.specs.Expression.{Group}
 use Rattle.sd_formula.specs.declared.flat.End.{End}
 use Rattle.sd_formula.specs.declared.formula.Kind.{Kind}
-use Rattle.sd_formula.specs.Flat.{AreEnds, start_at, cut, moved_back}
+use Rattle.sd_formula.specs.Flat.{AreEnds, start_at, cut, end_without}
 use Rattle.sd_formula.specs.Dimacs.{Groups}
 use Rattle.sd_formula.specs.Formulas.{IsFormula, IsGroup, groups_between, groups_part}
 use Rattle.sd_formula.proofs.FlatLaws.{last_within, cut_more}
@@ -72,7 +72,7 @@ start_within from (e ∷ es) total (suc k) rise =
 
 -- the ends still rise
 ends_back : (before from : ℕ) (ends : List End) (total : ℕ) → before ≤ from → AreEnds from ends total
-    → AreEnds (from - before) (map (moved_back before) ends) (total - before)
+    → AreEnds (from - before) (map (end_without before) ends) (total - before)
 ends_back before from [] total low rise = omega (arith, rise)
 ends_back before from (e ∷ es) total low rise =
     (omega (arith, rise.0), ends_back before e.index es total (omega (arith, rise.0)) rise.1)
@@ -87,7 +87,7 @@ slice_back before from to zs low =
 
 -- and so are the groups
 cut_back : (before from : ℕ) (ends : List End) (zs : List ℤ) (total : ℕ) → before ≤ from → AreEnds from ends total
-    → cut (from - before) (map (moved_back before) ends) (drop before zs) ≡ cut from ends zs
+    → cut (from - before) (map (end_without before) ends) (drop before zs) ≡ cut from ends zs
 cut_back before from [] zs total low rise = refl
 cut_back before from (e ∷ es) zs total low rise =
     let here = slice_back before from e.index zs low in
@@ -109,9 +109,9 @@ pub record IsCutOut (zs : List ℤ) (ends : List End) (from to : ℕ) : Type 0 w
   pub order : start_at 0 ends from ≤ start_at 0 ends to
   pub within : start_at 0 ends to ≤ length zs
   pub behind : AllByRecursion (λ end. start_at 0 ends from ≤ end.index) (slice_range ends from to)
-  pub rise : AreEnds 0 (map (moved_back (start_at 0 ends from)) (slice_range ends from to))
+  pub rise : AreEnds 0 (map (end_without (start_at 0 ends from)) (slice_range ends from to))
       (length (slice_range zs (start_at 0 ends from) (start_at 0 ends to)))
-  pub groups : cut 0 (map (moved_back (start_at 0 ends from)) (slice_range ends from to))
+  pub groups : cut 0 (map (end_without (start_at 0 ends from)) (slice_range ends from to))
       (slice_range zs (start_at 0 ends from) (start_at 0 ends to)) ≡ slice_range (cut 0 ends zs) from to
 
 pub cut_out : (zs : List ℤ) (ends : List End) (from to : ℕ) → AreEnds 0 ends (length zs) → from ≤ to
@@ -126,7 +126,7 @@ cut_out zs ends from to rise order =
     let some : AreEnds first (slice_range ends from to) last =
     subst (λ n. AreEnds first (slice_range ends from to) n) ends_here
     (ends_take first (drop from ends) (length zs) (to - from) behind) in
-    let moved = map (moved_back first) (slice_range ends from to) in
+    let moved = map (end_without first) (slice_range ends from to) in
     let zero_first : first - first ≡ 0 = omega arith in
     let long : length (slice_range zs first last) ≡ last - first =
     omega (arith, length-take (last - first) (drop first zs), length-drop first zs, range.1, ends_here) in
@@ -178,7 +178,7 @@ pub record IsPartMade (f made : Groups) (from to : ℕ) (ends : List End) (zs : 
 pub part_made : (kind : Kind) (v : ℕ) (zs part : List ℤ) (ends moved : List End) (from to : ℕ)
     → AreEnds 0 ends (length zs) → IsFormula (groups_between kind v ends zs) → from ≤ to
     → part ≡ slice_range zs (start_at 0 ends from) (start_at 0 ends to)
-    → moved ≡ map (moved_back (start_at 0 ends from)) (slice_range ends from to)
+    → moved ≡ map (end_without (start_at 0 ends from)) (slice_range ends from to)
     → IsPartMade (groups_between kind v ends zs) (groups_between kind v moved part) from to moved part
 part_made kind v zs part ends moved from to rise is order part_is moved_is =
     let out = cut_out zs ends from to rise order in

@@ -33,6 +33,6 @@ cut from (end ∷ ends) literals =
     record { exclusive = end.exclusive; literals = slice_range literals from end.index }
     ∷ cut end.index ends literals
 
--- an end, where so many literals are left out before it
-abbrev pub moved_back : ℕ → End → End
-moved_back before end = record { index = end.index - before; exclusive = end.exclusive }
+-- an end, without so many literals before it
+abbrev pub end_without : ℕ → End → End
+end_without before end = record { index = end.index - before; exclusive = end.exclusive }

@@ -3,7 +3,7 @@
 ghost use Rattle.std.specs.Prelude.{◌≡◌, ◌<◌, ◌≤◌, List, ℤ, length, map, slice_get, slice_range};
 ghost use Rattle.std.specs.Prelude.{option_map, IfOk};
 ghost use Rattle.std.specs.List.{AllByRecursion};
-ghost use Rattle.sd_formula.specs.Flat.{AreEnds, start_at, cut, moved_back};
+ghost use Rattle.sd_formula.specs.Flat.{AreEnds, start_at, cut, end_without};
 
 use std::alloc::{AllocError, Global};
 
@@ -73,7 +73,7 @@ pub(crate) fn ends_without(
     before: usize,
 ) -> Result<Vec<End>, AllocError>
     requires { AllByRecursion (λ end. before ≤ end.index) ends.now }
-    ensures { IfOk result (λ moved. moved.items ≡ map (moved_back before) ends.now) }
+    ensures { IfOk result (λ moved. moved.items ≡ map (end_without before) ends.now) }
 {
     let mut moved = Vec::with_capacity(alloc, ends.len())?;
     for end in ends {

@@ -1,9 +1,9 @@
 // The hash of a key, and the bucket of a hash.
 //
-// All bits of a hash are mixed, so that the chain of a bucket is in expectation as long as the table is full, whatever
-// the keys are. Nodes that are made one after another do not stand near each other so; a hash that keeps them near,
-// by the greatest child, lets all nodes over one child share a part of the buckets, and the time for these grow with
-// the square of their number.
+// All bits of a hash are mixed, so that keys which follow a pattern spread over all buckets; the multipliers are fixed,
+// so keys chosen against them may still share one. Nodes that are made one after another do not stand near each other
+// so. A hash that keeps them near, by the greatest child, lets all nodes over one child share a part of the buckets,
+// and the time for these grows with the square of their number.
 ghost use Rattle.std.specs.Prelude.{◌≡◌, ◌<◌, ℕ, List};
 ghost use Rattle.sd_unique.specs.Chains.{bucket_of, hash_of, mixed};
 

@@ -1,5 +1,5 @@
 use Rattle.std.proofs.Common.{◌≡◌, length, map, slice_range, ap, ◌∙◌, arith, ◌++◌, List, ℤ}
-use Rattle.sd_formula.specs.Flat.{start_at, moved_back}
+use Rattle.sd_formula.specs.Flat.{start_at, end_without}
 use Rattle.sd_formula.specs.Dimacs.{Groups}
 use Rattle.sd_formula.specs.Formulas.{groups_part}
 use Rattle.sd_formula.proofs.FlatLaws.{length_cut}
@@ -44,7 +44,7 @@ invariant_of-result c =
     c.in_ok-extend_from_slice.ensures.items
     ∙ ap (λ (l : List ℤ). l ++ c.literals_between-part.result.now) c.in_ok-literals.ensures.items ∙ cut in
     let moved : c.in_ok-ends.ends.items
-    ≡ map (moved_back (start_at 0 ends c.args.from)) (slice_range ends c.args.from c.args.to) =
+    ≡ map (end_without (start_at 0 ends c.args.from)) (slice_range ends c.args.from c.args.to) =
     rw (c.start_of-before.ensures, c.deref-3.ensures.value, c.deref-4.ensures.value) at c.in_ok-ends.ensures in
     let made = part_made c.self.inside.kind c.self.inside.variables zs _ ends _ c.args.from c.args.to
     c.self.invariant.0 c.self.invariant.1 c.requires.order literals moved in
@@ -62,7 +62,7 @@ returns c =
     c.in_ok-extend_from_slice.ensures.items
     ∙ ap (λ (l : List ℤ). l ++ c.literals_between-part.result.now) c.in_ok-literals.ensures.items ∙ cut in
     let moved : c.in_ok-ends.ends.items
-    ≡ map (moved_back (start_at 0 ends c.args.from)) (slice_range ends c.args.from c.args.to) =
+    ≡ map (end_without (start_at 0 ends c.args.from)) (slice_range ends c.args.from c.args.to) =
     rw (c.start_of-before.ensures, c.deref-3.ensures.value, c.deref-4.ensures.value) at c.in_ok-ends.ensures in
     let made = part_made c.self.inside.kind c.self.inside.variables zs _ ends _ c.args.from c.args.to
     c.self.invariant.0 c.self.invariant.1 c.requires.order literals moved in
