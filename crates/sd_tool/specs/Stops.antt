@@ -4,6 +4,7 @@ use Rattle.std.specs.Prelude.{None, Result, Ok, Err}
 use Rattle.sd_base.specs.Asked.{Request}
 use Rattle.sd_base.specs.Faults.{Rose}
 use Rattle.sd_base.specs.Files.{Files, Lacks}
+use Rattle.sd_base.specs.Shelf.{Hand, Reading}
 use Rattle.sd_manager.specs.Table.{Table}
 use Rattle.sd_commands.specs.Effects.{Effect, Write, Print}
 use Rattle.sd_commands.specs.Standing.{IsFilled}
@@ -20,6 +21,7 @@ use Rattle.sd_tool.specs.inside.Course.{EndLeaves, EndsAmong, after_effects}
 use Rattle.sd_tool.specs.inside.Devices.{LeavesPart}
 use Rattle.sd_tool.specs.inside.Kept.{HoldsAt, KeepsOf}
 use Rattle.sd_tool.specs.inside.Plans.{Plan}
+use Rattle.sd_tool.specs.Theorem.{HasFinished}
 use Rattle.sd_tool.specs.declared.refusal.Refusal.{Refusal}
 use Rattle.sd_tool.specs.declared.stop.Stop.{Stop}
 use Rattle.sd_tool.specs.declared.stop.Stop.TheVariants as stops
@@ -149,3 +151,20 @@ GivesText view status file reading (Err (stops.Refused refusal)) =
     (text : List ℕ) × (reading ≡ Err text) × (refusal_answer refusal ≡ (status, file ++ text))
 GivesText view status file reading (Err stops.OutOfMemory) = Unit {0}
 GivesText view status file reading (Err stop) = ⊥
+
+-- ---- what the shelf tells as unfinished, before and afterwards
+
+-- what it told before at Ok, and at a stop what its status lets pass
+abbrev pub LeavesFinished : {A : Type 0} → Result A Stop → Hand → Hand → Type 0
+LeavesFinished (Ok done) old new = new ≡ old
+LeavesFinished (Err stop) old new = HasFinished (stop_status stop) old new
+
+-- what it told before, or the `finish` of this file, where it is too long
+abbrev pub LeavesRead : List ℕ → Option (List ℕ) → Hand → Hand → Type 0
+LeavesRead file None old new = (new ≡ old) ⊎ (new ≡ Reading file 67108865)
+LeavesRead file (Some bytes) old new = new ≡ old
+
+-- the same of a reading that may stop
+abbrev pub LeavesText : List ℕ → Result (Option (List ℕ)) Stop → Hand → Hand → Type 0
+LeavesText file (Ok text) old new = LeavesRead file text old new
+LeavesText file (Err stop) old new = HasFinished (stop_status stop) old new

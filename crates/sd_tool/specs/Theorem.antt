@@ -4,6 +4,7 @@
 -- for is in Laws.antt.
 use Rattle.std.specs.Prelude.{◌≡◌, ◌≢◌, ◌⊎◌, ◌↔◌, ℕ, ◌≤◌, List, Option, None}
 use Rattle.std.specs.List.{AllZip}
+use Rattle.sd_base.specs.Shelf.{Hand, Reading}
 use Rattle.sd_model.specs.Expression.{Expression, AreOneFunction}
 use Rattle.sd_model.specs.Tree.{Tree, leaves}
 use Rattle.sd_manager.specs.Table.{Table}
@@ -46,3 +47,9 @@ abbrev pub IsComplete : List (List ℕ) → ℕ → Seen → Type 0
 IsComplete words status seen = IsCalm seen → seen.old.contents.files ≢ None
     → (own : Course words seen.old.contents.files) → status_of own.end ≤ 4 → (status ≡ 7) ⊎ (status ≡ 8)
     ⊎ ((status ≡ status_of own.end) × Leaves own.effects own.end seen × WritesEndLine own.end seen.old seen.new)
+
+-- finished: at 0 to 4 the shelf tells no failed `finish` that it did not tell before; but at 2 and 3 it may tell that
+-- of a file that is too long, of which no more is read than one byte past the limit
+abbrev pub HasFinished : ℕ → Hand → Hand → Type 0
+HasFinished status old new = status ≤ 4 → (new ≡ old)
+    ⊎ (((status ≡ 2) ⊎ (status ≡ 3)) × (file : List ℕ) × (new ≡ Reading file 67108865))

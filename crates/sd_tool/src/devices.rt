@@ -9,7 +9,7 @@ ghost use Rattle.sd_tool.specs.Ends.{Unwritable};
 ghost use Rattle.sd_tool.specs.Devices.{HasReason};
 ghost use Rattle.sd_tool.specs.inside.Devices.{contents, faults, NotFewer, LeavesPart};
 ghost use Rattle.sd_commands.specs.Standing.{effect_of, effects_of};
-ghost use Rattle.sd_tool.specs.Stops.{StandsFor, FailsAt};
+ghost use Rattle.sd_tool.specs.Stops.{StandsFor, FailsAt, LeavesFinished};
 
 use crate::stop::Stop;
 use sd_base::{Shelf, Sink, write_all, write_all_to};
@@ -33,6 +33,7 @@ pub fn write_effect_if_any<F: Shelf, O: Sink>(
     ensures fewer { NotFewer (faults F.read_faults F.write_faults O.faults shelf.old out.old)
         (faults F.read_faults F.write_faults O.faults shelf.new out.new) }
     ensures asked { Adds F.asked shelf.old shelf.new (writings (effects_of effect)) }
+    ensures finished { LeavesFinished result (F.unfinished shelf.old) (F.unfinished shelf.new) }
 {
     match effect {
         Some(effect) => write_effect(shelf, out, effect),
@@ -57,6 +58,7 @@ fn write_effect<F: Shelf, O: Sink>(shelf: &mut F, out: &mut O, effect: Effect) -
     ensures fewer { NotFewer (faults F.read_faults F.write_faults O.faults shelf.old out.old)
         (faults F.read_faults F.write_faults O.faults shelf.new out.new) }
     ensures asked { Adds F.asked shelf.old shelf.new (writings (effect_of effect ∷ [])) }
+    ensures finished { LeavesFinished result (F.unfinished shelf.old) (F.unfinished shelf.new) }
 {
     match effect {
         Effect::WriteFile(name, bytes) => match write_all_to(

@@ -16,7 +16,7 @@ ghost use Rattle.sd_tool.specs.Readings.{reading_of, Reads};
 ghost use Rattle.sd_tool.specs.inside.Plans.{point_of, plan_for};
 ghost use Rattle.sd_tool.specs.Readings.{with_input_word, with_tree_word, with_tree};
 ghost use Rattle.sd_tool.specs.inside.Readings.{with_input, with_vtree_text};
-ghost use Rattle.sd_tool.specs.Stops.{LeadsTo, GivesText};
+ghost use Rattle.sd_tool.specs.Stops.{LeadsTo, GivesText, LeavesFinished};
 ghost use Rattle.sd_tool.specs.declared.stop.Stop.TheVariants as stops;
 
 use crate::plan::{RunPlan, announced};
@@ -44,6 +44,7 @@ pub fn prepare<F: Shelf>(alloc: Global, words: &[String], shelf: &mut F) -> Resu
         (reading_of (map string_bytes words.now))
         (λ plan. point_of (plan_of plan)) result (F.read_faults shelf.old) (F.read_faults shelf.new) }
     ensures ready { IfOk result IsReady }
+    ensures finished { LeavesFinished result (F.unfinished shelf.old) (F.unfinished shelf.new) }
 {
     match read_job(alloc, words) {
         Ok(job) => prepare_job(alloc, &job, shelf),
@@ -62,6 +63,7 @@ fn prepare_job<F: Shelf>(alloc: Global, job: &Job, shelf: &mut F) -> Result<RunP
         (with_input_word job.now job.now.input)
         (λ plan. point_of (plan_of plan)) result (F.read_faults shelf.old) (F.read_faults shelf.new) }
     ensures ready { IfOk result IsReady }
+    ensures finished { LeavesFinished result (F.unfinished shelf.old) (F.unfinished shelf.new) }
 {
     match read_formula(alloc, job, shelf) {
         Ok(formula) => prepare_formula(alloc, job, formula, shelf),
@@ -85,6 +87,7 @@ fn prepare_formula<F: Shelf>(
         (with_tree_word job.now formula job.now.tree)
         (λ plan. point_of (plan_of plan)) result (F.read_faults shelf.old) (F.read_faults shelf.new) }
     ensures ready { IfOk result IsReady }
+    ensures finished { LeavesFinished result (F.unfinished shelf.old) (F.unfinished shelf.new) }
 {
     match read_tree(alloc, job, &formula, shelf) {
         Ok(vtree) => prepare_tree(alloc, job, formula, vtree, shelf),
@@ -110,6 +113,7 @@ fn prepare_tree<F: Shelf>(
         (with_tree job.now formula (plain_tree vtree))
         (λ plan. point_of (plan_of plan)) result (F.read_faults shelf.old) (F.read_faults shelf.new) }
     ensures ready { IfOk result IsReady }
+    ensures finished { LeavesFinished result (F.unfinished shelf.old) (F.unfinished shelf.new) }
 {
     match read_commands(alloc, job, formula.variables(), shelf) {
         Ok(commands) => make_plan(alloc, job, formula, vtree, commands),
@@ -170,6 +174,7 @@ fn read_formula<F: Shelf>(alloc: Global, job: &Job, shelf: &mut F) -> Result<For
         (with_input_word job.now job.now.input)
         (λ formula. with_tree_word job.now formula job.now.tree)
         result (F.read_faults shelf.old) (F.read_faults shelf.new) }
+    ensures finished { LeavesFinished result (F.unfinished shelf.old) (F.unfinished shelf.new) }
 {
     match &job.input {
         InputWord::Cnf(file) => read_groups(alloc, Kind::Cnf, file.as_str(), shelf),
@@ -205,6 +210,7 @@ fn read_groups<F: Shelf>(
         (Reads file.now (with_input job (record { kind = kind; file = file.now })))
         (λ formula. with_tree_word job formula job.tree)
         result (F.read_faults shelf.old) (F.read_faults shelf.new) }
+    ensures finished { LeavesFinished result (F.unfinished shelf.old) (F.unfinished shelf.new) }
 {
     match read_text(alloc, file, shelf) {
         Ok(Some(bytes)) => formula_in(alloc, file, bytes.as_slice(), kind),
@@ -242,6 +248,7 @@ fn read_tree<F: Shelf>(
         (λ vtree. with_tree job.now formula.now (plain_tree vtree))
         result (F.read_faults shelf.old) (F.read_faults shelf.new) }
     ensures variables { IfOk result (λ vtree. leaves (plain_tree vtree) ≡ formula.now.variables) }
+    ensures finished { LeavesFinished result (F.unfinished shelf.old) (F.unfinished shelf.new) }
 {
     let variables = formula.variables();
     match &job.tree {
@@ -282,6 +289,7 @@ fn read_vtree_file<F: Shelf>(
         (λ vtree. with_tree job formula (plain_tree vtree))
         result (F.read_faults shelf.old) (F.read_faults shelf.new) }
     ensures variables { IfOk result (λ vtree. leaves (plain_tree vtree) ≡ variables) }
+    ensures finished { LeavesFinished result (F.unfinished shelf.old) (F.unfinished shelf.new) }
 {
     match read_text(alloc, file, shelf) {
         Ok(Some(bytes)) => vtree_in(alloc, file, bytes.as_slice(), variables),

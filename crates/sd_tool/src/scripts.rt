@@ -14,7 +14,7 @@ ghost use Rattle.sd_commands.specs.declared.command.RunCommand.TheVariants.{Writ
 ghost use Rattle.sd_tool.specs.Readings.{Point, Reads, with_commands, with_lines, with_action};
 ghost use Rattle.sd_tool.specs.inside.Readings.{with_script_text, script_reading, with_sdd};
 ghost use Rattle.sd_tool.specs.Actions.{IsCommandOf, plain_of};
-ghost use Rattle.sd_tool.specs.Stops.{LeadsTo, GivesText, StopsFor};
+ghost use Rattle.sd_tool.specs.Stops.{LeadsTo, GivesText, StopsFor, LeavesFinished};
 ghost use Rattle.sd_tool.specs.declared.refusal.Refusal.TheVariants as refusals;
 
 use crate::plan::default_commands;
@@ -48,6 +48,7 @@ pub fn read_commands<F: Shelf>(
         result (F.read_faults shelf.old) (F.read_faults shelf.new) }
     ensures fit { IfOk result (λ commands. AllFit variables [] commands.items) }
     ensures within_limit { IfOk result (λ commands. length commands.items ≤ 100000) }
+    ensures finished { LeavesFinished result (F.unfinished shelf.old) (F.unfinished shelf.new) }
 {
     match &job.script {
         None => match default_commands(alloc, job) {
@@ -82,6 +83,7 @@ fn read_script_file<F: Shelf>(
         result (F.read_faults shelf.old) (F.read_faults shelf.new) }
     ensures script { IfOk result (IsScript variables) }
     ensures within_limit { IfOk result (λ script. length script.commands ≤ 100000) }
+    ensures finished { LeavesFinished result (F.unfinished shelf.old) (F.unfinished shelf.new) }
 {
     match read_text(alloc, file, shelf) {
         Ok(Some(bytes)) => script_in(alloc, file, bytes.as_slice(), variables),
@@ -139,6 +141,7 @@ fn script_commands<F: Shelf>(
         result (F.read_faults shelf.old) (F.read_faults shelf.new) }
     ensures fit { IfOk result (λ commands. AllFit variables [] commands.items) }
     ensures within_limit { IfOk result (λ commands. length commands.items ≤ 100000) }
+    ensures finished { LeavesFinished result (F.unfinished shelf.old) (F.unfinished shelf.new) }
 {
     let mut commands = Vec::new(alloc);
     for line in script.commands() {
@@ -188,6 +191,7 @@ fn command_of<F: Shelf>(
         (with_action variables script.now next action.now) next
         result (F.read_faults shelf.old) (F.read_faults shelf.new) }
     ensures same { IfOk result (IsCommandOf variables action.now) }
+    ensures finished { LeavesFinished result (F.unfinished shelf.old) (F.unfinished shelf.new) }
 {
     match plain_command(alloc, action) {
         Ok(Some(command)) => Ok(command),
@@ -246,11 +250,11 @@ fn file_command<F: Shelf>(
     ensures files { F.files shelf.new ≡ F.files shelf.old }
     ensures read_faults { F.read_faults shelf.old ≤ F.read_faults shelf.new }
     ensures write_faults { F.write_faults shelf.new ≡ F.write_faults shelf.old }
-    ensures leads { (next : Seen → Point)
-        → LeadsTo (Adds F.asked shelf.old shelf.new) (F.files shelf.old)
-        (with_action variables script.now next action.now) next
-        result (F.read_faults shelf.old) (F.read_faults shelf.new) }
+    ensures leads { (next : Seen → Point) → LeadsTo (Adds F.asked shelf.old shelf.new)
+        (F.files shelf.old) (with_action variables script.now next action.now) next result
+        (F.read_faults shelf.old) (F.read_faults shelf.new) }
     ensures same { IfOk result (IsCommandOf variables action.now) }
+    ensures finished { LeavesFinished result (F.unfinished shelf.old) (F.unfinished shelf.new) }
 {
     match action {
         Action::Load(name, file) => match load(alloc, script.file(*file), variables, shelf) {
@@ -291,6 +295,7 @@ fn load<F: Shelf>(alloc: Global, file: &str, variables: u32, shelf: &mut F) -> R
         (Reads file.now (with_sdd variables file.now next)) next
         result (F.read_faults shelf.old) (F.read_faults shelf.new) }
     ensures variables { IfOk result (λ read. read.variables ≡ variables) }
+    ensures finished { LeavesFinished result (F.unfinished shelf.old) (F.unfinished shelf.new) }
 {
     match read_text(alloc, file, shelf) {
         Ok(Some(bytes)) => sdd_in(alloc, file, bytes.as_slice(), variables),

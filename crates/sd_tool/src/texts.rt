@@ -4,7 +4,7 @@ ghost use Rattle.sd_base.specs.Asked.{Adds};
 ghost use Rattle.sd_base.specs.Shelf.{NoFile};
 ghost use Rattle.sd_tool.specs.Readings.{Point, Reads};
 ghost use Rattle.sd_tool.specs.inside.Readings.{Text};
-ghost use Rattle.sd_tool.specs.Stops.{LeadsTo, StopsFor, IsShort};
+ghost use Rattle.sd_tool.specs.Stops.{LeadsTo, StopsFor, IsShort, LeavesText};
 ghost use Rattle.sd_tool.specs.declared.refusal.Refusal.TheVariants as refusals;
 ghost use Rattle.sd_tool.specs.declared.stop.Stop.TheVariants as stops;
 
@@ -24,6 +24,8 @@ pub fn read_text<F: Shelf>(alloc: Global, file: &str, shelf: &mut F) -> Result<O
         → LeadsTo (Adds F.asked shelf.old shelf.new) (F.files shelf.old)
         (Reads file.now next) next result (F.read_faults shelf.old) (F.read_faults shelf.new) }
     ensures fits { IfOk result IsShort }
+    ensures finished { LeavesText file.now result
+        (F.unfinished shelf.old) (F.unfinished shelf.new) }
 {
     match read_all(alloc, shelf, file) {
         Ok(bytes) => Ok(Some(bytes)),

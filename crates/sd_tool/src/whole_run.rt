@@ -6,8 +6,10 @@ ghost use Rattle.sd_tool.specs.Devices.{seen};
 ghost use Rattle.sd_tool.specs.inside.Devices.{contents, faults, NotFewer};
 ghost use Rattle.sd_tool.specs.PlanViews.{plan_of, plan_with, IsReady, IsReadyWith};
 ghost use Rattle.sd_tool.specs.Theorem.{IsCourse, HasEffects, HasEqualTexts, HasLine, HasEnd, IsComplete};
+ghost use Rattle.sd_tool.specs.Theorem.{HasFinished};
 ghost use Rattle.sd_tool.specs.inside.ByStatus.{IsOneCourse};
-ghost use Rattle.sd_tool.specs.Stops.{RunsToEnd, PlanEnds, RunEnds, is_full, stop_of};
+ghost use Rattle.sd_tool.specs.Stops.{RunsToEnd, PlanEnds, RunEnds, LeavesFinished};
+ghost use Rattle.sd_tool.specs.Stops.{is_full, stop_of};
 
 use crate::devices::write_effect_if_any;
 use crate::parts::write_line;
@@ -36,6 +38,9 @@ use std::thread::Threads;
 /// The words are read first, then the formula file, the vtree file, the script, and the files that it loads; no other
 /// is asked for, and none after an output. At every status but 0 the one line that says so is written to `err`. At 8
 /// the manager that refused is put into `kept`, which is empty before.
+///
+/// At 0 to 4 the shelf tells no failed `finish` that it did not tell before; but at 2 and 3 it may tell that of a file
+/// that is too long (`finished`).
 ///
 /// `course` says all of this, by one walk over files and commands: `effects`, `line` and `ends` are its parts, and
 /// `complete` follows from it. So do the laws of [`laws`](crate::laws), which speak of no course: what a run without a
@@ -66,6 +71,7 @@ pub fn run<R: Threads + Sync, F: Shelf, O: Sink, E: Sink>(
         (seen F.Shelf O.Sink E.Sink shelf.old out.old err.old shelf.new out.new err.new) }
     ensures equal_texts { HasEqualTexts (map string_bytes words.now)
         (seen F.Shelf O.Sink E.Sink shelf.old out.old err.old shelf.new out.new err.new) }
+    ensures finished { HasFinished result (F.unfinished shelf.old) (F.unfinished shelf.new) }
 {
     run_and_report(alloc, words, shelf, out, err, kept)
 }
@@ -84,6 +90,7 @@ fn run_and_report<F: Shelf, O: Sink, E: Sink>(
     ensures hand { F.hand shelf.new ≡ NoFile }
     ensures course { IsOneCourse (map string_bytes words.now) result kept.new
         (seen F.Shelf O.Sink E.Sink shelf.old out.old err.old shelf.new out.new err.new) }
+    ensures finished { HasFinished result (F.unfinished shelf.old) (F.unfinished shelf.new) }
 {
     match read_and_execute(alloc, words, shelf, out, kept) {
         Ok(()) => 0,
@@ -111,6 +118,7 @@ fn read_and_execute<F: Shelf, O: Sink>(
         (contents F.files O.written shelf.new out.new)
         (faults F.read_faults F.write_faults O.faults shelf.old out.old)
         (faults F.read_faults F.write_faults O.faults shelf.new out.new) }
+    ensures finished { LeavesFinished result (F.unfinished shelf.old) (F.unfinished shelf.new) }
 {
     match prepare(alloc, words, shelf) {
         Ok(plan) => execute_plan(alloc, shelf, out, plan, kept),
@@ -135,6 +143,7 @@ fn execute_plan<F: Shelf, O: Sink>(
         (contents F.files O.written shelf.new out.new)
         (faults F.read_faults F.write_faults O.faults shelf.old out.old)
         (faults F.read_faults F.write_faults O.faults shelf.new out.new) }
+    ensures finished { LeavesFinished result (F.unfinished shelf.old) (F.unfinished shelf.new) }
 {
     let RunPlan {
         formula,
@@ -179,6 +188,7 @@ fn execute_commands<F: Shelf, O: Sink>(
         (contents F.files O.written shelf.new out.new)
         (faults F.read_faults F.write_faults O.faults shelf.old out.old)
         (faults F.read_faults F.write_faults O.faults shelf.new out.new) }
+    ensures finished { LeavesFinished result (F.unfinished shelf.old) (F.unfinished shelf.new) }
 {
     for command in commands {
         let effect = match step(alloc, formula, state, &command.command) {

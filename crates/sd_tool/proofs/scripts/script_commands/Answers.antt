@@ -21,6 +21,7 @@ loop-line-init g c =
       files = refl;
       read_faults = omega arith;
       write_faults = refl;
+      unfinished = refl;
       same = c.commands-line-items.ensures;
       commands_of = subst (λ (done : List NumberedCommand). AreCommandsOf v script.commands 0 done)
           (sym c.new-commands.ensures.items)
@@ -76,6 +77,7 @@ loop-line-preserved g c =
       files = c.in-Ok.ensures.files ∙ was.files;
       read_faults = omega (arith, was.read_faults, c.in-Ok.ensures.read_faults);
       write_faults = c.in-Ok.ensures.write_faults ∙ was.write_faults;
+      unfinished = c.in-Ok.ensures.finished ∙ was.unfinished;
       same = was.same;
       commands_of = subst (λ (cs : List NumberedCommand). AreCommandsOf v script.commands (index + 1) cs)
           (sym c.in-Ok-put.ensures)

@@ -14,6 +14,7 @@ invariant-loop-line g l = record {
   files : g.F.Shelf.files l.shelf ≡ g.F.Shelf.files l.fn.shelf;
   read_faults : g.F.Shelf.read_faults l.fn.shelf ≤ g.F.Shelf.read_faults l.shelf;
   write_faults : g.F.Shelf.write_faults l.shelf ≡ g.F.Shelf.write_faults l.fn.shelf;
+  unfinished : g.F.Shelf.unfinished l.shelf ≡ g.F.Shelf.unfinished l.fn.shelf;
   same : l.line-items ≡ l.fn.script.commands;
   commands_of : AreCommandsOf l.fn.variables l.fn.script.commands l.line-index l.commands.items;
   leads : (begin : List NumberedCommand → Point) → ComesTo (Adds g.F.Shelf.asked l.fn.shelf l.shelf)

@@ -12,6 +12,7 @@ use Rattle.sd_tool.proofs.whole_run.execute_commands.Goals as goal
 pub loop-command-init : goal.loop-command-init
 loop-command-init g c = record {
   hand = c.requires.hand;
+  unfinished = refl;
   so_far = record {
     effects = [];
     state = _;
@@ -87,6 +88,7 @@ loop-command-preserved g c =
     let more = length_push c.loop-command.yielded c.in-Some.command in
     let was = c.loop-command.invariant in record {
       hand = c.in-Ok-write_effect_if_any.ensures.hand;
+      unfinished = c.in-Ok-write_effect_if_any.ensures.finished ∙ was.unfinished;
       so_far =
           so_far_at (plan_with c.args.formula.now c.args.state.now c.args.commands.items) _ _ _ _ _ _ more
           (so_far_more (plan_with c.args.formula.now c.args.state.now c.args.commands.items) _

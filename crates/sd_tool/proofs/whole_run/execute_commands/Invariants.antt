@@ -12,6 +12,7 @@ use Rattle.sd_tool.proofs.whole_run.execute_commands.Given as goal
 abbrev pub invariant-loop-command : goal.invariant-loop-command
 invariant-loop-command g l = record {
   hand : g.F.Shelf.hand l.shelf ≡ NoFile;
+  unfinished : g.F.Shelf.unfinished l.shelf ≡ g.F.Shelf.unfinished l.fn.shelf;
   so_far : SoFar (Adds g.F.Shelf.asked l.fn.shelf l.shelf)
       (plan_with l.formula l.fn.state l.fn.commands.items) l.formula.variables
       (length l.yielded) l.state
