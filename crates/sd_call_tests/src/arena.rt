@@ -3,7 +3,7 @@ use sd_runs::{Runs, TakeError};
 use std::alloc::Global;
 use std::test::Fail;
 
-// The starts of four runs, and of three more behind that the first three were given and put in order from the second on.
+// The starts of four runs, and of three more once the first three were given and put in order from the second on.
 fn starts(alloc: Global) -> Result<[u32; 7], TakeError> {
     let mut runs = Runs::new(alloc, 100);
     let a = runs.take(&[(1, 2), (3, 4)])?;

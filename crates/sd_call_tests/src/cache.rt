@@ -1,4 +1,4 @@
-// What the cache keeps: a contract tells what is found of what was kept, and lets a call keep nothing for want of memory.
+// What the cache keeps: a contract tells what is found of what was kept, and lets a call keep nothing without memory.
 use sd_cache::Cache;
 use std::alloc::{AllocError, Global};
 use std::test::Fail;

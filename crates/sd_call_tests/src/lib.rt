@@ -1,5 +1,5 @@
-//! Tests by calls, of what no whole run of the program shows: moves with their journals, free numbers and runs in order,
-//! small arenas, and public calls that the program does without. What a run shows is a case of `sd_cases`.
+//! Tests by calls, of what no whole run of the program shows: moves with their journals, free numbers and runs in
+//! order, small arenas, and public calls that the program does without. What a run shows is a case of `sd_cases`.
 #![tactic(auto)]
 
 #[cfg(test)]

@@ -1,4 +1,5 @@
-// Which numbers a table of nodes gives, which no contract tells. The helpers have no contract, so a test has nothing to prove.
+// Which numbers a table of nodes gives, which no contract tells. The helpers have no contract, so a test has nothing
+// to prove.
 use sd_runs::TakeError;
 use sd_unique::{Found, Nodes};
 use std::alloc::Global;

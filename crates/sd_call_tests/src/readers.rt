@@ -1,5 +1,5 @@
-// What the readers keep, where a run shows the value alone: the nodes of an SDD file, the literals of a formula, and the
-// numbers of a job.
+// What the readers keep, where a run shows the value alone: the nodes of an SDD file, the literals of a formula, and
+// the numbers of a job.
 use sd_cache::Cache;
 use sd_file::{FileNode, SddFile, build, read_sdd};
 use sd_formula::{Formula, GenerateError, Kind, generate, read_dimacs};

@@ -18,7 +18,7 @@
 //! - `again NAME`: the file is there, and a second run gives the same status, `out` and `err`, and leaves it the same.
 //! - `fronts NAME`: a run for each proper front of the text of that file. Rows `to COUNT LINE` follow: for fronts of up
 //!   to COUNT bytes the run ends with the case's status and that line on `err`, prints nothing, and writes none of the
-//!   files that the case lacks; with no LINE it ends with 0 and nothing on `err`.
+//!   files that the case lacks; with no LINE it ends with 0 and nothing on `err`. Nothing else is looked at.
 //!
 //! Text lines belong to the `file`, `out`, `err` or `holds` above them, or to a named text for later ones, which
 //! `text NAME` begins: `|TEXT` ends with a line feed, `:TEXT` does not, `*COUNT TEXT` is the text so many times, and

@@ -35,8 +35,8 @@ pub enum VtreeFault {
     /// No leaf has this variable; it is the least such one.
     #[error("VariableMissing")]
     VariableMissing { variable: u32 },
-    /// The number of nodes in the header is no vtree's: a vtree over 1 to 1,024 variables has an odd number of nodes, 2047
-    /// at most. Only `count_variables` tests for this.
+    /// The number of nodes in the header is no vtree's: a vtree over 1 to 1,024 variables has an odd number of nodes,
+    /// 2047 at most. Only `count_variables` tests for this.
     #[error("NodesRange")]
     NodesRange { found: u64 },
     /// Out of memory, whatever the text.
