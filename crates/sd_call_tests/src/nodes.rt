@@ -143,12 +143,13 @@ fn numbers_again(nodes: &Nodes) -> [Option<u32>; 4] {
 }
 
 /// Of 40,000 nodes all but one are retired, in an order of their own. As many others get their numbers, from that of
-/// the last one on and then the least first, and runs: each is found, and the table is as large as before.
+/// the last one on and then the least first, and runs: each is found, and the table is as large as before. The last one
+/// that was made is the first that is idle.
 #[test]
 fn as_many_again(rt: HostRuntime) -> Result<(), Fail> {
     let mut nodes = used_by_step(rt.alloc(), 1)?;
     let between = [None, Some(2), Some(40_000)];
-    let behind = [Some(0), Some(80_000), Some(40_000)];
+    let behind = [Some(39_998), Some(80_000), Some(40_000)];
     assert_eq!(rt; made_again(&mut nodes)?, [between, behind]);
     let numbers = [Some(39_999), Some(0), Some(39_998), Some(39_963)];
     assert_eq!(rt; numbers_again(&nodes), numbers);
