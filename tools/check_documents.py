@@ -5,9 +5,9 @@ README's table of options against the options of `sd_words`, the fault texts of 
 of the readers and the table of answers of `sd_tool`, the crates of docs/MAP.md against crates.txt, each clause, edit,
 case and test that the answers of docs/PROVED.md name and each path that a document names against the files, the number
 of definitions in README against the count, and the commands of README and docs/TOUR.md against examples/expected.txt,
-which has what each prints and writes. with --run PROGRAM it runs these too, as the merge gate does. No sentence of README has over 40 words; in
-no document has a paragraph over 120, a cell or a sentence over 45, and none names a commit. Its status is 1 where
-something differs.
+which has what each prints and writes. With --run PROGRAM it runs these too, as the merge gate does. No sentence of
+README has over 40 words; no document has a paragraph of over 120, or a cell or a sentence of over 45, and none names a
+commit. Its status is 1 where something differs.
 """
 import glob
 import os
