@@ -18,8 +18,8 @@ use Rattle.sd_vfile.specs.declared.form.Form.TheVariants.{LeafLine, InnerLine}
 use Rattle.sd_vfile.specs.Reads.{Entry, all_values, tree_with_id, has_id, is_leaf, has_leaf, has_leaf_line}
 use Rattle.sd_vfile.specs.Reads.{numbers_behind, placed, entry_of, form_with, form_of, form_placed, entry_by_form}
 use Rattle.sd_vfile.specs.Reads.{stated_behind, nodes_of, of_nodes, one_root, roots_of, missing, none_missing}
-use Rattle.sd_vfile.specs.Reads.{tree_of_entries, tree_of_lines, vtree_file}
-use Rattle.sd_vfile.proofs.Placed.{done}
+use Rattle.sd_vfile.specs.Reads.{tree_of_entries, tree_of_lines, node_lines, whole_tree, stated_by, vtree_file}
+use Rattle.sd_vfile.proofs.Placed.{done, past, through}
 
 -- ---- what the earlier lines have
 
@@ -223,3 +223,61 @@ vtree_file_is v bytes =
     ∙ ap (λ (made : List Entry → Result Tree (List ℕ)). nodes_of (codes "vtree") (entry_by_form v) lines >>= made)
     (fun_ext (λ es. tree_is v es))
     ∙ sym (nodes_made (codes "vtree") (entry_by_form v) (tree_of_entries v) lines)
+
+-- the node lines of a text, where a tree is made of them
+pub lines_are : (v : ℕ) (bytes : List ℕ) (header : TextLine) (lines : List TextLine) (stated : ℕ) (es : List Entry)
+    (t : Tree) → content_of 99 bytes ≡ header ∷ lines → stated_by header.words ≡ Some stated
+    → each_after (entry_by_form v) [] lines ≡ Ok es → whole_tree v stated es ≡ Ok t → node_lines v bytes ≡ Ok es
+lines_are v bytes header lines stated es t content has read whole =
+    let same = past (not (stated == length es)) _ (tree_of_entries v es) t whole in
+    ap (nodes_of (codes "vtree") (entry_of v)) content
+    ∙ ap (λ (node : List Entry → TextLine → Result Entry (List ℕ)). nodes_of (codes "vtree") node (header ∷ lines))
+    (fun_ext (λ es. fun_ext (λ line. entry_is v es line)))
+    ∙ kept (nodes_of (codes "vtree") (entry_by_form v) (header ∷ lines))
+    ∙ sym (nodes_made (codes "vtree") (entry_by_form v) done (header ∷ lines))
+    ∙ rw (has, read, same.0) refl
+  where
+    kept : (r : Result (List Entry) (List ℕ)) → r ≡ (r >>= done)
+    kept (Ok nodes) = refl
+    kept (Err fault) = refl
+
+-- node lines that were read, one after another
+pub record AreLines (v : ℕ) (es : List Entry) : Type 0 where
+  pub lines : List TextLine
+  pub read : each_after (entry_by_form v) [] lines ≡ Ok es
+
+-- those of a text are
+pub lines_of_text : (v : ℕ) (bytes : List ℕ) (es : List Entry) → node_lines v bytes ≡ Ok es → AreLines v es
+lines_of_text v bytes es e =
+    go (content_of 99 bytes)
+    (sym (ap (λ (node : List Entry → TextLine → Result Entry (List ℕ)). nodes_of (codes "vtree") node (content_of 99 bytes))
+    (fun_ext (λ es. fun_ext (λ line. entry_is v es line)))) ∙ e)
+  where
+    go : (content : List TextLine) → nodes_of (codes "vtree") (entry_by_form v) content ≡ Ok es → AreLines v es
+    go [] h = cc
+    go (header ∷ lines) h =
+        let counted = λ (count : List ℕ) (nodes : List Entry).
+        fault_if (not (slice_index count 0 == length nodes)) (counts (slice_index count 0) (length nodes)) >> done nodes in
+        let first = through (ok_or (numbers_behind (codes "vtree") 1 header.words) (codes ": no header"))
+        (λ count. each_after (entry_by_form v) [] lines >>= counted count) es h in
+        let second = through (each_after (entry_by_form v) [] lines) (counted first.middle) es first.led in
+        let differs = not (slice_index first.middle 0 == length second.middle) in
+        let third = past differs (counts (slice_index first.middle 0) (length second.middle)) (done second.middle) es
+        second.led in
+        let same : done second.middle ≡ done es = third.1 in
+        let is : second.middle ≡ es = cc in
+        record { lines = lines; read = second.gave ∙ ap done is }
+
+-- and the tree of the text is that of their one root
+pub root_of_text : (v : ℕ) (bytes : List ℕ) (es : List Entry) (t : Tree) → vtree_file v bytes ≡ Ok t
+    → node_lines v bytes ≡ Ok es → one_root (roots_of es) ≡ Ok t
+unfolding vtree_file
+root_of_text v bytes es t file lines =
+    go (one_root (roots_of es)) (find (λ x. not (has_leaf x es)) (range_with_len 1 v)) (rw lines at file)
+  where
+    go : (r : Result Tree (List ℕ)) (o : Option ℕ)
+        → (r >>= (λ tree. option_map_or (λ x. Err (codes ": variable missing: " ++ number_text x)) o (Ok tree))) ≡ Ok t
+        → r ≡ Ok t
+    go (Err fault) o h = h
+    go (Ok tree) None h = h
+    go (Ok tree) (Some x) h = cc

@@ -10,6 +10,11 @@ pub mod Accepted
 pub mod Places
 pub mod Roots
 pub mod Writing
+-- the places of nodes, by their ids
+pub mod Standing
+pub mod Located
+pub mod IdPlaces
+pub mod IdsRead
 -- what is written is read back
 pub mod Texts
 pub mod Written

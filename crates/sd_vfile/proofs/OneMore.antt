@@ -129,7 +129,7 @@ read_one_more v es e read (leaf_placed id y new low high own) =
       in_range = in_range_more v es entry read.in_range here;
       account = λ x. leaf_account v id y x es read new;
       well_formed = well_formed_more v es entry read.well_formed
-          (record { variable = λ x h. (here x h).1; children = λ i h. cc });
+          (record { new = new; variable = λ x h. (here x h).1; children = λ i h. cc });
     }
 read_one_more v es e read (inner_placed id left right l r new at_left at_right two free_left free_right) =
     let entry : Entry = record { id = id; tree = Node l r; children = left ∷ right ∷ [] } in
@@ -142,5 +142,5 @@ read_one_more v es e read (inner_placed id left right l r new at_left at_right t
       in_range = in_range_more v es entry read.in_range (λ x h. cc);
       account = λ x. inner_account v id left right x l r es read new at_left at_right two free_left free_right
           entry refl refl refl;
-      well_formed = well_formed_more v es entry read.well_formed (record { variable = λ x h. cc; children = on_lines });
+      well_formed = well_formed_more v es entry read.well_formed (record { new = new; variable = λ x h. cc; children = on_lines });
     }

@@ -125,7 +125,7 @@ later_found id p es h other there =
 pub well_formed_below : (v w : ℕ) (es : List Entry) → v ≤ w → AreWellFormed v es → AreWellFormed w es
 well_formed_below v w es h well_formed p within =
     let here = well_formed p within in
-    record { variable = λ x leaf. le (here.variable x leaf); children = here.children }
+    record { new = here.new; variable = λ x leaf. le (here.variable x leaf); children = here.children }
   where
     le : {x : ℕ} → x ≤ v → x ≤ w
     le {x} k = omega arith

@@ -1,8 +1,12 @@
 -- Worked examples of vtree files, with their trees or their first faults.
-use Rattle.std.proofs.Common.{◌≡◌, refl, Ok, Err}
+use Rattle.std.proofs.Common.{◌≡◌, ℕ, [], ◌∷◌, refl, None, Ok, Err}
 use Rattle.std.specs.Prelude.{codes}
+use Rattle.std.specs.Cmp.{nat_cmp_total}
+use Rattle.std.specs.FinMap.{from_entries, get, get-from_entries}
+use Rattle.std.specs.Ordering.{nat_cmp}
 use Rattle.sd_model.specs.Text.{number_text}
 use Rattle.sd_model.specs.Tree.{Leaf, Node}
+use Rattle.sd_vfile.specs.Ids.{ids_of}
 use Rattle.sd_vfile.specs.Reads.{vtree_file, variables_stated}
 
 -- ids in any order
@@ -87,3 +91,30 @@ past_the_most = refl
 headless : variables_stated (codes "L 0 1\n") ≡ Err (codes ": no header")
 unfolding variables_stated
 headless = refl
+
+-- ---- ids
+
+-- each id has the in-order number of its node, whatever the order of the lines
+ids_placed : ids_of 2 (codes "vtree 3\nL 7 1\nL 9 2\nI 20 7 9\n")
+    ≡ Ok (from_entries ((7, 0) ∷ (9, 2) ∷ (20, 1) ∷ []))
+unfolding ids_of vtree_file
+ids_placed = refl
+
+turned_ids : ids_of 2 (codes "vtree 3\nL 7 1\nL 9 2\nI 20 9 7\n")
+    ≡ Ok (from_entries ((7, 2) ∷ (9, 0) ∷ (20, 1) ∷ []))
+unfolding ids_of vtree_file
+turned_ids = refl
+
+balanced_ids : ids_of 4 (codes "vtree 7\nL 8 4\nL 7 3\nI 6 7 8\nL 5 2\nL 4 1\nI 3 4 5\nI 2 3 6\n")
+    ≡ Ok (from_entries ((8, 6) ∷ (7, 4) ∷ (6, 5) ∷ (5, 2) ∷ (4, 0) ∷ (3, 1) ∷ (2, 3) ∷ []))
+unfolding ids_of vtree_file
+balanced_ids = refl
+
+-- an id that no line has has no position
+no_such_id : get {X = ℕ} (from_entries {R = nat_cmp} ((7, 0) ∷ (9, 2) ∷ (20, 1) ∷ [])) 8 ≡ None
+no_such_id = get-from_entries nat_cmp_total ((7, 0) ∷ (9, 2) ∷ (20, 1) ∷ []) 8
+
+-- the faults are those of the tree
+ids_of_two_roots : ids_of 2 (codes "vtree 2\nL 0 1\nL 2 2\n") ≡ Err (codes ": 2 roots")
+unfolding ids_of vtree_file number_text
+ids_of_two_roots = refl

@@ -89,11 +89,15 @@ abbrev pub one_root : List Entry → Result Tree (List ℕ)
 one_root (root ∷ []) = Ok root.tree
 one_root roots = Err (codes ": " ++ number_text (length roots) ++ codes " roots")
 
+-- the nodes of a text over the variables 1 to v; blank lines and comments, which begin with c, are passed over
+abbrev pub node_lines : ℕ → List ℕ → Result (List Entry) (List ℕ)
+node_lines v bytes = nodes_of (codes "vtree") (entry_of v) (content_of 99 bytes)
+
 -- The tree of a text over the variables 1 to v, or the text of its first fault. It is the tree of the one node that is
--- no child, and each variable has a leaf. Blank lines and comments, which begin with c, are passed over.
+-- no child, and each variable has a leaf.
 unfoldable pub vtree_file : ℕ → List ℕ → Result Tree (List ℕ)
 vtree_file v bytes = do
-  entries ← nodes_of (codes "vtree") (entry_of v) (content_of 99 bytes)
+  entries ← node_lines v bytes
   tree ← one_root (filter (λ e. not (is_child e.id entries)) entries)
   option_map_or (λ x. Err (codes ": variable missing: " ++ number_text x))
       (find (λ x. not (has_leaf x entries)) (range_with_len 1 v)) (Ok tree)

@@ -90,8 +90,9 @@ entry_tree entries index = (slice_index_or entries index no_entry).tree
 
 -- ---- what is known of lines that were read
 
--- a leaf has a variable of 1 to v, and children are on earlier lines
+-- the id is new, a leaf has a variable of 1 to v, and children are on earlier lines
 pub record IsWellFormed (v : ℕ) (earlier : List Entry) (e : Entry) : Type 0 where
+  pub new : has_id e.id earlier ≡ false
   pub variable : (x : ℕ) → is_leaf x e.tree ≡ true → x ≤ v
   pub children : (id : ℕ) → list_any (λ child. child == id) e.children ≡ true → has_id id earlier ≡ true
 

@@ -4,12 +4,15 @@
 
 mod fault;
 mod form;
+mod ids;
 pub mod laws;
 mod nodes;
+mod placing;
 mod reader;
 mod whole;
 mod writer;
 
 pub use fault::VtreeFault;
+pub use ids::{Ids, read_ids};
 pub use reader::{count_variables, read_vtree};
 pub use writer::write_vtree;

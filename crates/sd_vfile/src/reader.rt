@@ -7,9 +7,11 @@ ghost use Rattle.sd_model.specs.Seen.{tree_of};
 ghost use Rattle.sd_model.specs.Tree.{leaves};
 ghost use Rattle.sd_vtree.specs.Numbered.{IsNumbered, plain_tree};
 ghost use Rattle.sd_vfile.specs.Reads as texts;
+ghost use Rattle.sd_vfile.specs.Steps.{entries_of};
 ghost use Rattle.sd_vfile.specs.Reads.{Fails, Gives, vtree_file, variables_stated, vtree_fault_text};
 
 use crate::fault::VtreeFault;
+use crate::form::Form;
 use crate::nodes::read_nodes;
 use crate::whole::whole_tree;
 use sd_base::{ContentLines, Line, natural};
@@ -32,8 +34,8 @@ pub fn read_vtree(alloc: Global, bytes: &[u8], variables: u32) -> Result<Vtree, 
     ensures leaves { IfOk result (λ t. leaves (plain_tree t) ≡ variables) }
     ensures numbered { IfOk result IsNumbered }
 {
-    let tree = read_tree(alloc, bytes, variables)?;
-    let vtree = Vtree::of_tree(alloc, &tree)?;
+    let whole = read_whole(alloc, bytes, variables)?;
+    let vtree = Vtree::of_tree(alloc, &whole.tree)?;
     Ok(vtree)
 }
 
@@ -73,12 +75,21 @@ fn content(bytes: &[u8]) -> ContentLines<'_>
     ContentLines::new(bytes, b'c')
 }
 
-/// The plain tree of a text.
+/// What a text has: its node lines, and the tree of them.
+#[derive(Drop)]
+pub(crate) struct Whole {
+    pub(crate) forms: Vec<Form>,
+    pub(crate) tree: Tree,
+}
+
+/// The node lines of a text, with their tree.
 #[tactic(auto, using(crate::proofs::ByNumbers::vtree_file_is))]
-fn read_tree(alloc: Global, bytes: &[u8], variables: u32) -> Result<Tree, VtreeFault>
+pub(crate) fn read_whole(alloc: Global, bytes: &[u8], variables: u32) -> Result<Whole, VtreeFault>
     requires within_limit { variables ≤ 1024 }
     requires fits { length bytes.now ≤ 67108864 }
-    ensures { Gives tree_of result (vtree_file variables bytes.now) }
+    ensures tree { Gives (λ whole. tree_of whole.tree) result (vtree_file variables bytes.now) }
+    ensures lines { IfOk result (λ whole.
+        texts.node_lines variables bytes.now ≡ Ok (entries_of whole.forms.items)) }
 {
     let mut lines = content(bytes);
     let Some(header) = lines.next() else {
@@ -88,7 +99,8 @@ fn read_tree(alloc: Global, bytes: &[u8], variables: u32) -> Result<Tree, VtreeF
         return Err(VtreeFault::NoHeader);
     };
     let forms = read_nodes(alloc, variables, lines)?;
-    whole_tree(alloc, variables, stated, &forms)
+    let tree = whole_tree(alloc, variables, stated, &forms)?;
+    Ok(Whole { forms, tree })
 }
 
 /// The number of node lines that a header states.
