@@ -249,15 +249,17 @@ pub record AreLines (v : ℕ) (es : List Entry) : Type 0 where
 -- those of a text are
 pub lines_of_text : (v : ℕ) (bytes : List ℕ) (es : List Entry) → node_lines v bytes ≡ Ok es → AreLines v es
 lines_of_text v bytes es e =
-    go (content_of 99 bytes)
-    (sym (ap (λ (node : List Entry → TextLine → Result Entry (List ℕ)). nodes_of (codes "vtree") node (content_of 99 bytes))
+    let content = content_of 99 bytes in
+    go content
+    (sym (ap (λ (node : List Entry → TextLine → Result Entry (List ℕ)). nodes_of (codes "vtree") node content)
     (fun_ext (λ es. fun_ext (λ line. entry_is v es line)))) ∙ e)
   where
     go : (content : List TextLine) → nodes_of (codes "vtree") (entry_by_form v) content ≡ Ok es → AreLines v es
     go [] h = cc
     go (header ∷ lines) h =
         let counted = λ (count : List ℕ) (nodes : List Entry).
-        fault_if (not (slice_index count 0 == length nodes)) (counts (slice_index count 0) (length nodes)) >> done nodes in
+        fault_if (not (slice_index count 0 == length nodes)) (counts (slice_index count 0) (length nodes))
+        >> done nodes in
         let first = through (ok_or (numbers_behind (codes "vtree") 1 header.words) (codes ": no header"))
         (λ count. each_after (entry_by_form v) [] lines >>= counted count) es h in
         let second = through (each_after (entry_by_form v) [] lines) (counted first.middle) es first.led in

@@ -52,7 +52,8 @@ find_line t id (e ∷ es) = rw (test e.id) (go (e.id == id) (find_line t id es))
     go : (b : Bool) → find nat_cmp id (map (λ d. (d.id, position_in t d.tree)) es)
         ≡ option_map (position_in t) (tree_with_id id es)
         → cond b (Some (position_in t e.tree)) (find nat_cmp id (map (λ d. (d.id, position_in t d.tree)) es))
-        ≡ option_map (position_in t) (option_map (λ (d : Entry). d.tree) (cond b (Some e) (find_first (λ d. d.id == id) es)))
+        ≡ option_map (position_in t)
+        (option_map (λ (d : Entry). d.tree) (cond b (Some e) (find_first (λ d. d.id == id) es)))
     go true later = refl
     go false later = later
 

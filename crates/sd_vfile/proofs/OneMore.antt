@@ -142,5 +142,6 @@ read_one_more v es e read (inner_placed id left right l r new at_left at_right t
       in_range = in_range_more v es entry read.in_range (λ x h. cc);
       account = λ x. inner_account v id left right x l r es read new at_left at_right two free_left free_right
           entry refl refl refl;
-      well_formed = well_formed_more v es entry read.well_formed (record { new = new; variable = λ x h. cc; children = on_lines });
+      well_formed = well_formed_more v es entry read.well_formed
+          (record { new = new; variable = λ x h. cc; children = on_lines });
     }

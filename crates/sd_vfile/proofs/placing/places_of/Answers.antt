@@ -1,4 +1,4 @@
-use Rattle.std.proofs.Common.{◌≡◌, ◌<◌, ◌++◌, length, take, get_or, refl, sym, ap, ◌∙◌, arith}
+use Rattle.std.proofs.Common.{◌≡◌, ◌<◌, ◌≤◌, ◌++◌, length, take, get_or, refl, sym, ap, ◌∙◌, arith}
 use Rattle.std.specs.Prelude.{option_map}
 use Rattle.std.proofs.lemmas.List.{take_all}
 use Rattle.std.proofs.lemmas.Option.{same_Some}
@@ -43,7 +43,8 @@ inner_place-place-requires-clause-positive c l is =
     c.in-InnerLine.left c.in-InnerLine.right _ c.loop-form.places c.loop-form-test.true c.in-InnerLine.is
     c.requires.well_formed c.loop-form.invariant.held in
     let same = ap (λ p. p.next) (same_Some l _ (sym is ∙ held.first)) in
-    omega (arith, same, leaves_positive (tree_with c.in-InnerLine.left (entries_of (take c.loop-form.form-index c.args.forms.now))))
+    let earlier = entries_of (take c.loop-form.form-index c.args.forms.now) in
+    omega (arith, same, leaves_positive (tree_with c.in-InnerLine.left earlier))
 
 -- the line in hand gets its place
 pub loop-form-preserved : goal.loop-form-preserved
@@ -79,5 +80,7 @@ loop-form-preserved c =
 pub returns : goal.returns
 returns c id =
     let nodes = entries_of c.args.forms.now in
-    let all = take_all c.loop-form.form-index nodes (omega (arith, length_entries_of c.args.forms.now, c.loop-form-test.false)) in
+    let past : length nodes ≤ c.loop-form.form-index =
+    omega (arith, length_entries_of c.args.forms.now, c.loop-form-test.false) in
+    let all = take_all c.loop-form.form-index nodes past in
     c.loop-form.invariant.held id ∙ ap (λ es. option_map (place_in (tree_of c.args.tree.now)) (tree_with_id id es)) all

@@ -11,7 +11,8 @@ of_tree-requires-clause-vtree c =
 
 pub of_tree-requires-clause-within_limit : goal.of_tree-requires-clause-within_limit
 of_tree-requires-clause-within_limit c =
-    let over = accepted c.args.variables c.args.bytes.now (tree_of c.in_ok-whole.whole.tree) c.in_ok-whole.ensures.tree in
+    let over = accepted c.args.variables c.args.bytes.now (tree_of c.in_ok-whole.whole.tree)
+    c.in_ok-whole.ensures.tree in
     omega (arith, over.count, c.requires.within_limit)
 
 -- over the variables asked for
