@@ -5,7 +5,7 @@ use sd_file::{FileNode, SddFile, build, read_sdd};
 use sd_formula::{Formula, GenerateError, Kind, generate, read_dimacs};
 use sd_manager::Manager;
 use sd_runs::TakeError;
-use sd_vfile::{VtreeFault, count_variables};
+use sd_vfile::{Ids, VtreeFault, count_variables, read_ids};
 use sd_vtree::Vtree;
 use sd_words::read_words;
 use std::alloc::{AllocError, Global};
@@ -216,6 +216,31 @@ fn variables_by_a_header(rt: HostRuntime) {
             Some(Err(VtreeFault::NodesRange { found }))
         );
     }
+}
+
+// The ids of a short text over two variables.
+fn ids_of(alloc: Global, text: &[u8]) -> Option<Result<Ids, VtreeFault>> {
+    if text.len() > 1000 {
+        return None;
+    }
+    Some(read_ids(alloc, text, 2))
+}
+
+// The positions of four ids, of which no line has the one in the middle.
+fn positions_of(ids: &Ids) -> [Option<u32>; 4] {
+    [7, 8, 9, 20].map(|id| ids.position(id))
+}
+
+/// The positions of nodes are looked up by the ids of their lines, which a run shows in no other way.
+#[test]
+fn positions_by_ids(rt: HostRuntime) -> Result<(), Fail> {
+    let ids = ids_of(rt.alloc(), b"vtree 3\nL 7 1\nL 9 2\nI 20 7 9\n").ok_or("too long")??;
+    assert_eq!(rt; positions_of(&ids), [Some(0), None, Some(2), Some(1)]);
+    let turned = ids_of(rt.alloc(), b"vtree 3\nL 7 1\nL 9 2\nI 20 9 7\n").ok_or("too long")??;
+    assert_eq!(rt; positions_of(&turned), [Some(2), None, Some(0), Some(1)]);
+    let forest = ids_of(rt.alloc(), b"vtree 2\nL 7 1\nL 9 2\n").ok_or("too long")?;
+    assert!(rt; matches!(&forest, Err(VtreeFault::NotOneRoot { roots: 2 })));
+    Ok(())
 }
 
 /// Numbers that the words refuse are refused here too.
