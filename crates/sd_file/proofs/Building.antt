@@ -18,12 +18,14 @@ use Rattle.sd_model.specs.Expression.{combine, node_value, expression_value}
 use Rattle.sd_manager.specs.Table.{Table}
 use Rattle.sd_manager.specs.Shown.{ShowsCanonical, IsNodeOf, constant_diagram}
 use Rattle.sd_manager.specs.Making.{Extends}
+use Rattle.sd_manager.proofs.Extending.{extends_self}
 use Rattle.sd_apply.specs.Answers.{HasAnswer, Combines}
 use Rattle.sd_apply.proofs.Listed.{answer_on}
-use Rattle.sd_file.specs.Built.{values_of, value_at, pair_value, AreBuilt}
+use Rattle.sd_file.specs.Built.{values_of, value_at, pair_value, IsMarked, AreReached, AreBuilt, AreChildrenBuilt}
 use Rattle.sd_file.specs.declared.file.FileNode.TheVariants as kinds
-use Rattle.sd_file.specs.Files.{IsFile, entry_at, pairs_in, entry_pairs, kind_of}
+use Rattle.sd_file.specs.Files.{IsEarlier, IsFile, entry_at, pairs_in, entry_pairs, kind_of}
 use Rattle.sd_file.specs.Reads.{Node, File, without_ids, expression_of_file}
+use Rattle.sd_file.proofs.FitLaws.{earlier_at}
 use Rattle.sd_file.proofs.Values.{value_there, last_value}
 
 -- ---- answers
@@ -63,35 +65,59 @@ constant_answer t false c is = record { diagram = constant_diagram false; is = i
 
 -- ---- the nodes of a file
 
--- the answer of an earlier node, in a larger table
-pub built_at : (f : File) (old new : Table) (built : List ℕ) (count index node : ℕ) → Extends old new
-    → AreBuilt old f built → length built ≡ count → index < count → node ≡ slice_index_or built index node
-    → HasAnswer new (value_at f index) node
-built_at f old new built count index node kept are all below is =
+-- the answer of a child, in a larger table
+pub child_at : (f : File) (old new : Table) (built : List ℕ) (count index node : ℕ) → Extends old new
+    → HasAnswer old (value_at f index) (slice_index_or built index 0) → length built ≡ count → index < count
+    → node ≡ slice_index_or built index node → HasAnswer new (value_at f index) node
+child_at f old new built count index node kept answer all below is =
     let within : index < length built = omega (arith, all, below) in
     let same = is ∙ get_or_default_zero built index node within in
     subst (HasAnswer new (value_at f index)) (sym same)
-    (answer_on old new kept (value_at f index) (slice_index_or built index 0) (are.each index within))
+    (answer_on old new kept (value_at f index) (slice_index_or built index 0) answer)
 
--- one node more
-pub built_more : (f : File) (old new : Table) (built later : List ℕ) (count c : ℕ) → Extends old new
-    → AreBuilt old f built → length built ≡ count → HasAnswer new (value_at f count) c → later ≡ built ++ c ∷ []
-    → AreBuilt new f later
-built_more f old new built later count c kept are all is same =
-    subst (AreBuilt new f) (sym same) (record { each = at })
+-- the children of a marked node are built
+pub children_built : (f : File) (t : Table) (marks : List Bool) (built : List ℕ) (index : ℕ) → IsFile f
+    → AreReached f 0 marks → AreBuilt t f marks built → length built ≡ index → index < length f.nodes
+    → IsMarked marks index → AreChildrenBuilt t f index built
+children_built f t marks built index is reached are all below marked = record {
+  prime = λ element pair at. are.each pair.0 (omega (arith, all, (earlier element pair at).prime))
+      (reached.children index element pair (omega arith) marked at).prime;
+  sub = λ element pair at. are.each pair.1 (omega (arith, all, (earlier element pair at).sub))
+      (reached.children index element pair (omega arith) marked at).sub;
+}
   where
-    at : (index : ℕ) → index < length (built ++ c ∷ [])
+    earlier : (element : ℕ) (pair : ℕ × ℕ) → slice_get (entry_pairs f index) element ≡ Some pair → IsEarlier index pair
+    earlier element pair at = earlier_at f index element pair is below at
+
+-- one node more, which has an answer where it is marked
+pub built_more : (f : File) (old new : Table) (marks : List Bool) (built later : List ℕ) (count c : ℕ)
+    → Extends old new → AreBuilt old f marks built → length built ≡ count
+    → (IsMarked marks count → HasAnswer new (value_at f count) c) → later ≡ built ++ c ∷ []
+    → AreBuilt new f marks later
+built_more f old new marks built later count c kept are all is same =
+    subst (AreBuilt new f marks) (sym same) (record { each = at })
+  where
+    at : (index : ℕ) → index < length (built ++ c ∷ []) → IsMarked marks index
         → HasAnswer new (value_at f index) (slice_index_or (built ++ c ∷ []) index 0)
-    at index below = elim (cases_lt index (length built)) [
+    at index below marked = elim (cases_lt index (length built)) [
       | inl earlier ↦
           subst (HasAnswer new (value_at f index)) (sym (get_or_append_left built (c ∷ []) 0 index earlier))
-          (answer_on old new kept (value_at f index) (slice_index_or built index 0) (are.each index earlier))
+          (answer_on old new kept (value_at f index) (slice_index_or built index 0) (are.each index earlier marked))
       | inr last ↦
           let here : length built ≡ index = omega (arith, length-append built (c ∷ []), below, last) in
-          subst (λ n. HasAnswer new (value_at f n) (slice_index_or (built ++ c ∷ []) n 0)) here
-          (subst (HasAnswer new (value_at f (length built))) (sym (get_or-append_seam built c [] 0))
-          (subst (λ n. HasAnswer new (value_at f n) c) (sym all) is))
+          let place : count ≡ index = omega (arith, all, here) in
+          subst (λ n. HasAnswer new (value_at f index) (slice_index_or (built ++ c ∷ []) n 0)) here
+          (subst (HasAnswer new (value_at f index)) (sym (get_or-append_seam built c [] 0))
+          (subst (λ n. HasAnswer new (value_at f n) c) place (is (subst (IsMarked marks) (sym place) marked))))
     ]
+
+-- one node more without a mark
+pub built_past : (f : File) (t : Table) (marks : List Bool) (built later : List ℕ) (count c : ℕ)
+    → AreBuilt t f marks built → length built ≡ count → slice_index_or marks count false ≡ false
+    → later ≡ built ++ c ∷ [] → AreBuilt t f marks later
+built_past f t marks built later count c are all none is =
+    built_more f t t marks built later count c (extends_self t) are all
+    (λ marked. absurd (cc (sym marked ∙ none))) is
 
 -- ---- what each kind of node shows
 
@@ -152,16 +178,16 @@ decomposition_built t f index vtree count is below kind c shown =
     (λ assignment. value_of_plain f index assignment (FileDecomposition (entry_pairs f index)) is below same) shown
 
 -- the last of all nodes is the file's
-pub last_built : (f : File) (t : Table) (built : List ℕ) (last_index node : ℕ) → AreBuilt t f built
-    → length built ≡ length f.nodes → last_index + 1 ≡ length built → node ≡ slice_index_or built last_index node
-    → HasAnswer t (expression_value (expression_of_file f)) node
-last_built f t built last_index node are all last is =
+pub last_built : (f : File) (t : Table) (marks : List Bool) (built : List ℕ) (last_index node : ℕ)
+    → AreReached f 0 marks → AreBuilt t f marks built → length built ≡ length f.nodes → last_index + 1 ≡ length built
+    → node ≡ slice_index_or built last_index node → HasAnswer t (expression_value (expression_of_file f)) node
+last_built f t marks built last_index node reached are all last is =
     let within : last_index < length built = omega (arith, last) in
     let end : last_index + 1 ≡ length f.nodes = omega (arith, last, all) in
     let same = is ∙ get_or_default_zero built last_index node within in
     answer_same t (value_at f last_index) (expression_value (expression_of_file f)) node
     (λ assignment. last_value f last_index assignment end)
-    (subst (HasAnswer t (value_at f last_index)) (sym same) (are.each last_index within))
+    (subst (HasAnswer t (value_at f last_index)) (sym same) (are.each last_index within (reached.last last_index end)))
 
 -- ---- the pairs of a decomposition
 

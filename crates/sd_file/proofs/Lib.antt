@@ -23,6 +23,7 @@ pub mod LineForms
 pub mod LineLaws
 pub mod LinesRead
 pub mod Literals
+pub mod Marks
 pub mod NodeLines
 pub mod Numbering
 pub mod Pigeons

@@ -1,4 +1,4 @@
-//! The node of a file: each of its nodes is built of earlier ones.
+//! The node of a file: each node that its last one reaches is built of earlier ones.
 
 ghost use Rattle.std.specs.Prelude.{◌≡◌, ◌≤◌, ◌<◌, length, IfOk, IfErr};
 ghost use Rattle.std.specs.List.{list_any};
@@ -9,7 +9,8 @@ ghost use Rattle.sd_manager.specs.Valid.{IsTable};
 ghost use Rattle.sd_manager.specs.Making.{Extends, KeepsRule};
 ghost use Rattle.sd_apply.specs.Answers.{HasAnswer};
 ghost use Rattle.sd_apply.specs.Serving.{Serves};
-ghost use Rattle.sd_file.specs.Built.{AreBuilt, value_at, pair_value};
+ghost use Rattle.sd_file.specs.Built.{AreBuilt, AreChildrenBuilt, AreReached, HasMarked};
+ghost use Rattle.sd_file.specs.Built.{value_at, pair_value};
 ghost use Rattle.sd_file.specs.Files.{entry_pairs, IsFile};
 ghost use Rattle.sd_file.specs.Reads.{expression_of_file};
 
@@ -18,7 +19,7 @@ use sd_apply::{and, or};
 use sd_cache::Cache;
 use sd_manager::{Manager, NodeId};
 use sd_runs::TakeError;
-use std::alloc::Global;
+use std::alloc::{AllocError, Global};
 
 /// The node with the value of a file, which need not be a partition, compressed or trimmed. It refuses as
 /// `sd_apply::and`.
@@ -37,20 +38,52 @@ pub fn build(
     ensures rule { IfErr result (λ e. KeepsRule m.new e) }
     ensures table { IsTable m.new }
 {
-    let built = build_nodes(alloc, m, c, file)?;
+    let _ = m.vtree();
+    let reached = reached_nodes(alloc, file)?;
+    let built = build_nodes(alloc, m, c, file, &reached)?;
     Ok(built[built.len() - 1])
 }
 
-/// The nodes of all nodes of a file, in order.
+/// A mark for each node of a file: whether the last one reaches it.
+fn reached_nodes(alloc: Global, file: &SddFile) -> Result<Vec<bool>, AllocError>
+    ensures { IfOk result (λ reached. AreReached file.now 0 reached.items) }
+{
+    let count = file.nodes();
+    let mut reached = vec![in alloc; false; count as usize]?;
+    reached[count as usize - 1] = true;
+    for index in (0..count).rev() {
+        if reached[index as usize] {
+            mark_children(file, index, &mut reached);
+        }
+    }
+    Ok(reached)
+}
+
+/// Marks the primes and subs of a node.
+fn mark_children(file: &SddFile, index: u32, marks: &mut [bool])
+    requires index { index < length file.now.nodes }
+    requires size { length marks.old ≡ length file.now.nodes }
+    ensures { HasMarked file.now index (length (entry_pairs file.now index)) marks.old marks.new }
+{
+    for element in 0..file.pair_count(index) {
+        let (prime, sub) = file.pair(index, element);
+        marks[prime as usize] = true;
+        marks[sub as usize] = true;
+    }
+}
+
+/// The nodes of the marked nodes of a file, in order; at the others stands some node.
 fn build_nodes(
     alloc: Global,
     m: &mut Manager,
     c: &mut Cache,
     file: &SddFile,
+    reached: &[bool],
 ) -> Result<Vec<NodeId>, TakeError>
     requires variables { leaves (plain_tree m.old.vtree) ≡ file.now.variables }
+    requires reached { AreReached file.now 0 reached.now }
     requires serves { Serves c.old m.old }
-    ensures ok { IfOk result (λ built. AreBuilt m.new file.now built.items) }
+    ensures ok { IfOk result (λ built. AreBuilt m.new file.now reached.now built.items) }
     ensures all { IfOk result (λ built. length built.items ≡ length file.now.nodes) }
     ensures file { IsFile file.now }
     ensures kept { Extends m.old m.new }
@@ -58,17 +91,21 @@ fn build_nodes(
     ensures rule { IfErr result (λ e. KeepsRule m.new e) }
     ensures table { IsTable m.new }
 {
-    let _ = m.vtree();
+    let unused = m.constant(false);
     let count = file.nodes();
     let mut built = Vec::with_capacity(alloc, count as usize)?;
     for index in 0..count {
-        let node = node_of(alloc, m, c, file, index, &built)?;
-        built.push(node)?;
+        if reached[index as usize] {
+            let node = node_of(alloc, m, c, file, index, &built)?;
+            built.push(node)?;
+        } else {
+            built.push(unused)?;
+        }
     }
     Ok(built)
 }
 
-/// The node of a file's node, of which the earlier ones are built.
+/// The node of a file's node, of which the primes and subs are built.
 fn node_of(
     alloc: Global,
     m: &mut Manager,
@@ -80,7 +117,7 @@ fn node_of(
     requires variables { leaves (plain_tree m.old.vtree) ≡ file.now.variables }
     requires file { IsFile file.now }
     requires index { index < length file.now.nodes }
-    requires built { AreBuilt m.old file.now built.now }
+    requires built { AreChildrenBuilt m.old file.now index built.now }
     requires all { length built.now ≡ index }
     requires serves { Serves c.old m.old }
     ensures ok { IfOk result (λ node. HasAnswer m.new (value_at file.now index) node) }
@@ -108,7 +145,7 @@ fn join(
 ) -> Result<NodeId, TakeError>
     requires index { index < length file.now.nodes }
     requires count { count ≡ length (entry_pairs file.now index) }
-    requires built { AreBuilt m.old file.now built.now }
+    requires built { AreChildrenBuilt m.old file.now index built.now }
     requires all { length built.now ≡ index }
     requires serves { Serves c.old m.old }
     ensures ok { IfOk result (λ node.

@@ -84,6 +84,17 @@ impl SddFile {
         self.node_in(index)
     }
 
+    /// How many pairs a node has, none where it is no decomposition.
+    pub(crate) fn pair_count(&self, index: u32) -> u32
+        requires { index < length self.now.nodes }
+        ensures { result ≡ length (entry_pairs self.now index) }
+    {
+        match self.node(index) {
+            FileNode::Constant(_) | FileNode::Literal { .. } => 0,
+            FileNode::Decomposition { count, .. } => count,
+        }
+    }
+
     /// The node of a number.
     fn node_in(&self, index: u32) -> FileNode
         requires { index < length self.now.nodes }

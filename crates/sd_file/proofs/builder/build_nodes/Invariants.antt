@@ -8,7 +8,7 @@ use Rattle.sd_file.proofs.builder.build_nodes.Given as goal
 -- the first nodes are built
 abbrev pub invariant-loop-index : goal.invariant-loop-index
 invariant-loop-index l = record {
-  built : AreBuilt l.m l.file l.built.items;
+  built : AreBuilt l.m l.file l.reached l.built.items;
   all : length l.built.items ≡ l.index;
   kept : Extends l.fn.m l.m;
   serves : Serves l.c l.m;
