@@ -1,0 +1,4 @@
+pub mod Listed
+pub mod Reading
+pub mod Records
+pub mod Stored
