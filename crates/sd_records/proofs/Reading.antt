@@ -25,7 +25,7 @@ use Rattle.sd_manager.specs.Making.{Extends}
 use Rattle.sd_manager.specs.Valid.{IsTable}
 use Rattle.sd_records.specs.declared.records.Ref.{Ref}
 use Rattle.sd_records.specs.declared.records.Ref.TheVariants as refs
-use Rattle.sd_records.specs.Records.{HasRefs, Unfolds, UnfoldElements, UnfoldsCanonical, IsBefore, AreEntries}
+use Rattle.sd_records.specs.Records.{Entry, HasRefs, Unfolds, UnfoldElements, UnfoldsCanonical, IsBefore, AreEntries}
 use Rattle.sd_records.specs.Reading.{node_of, nodes_of, AreBefore, AreRead, ShowDecomposition}
 use Rattle.sd_records.specs.declared.records.Head.{Head}
 use Rattle.sd_records.specs.Stored.{refs_of, entries_of}
@@ -40,7 +40,7 @@ literal_same x true low = refl
 literal_same x false low = omega (arith, low)
 
 -- what is referred to is an entry
-entry_there : (index : ℕ) (entries : List (ℕ × List (Ref × Ref))) (r : Ref) (p : ℕ) (pairs : List (Ref × Ref))
+entry_there : (index : ℕ) (entries : List Entry) (r : Ref) (p : ℕ) (pairs : List (Ref × Ref))
     → HasRefs entries r p pairs → r ≡ refs.Entry index → (list : List (Ref × Ref))
     × (slice_get entries index ≡ Some (p, list)) × IsPermutation list pairs
 entry_there index entries r p pairs h is =
@@ -49,7 +49,7 @@ entry_there index entries r p pairs h is =
     (h.list, ap (slice_get entries) (sym same) ∙ h.stored, h.order)
 
 -- what is referred to is shown by its node
-pub ref_shown : (t : Table) → IsTable t → (entries : List (ℕ × List (Ref × Ref))) (nodes : List ℕ)
+pub ref_shown : (t : Table) → IsTable t → (entries : List Entry) (nodes : List ℕ)
     → AreRead t entries nodes → (r : Ref) → IsBefore (length nodes) r → (d : Diagram)
     → UnfoldsCanonical (plain_tree t.vtree) entries r d → ShowsCanonical t (node_of nodes r) d
 ref_shown t table entries nodes read r before Bottom h =
@@ -70,7 +70,7 @@ ref_shown t table entries nodes read r before (Decomposition p es) h =
     (subst (λ q. UnfoldsCanonical (plain_tree t.vtree) entries q (Decomposition p es)) k.is h))
 
 -- pairs of what is referred to are shown by their nodes
-elements_read : (t : Table) → IsTable t → (entries : List (ℕ × List (Ref × Ref))) (nodes : List ℕ)
+elements_read : (t : Table) → IsTable t → (entries : List Entry) (nodes : List ℕ)
     → AreRead t entries nodes → (pairs : List (Ref × Ref)) (es : Elements)
     → AllByRecursion (AreBefore (length nodes)) pairs → UnfoldElements (plain_tree t.vtree) entries pairs es
     → ((p s : Diagram) → IsElement p s es → IsCanonical (plain_tree t.vtree) 0 p × IsCanonical (plain_tree t.vtree) 0 s)
@@ -98,7 +98,7 @@ pub record IsRead (t : Table) (p : ℕ) (pairs : List (ℕ × ℕ)) (d : Diagram
 no_constant : (b : Bool) (index : ℕ) → refs.Entry index ≡ refs.Constant b → ⊥
 no_constant b index e = cc
 
-pub entry_read : (t : Table) → IsTable t → (entries : List (ℕ × List (Ref × Ref))) (nodes : List ℕ)
+pub entry_read : (t : Table) → IsTable t → (entries : List Entry) (nodes : List ℕ)
     → AreRead t entries nodes → (index p : ℕ) (list : List (Ref × Ref)) → slice_get entries index ≡ Some (p, list)
     → AllByRecursion (AreBefore (length nodes)) list → (d : Diagram)
     → UnfoldsCanonical (plain_tree t.vtree) entries (refs.Entry index) d
@@ -128,7 +128,7 @@ entry_read t table entries nodes read index p list is before (Decomposition q es
     }
 
 -- an entry stands at a position of the vtree
-pub position_in : (t : Numbered) (entries : List (ℕ × List (Ref × Ref))) (index p : ℕ) (list : List (Ref × Ref))
+pub position_in : (t : Numbered) (entries : List Entry) (index p : ℕ) (list : List (Ref × Ref))
     → slice_get entries index ≡ Some (p, list) → (d : Diagram)
     → UnfoldsCanonical (plain_tree t) entries (refs.Entry index) d → p < length (numbers t)
 position_in t entries index p list is Bottom h = absurd (no_constant false index h.unfolds)
@@ -143,11 +143,11 @@ position_in t entries index p list is (Decomposition q es) h =
 -- ---- one entry after another
 
 -- none is read yet
-pub read_none : (t : Table) (entries : List (ℕ × List (Ref × Ref))) → AreRead t entries []
+pub read_none : (t : Table) (entries : List Entry) → AreRead t entries []
 read_none t entries = record { each = λ index lt d h. absurd (omega (arith, lt)) }
 
 -- one entry more
-pub read_more : (old new : Table) → IsTable old → Extends old new → (entries : List (ℕ × List (Ref × Ref)))
+pub read_more : (old new : Table) → IsTable old → Extends old new → (entries : List Entry)
     (nodes longer : List ℕ) (node p : ℕ) (list : List (Ref × Ref)) → AreRead old entries nodes
     → slice_get entries (length nodes) ≡ Some (p, list) → AllByRecursion (AreBefore (length nodes)) list
     → ((es : Elements) → ShowDecomposition old p (map (nodes_of nodes) list) es
@@ -190,7 +190,8 @@ read_more old new table kept entries nodes longer node p list read is before mad
 -- an entry names earlier ones alone
 pub slice_before : (t : Tree) (heads : List Head) (pairs : List (ℕ × ℕ)) (i start : ℕ) (head : Head)
     (nodes lent : List ℕ) → AreEntries t (entries_of heads pairs) → IsNext heads pairs i start head
-    → length nodes ≡ i → lent ≡ nodes → AllByRecursion (AreBefore (length lent)) (map refs_of (slice_of pairs start head))
+    → length nodes ≡ i → lent ≡ nodes
+    → AllByRecursion (AreBefore (length lent)) (map refs_of (slice_of pairs start head))
 slice_before t heads pairs i start head nodes lent are next all same =
     subst (λ n. AllByRecursion (AreBefore n) (map refs_of (slice_of pairs start head))) (sym (ap length same ∙ all))
     (are.earlier i head.position (map refs_of (slice_of pairs start head)) next.is)
@@ -236,7 +237,7 @@ turn_read old now new table kept heads pairs i start head nodes lent longer elem
 -- ---- the root
 
 -- what unfolds is no entry, or one of them
-pub root_before : (t : Tree) (entries : List (ℕ × List (Ref × Ref))) (r : Ref) (d : Diagram) → Unfolds t entries r d
+pub root_before : (t : Tree) (entries : List Entry) (r : Ref) (d : Diagram) → Unfolds t entries r d
     → IsBefore (length entries) r
 root_before t entries r Bottom h = subst (IsBefore (length entries)) (sym h) tt
 root_before t entries r Top h = subst (IsBefore (length entries)) (sym h) tt

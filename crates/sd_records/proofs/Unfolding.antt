@@ -11,7 +11,7 @@ use Rattle.sd_laws.proofs.Codes.{leaf_range, one_diagram}
 use Rattle.sd_manager.specs.Literals.{code_of_literal}
 use Rattle.sd_records.specs.declared.records.Ref.{Ref}
 use Rattle.sd_records.specs.declared.records.Ref.TheVariants as refs
-use Rattle.sd_records.specs.Records.{Unfolds, UnfoldElements, AreEntries}
+use Rattle.sd_records.specs.Records.{Entry, Unfolds, UnfoldElements, AreEntries}
 use Rattle.sd_records.proofs.Reading.{literal_same, position_in}
 
 -- The entries as the nodes of a table: the one at an index has the code 2,050 + index, and shows what it unfolds to.
@@ -30,17 +30,17 @@ codes_of e = (code_of e.0, code_of e.1)
 abbrev key_of : Numbered → ℕ × List (Ref × Ref) → ℕ × List (ℕ × ℕ)
 key_of t e = (slice_index_or (numbers t) e.0 0, map codes_of e.1)
 
-abbrev keys_of : Numbered → List (ℕ × List (Ref × Ref)) → Lookup
+abbrev keys_of : Numbered → List Entry → Lookup
 keys_of t entries index = option_map (key_of t) (slice_get entries index)
 
 -- each entry stands at a position of the vtree
-abbrev pub AreInside : Numbered → List (ℕ × List (Ref × Ref)) → Type 0
+abbrev pub AreInside : Numbered → List Entry → Type 0
 AreInside t entries =
     (index p : ℕ) (list : List (Ref × Ref)) → slice_get entries index ≡ Some (p, list) → p < length (numbers t)
 
 mutual
   -- what is referred to is shown
-  unfolds_shown : (t : Numbered) → IsNumbered t → (entries : List (ℕ × List (Ref × Ref))) → AreInside t entries
+  unfolds_shown : (t : Numbered) → IsNumbered t → (entries : List Entry) → AreInside t entries
       → (d : Diagram) (r : Ref) → Unfolds (plain_tree t) entries r d → Shows t (keys_of t entries) (code_of r) d
   unfolds_shown t v entries inside Bottom r h = ap code_of h
   unfolds_shown t v entries inside Top r h = ap code_of h
@@ -63,7 +63,7 @@ mutual
       )
 
   -- and so are pairs
-  elements_shown : (t : Numbered) → IsNumbered t → (entries : List (ℕ × List (Ref × Ref))) → AreInside t entries
+  elements_shown : (t : Numbered) → IsNumbered t → (entries : List Entry) → AreInside t entries
       → (es : Elements) (pairs : List (Ref × Ref)) → UnfoldElements (plain_tree t) entries pairs es
       → ShowElements t (keys_of t entries) (map codes_of pairs) es
   elements_shown t v entries inside End [] h = tt
@@ -76,7 +76,7 @@ mutual
   )
 
 -- it is one diagram
-pub one_unfolding : (t : Numbered) → IsNumbered t → (entries : List (ℕ × List (Ref × Ref)))
+pub one_unfolding : (t : Numbered) → IsNumbered t → (entries : List Entry)
     → AreEntries (plain_tree t) entries → (r : Ref) (d e : Diagram) → Unfolds (plain_tree t) entries r d
     → Unfolds (plain_tree t) entries r e → d ≡ e
 one_unfolding t v entries are r d e h k =

@@ -185,7 +185,8 @@ listed_more t old new n place position list h linked stands node all added = (
           is = ap (λ k. slice_get (entries_of new.heads.items new.pairs.items) (k - 1)) same
               ∙ ap (λ z. slice_get z (mark_at old.marks.items m - 1)) grown
               ∙ slice_get_left (entries_of old.heads.items old.pairs.items)
-              ((position, map refs_of (map (codes_in old.marks.items) list)) ∷ []) (mark_at old.marks.items m - 1) inside
+              ((position, map refs_of (map (codes_in old.marks.items) list)) ∷ [])
+              (mark_at old.marks.items m - 1) inside
               ∙ e.is
               ∙ ap (λ z. Some (e.position, z))
               (mapped_same (refs_in old.marks.items) (refs_in new.marks.items) (BothListed old.marks.items)

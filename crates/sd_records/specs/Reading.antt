@@ -11,7 +11,7 @@ use Rattle.sd_manager.specs.Shown.{ShowsCanonical}
 use Rattle.sd_manager.specs.Literals.{code_of_literal}
 use Rattle.sd_records.specs.declared.records.Ref.{Ref}
 use Rattle.sd_records.specs.declared.records.Ref.TheVariants as refs
-use Rattle.sd_records.specs.Records.{UnfoldsCanonical, IsBefore}
+use Rattle.sd_records.specs.Records.{Entry, UnfoldsCanonical, IsBefore}
 
 -- the node of what is referred to, where these are those of the entries
 abbrev pub node_of : List ℕ → Ref → ℕ
@@ -28,7 +28,7 @@ abbrev pub AreBefore : ℕ → Ref × Ref → Type 0
 AreBefore n e = IsBefore n e.0 × IsBefore n e.1
 
 -- each of the first entries is shown by its node
-pub record AreRead (t : Table) (entries : List (ℕ × List (Ref × Ref))) (nodes : List ℕ) : Type 0 where
+pub record AreRead (t : Table) (entries : List Entry) (nodes : List ℕ) : Type 0 where
   pub each : (index : ℕ) → index < length nodes → (d : Diagram) →
       UnfoldsCanonical (plain_tree t.vtree) entries (refs.Entry index) d →
       ShowsCanonical t (slice_index_or nodes index 0) d

@@ -11,13 +11,17 @@ use Rattle.sd_manager.specs.Literals.{literal_of}
 use Rattle.sd_records.specs.declared.records.Ref.{Ref}
 use Rattle.sd_records.specs.declared.records.Ref.TheVariants as refs
 
--- the position of each decomposition with its pairs of a prime and a sub, each one behind those below it, and the root
+-- an entry: its position, and its pairs of a prime and a sub
+abbrev pub Entry : Type 0
+Entry = ℕ × List (Ref × Ref)
+
+-- the entries of its decompositions, each behind those below it, and its root
 pub record FlatDiagram : Type 0 where
-  pub entries : List (ℕ × List (Ref × Ref))
+  pub entries : List Entry
   pub root : Ref
 
 -- it is an entry that stands at the position p and has these pairs in some order
-pub record HasRefs (entries : List (ℕ × List (Ref × Ref))) (r : Ref) (p : ℕ) (pairs : List (Ref × Ref)) : Type 0 where
+pub record HasRefs (entries : List Entry) (r : Ref) (p : ℕ) (pairs : List (Ref × Ref)) : Type 0 where
   pub index : ℕ
   pub list : List (Ref × Ref)
   pub is : r ≡ refs.Entry index
@@ -26,7 +30,7 @@ pub record HasRefs (entries : List (ℕ × List (Ref × Ref))) (r : Ref) (p : �
 
 abbrev mutual
   -- what is referred to is the diagram, whose elements are in the structural order; in an entry the order is free
-  pub Unfolds : Tree → List (ℕ × List (Ref × Ref)) → Ref → Diagram → Type 0
+  pub Unfolds : Tree → List Entry → Ref → Diagram → Type 0
   Unfolds t entries r Bottom = r ≡ refs.Constant false
   Unfolds t entries r Top = r ≡ refs.Constant true
   Unfolds t entries r (Literal p x positive) =
@@ -36,7 +40,7 @@ abbrev mutual
       × IsStrictlySortedBy diagram_cmp (primes elements)
 
   -- each pair is its element
-  pub UnfoldElements : Tree → List (ℕ × List (Ref × Ref)) → List (Ref × Ref) → Elements → Type 0
+  pub UnfoldElements : Tree → List Entry → List (Ref × Ref) → Elements → Type 0
   UnfoldElements t entries [] End = Unit {0}
   UnfoldElements t entries [] (Pair p s rest) = ⊥
   UnfoldElements t entries (e ∷ es) End = ⊥
@@ -44,7 +48,7 @@ abbrev mutual
       Unfolds t entries e.0 p × Unfolds t entries e.1 s × UnfoldElements t entries es rest
 
 -- it is this diagram, which is canonical for the vtree
-pub record UnfoldsCanonical (t : Tree) (entries : List (ℕ × List (Ref × Ref))) (r : Ref) (d : Diagram) : Type 0 where
+pub record UnfoldsCanonical (t : Tree) (entries : List Entry) (r : Ref) (d : Diagram) : Type 0 where
   pub unfolds : Unfolds t entries r d
   pub canonical : IsCanonical t 0 d
 
@@ -54,7 +58,7 @@ IsBefore n (refs.Entry index) = index < n
 IsBefore n r = Unit {0}
 
 -- each entry names earlier ones alone, and is some diagram that is canonical for the vtree
-pub record AreEntries (t : Tree) (entries : List (ℕ × List (Ref × Ref))) : Type 0 where
+pub record AreEntries (t : Tree) (entries : List Entry) : Type 0 where
   pub earlier : (index p : ℕ) (list : List (Ref × Ref)) → slice_get entries index ≡ Some (p, list) →
       AllByRecursion (λ (e : Ref × Ref). IsBefore index e.0 × IsBefore index e.1) list
   pub each : (index : ℕ) → index < length entries → (d : Diagram) × UnfoldsCanonical t entries (refs.Entry index) d

@@ -4,7 +4,7 @@ use Rattle.sd_manager.specs.Literals.{literal_at}
 use Rattle.sd_records.specs.declared.records.Head.{Head}
 use Rattle.sd_records.specs.declared.records.Ref.{Ref}
 use Rattle.sd_records.specs.declared.records.Ref.TheVariants as refs
-use Rattle.sd_records.specs.Records.{FlatDiagram}
+use Rattle.sd_records.specs.Records.{Entry, FlatDiagram}
 
 -- What has this code: constants and literals have those of nodes, and the entry at an index has 2,050 more.
 abbrev pub ref_of : ℕ → Ref
@@ -17,7 +17,7 @@ abbrev pub refs_of : ℕ × ℕ → Ref × Ref
 refs_of e = (ref_of e.0, ref_of e.1)
 
 -- the entries with these heads, whose pairs stand one entry after another
-abbrev pub entries_of : List Head → List (ℕ × ℕ) → List (ℕ × List (Ref × Ref))
+abbrev pub entries_of : List Head → List (ℕ × ℕ) → List Entry
 entries_of [] pairs = []
 entries_of (h ∷ heads) pairs = (h.position, map refs_of (take h.count pairs)) ∷ entries_of heads (drop h.count pairs)
 

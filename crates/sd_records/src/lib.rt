@@ -2,8 +2,8 @@
 //!
 //! - `Records` (`records.rt`) has an entry for each decomposition, behind the entries of those below it. A caller sees
 //!   it as `FlatDiagram` of `specs/Records.antt`.
-//! - A diagram is written in one walk that visits each node once (`writer.rt`, `listing.rt`), and read entry by entry, without
-//!   recursion (`reader.rt`).
+//! - A diagram is written in one walk that visits each node once (`writer.rt`, `listing.rt`), and read entry by entry,
+//!   without recursion (`reader.rt`).
 #![tactic(auto)]
 
 mod listing;
