@@ -1,0 +1,128 @@
+//! What no clause says: that tasks are in work at once. And `run_tasks` at concrete types.
+ghost use Rattle.std.specs.Prelude.{◌≡◌, ◌*◌, ◌%◌, ◌^◌};
+
+use crate::{Gate, Open, Task, run_tasks};
+use std::alloc::{AllocError, Global};
+use std::sync::atomic::{AtomicBool, Ordering};
+use std::thread::Threads;
+
+/// How often a gate looks whether the other part came.
+const MOST_TURNS: u32 = 200_000_000;
+
+/// A number to be squared, behind a gate.
+#[derive(Drop)]
+struct Square<G> {
+    gate: G,
+    part: u32,
+    root: u64,
+}
+
+impl<G: Gate + Drop> Task for Square<G> {
+    type Answer = u64;
+
+    ghost answers = { λ t square. square ≡ t.root * t.root % 2 ^ 64 };
+
+    fn work(self) -> u64 {
+        self.gate.enter(self.part);
+        self.root.wrapping_mul(self.root)
+    }
+}
+
+/// What two parts tell each other: that they came, and that they saw the other one.
+#[derive(Drop)]
+struct Flags {
+    first_came: AtomicBool,
+    first_met: AtomicBool,
+    second_came: AtomicBool,
+    second_met: AtomicBool,
+}
+
+/// The gate of the parts 0 and 1: a part tells that it came, and waits for the other one.
+#[derive(Drop)]
+struct Meeting<'a> {
+    flags: &'a Flags,
+}
+
+impl Gate for Meeting<'_> {
+    fn enter(&self, part: u32) {
+        let flags = self.flags;
+        if part == 0 {
+            meet(&flags.first_came, &flags.second_came, &flags.first_met);
+        } else {
+            meet(&flags.second_came, &flags.first_came, &flags.second_met);
+        }
+    }
+}
+
+// Tells that one part came, and waits for the other one.
+fn meet(came: &AtomicBool, other: &AtomicBool, met: &AtomicBool) {
+    came.store(true, Ordering::SeqCst);
+    for _ in 0..MOST_TURNS {
+        if other.load(Ordering::SeqCst) {
+            met.store(true, Ordering::SeqCst);
+            return;
+        }
+    }
+}
+
+// Whether the squares of the numbers below n, by so many workers, at least 1 and at most 16, are those of one.
+fn are_squares<R: Threads + Sync>(
+    rt: &R,
+    alloc: Global,
+    n: u32,
+    workers: u32,
+) -> Result<bool, AllocError> {
+    let mut tasks = Vec::new(alloc);
+    for part in 0..n {
+        let root = u64::from(part);
+        tasks.push(Square {
+            gate: Open,
+            part,
+            root,
+        })?;
+    }
+    let answers = run_tasks(rt, alloc, tasks, workers.clamp(1, 16))?;
+    if answers.len() != n as usize {
+        return Ok(false);
+    }
+    for (root, square) in answers.iter().enumerate() {
+        if *square != (root as u64).wrapping_mul(root as u64) {
+            return Ok(false);
+        }
+    }
+    Ok(true)
+}
+
+// Whether two tasks meet at their gates with so many workers.
+fn two_meet<R: Threads + Sync>(rt: &R, alloc: Global, workers: u32) -> Result<bool, AllocError> {
+    let flags = Flags {
+        first_came: AtomicBool::new(false),
+        first_met: AtomicBool::new(false),
+        second_came: AtomicBool::new(false),
+        second_met: AtomicBool::new(false),
+    };
+    let mut tasks = Vec::new(alloc);
+    for part in 0..2 {
+        let gate = Meeting { flags: &flags };
+        let root = u64::from(part) + 3;
+        tasks.push(Square { gate, part, root })?;
+    }
+    let answers = run_tasks(rt, alloc, tasks, workers.clamp(1, 16))?;
+    let are_right = answers.as_slice() == [9, 16].as_slice();
+    let have_met = flags.first_met.load(Ordering::SeqCst)
+        && flags.second_met.load(Ordering::SeqCst);
+    Ok(are_right && have_met)
+}
+
+#[test]
+fn tasks_have_the_answers_of_one_worker_and_two_are_in_work_at_once(
+    rt: HostRuntime,
+) -> Result<(), AllocError> {
+    for workers in [1, 2, 3, 7, 16] {
+        for n in 0..20 {
+            assert!(rt; are_squares(&rt, rt.alloc(), n, workers)?);
+        }
+    }
+    assert!(rt; two_meet(&rt, rt.alloc(), 2)?);
+    Ok(())
+}
