@@ -1,0 +1,7 @@
+pub mod Grown
+pub mod Paths
+mod Placed
+mod InHand
+mod Steps
+mod Reached
+mod Defined

@@ -1,0 +1,4 @@
+pub mod Order
+pub mod Definers
+pub mod Placing
+pub mod Reaching
