@@ -5,3 +5,6 @@ mod InHand
 mod Steps
 mod Reached
 mod Defined
+mod Falling
+mod Closed
+mod Ordered

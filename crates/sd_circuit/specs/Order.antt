@@ -57,11 +57,20 @@ leads_within ands n one other = reaches ands n (variable_of (line_at ands one).f
 abbrev pub is_on_cycle : List AndLine → ℕ → Bool
 is_on_cycle ands k = leads_within ands (length ands) k k
 
+-- the first and-line that lies on a cycle
+abbrev pub IsFirstOnCycle : List AndLine → ℕ → Type 0
+IsFirstOnCycle ands index = (index < length ands) × (is_on_cycle ands index ≡ true)
+    × ((k : ℕ) → k < index → is_on_cycle ands k ≡ false)
+
 -- an error that tells a cycle names the first and-line that lies on one
 abbrev pub CycleIsFirst : List AndLine → OrderError → Type 0
-CycleIsFirst ands (Cycle index) = (index < length ands) × (is_on_cycle ands index ≡ true)
-    × ((k : ℕ) → k < index → is_on_cycle ands k ≡ false)
+CycleIsFirst ands (Cycle index) = IsFirstOnCycle ands index
 CycleIsFirst ands OutOfMemory = Unit {0}
+
+-- where there is an order no and-line lies on a cycle
+abbrev pub OrderedHasNoCycle : Type 0
+OrderedHasNoCycle = (ands : List AndLine) (order : List ℕ) (k : ℕ) → IsOrdered ands order → k < length ands
+    → is_on_cycle ands k ≡ false
 
 -- the literals that the lines of a circuit define: its inputs, then what its and-lines define
 abbrev pub definitions : Circuit → List ℕ
@@ -83,3 +92,7 @@ pub record IsClosed (c : Circuit) : Type 0 where
   pub first : (k : ℕ) → k < length c.ands → IsDefined c (line_at c.ands k).first
   pub second : (k : ℕ) → k < length c.ands → IsDefined c (line_at c.ands k).second
   pub outputs : (k : ℕ) → k < length c.outputs → IsDefined c (slice_index_or c.outputs k 0)
+
+-- so each variable of an and-line's is defined once
+abbrev pub ClosedDefinesOnce : Type 0
+ClosedDefinesOnce = (c : Circuit) → IsClosed c → DefineOnce c.variables c.ands

@@ -2,10 +2,15 @@
 #![tactic(auto)]
 
 mod and_line;
+mod cycles;
 mod definers;
+pub mod laws;
 mod order;
 mod placing;
+mod ranks;
 mod reaching;
+#[cfg(test)]
+mod tests;
 
 pub use and_line::And;
 pub use order::OrderError;

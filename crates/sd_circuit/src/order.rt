@@ -5,9 +5,9 @@ ghost use Rattle.sd_circuit.specs.Order.{DefineOnce, IsOrdered, CycleIsFirst};
 ghost use Rattle.sd_circuit.specs.Placing.{HasCycle};
 
 use crate::and_line::And;
+use crate::cycles::{first_by_ranks, first_one_by_one};
 use crate::definers::definers;
 use crate::placing::place_all;
-use crate::reaching::lies_on_cycle;
 use std::alloc::Global;
 use thiserror::Error;
 
@@ -52,12 +52,12 @@ fn first_on_cycle(alloc: Global, ands: &[And], definers: &[u32]) -> OrderError
     requires cycle { HasCycle ands.now }
     ensures { CycleIsFirst ands.now result }
 {
-    for index in 0..ands.len() as u32 {
-        match lies_on_cycle(alloc, ands, definers, index) {
-            Ok(true) => return OrderError::Cycle { index },
-            Ok(false) => {}
-            Err(_) => return OrderError::OutOfMemory,
-        }
+    match first_by_ranks(alloc, ands, definers) {
+        Ok(Some(index)) => OrderError::Cycle { index },
+        Ok(None) => match first_one_by_one(alloc, ands, definers) {
+            Ok(index) => OrderError::Cycle { index },
+            Err(_) => OrderError::OutOfMemory,
+        },
+        Err(_) => OrderError::OutOfMemory,
     }
-    unreachable!()
 }
