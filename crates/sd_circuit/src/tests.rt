@@ -112,3 +112,63 @@ fn two_cycles(rt: HostRuntime) -> Result<(), Fail> {
     assert_eq!(rt; answers(alloc, 8, &ands)?, (None, Some(0), Some(0)));
     Ok(())
 }
+
+// The number after this one in a sequence without a plan (the multiplier of Knuth's MMIX).
+fn next(state: u64) -> u64 {
+    state
+        .wrapping_mul(6_364_136_223_846_793_005)
+        .wrapping_add(1_442_695_040_888_963_407)
+}
+
+// The input, or for every third number one of the variables 1 to 13.
+fn some_variable(state: u64) -> u32 {
+    if (state >> 40) % 3 == 0 {
+        1 + ((state >> 48) % 13) as u32
+    } else {
+        1
+    }
+}
+
+// 12 and-lines, which define the variables 2 to 13, with right sides after a sequence that begins here.
+fn mixed(alloc: Global, seed: u32) -> Result<Vec<And>, AllocError> {
+    let mut ands = Vec::new(alloc);
+    let mut state = next(u64::from(seed));
+    for index in 0..12u32 {
+        let first = some_variable(state);
+        state = next(state);
+        let second = some_variable(state);
+        state = next(state);
+        ands.push(And {
+            defined: 2 * (index + 2),
+            first: first.wrapping_mul(2),
+            second: second.wrapping_mul(2),
+        })?;
+    }
+    Ok(ands)
+}
+
+// Of so many circuits, those that have a cycle, and those of them of which the ranks don't tell it.
+fn cycles_and_untold(alloc: Global, count: u32) -> Result<(u32, u32), AllocError> {
+    let mut cycles = 0u32;
+    let mut untold = 0u32;
+    for seed in 0..count {
+        let ands = mixed(alloc, seed)?;
+        let (_, cycle, by_ranks) = answers(alloc, 13, &ands)?;
+        if cycle.is_some() {
+            cycles = cycles.saturating_add(1);
+        }
+        if cycle != by_ranks {
+            untold = untold.saturating_add(1);
+        }
+    }
+    Ok((cycles, untold))
+}
+
+/// Where there is a cycle the ranks tell its first and-line, so that it is never asked for one by one.
+#[test]
+fn ranks_tell(rt: HostRuntime) -> Result<(), Fail> {
+    let (cycles, untold) = cycles_and_untold(rt.alloc(), 20_000)?;
+    assert!(rt; cycles > 2_000 && cycles < 18_000);
+    assert_eq!(rt; untold, 0);
+    Ok(())
+}
