@@ -1,9 +1,9 @@
 -- The and-lines of a closed circuit define once.
-use Rattle.std.proofs.Common.{◌≡◌, ◌≢◌, ◌⊎◌, ℕ, ◌+◌, ◌<◌, ◌≤◌, ◌++◌, ◌/◌, List, length, map, get_or, inl, inr, sym, ◌∙◌}
+use Rattle.std.proofs.Common.{◌≡◌, ℕ, ◌+◌, ◌<◌, ◌≤◌, length, map, get_or, inl, inr, sym, ◌∙◌}
 use Rattle.std.proofs.Common.{ap, subst, arith, length-append}
 use Rattle.std.proofs.lemmas.List.{length-map, get_or-append-add, get_or-map}
 use Rattle.sd_model.specs.Circuit.{Circuit, AndLine}
-use Rattle.sd_circuit.specs.Order.{IsClosed, IsDefined, DefineOnce, definitions, defined_at, variable_of, line_at}
+use Rattle.sd_circuit.specs.Order.{IsClosed, IsDefined, DefineOnce, definitions, variable_of, line_at}
 
 -- what an and-line defines is among the definitions
 definition_at : (c : Circuit) (k : ℕ) → k < length c.ands

@@ -1,8 +1,8 @@
 -- And-lines that use lesser ranks alone lie on no cycle, where ranks never rise.
-use Rattle.std.proofs.Common.{◌≡◌, ℕ, ◌<◌, ◌≤◌, false, List, length, get_or, arith}
+use Rattle.std.proofs.Common.{◌≡◌, ℕ, ◌<◌, false, List, length, get_or, arith}
 use Rattle.sd_model.specs.Circuit.{AndLine}
-use Rattle.sd_circuit.specs.Order.{Uses, leads_within, is_on_cycle}
-use Rattle.sd_circuit.specs.Ranks.{NeverRise, UsesBelow, FallBefore}
+use Rattle.sd_circuit.specs.Order.{is_on_cycle}
+use Rattle.sd_circuit.specs.Ranks.{NeverRise, FallBefore}
 use Rattle.sd_circuit.proofs.Paths.{never_leads}
 
 pub none_before : (ands : List AndLine) (ranks : List ℕ) (line : ℕ) → NeverRise ands ranks → FallBefore ands ranks line

@@ -8,3 +8,4 @@ mod Defined
 mod Falling
 mod Closed
 mod Ordered
+mod Enough

@@ -67,10 +67,15 @@ abbrev pub CycleIsFirst : List AndLine → OrderError → Type 0
 CycleIsFirst ands (Cycle index) = IsFirstOnCycle ands index
 CycleIsFirst ands OutOfMemory = Unit {0}
 
--- where there is an order no and-line lies on a cycle
+-- an and-line that leads to itself in any number of steps lies on a cycle
+abbrev pub StepsAreEnough : Type 0
+StepsAreEnough = (variables : ℕ) (ands : List AndLine) (k n : ℕ) → DefineOnce variables ands → k < length ands
+    → leads_within ands n k k ≡ true → is_on_cycle ands k ≡ true
+
+-- where there is an order no and-line leads to itself, in any number of steps
 abbrev pub OrderedHasNoCycle : Type 0
-OrderedHasNoCycle = (ands : List AndLine) (order : List ℕ) (k : ℕ) → IsOrdered ands order → k < length ands
-    → is_on_cycle ands k ≡ false
+OrderedHasNoCycle = (ands : List AndLine) (order : List ℕ) (k n : ℕ) → IsOrdered ands order → k < length ands
+    → leads_within ands n k k ≡ false
 
 -- the literals that the lines of a circuit define: its inputs, then what its and-lines define
 abbrev pub definitions : Circuit → List ℕ

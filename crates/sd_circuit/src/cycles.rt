@@ -11,8 +11,8 @@ use crate::ranks::ranks;
 use crate::reaching::lies_on_cycle;
 use std::alloc::{AllocError, Global};
 
-/// The first and-line that lies on a cycle, by ranks, in a few steps for each and-line. None where the ranks don't tell
-/// it, which does not happen.
+/// The first and-line that lies on a cycle, by ranks, in a few steps for each and-line. None where there is no cycle,
+/// or where the ranks don't tell it; that they don't does not happen.
 pub(crate) fn first_by_ranks(
     alloc: Global,
     ands: &[And],
