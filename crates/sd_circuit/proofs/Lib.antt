@@ -9,3 +9,8 @@ mod Falling
 mod Closed
 mod Ordered
 mod Enough
+mod Made
+mod Outputs
+mod Read
+mod Sound
+mod Valuing

@@ -3,3 +3,5 @@ pub mod Definers
 pub mod Placing
 pub mod Reaching
 pub mod Ranks
+pub mod Circuits
+pub mod Stored
