@@ -1,0 +1,157 @@
+-- Nodes of gates: one more that is kept, and a later table.
+use Rattle.std.proofs.Common.{◌≡◌, ◌≢◌, ◌⊎◌, ℕ, zero, suc, ◌+◌, ◌*◌, ◌<◌, ◌≤◌, Bool, true, false, not, List, [], ◌∷◌}
+use Rattle.std.proofs.Common.{length, get_or, slice_set, replicate, Some, None, refl, sym, ◌∙◌, ap, subst, arith}
+use Rattle.std.proofs.Common.{inl, inr}
+use Rattle.std.specs.Prelude.{Option}
+use Rattle.std.specs.Option.{IsSome}
+use Rattle.std.proofs.lemmas.Bool.{cases_eq}
+use Rattle.std.proofs.lemmas.List.{get_or-set_same, get_or-set_other, length-set, length-replicate}
+use Rattle.sd_manager.specs.Table.{Table}
+use Rattle.sd_manager.specs.Making.{Extends}
+use Rattle.sd_apply.specs.Answers.{HasAnswer}
+use Rattle.sd_apply.specs.Serving.{last_epoch}
+use Rattle.sd_circuit.specs.Circuits.{OrderedCircuit}
+use Rattle.sd_circuit.specs.declared.wire.Wire.TheVariants.{Gate}
+use Rattle.sd_compile.proofs.Joining.{answer_on}
+use Rattle.sd_gates.specs.declared.sharing.GateNodes.{GateNodes}
+use Rattle.sd_gates.specs.Sharing.{wire_function, place_of, node_at, AreShared, Shares}
+use Rattle.sd_gates.specs.Making.{IsReady, blanks, AddsNegations}
+
+-- ---- places
+
+-- two places are one only of one gate and one sign
+same_place : (g h : ℕ) (p q : Bool) → place_of g p ≡ place_of h q → (g ≡ h) × (p ≡ q)
+same_place g h true true e = (omega (arith, e), refl)
+same_place g h false false e = (omega (arith, e), refl)
+same_place g h true false e = absurd (omega (arith, e))
+same_place g h false true e = absurd (omega (arith, e))
+
+-- a place of a gate is below twice the number of gates
+pub place_inside : (g n : ℕ) (p : Bool) → g < n → place_of g p < 2 * n
+place_inside g n true h = omega (arith, h)
+place_inside g n false h = omega (arith, h)
+
+-- what is kept stands there
+pub put_there : (nodes : List (Option ℕ)) (g n : ℕ) (p : Bool) → place_of g p < length nodes
+    → node_at (slice_set nodes (place_of g p) (Some n)) g p ≡ Some n
+put_there nodes g n p h = get_or-set_same nodes (place_of g p) (Some n) None h
+
+-- and what stood elsewhere stays
+pub put_elsewhere : (nodes : List (Option ℕ)) (g n h : ℕ) (p q : Bool) → place_of h q ≢ place_of g p
+    → node_at (slice_set nodes (place_of g p) (Some n)) h q ≡ node_at nodes h q
+put_elsewhere nodes g n h p q ne = get_or-set_other nodes (place_of g p) (place_of h q) (Some n) None ne
+
+pub put_other : (nodes : List (Option ℕ)) (g n h : ℕ) → h ≢ g
+    → node_at (slice_set nodes (place_of g true) (Some n)) h true ≡ node_at nodes h true
+put_other nodes g n h ne = put_elsewhere nodes g n h true true (λ e. ne (same_place h g true true e).0)
+
+pub put_negation : (nodes : List (Option ℕ)) (g n h : ℕ)
+    → node_at (slice_set nodes (place_of g false) (Some n)) h true ≡ node_at nodes h true
+put_negation nodes g n h = put_elsewhere nodes g n h false true (λ e. absurd (omega (arith, e)))
+
+-- ---- blanks
+
+blanks_most : (nodes : List (Option ℕ)) (i n : ℕ) → blanks (slice_set nodes i (Some n)) ≤ blanks nodes
+blanks_most [] i n = omega arith
+blanks_most (None ∷ nodes) zero n = omega arith
+blanks_most (Some m ∷ nodes) zero n = omega arith
+blanks_most (None ∷ nodes) (suc i) n = let h = blanks_most nodes i n in omega (arith, h)
+blanks_most (Some m ∷ nodes) (suc i) n = blanks_most nodes i n
+
+blanks_less : (nodes : List (Option ℕ)) (i n : ℕ) → i < length nodes → get_or nodes i None ≡ None
+    → blanks (slice_set nodes i (Some n)) < blanks nodes
+blanks_less [] i n h e = absurd (omega (arith, h))
+blanks_less (None ∷ nodes) zero n h e = omega arith
+blanks_less (Some m ∷ nodes) zero n h e = absurd cc
+blanks_less (None ∷ nodes) (suc i) n h e =
+    let k = blanks_less nodes i n (omega (arith, h)) e in omega (arith, k)
+blanks_less (Some m ∷ nodes) (suc i) n h e = blanks_less nodes i n (omega (arith, h)) e
+
+-- a gate that had no node has one, so there are fewer blanks
+pub gate_fewer : (nodes : List (Option ℕ)) (g n : ℕ) → place_of g true < length nodes → node_at nodes g true ≡ None
+    → blanks (slice_set nodes (place_of g true) (Some n)) < blanks nodes
+gate_fewer nodes g n h e = blanks_less nodes (place_of g true) n h e
+
+-- a negation is added
+pub negation_added : (nodes : List (Option ℕ)) (g n : ℕ)
+    → AddsNegations nodes (slice_set nodes (place_of g false) (Some n))
+negation_added nodes g n = record {
+  same = λ h. put_negation nodes g n h;
+  fewer = blanks_most nodes (place_of g false) n;
+}
+
+pub none_added : (nodes : List (Option ℕ)) → AddsNegations nodes nodes
+none_added nodes = record { same = λ h. refl; fewer = omega arith }
+
+-- ---- what is shared
+
+-- one more node
+shared_put : (c : OrderedCircuit) (nodes : List (Option ℕ)) (t : Table) (g n : ℕ) (p : Bool)
+    → AreShared c nodes t → place_of g p < length nodes → HasAnswer t (wire_function c (Gate g p)) n
+    → AreShared c (slice_set nodes (place_of g p) (Some n)) t
+shared_put c nodes t g n p shared inside answer h node q e = go (cases_eq (place_of h q) (place_of g p))
+  where
+    some_same : (x y : ℕ) → Some x ≡ Some y → x ≡ y
+    some_same x y e = cc
+
+    go : ((place_of h q ≡ place_of g p) ⊎ (place_of h q ≢ place_of g p))
+        → HasAnswer t (wire_function c (Gate h q)) node
+    go (inl same) =
+        let both = same_place h g q p same in
+        let is : n ≡ node = some_same n node (sym (put_there nodes g n p inside)
+        ∙ ap (λ i. get_or (slice_set nodes (place_of g p) (Some n)) i None) (sym same) ∙ e) in
+        subst (λ m. HasAnswer t (wire_function c (Gate h q)) m) is
+        (subst (λ b. HasAnswer t (wire_function c (Gate h b)) n) (sym both.1)
+        (subst (λ k. HasAnswer t (wire_function c (Gate k p)) n) (sym both.0) answer))
+    go (inr other) = shared h node q (sym (put_elsewhere nodes g n h p q other) ∙ e)
+
+-- a later table
+pub shared_on : (c : OrderedCircuit) (nodes : List (Option ℕ)) (old new : Table) → Extends old new
+    → AreShared c nodes old → AreShared c nodes new
+shared_on c nodes old new kept shared g node p e =
+    answer_on old new (wire_function c (Gate g p)) node kept (shared g node p e)
+
+-- the table is ready for each later table
+pub ready_on : (c : OrderedCircuit) (gates : GateNodes) (old new : Table) → Extends old new → IsReady c gates old
+    → IsReady c gates new
+ready_on c gates old new kept ready = record {
+  epoch = ready.epoch ∙ ap Some (sym kept.epoch);
+  size = ready.size;
+  shared = shared_on c gates.nodes.items old new kept ready.shared;
+}
+
+-- and with one more node
+pub ready_put : (c : OrderedCircuit) (before after : GateNodes) (t : Table) (g n : ℕ) (p : Bool) → IsReady c before t
+    → g < length c.order → HasAnswer t (wire_function c (Gate g p)) n
+    → after.nodes.items ≡ slice_set before.nodes.items (place_of g p) (Some n) → after.epoch ≡ before.epoch
+    → IsReady c after t
+ready_put c before after t g n p ready h answer nodes epoch =
+    let inside : place_of g p < length before.nodes.items = rw ready.size (place_inside g (length c.order) p h) in
+    record {
+      epoch = epoch ∙ ready.epoch;
+      size = ap length nodes ∙ length-set before.nodes.items (place_of g p) (Some n) ∙ ready.size;
+      shared = subst (λ l. AreShared c l t) (sym nodes)
+          (shared_put c before.nodes.items t g n p ready.shared inside answer);
+    }
+
+-- what is ready is shared
+pub ready_shares : (c : OrderedCircuit) (gates : GateNodes) (t : Table) → IsReady c gates t → Shares c gates t
+ready_shares c gates t ready = record {
+  early = λ e h. go e (sym ready.epoch ∙ h);
+  right = λ n h. ready.shared;
+}
+  where
+    go : (e : ℕ) → Some t.epoch ≡ Some e → e ≤ t.epoch
+    go e h = let k : t.epoch ≡ e = cc in omega (arith, k)
+
+-- no nodes are there at first
+blank_at : (n i : ℕ) → get_or {A = Option ℕ} (replicate n None) i None ≡ None
+blank_at zero i = refl
+blank_at (suc n) zero = refl
+blank_at (suc n) (suc i) = blank_at n i
+
+pub none_shared : (c : OrderedCircuit) (n : ℕ) (t : Table) → AreShared c (replicate n None) t
+none_shared c n t g node p e = absurd (go _ (blank_at n (place_of g p)) e)
+  where
+    go : (o : Option ℕ) → o ≡ None → o ≡ Some node → ⊥
+    go o is too = cc

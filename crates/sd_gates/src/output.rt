@@ -1,0 +1,332 @@
+//! An output as a node.
+
+ghost use Rattle.std.specs.Prelude.{◌≡◌, ◌≢◌, ℕ, ◌*◌, ◌<◌, ◌≤◌, List, Bool, true, false, length, Some, None, IfOk, IfErr, OnOk};
+ghost use Rattle.std.specs.Prelude.{IfSome, IfNone, ◌&&◌, slice_index_or};
+ghost use Rattle.std.specs.Option.{IsSome};
+ghost use Rattle.sd_model.specs.Tree.{leaves};
+ghost use Rattle.sd_model.specs.Circuit.{circuit_output};
+ghost use Rattle.sd_vtree.specs.Numbered.{plain_tree};
+ghost use Rattle.sd_manager.specs.Literals.{literal_of};
+ghost use Rattle.sd_manager.specs.Valid.{IsTable};
+ghost use Rattle.sd_manager.specs.Making.{Extends, KeepsRule};
+ghost use Rattle.sd_apply.specs.Answers.{HasAnswer};
+ghost use Rattle.sd_apply.specs.Serving.{Serves};
+ghost use Rattle.sd_circuit.specs.Circuits.{OrderedCircuit, IsWireWithin, gate_values};
+ghost use Rattle.sd_circuit.specs.declared.wire.Wire.TheVariants.{Gate};
+ghost use Rattle.sd_gates.specs.Sharing.{Shares, wire_function, node_at};
+ghost use Rattle.sd_gates.specs.Making.{IsReady, IsKnown, AddsNegations, IsDescent, current, work_left, blanks};
+
+use crate::sharing::GateNodes;
+use sd_apply::{and, negate};
+use sd_cache::Cache;
+use sd_circuit::{Circuit, Wire};
+use sd_manager::{Manager, NodeId};
+use sd_runs::TakeError;
+use std::alloc::Global;
+
+/// The node of an output, counted from 0. It is made from the gates that it needs and that have no node yet; their
+/// nodes are kept for the next output. It refuses as `sd_apply::and`.
+pub fn output_node(
+    alloc: Global,
+    m: &mut Manager,
+    c: &mut Cache,
+    circuit: &Circuit,
+    gates: &mut GateNodes,
+    index: u32,
+) -> Result<NodeId, TakeError>
+    requires variables { leaves (plain_tree m.old.vtree) ≡ length circuit.now.text.inputs }
+    requires serves { Serves c.old m.old }
+    requires shares { Shares circuit.now gates.old m.old }
+    requires index { index < length circuit.now.text.outputs }
+    ensures ok { IfOk result
+        (λ node. HasAnswer m.new (circuit_output circuit.now.text index) node) }
+    ensures kept { Extends m.old m.new }
+    ensures shares { Shares circuit.now gates.new m.new }
+    ensures serves { Serves c.new m.new }
+    ensures rule { IfErr result (λ e. KeepsRule m.new e) }
+    ensures table { IsTable m.new }
+{
+    // its contract tells that the table is valid
+    let _ = m.vtree();
+    if gates.ready(alloc, m, circuit).is_err() {
+        return Err(TakeError::OutOfMemory);
+    }
+    let wire = circuit.output(index);
+    match make_wire(alloc, m, c, circuit, gates, wire) {
+        Ok(()) => wire_node(alloc, m, c, circuit, gates, wire),
+        Err(error) => Err(error),
+    }
+}
+
+// Makes the gate that a wire is, where it is one.
+fn make_wire(
+    alloc: Global,
+    m: &mut Manager,
+    c: &mut Cache,
+    circuit: &Circuit,
+    gates: &mut GateNodes,
+    wire: Wire,
+) -> Result<(), TakeError>
+    requires variables { leaves (plain_tree m.old.vtree) ≡ length circuit.now.text.inputs }
+    requires serves { Serves c.old m.old }
+    requires ready { IsReady circuit.now gates.old m.old }
+    requires within { IsWireWithin circuit.now (length circuit.now.order) wire }
+    ensures ok { OnOk result (IsKnown gates.new.nodes.items wire) }
+    ensures kept { Extends m.old m.new }
+    ensures ready { IsReady circuit.now gates.new m.new }
+    ensures serves { Serves c.new m.new }
+    ensures rule { IfErr result (λ e. KeepsRule m.new e) }
+    ensures table { IsTable m.new }
+{
+    match wire {
+        Wire::Constant(_) => {
+            let _ = m.vtree();
+            Ok(())
+        }
+        Wire::Input { .. } => {
+            let _ = m.vtree();
+            Ok(())
+        }
+        Wire::Gate { index, .. } => make_gates(alloc, m, c, circuit, gates, index),
+    }
+}
+
+// Makes a gate, and before it all those without nodes that it needs.
+fn make_gates(
+    alloc: Global,
+    m: &mut Manager,
+    c: &mut Cache,
+    circuit: &Circuit,
+    gates: &mut GateNodes,
+    top: u32,
+) -> Result<(), TakeError>
+    requires variables { leaves (plain_tree m.old.vtree) ≡ length circuit.now.text.inputs }
+    requires serves { Serves c.old m.old }
+    requires ready { IsReady circuit.now gates.old m.old }
+    requires top { top < length circuit.now.order }
+    ensures ok { OnOk result (IsSome (node_at gates.new.nodes.items top true)) }
+    ensures kept { Extends m.old m.new }
+    ensures ready { IsReady circuit.now gates.new m.new }
+    ensures serves { Serves c.new m.new }
+    ensures rule { IfErr result (λ e. KeepsRule m.new e) }
+    ensures table { IsTable m.new }
+{
+    let _ = m.vtree();
+    let mut stack = Vec::new(alloc);
+    'making: while !gates.is_known(top) {
+        match step(alloc, m, c, circuit, gates, &mut stack, top) {
+            Ok(()) => {}
+            Err(error) => return Err(error),
+        }
+    }
+    Ok(())
+}
+
+// One step at the gate on the top of the stack: a gate that it needs comes onto the stack, or it is made.
+fn step(
+    alloc: Global,
+    m: &mut Manager,
+    c: &mut Cache,
+    circuit: &Circuit,
+    gates: &mut GateNodes,
+    stack: &mut Vec<u32>,
+    top: u32,
+) -> Result<(), TakeError>
+    requires variables { leaves (plain_tree m.old.vtree) ≡ length circuit.now.text.inputs }
+    requires serves { Serves c.old m.old }
+    requires ready { IsReady circuit.now gates.old m.old }
+    requires top { top < length circuit.now.order }
+    requires unknown { node_at gates.old.nodes.items top true ≡ None }
+    requires descent { IsDescent gates.old.nodes.items top stack.old.items }
+    ensures descent { OnOk result (IsDescent gates.new.nodes.items top stack.new.items) }
+    ensures less { OnOk result (work_left gates.new.nodes.items top stack.new.items
+        < work_left gates.old.nodes.items top stack.old.items) }
+    ensures kept { Extends m.old m.new }
+    ensures ready { IsReady circuit.now gates.new m.new }
+    ensures serves { Serves c.new m.new }
+    ensures rule { IfErr result (λ e. KeepsRule m.new e) }
+    ensures table { IsTable m.new }
+{
+    let _ = m.vtree();
+    let gate = current_of(stack, top);
+    let sides = circuit.gate(gate);
+    match unknown_side(gates, sides) {
+        Some(side) => match stack.push(side) {
+            Ok(()) => Ok(()),
+            Err(_) => Err(TakeError::OutOfMemory),
+        },
+        None => match make_gate(alloc, m, c, circuit, gates, gate, sides) {
+            Ok(()) => {
+                let _ = stack.pop();
+                Ok(())
+            }
+            Err(error) => Err(error),
+        },
+    }
+}
+
+// The gate on the top of a stack.
+fn current_of(stack: &[u32], top: u32) -> u32
+    ensures { result ≡ current top stack.now }
+{
+    let count = stack.len();
+    if count == 0 { top } else { stack[count - 1] }
+}
+
+// A side that is a gate without a node, if there is one.
+fn unknown_side(gates: &GateNodes, sides: (Wire, Wire)) -> Option<u32>
+    requires within { (c : OrderedCircuit) × (count : ℕ) × IsWireWithin c count sides.0 × IsWireWithin c count sides.1
+        × (2 * count ≤ length gates.now.nodes.items) }
+    ensures some { IfSome result (λ gate. node_at gates.now.nodes.items gate true ≡ None) }
+    ensures before { (c : OrderedCircuit) (count : ℕ) → IsWireWithin c count sides.0
+        → IsWireWithin c count sides.1 → IfSome result (λ gate. gate < count) }
+    ensures none { IfNone result (IsKnown gates.now.nodes.items sides.0
+        × IsKnown gates.now.nodes.items sides.1) }
+{
+    match unknown_gate(gates, sides.0) {
+        Some(gate) => Some(gate),
+        None => unknown_gate(gates, sides.1),
+    }
+}
+
+// The gate that a wire is, where it is one without a node.
+fn unknown_gate(gates: &GateNodes, wire: Wire) -> Option<u32>
+    requires within { (c : OrderedCircuit) × (count : ℕ) × IsWireWithin c count wire
+        × (2 * count ≤ length gates.now.nodes.items) }
+    ensures some { IfSome result (λ gate. node_at gates.now.nodes.items gate true ≡ None) }
+    ensures before { (c : OrderedCircuit) (count : ℕ) → IsWireWithin c count wire
+        → IfSome result (λ gate. gate < count) }
+    ensures none { IfNone result (IsKnown gates.now.nodes.items wire) }
+{
+    match wire {
+        Wire::Constant(_) => None,
+        Wire::Input { .. } => None,
+        Wire::Gate { index, .. } => {
+            if gates.is_known(index) {
+                None
+            } else {
+                Some(index)
+            }
+        }
+    }
+}
+
+// Makes a gate whose sides have nodes.
+fn make_gate(
+    alloc: Global,
+    m: &mut Manager,
+    c: &mut Cache,
+    circuit: &Circuit,
+    gates: &mut GateNodes,
+    gate: u32,
+    sides: (Wire, Wire),
+) -> Result<(), TakeError>
+    requires variables { leaves (plain_tree m.old.vtree) ≡ length circuit.now.text.inputs }
+    requires serves { Serves c.old m.old }
+    requires ready { IsReady circuit.now gates.old m.old }
+    requires gate { gate < length circuit.now.order }
+    requires first { IsWireWithin circuit.now (length circuit.now.order) sides.0 }
+    requires second { IsWireWithin circuit.now (length circuit.now.order) sides.1 }
+    requires first_known { IsKnown gates.old.nodes.items sides.0 }
+    requires second_known { IsKnown gates.old.nodes.items sides.1 }
+    requires value { (a : List Bool) → slice_index_or (gate_values circuit.now a) gate false
+        ≡ (wire_function circuit.now sides.0 a && wire_function circuit.now sides.1 a) }
+    requires unknown { node_at gates.old.nodes.items gate true ≡ None }
+    ensures known { OnOk result (IsSome (node_at gates.new.nodes.items gate true)) }
+    ensures others { OnOk result ((other : ℕ) → other ≢ gate
+        → node_at gates.new.nodes.items other true ≡ node_at gates.old.nodes.items other true) }
+    ensures fewer { OnOk result (blanks gates.new.nodes.items < blanks gates.old.nodes.items) }
+    ensures kept { Extends m.old m.new }
+    ensures ready { IsReady circuit.now gates.new m.new }
+    ensures serves { Serves c.new m.new }
+    ensures rule { IfErr result (λ e. KeepsRule m.new e) }
+    ensures table { IsTable m.new }
+{
+    let first = wire_node(alloc, m, c, circuit, gates, sides.0)?;
+    let second = wire_node(alloc, m, c, circuit, gates, sides.1)?;
+    let node = and(alloc, m, c, first, second)?;
+    gates.put(gate, true, node);
+    Ok(())
+}
+
+// The node of a wire: of a constant, an input or a gate that has one.
+fn wire_node(
+    alloc: Global,
+    m: &mut Manager,
+    c: &mut Cache,
+    circuit: &Circuit,
+    gates: &mut GateNodes,
+    wire: Wire,
+) -> Result<NodeId, TakeError>
+    requires variables { leaves (plain_tree m.old.vtree) ≡ length circuit.now.text.inputs }
+    requires serves { Serves c.old m.old }
+    requires ready { IsReady circuit.now gates.old m.old }
+    requires within { IsWireWithin circuit.now (length circuit.now.order) wire }
+    requires known { IsKnown gates.old.nodes.items wire }
+    ensures ok { IfOk result (λ node. HasAnswer m.new (wire_function circuit.now wire) node) }
+    ensures gates { AddsNegations gates.old.nodes.items gates.new.nodes.items }
+    ensures kept { Extends m.old m.new }
+    ensures ready { IsReady circuit.now gates.new m.new }
+    ensures serves { Serves c.new m.new }
+    ensures rule { IfErr result (λ e. KeepsRule m.new e) }
+    ensures table { IsTable m.new }
+{
+    // there are at most 1,024 inputs
+    let _ = circuit.inputs();
+    let _ = m.vtree();
+    match wire {
+        Wire::Constant(value) => Ok(m.constant(value)),
+        Wire::Input { variable, positive } => Ok(m.literal(literal_number(variable, positive))),
+        Wire::Gate { index, positive } => {
+            if positive {
+                Ok(gates.node(index, true).unwrap())
+            } else {
+                negated(alloc, m, c, circuit, gates, index)
+            }
+        }
+    }
+}
+
+// The literal of a variable, as DIMACS has it.
+fn literal_number(variable: u32, positive: bool) -> i32
+    requires some { 1 ≤ variable }
+    requires few { variable ≤ 1024 }
+    ensures { result ≡ literal_of variable positive }
+{
+    if positive {
+        variable as i32
+    } else {
+        -(variable as i32)
+    }
+}
+
+// The node of a gate's negation, which is kept beside that of the gate.
+fn negated(
+    alloc: Global,
+    m: &mut Manager,
+    c: &mut Cache,
+    circuit: &Circuit,
+    gates: &mut GateNodes,
+    gate: u32,
+) -> Result<NodeId, TakeError>
+    requires serves { Serves c.old m.old }
+    requires ready { IsReady circuit.now gates.old m.old }
+    requires gate { gate < length circuit.now.order }
+    requires known { IsSome (node_at gates.old.nodes.items gate true) }
+    ensures ok { IfOk result (λ node. HasAnswer m.new (wire_function circuit.now (Gate gate false)) node) }
+    ensures gates { AddsNegations gates.old.nodes.items gates.new.nodes.items }
+    ensures kept { Extends m.old m.new }
+    ensures ready { IsReady circuit.now gates.new m.new }
+    ensures serves { Serves c.new m.new }
+    ensures rule { IfErr result (λ e. KeepsRule m.new e) }
+    ensures table { IsTable m.new }
+{
+    let _ = m.vtree();
+    if let Some(node) = gates.node(gate, false) {
+        return Ok(node);
+    }
+    let positive = gates.node(gate, true).unwrap();
+    let node = negate(alloc, m, c, positive)?;
+    gates.put(gate, false, node);
+    Ok(node)
+}

@@ -1,0 +1,110 @@
+//! The nodes of gates, by which outputs share them.
+
+ghost use Rattle.std.specs.Prelude.{◌≡◌, ℕ, ◌*◌, ◌<◌, length, Some, None, OnOk, OnErr, IsTrue, slice_set, true};
+ghost use Rattle.std.specs.Option.{IsSome};
+ghost use Rattle.sd_manager.specs.Table.{Table};
+ghost use Rattle.sd_apply.specs.Serving.{last_epoch};
+ghost use Rattle.sd_circuit.specs.Circuits.{OrderedCircuit};
+ghost use Rattle.sd_gates.specs.Sharing.{Shares, node_at, place_of};
+ghost use Rattle.sd_gates.specs.Making.{IsReady};
+
+use sd_circuit::Circuit;
+use sd_manager::{Manager, NodeId};
+use std::alloc::{AllocError, Global};
+
+/// The nodes that outputs made of a circuit's gates. They are right while the manager's epoch stands.
+#[derive(Drop)]
+pub struct GateNodes {
+    // the epoch of the nodes
+    pub(crate) epoch: Option<u64>,
+    // the node of each gate and, behind it, that of its negation, where they were made
+    pub(crate) nodes: Vec<Option<NodeId>>,
+}
+
+impl GateNodes {
+    /// No nodes, for any circuit. It takes no memory.
+    pub fn new(alloc: Global) -> GateNodes
+        ensures { (c : OrderedCircuit) (t : Table) → Shares c result t }
+    {
+        GateNodes {
+            epoch: None,
+            nodes: Vec::new(alloc),
+        }
+    }
+
+    /// Forgets all nodes: for another circuit, or where the manager may have changed otherwise.
+    pub fn forget(&mut self)
+        ensures { (c : OrderedCircuit) (t : Table) → Shares c self.new t }
+    {
+        self.epoch = None;
+    }
+
+    /// Makes room for the nodes of all gates, and forgets those of another epoch.
+    pub(crate) fn ready(
+        &mut self,
+        alloc: Global,
+        m: &Manager,
+        circuit: &Circuit,
+    ) -> Result<(), AllocError>
+        requires shares { Shares circuit.now self.old m.now }
+        ensures ok { OnOk result (IsReady circuit.now self.new m.now) }
+        ensures err { OnErr result (Shares circuit.now self.new m.now) }
+    {
+        let epoch = m.epoch();
+        let size = 2 * circuit.gates() as usize;
+        if self.is_current(epoch, size) {
+            return Ok(());
+        }
+        self.epoch = None;
+        self.nodes = vec![in alloc; None; size]?;
+        self.epoch = Some(epoch);
+        Ok(())
+    }
+
+    // Whether the nodes are of this epoch, which is not the last one, and as many as these.
+    fn is_current(&self, epoch: u64, size: usize) -> bool
+        ensures epoch { IsTrue result → self.now.epoch ≡ Some epoch }
+        ensures not_last { IsTrue result → ¬ (epoch ≡ last_epoch) }
+        ensures size { IsTrue result → length self.now.nodes.items ≡ size }
+    {
+        match self.epoch {
+            Some(own) => own == epoch && epoch != u64::MAX && self.nodes.len() == size,
+            None => false,
+        }
+    }
+
+    /// The node of a gate or of its negation, if there is one.
+    pub(crate) fn node(&self, gate: u32, positive: bool) -> Option<NodeId>
+        requires { place_of gate positive < length self.now.nodes.items }
+        ensures { result ≡ node_at self.now.nodes.items gate positive }
+    {
+        self.nodes[place(gate, positive)]
+    }
+
+    /// Keeps the node of a gate or of its negation.
+    pub(crate) fn put(&mut self, gate: u32, positive: bool, node: NodeId)
+        requires { place_of gate positive < length self.old.nodes.items }
+        ensures nodes { self.new.nodes.items
+            ≡ slice_set self.old.nodes.items (place_of gate positive) (Some node) }
+        ensures epoch { self.new.epoch ≡ self.old.epoch }
+    {
+        self.nodes[place(gate, positive)] = Some(node);
+    }
+
+    /// Whether a gate has a node.
+    pub(crate) fn is_known(&self, gate: u32) -> bool
+        requires { place_of gate true < length self.now.nodes.items }
+        ensures known { IsTrue result → IsSome (node_at self.now.nodes.items gate true) }
+        ensures unknown { ¬ (IsTrue result) → node_at self.now.nodes.items gate true ≡ None }
+    {
+        self.node(gate, true).is_some()
+    }
+}
+
+// Where the node of a gate stands, or that of its negation.
+fn place(gate: u32, positive: bool) -> usize
+    ensures { result ≡ place_of gate positive }
+{
+    let first = 2 * gate as usize;
+    if positive { first } else { first + 1 }
+}
