@@ -1,2 +1,3 @@
 mod Descending
-mod Shared
+-- what crates above cite
+pub mod Shared

@@ -1,13 +1,15 @@
 -- Nodes of gates: one more that is kept, and a later table.
-use Rattle.std.proofs.Common.{◌≡◌, ◌≢◌, ◌⊎◌, ℕ, zero, suc, ◌+◌, ◌*◌, ◌<◌, ◌≤◌, Bool, true, false, not, List, [], ◌∷◌}
+use Rattle.std.proofs.Common.{◌≡◌, ◌≢◌, ◌⊎◌, ℕ, zero, suc, ◌*◌, ◌<◌, ◌≤◌, Bool, true, false, List, [], ◌∷◌}
 use Rattle.std.proofs.Common.{length, get_or, slice_set, replicate, Some, None, refl, sym, ◌∙◌, ap, subst, arith}
 use Rattle.std.proofs.Common.{inl, inr}
 use Rattle.std.specs.Prelude.{Option}
-use Rattle.std.specs.Option.{IsSome}
 use Rattle.std.proofs.lemmas.Bool.{cases_eq}
-use Rattle.std.proofs.lemmas.List.{get_or-set_same, get_or-set_other, length-set, length-replicate}
+use Rattle.std.proofs.lemmas.List.{get_or-set_same, get_or-set_other, length-set}
 use Rattle.sd_manager.specs.Table.{Table}
 use Rattle.sd_manager.specs.Making.{Extends}
+use Rattle.sd_manager.specs.Moving.{IsLater}
+use Rattle.sd_laws.specs.Shown.{ShowsCanonical as ShowsBy}
+use Rattle.std.specs.FinMap.{get}
 use Rattle.sd_apply.specs.Answers.{HasAnswer}
 use Rattle.sd_apply.specs.Serving.{last_epoch}
 use Rattle.sd_circuit.specs.Circuits.{OrderedCircuit}
@@ -155,3 +157,46 @@ none_shared c n t g node p e = absurd (go _ (blank_at n (place_of g p)) e)
   where
     go : (o : Option ℕ) → o ≡ None → o ≡ Some node → ⊥
     go o is too = cc
+
+-- ---- for crates above: how what is shared comes through a change of the manager
+
+-- what is right in the one table is so in the other one
+shares_while : (c : OrderedCircuit) (gates : GateNodes) (old new : Table) → new.epoch ≡ old.epoch
+    → (AreShared c gates.nodes.items old → AreShared c gates.nodes.items new) → Shares c gates old → Shares c gates new
+shares_while c gates old new same still h = record {
+  early = λ e is. let k = h.early e is in omega (arith, k, same);
+  right = λ n is. still (h.right (λ q. n (same ∙ q)) (is ∙ ap Some same));
+}
+
+-- a larger table
+pub shares_on : (c : OrderedCircuit) (gates : GateNodes) (old new : Table) → Extends old new → Shares c gates old
+    → Shares c gates new
+shares_on c gates old new kept h =
+    shares_while c gates old new kept.epoch (shared_on c gates.nodes.items old new kept) h
+
+-- a table with the same nodes, whatever the roots hold
+pub shares_beside : (c : OrderedCircuit) (gates : GateNodes) (old new : Table) → new.vtree ≡ old.vtree
+    → new.linked ≡ old.linked → new.epoch ≡ old.epoch → Shares c gates old → Shares c gates new
+shares_beside c gates old new tree linked same h = shares_while c gates old new same
+    (λ shared g node p e. beside g node p (shared g node p e)) h
+  where
+    beside : (g node : ℕ) (p : Bool) → HasAnswer old (wire_function c (Gate g p)) node
+        → HasAnswer new (wire_function c (Gate g p)) node
+    beside g node p k = record {
+      diagram = k.diagram;
+      is = subst (λ v. ShowsBy v (get new.linked) node k.diagram) (sym tree)
+          (subst (λ l. ShowsBy old.vtree (get l) node k.diagram) (sym linked) k.is);
+      value = k.value;
+    }
+
+-- at a later epoch none of the nodes is used
+pub shares_past : (c : OrderedCircuit) (gates : GateNodes) (old new : Table) → old.epoch ≤ last_epoch
+    → IsLater old new → Shares c gates old → Shares c gates new
+shares_past c gates old new last (inl less) h = record {
+  early = λ e is. let k = h.early e is in omega (arith, k, less);
+  right = λ n is. absurd (omega (arith, h.early new.epoch is, less));
+}
+shares_past c gates old new last (inr is) h = record {
+  early = λ e has. let k = h.early e has in omega (arith, k, last, is);
+  right = λ n has. absurd (n is);
+}

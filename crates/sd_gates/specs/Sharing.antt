@@ -1,5 +1,5 @@
 -- The nodes of a circuit's gates, which outputs share.
-use Rattle.std.specs.Prelude.{◌≡◌, ℕ, ◌+◌, ◌*◌, ◌≤◌, Bool, true, false, List, length, Option, Some, None, slice_index_or}
+use Rattle.std.specs.Prelude.{◌≡◌, ℕ, ◌+◌, ◌*◌, ◌≤◌, Bool, true, false, List, Option, Some, None, slice_index_or}
 use Rattle.sd_manager.specs.Table.{Table}
 use Rattle.sd_apply.specs.Answers.{HasAnswer}
 use Rattle.sd_apply.specs.Serving.{last_epoch}

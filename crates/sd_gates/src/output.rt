@@ -1,7 +1,7 @@
 //! An output as a node.
 
-ghost use Rattle.std.specs.Prelude.{◌≡◌, ◌≢◌, ℕ, ◌*◌, ◌<◌, ◌≤◌, List, Bool, true, false, length, Some, None, IfOk, IfErr, OnOk};
-ghost use Rattle.std.specs.Prelude.{IfSome, IfNone, ◌&&◌, slice_index_or};
+ghost use Rattle.std.specs.Prelude.{◌≡◌, ◌≢◌, ℕ, ◌*◌, ◌<◌, ◌≤◌, List, Bool, true, false, length, Some, None};
+ghost use Rattle.std.specs.Prelude.{IfOk, IfErr, OnOk, IfSome, IfNone, ◌&&◌, slice_index_or};
 ghost use Rattle.std.specs.Option.{IsSome};
 ghost use Rattle.sd_model.specs.Tree.{leaves};
 ghost use Rattle.sd_model.specs.Circuit.{circuit_output};

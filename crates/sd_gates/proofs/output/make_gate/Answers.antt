@@ -1,5 +1,5 @@
 -- A gate is made of its sides.
-use Rattle.std.proofs.Common.{◌≡◌, ◌∙◌, ◌<◌, ◌&&◌, sym, subst, ap, arith, true, length}
+use Rattle.std.proofs.Common.{◌∙◌, ◌<◌, ◌&&◌, sym, ap, arith, true, length}
 use Rattle.sd_model.specs.declared.trees.Operation.TheVariants.{And}
 use Rattle.sd_apply.specs.Answers.{HasAnswer}
 use Rattle.sd_apply.proofs.Opposite.{node_of_on}

@@ -1,5 +1,5 @@
 -- The node of a gate's negation.
-use Rattle.std.proofs.Common.{◌≡◌, ◌∙◌, sym, subst, true, false}
+use Rattle.std.proofs.Common.{◌∙◌, sym, subst, true, false}
 use Rattle.sd_apply.specs.Answers.{HasAnswer}
 use Rattle.sd_circuit.specs.declared.wire.Wire.TheVariants.{Gate}
 use Rattle.sd_compile.proofs.Joining.{answer_node}

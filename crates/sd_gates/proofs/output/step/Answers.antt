@@ -1,5 +1,5 @@
 -- One step: a gate comes onto the stack, or one is made.
-use Rattle.std.proofs.Common.{◌≡◌, ◌∙◌, ◌<◌, ◌≤◌, ◌*◌, ◌-◌, ℕ, List, length, take, sym, subst, ap, arith}
+use Rattle.std.proofs.Common.{◌≡◌, ◌∙◌, ◌<◌, ◌≤◌, ◌-◌, ℕ, List, length, take, sym, subst, ap, arith}
 use Rattle.sd_gates.specs.Making.{IsDescent, current, work_left}
 use Rattle.sd_gates.proofs.Descending.{current_most, push_descent, push_less, pop_descent, pop_less}
 use Rattle.sd_gates.proofs.output.step.Goals as goal
