@@ -18,7 +18,8 @@ defined c literal h = elim (or_cases (nat_lt literal 2) (is_among (definitions c
   | inl constant ↦ inl (ltb-true literal 2 constant)
   | inr among ↦
       let found = passes_somewhere (λ d. variable_of d == variable_of literal) (definitions c) 0 among in
-      inr (found.0, found.1, eqb-true (variable_of (slice_index_or (definitions c) found.0 0)) (variable_of literal) found.2)
+      let other = slice_index_or (definitions c) found.0 0 in
+      inr (found.0, found.1, eqb-true (variable_of other) (variable_of literal) found.2)
 ]
 
 -- a test that found nothing, alone

@@ -98,7 +98,8 @@ none_on_cycle ands order ordered k inside =
     let to = defined_at ands k in
     let first = variable_of (line_at ands k).first in
     let second = variable_of (line_at ands k).second in
-    false_from_ne_true (is_on_cycle ands k) (λ h. elim (or_cases (reaches ands n first to) (reaches ands n second to) h) [
+    let either = or_cases (reaches ands n first to) (reaches ands n second to) in
+    false_from_ne_true (is_on_cycle ands k) (λ h. elim (either h) [
       | inl one ↦ apart ands order ordered k inside first (λ used same. inl (sym same))
           (behind ands order ordered n first k inside one)
       | inr other ↦ apart ands order ordered k inside second (λ used same. inr (sym same))

@@ -10,3 +10,5 @@ pub mod Closed
 pub mod Cycles
 -- faults by their texts
 pub mod FaultBack
+-- worked examples
+mod Worked

@@ -230,7 +230,8 @@ is_read h lines c e =
     let third = gave (each_after (and_of m inputs) [] and_lines)
     (λ gs. Ok (record { variables = m; inputs = inputs; outputs = outputs; ands = gs })) c second.2 in
     let gates = third.0 in
-    let good = kept (AreDefinitions m) (input_of m) (input_more m) [] (take h.inputs lines) inputs (none_yet m) first.1 in
+    let good = kept (AreDefinitions m) (input_of m) (input_more m) [] (take h.inputs lines) inputs (none_yet m)
+    first.1 in
     let all = kept (AreGates m inputs) (and_of m inputs) (gate_more m inputs) [] and_lines gates
     (no_gates m inputs good) third.1 in
     let long = length-drop h.inputs lines in

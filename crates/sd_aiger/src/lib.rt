@@ -9,6 +9,8 @@ mod header;
 pub mod laws;
 mod line;
 mod reader;
+#[cfg(test)]
+mod tests;
 mod uses;
 
 pub use fault::AigerFault;
