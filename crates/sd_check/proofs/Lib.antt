@@ -1,0 +1,6 @@
+pub mod Copied
+pub mod Elements
+pub mod Inners
+pub mod Represented
+pub mod Unbroken
+pub mod Verdicts

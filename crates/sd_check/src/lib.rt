@@ -1,0 +1,12 @@
+//! Whether the nodes of an SDD file are canonical: each is compressed, trimmed and a partition for the vtree that the
+//! file's vtree ids belong to, and if not, which node breaks which rule first. Files of any tool that writes the format
+//! of the SDD Package 2.0 can be judged.
+//!
+//! - The rules and the verdict are in `rules.rt`; what they say is in `specs/Rules.antt`.
+//! - Laws of the verdict are in `laws.rt`.
+#![tactic(auto)]
+
+pub mod laws;
+mod rules;
+
+pub use rules::{Rule, Verdict};
