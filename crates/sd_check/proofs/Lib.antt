@@ -4,3 +4,4 @@ pub mod Inners
 pub mod Represented
 pub mod Unbroken
 pub mod Verdicts
+pub mod Worked
