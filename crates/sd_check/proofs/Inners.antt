@@ -78,7 +78,8 @@ inner_part (Node l r) base p i e =
         ∙ f)
 
 -- what is found stands among the tree's positions
-inner_range : (t : Tree) (base p : ℕ) (i : Inner) → inner_at t base p ≡ Some i → (base ≤ p) × (p + 1 < base + 2 * leaves t)
+inner_range : (t : Tree) (base p : ℕ) (i : Inner) → inner_at t base p ≡ Some i →
+    (base ≤ p) × (p + 1 < base + 2 * leaves t)
 inner_range t base p i e =
     let w = inner_part t base p i e in
     let range = part_range w.part in

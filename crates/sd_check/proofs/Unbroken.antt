@@ -267,7 +267,8 @@ no_top [] several h one d m top = absurd m
 no_top (x ∷ []) several h one d m top = absurd (omega (arith, several))
 no_top (x ∷ y ∷ ds) several h one d (inl e) top =
     let a = h.1.0.0 in
-    let always : meaning x.0 a ≡ true = ap (λ (v : Diagram × Diagram). meaning v.0 a) (sym e) ∙ ap (λ v. meaning v a) top in
+    let always : meaning x.0 a ≡ true =
+    ap (λ (v : Diagram × Diagram). meaning v.0 a) (sym e) ∙ ap (λ v. meaning v a) top in
     absurd (omega (arith, one a, one_more a x (y ∷ ds) always, answers_some a (y ∷ ds) y (inl refl) h.1.0.1))
 no_top (x ∷ y ∷ ds) several h one d (inr m) top =
     let a = h.0.0 in
@@ -382,7 +383,10 @@ holds_unbroken : (t : Tree) (ids : Places) (f : File) (vtree : ℕ) (pairs : Lis
     Holds t ids f vtree pairs → (r : Rule) → ElementsBreak t ids f vtree pairs r → ⊥
 holds_unbroken t ids f vtree pairs v h Vtree b = absurd (cc (h.named, b))
 holds_unbroken t ids f vtree pairs v h Prime b =
-    absurd (cc (b, primes_stand t ids f vtree h.left h.right h.from h.named pairs h.diagrams h.represent h.primes h.inner))
+    absurd (cc (
+      b,
+      primes_stand t ids f vtree h.left h.right h.from h.named pairs h.diagrams h.represent h.primes h.inner,
+    ))
 holds_unbroken t ids f vtree pairs v h Sub b =
     absurd (cc (b, subs_stand t ids f vtree h.left h.right h.from h.named pairs h.diagrams h.represent h.subs))
 holds_unbroken t ids f vtree pairs v h Count b =

@@ -69,8 +69,10 @@ is_among first end p = nat_le first p && nat_lt p end
 -- a literal or a decomposition whose vtree id is of a position from the first number to before the second
 abbrev pub stands_among : Places → ℕ → ℕ → FileNode → Bool
 stands_among ids first end (vtree, FileConstant value) = false
-stands_among ids first end (vtree, FileLiteral literal) = option_map_or (is_among first end) (ids vtree) false
-stands_among ids first end (vtree, FileDecomposition pairs) = option_map_or (is_among first end) (ids vtree) false
+stands_among ids first end (vtree, FileLiteral literal) =
+    option_map_or (is_among first end) (ids vtree) false
+stands_among ids first end (vtree, FileDecomposition pairs) =
+    option_map_or (is_among first end) (ids vtree) false
 
 -- the node stands below the left child of the vtree node that an id names
 abbrev pub stands_left : Tree → Places → ℕ → FileNode → Bool
@@ -103,27 +105,33 @@ HasEqualSubs f (e ∷ es) = HasSub f (value_at f e.1) es ⊎ HasEqualSubs f es
 
 -- the id is not that of the variable's leaf
 abbrev pub IsMisplaced : Tree → Places → ℕ → ℕ → Type 0
-IsMisplaced t ids vtree variable = (p : ℕ) → ids vtree ≡ Some p → leaf_position t 0 variable ≢ Some p
+IsMisplaced t ids vtree variable =
+    (p : ℕ) → ids vtree ≡ Some p → leaf_position t 0 variable ≢ Some p
 
--- A decomposition with this vtree id and these elements breaks a rule: its id names no inner node of the vtree; a prime
--- is not below the left child; a sub is neither a constant nor below the right child; it has one element; two primes are
--- true together under some assignment; no prime is true under some assignment; two subs are one function; every sub is a
--- constant.
+-- A decomposition with this vtree id and these elements breaks a rule: its id names no inner node of the
+-- vtree; a prime is not below the left child; a sub is neither a constant nor below the right child; it has
+-- one element; two primes are true together under some assignment; no prime is true under some assignment;
+-- two subs are one function; every sub is a constant.
 abbrev pub ElementsBreak : Tree → Places → File → ℕ → List (ℕ × ℕ) → Rule → Type 0
 ElementsBreak t ids f vtree pairs Vtree = inner_named t ids vtree ≡ None
-ElementsBreak t ids f vtree pairs Prime = list_any (λ e. not (stands_left t ids vtree (node_at f e.0))) pairs ≡ true
+ElementsBreak t ids f vtree pairs Prime =
+    list_any (λ e. not (stands_left t ids vtree (node_at f e.0))) pairs ≡ true
 ElementsBreak t ids f vtree pairs Sub =
-    list_any (λ e. not (is_constant_node (node_at f e.1) || stands_right t ids vtree (node_at f e.1))) pairs ≡ true
+    list_any (λ e. not (is_constant_node (node_at f e.1)
+    || stands_right t ids vtree (node_at f e.1))) pairs
+    ≡ true
 ElementsBreak t ids f vtree pairs Count = length pairs ≡ 1
 ElementsBreak t ids f vtree pairs Overlap = (a : List Bool) × (2 ≤ primes_true f a pairs)
 ElementsBreak t ids f vtree pairs Cover = (a : List Bool) × (primes_true f a pairs ≡ 0)
 ElementsBreak t ids f vtree pairs Subs = HasEqualSubs f pairs
-ElementsBreak t ids f vtree pairs Trim = list_all (λ e. is_constant_node (node_at f e.1)) pairs ≡ true
+ElementsBreak t ids f vtree pairs Trim =
+    list_all (λ e. is_constant_node (node_at f e.1)) pairs ≡ true
 
 -- a node breaks a rule: a constant breaks none, and a literal only the first, where its id is not its variable's leaf
 abbrev pub NodeBreaks : Tree → Places → File → FileNode → Rule → Type 0
 NodeBreaks t ids f (vtree, FileConstant value) rule = ⊥
-NodeBreaks t ids f (vtree, FileLiteral literal) Vtree = IsMisplaced t ids vtree (unsigned_abs literal)
+NodeBreaks t ids f (vtree, FileLiteral literal) Vtree =
+    IsMisplaced t ids vtree (unsigned_abs literal)
 NodeBreaks t ids f (vtree, FileLiteral literal) rule = ⊥
 NodeBreaks t ids f (vtree, FileDecomposition pairs) rule = ElementsBreak t ids f vtree pairs rule
 
