@@ -3,7 +3,7 @@
 // The first piece goes to a new thread, and the others stay in this one, where the next is cut off: so no thread waits
 // while there is work for it. Each piece is the tasks that are left by the workers that are left, rounded up, so that
 // the sizes of two pieces differ by one at most.
-ghost use Rattle.std.specs.Prelude.{◌≡◌, ◌<◌, ◌≤◌, ◌^◌, IfOk, vec_len};
+ghost use Rattle.std.specs.Prelude.{◌≤◌, IfOk};
 ghost use Rattle.std.specs.List.{AllZip};
 ghost use denote.Param.Send.{IsSend, IsSync};
 

@@ -1,9 +1,13 @@
 //! What no clause says: that tasks are in work at once. And `run_tasks` at concrete types.
 ghost use Rattle.std.specs.Prelude.{◌≡◌, ◌*◌, ◌%◌, ◌^◌};
 
-use crate::{Gate, Open, Task, run_tasks};
+use crate::{Gate, Open, Task, parts, run_tasks};
+use sd_compile::CompileError;
+use sd_formula::{Formula, Kind, read_dimacs};
+use sd_vtree::Vtree;
 use std::alloc::{AllocError, Global};
 use std::sync::atomic::{AtomicBool, Ordering};
+use std::test::Fail;
 use std::thread::Threads;
 
 /// How often a gate looks whether the other part came.
@@ -124,5 +128,47 @@ fn tasks_have_the_answers_of_one_worker_and_two_are_in_work_at_once(
         }
     }
     assert!(rt; two_meet(&rt, rt.alloc(), 2)?);
+    Ok(())
+}
+
+// The refusals of two parts of a formula on the balanced vtree, in order, by so many workers.
+fn refusals<R: Threads + Sync>(
+    rt: &R,
+    alloc: Global,
+    f: &Formula,
+    limit: u32,
+    workers: u32,
+) -> Result<Vec<Option<CompileError>>, AllocError> {
+    let mut refused = Vec::new(alloc);
+    let vtree = Vtree::balanced(alloc, f.variables())?;
+    if vtree.variables() != f.variables() {
+        return Ok(refused);
+    }
+    let tree = vtree.tree(alloc)?;
+    let mut gates = Vec::new(alloc);
+    gates.push(Open)?;
+    gates.push(Open)?;
+    let tasks = parts(alloc, f, &tree, 1_000_000, limit, gates)?;
+    for answer in run_tasks(rt, alloc, tasks, workers.clamp(1, 16))? {
+        refused.push(answer.outcome.err())?;
+    }
+    Ok(refused)
+}
+
+// A refusal at this group, whose prefix has this size.
+fn over(group: u32, size: u32, limit: u32) -> Option<CompileError> {
+    Some(CompileError::OverLimit { group, size, limit })
+}
+
+#[test]
+fn each_part_is_refused_alone_by_the_number_of_its_group(rt: HostRuntime) -> Result<(), Fail> {
+    let text = b"p dnf 4 2\n1 2 0\n3 4 0\n";
+    let f = read_dimacs(rt.alloc(), text, Kind::Dnf)?;
+    for workers in [1, 2, 3, 16] {
+        let passed = refusals(&rt, rt.alloc(), &f, 1, workers)?;
+        assert!(rt; passed.as_slice() == [over(1, 2, 1), over(2, 2, 1)].as_slice());
+        let kept = refusals(&rt, rt.alloc(), &f, 2, workers)?;
+        assert!(rt; kept.as_slice() == [None, None].as_slice());
+    }
     Ok(())
 }

@@ -1,0 +1,80 @@
+-- A part as work for a thread, and its answer.
+use Rattle.std.specs.Prelude.{◌≡◌, ℕ, ◌+◌, ◌<◌, ◌^◌, List, length, map, None, Result, Ok, Err}
+use Rattle.std.specs.List.{range_with_len}
+use Rattle.std.specs.FinMap.{empty}
+use Rattle.sd_model.specs.Tree.{Tree}
+use Rattle.sd_model.specs.Expression.{expression_value}
+use Rattle.sd_vtree.specs.Numbered.{plain_tree}
+use Rattle.sd_formula.specs.Dimacs.{Groups}
+use Rattle.sd_formula.specs.Formulas.{expression_of}
+use Rattle.sd_manager.specs.Table.{Table}
+use Rattle.sd_manager.specs.Making.{IsPastBound}
+use Rattle.sd_compile.specs.declared.error.CompileError.{CompileError}
+use Rattle.sd_compile.specs.declared.error.CompileError.TheVariants.{OverLimit, ArenaFull, OutOfMemory}
+use Rattle.sd_records.specs.Records.{FlatDiagram, AreRecords, UnfoldToValue}
+use Rattle.sd_parts.specs.Parts.{part_of, first_of_part, PartFits, PassesAlone}
+use Rattle.sd_parts.specs.Seen.{PartWork}
+use Rattle.sd_parts.specs.declared.part.PartAnswer.{PartAnswer}
+
+-- a part from its fields
+abbrev pub work_of : ℕ → Groups → ℕ → Tree → ℕ → ℕ → PartWork
+work_of number formula first tree limit bound = record {
+  number = number;
+  formula = formula;
+  first = first;
+  tree = tree;
+  limit = limit;
+  bound = bound;
+}
+
+-- part i of k, at a tree, under a limit and with a bound of its arena
+abbrev pub part_work : Groups → Tree → ℕ → ℕ → ℕ → ℕ → PartWork
+part_work f t limit bound k i = work_of i (part_of f k i) (first_of_part f k i) t limit bound
+
+-- all k parts, in order
+abbrev pub parts_of : Groups → Tree → ℕ → ℕ → ℕ → List PartWork
+parts_of f t limit bound k = map (part_work f t limit bound k) (range_with_len 0 k)
+
+-- Why a part was not compiled: it passes the limit alone, the arena of the manager that comes back was full, or there
+-- was no memory.
+abbrev pub IsPartRefused : PartWork → Table → CompileError → Type 0
+IsPartRefused work m (OverLimit group size most) =
+    PassesAlone work.tree work.limit work.formula work.first group size × (most ≡ work.limit)
+IsPartRefused work m (ArenaFull elements) = IsPastBound m elements
+IsPartRefused work m OutOfMemory = Unit {0}
+
+-- records of the part's canonical diagram, where each of its prefixes is within the limit, or why there are none
+abbrev pub IsPartOutcome : PartWork → Table → Result FlatDiagram CompileError → Type 0
+IsPartOutcome work m (Ok records) =
+    PartFits work.tree work.limit work.formula (length work.formula.groups)
+    × AreRecords work.tree records
+    × UnfoldToValue work.tree records (expression_value (expression_of work.formula))
+IsPartOutcome work m (Err e) = IsPartRefused work m e
+
+-- The answer of a part: a manager over its tree that holds nothing, and the outcome.
+pub record AnswersPart (work : PartWork) (answer : PartAnswer) : Type 0 where
+  pub tree : plain_tree answer.manager.vtree ≡ work.tree
+  pub bound : answer.manager.bound ≡ work.bound
+  pub roots : answer.manager.roots ≡ empty
+  pub moving : answer.manager.moving ≡ None
+  pub outcome : IsPartOutcome work answer.manager answer.outcome
+
+-- ---- for the contracts of private functions
+
+-- a manager over the same tree, with the same bound, that holds nothing
+pub record IsEmptied (old new : Table) : Type 0 where
+  pub tree : plain_tree new.vtree ≡ plain_tree old.vtree
+  pub bound : new.bound ≡ old.bound
+  pub roots : new.roots ≡ empty
+  pub moving : new.moving ≡ None
+
+-- the number of the group fits behind so many groups
+abbrev pub FitsBehind : ℕ → CompileError → Type 0
+FitsBehind first (OverLimit group size most) = first + group < 2 ^ 32
+FitsBehind first e = Unit {0}
+
+-- a refusal with the group counted behind so many groups
+abbrev pub in_whole : ℕ → CompileError → CompileError
+in_whole first (OverLimit group size most) = OverLimit (first + group) size most
+in_whole first (ArenaFull elements) = ArenaFull elements
+in_whole first OutOfMemory = OutOfMemory
