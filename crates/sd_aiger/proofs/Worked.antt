@@ -1,5 +1,5 @@
 -- Worked texts of AIGER, with their circuits or their first faults.
-use Rattle.std.proofs.Common.{◌≡◌, ℕ, List, [], ◌∷◌, refl, Ok, Err}
+use Rattle.std.proofs.Common.{◌≡◌, ℕ, [], ◌∷◌, refl, Ok, Err}
 use Rattle.std.specs.Prelude.{codes}
 use Rattle.sd_model.specs.Circuit.{AndLine}
 use Rattle.sd_model.specs.Text.{number_text}
