@@ -63,6 +63,7 @@ FAULT_TEXTS = {
     "sdd_fault_text": "crates/sd_file/specs/Reads.antt",
     "script_fault_text": "crates/sd_script/specs/Faults.antt",
     "words_fault_text": "crates/sd_words/specs/Rows.antt",
+    "aiger_fault_text": "crates/sd_aiger/specs/Reads.antt",
 }
 
 
@@ -95,6 +96,7 @@ def texts_told(section):
 
 def check_faults():
     for definition, section in [("formula_fault_text", "DIMACS"), ("sdd_fault_text", "SDD files"),
+                                ("aiger_fault_text", "AIGER circuits"),
                                 ("vtree_fault_text", "Vtree files"), ("script_fault_text", "Scripts")]:
         defined, told = texts_defined(definition), texts_told(section)
         for text in sorted(defined - told):
