@@ -9,6 +9,8 @@
 mod listing;
 mod reader;
 mod records;
+#[cfg(test)]
+mod tests;
 mod writer;
 
 pub use reader::import;
