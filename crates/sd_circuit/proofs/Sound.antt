@@ -38,13 +38,13 @@ input_defined : (text : Circuit) (i : ℕ) → i < length text.inputs
 input_defined text i h = get_or_append_left text.inputs _ 0 i h
 
 -- behind the inputs stands what the and-lines define
-pub line_defined : (text : Circuit) (p : ℕ) → p < length text.ands
+line_defined : (text : Circuit) (p : ℕ) → p < length text.ands
     → get_or (definitions text) (length text.inputs + p) 0 ≡ (line_at text.ands p).defined
 line_defined text p h =
     get_or-append-add text.inputs (map (λ (line : AndLine). line.defined) text.ands) p 0
     ∙ get_or-map (λ (line : AndLine). line.defined) text.ands p (record { defined = 0; first = 0; second = 0 }) 0 h
 
-pub definitions_length : (text : Circuit)
+definitions_length : (text : Circuit)
     → length (definitions text) ≡ length text.inputs + length text.ands
 definitions_length text =
     length-append text.inputs (map (λ (line : AndLine). line.defined) text.ands)
