@@ -15,3 +15,4 @@ mod uses;
 
 pub use fault::AigerFault;
 pub use reader::read_aiger;
+pub use sd_circuit::{Circuit, Wire};

@@ -4,7 +4,6 @@ ghost use Rattle.std.specs.FinMap.{len};
 ghost use Rattle.sd_model.specs.StartTrees.{balanced_tree};
 ghost use Rattle.sd_vtree.specs.Numbered.{plain_tree};
 ghost use Rattle.sd_manager.specs.Shown.{IsNodeOf};
-ghost use Rattle.sd_apply.specs.Serving.{Serves};
 ghost use Rattle.sd_records.specs.Records.{AreRecords};
 
 use crate::reader::import;
