@@ -20,7 +20,7 @@ header_view h = record {
   ands = h.ands;
 }
 
--- numbers of 18 digits
+-- numbers of at most 18 digits
 pub record AreSmall (h : Header) : Type 0 where
   pub inputs : h.inputs < 10 ^ 18
   pub ands : h.ands < 10 ^ 18

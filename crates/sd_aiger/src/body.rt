@@ -112,7 +112,7 @@ impl Body {
     }
 }
 
-/// The lines behind the header, up to the last one that it states.
+/// The lines behind the header. Those past the last one that it states are passed over.
 pub(crate) fn read_body(
     alloc: Global,
     header: &Header,

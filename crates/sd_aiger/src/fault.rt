@@ -14,7 +14,7 @@ pub enum AigerFault {
     /// The first line is not `aag` and five naturals.
     #[error("BadHeader")]
     BadHeader { line: u32 },
-    /// The number of inputs is not 1 to 1,024.
+    /// The number of inputs, which are the variables of the diagrams, is not 1 to 1,024.
     #[error("VariablesRange")]
     VariablesRange { found: u64 },
     /// There are latches.
@@ -32,7 +32,7 @@ pub enum AigerFault {
     /// A line of an input or an output is not one natural, or an and-line is not three.
     #[error("BadLine")]
     BadLine { line: u32 },
-    /// A literal is not one of the variables up to the greatest.
+    /// A literal passes 2M + 1, the negation of the greatest variable.
     #[error("LiteralRange")]
     LiteralRange { line: u32 },
     /// What a line defines is no variable, or an earlier line defines it.
@@ -41,7 +41,7 @@ pub enum AigerFault {
     /// No line defines the variable of an output or of a right side.
     #[error("Undefined")]
     Undefined { line: u32 },
-    /// What an and-line defines is reached from its own right sides.
+    /// What an and-line defines is reached from its own right sides; this is the first such line.
     #[error("Cycle")]
     Cycle { line: u32 },
     /// Out of memory, whatever the text.

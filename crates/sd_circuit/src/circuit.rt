@@ -64,6 +64,7 @@ impl Circuit {
         requires fits { length inputs.items + length ands.items ≤ variables }
         requires closed { IsClosed (text_of variables inputs.items outputs.items ands.items) }
         ensures text { IfOk result (λ c. c.text ≡ text_of variables inputs.items outputs.items ands.items) }
+        ensures ordered { IfOk result (λ c. IsOrdered ands.items c.order) }
         ensures cycle { IfErr result (CycleIsFirst ands.items) }
     {
         let order = match order_gates(alloc, variables, &ands) {

@@ -45,7 +45,7 @@ fn with_inputs(mut origins: Vec<u32>, inputs: &[u32]) -> Vec<u32>
     origins
 }
 
-// Those of the gates', which are none of the inputs'.
+// The same with those of the gates; no gate defines an input's variable.
 fn with_gates(mut origins: Vec<u32>, inputs: u32, ands: &[And], order: &[u32]) -> Vec<u32>
     requires few { inputs + length order.now < 2 ^ 31 }
     requires inside { (k : ℕ) → k < length order.now → slice_index_or order.now k 0 < length ands.now }

@@ -6,6 +6,8 @@
 
 mod output;
 mod sharing;
+#[cfg(test)]
+mod tests;
 
 pub use output::output_node;
 pub use sharing::GateNodes;

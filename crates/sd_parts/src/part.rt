@@ -1,7 +1,8 @@
 //! The parts of a formula as tasks.
 //!
-//! Each part owns what its work needs: its groups, a manager and a cache. What it gives back is flat records, and a
-//! manager without nodes, so that the nodes of all parts need not be there at once.
+//! Each part owns what its work needs: its groups, a manager and a cache. What it gives back is flat records and a
+//! manager that holds nothing: a new one, where there is memory for it. A part that is refused gives back the manager
+//! that refused.
 ghost use Rattle.std.specs.Prelude.{◌≡◌, ℕ, ◌<◌, ◌≤◌, ◌+◌, ◌^◌, None, length, IfOk, IfErr, vec_len};
 ghost use Rattle.std.specs.Option.{IsSome};
 ghost use Rattle.std.specs.FinMap.{empty, get, remove};

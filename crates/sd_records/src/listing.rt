@@ -12,7 +12,7 @@ use crate::records::{Head, Records};
 use sd_manager::{FIRST_NODE, Manager, NodeId};
 use std::alloc::{AllocError, Global};
 
-// There is memory for fewer entries than this: 16 GB.
+// A manager has fewer decompositions than this: its arena has fewer elements, and each takes two or more.
 const MOST_ENTRIES: usize = 1 << 31;
 
 /// The entries so far, and where those of nodes stand.

@@ -1,4 +1,4 @@
-// Diagrams that leave their manager and come back, into it and into another one.
+// Records of constants, which leave their manager and are read into another one, also one without room.
 ghost use Rattle.std.specs.Prelude.{◌≡◌, ◌<◌, ◌≤◌, ◌-◌, ◌^◌, None, IfOk};
 ghost use Rattle.std.specs.FinMap.{len};
 ghost use Rattle.sd_model.specs.StartTrees.{balanced_tree};
