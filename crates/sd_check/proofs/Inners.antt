@@ -78,7 +78,7 @@ inner_part (Node l r) base p i e =
         ∙ f)
 
 -- what is found stands among the tree's positions
-inner_range : (t : Tree) (base p : ℕ) (i : Inner) → inner_at t base p ≡ Some i →
+pub inner_range : (t : Tree) (base p : ℕ) (i : Inner) → inner_at t base p ≡ Some i →
     (base ≤ p) × (p + 1 < base + 2 * leaves t)
 inner_range t base p i e =
     let w = inner_part t base p i e in
@@ -90,7 +90,7 @@ inner_range t base p i e =
     )
 
 -- nothing is found behind the tree's positions
-none_behind : (t : Tree) (base p : ℕ) → base + 2 * leaves t ≤ p → inner_at t base p ≡ None
+pub none_behind : (t : Tree) (base p : ℕ) → base + 2 * leaves t ≤ p → inner_at t base p ≡ None
 none_behind t base p h = go (inner_at t base p) refl
   where
     go : (o : Option Inner) → inner_at t base p ≡ o → inner_at t base p ≡ None
@@ -98,12 +98,20 @@ none_behind t base p h = go (inner_at t base p) refl
     go (Some i) e = absurd (omega (arith, h, (inner_range t base p i e).1))
 
 -- another node than the one in hand
-other_node : (l r : Tree) (base p : ℕ) → (position (Node l r) base ≡ p → ⊥) →
+pub other_node : (l r : Tree) (base p : ℕ) → (position (Node l r) base ≡ p → ⊥) →
     inner_at (Node l r) base p ≡ or_else (inner_at l base p) (inner_at r (right_base l base) p)
 other_node l r base p h =
     ap (λ b. if b then Some (inner_of l r base)
     else or_else (inner_at l base p) (inner_at r (right_base l base) p))
     (ne_eqb (position (Node l r) base) p h)
+
+-- and the node in hand
+pub own_node : (l r : Tree) (base p : ℕ) → position (Node l r) base ≡ p →
+    inner_at (Node l r) base p ≡ Some (inner_of l r base)
+own_node l r base p h =
+    ap (λ b. if b then Some (inner_of l r base)
+    else or_else (inner_at l base p) (inner_at r (right_base l base) p))
+    (eq-eqb (position (Node l r) base) p h)
 
 -- a node of the tree is found at its position
 pub part_inner : (l r : Tree) (c : ℕ) {t : Tree} {b : ℕ} → IsPart (Node l r) c t b →

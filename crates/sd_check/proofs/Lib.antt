@@ -1,7 +1,14 @@
 pub mod Copied
 pub mod Elements
+pub mod EqualCodes
+pub mod FormLaws
+pub mod ForkTables
+pub mod Formed
 pub mod Inners
+pub mod Judged
 pub mod Represented
+pub mod Scans
 pub mod Unbroken
+pub mod Unions
 pub mod Verdicts
 pub mod Worked

@@ -404,14 +404,14 @@ holds_unbroken t ids f vtree pairs v h Trim b =
 -- ---- each node
 
 -- a literal at its leaf breaks no rule
-literal_unbroken : (t : Tree) (ids : Places) (f : File) (vtree p x : ℕ) (s : Bool) (z : ℤ) → ids vtree ≡ Some p →
+pub literal_unbroken : (t : Tree) (ids : Places) (f : File) (vtree p x : ℕ) (s : Bool) (z : ℤ) → ids vtree ≡ Some p →
     leaf_position t 0 x ≡ Some p → unsigned_abs z ≡ x → (r : Rule) →
     NodeBreaks t ids f (vtree, FileLiteral z) r → ⊥
 literal_unbroken t ids f vtree p x s z has leaf same Vtree b = b p has (ap (leaf_position t 0) same ∙ leaf)
 literal_unbroken t ids f vtree p x s z has leaf same r b = b
 
 -- the variable of a literal
-variable_of : (x : ℕ) (s : Bool) (z : ℤ) → IsLiteralOf x s z → unsigned_abs z ≡ x
+pub variable_of : (x : ℕ) (s : Bool) (z : ℤ) → IsLiteralOf x s z → unsigned_abs z ≡ x
 variable_of x s (pos n) h = h.0
 variable_of x s (negsuc i) h = h.0
 

@@ -30,6 +30,10 @@ rule_back Cover = refl
 rule_back Subs = refl
 rule_back Trim = refl
 
+-- two rules with one rank are one
+pub same_rule : (r q : Rule) → rank r ≡ rank q → r ≡ q
+same_rule r q e = sym (rule_back r) ∙ ap rule_at e ∙ rule_back q
+
 -- two first rules of one node are one
 one_rule : (t : Tree) (ids : Places) (f : File) (i : ℕ) (r q : Rule) → BreaksRule t ids f i r → BreaksRule t ids f i q →
     r ≡ q
@@ -39,7 +43,7 @@ one_rule t ids f i r q h k = go (cases_lt (rank r) (rank q)) (cases_lt (rank q) 
     go (inl less) other = absurd (k.first_rule r less h.broken)
     go (inr le) (inl less) = absurd (h.first_rule q less k.broken)
     go (inr le) (inr ge) =
-        let same : rank r ≡ rank q = omega arith in sym (rule_back r) ∙ ap rule_at same ∙ rule_back q
+        same_rule r q (omega arith)
 
 -- two first nodes are one
 one_node : (t : Tree) (ids : Places) (f : File) (i j : ℕ) (r q : Rule) → BreaksRule t ids f i r →

@@ -6,7 +6,15 @@
 //! - Laws of the verdict are in `laws.rt`.
 #![tactic(auto)]
 
+mod checker;
+mod forks;
+mod forms;
 pub mod laws;
+mod primes;
 mod rules;
+#[cfg(test)]
+mod tests;
+mod twins;
 
+pub use checker::check;
 pub use rules::{Rule, Verdict};
