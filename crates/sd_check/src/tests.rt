@@ -1,4 +1,4 @@
-// The verdicts on files over two and three variables, on an arena without room, and on a node of many elements.
+// The verdicts on files over two and three variables, and in an arena without room.
 use crate::checker::check;
 use crate::rules::{Rule, Verdict};
 use sd_cache::Cache;
@@ -17,31 +17,32 @@ const TWO: &str = "vtree 3\nL 0 1\nL 2 2\nI 1 0 2\n";
 const THREE: &str = "vtree 5\nL 0 1\nL 2 2\nI 1 0 2\nL 4 3\nI 3 1 4\n";
 
 // The ids of a short vtree text.
-fn ids_of(alloc: Global, text: &str, variables: u32) -> Option<Ids> {
-    let bytes = text.as_bytes();
+pub(crate) fn ids_of(alloc: Global, bytes: &[u8], variables: u32) -> Option<Ids> {
     if variables < 1 || variables > 1024 || bytes.len() > 1000 {
         return None;
     }
     read_ids(alloc, bytes, variables).ok()
 }
 
-// The vtree of which the three variables' text tells.
-fn read_three(alloc: Global) -> Option<Vtree> {
-    read_vtree(alloc, THREE.as_bytes(), 3).ok()
+// The vtree of a short text.
+pub(crate) fn vtree_of(alloc: Global, bytes: &[u8], variables: u32) -> Option<Vtree> {
+    if variables < 1 || variables > 1024 || bytes.len() > 1000 {
+        return None;
+    }
+    read_vtree(alloc, bytes, variables).ok()
 }
 
-// The file of a short text.
-fn file_of(alloc: Global, text: &str, variables: u32) -> Option<SddFile> {
-    let bytes = text.as_bytes();
-    if variables < 1 || variables > 1024 || bytes.len() > 100_000 {
+// The file of a text that is not too long.
+pub(crate) fn file_of(alloc: Global, bytes: &[u8], variables: u32) -> Option<SddFile> {
+    if variables < 1 || variables > 1024 || bytes.len() > 1_000_000 {
         return None;
     }
     read_sdd(alloc, bytes, variables).ok()
 }
 
-// The verdict on a file, in a new manager of a balanced vtree with room for so many elements.
+// The verdict on a file, in a new manager of a vtree with room for so many elements.
 #[tactic(auto, using(sd_apply::proofs::Tried::empty_serves))]
-fn verdict_on(
+pub(crate) fn verdict_on(
     alloc: Global,
     file: &SddFile,
     ids: &Ids,
@@ -51,15 +52,15 @@ fn verdict_on(
     if vtree.variables() != file.variables() {
         return Err(TakeError::OutOfMemory);
     }
-    let mut m = Manager::new(alloc, vtree, bound.min(10_000))?;
+    let mut m = Manager::new(alloc, vtree, bound.min(1_000_000))?;
     let mut c = Cache::new(alloc)?;
     check(alloc, &mut m, &mut c, file, ids)
 }
 
 // The verdict on a text over two variables.
 fn of_two(alloc: Global, text: &str, bound: u32) -> Option<Result<Verdict, TakeError>> {
-    let ids = ids_of(alloc, TWO, 2)?;
-    let file = file_of(alloc, text, 2)?;
+    let ids = ids_of(alloc, TWO.as_bytes(), 2)?;
+    let file = file_of(alloc, text.as_bytes(), 2)?;
     let vtree = Vtree::balanced(alloc, 2).ok()?;
     Some(verdict_on(alloc, &file, &ids, vtree, bound))
 }
@@ -71,9 +72,9 @@ fn no(node: u32, rule: Rule) -> Option<Result<Verdict, TakeError>> {
 
 // The verdict on a text over three variables.
 fn of_three(alloc: Global, text: &str) -> Option<Result<Verdict, TakeError>> {
-    let ids = ids_of(alloc, THREE, 3)?;
-    let file = file_of(alloc, text, 3)?;
-    let vtree = read_three(alloc)?;
+    let ids = ids_of(alloc, THREE.as_bytes(), 3)?;
+    let file = file_of(alloc, text.as_bytes(), 3)?;
+    let vtree = vtree_of(alloc, THREE.as_bytes(), 3)?;
     Some(verdict_on(alloc, &file, &ids, vtree, 1000))
 }
 
