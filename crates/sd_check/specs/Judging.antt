@@ -44,7 +44,8 @@ pub record AreSound (t : Table) (ids : Places) (f : File) (built : List ℕ) : T
 
 -- a node breaks no rule and is there, or this is the first rule that it breaks
 abbrev pub TellsNode : Table → Places → File → ℕ → Result ℕ Rule → Type 0
-TellsNode t ids f i (Ok c) = HoldBefore (IsBroken (plain_tree t.vtree) ids f i) 8 × IsSound t ids f i c
+TellsNode t ids f i (Ok c) =
+    HoldBefore (IsBroken (plain_tree t.vtree) ids f i) 8 × IsSound t ids f i c
 TellsNode t ids f i (Err rule) = IsFirst (IsBroken (plain_tree t.vtree) ids f i) rule
 
 -- the codes of a prime and a sub
@@ -52,7 +53,8 @@ abbrev pub built_pair : List ℕ → ℕ × ℕ → ℕ × ℕ
 built_pair built e = (slice_index_or built e.0 0, slice_index_or built e.1 0)
 
 -- a decomposition behind nodes that are there, which breaks none of the first four rules and stands at a position
-pub record IsFormed (t : Table) (ids : Places) (f : File) (i : ℕ) (built : List ℕ) (middle : ℕ) : Type 0 where
+pub record IsFormed (t : Table) (ids : Places) (f : File) (i : ℕ) (built : List ℕ)
+    (middle : ℕ) : Type 0 where
   pub vtree : ℕ
   pub node : node_at f i ≡ (vtree, FileDecomposition (entry_pairs f i))
   pub has : ids vtree ≡ Some middle

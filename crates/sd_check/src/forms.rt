@@ -147,7 +147,8 @@ fn has_sub_outside(file: &SddFile, ids: &Ids, index: u32, count: u32, first: u32
 pub(crate) fn are_subs_constant(file: &SddFile, index: u32, count: u32) -> bool
     requires index { index < length file.now.nodes }
     requires count { count ≡ length (entry_pairs file.now index) }
-    ensures { result ≡ list_all (λ e. is_constant_node (node_at file.now e.1)) (entry_pairs file.now index) }
+    ensures { result ≡ list_all (λ e. is_constant_node (node_at file.now e.1))
+        (entry_pairs file.now index) }
 {
     for element in 0..count {
         let (_, sub) = file.pair(index, element);
