@@ -2,3 +2,4 @@ pub mod Parts
 pub mod Seen
 pub mod TreeCode
 pub mod Work
+pub mod Join

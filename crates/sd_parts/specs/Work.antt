@@ -1,9 +1,10 @@
 -- A part as work for a thread, and its answer.
-use Rattle.std.specs.Prelude.{◌≡◌, ℕ, ◌+◌, ◌<◌, ◌^◌, List, length, map, None, Result, Ok, Err}
-use Rattle.std.specs.List.{range_with_len}
+use Rattle.std.specs.Prelude.{◌≡◌, ℕ, ◌+◌, ◌<◌, ◌≤◌, ◌^◌, List, [], ◌∷◌, length, map}
+use Rattle.std.specs.Prelude.{Option, Some, None, Result, Ok, Err}
+use Rattle.std.specs.List.{AllZip, range_with_len}
 use Rattle.std.specs.FinMap.{empty}
 use Rattle.sd_model.specs.Tree.{Tree}
-use Rattle.sd_model.specs.Expression.{expression_value}
+use Rattle.sd_model.specs.Expression.{Expression, expression_value}
 use Rattle.sd_vtree.specs.Numbered.{plain_tree}
 use Rattle.sd_formula.specs.Dimacs.{Groups}
 use Rattle.sd_formula.specs.Formulas.{expression_of}
@@ -12,7 +13,7 @@ use Rattle.sd_manager.specs.Making.{IsPastBound}
 use Rattle.sd_compile.specs.declared.error.CompileError.{CompileError}
 use Rattle.sd_compile.specs.declared.error.CompileError.TheVariants.{OverLimit, ArenaFull, OutOfMemory}
 use Rattle.sd_records.specs.Records.{FlatDiagram, AreRecords, UnfoldToValue}
-use Rattle.sd_parts.specs.Parts.{part_of, first_of_part, PartFits, PassesAlone}
+use Rattle.sd_parts.specs.Parts.{part_of, first_of_part, PartFits, PassesAlone, IsPartsOutcome, Passed}
 use Rattle.sd_parts.specs.Seen.{PartWork}
 use Rattle.sd_parts.specs.declared.part.PartAnswer.{PartAnswer}
 
@@ -58,6 +59,36 @@ pub record AnswersPart (work : PartWork) (answer : PartAnswer) : Type 0 where
   pub roots : answer.manager.roots ≡ empty
   pub moving : answer.manager.moving ≡ None
   pub outcome : IsPartOutcome work answer.manager answer.outcome
+
+-- the answers of 1 to 64 parts of the formula at the tree, under the limit, in order; all their arenas have one bound
+pub record AreAnswers (f : Groups) (t : Tree) (limit : ℕ) (answers : List PartAnswer) : Type 0 where
+  pub bound : ℕ
+  pub at_least_one : 1 ≤ length answers
+  pub at_most : length answers ≤ 64
+  pub each : AllZip AnswersPart (parts_of f t limit bound (length answers)) answers
+
+-- the refusal of an outcome, or another one where there is none
+abbrev pub refusal_or : Result FlatDiagram CompileError → Option CompileError → Option CompileError
+refusal_or (Ok records) other = other
+refusal_or (Err e) other = Some e
+
+-- the first refusal
+abbrev pub first_refusal : List PartAnswer → Option CompileError
+first_refusal [] = None
+first_refusal (a ∷ answers) = refusal_or a.outcome (first_refusal answers)
+
+-- where the limit is passed, that is the outcome of the parts
+abbrev pub IsPassedByParts : Tree → ℕ → List Expression → Groups → ℕ → CompileError → Type 0
+IsPassedByParts t limit all f k (OverLimit group size most) =
+    IsPartsOutcome t limit all f k (Passed group size) × (most ≡ limit)
+IsPassedByParts t limit all f k (ArenaFull elements) = Unit {0}
+IsPassedByParts t limit all f k OutOfMemory = Unit {0}
+
+-- a full arena is answered only by the rule of the operations
+abbrev pub KeepsArenaRule : Table → CompileError → Type 0
+KeepsArenaRule m (OverLimit group size most) = Unit {0}
+KeepsArenaRule m (ArenaFull elements) = IsPastBound m elements
+KeepsArenaRule m OutOfMemory = Unit {0}
 
 -- ---- for the contracts of private functions
 

@@ -10,10 +10,12 @@
 
 mod cutting;
 mod gate;
+mod join;
 mod part;
 mod tasks;
 
 pub use gate::{Gate, Open};
+pub use join::join_parts;
 pub use part::{Part, PartAnswer, parts};
 pub use sd_records::{Records, Ref, export, import};
 pub use tasks::{Task, run_tasks};
