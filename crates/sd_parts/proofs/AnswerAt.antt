@@ -71,7 +71,8 @@ compiled_on f t u limit answers h i a low at records is same =
 
 -- where none was refused, all are within the limit
 pub all_fit : (f : Groups) (t : Tree) (limit : ℕ) (answers : List PartAnswer) →
-    AreAnswers f t limit answers → first_refusal answers ≡ None → AllPartsFit t limit f (length answers) (length answers)
+    AreAnswers f t limit answers → first_refusal answers ≡ None →
+    AllPartsFit t limit f (length answers) (length answers)
 all_fit f t limit answers h none i low = at (item answers i low)
   where
     item : (xs : List PartAnswer) (i : ℕ) → i < length xs → (a : PartAnswer) × (a ≡ get_or xs i a)
