@@ -1,9 +1,12 @@
 //! What no clause says: that tasks are in work at once. And `run_tasks` at concrete types.
 ghost use Rattle.std.specs.Prelude.{◌≡◌, ◌*◌, ◌%◌, ◌^◌};
 
-use crate::{Gate, Open, Task, parts, run_tasks};
+use crate::{Gate, Open, Task, join_parts, parts, run_tasks};
+use sd_cache::Cache;
 use sd_compile::CompileError;
 use sd_formula::{Formula, Kind, read_dimacs};
+use sd_manager::Manager;
+use sd_sweep::size;
 use sd_vtree::Vtree;
 use std::alloc::{AllocError, Global};
 use std::sync::atomic::{AtomicBool, Ordering};
@@ -169,6 +172,69 @@ fn each_part_is_refused_alone_by_the_number_of_its_group(rt: HostRuntime) -> Res
         assert!(rt; passed.as_slice() == [over(1, 2, 1), over(2, 2, 1)].as_slice());
         let kept = refusals(&rt, rt.alloc(), &f, 2, workers)?;
         assert!(rt; kept.as_slice() == [None, None].as_slice());
+    }
+    Ok(())
+}
+
+// The size of a formula on the balanced vtree, compiled in so many parts, at least 1 and at most 64, or its refusal.
+fn size_in_parts<R: Threads + Sync>(
+    rt: &R,
+    alloc: Global,
+    f: &Formula,
+    count: u32,
+    limit: u32,
+    workers: u32,
+) -> Result<Result<u32, CompileError>, AllocError> {
+    let mut gates = Vec::new(alloc);
+    for _ in 0..count {
+        gates.push(Open)?;
+    }
+    if gates.is_empty() || gates.len() > 64 {
+        return Ok(Err(CompileError::OutOfMemory));
+    }
+    let vtree = Vtree::balanced(alloc, f.variables())?;
+    if vtree.variables() != f.variables() {
+        return Ok(Err(CompileError::OutOfMemory));
+    }
+    let tree = vtree.tree(alloc)?;
+    let tasks = parts(alloc, f, &tree, 1_000_000, limit, gates)?;
+    let answers = run_tasks(rt, alloc, tasks, workers.clamp(1, 16))?;
+    let mut m = Manager::new(alloc, vtree, 1_000_000)?;
+    let mut c = Cache::new(alloc)?;
+    match join_parts(alloc, &mut m, &mut c, f, &answers, limit) {
+        Ok(root) => {
+            let total = size(&mut m);
+            m.release(root);
+            Ok(Ok(total))
+        }
+        Err(error) => Ok(Err(error)),
+    }
+}
+
+#[test]
+fn parts_are_joined_within_the_limit(rt: HostRuntime) -> Result<(), Fail> {
+    let text = b"p dnf 4 2\n1 2 0\n3 4 0\n";
+    let f = read_dimacs(rt.alloc(), text, Kind::Dnf)?;
+    for workers in [1, 2, 16] {
+        for count in [1, 2, 3, 64] {
+            assert!(rt; size_in_parts(&rt, rt.alloc(), &f, count, 8, workers)? == Ok(8));
+        }
+        let size = 8;
+        let limit = 7;
+        let join = CompileError::OverLimit {
+            group: 2,
+            size,
+            limit,
+        };
+        assert!(rt; size_in_parts(&rt, rt.alloc(), &f, 2, limit, workers)? == Err(join));
+        let size = 2;
+        let limit = 1;
+        let part = CompileError::OverLimit {
+            group: 1,
+            size,
+            limit,
+        };
+        assert!(rt; size_in_parts(&rt, rt.alloc(), &f, 2, limit, workers)? == Err(part));
     }
     Ok(())
 }
