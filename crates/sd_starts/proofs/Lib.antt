@@ -1,0 +1,5 @@
+mod BestOfThree
+mod Choice
+mod Refusals
+mod StartLeaves
+mod Working

@@ -1,0 +1,12 @@
+//! The choice of a start: a formula is compiled and searched alone over each of the three start trees, by several
+//! workers where there are some, and the start with the least size is chosen.
+#![tactic(auto)]
+
+mod choosing;
+mod start;
+#[cfg(test)]
+mod tests;
+mod work;
+
+pub use choosing::{Chosen, Refused, choose_start};
+pub use start::{Settings, Start};
