@@ -18,7 +18,7 @@ use Rattle.sd_script.specs.Phrases as p
 use Rattle.sd_script.specs.Phrases.{Phrase, Word, phrase_of, names_in, files_in, renamed, action_of, seen}
 use Rattle.sd_script.specs.Phrases.{numbered_phrase, with_phrase, with_command}
 use Rattle.sd_script.specs.Read.{reads, in_range, IsAllowed, IsScript}
-use Rattle.sd_script.specs.Scripts.{Script, empty, number_of_word, literals_fit, numbers_fit, is_within}
+use Rattle.sd_script.specs.Scripts.{Script, empty, number_of_word, literals_fit, numbers_fit, formula_fits, is_within}
 use Rattle.sd_script.specs.Scripts.{checked, with_line, after_line, after_lines, script_of}
 use Rattle.sd_script.proofs.Ascii.{and_left}
 use Rattle.sd_script.proofs.Bits.{lengths_fit, phrase_fits}
@@ -56,27 +56,31 @@ not_not true h = refl
 not_not false h = cc
 
 -- what the tests of a command tell
-record Passes (v : ℕ) (earlier : List Command) (action : Action) : Type 0 where
+record Passes (v o : ℕ) (earlier : List Command) (action : Action) : Type 0 where
   used_bound : list_all (has (bound earlier)) (uses action) ≡ true
   free : list_any (has (bound earlier)) (binds action) ≡ false
   literals : literals_fit v action ≡ true
-  numbers : numbers_fit v action ≡ true
+  numbers : numbers_fit v o action ≡ true
+  formula : formula_fits o action ≡ true
   unwritten : list_any (has (written_files earlier)) (writes action) ≡ false
 
 -- where they found no fault
-passes : (v : ℕ) (earlier : List Command) (line : ℕ) (action : Action)
-    → checked v earlier line action ≡ Ok tt → Passes v earlier action
-passes v earlier line action h =
+passes : (v o : ℕ) (earlier : List Command) (line : ℕ) (action : Action)
+    → checked v o earlier line action ≡ Ok tt → Passes v o earlier action
+passes v o earlier line action h =
     let one = passed _ (script_fault_text (faults.NameUnknown line)) _ tt h in
     let two = passed _ (script_fault_text (faults.NameTaken line)) _ tt one.1 in
     let three = passed _ (script_fault_text (faults.LiteralRange line)) _ tt two.1 in
     let four = passed _ (script_fault_text (faults.NumberRange line)) _ tt three.1 in
     let five = passed _ (script_fault_text (faults.FileTwice line)) _ tt four.1 in
+    let six = passed _ (script_fault_text (faults.TooManyLoads line)) _ tt five.1 in
+    let seven = passed _ (script_fault_text (faults.NoFormula line)) _ tt six.1 in
     record {
       used_bound = not_not _ one.0;
       free = two.0;
       literals = not_not _ three.0;
       numbers = not_not _ four.0;
+      formula = not_not _ seven.0;
       unwritten = five.0;
     }
 
@@ -86,6 +90,7 @@ passes v earlier line action h =
 names_same : (q : Phrase ℕ) → names_in q ≡ binds (action_of q) ++ uses (action_of q)
 names_same (p.Input n) = refl
 names_same (p.Load n file) = refl
+names_same (p.Output n index) = refl
 names_same (p.Lit n literal) = refl
 names_same (p.Constant n value) = refl
 names_same (p.Binary operation n a b) = refl
@@ -110,18 +115,21 @@ files_same (p.Vtree file) = refl
 files_same q = refl
 
 -- its numbers
-ranges : (v : ℕ) (q : Phrase ℕ)
-    → literals_fit v (action_of q) ≡ true → numbers_fit v (action_of q) ≡ true → lengths_fit v q ≡ true
-    → in_range v (action_of q) ≡ true
-ranges v (p.Lit n literal) l m b = and_left (is_within 1 v (unsigned_abs literal)) true l
-ranges v (p.Given n a literal) l m b = and_left (is_within 1 v (unsigned_abs literal)) true l
-ranges v (p.Forget n a x) l m b = and_left (is_within 1 v (p.variable_from x)) true l
-ranges v (p.Turn kind q) l m b = m
-ranges v (p.Minimise rounds) l m b = m
-ranges v (p.Limit k) l m b = m
-ranges v (p.Value a bits) l m b = b
-ranges v (p.Write names file) l m b = b
-ranges v q l m b = refl
+ranges : (v o : ℕ) (q : Phrase ℕ)
+    → literals_fit v (action_of q) ≡ true → numbers_fit v o (action_of q) ≡ true
+    → formula_fits o (action_of q) ≡ true → lengths_fit v q ≡ true
+    → in_range v o (action_of q) ≡ true
+ranges v o (p.Input n) l m f b = f
+ranges v o (p.Output n index) l m f b = m
+ranges v o (p.Lit n literal) l m f b = and_left (is_within 1 v (unsigned_abs literal)) true l
+ranges v o (p.Given n a literal) l m f b = and_left (is_within 1 v (unsigned_abs literal)) true l
+ranges v o (p.Forget n a x) l m f b = and_left (is_within 1 v (p.variable_from x)) true l
+ranges v o (p.Turn kind q) l m f b = m
+ranges v o (p.Minimise rounds) l m f b = m
+ranges v o (p.Limit k) l m f b = m
+ranges v o (p.Value a bits) l m f b = b
+ranges v o (p.Write names file) l m f b = b
+ranges v o q l m f b = refl
 
 -- the same with numbers for words
 lengths_stay : {W X : Type 0} (v : ℕ) (name file : W → X) (q : Phrase W)
@@ -153,10 +161,10 @@ with_last P (z ∷ zs) y all last (suc k) x h =
 -- ---- one more command
 
 -- a command that can be done can be done where there are more names and files
-still_allowed : (v : ℕ) (s t : Script) (earlier : List Command) (c : Command)
+still_allowed : (v o : ℕ) (s t : Script) (earlier : List Command) (c : Command)
     → length s.names ≤ length t.names → length s.files ≤ length t.files
-    → IsAllowed v s earlier c → IsAllowed v t earlier c
-still_allowed v s t earlier c names files h = record {
+    → IsAllowed v o s earlier c → IsAllowed v o t earlier c
+still_allowed v o s t earlier c names files h = record {
   names = all_below (length s.names) (length t.names) _ names h.names;
   files = all_below (length s.files) (length t.files) _ files h.files;
   used_bound = h.used_bound;
@@ -166,11 +174,11 @@ still_allowed v s t earlier c names files h = record {
 }
 
 -- a command that passes its tests can be done
-allowed : (v : ℕ) (s : Script) (line : ℕ) (phrase : Phrase Word) → lengths_fit v phrase ≡ true
-    → Passes v s.commands (action_of (numbered_phrase (seen s phrase) phrase))
-    → IsAllowed v (seen s phrase) s.commands
+allowed : (v o : ℕ) (s : Script) (line : ℕ) (phrase : Phrase Word) → lengths_fit v phrase ≡ true
+    → Passes v o s.commands (action_of (numbered_phrase (seen s phrase) phrase))
+    → IsAllowed v o (seen s phrase) s.commands
     (record { line = line; action = action_of (numbered_phrase (seen s phrase) phrase) })
-allowed v s line phrase bits h =
+allowed v o s line phrase bits h =
     let q = numbered_phrase (seen s phrase) phrase in
     let t = seen s phrase in
     let k = numbers_within s phrase in
@@ -181,70 +189,70 @@ allowed v s line phrase bits h =
       free = h.free;
       unwritten = h.unwritten;
       ranges =
-          ranges v q h.literals h.numbers
+          ranges v o q h.literals h.numbers h.formula
           (lengths_stay v (number_of_word t.names) (number_of_word t.files) phrase ∙ bits);
     }
 
 -- a script with one more command
-more : (v : ℕ) (s : Script) (line : ℕ) (phrase : Phrase Word)
-    → lengths_fit v phrase ≡ true → IsScript v s
-    → Passes v s.commands (action_of (numbered_phrase (seen s phrase) phrase))
-    → IsScript v (record (seen s phrase) {
+more : (v o : ℕ) (s : Script) (line : ℕ) (phrase : Phrase Word)
+    → lengths_fit v phrase ≡ true → IsScript v o s
+    → Passes v o s.commands (action_of (numbered_phrase (seen s phrase) phrase))
+    → IsScript v o (record (seen s phrase) {
       commands = with_command s.commands line (numbered_phrase (seen s phrase) phrase);
     })
-more v s line phrase bits h tested =
+more v o s line phrase bits h tested =
     let c : Command = record { line = line; action = action_of (numbered_phrase (seen s phrase) phrase) } in
     let t : Script = record (seen s phrase) { commands = s.commands ++ c ∷ [] } in
     record {
       allowed =
-          with_last (IsAllowed v t) s.commands c
-          (λ k d g. still_allowed v s t (take k s.commands) d
+          with_last (IsAllowed v o t) s.commands c
+          (λ k d g. still_allowed v o s t (take k s.commands) d
           (length_see_least s.names (names_in phrase)) (length_see_least s.files (files_in phrase))
           (h.allowed k d g))
-          (still_allowed v (seen s phrase) t s.commands c (omega arith) (omega arith)
-          (allowed v s line phrase bits tested));
+          (still_allowed v o (seen s phrase) t s.commands c (omega arith) (omega arith)
+          (allowed v o s line phrase bits tested));
     }
 
 -- ---- lines
 
 -- a command line that has no fault
-command_keeps : (v : ℕ) (s t : Script) (line : TextLine)
-    → IsScript v s → with_line v s line ≡ Ok t → IsScript v t
-command_keeps v s t line h e =
+command_keeps : (v o : ℕ) (s t : Script) (line : TextLine)
+    → IsScript v o s → with_line v o s line ≡ Ok t → IsScript v o t
+command_keeps v o s t line h e =
     let fault = script_fault_text (faults.BadLine line.number) in
     let found = gave (ok_or (phrase_of v line.words) fault)
-    (λ phrase. with_phrase v (seen s phrase) line.number (numbered_phrase (seen s phrase) phrase)) t
-    (sym (with_line_is v s line) ∙ e) in
+    (λ phrase. with_phrase v o (seen s phrase) line.number (numbered_phrase (seen s phrase) phrase)) t
+    (sym (with_line_is v o s line) ∙ e) in
     let phrase = found.0 in
     let q = numbered_phrase (seen s phrase) phrase in
-    let tested = went_on (checked v s.commands line.number (action_of q)) _ t found.2 in
+    let tested = went_on (checked v o s.commands line.number (action_of q)) _ t found.2 in
     let bits =
     phrase_fits v line.words phrase (was_there (phrase_of v line.words) fault phrase found.1) in
     let same : record (seen s phrase) { commands = with_command s.commands line.number q } ≡ t =
     cc (tested.2) in
-    subst (IsScript v) same
-    (more v s line.number phrase bits h (passes v s.commands line.number (action_of q) tested.1))
+    subst (IsScript v o) same
+    (more v o s line.number phrase bits h (passes v o s.commands line.number (action_of q) tested.1))
 
 -- a line that has no fault
-line_keeps : (v : ℕ) (s t : Script) (line : TextLine)
-    → IsScript v s → after_line v s line ≡ Ok t → IsScript v t
-line_keeps v s t line h e =
+line_keeps : (v o : ℕ) (s t : Script) (line : TextLine)
+    → IsScript v o s → after_line v o s line ≡ Ok t → IsScript v o t
+line_keeps v o s t line h e =
     by (is_content 35 line) (passed (nat_lt 100000 line.number) (script_fault_text faults.TooManyLines) _ t e).1
   where
-    by : (b : Bool) → (if b then with_line v s line else Ok s) ≡ Ok t → IsScript v t
-    by true g = command_keeps v s t line h g
-    by false g = let same : s ≡ t = cc in subst (IsScript v) same h
+    by : (b : Bool) → (if b then with_line v o s line else Ok s) ≡ Ok t → IsScript v o t
+    by true g = command_keeps v o s t line h g
+    by false g = let same : s ≡ t = cc in subst (IsScript v o) same h
 
 -- lines that have no fault
-lines_keep : (v : ℕ) (s t : Script) (lines : List TextLine)
-    → IsScript v s → after_lines v s lines ≡ Ok t → IsScript v t
-lines_keep v s t [] h e = let same : s ≡ t = cc in subst (IsScript v) same h
-lines_keep v s t (line ∷ lines) h e =
-    let first = gave (after_line v s line) (λ next. after_lines v next lines) t e in
-    lines_keep v first.0 t lines (line_keeps v s first.0 line h first.1) first.2
+lines_keep : (v o : ℕ) (s t : Script) (lines : List TextLine)
+    → IsScript v o s → after_lines v o s lines ≡ Ok t → IsScript v o t
+lines_keep v o s t [] h e = let same : s ≡ t = cc in subst (IsScript v o) same h
+lines_keep v o s t (line ∷ lines) h e =
+    let first = gave (after_line v o s line) (λ next. after_lines v o next lines) t e in
+    lines_keep v o first.0 t lines (line_keeps v o s first.0 line h first.1) first.2
 
 -- the script of a text
-pub is_script : (v : ℕ) (bytes : List ℕ) (t : Script) → script_of v bytes ≡ Ok t → IsScript v t
+pub is_script : (v o : ℕ) (bytes : List ℕ) (t : Script) → script_of v o bytes ≡ Ok t → IsScript v o t
 unfolding script_of
-is_script v bytes t e =
-    lines_keep v empty t (numbered_lines_from 1 (lines_of bytes)) (record { allowed = λ k c h. cc }) e
+is_script v o bytes t e =
+    lines_keep v o empty t (numbered_lines_from 1 (lines_of bytes)) (record { allowed = λ k c h. cc }) e

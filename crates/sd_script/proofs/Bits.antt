@@ -105,11 +105,12 @@ of_one_word v command a =
 of_two_words : (v : ℕ) (command a b : Word) → HaveFit v (two_words v command a b)
 of_two_words v command a b =
     choose v (bytes_eq command (codes "load")) _ _ (of_two v p.Load (λ n f. refl) (name_of a) (file_name_of b))
+    (choose v (bytes_eq command (codes "output")) _ _ (of_two v p.Output (λ n i. refl) (name_of a) (natural_value b))
     (choose v (bytes_eq command (codes "lit")) _ _ (of_two v p.Lit (λ n l. refl) (name_of a) (integer_value b))
     (choose v (bytes_eq command (codes "not")) _ _ (of_two v p.Not (λ n m. refl) (name_of a) (name_of b))
     (choose v (bytes_eq command (codes "same")) _ _ (of_two v p.Same (λ n m. refl) (name_of a) (name_of b))
     (choose v (bytes_eq command (codes "value")) _ _ (of_value v (name_of a) b)
-    (nothing v)))))
+    (nothing v))))))
 
 -- with three
 of_three_words : (v : ℕ) (command a b c : Word) → HaveFit v (three_words command a b c)
@@ -178,6 +179,7 @@ at_most low high n h = grind (arith, nat_tests)
 pub few_names : {W : Type 0} (v : ℕ) (q : Phrase W) → lengths_fit v q ≡ true → length (names_in q) ≤ 1024
 few_names v (p.Input n) h = omega arith
 few_names v (p.Load n f) h = omega arith
+few_names v (p.Output n index) h = omega arith
 few_names v (p.Lit n literal) h = omega arith
 few_names v (p.Constant n value) h = omega arith
 few_names v (p.Binary operation n a b) h = omega arith

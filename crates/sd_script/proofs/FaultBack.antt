@@ -15,6 +15,7 @@ plain (fault.LiteralRange n) = fault.LiteralRange 0
 plain (fault.NumberRange n) = fault.NumberRange 0
 plain (fault.FileTwice n) = fault.FileTwice 0
 plain (fault.TooManyLoads n) = fault.TooManyLoads 0
+plain (fault.NoFormula n) = fault.NoFormula 0
 plain e = e
 
 -- its words are the same
@@ -35,5 +36,6 @@ fault_back (fault.NumberRange m) (fault.NumberRange n) h = ap fault.NumberRange 
 fault_back (fault.FileTwice m) (fault.FileTwice n) h = ap fault.FileTwice (line_back m n _ _ h).0
 fault_back fault.TooManyLines fault.TooManyLines h = refl
 fault_back (fault.TooManyLoads m) (fault.TooManyLoads n) h = ap fault.TooManyLoads (line_back m n _ _ h).0
+fault_back (fault.NoFormula m) (fault.NoFormula n) h = ap fault.NoFormula (line_back m n _ _ h).0
 fault_back fault.OutOfMemory fault.OutOfMemory h = refl
 fault_back e f h = absurd (other_words script_fault_text plain told e f refl h)

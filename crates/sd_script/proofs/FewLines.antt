@@ -20,46 +20,47 @@ within : (n : ℕ) → nat_lt 100000 n ≡ false → n ≤ 100000
 within n h = grind (arith, nat_tests)
 
 -- a command line has one command
-one_more : (v : ℕ) (s t : Script) (line : TextLine) → with_line v s line ≡ Ok t
+one_more : (v o : ℕ) (s t : Script) (line : TextLine) → with_line v o s line ≡ Ok t
     → length t.commands ≡ length s.commands + 1
-one_more v s t line e =
+one_more v o s t line e =
     let found = gave (ok_or (phrase_of v line.words) (script_fault_text (faults.BadLine line.number)))
-    (λ phrase. with_phrase v (seen s phrase) line.number (numbered_phrase (seen s phrase) phrase)) t
-    (sym (with_line_is v s line) ∙ e) in
+    (λ phrase. with_phrase v o (seen s phrase) line.number (numbered_phrase (seen s phrase) phrase)) t
+    (sym (with_line_is v o s line) ∙ e) in
     let phrase = found.0 in
     let q = numbered_phrase (seen s phrase) phrase in
     let c : Command = record { line = line.number; action = action_of q } in
-    let tested = went_on (checked v s.commands line.number (action_of q)) _ t found.2 in
+    let tested = went_on (checked v o s.commands line.number (action_of q)) _ t found.2 in
     let same : record (seen s phrase) { commands = with_command s.commands line.number q } ≡ t = cc (tested.2) in
     ap (λ (u : Script). length u.commands) (sym same) ∙ length-append s.commands (c ∷ [])
 
 -- a line has one at most
-one_at_most : (v : ℕ) (s t : Script) (line : TextLine) → after_line v s line ≡ Ok t
+one_at_most : (v o : ℕ) (s t : Script) (line : TextLine) → after_line v o s line ≡ Ok t
     → (line.number ≤ 100000) × (length t.commands ≤ length s.commands + 1)
-one_at_most v s t line e =
+one_at_most v o s t line e =
     let test = passed (nat_lt 100000 line.number) (script_fault_text faults.TooManyLines) _ t e in
     (within line.number test.0, by (is_content 35 line) test.1)
   where
-    by : (b : Bool) → (if b then with_line v s line else Ok s) ≡ Ok t → length t.commands ≤ length s.commands + 1
-    by true g = omega (arith, one_more v s t line g)
+    by : (b : Bool) → (if b then with_line v o s line else Ok s) ≡ Ok t → length t.commands ≤ length s.commands + 1
+    by true g = omega (arith, one_more v o s t line g)
     by false g =
         let same : s ≡ t = cc in
         omega (arith, ap (λ (u : Script). length u.commands) same)
 
 -- lines from a number on
-lines_few : (v n : ℕ) (s t : Script) (lines : List (List ℕ))
+lines_few : (v o n : ℕ) (s t : Script) (lines : List (List ℕ))
     → length s.commands + 1 ≤ n → length s.commands ≤ 100000
-    → after_lines v s (numbered_lines_from n lines) ≡ Ok t → length t.commands ≤ 100000
-lines_few v n s t [] room within_limit e =
+    → after_lines v o s (numbered_lines_from n lines) ≡ Ok t → length t.commands ≤ 100000
+lines_few v o n s t [] room within_limit e =
     let same : s ≡ t = cc in subst (λ (u : Script). length u.commands ≤ 100000) same within_limit
-lines_few v n s t (line ∷ lines) room within_limit e =
+lines_few v o n s t (line ∷ lines) room within_limit e =
     let this : TextLine = record { number = n; words = words_of line } in
-    let first = gave (after_line v s this) (λ next. after_lines v next (numbered_lines_from (n + 1) lines)) t e in
-    let one = one_at_most v s first.0 this first.1 in
+    let first = gave (after_line v o s this) (λ next. after_lines v o next (numbered_lines_from (n + 1) lines)) t e in
+    let one = one_at_most v o s first.0 this first.1 in
     let low : n ≤ 100000 = one.0 in
-    lines_few v (n + 1) first.0 t lines (omega (arith, one.1, room)) (omega (arith, one.1, room, low)) first.2
+    lines_few v o (n + 1) first.0 t lines (omega (arith, one.1, room)) (omega (arith, one.1, room, low)) first.2
 
 -- the script of a text has at most 100,000 commands
-pub few_commands : (v : ℕ) (bytes : List ℕ) (t : Script) → script_of v bytes ≡ Ok t → length t.commands ≤ 100000
+pub few_commands : (v o : ℕ) (bytes : List ℕ) (t : Script) → script_of v o bytes ≡ Ok t
+    → length t.commands ≤ 100000
 unfolding script_of
-few_commands v bytes t e = lines_few v 1 empty t (lines_of bytes) (omega arith) (omega arith) e
+few_commands v o bytes t e = lines_few v o 1 empty t (lines_of bytes) (omega arith) (omega arith) e

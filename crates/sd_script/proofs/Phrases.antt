@@ -255,6 +255,7 @@ later v command =
     else if bytes_eq command (codes "size") then (do pure (A.Size (← name)))
     else if bytes_eq command (codes "vtree") then (do pure (A.Vtree (← file)))
     else if bytes_eq command (codes "load") then (do pure (A.Load (← name) (← file)))
+    else if bytes_eq command (codes "output") then (do pure (A.Output (← name) (← value natural_value)))
     else if bytes_eq command (codes "lit") then (do pure (A.Lit (← name) (← value integer_value)))
     else if bytes_eq command (codes "not") then (do pure (A.Not (← name) (← name)))
     else if bytes_eq command (codes "same") then (do pure (A.Same (← name) (← name)))
@@ -384,6 +385,7 @@ of_one v s command a =
     (choose s ws (bytes_eq command (codes "size")) _ _ _ _ (one_name s a A.Size p.Size (λ x. refl))
     (choose s ws (bytes_eq command (codes "vtree")) _ _ _ _ (one_file s a)
     (neither s ws (bytes_eq command (codes "load")) _ _ (other s ws 2 _ (takes_two file _ file_takes) (λ e. cc))
+    (neither s ws (bytes_eq command (codes "output")) _ _ (other s ws 2 _ (takes_two _ _ (value_takes _)) (λ e. cc))
     (neither s ws (bytes_eq command (codes "lit")) _ _ (other s ws 2 _ (takes_two _ _ (value_takes _)) (λ e. cc))
     (neither s ws (bytes_eq command (codes "not")) _ _ (other s ws 2 _ (takes_two name _ name_takes) (λ e. cc))
     (neither s ws (bytes_eq command (codes "same")) _ _ (other s ws 2 _ (takes_two name _ name_takes) (λ e. cc))
@@ -393,7 +395,7 @@ of_one v s command a =
     (neither s ws (bytes_eq command (codes "xor")) _ _ (other s ws 3 _ (takes_three name _ name_takes) (λ e. cc))
     (neither s ws (bytes_eq command (codes "given")) _ _ (other s ws 3 _ (takes_three _ _ (value_takes _)) (λ e. cc))
     (neither s ws (bytes_eq command (codes "forget")) _ _ (other s ws 3 _ (takes_three _ _ (value_takes _)) (λ e. cc))
-    (record { fact = refl })))))))))))))))))))))
+    (record { fact = refl }))))))))))))))))))))))
 
 -- with two
 of_two : (v : ℕ) (s : Script) (command a b : Word) → Agree s (a ∷ b ∷ []) (later v command) (two_words v command a b)
@@ -422,6 +424,8 @@ of_two v s command a b =
     (skip s ws command (λ c. two_words v c a b) (codes "vtree") _ _ refl
     (other s ws 1 _ (takes_one file _ file_takes) (λ e. cc))
     (choose s ws (bytes_eq command (codes "load")) _ _ _ _ (name_file s a b)
+    (choose s ws (bytes_eq command (codes "output")) _ _ _ _
+    (name_value s a b natural_value A.Output p.Output (λ x y. refl))
     (choose s ws (bytes_eq command (codes "lit")) _ _ _ _ (name_value s a b integer_value A.Lit p.Lit (λ x y. refl))
     (choose s ws (bytes_eq command (codes "not")) _ _ _ _ (two_names s a b A.Not p.Not (λ x y. refl))
     (choose s ws (bytes_eq command (codes "same")) _ _ _ _ (two_names s a b A.Same p.Same (λ x y. refl))
@@ -431,7 +435,7 @@ of_two v s command a b =
     (neither s ws (bytes_eq command (codes "xor")) _ _ (other s ws 3 _ (takes_three name _ name_takes) (λ e. cc))
     (neither s ws (bytes_eq command (codes "given")) _ _ (other s ws 3 _ (takes_three _ _ (value_takes _)) (λ e. cc))
     (neither s ws (bytes_eq command (codes "forget")) _ _ (other s ws 3 _ (takes_three _ _ (value_takes _)) (λ e. cc))
-    (record { fact = refl })))))))))))))))))))))
+    (record { fact = refl }))))))))))))))))))))))
 
 -- with three
 of_three : (v : ℕ) (s : Script) (command a b c : Word)
@@ -462,6 +466,8 @@ of_three v s command a b c =
     (other s ws 1 _ (takes_one file _ file_takes) (λ e. cc))
     (skip s ws command (λ d. three_words d a b c) (codes "load") _ _ refl
     (other s ws 2 _ (takes_two file _ file_takes) (λ e. cc))
+    (skip s ws command (λ d. three_words d a b c) (codes "output") _ _ refl
+    (other s ws 2 _ (takes_two _ _ (value_takes _)) (λ e. cc))
     (skip s ws command (λ d. three_words d a b c) (codes "lit") _ _ refl
     (other s ws 2 _ (takes_two _ _ (value_takes _)) (λ e. cc))
     (skip s ws command (λ d. three_words d a b c) (codes "not") _ _ refl
@@ -478,7 +484,7 @@ of_three v s command a b c =
     (λ x y z. refl))
     (choose s ws (bytes_eq command (codes "forget")) _ _ _ _
     (names_value s a b c (integer_value c) p.variable_from variable_of refl A.Forget p.Forget (λ x y z. refl))
-    (record { fact = refl })))))))))))))))))))))
+    (record { fact = refl }))))))))))))))))))))))
 
 -- with no word, or with four or more
 of_others : (v : ℕ) (s : Script) (command : Word) (ws : List Word) → length ws ≢ 1 → length ws ≢ 2 → length ws ≢ 3
@@ -496,6 +502,7 @@ of_others v s command ws h1 h2 h3 =
     (neither s ws (bytes_eq command (codes "size")) _ _ (other s ws 1 _ (takes_one name _ name_takes) h1)
     (neither s ws (bytes_eq command (codes "vtree")) _ _ (other s ws 1 _ (takes_one file _ file_takes) h1)
     (neither s ws (bytes_eq command (codes "load")) _ _ (other s ws 2 _ (takes_two file _ file_takes) h2)
+    (neither s ws (bytes_eq command (codes "output")) _ _ (other s ws 2 _ (takes_two _ _ (value_takes _)) h2)
     (neither s ws (bytes_eq command (codes "lit")) _ _ (other s ws 2 _ (takes_two _ _ (value_takes _)) h2)
     (neither s ws (bytes_eq command (codes "not")) _ _ (other s ws 2 _ (takes_two name _ name_takes) h2)
     (neither s ws (bytes_eq command (codes "same")) _ _ (other s ws 2 _ (takes_two name _ name_takes) h2)
@@ -505,7 +512,7 @@ of_others v s command ws h1 h2 h3 =
     (neither s ws (bytes_eq command (codes "xor")) _ _ (other s ws 3 _ (takes_three name _ name_takes) h3)
     (neither s ws (bytes_eq command (codes "given")) _ _ (other s ws 3 _ (takes_three _ _ (value_takes _)) h3)
     (neither s ws (bytes_eq command (codes "forget")) _ _ (other s ws 3 _ (takes_three _ _ (value_takes _)) h3)
-    (record { fact = refl })))))))))))))))))))))
+    (record { fact = refl }))))))))))))))))))))))
 
 -- with any
 of_few : (v : ℕ) (s : Script) (command : Word) (words : List Word)

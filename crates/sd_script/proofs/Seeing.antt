@@ -139,6 +139,7 @@ pub numbers_within : (s : Script) (p : Phrase Word) → HasNamesIn (seen s p) (n
 numbers_within s (phrases.Input n) = record { names = (within_one s.names n, tt); files = tt }
 numbers_within s (phrases.Load n f) =
     record { names = (within_one s.names n, tt); files = (within_one s.files f, tt) }
+numbers_within s (phrases.Output n index) = record { names = (within_one s.names n, tt); files = tt }
 numbers_within s (phrases.Lit n literal) = record { names = (within_one s.names n, tt); files = tt }
 numbers_within s (phrases.Constant n value) = record { names = (within_one s.names n, tt); files = tt }
 numbers_within s (phrases.Binary operation n a b) = record {

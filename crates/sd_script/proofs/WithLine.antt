@@ -10,18 +10,18 @@ use Rattle.sd_script.specs.Scripts.{Script, with_line, with_action}
 use Rattle.sd_script.proofs.Phrases.{command_of_phrase}
 
 -- what follows a phrase, where there is one
-abbrev after : (v : ℕ) (s : Script) (line : TextLine) → Action × Script → Result Script (List ℕ)
-after v s line = λ (action, seen). with_action v line.number action seen
+abbrev after : (v o : ℕ) (s : Script) (line : TextLine) → Action × Script → Result Script (List ℕ)
+after v o s line = λ (action, seen). with_action v o line.number action seen
 
 -- a line is read as its phrase says
-pub with_line_is : (v : ℕ) (s : Script) (line : TextLine) → with_line v s line ≡ by_phrase v s line
-with_line_is v s line =
-    ap (λ o. ok_or o (at_line line.number (codes ": bad line")) >>= after v s line)
+pub with_line_is : (v o : ℕ) (s : Script) (line : TextLine) → with_line v o s line ≡ by_phrase v o s line
+with_line_is v o s line =
+    ap (λ found. ok_or found (at_line line.number (codes ": bad line")) >>= after v o s line)
     (command_of_phrase v s line.words)
     ∙ by (phrase_of v line.words) (at_line line.number (codes ": bad line"))
   where
-    by : (o : Option (Phrase Word)) (text : List ℕ)
-        → (ok_or (option_map (said s) o) text >>= after v s line)
-        ≡ (ok_or o text >>= (λ phrase. after v s line (said s phrase)))
+    by : (found : Option (Phrase Word)) (text : List ℕ)
+        → (ok_or (option_map (said s) found) text >>= after v o s line)
+        ≡ (ok_or found text >>= (λ phrase. after v o s line (said s phrase)))
     by (Some phrase) text = refl
     by None text = refl

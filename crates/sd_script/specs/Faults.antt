@@ -14,4 +14,5 @@ script_fault_text (script.NumberRange n) = at_line n (codes ": number out of ran
 script_fault_text (script.FileTwice n) = at_line n (codes ": file named twice")
 script_fault_text script.TooManyLines = codes ": too many lines"
 script_fault_text (script.TooManyLoads n) = at_line n (codes ": too many loads")
+script_fault_text (script.NoFormula n) = at_line n (codes ": no formula")
 script_fault_text script.OutOfMemory = []

@@ -2,7 +2,7 @@
 use Rattle.std.specs.Prelude.{ℕ, Bool, true, false, not, ◌==◌, List, [], ◌∷◌, ◌++◌, filter, fold, unsigned_abs}
 use Rattle.std.specs.List.{list_any}
 use Rattle.sd_script.specs.declared.command.Action.{Action}
-use Rattle.sd_script.specs.declared.command.Action.TheVariants.{Input, Load, Lit, Constant, Binary}
+use Rattle.sd_script.specs.declared.command.Action.TheVariants.{Input, Load, Output, Lit, Constant, Binary}
 use Rattle.sd_script.specs.declared.command.Action.TheVariants.{Not, Given, Forget}
 use Rattle.sd_script.specs.declared.command.Action.TheVariants.{Drop, Same}
 use Rattle.sd_script.specs.declared.command.Action.TheVariants.{Size, Value, Write, Vtree}
@@ -29,6 +29,7 @@ none = record { uses = []; binds = []; frees = []; writes = []; variables = []; 
 abbrev pub footprint : Action → Footprint
 footprint (Input n) = record none { binds = n ∷ [] }
 footprint (Load n file) = record none { binds = n ∷ []; loads = true }
+footprint (Output n index) = record none { binds = n ∷ [] }
 footprint (Lit n literal) = record none { binds = n ∷ []; variables = unsigned_abs literal ∷ [] }
 footprint (Constant n value) = record none { binds = n ∷ [] }
 footprint (Binary operation n a b) = record none { uses = a ∷ b ∷ []; binds = n ∷ [] }

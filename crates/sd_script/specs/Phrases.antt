@@ -46,6 +46,7 @@ variable_from x = if int_le (pos 1) x then unsigned_abs x else 0
 pub data Phrase (W : Type 0) : Type 0 where
   Input : W → Phrase W
   Load : W → W → Phrase W
+  Output : W → ℕ → Phrase W
   Lit : W → ℤ → Phrase W
   Constant : W → Bool → Phrase W
   Binary : Operation → W → W → W → Phrase W
@@ -95,6 +96,7 @@ one_word command a =
 abbrev pub two_words : ℕ → Word → Word → Word → Option (Phrase Word)
 two_words v command a b =
     if bytes_eq command (codes "load") then pair Load (name_of a) (file_name_of b)
+    else if bytes_eq command (codes "output") then pair Output (name_of a) (natural_value b)
     else if bytes_eq command (codes "lit") then pair Lit (name_of a) (integer_value b)
     else if bytes_eq command (codes "not") then pair Not (name_of a) (name_of b)
     else if bytes_eq command (codes "same") then pair Same (name_of a) (name_of b)
@@ -136,6 +138,7 @@ phrase_of v (command ∷ words) =
 abbrev pub names_in : {W : Type 0} → Phrase W → List W
 names_in (Input n) = n ∷ []
 names_in (Load n file) = n ∷ []
+names_in (Output n index) = n ∷ []
 names_in (Lit n literal) = n ∷ []
 names_in (Constant n value) = n ∷ []
 names_in (Binary operation n a b) = n ∷ a ∷ b ∷ []
@@ -163,6 +166,7 @@ files_in phrase = []
 abbrev pub renamed : {W X : Type 0} → (W → X) → (W → X) → Phrase W → Phrase X
 renamed name file (Input n) = Input (name n)
 renamed name file (Load n f) = Load (name n) (file f)
+renamed name file (Output n index) = Output (name n) index
 renamed name file (Lit n literal) = Lit (name n) literal
 renamed name file (Constant n value) = Constant (name n) value
 renamed name file (Binary operation n a b) = Binary operation (name n) (name a) (name b)
@@ -183,6 +187,7 @@ renamed name file (Vtree f) = Vtree (file f)
 abbrev pub action_of : Phrase ℕ → Action
 action_of (Input n) = actions.Input n
 action_of (Load n file) = actions.Load n file
+action_of (Output n index) = actions.Output n index
 action_of (Lit n literal) = actions.Lit n literal
 action_of (Constant n value) = actions.Constant n value
 action_of (Binary operation n a b) = actions.Binary operation n a b
@@ -222,11 +227,11 @@ abbrev pub with_command : List Command → ℕ → Phrase ℕ → List Command
 with_command earlier line phrase = earlier ++ record { line = line; action = action_of phrase } ∷ []
 
 -- a script with one more command, over the names and files so far
-abbrev pub with_phrase : ℕ → Script → ℕ → Phrase ℕ → Result Script (List ℕ)
-with_phrase v script line phrase = with_action v line (action_of phrase) script
+abbrev pub with_phrase : ℕ → ℕ → Script → ℕ → Phrase ℕ → Result Script (List ℕ)
+with_phrase v o script line phrase = with_action v o line (action_of phrase) script
 
 -- a script with the phrase of a line
-abbrev pub by_phrase : ℕ → Script → TextLine → Result Script (List ℕ)
-by_phrase v script line = do
+abbrev pub by_phrase : ℕ → ℕ → Script → TextLine → Result Script (List ℕ)
+by_phrase v o script line = do
   phrase ← ok_or (phrase_of v line.words) (at_line line.number (codes ": bad line"))
-  with_phrase v (seen script phrase) line.number (numbered_phrase (seen script phrase) phrase)
+  with_phrase v o (seen script phrase) line.number (numbered_phrase (seen script phrase) phrase)

@@ -18,9 +18,9 @@ pub record HasNamesIn (script : Script) (phrase : Phrase ℕ) : Type 0 where
   pub files : AllByRecursion (λ n. n < length script.files) (files_in phrase)
 
 -- the numbers of a phrase are in range, and so is the count of files that were loaded
-pub record IsPhraseInRange (v loaded : ℕ) (phrase : Phrase ℕ) : Type 0 where
+pub record IsPhraseInRange (v o loaded : ℕ) (phrase : Phrase ℕ) : Type 0 where
   pub literals : literals_fit v (action_of phrase) ≡ true
-  pub numbers : numbers_fit v (action_of phrase) ≡ true
+  pub numbers : numbers_fit v o (action_of phrase) ≡ true
   pub loads : is_load (action_of phrase) ≡ true → loaded < 64
 
 -- there is room for the words of a line: each line has at most 1,024 names and one file

@@ -10,7 +10,7 @@ use Rattle.sd_base.specs.Words.{is_filled}
 use Rattle.sd_model.specs.declared.trees.Move.TheVariants.{RotateLeft, RotateRight, Swap}
 use Rattle.sd_model.specs.declared.trees.Operation.TheVariants.{And, Or, Xor}
 use Rattle.sd_script.specs.declared.command.Action.{Action}
-use Rattle.sd_script.specs.declared.command.Action.TheVariants.{Input, Load, Lit, Constant, Binary, Not}
+use Rattle.sd_script.specs.declared.command.Action.TheVariants.{Input, Load, Output, Lit, Constant, Binary, Not}
 use Rattle.sd_script.specs.declared.command.Action.TheVariants.{Given, Forget, Drop, Turn, Minimise, Limit}
 use Rattle.sd_script.specs.declared.command.Action.TheVariants.{Same, Size, Value, Write, Vtree}
 use Rattle.sd_script.specs.declared.command.Command.{Command}
@@ -90,6 +90,7 @@ table v command =
     else if bytes_eq command (codes "size") then (do pure (Size (← name)))
     else if bytes_eq command (codes "vtree") then (do pure (Vtree (← file)))
     else if bytes_eq command (codes "load") then (do pure (Load (← name) (← file)))
+    else if bytes_eq command (codes "output") then (do pure (Output (← name) (← value natural_value)))
     else if bytes_eq command (codes "lit") then (do pure (Lit (← name) (← value integer_value)))
     else if bytes_eq command (codes "not") then (do pure (Not (← name) (← name)))
     else if bytes_eq command (codes "same") then (do pure (Same (← name) (← name)))

@@ -2,7 +2,7 @@
 use Rattle.std.specs.Prelude.{ℕ, map}
 use Rattle.sd_script.specs.declared.phrase.Phrase as code
 use Rattle.sd_script.specs.declared.phrase.Phrase.TheVariants as variants
-use Rattle.sd_script.specs.Phrases.{Phrase, Input, Load, Lit, Constant, Binary, Not, Given, Forget}
+use Rattle.sd_script.specs.Phrases.{Phrase, Input, Load, Output, Lit, Constant, Binary, Not, Given, Forget}
 use Rattle.sd_script.specs.Phrases.{digit_values, Drop, Turn, Minimise, Limit, Same, Size, Value}
 use Rattle.sd_script.specs.Phrases.{Write, Vtree}
 
@@ -10,6 +10,7 @@ use Rattle.sd_script.specs.Phrases.{Write, Vtree}
 abbrev pub viewed : {R W : Type 0} → (R → W) → code.Phrase R → Phrase W
 viewed view (variants.Input n) = Input (view n)
 viewed view (variants.Load n file) = Load (view n) (view file)
+viewed view (variants.Output n index) = Output (view n) index
 viewed view (variants.Lit n literal) = Lit (view n) literal
 viewed view (variants.Constant n value) = Constant (view n) value
 viewed view (variants.Binary operation n a b) = Binary operation (view n) (view a) (view b)

@@ -12,6 +12,8 @@ pub enum Action {
     Input(u32),
     /// `load N FILE`: N is the formula of an SDD file.
     Load(u32, u32),
+    /// `output N I`: N is an output of the circuit of the input, counted from 0.
+    Output(u32, u32),
     /// `lit N L`: N is a literal, of a variable in range.
     Lit(u32, i32),
     /// `true N` or `false N`.

@@ -21,7 +21,7 @@ pub enum ScriptFault {
     /// A literal, or the variable to forget, is not in range.
     #[error("LiteralRange")]
     LiteralRange { line: u32 },
-    /// A position, a number of rounds or a limit is not in range.
+    /// An output, a position, a number of rounds or a limit is not in range.
     #[error("NumberRange")]
     NumberRange { line: u32 },
     /// An earlier command writes the file that the command writes.
@@ -33,6 +33,9 @@ pub enum ScriptFault {
     /// It is the 65th command that loads a file.
     #[error("TooManyLoads")]
     TooManyLoads { line: u32 },
+    /// The input is a circuit, and the command binds the formula of the input.
+    #[error("NoFormula")]
+    NoFormula { line: u32 },
     /// Out of memory, whatever the text.
     #[error("OutOfMemory")]
     OutOfMemory,

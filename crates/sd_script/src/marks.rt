@@ -22,6 +22,7 @@ pub(crate) fn mark_names(names: &mut NameTable<'_>, phrase: &Phrase<'_, u32>)
     match phrase {
         Phrase::Input(n)
         | Phrase::Load(n, _)
+        | Phrase::Output(n, _)
         | Phrase::Lit(n, _)
         | Phrase::Constant(n, _)
         | Phrase::Binary(_, n, _, _)

@@ -36,15 +36,26 @@ fn is_literal(variables: u32, literal: i64) -> bool
     1 <= variable && variable <= u64::from(variables)
 }
 
-/// Whether a position, a number of rounds or a limit is in range.
-pub(crate) fn numbers_fit(variables: u32, phrase: &Phrase<'_, u32>) -> bool
+/// Whether an output, a position, a number of rounds or a limit is in range.
+pub(crate) fn numbers_fit(variables: u32, outputs: u32, phrase: &Phrase<'_, u32>) -> bool
     requires { 1 ≤ variables }
-    ensures { result ≡ texts.numbers_fit variables (phrases.action_of (numbers_view phrase.now)) }
+    ensures { result ≡ texts.numbers_fit variables outputs (phrases.action_of (numbers_view phrase.now)) }
 {
     match phrase {
+        Phrase::Output(_, index) => *index < u64::from(outputs),
         Phrase::Turn(_, position) => *position <= 2 * u64::from(variables) - 2,
         Phrase::Minimise(rounds) => 1 <= *rounds && *rounds <= MAX_ROUNDS,
         Phrase::Limit(limit) => 1 <= *limit && *limit <= MAX_LIMIT,
+        _ => true,
+    }
+}
+
+/// Whether a formula is there for a command that binds it. An input with outputs is a circuit and has none.
+pub(crate) fn formula_fits(outputs: u32, phrase: &Phrase<'_, u32>) -> bool
+    ensures { result ≡ texts.formula_fits outputs (phrases.action_of (numbers_view phrase.now)) }
+{
+    match phrase {
+        Phrase::Input(_) => outputs == 0,
         _ => true,
     }
 }
@@ -53,16 +64,19 @@ pub(crate) fn numbers_fit(variables: u32, phrase: &Phrase<'_, u32>) -> bool
 pub(crate) fn action_of(
     alloc: Global,
     variables: u32,
+    outputs: u32,
     phrase: &Phrase<'_, u32>,
 ) -> Result<Action, AllocError>
     requires within_limit { variables ≤ 1024 }
     requires literals { texts.literals_fit variables (phrases.action_of (numbers_view phrase.now)) ≡ true }
-    requires numbers { texts.numbers_fit variables (phrases.action_of (numbers_view phrase.now)) ≡ true }
+    requires numbers { texts.numbers_fit variables outputs (phrases.action_of (numbers_view phrase.now))
+        ≡ true }
     ensures { IfOk result (λ action. action ≡ phrases.action_of (numbers_view phrase.now)) }
 {
     match phrase {
         Phrase::Input(n) => Ok(Action::Input(*n)),
         Phrase::Load(n, file) => Ok(Action::Load(*n, *file)),
+        Phrase::Output(n, index) => Ok(Action::Output(*n, *index as u32)),
         Phrase::Lit(n, literal) => Ok(Action::Lit(*n, *literal as i32)),
         Phrase::Constant(n, value) => Ok(Action::Constant(*n, *value)),
         Phrase::Binary(operation, n, a, b) => Ok(Action::Binary(*operation, *n, *a, *b)),

@@ -25,6 +25,7 @@ const MAX_NAMES: usize = 1024;
 pub(crate) enum Phrase<'a, W> {
     Input(W),
     Load(W, W),
+    Output(W, u64),
     Lit(W, i64),
     Constant(W, bool),
     Binary(Operation, W, W, W),
@@ -164,6 +165,8 @@ fn two_words<'a>(
 {
     if command == b"load".as_slice() {
         Some(Phrase::Load(name_of(a)?, file_of(b)?))
+    } else if command == b"output".as_slice() {
+        Some(Phrase::Output(name_of(a)?, natural(b)?))
     } else if command == b"lit".as_slice() {
         Some(Phrase::Lit(name_of(a)?, integer(b)?))
     } else if command == b"not".as_slice() {

@@ -15,7 +15,7 @@ ghost use Rattle.sd_script.specs.Views.{viewed, numbers_view};
 use crate::command::{Action, Command};
 use crate::fault::ScriptFault;
 use crate::marks::{mark_files, mark_names};
-use crate::number::{action_of, is_load, literals_fit, numbers_fit};
+use crate::number::{action_of, formula_fits, is_load, literals_fit, numbers_fit};
 use crate::phrase::{Phrase, phrase_of};
 use crate::seen::number_words;
 use crate::table::NameTable;
@@ -105,6 +105,7 @@ impl<'a> Reader<'a> {
         match phrase {
             Phrase::Input(n)
             | Phrase::Load(n, _)
+            | Phrase::Output(n, _)
             | Phrase::Lit(n, _)
             | Phrase::Constant(n, _)
             | Phrase::Binary(_, n, _, _)
@@ -127,13 +128,19 @@ impl<'a> Reader<'a> {
     }
 
     /// The first fault of a command after the earlier ones.
-    fn check(&self, variables: u32, line: u32, phrase: &Phrase<'a, u32>) -> Result<(), ScriptFault>
+    fn check(
+        &self,
+        variables: u32,
+        outputs: u32,
+        line: u32,
+        phrase: &Phrase<'a, u32>,
+    ) -> Result<(), ScriptFault>
         requires { 1 ≤ variables }
         ensures value { Gives (λ _. tt) result
-            (texts.checked variables self.now.commands.items line
+            (texts.checked variables outputs self.now.commands.items line
             (phrases.action_of (numbers_view phrase.now))) }
         ensures fits { OnOk result
-            (IsPhraseInRange variables self.now.loaded (numbers_view phrase.now)) }
+            (IsPhraseInRange variables outputs self.now.loaded (numbers_view phrase.now)) }
     {
         if !self.all_used_bound(phrase) {
             return Err(ScriptFault::NameUnknown { line });
@@ -144,7 +151,7 @@ impl<'a> Reader<'a> {
         if !literals_fit(variables, phrase) {
             return Err(ScriptFault::LiteralRange { line });
         }
-        if !numbers_fit(variables, phrase) {
+        if !numbers_fit(variables, outputs, phrase) {
             return Err(ScriptFault::NumberRange { line });
         }
         if self.is_twice(phrase) {
@@ -152,6 +159,9 @@ impl<'a> Reader<'a> {
         }
         if is_load(phrase) && self.loaded >= MAX_LOADS {
             return Err(ScriptFault::TooManyLoads { line });
+        }
+        if !formula_fits(outputs, phrase) {
+            return Err(ScriptFault::NoFormula { line });
         }
         Ok(())
     }
@@ -183,6 +193,7 @@ impl<'a> Reader<'a> {
         &mut self,
         alloc: Global,
         variables: u32,
+        outputs: u32,
         line: u32,
         phrase: &Phrase<'a, u32>,
     ) -> Result<(), ScriptFault>
@@ -190,12 +201,12 @@ impl<'a> Reader<'a> {
         requires within_limit { variables ≤ 1024 }
         requires names { HasNamesIn (script_view self.old) (numbers_view phrase.now) }
         ensures value { Gives (λ _. script_view self.new) result
-            (with_phrase variables (script_view self.old) line (numbers_view phrase.now)) }
+            (with_phrase variables outputs (script_view self.old) line (numbers_view phrase.now)) }
         ensures names { table_words self.new.names ≡ table_words self.old.names }
         ensures files { table_words self.new.files ≡ table_words self.old.files }
     {
-        self.check(variables, line, phrase)?;
-        let action = action_of(alloc, variables, phrase)?;
+        self.check(variables, outputs, line, phrase)?;
+        let action = action_of(alloc, variables, outputs, phrase)?;
         self.put(line, action, phrase)?;
         Ok(())
     }
@@ -222,6 +233,7 @@ impl<'a> Reader<'a> {
         &mut self,
         alloc: Global,
         variables: u32,
+        outputs: u32,
         line: &Line<'a>,
     ) -> Result<(), ScriptFault>
         requires at_least_one { 1 ≤ variables }
@@ -229,7 +241,7 @@ impl<'a> Reader<'a> {
         requires below { line.now.number ≤ 100000 }
         requires room { HasRoom line.now.number (script_view self.old) }
         ensures value { Gives (λ _. script_view self.new) result
-            (texts.with_line variables (script_view self.old) (line_view line.now)) }
+            (texts.with_line variables outputs (script_view self.old) (line_view line.now)) }
         ensures room { OnOk result (HasRoom (line.now.number + 1) (script_view self.new)) }
     {
         let number = line.number;
@@ -237,7 +249,7 @@ impl<'a> Reader<'a> {
             return Err(ScriptFault::BadLine { line: number });
         };
         let phrase = self.number(alloc, &words)?;
-        self.put_checked(alloc, variables, number, &phrase)?;
+        self.put_checked(alloc, variables, outputs, number, &phrase)?;
         Ok(())
     }
 
@@ -246,13 +258,14 @@ impl<'a> Reader<'a> {
         &mut self,
         alloc: Global,
         variables: u32,
+        outputs: u32,
         line: &Line<'a>,
     ) -> Result<(), ScriptFault>
         requires at_least_one { 1 ≤ variables }
         requires within_limit { variables ≤ 1024 }
         requires room { HasRoom line.now.number (script_view self.old) }
         ensures value { Gives (λ _. script_view self.new) result
-            (texts.after_line variables (script_view self.old) (line_view line.now)) }
+            (texts.after_line variables outputs (script_view self.old) (line_view line.now)) }
         ensures room { OnOk result (HasRoom (line.now.number + 1) (script_view self.new)) }
     {
         if line.number > MAX_LINES {
@@ -261,6 +274,6 @@ impl<'a> Reader<'a> {
         if line.is_blank() || line.begins_with(b'#') {
             return Ok(());
         }
-        self.read_command(alloc, variables, line)
+        self.read_command(alloc, variables, outputs, line)
     }
 }

@@ -60,21 +60,26 @@ impl Script {
 }
 
 /// The script over the variables 1 to `variables` that a text stands for, or the text's first
-/// fault.
+/// fault. The input is a circuit with so many outputs, or a formula where `outputs` is 0.
 ///
 /// There are 1 to 1,024 variables, and the text has at most 67,108,864 bytes. Each line is a
 /// command; blank lines and those that begin with `#` are passed over, but counted. The first line
 /// with a fault decides. Any text may answer `OutOfMemory`.
-pub fn read_script(alloc: Global, bytes: &[u8], variables: u32) -> Result<Script, ScriptFault>
+pub fn read_script(
+    alloc: Global,
+    bytes: &[u8],
+    variables: u32,
+    outputs: u32,
+) -> Result<Script, ScriptFault>
     requires at_least_one { 1 ≤ variables }
     requires within_limit { variables ≤ 1024 }
     requires fits { length bytes.now ≤ 67108864 }
-    ensures ok { IfOk result (λ script. script_of variables bytes.now ≡ Ok script) }
-    ensures fault { IfErr result (λ e. Fails e (script_of variables bytes.now)) }
-    ensures script { IfOk result (IsScript variables) }
+    ensures ok { IfOk result (λ script. script_of variables outputs bytes.now ≡ Ok script) }
+    ensures fault { IfErr result (λ e. Fails e (script_of variables outputs bytes.now)) }
+    ensures script { IfOk result (IsScript variables outputs) }
     ensures within_limit { IfOk result (λ script. length script.commands ≤ 100000) }
 {
-    let reader = read_lines(alloc, bytes, variables)?;
+    let reader = read_lines(alloc, bytes, variables, outputs)?;
     let names = reader.names.texts(alloc)?;
     let files = reader.files.texts(alloc)?;
     Ok(Script {
@@ -86,15 +91,20 @@ pub fn read_script(alloc: Global, bytes: &[u8], variables: u32) -> Result<Script
 
 /// What the lines of a text say.
 #[tactic(auto, unfolding(crate::specs::Scripts::script_of), using(crate::proofs::Ahead::room))]
-fn read_lines(alloc: Global, bytes: &[u8], variables: u32) -> Result<Reader<'_>, ScriptFault>
+fn read_lines(
+    alloc: Global,
+    bytes: &[u8],
+    variables: u32,
+    outputs: u32,
+) -> Result<Reader<'_>, ScriptFault>
     requires at_least_one { 1 ≤ variables }
     requires within_limit { variables ≤ 1024 }
     requires fits { length bytes.now ≤ 67108864 }
-    ensures { Gives script_view result (script_of variables bytes.now) }
+    ensures { Gives script_view result (script_of variables outputs bytes.now) }
 {
     let mut reader = Reader::new(alloc);
     for line in Lines::new(bytes) {
-        reader.read_line(alloc, variables, &line)?;
+        reader.read_line(alloc, variables, outputs, &line)?;
     }
     Ok(reader)
 }

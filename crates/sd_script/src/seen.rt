@@ -33,6 +33,7 @@ pub(crate) fn number_words<'a>(
     match phrase {
         Phrase::Input(n) => Ok(Phrase::Input(names.number(n)?)),
         Phrase::Load(n, file) => Ok(Phrase::Load(names.number(n)?, files.number(file)?)),
+        Phrase::Output(n, index) => Ok(Phrase::Output(names.number(n)?, *index)),
         Phrase::Lit(n, literal) => Ok(Phrase::Lit(names.number(n)?, *literal)),
         Phrase::Constant(n, value) => Ok(Phrase::Constant(names.number(n)?, *value)),
         Phrase::Binary(operation, n, a, b) => {

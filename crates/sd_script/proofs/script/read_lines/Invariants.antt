@@ -11,7 +11,7 @@ abbrev pub invariant-loop-line : goal.invariant-loop-line
 invariant-loop-line l = record {
   can_go : (goal.iterator-loop-line).can_next l.line-iterator;
   ends : (goal.iterator-loop-line).is_finite l.line-iterator;
-  same : after_lines l.variables (script_view l.reader) (lines_left l.line-iterator)
-      ≡ after_lines l.variables empty (numbered_lines_from 1 (lines_of l.bytes));
+  same : after_lines l.variables l.outputs (script_view l.reader) (lines_left l.line-iterator)
+      ≡ after_lines l.variables l.outputs empty (numbered_lines_from 1 (lines_of l.bytes));
   room : HasRoomFor (lines_left l.line-iterator) (script_view l.reader);
 }

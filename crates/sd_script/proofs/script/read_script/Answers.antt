@@ -9,13 +9,13 @@ use Rattle.sd_script.proofs.script.read_script.Goals as goal
 pub returns-clause-script : goal.returns-clause-script
 returns-clause-script c =
     let r = script_view c.in_ok-reader.reader in
-    let read = is_script c.args.variables c.args.bytes.now r c.in_ok-reader.ensures in
-    subst (λ files. IsScript c.args.variables (record {
+    let read = is_script c.args.variables c.args.outputs c.args.bytes.now r c.in_ok-reader.ensures in
+    subst (λ files. IsScript c.args.variables c.args.outputs (record {
       commands = r.commands;
       names = c.in_ok-names.names.items;
       files = files;
     })) (sym c.in_ok-files.ensures)
-    (subst (λ names. IsScript c.args.variables (record {
+    (subst (λ names. IsScript c.args.variables c.args.outputs (record {
       commands = r.commands;
       names = names;
       files = r.files;
@@ -24,4 +24,5 @@ returns-clause-script c =
 -- and it has a line of the text for each command
 pub returns-clause-within_limit : goal.returns-clause-within_limit
 returns-clause-within_limit c =
-    few_commands c.args.variables c.args.bytes.now (script_view c.in_ok-reader.reader) c.in_ok-reader.ensures
+    few_commands c.args.variables c.args.outputs c.args.bytes.now (script_view c.in_ok-reader.reader)
+    c.in_ok-reader.ensures
