@@ -47,6 +47,32 @@ dashed_value : job_of (codes "--cnf" ∷ codes "-a" ∷ []) ≡ Err (codes "usag
 unfolding job_on_literals
 dashed_value = refl
 
+-- an option is refused beside another, the first in its order
+first_of_five : job_of (codes "--cnf" ∷ codes "a" ∷ codes "--portfolio" ∷ codes "--every" ∷ codes "2"
+    ∷ codes "--start" ∷ codes "left" ∷ []) ≡ Err (codes "not with --portfolio: --start")
+unfolding job_on_literals
+first_of_five = refl
+
+-- parts come before starts
+parts_first : job_of (codes "--cnf" ∷ codes "a" ∷ codes "--parts" ∷ codes "2" ∷ codes "--portfolio"
+    ∷ codes "--script" ∷ codes "s" ∷ []) ≡ Err (codes "not with --parts: --script")
+unfolding job_on_literals
+parts_first = refl
+
+workers_without_work : job_of (codes "--cnf" ∷ codes "a" ∷ codes "--workers" ∷ codes "2" ∷ [])
+    ≡ Err (codes "workers without work")
+unfolding job_on_literals
+workers_without_work = refl
+
+checked_without_vtree : job_of (codes "--check" ∷ codes "a" ∷ []) ≡ Err (codes "no vtree")
+unfolding job_on_literals
+checked_without_vtree = refl
+
+-- a flag takes no value
+flag_with_value : job_of (codes "--cnf" ∷ codes "a" ∷ codes "--portfolio=true" ∷ []) ≡ Err (codes "usage")
+unfolding job_on_literals
+flag_with_value = refl
+
 -- with all that is there where nothing is said
 generated_formula : job_of (codes "--generate" ∷ codes "4:0" ∷ []) ≡ Ok (record {
   input = input.Generate 4 0;
@@ -58,6 +84,9 @@ generated_formula : job_of (codes "--generate" ∷ codes "4:0" ∷ []) ≡ Ok (r
   every = None;
   slack = 200;
   limit = 16777216;
+  parts = None;
+  workers = 1;
+  portfolio = false;
 })
 unfolding job_on_literals
 generated_formula = refl
@@ -83,6 +112,9 @@ any_names : (file out : Text) (job : Job) → can_stand_apart file ≡ true → 
       every = None;
       slack = 200;
       limit = 16777216;
+      parts = None;
+      workers = 1;
+      portfolio = false;
     }
 unfolding job_of_parsed
 any_names file out job apart other named =

@@ -43,6 +43,16 @@ fault_back (fault.FileTwice x) (fault.FileTwice y) h =
 fault_back fault.StartUnknown fault.StartUnknown h = refl
 fault_back (fault.EmptyName o) (fault.EmptyName p) h =
     ap fault.EmptyName (word_back o p (append_cancel_left (codes "empty name: --") _ _ h))
+fault_back fault.WorkersAlone fault.WorkersAlone h = refl
+fault_back (fault.WithParts o) (fault.WithParts p) h =
+    ap fault.WithParts (word_back o p (append_cancel_left (codes "not with --parts: --") _ _ h))
+fault_back (fault.WithPortfolio o) (fault.WithPortfolio p) h =
+    ap fault.WithPortfolio (word_back o p (append_cancel_left (codes "not with --portfolio: --") _ _ h))
+fault_back (fault.WithAag o) (fault.WithAag p) h =
+    ap fault.WithAag (word_back o p (append_cancel_left (codes "not with --aag: --") _ _ h))
+fault_back (fault.WithCheck o) (fault.WithCheck p) h =
+    ap fault.WithCheck (word_back o p (append_cancel_left (codes "not with --check: --") _ _ h))
+fault_back fault.NoVtree fault.NoVtree h = refl
 fault_back fault.OutOfMemory fault.OutOfMemory h = refl
 fault_back e f h =
     let other : bytes_eq (words_fault_text e) (words_fault_text f) ≡ false = refl in

@@ -20,8 +20,11 @@ use Rattle.sd_words.specs.ParsedOptions.{ParsedOptions, fails, first_named_besid
 use Rattle.sd_words.specs.ParsedOptions.{has_named, has_option}
 use Rattle.sd_words.specs.JobOf.{Answers, first_some, job_from, job_of, job_of_parsed, name_of_both, unless}
 use Rattle.sd_words.specs.Options.{inputs, file_option_names, number_option_names, replaced_option_names, word_of}
+use Rattle.sd_words.specs.Options.{names_refused_by_aag, names_refused_by_check, names_refused_by_parts}
+use Rattle.sd_words.specs.Options.{names_refused_by_portfolio}
 use Rattle.sd_words.specs.Rows.{empty_name, fault_where, file_twice, no_input, number_range, rows, same_name}
 use Rattle.sd_words.specs.Rows.{words_fault_text, start_unknown, two_inputs, two_vtrees, with_script}
+use Rattle.sd_words.specs.Rows.{no_vtree, with_aag, with_check, with_parts, with_portfolio, workers_alone}
 use Rattle.sd_words.specs.declared.faults.WordsFault.{WordsFault}
 use Rattle.sd_words.specs.declared.faults.WordsFault.TheVariants as fault
 use Rattle.sd_words.specs.declared.jobs.Job.{Job}
@@ -106,6 +109,7 @@ twice (Some x) (Some y) = go (bytes_eq x y)
 pub job_from_rows : (parsed : ParsedOptions)
     → job_from parsed ≡ unless (first_some (rows parsed)) (job_of_parsed parsed)
 unfolding job_from no_input two_inputs two_vtrees number_range with_script file_twice start_unknown empty_name
+    workers_alone with_parts with_portfolio with_aag with_check no_vtree
 job_from_rows parsed =
     let job = job_of_parsed parsed in
     let vtree = parsed (codes "out-vtree") in
@@ -119,8 +123,18 @@ job_from_rows parsed =
     (word_beside parsed option.Script replaced_option_names)
     (looked_for fault.FileTwice (name_of_both vtree sdd) _ (drop 6 (rows parsed)) job
     (tested _ fault.StartUnknown _ (drop 7 (rows parsed)) job
-    (word_looked_for _ fault.EmptyName _ _ _ [] job (λ o. refl)
-    (first_word (λ word. option_map_or is_empty (parsed word) false) file_option_names) refl))
+    (word_looked_for _ fault.EmptyName _ _ _ (drop 8 (rows parsed)) job (λ o. refl)
+    (first_word (λ word. option_map_or is_empty (parsed word) false) file_option_names)
+    (tested _ fault.WorkersAlone _ (drop 9 (rows parsed)) job
+    (word_looked_for _ fault.WithParts _ _ _ (drop 10 (rows parsed)) job (λ o. refl)
+    (word_beside parsed option.Parts names_refused_by_parts)
+    (word_looked_for _ fault.WithPortfolio _ _ _ (drop 11 (rows parsed)) job (λ o. refl)
+    (word_beside parsed option.Portfolio names_refused_by_portfolio)
+    (word_looked_for _ fault.WithAag _ _ _ (drop 12 (rows parsed)) job (λ o. refl)
+    (word_beside parsed option.Aag names_refused_by_aag)
+    (word_looked_for _ fault.WithCheck _ _ _ (drop 13 (rows parsed)) job (λ o. refl)
+    (word_beside parsed option.Check names_refused_by_check)
+    (tested _ fault.NoVtree _ [] job refl))))))))
     ∙ ap (λ (f : Option WordsFault). unless (first_some (f ∷ drop 6 (rows parsed))) job) (twice vtree sdd))))))
 
 -- a job that is accepted has the values in their places

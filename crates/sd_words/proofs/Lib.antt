@@ -3,5 +3,6 @@ pub mod JobLemmas
 pub mod FaultBack
 mod Examples
 mod OptionSteps
+mod Defaults
 mod OrdinaryWalk
 pub mod OrdinaryLaw

@@ -1,75 +1,34 @@
 -- The ordinary words are accepted, and each option has the value that they give it.
-use Rattle.std.proofs.Common.{arith, ◌≡◌, ◌∙◌, ◌||◌, ℕ, Bool, cond, ap, sym, refl, true, false, subst}
+use Rattle.std.proofs.Common.{arith, ◌≡◌, ◌∙◌, ◌||◌, ℕ, Bool, ap, sym, refl, true, false, subst, codes}
 use Rattle.std.proofs.Common.{List, [], ◌∷◌, map, slice_index_or, None, Ok, Result, Some, zero, suc}
-use Rattle.std.specs.Prelude.{fold, not}
+use Rattle.std.specs.Prelude.{if◌then◌else◌, not}
 use Rattle.std.specs.List.{All, list_all}
 use Rattle.std.specs.Str.{bytes_eq}
 use Rattle.std.proofs.lemmas.List.Sums.{AllPass-from_list_all}
 use Rattle.std.proofs.lemmas.Slice.Eq.{bytes_eq-Decides}
-use Rattle.clap.specs.Walk.{Row, Rule, Text, first_of, has_row, with_default}
-use Rattle.clap.specs.Faults.{default_fault, defaults_fault, given_default_fault}
+use Rattle.clap.specs.Walk.{Row, Text, first_of}
 use Rattle.clap.proofs.WalkLemmas.{both}
-use Rattle.sd_words.specs.Command.{parsed_by, handed, sddc, usage_faults}
+use Rattle.sd_words.specs.Command.{handed, if_true, parsed_by, said_of, sddc, usage_faults}
 use Rattle.sd_words.specs.JobOf.{Answers, job_from, job_of, job_of_parsed}
-use Rattle.sd_words.specs.Options.{word_of}
-use Rattle.sd_words.specs.Ordinary.{Setting, Spells, has_each_once, is_spelled, setting_of, sets, words_of_settings}
+use Rattle.sd_words.specs.Options.{is_flag, word_of}
+use Rattle.sd_words.specs.Ordinary.{Setting, Spells, can_stand_apart, has_each_once, is_spelled, setting_of, sets}
+use Rattle.sd_words.specs.Ordinary.{words_of_settings}
 use Rattle.sd_words.specs.declared.faults.WordsFault.{WordsFault}
 use Rattle.sd_words.specs.declared.jobs.Job.{Job}
+use Rattle.sd_words.proofs.Defaults.{fault_all, kept_all, passes, said_none, says_nothing}
 use Rattle.sd_words.proofs.JobLemmas.{job_where_accepted, taken}
 use Rattle.sd_words.proofs.OptionSteps.{false_of, left_passes, left_used, row_of, the_rules, with_left}
 use Rattle.sd_words.proofs.OrdinaryWalk.{faults_all, fresh_in, row_for, walk_all}
 
--- ---- after the words: no option has a default of `clap`'s
+-- ---- after the words
 
--- no text is there
-abbrev has_none : List Text → Bool
-has_none [] = true
-has_none (_ ∷ _) = false
-
--- none of the arguments has a default
-abbrev have_no_defaults : List Rule → Bool
-have_no_defaults rules = list_all (λ a. has_none a.defaults) rules
-
-none_of : (texts : List Text) → has_none texts ≡ true → texts ≡ []
-none_of [] e = refl
-none_of (t ∷ ts) e = cc
-
-kept_one : (a : Rule) (rows : List Row) → a.defaults ≡ [] → with_default rows a ≡ rows
-kept_one a rows e = rw e (go (has_row a.id rows))
-  where
-    go : (b : Bool) → cond b rows rows ≡ rows
-    go true = refl
-    go false = refl
-
--- so no row is added
-kept_all : (rules : List Rule) (rows : List Row) → have_no_defaults rules ≡ true
-    → fold with_default rows rules ≡ rows
-kept_all [] rows none = refl
-kept_all (a ∷ rest) rows none =
-    let each = both _ _ none in
-    ap (λ (rs : List Row). fold with_default rs rest) (kept_one a rows (none_of _ each.0))
-    ∙ kept_all rest rows each.1
-
-fault_one : (a : Rule) (rows : List Row) → a.defaults ≡ [] → default_fault rows a ≡ []
-fault_one a rows e = rw e (go (has_row a.id rows))
-  where
-    go : (b : Bool) → cond (b || true) [] (given_default_fault a []) ≡ []
-    go true = refl
-    go false = refl
-
--- and no default is a fault
-fault_all : (rules : List Rule) (rows : List Row) → have_no_defaults rules ≡ true
-    → defaults_fault rows rules ≡ []
-unfolding defaults_fault
-fault_all [] rows none = refl
-fault_all (a ∷ rest) rows none =
-    let each = both _ _ none in
-    let no_default = none_of _ each.0 in
-    rw (fault_one a rows no_default, kept_one a rows no_default) (fault_all rest rows each.1)
-
-no_defaults : have_no_defaults the_rules ≡ true
+defaults_pass : list_all passes the_rules ≡ true
 unfolding sddc
-no_defaults = refl
+defaults_pass = refl
+
+defaults_say_nothing : list_all says_nothing the_rules ≡ true
+unfolding sddc
+defaults_say_nothing = refl
 
 -- ---- the law
 
@@ -77,18 +36,32 @@ all_fresh : (settings : List Setting) → fresh_in settings [] ≡ true
 all_fresh [] = refl
 all_fresh (s ∷ rest) = all_fresh rest
 
--- the rows of settings give each option its value
-found : (settings : List Setting) (word : Text)
-    → first_of word (map row_for settings) ≡ setting_of settings word
-unfolding row_of
-found [] word = refl
-found (s ∷ rest) word = go (bytes_eq (word_of s.option) word) refl (found rest word)
+-- the value of a setting says itself
+said_own : (s : Setting) → is_spelled s ≡ true → said_of (word_of s.option) (Some s.value) ≡ Some s.value
+said_own s ok = go (is_flag (word_of s.option)) ok
   where
-    go : (b : Bool) → bytes_eq (word_of s.option) word ≡ b
-        → first_of word (map row_for rest) ≡ setting_of rest word
-        → first_of word (row_for s ∷ map row_for rest) ≡ setting_of (s ∷ rest) word
-    go true e parsed = rw e refl
-    go false e parsed = rw e parsed
+    go : (flag : Bool)
+        → (if flag then bytes_eq s.value (codes "true") else s.is_attached || can_stand_apart s.value) ≡ true
+        → (if flag then if_true s.value else Some s.value) ≡ Some s.value
+    go true ok = rw ok refl
+    go false ok = refl
+
+-- the rows of settings give each option its value
+found : (settings : List Setting) (word : Text) → list_all is_spelled settings ≡ true
+    → said_of word (first_of word (map row_for settings)) ≡ setting_of settings word
+unfolding row_of
+found [] word spelled = said_none word
+found (s ∷ rest) word spelled =
+    let each = both (is_spelled s) (list_all is_spelled rest) spelled in
+    go (bytes_eq (word_of s.option) word) refl each.0 (found rest word each.1)
+  where
+    go : (b : Bool) → bytes_eq (word_of s.option) word ≡ b → is_spelled s ≡ true
+        → said_of word (first_of word (map row_for rest)) ≡ setting_of rest word
+        → said_of word (first_of word (row_for s ∷ map row_for rest)) ≡ setting_of (s ∷ rest) word
+    go true e own parsed =
+        let own_word = word_of s.option in
+        rw e (ap (λ (w : Text). said_of w (Some s.value)) (sym ((bytes_eq-Decides own_word word).0 e)) ∙ said_own s own)
+    go false e own parsed = rw e parsed
 
 -- the ordinary words are accepted
 ordinary_accepted : (settings : List Setting) → has_each_once settings ≡ true
@@ -101,7 +74,7 @@ ordinary_accepted settings once spelled =
       ends.is,
       left_passes ends.rows ends.left ends.fresh,
       left_used ends.rows ends.left ends.fresh,
-      fault_all the_rules (with_left ends.rows ends.left) no_defaults,
+      fault_all the_rules (with_left ends.rows ends.left) defaults_pass,
     ) refl
 
 -- and each option has the value that they give it
@@ -113,9 +86,9 @@ ordinary_values settings word once spelled =
     rw (
       ends.is,
       left_used ends.rows ends.left ends.fresh,
-      kept_all the_rules (with_left ends.rows ends.left) no_defaults,
+      kept_all word the_rules (with_left ends.rows ends.left) defaults_say_nothing,
       ends.whole,
-    ) (found settings word)
+    ) (found settings word spelled)
 
 job_of_words_of : (settings : List Setting) → has_each_once settings ≡ true
     → list_all is_spelled settings ≡ true → job_of (words_of_settings settings) ≡ job_from (setting_of settings)

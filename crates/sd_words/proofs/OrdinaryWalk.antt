@@ -1,23 +1,28 @@
 -- The words of ordinary settings, one setting after another: each adds one row, and none is a fault.
-use Rattle.std.proofs.Common.{◌≡◌, ◌∙◌, ◌||◌, Bool, ap, sym, refl, true, false, append_assoc}
+use Rattle.std.proofs.Common.{◌≡◌, ◌∙◌, ◌||◌, Bool, ap, sym, refl, true, false, append_assoc, codes}
 use Rattle.std.proofs.Common.{List, [], ◌∷◌, ◌++◌, map, Some, None}
-use Rattle.std.specs.Prelude.{fold, not}
+use Rattle.std.specs.Prelude.{fold, if◌then◌else◌, not}
 use Rattle.std.specs.List.{list_all}
 use Rattle.std.specs.Str.{bytes_eq}
+use Rattle.std.proofs.lemmas.Slice.Eq.{bytes_eq-Decides}
 use Rattle.clap.specs.Walk.{Row, Text, Walk, has_row, walked}
 use Rattle.clap.specs.Faults.{walk_fault}
 use Rattle.clap.specs.Simple.{built}
 use Rattle.clap.proofs.WalkLemmas.{both}
 use Rattle.sd_words.specs.Command.{sddc}
-use Rattle.sd_words.specs.Options.{word_of}
-use Rattle.sd_words.specs.Ordinary.{Setting, can_stand_apart, has_each_once, is_spelled, sets}
+use Rattle.sd_words.specs.Options.{is_flag, word_of}
+use Rattle.sd_words.specs.Ordinary.{Setting, attached, can_stand_apart, dashed, has_each_once, is_spelled, sets}
 use Rattle.sd_words.specs.Ordinary.{words_of_settings, words_of_setting}
 use Rattle.sd_words.specs.declared.options.OptionName.{OptionName}
 use Rattle.sd_words.proofs.OptionSteps.{IsFresh, Left, append_nil, at, false_of, left_passes, left_used}
-use Rattle.sd_words.proofs.OptionSteps.{no_fault, no_fault_name, no_fault_value, row_of}
-use Rattle.sd_words.proofs.OptionSteps.{step, step_name, step_value, the_rules, with_left}
+use Rattle.sd_words.proofs.OptionSteps.{no_fault, no_fault_flag, no_fault_name, no_fault_value, row_of}
+use Rattle.sd_words.proofs.OptionSteps.{step, step_flag, step_name, step_value, the_rules, with_left}
 
 -- ---- one setting
+
+-- a flag is used at its word, and a value in the word of its option too
+used_at_once : Setting → Bool
+used_at_once s = is_flag (word_of s.option) || s.is_attached
 
 -- the rows after a setting: of a value in a word of its own the use is still to come
 next_rows : Bool → List Row → OptionName → Text → List Row
@@ -36,43 +41,82 @@ unfolding next_rows next_left
 next_whole true all o v = refl
 next_whole false all o v = refl
 
-next_fresh : (b : Bool) (all : List Row) (o : OptionName) (v : Text) → has_row (word_of o) all ≡ false
-    → IsFresh (next_left b o v) (next_rows b all o v)
-unfolding next_rows next_left
-next_fresh true all o v none = tt
-next_fresh false all o v none = none
+next_fresh : (s : Setting) (all : List Row) → has_row (word_of s.option) all ≡ false
+    → IsFresh (next_left (used_at_once s) s.option s.value) (next_rows (used_at_once s) all s.option s.value)
+unfolding next_rows next_left used_at_once
+next_fresh s all none = go (is_flag (word_of s.option)) s.is_attached refl
+  where
+    go : (flag b : Bool) → is_flag (word_of s.option) ≡ flag
+        → IsFresh (next_left (flag || b) s.option s.value) (next_rows (flag || b) all s.option s.value)
+    go true b is = tt
+    go false true is = tt
+    go false false is = (is, none)
 
 -- the walk over words
 abbrev pub run : Walk → List Text → Walk
 run w words = fold (walked the_rules []) w words
 
 -- a setting is walked in one word or in two
-setting_walked : (o : OptionName) (v : Text) (b : Bool) (rest : List Text) (rows : List Row) (left : Left)
-    → IsFresh left rows → has_row (word_of o) (with_left rows left) ≡ false → (b || can_stand_apart v) ≡ true
-    → run (at rows left) (words_of_setting o v b rest)
-    ≡ run (at (next_rows b (with_left rows left) o v) (next_left b o v)) rest
-unfolding next_rows next_left
-setting_walked o v true rest rows left fresh none ok =
-    ap (λ (w : Walk). run w rest) (step o v rows left _ (left_used rows left fresh) none)
-setting_walked o v false rest rows left fresh none ok =
-    ap (λ (w : Walk). run (walked the_rules [] w v) rest) (step_name o rows left _ (left_used rows left fresh))
-    ∙ ap (λ (w : Walk). run w rest) (step_value o v (with_left rows left) ok)
+setting_walked : (s : Setting) (rest : List Text) (rows : List Row) (left : Left)
+    → IsFresh left rows → has_row (word_of s.option) (with_left rows left) ≡ false → is_spelled s ≡ true
+    → run (at rows left) (words_of_setting s.option s.value s.is_attached rest)
+    ≡ run (at (next_rows (used_at_once s) (with_left rows left) s.option s.value)
+    (next_left (used_at_once s) s.option s.value)) rest
+unfolding next_rows next_left used_at_once
+setting_walked s rest rows left fresh none ok = go (is_flag (word_of s.option)) s.is_attached refl ok
+  where
+    go : (flag b : Bool) → is_flag (word_of s.option) ≡ flag
+        → (if flag then bytes_eq s.value (codes "true") else b || can_stand_apart s.value) ≡ true
+        → run (at rows left)
+        (if flag then dashed s.option ∷ rest
+        else (if b then attached s.option s.value ∷ rest else dashed s.option ∷ s.value ∷ rest))
+        ≡ run (at (next_rows (flag || b) (with_left rows left) s.option s.value)
+        (next_left (flag || b) s.option s.value)) rest
+    go true b is ok =
+        let used = left_used rows left fresh in
+        ap (λ (w : Walk). run w rest)
+        (step_flag s.option s.value rows left _ is ((bytes_eq-Decides _ _).0 ok) used none)
+    go false true is ok =
+        ap (λ (w : Walk). run w rest) (step s.option s.value rows left _ is (left_used rows left fresh) none)
+    go false false is ok =
+        let used = left_used rows left fresh in
+        ap (λ (w : Walk). run (walked the_rules [] w s.value) rest) (step_name s.option rows left _ is used)
+        ∙ ap (λ (w : Walk). run w rest) (step_value s.option s.value (with_left rows left) ok)
 
 -- and is no fault
-setting_passes : (o : OptionName) (v : Text) (b : Bool) (rest : List Text) (rows : List Row) (left : Left)
-    → IsFresh left rows → has_row (word_of o) (with_left rows left) ≡ false → (b || can_stand_apart v) ≡ true
-    → walk_fault (built sddc).top [] (at rows left) (words_of_setting o v b rest)
-    ≡ walk_fault (built sddc).top [] (at (next_rows b (with_left rows left) o v) (next_left b o v)) rest
-unfolding next_rows next_left walk_fault
-setting_passes o v true rest rows left fresh none ok =
-    let used = left_used rows left fresh in
-    rw (no_fault o v rows left _ (left_passes rows left fresh) used none, step o v rows left _ used none) refl
-setting_passes o v false rest rows left fresh none ok =
-    rw (
-      no_fault_name o rows left (left_passes rows left fresh),
-      step_name o rows left _ (left_used rows left fresh),
-      no_fault_value o v (with_left rows left) ok,
-      step_value o v (with_left rows left) ok,
+setting_passes : (s : Setting) (rest : List Text) (rows : List Row) (left : Left)
+    → IsFresh left rows → has_row (word_of s.option) (with_left rows left) ≡ false → is_spelled s ≡ true
+    → walk_fault (built sddc).top [] (at rows left) (words_of_setting s.option s.value s.is_attached rest)
+    ≡ walk_fault (built sddc).top [] (at (next_rows (used_at_once s) (with_left rows left) s.option s.value)
+    (next_left (used_at_once s) s.option s.value)) rest
+unfolding next_rows next_left used_at_once walk_fault
+setting_passes s rest rows left fresh none ok = go (is_flag (word_of s.option)) s.is_attached refl ok
+  where
+    go : (flag b : Bool) → is_flag (word_of s.option) ≡ flag
+        → (if flag then bytes_eq s.value (codes "true") else b || can_stand_apart s.value) ≡ true
+        → walk_fault (built sddc).top [] (at rows left)
+        (if flag then dashed s.option ∷ rest
+        else (if b then attached s.option s.value ∷ rest else dashed s.option ∷ s.value ∷ rest))
+        ≡ walk_fault (built sddc).top []
+        (at (next_rows (flag || b) (with_left rows left) s.option s.value)
+        (next_left (flag || b) s.option s.value)) rest
+    go true b is ok =
+        let used = left_used rows left fresh in
+        rw (
+          no_fault_flag s.option rows left _ is (left_passes rows left fresh) used none,
+          step_flag s.option s.value rows left _ is ((bytes_eq-Decides _ _).0 ok) used none,
+        ) refl
+    go false true is ok =
+        let used = left_used rows left fresh in
+        rw (
+          no_fault s.option s.value rows left _ is (left_passes rows left fresh) used none,
+          step s.option s.value rows left _ is used none,
+        ) refl
+    go false false is ok = rw (
+      no_fault_name s.option rows left is (left_passes rows left fresh),
+      step_name s.option rows left _ is (left_used rows left fresh),
+      no_fault_value s.option s.value (with_left rows left) ok,
+      step_value s.option s.value (with_left rows left) ok,
     ) refl
 
 -- ---- all settings
@@ -127,18 +171,18 @@ walk_all [] rows left fresh unused once spelled =
 walk_all (s ∷ rest) rows left fresh unused once spelled =
     let unused_each = both _ _ unused in
     let once_each = both _ _ once in
-    let spelled_each = both _ _ spelled in
+    let spelled_each = both (is_spelled s) (list_all is_spelled rest) spelled in
     let all = with_left rows left in
     let none = false_of _ unused_each.0 in
-    let whole = next_whole s.is_attached all s.option s.value in
-    let again = walk_all rest (next_rows s.is_attached all s.option s.value)
-    (next_left s.is_attached s.option s.value)
-    (next_fresh s.is_attached all s.option s.value none)
+    let whole = next_whole (used_at_once s) all s.option s.value in
+    let again = walk_all rest (next_rows (used_at_once s) all s.option s.value)
+    (next_left (used_at_once s) s.option s.value)
+    (next_fresh s all none)
     (rw whole (still_fresh s rest all unused_each.1 once_each.0)) once_each.1 spelled_each.1 in
     record {
       rows = again.rows;
       left = again.left;
-      is = setting_walked s.option s.value s.is_attached (words_of_settings rest) rows left fresh none spelled_each.0
+      is = setting_walked s (words_of_settings rest) rows left fresh none spelled_each.0
           ∙ again.is;
       whole = again.whole ∙ ap (λ (rs : List Row). rs ++ map row_for rest) whole
           ∙ append_assoc all (row_for s ∷ []) (map row_for rest);
@@ -155,12 +199,12 @@ faults_all [] rows left fresh unused once spelled = refl
 faults_all (s ∷ rest) rows left fresh unused once spelled =
     let unused_each = both _ _ unused in
     let once_each = both _ _ once in
-    let spelled_each = both _ _ spelled in
+    let spelled_each = both (is_spelled s) (list_all is_spelled rest) spelled in
     let all = with_left rows left in
     let none = false_of _ unused_each.0 in
-    setting_passes s.option s.value s.is_attached (words_of_settings rest) rows left fresh none spelled_each.0
-    ∙ faults_all rest (next_rows s.is_attached all s.option s.value)
-    (next_left s.is_attached s.option s.value)
-    (next_fresh s.is_attached all s.option s.value none)
-    (rw (next_whole s.is_attached all s.option s.value) (still_fresh s rest all unused_each.1 once_each.0))
+    setting_passes s (words_of_settings rest) rows left fresh none spelled_each.0
+    ∙ faults_all rest (next_rows (used_at_once s) all s.option s.value)
+    (next_left (used_at_once s) s.option s.value)
+    (next_fresh s all none)
+    (rw (next_whole (used_at_once s) all s.option s.value) (still_fresh s rest all unused_each.1 once_each.0))
     once_each.1 spelled_each.1

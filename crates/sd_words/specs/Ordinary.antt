@@ -1,14 +1,14 @@
--- The ordinary words: each option at most once, as `--WORD=VALUE` or `--WORD VALUE`.
+-- The ordinary words: each option at most once, as `--WORD=VALUE` or `--WORD VALUE`, and a flag as `--WORD`.
 use Rattle.std.specs.Prelude.{◌≡◌, Bool, true, false, not, ◌&&◌, ◌||◌, ◌==◌, List, [], ◌∷◌, ◌++◌}
-use Rattle.std.specs.Prelude.{codes, find, option_map}
+use Rattle.std.specs.Prelude.{codes, find, if◌then◌else◌, option_map}
 use Rattle.std.specs.List.{list_all}
 use Rattle.std.specs.Str.{bytes_eq}
 use Rattle.clap.specs.Walk.{Text}
 use Rattle.sd_words.specs.ParsedOptions.{ParsedOptions}
-use Rattle.sd_words.specs.Options.{word_of}
+use Rattle.sd_words.specs.Options.{is_flag, word_of}
 use Rattle.sd_words.specs.declared.options.OptionName.{OptionName}
 
--- an option with its value, in one word or in two
+-- an option with its value, in one word or in two; a flag is one word by itself, and its value is `true`
 pub record Setting : Type 0 where
   pub option : OptionName
   pub value : Text
@@ -24,8 +24,8 @@ attached o value = codes "--" ++ (word_of o ++ 61 ∷ value)
 
 -- the words of a setting, before others
 abbrev pub words_of_setting : OptionName → Text → Bool → List Text → List Text
-words_of_setting o value true rest = attached o value ∷ rest
-words_of_setting o value false rest = dashed o ∷ value ∷ rest
+words_of_setting o value is_attached rest = if is_flag (word_of o) then dashed o ∷ rest
+    else (if is_attached then attached o value ∷ rest else dashed o ∷ value ∷ rest)
 
 -- the words of settings, one after another
 abbrev pub words_of_settings : List Setting → List Text
@@ -37,9 +37,10 @@ abbrev pub can_stand_apart : Text → Bool
 can_stand_apart [] = true
 can_stand_apart (x ∷ xs) = not (x == 45)
 
--- the value may stand where it does
+-- the value may stand where it does, and that of a flag is `true`
 abbrev pub is_spelled : Setting → Bool
-is_spelled s = s.is_attached || can_stand_apart s.value
+is_spelled s = if is_flag (word_of s.option) then bytes_eq s.value (codes "true")
+    else s.is_attached || can_stand_apart s.value
 
 -- the setting is one of the option with this word
 abbrev pub sets : Text → Setting → Bool

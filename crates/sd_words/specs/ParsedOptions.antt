@@ -10,13 +10,17 @@ use Rattle.sd_words.specs.declared.jobs.TreeWord.TheVariants as tree
 use Rattle.sd_words.specs.Options.{word_of}
 use Rattle.sd_words.specs.declared.options.OptionName.{OptionName}
 
--- the value of each option that is there, by its word
+-- the value of each option that is there, by its word; that of a flag is `true`
 abbrev pub ParsedOptions : Type 0
 ParsedOptions = Text → Option Text
 
 -- the option is there
 abbrev pub has_option : ParsedOptions → Text → Bool
 has_option parsed word = is_some (parsed word)
+
+-- the first option of a list that is there, where another is there too
+abbrev pub first_beside : ParsedOptions → Text → List Text → Option Text
+first_beside parsed word others = if has_option parsed word then find (has_option parsed) others else None
 
 -- the value is there and reads as nothing
 abbrev pub fails : {T : Type 0} → (Text → Option T) → Option Text → Bool

@@ -12,6 +12,8 @@ pub record HasNumbers (parsed : ParsedOptions) (n : Numbers) : Type 0 where
   pub every : n.every ≡ option_number parsed (codes "every")
   pub slack : n.slack ≡ option_number parsed (codes "slack")
   pub limit : n.limit ≡ option_number parsed (codes "limit")
+  pub parts : n.parts ≡ option_number parsed (codes "parts")
+  pub workers : n.workers ≡ option_number parsed (codes "workers")
 
 -- an error exactly where there is a fault, and then that one
 abbrev pub RefusesBy : {T : Type 0} → Option WordsFault → Result T WordsFault → Type 0

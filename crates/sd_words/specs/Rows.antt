@@ -1,12 +1,14 @@
 -- The texts of the faults of the words, and the tests of the values, one by one.
-use Rattle.std.specs.Prelude.{◌&&◌, ◌==◌, ℕ, Bool, List, [], ◌∷◌, ◌++◌, codes, count_by, find, if◌then◌else◌, nat_le}
-use Rattle.std.specs.Prelude.{Option, Some, None, option_map}
+use Rattle.std.specs.Prelude.{◌&&◌, ◌||◌, ◌==◌, ℕ, Bool, List, [], ◌∷◌, ◌++◌, codes, count_by, find, not}
+use Rattle.std.specs.Prelude.{Option, Some, None, if◌then◌else◌, nat_le, option_map}
 use Rattle.std.specs.Option.{option_and_then, option_zip}
 use Rattle.std.specs.Str.{bytes_eq}
 use Rattle.clap.specs.Walk.{Text, is_empty}
 use Rattle.sd_words.specs.ParsedOptions.{ParsedOptions, fails, first_named_beside, has_bad_number, has_option}
 use Rattle.sd_words.specs.ParsedOptions.{has_that, start_of}
 use Rattle.sd_words.specs.Options.{inputs, file_option_names, number_option_names, replaced_option_names, word_of}
+use Rattle.sd_words.specs.Options.{names_refused_by_aag, names_refused_by_check, names_refused_by_parts}
+use Rattle.sd_words.specs.Options.{names_refused_by_portfolio}
 use Rattle.sd_words.specs.declared.options.OptionName.{OptionName}
 use Rattle.sd_words.specs.declared.options.OptionName.TheVariants as option
 use Rattle.sd_words.specs.declared.faults.WordsFault.{WordsFault}
@@ -23,6 +25,12 @@ words_fault_text (fault.WithScript option) = codes "not with --script: --" ++ wo
 words_fault_text (fault.FileTwice name) = codes "file named twice: " ++ name
 words_fault_text fault.StartUnknown = codes "start unknown"
 words_fault_text (fault.EmptyName option) = codes "empty name: --" ++ word_of option
+words_fault_text fault.WorkersAlone = codes "workers without work"
+words_fault_text (fault.WithParts option) = codes "not with --parts: --" ++ word_of option
+words_fault_text (fault.WithPortfolio option) = codes "not with --portfolio: --" ++ word_of option
+words_fault_text (fault.WithAag option) = codes "not with --aag: --" ++ word_of option
+words_fault_text (fault.WithCheck option) = codes "not with --check: --" ++ word_of option
+words_fault_text fault.NoVtree = codes "no vtree"
 words_fault_text fault.OutOfMemory = []
 
 -- ---- for the contracts of private functions, and for proofs
@@ -40,7 +48,7 @@ fault_at_first test options fault = option_map fault (find test options)
 abbrev pub same_name : Option Text → Option Text → Option WordsFault
 same_name a b = option_and_then (λ (x, y). fault_where (bytes_eq x y) (fault.FileTwice x)) (option_zip a b)
 
--- none of `--cnf`, `--dnf` and `--generate` is there
+-- none of `--cnf`, `--dnf`, `--generate`, `--aag` and `--check` is there
 unfoldable pub no_input : ParsedOptions → Option WordsFault
 no_input parsed = fault_where (count_by (has_option parsed) inputs == 0) fault.NoInput
 
@@ -74,6 +82,44 @@ start_unknown parsed = fault_where (fails start_of (parsed (codes "start"))) fau
 unfoldable pub empty_name : ParsedOptions → Option WordsFault
 empty_name parsed = fault_at_first (has_that is_empty parsed) file_option_names (λ o. fault.EmptyName o)
 
+-- `--workers` is there without `--parts` and without `--portfolio`
+unfoldable pub workers_alone : ParsedOptions → Option WordsFault
+workers_alone parsed = fault_where (has_option parsed (codes "workers")
+    && not (has_option parsed (codes "parts") || has_option parsed (codes "portfolio"))) fault.WorkersAlone
+
+-- `--parts` is there with an option that has no place beside it; the first is named
+unfoldable pub with_parts : ParsedOptions → Option WordsFault
+with_parts parsed =
+    option_map (λ o. fault.WithParts o) (first_named_beside option.Parts names_refused_by_parts parsed)
+
+-- the same of `--portfolio`
+unfoldable pub with_portfolio : ParsedOptions → Option WordsFault
+with_portfolio parsed =
+    option_map (λ o. fault.WithPortfolio o) (first_named_beside option.Portfolio names_refused_by_portfolio parsed)
+
+-- the same of `--aag`
+unfoldable pub with_aag : ParsedOptions → Option WordsFault
+with_aag parsed = option_map (λ o. fault.WithAag o) (first_named_beside option.Aag names_refused_by_aag parsed)
+
+-- the same of `--check`
+unfoldable pub with_check : ParsedOptions → Option WordsFault
+with_check parsed = option_map (λ o. fault.WithCheck o) (first_named_beside option.Check names_refused_by_check parsed)
+
+-- `--check` is there without `--vtree`
+unfoldable pub no_vtree : ParsedOptions → Option WordsFault
+no_vtree parsed =
+    fault_where (has_option parsed (codes "check") && not (has_option parsed (codes "vtree"))) fault.NoVtree
+
+-- those of options that have no place beside one another, or none alone
+abbrev pub rows_beside : ParsedOptions → List (Option WordsFault)
+rows_beside parsed = workers_alone parsed
+    ∷ with_parts parsed
+    ∷ with_portfolio parsed
+    ∷ with_aag parsed
+    ∷ with_check parsed
+    ∷ no_vtree parsed
+    ∷ []
+
 -- all of them
 abbrev pub rows : ParsedOptions → List (Option WordsFault)
 rows parsed = no_input parsed
@@ -84,4 +130,4 @@ rows parsed = no_input parsed
     ∷ file_twice parsed
     ∷ start_unknown parsed
     ∷ empty_name parsed
-    ∷ []
+    ∷ rows_beside parsed

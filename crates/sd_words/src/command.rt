@@ -1,10 +1,12 @@
 //! The command line as a command of `clap`.
 ghost use Rattle.std.specs.Prelude.{◌≡◌, ◌≢◌, ◌⊎◌, [], IfErr, IfOk, false, map, string_bytes};
 ghost use Rattle.clap.specs.Words.{app_of, found_of, rows_of, rule_of};
-ghost use Rattle.sd_words.specs.Command.{handed, rows_found, sddc, text_option, usage_faults};
+ghost use Rattle.sd_words.specs.Command.{flag_option, handed, option_rule, rows_found, sddc};
+ghost use Rattle.sd_words.specs.Command.{text_option, usage_faults};
+ghost use Rattle.sd_words.specs.Options.{word_of};
 
 use crate::faults::WordsFault;
-use crate::options::ALL_OPTIONS;
+use crate::options::{ALL_OPTIONS, OptionName};
 use clap::error::ErrorKind;
 use clap::{Arg, ArgAction, ArgMatches, Command};
 use std::alloc::{AllocError, Global};
@@ -49,10 +51,21 @@ fn command<'a>(alloc: Global) -> Result<Command<'a>, AllocError>
         .disable_help_flag(true)
         .disable_version_flag(true);
     for option in ALL_OPTIONS.iter() {
-        let word: &'a str = option.word();
-        command = command.arg(text_arg(alloc, word))?;
+        command = command.arg(argument(alloc, *option))?;
     }
     Ok(command)
+}
+
+fn argument<'a>(alloc: Global, option: OptionName) -> Arg<'a>
+    ensures rule { rule_of result ≡ option_rule (word_of option) }
+    ensures local { result.global ≡ false }
+{
+    let word: &'a str = option.word();
+    if option.is_flag() {
+        flag_arg(alloc, word)
+    } else {
+        text_arg(alloc, word)
+    }
 }
 
 // An option that takes one text value, at most once.
@@ -61,4 +74,12 @@ fn text_arg<'a>(alloc: Global, word: &'a str) -> Arg<'a>
     ensures local { result.global ≡ false }
 {
     Arg::new(alloc, word).long(word).action(ArgAction::Set)
+}
+
+// An option that takes no value, at most once.
+fn flag_arg<'a>(alloc: Global, word: &'a str) -> Arg<'a>
+    ensures rule { rule_of result ≡ flag_option word.entry.now }
+    ensures local { result.global ≡ false }
+{
+    Arg::new(alloc, word).long(word).action(ArgAction::SetTrue)
 }

@@ -14,7 +14,7 @@ pub enum WordsFault {
     /// word that is no option and no value.
     #[error("Usage")]
     Usage,
-    /// None of `--cnf`, `--dnf` and `--generate` is there.
+    /// None of `--cnf`, `--dnf`, `--generate`, `--aag` and `--check` is there.
     #[error("NoInput")]
     NoInput,
     /// More than one of them is there.
@@ -39,6 +39,24 @@ pub enum WordsFault {
     /// The option's value is the name of a file, and empty.
     #[error("EmptyName")]
     EmptyName { option: OptionName },
+    /// `--workers` is there without `--parts` and without `--portfolio`.
+    #[error("WorkersAlone")]
+    WorkersAlone,
+    /// `--parts` is there with `--script` or `--every`.
+    #[error("WithParts")]
+    WithParts { option: OptionName },
+    /// `--portfolio` is there with `--vtree`, `--start`, `--script`, `--every` or `--parts`.
+    #[error("WithPortfolio")]
+    WithPortfolio { option: OptionName },
+    /// `--aag` is there with `--every`, `--parts` or `--portfolio`.
+    #[error("WithAag")]
+    WithAag { option: OptionName },
+    /// `--check` is there with an option other than `--vtree`.
+    #[error("WithCheck")]
+    WithCheck { option: OptionName },
+    /// `--check` is there without `--vtree`.
+    #[error("NoVtree")]
+    NoVtree,
     /// It may come at any words.
     #[error("OutOfMemory")]
     OutOfMemory,

@@ -2,7 +2,7 @@
 
 use sd_base::Name;
 
-/// Where the formula comes from. In the answer of `read_words` no name of a file is empty.
+/// What is read or made. In the answer of `read_words` no name of a file is empty.
 #[derive(Debug, Drop)]
 pub enum InputWord {
     /// A DIMACS file of clauses.
@@ -11,6 +11,11 @@ pub enum InputWord {
     Dnf(Name),
     /// `count` is the number of variables, 3 to 1,024; `seed` is at most 4,294,967,295.
     Generate { count: u64, seed: u64 },
+    /// A file of a circuit in the ASCII format of AIGER.
+    Aag(Name),
+    /// A diagram file that is checked. In the answer of `read_words` the vtree is then a file, and all else is as where
+    /// no other option is there.
+    Check(Name),
 }
 
 /// Where the vtree comes from. The last three have the variables in their order.
@@ -45,4 +50,11 @@ pub struct Job {
     pub slack: u32,
     /// The largest total size, 1 to 268,435,456.
     pub limit: u32,
+    /// Into how many parts the formula is cut, 1 to 64; then `script` and `every` are `None`.
+    pub parts: Option<u32>,
+    /// How many workers do the parts or the starts, 1 to 16.
+    pub workers: u32,
+    /// The formula is compiled over three starts, and the run goes on with one; then the vtree is `Balanced`, and
+    /// `script`, `every` and `parts` are `None`.
+    pub portfolio: bool,
 }

@@ -16,8 +16,8 @@ pub fn one_fault()
     ensures { (e f : WordsFault) → words_fault_text e ≡ words_fault_text f → e ≡ f }
 {}
 
-/// Ordinary words, which are `--WORD=VALUE`, and `--WORD VALUE` where the value begins with no hyphen, each option at
-/// most once, have the job of their values, without a look at what `clap` makes of words.
+/// Ordinary words, which are `--WORD=VALUE`, and `--WORD VALUE` where the value begins with no hyphen, and of a flag
+/// `--WORD`, each option at most once, have the job of their values, without a look at what `clap` makes of words.
 pub fn ordinary_words()
     // They have the job of these values, or the text of the first fault of these.
     ensures read { (settings : List Setting) (words : List Text) → Spells settings words
@@ -27,7 +27,7 @@ pub fn ordinary_words()
     ensures job { (settings : List Setting) (words : List Text) (job : Job) → Spells settings words
         → job_of words ≡ Ok job → job ≡ job_of_parsed (setting_of settings) }
 
-    // The value of an option is the one in its setting,
+    // The value of an option is the one in its setting, which of a flag is `true`,
     ensures values { (settings : List Setting) → has_each_once settings ≡ true
         → All (λ s. setting_of settings (word_of s.option) ≡ Some s.value) settings }
 

@@ -1,18 +1,34 @@
 //! What a parse gave: the value of an option, and which of several options are there.
 ghost use Rattle.std.specs.Prelude.{◌≡◌, count_by, find, option_map};
 ghost use Rattle.clap.specs.Walk.{is_empty};
-ghost use Rattle.sd_words.specs.Command.{parsed_of};
+ghost use Rattle.sd_words.specs.Command.{if_true, parsed_of, said_of};
 ghost use Rattle.sd_words.specs.Options.{word_of};
 ghost use Rattle.sd_words.specs.ParsedOptions.{first_named_beside, has_named, has_that};
 
 use crate::options::OptionName;
 use clap::ArgMatches;
 
-/// The value of an option.
+/// The value of an option, where it is there. That of a flag is `true`.
 pub(crate) fn value<'a>(options: &ArgMatches<'a>, option: OptionName) -> Option<&'a str>
     ensures { option_map (λ s. s.now) result ≡ parsed_of options.now (word_of option) }
 {
-    options.get_str(option.word())
+    said(option, options.get_str(option.word()))
+}
+
+// What a value that `clap` has says of its option: a flag that is not there has one too.
+fn said<'a>(option: OptionName, found: Option<&'a str>) -> Option<&'a str>
+    ensures { option_map (λ s. s.now) result ≡ said_of (word_of option) (option_map (λ s. s.now) found.entry) }
+{
+    match found {
+        Some(text) if option.is_flag() => if_true(text),
+        _ => found,
+    }
+}
+
+fn if_true<'a>(text: &'a str) -> Option<&'a str>
+    ensures { option_map (λ s. s.now) result ≡ if_true text.entry.now }
+{
+    if text == "true" { Some(text) } else { None }
 }
 
 pub(crate) fn is_present(options: &ArgMatches<'_>, option: OptionName) -> bool

@@ -8,20 +8,22 @@ ghost use Rattle.sd_words.specs.Options.{inputs, word_of};
 ghost use Rattle.sd_words.specs.Ordinary.{Setting, Spells, setting_of};
 ghost use Rattle.sd_words.specs.Reading.{HasNumbers};
 
-use crate::checks::{check_inputs, check_names, check_outputs, check_script, check_vtrees};
+use crate::checks::{
+    check_beside, check_inputs, check_names, check_outputs, check_script, check_vtrees,
+};
 use crate::command::{hand, parse};
 use crate::faults::WordsFault;
 use crate::jobs::{InputWord, Job, TreeWord};
-use crate::options::{DEFAULT_LIMIT, DEFAULT_SLACK, OptionName};
-use crate::parsed_options::value;
+use crate::options::{DEFAULT_LIMIT, DEFAULT_SLACK, DEFAULT_WORKERS, OptionName};
+use crate::parsed_options::{is_present, value};
 use crate::values::{Numbers, read_numbers, read_start};
 use clap::ArgMatches;
 use sd_base::Name;
 use std::alloc::{AllocError, Global};
 
 /// The job that the words after the program's name stand for; `words` are without that name.
-/// Ordinary words are `--WORD=VALUE`, and `--WORD VALUE` where the value begins with no hyphen, each option at most
-/// once.
+/// Ordinary words are `--WORD=VALUE`, and `--WORD VALUE` where the value begins with no hyphen, and of a flag `--WORD`,
+/// each option at most once.
 ///
 /// An error is the first variant of `WordsFault` that holds, or `OutOfMemory`.
 pub fn read_words(alloc: Global, words: &[String]) -> Result<Job, WordsFault>
@@ -48,6 +50,7 @@ fn read_options(alloc: Global, options: &ArgMatches<'_>) -> Result<Job, WordsFau
     check_outputs(alloc, options)?;
     let start = read_start(options)?;
     check_names(options)?;
+    check_beside(options)?;
     Ok(job(alloc, options, numbers, start)?)
 }
 
@@ -76,6 +79,9 @@ fn job(
         every: numbers.every,
         slack: numbers.slack.unwrap_or(DEFAULT_SLACK),
         limit: numbers.limit.unwrap_or(DEFAULT_LIMIT),
+        parts: numbers.parts,
+        workers: numbers.workers.unwrap_or(DEFAULT_WORKERS),
+        portfolio: is_present(options, OptionName::Portfolio),
     })
 }
 
@@ -107,6 +113,12 @@ fn input_word(
     }
     if let Some(text) = value(options, OptionName::Dnf) {
         return Ok(InputWord::Dnf(Name::copy_of(alloc, text)?));
+    }
+    if let Some(text) = value(options, OptionName::Aag) {
+        return Ok(InputWord::Aag(Name::copy_of(alloc, text)?));
+    }
+    if let Some(text) = value(options, OptionName::Check) {
+        return Ok(InputWord::Check(Name::copy_of(alloc, text)?));
     }
     let (count, seed) = generated.unwrap();
     Ok(InputWord::Generate {

@@ -24,6 +24,8 @@ pub(crate) struct Numbers {
     pub(crate) every: Option<u32>,
     pub(crate) slack: Option<u32>,
     pub(crate) limit: Option<u32>,
+    pub(crate) parts: Option<u32>,
+    pub(crate) workers: Option<u32>,
 }
 
 /// The numbers that are there, each of which has to be in its range.
@@ -40,6 +42,8 @@ pub(crate) fn read_numbers(options: &ArgMatches<'_>) -> Result<Numbers, WordsFau
         every: number(options, OptionName::Every)?,
         slack: number(options, OptionName::Slack)?,
         limit: number(options, OptionName::Limit)?,
+        parts: number(options, OptionName::Parts)?,
+        workers: number(options, OptionName::Workers)?,
     })
 }
 

@@ -2,14 +2,14 @@ use Rattle.std.proofs.Common.{arith, ◌≡◌, ap, ap₂, sym, ◌∙◌, ℕ, 
 use Rattle.std.specs.Prelude.{fold}
 use Rattle.std.proofs.lemmas.List.Sums.{fold_more}
 use Rattle.clap.specs.Words.{with_rule}
-use Rattle.sd_words.specs.Command.{bare_sddc, sddc, text_option, with_option}
+use Rattle.sd_words.specs.Command.{bare_sddc, sddc, with_option}
 use Rattle.sd_words.specs.Options.{all_option_names}
 use Rattle.sd_words.proofs.command.command.Goals as goal
 
 pub loop-option-preserved : goal.loop-option-preserved
 loop-option-preserved c =
-    c.in_ok-command.ensures.shape c.text_arg.ensures.local
-    ∙ ap₂ with_rule c.loop-option.invariant (c.text_arg.ensures.rule ∙ ap text_option c.word-word.ensures)
+    c.in_ok-command.ensures.shape c.argument.ensures.local
+    ∙ ap₂ with_rule c.loop-option.invariant c.argument.ensures.rule
     ∙ sym (fold_more with_option bare_sddc all_option_names c.loop-option.option-index _ c.loop-option-test.true)
 
 pub returns : goal.returns

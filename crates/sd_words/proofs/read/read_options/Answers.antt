@@ -78,6 +78,20 @@ returns-in_err-check_names c =
       c.in_err-check_names.ensures,
     ) refl)
 
+pub returns-in_err-check_beside : goal.returns-in_err-check_beside
+returns-in_err-check_beside c =
+    refused _ _ _ c.from_residual-in_err-check_beside.ensures.1
+    (rw (
+      first_two,
+      c.in_ok-check_inputs.ensures,
+      c.in_ok-check_vtrees.ensures,
+      c.in_ok-numbers.ensures.range,
+      c.in_ok-check_script.ensures,
+      c.in_ok-check_outputs.ensures,
+      c.in_ok-start.ensures.unknown,
+      c.in_ok-check_names.ensures,
+    ) c.in_err-check_beside.ensures)
+
 pub job-requires-clause-input : goal.job-requires-clause-input
 job-requires-clause-input c = some_input (parsed_of c.args.options.now) c.in_ok-check_inputs.ensures
 
@@ -99,4 +113,5 @@ returns c =
       c.in_ok-check_outputs.ensures,
       c.in_ok-start.ensures.unknown,
       c.in_ok-check_names.ensures,
+      c.in_ok-check_beside.ensures,
     ) (ap (λ (j : Job). Ok j) (sym c.in_ok-job.ensures))
