@@ -6,3 +6,4 @@ mod OptionSteps
 mod Defaults
 mod OrdinaryWalk
 pub mod OrdinaryLaw
+pub mod Fitting

@@ -6,3 +6,4 @@ pub mod Rows
 pub mod JobOf
 pub mod Ordinary
 pub mod Reading
+pub mod Fitting

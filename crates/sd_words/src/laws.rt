@@ -3,6 +3,7 @@
 ghost use Rattle.std.specs.Prelude.{◌≡◌, List, None, Ok, Some, not, true};
 ghost use Rattle.std.specs.List.{All, list_all};
 ghost use Rattle.clap.specs.Walk.{Text};
+ghost use Rattle.sd_words.specs.Fitting.{FitsTogether};
 ghost use Rattle.sd_words.specs.JobOf.{job_from, job_of, job_of_parsed};
 ghost use Rattle.sd_words.specs.Options.{word_of};
 ghost use Rattle.sd_words.specs.Ordinary.{Setting, Spells, has_each_once, setting_of, sets};
@@ -14,6 +15,12 @@ ghost use Rattle.sd_words.specs.declared.jobs.Job.{Job};
 /// the words, has the empty text.
 pub fn one_fault()
     ensures { (e f : WordsFault) → words_fault_text e ≡ words_fault_text f → e ≡ f }
+{}
+
+/// A job of words has its numbers in their ranges, and what it has goes together: parts, a choice of starts, a circuit
+/// and a check stand beside nothing that they exclude.
+pub fn fitting_jobs()
+    ensures { (words : List Text) (job : Job) → job_of words ≡ Ok job → FitsTogether job }
 {}
 
 /// Ordinary words, which are `--WORD=VALUE`, and `--WORD VALUE` where the value begins with no hyphen, and of a flag
