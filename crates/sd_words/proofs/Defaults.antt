@@ -1,8 +1,7 @@
 -- After the words: an option has no default of `clap`'s, and that of a flag says that it is not there.
-use Rattle.std.proofs.Common.{◌≡◌, ◌∙◌, ◌||◌, Bool, ap, cond, refl, sym, true, false, true≢false, codes}
+use Rattle.std.proofs.Common.{◌≡◌, ◌∙◌, ◌||◌, Bool, ap, refl, sym, true, false, true≢false, codes}
 use Rattle.std.proofs.Common.{List, [], ◌∷◌, ◌++◌, None, Some}
-use Rattle.std.specs.Prelude.{◌&&◌, fold, if◌then◌else◌, not, slice_get, Option}
-use Rattle.std.specs.Bool.{then_some}
+use Rattle.std.specs.Prelude.{◌&&◌, fold, if◌then◌else◌, not, slice_get}
 use Rattle.std.specs.List.{list_all}
 use Rattle.std.specs.Option.{option_and_then}
 use Rattle.std.specs.Str.{bytes_eq}

@@ -6,7 +6,7 @@ use Rattle.std.specs.List.{All, list_all}
 use Rattle.std.specs.Str.{bytes_eq}
 use Rattle.std.proofs.lemmas.List.Sums.{AllPass-from_list_all}
 use Rattle.std.proofs.lemmas.Slice.Eq.{bytes_eq-Decides}
-use Rattle.clap.specs.Walk.{Row, Text, first_of}
+use Rattle.clap.specs.Walk.{Text, first_of}
 use Rattle.clap.proofs.WalkLemmas.{both}
 use Rattle.sd_words.specs.Command.{handed, if_true, parsed_by, said_of, sddc, usage_faults}
 use Rattle.sd_words.specs.JobOf.{Answers, job_from, job_of, job_of_parsed}

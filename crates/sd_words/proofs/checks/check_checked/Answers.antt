@@ -1,4 +1,4 @@
-use Rattle.std.proofs.Common.{◌≡◌, ◌∙◌, ap, sym, List, Option, option_map}
+use Rattle.std.proofs.Common.{◌∙◌, ap, sym, List, option_map}
 use Rattle.sd_words.specs.Command.{parsed_of}
 use Rattle.sd_words.specs.ParsedOptions.{first_named_beside}
 use Rattle.sd_words.specs.Rows.{with_check}
