@@ -1,3 +1,4 @@
 mod Descending
+mod Holding
 -- what crates above cite
 pub mod Shared

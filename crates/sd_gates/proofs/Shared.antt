@@ -14,6 +14,8 @@ use Rattle.sd_apply.specs.Answers.{HasAnswer}
 use Rattle.sd_apply.specs.Serving.{last_epoch}
 use Rattle.sd_circuit.specs.Circuits.{OrderedCircuit}
 use Rattle.sd_circuit.specs.declared.wire.Wire.TheVariants.{Gate}
+use Rattle.sd_sweep.specs.Reached.{IsSwept, HasUnreached}
+use Rattle.sd_compile.specs.Compiling.{MaySweep}
 use Rattle.sd_compile.proofs.Joining.{answer_on}
 use Rattle.sd_gates.specs.declared.sharing.GateNodes.{GateNodes}
 use Rattle.sd_gates.specs.Sharing.{wire_function, place_of, node_at, AreShared, Shares}
@@ -175,19 +177,20 @@ shares_on c gates old new kept h =
     shares_while c gates old new kept.epoch (shared_on c gates.nodes.items old new kept) h
 
 -- a table with the same nodes, whatever the roots hold
-pub shares_beside : (c : OrderedCircuit) (gates : GateNodes) (old new : Table) → new.vtree ≡ old.vtree
-    → new.linked ≡ old.linked → new.epoch ≡ old.epoch → Shares c gates old → Shares c gates new
-shares_beside c gates old new tree linked same h = shares_while c gates old new same
-    (λ shared g node p e. beside g node p (shared g node p e)) h
-  where
-    beside : (g node : ℕ) (p : Bool) → HasAnswer old (wire_function c (Gate g p)) node
-        → HasAnswer new (wire_function c (Gate g p)) node
-    beside g node p k = record {
+pub shared_beside : (c : OrderedCircuit) (nodes : List (Option ℕ)) (old new : Table) → new.vtree ≡ old.vtree
+    → new.linked ≡ old.linked → AreShared c nodes old → AreShared c nodes new
+shared_beside c nodes old new tree linked shared g node p e =
+    let k = shared g node p e in record {
       diagram = k.diagram;
       is = subst (λ v. ShowsBy v (get new.linked) node k.diagram) (sym tree)
           (subst (λ l. ShowsBy old.vtree (get l) node k.diagram) (sym linked) k.is);
       value = k.value;
     }
+
+pub shares_beside : (c : OrderedCircuit) (gates : GateNodes) (old new : Table) → new.vtree ≡ old.vtree
+    → new.linked ≡ old.linked → new.epoch ≡ old.epoch → Shares c gates old → Shares c gates new
+shares_beside c gates old new tree linked same h =
+    shares_while c gates old new same (shared_beside c gates.nodes.items old new tree linked) h
 
 -- at a later epoch none of the nodes is used
 pub shares_past : (c : OrderedCircuit) (gates : GateNodes) (old new : Table) → old.epoch ≤ last_epoch
@@ -200,3 +203,18 @@ shares_past c gates old new last (inr is) h = record {
   early = λ e has. let k = h.early e has in omega (arith, k, last, is);
   right = λ n has. absurd (n is);
 }
+
+-- behind a sweep
+pub shares_swept : (c : OrderedCircuit) (gates : GateNodes) (old new : Table) → old.epoch ≤ last_epoch
+    → IsSwept old new → Shares c gates old → Shares c gates new
+shares_swept c gates old new last s h = go s.changed
+  where
+    go : (new ≡ old) ⊎ (IsLater old new × HasUnreached old) → Shares c gates new
+    go (inl same) = subst (Shares c gates) (sym same) h
+    go (inr k) = shares_past c gates old new last k.0 h
+
+-- and where there may have been one
+pub shares_may : (c : OrderedCircuit) (gates : GateNodes) (old new : Table) → old.epoch ≤ last_epoch
+    → MaySweep old new → Shares c gates old → Shares c gates new
+shares_may c gates old new last (inl same) h = subst (Shares c gates) (sym same) h
+shares_may c gates old new last (inr s) h = shares_swept c gates old new last s h

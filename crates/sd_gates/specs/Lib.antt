@@ -1,2 +1,3 @@
 pub mod Sharing
 pub mod Making
+pub mod Holding

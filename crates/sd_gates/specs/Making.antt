@@ -1,5 +1,5 @@
 -- Gates that are made into nodes one after another.
-use Rattle.std.specs.Prelude.{◌≡◌, ℕ, suc, ◌+◌, ◌*◌, ◌<◌, ◌≤◌, true, List, [], ◌∷◌, length, Option}
+use Rattle.std.specs.Prelude.{◌≡◌, ◌⊎◌, ℕ, suc, ◌+◌, ◌*◌, ◌<◌, ◌≤◌, true, List, [], ◌∷◌, length, Option}
 use Rattle.std.specs.Prelude.{Some, None, slice_index_or}
 use Rattle.std.specs.Option.{IsSome}
 use Rattle.sd_manager.specs.Table.{Table}
@@ -45,3 +45,7 @@ current top stack = slice_index_or (top ∷ stack) (length stack) 0
 -- what is left to do
 abbrev pub work_left : List (Option ℕ) → ℕ → List ℕ → ℕ
 work_left nodes top stack = blanks nodes * (top + 1) + current top stack
+
+-- no entry changed, nor how many elements may be in use; or more may be than before
+abbrev pub StaysOrRises : List (Option ℕ) → List (Option ℕ) → ℕ → ℕ → Type 0
+StaysOrRises old new most next = ((new ≡ old) × (next ≡ most)) ⊎ ((most < next) × (most < 4294967296))

@@ -6,8 +6,10 @@
 
 mod output;
 mod sharing;
+mod sweeping;
 #[cfg(test)]
 mod tests;
 
 pub use output::output_node;
 pub use sharing::GateNodes;
+pub use sweeping::sweep_gates;

@@ -1,31 +1,52 @@
 //! An output as a node.
 
-ghost use Rattle.std.specs.Prelude.{◌≡◌, ◌≢◌, ℕ, ◌*◌, ◌<◌, ◌≤◌, List, Bool, true, false, length, Some, None};
+ghost use Rattle.std.specs.Prelude.{◌≡◌, ◌≢◌, ℕ, ◌*◌, ◌^◌, ◌<◌, ◌≤◌, List, Bool, true, false, length, Some, None};
 ghost use Rattle.std.specs.Prelude.{IfOk, IfErr, OnOk, IfSome, IfNone, ◌&&◌, slice_index_or};
 ghost use Rattle.std.specs.Option.{IsSome};
+ghost use Rattle.std.specs.FinMap.{len};
 ghost use Rattle.sd_model.specs.Tree.{leaves};
 ghost use Rattle.sd_model.specs.Circuit.{circuit_output};
 ghost use Rattle.sd_vtree.specs.Numbered.{plain_tree};
 ghost use Rattle.sd_manager.specs.Literals.{literal_of};
 ghost use Rattle.sd_manager.specs.Valid.{IsTable};
 ghost use Rattle.sd_manager.specs.Making.{Extends, KeepsRule};
+ghost use Rattle.sd_manager.specs.Marking.{AreUnmarked};
 ghost use Rattle.sd_apply.specs.Answers.{HasAnswer};
 ghost use Rattle.sd_apply.specs.Serving.{Serves};
+ghost use Rattle.sd_sweep.specs.Falling.{NeverFalls};
+ghost use Rattle.sd_compile.specs.Compiling.{KeepsAll};
 ghost use Rattle.sd_circuit.specs.Circuits.{OrderedCircuit, IsWireWithin, gate_values};
 ghost use Rattle.sd_circuit.specs.declared.wire.Wire.TheVariants.{Gate};
 ghost use Rattle.sd_gates.specs.Sharing.{Shares, wire_function, node_at};
 ghost use Rattle.sd_gates.specs.Making.{IsReady, IsKnown, AddsNegations, IsDescent, current, work_left, blanks};
+ghost use Rattle.sd_gates.specs.Making.{StaysOrRises};
+ghost use Rattle.sd_gates.specs.Holding.{DropsEntries};
 
 use crate::sharing::GateNodes;
+use crate::sweeping::sweep_between;
 use sd_apply::{and, negate};
 use sd_cache::Cache;
 use sd_circuit::{Circuit, Wire};
 use sd_manager::{Manager, NodeId};
 use sd_runs::TakeError;
-use std::alloc::Global;
+use std::alloc::{AllocError, Global};
+
+/// When the next sweep inside an output comes, and what it keeps.
+#[derive(Drop)]
+struct Pace {
+    // the output that is made
+    index: u32,
+    // how many elements may be in use before the next sweep
+    most: u32,
+    // whether the last sweep left more than half, so that the next one keeps what this output needs alone
+    alone: bool,
+}
 
 /// The node of an output, counted from 0. It is made from the gates that it needs and that have no node yet; their
-/// nodes are kept for the next output. It refuses as `sd_apply::and`.
+/// nodes are kept for the next output. Where more elements are in use than `most` behind a gate, it sweeps as
+/// `sweep_gates` does, and then `most` is a greater number: how many may be in use before the next sweep pays. What a
+/// sweep takes away, and what `most` becomes, is chosen for speed and stands in no clause. It refuses as
+/// `sd_apply::and`, and where a sweep finds no memory.
 pub fn output_node(
     alloc: Global,
     m: &mut Manager,
@@ -33,16 +54,22 @@ pub fn output_node(
     circuit: &Circuit,
     gates: &mut GateNodes,
     index: u32,
+    most: &mut u32,
 ) -> Result<NodeId, TakeError>
     requires variables { leaves (plain_tree m.old.vtree) ≡ length circuit.now.text.inputs }
+    requires no_move { m.old.moving ≡ None }
+    requires unmarked { AreUnmarked m.old }
     requires serves { Serves c.old m.old }
     requires shares { Shares circuit.now gates.old m.old }
+    requires room { len m.old.roots < 2 ^ 31 }
     requires index { index < length circuit.now.text.outputs }
     ensures ok { IfOk result
         (λ node. HasAnswer m.new (circuit_output circuit.now.text index) node) }
-    ensures kept { Extends m.old m.new }
+    ensures kept { KeepsAll m.old m.new }
+    ensures never_falls { NeverFalls m.old m.new }
     ensures shares { Shares circuit.now gates.new m.new }
     ensures serves { Serves c.new m.new }
+    ensures unmarked { AreUnmarked m.new }
     ensures rule { IfErr result (λ e. KeepsRule m.new e) }
     ensures table { IsTable m.new }
 {
@@ -52,7 +79,14 @@ pub fn output_node(
         return Err(TakeError::OutOfMemory);
     }
     let wire = circuit.output(index);
-    match make_wire(alloc, m, c, circuit, gates, wire) {
+    let mut pace = Pace {
+        index,
+        most: *most,
+        alone: false,
+    };
+    let made = make_wire(alloc, m, c, circuit, gates, wire, &mut pace);
+    *most = pace.most;
+    match made {
         Ok(()) => wire_node(alloc, m, c, circuit, gates, wire),
         Err(error) => Err(error),
     }
@@ -66,15 +100,21 @@ fn make_wire(
     circuit: &Circuit,
     gates: &mut GateNodes,
     wire: Wire,
+    pace: &mut Pace,
 ) -> Result<(), TakeError>
     requires variables { leaves (plain_tree m.old.vtree) ≡ length circuit.now.text.inputs }
+    requires no_move { m.old.moving ≡ None }
+    requires unmarked { AreUnmarked m.old }
     requires serves { Serves c.old m.old }
     requires ready { IsReady circuit.now gates.old m.old }
+    requires room { len m.old.roots < 2 ^ 31 }
     requires within { IsWireWithin circuit.now (length circuit.now.order) wire }
     ensures ok { OnOk result (IsKnown gates.new.nodes.items wire) }
-    ensures kept { Extends m.old m.new }
+    ensures kept { KeepsAll m.old m.new }
+    ensures never_falls { NeverFalls m.old m.new }
     ensures ready { IsReady circuit.now gates.new m.new }
     ensures serves { Serves c.new m.new }
+    ensures unmarked { AreUnmarked m.new }
     ensures rule { IfErr result (λ e. KeepsRule m.new e) }
     ensures table { IsTable m.new }
 {
@@ -87,11 +127,11 @@ fn make_wire(
             let _ = m.vtree();
             Ok(())
         }
-        Wire::Gate { index, .. } => make_gates(alloc, m, c, circuit, gates, index),
+        Wire::Gate { index, .. } => make_gates(alloc, m, c, circuit, gates, index, pace),
     }
 }
 
-// Makes a gate, and before it all those without nodes that it needs.
+// Makes a gate, and before it all those without nodes that it needs. It sweeps where there is much garbage.
 fn make_gates(
     alloc: Global,
     m: &mut Manager,
@@ -99,15 +139,21 @@ fn make_gates(
     circuit: &Circuit,
     gates: &mut GateNodes,
     top: u32,
+    pace: &mut Pace,
 ) -> Result<(), TakeError>
     requires variables { leaves (plain_tree m.old.vtree) ≡ length circuit.now.text.inputs }
+    requires no_move { m.old.moving ≡ None }
+    requires unmarked { AreUnmarked m.old }
     requires serves { Serves c.old m.old }
     requires ready { IsReady circuit.now gates.old m.old }
+    requires room { len m.old.roots < 2 ^ 31 }
     requires top { top < length circuit.now.order }
     ensures ok { OnOk result (IsSome (node_at gates.new.nodes.items top true)) }
-    ensures kept { Extends m.old m.new }
+    ensures kept { KeepsAll m.old m.new }
+    ensures never_falls { NeverFalls m.old m.new }
     ensures ready { IsReady circuit.now gates.new m.new }
     ensures serves { Serves c.new m.new }
+    ensures unmarked { AreUnmarked m.new }
     ensures rule { IfErr result (λ e. KeepsRule m.new e) }
     ensures table { IsTable m.new }
 {
@@ -118,7 +164,52 @@ fn make_gates(
             Ok(()) => {}
             Err(error) => return Err(error),
         }
+        match sweep_if_full(alloc, m, c, circuit, gates, pace) {
+            Ok(()) => {}
+            Err(_) => return Err(TakeError::OutOfMemory),
+        }
     }
+    Ok(())
+}
+
+// Sweeps where more elements are in use than may be. Then more may be than before, so that this ends.
+fn sweep_if_full(
+    alloc: Global,
+    m: &mut Manager,
+    c: &Cache,
+    circuit: &Circuit,
+    gates: &mut GateNodes,
+    pace: &mut Pace,
+) -> Result<(), AllocError>
+    requires no_move { m.old.moving ≡ None }
+    requires unmarked { AreUnmarked m.old }
+    requires serves { Serves c.now m.old }
+    requires ready { IsReady circuit.now gates.old m.old }
+    requires room { len m.old.roots < 2 ^ 31 }
+    ensures next { OnOk result (StaysOrRises gates.old.nodes.items gates.new.nodes.items
+        pace.old.most pace.new.most) }
+    ensures fewer { DropsEntries gates.old.nodes.items gates.new.nodes.items }
+    ensures kept { KeepsAll m.old m.new }
+    ensures never_falls { NeverFalls m.old m.new }
+    ensures ready { IsReady circuit.now gates.new m.new }
+    ensures serves { Serves c.now m.new }
+    ensures unmarked { AreUnmarked m.new }
+    ensures table { IsTable m.new }
+{
+    let used = m.used();
+    let most = pace.most;
+    if used <= most {
+        return Ok(());
+    }
+    let index = pace.index;
+    let end = if pace.alone {
+        index.saturating_add(1)
+    } else {
+        u32::MAX
+    };
+    let next = sweep_between(alloc, m, c, circuit, gates, index, end)?;
+    pace.alone = m.used() > used / 2;
+    pace.most = next.max(most + 1);
     Ok(())
 }
 

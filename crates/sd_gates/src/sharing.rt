@@ -1,12 +1,13 @@
 //! The nodes of gates, by which outputs share them.
 
-ghost use Rattle.std.specs.Prelude.{◌≡◌, ℕ, ◌*◌, ◌<◌, length, Some, None, OnOk, OnErr, IsTrue, slice_set, true};
+ghost use Rattle.std.specs.Prelude.{◌≡◌, ℕ, ◌*◌, ◌<◌, ◌≤◌, length, Some, None, OnOk, OnErr, IsTrue, slice_set, true};
 ghost use Rattle.std.specs.Option.{IsSome};
 ghost use Rattle.sd_manager.specs.Table.{Table};
 ghost use Rattle.sd_apply.specs.Serving.{last_epoch};
 ghost use Rattle.sd_circuit.specs.Circuits.{OrderedCircuit};
 ghost use Rattle.sd_gates.specs.Sharing.{Shares, node_at, place_of};
 ghost use Rattle.sd_gates.specs.Making.{IsReady};
+ghost use Rattle.sd_gates.specs.Holding.{DropsEntries};
 
 use sd_circuit::Circuit;
 use sd_manager::{Manager, NodeId};
@@ -92,6 +93,24 @@ impl GateNodes {
         self.nodes[place(gate, positive)] = Some(node);
     }
 
+    /// Drops the nodes of gates that are not wanted, and of their negations.
+    pub(crate) fn retain(&mut self, wanted: &[bool])
+        requires size { length self.old.nodes.items ≤ 2 * length wanted.now }
+        ensures fewer { DropsEntries self.old.nodes.items self.new.nodes.items }
+        ensures size { length self.new.nodes.items ≡ length self.old.nodes.items }
+        ensures epoch { self.new.epoch ≡ self.old.epoch }
+    {
+        drop_others(&mut self.nodes, wanted);
+    }
+
+    /// Says that the nodes are of this epoch.
+    pub(crate) fn renew(&mut self, epoch: u64)
+        ensures nodes { self.new.nodes.items ≡ self.old.nodes.items }
+        ensures epoch { self.new.epoch ≡ Some epoch }
+    {
+        self.epoch = Some(epoch);
+    }
+
     /// Whether a gate has a node.
     pub(crate) fn is_known(&self, gate: u32) -> bool
         requires { place_of gate true < length self.now.nodes.items }
@@ -99,6 +118,20 @@ impl GateNodes {
         ensures unknown { ¬ (IsTrue result) → node_at self.now.nodes.items gate true ≡ None }
     {
         self.node(gate, true).is_some()
+    }
+}
+
+// Drops the entries of gates that are not wanted.
+fn drop_others(nodes: &mut Vec<Option<NodeId>>, wanted: &[bool])
+    requires size { length nodes.old.items ≤ 2 * length wanted.now }
+    ensures fewer { DropsEntries nodes.old.items nodes.new.items }
+    ensures size { length nodes.new.items ≡ length nodes.old.items }
+{
+    let count = nodes.len();
+    'dropping: for index in 0..count {
+        if !wanted[index / 2] {
+            nodes[index] = None;
+        }
     }
 }
 

@@ -1,17 +1,25 @@
 -- What is so between two steps, and what is left to do.
-use Rattle.std.proofs.Common.{◌≡◌, length}
+use Rattle.std.proofs.Common.{◌≡◌, ◌*◌, ◌^◌, ◌<◌, length, None}
+use Rattle.std.specs.FinMap.{len}
 use Rattle.sd_model.specs.Tree.{leaves}
 use Rattle.sd_vtree.specs.Numbered.{plain_tree}
 use Rattle.sd_manager.specs.Valid.{IsTable}
-use Rattle.sd_manager.specs.Making.{Extends}
+use Rattle.sd_manager.specs.Marking.{AreUnmarked}
 use Rattle.sd_apply.specs.Serving.{Serves}
-use Rattle.sd_gates.specs.Making.{IsReady, IsDescent, work_left}
+use Rattle.sd_sweep.specs.Falling.{NeverFalls}
+use Rattle.sd_compile.specs.Compiling.{KeepsAll}
+use Rattle.sd_gates.specs.Making.{IsReady, IsDescent}
+use Rattle.sd_gates.proofs.Holding.{steps_left}
 use Rattle.sd_gates.proofs.output.make_gates.Given as goal
 
 abbrev pub invariant-making : goal.invariant-making
 invariant-making l = record {
-  extends : Extends l.initial.m l.m;
+  kept : KeepsAll l.initial.m l.m;
+  never : NeverFalls l.initial.m l.m;
   variables : leaves (plain_tree l.m.vtree) ≡ length l.circuit.text.inputs;
+  no_move : l.m.moving ≡ None;
+  few : len l.m.roots < 2 ^ 31;
+  unmarked : AreUnmarked l.m;
   ready : IsReady l.circuit l.gates l.m;
   serves : Serves l.c l.m;
   descent : IsDescent l.gates.nodes.items l.top l.stack.items;
@@ -19,4 +27,5 @@ invariant-making l = record {
 }
 
 abbrev pub decreases-making : goal.decreases-making
-decreases-making l = work_left l.gates.nodes.items l.top l.stack.items
+decreases-making l =
+    steps_left (2 * length l.circuit.order) l.pace.most l.top l.gates.nodes.items l.stack.items
