@@ -18,14 +18,14 @@ module _ (t : Tree) (valid : IsVtree t) (limit : ℕ) where
       let same = size_determined t fs h.0 size valid h.1 total in omega (arith, h.2, passes, same)
 
   -- a part whose prefixes are within the limit does not pass it
-  not_passed : (part : Groups) (first group size : ℕ) → PartFits t limit part (length part.groups) →
+  pub not_passed : (part : Groups) (first group size : ℕ) → PartFits t limit part (length part.groups) →
       PassesAlone t limit part first group size → ⊥
   not_passed part first group size h p =
       not_both (prefix_of part (p.before + 1) ∷ []) size
       (h (p.before + 1) (omega arith) (omega (arith, p.left))) p.total p.passes
 
   -- a part has one group that does, with one size
-  one_group : (part : Groups) (first g h m n : ℕ) → PassesAlone t limit part first g m →
+  pub one_group : (part : Groups) (first g h m n : ℕ) → PassesAlone t limit part first g m →
       PassesAlone t limit part first h n → (g ≡ h) × (m ≡ n)
   one_group part first g h m n p q = go (cases_order p.before q.before)
     where

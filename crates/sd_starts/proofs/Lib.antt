@@ -1,5 +1,6 @@
 mod BestOfThree
 mod Choice
+mod OneChoice
 mod Refusals
 mod StartLeaves
 mod Working

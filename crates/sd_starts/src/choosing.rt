@@ -32,12 +32,14 @@ pub struct Chosen {
     pub search: Option<Outcome>,
 }
 
-/// Why no start was chosen: over the balanced tree the formula passes the limit with this group, and it passes it over
-/// the others too; or the arena was full, or there was no memory, first at one start in their order.
+/// Why no start was chosen. By the limit: the formula passes it at each start, and the group and the size are those at
+/// the balanced one. By a full arena or for want of memory: so ended the work at some start, and no contract says at
+/// which, nor what came at the others.
 #[derive(Drop)]
 pub struct Refused {
     pub error: CompileError,
-    /// The manager whose arena was full, where that is the reason.
+    /// The manager of a start at which the arena was full, where that is the reason, and else none. Its arena is the one
+    /// of the error; it holds nothing, and its vtree is that of the start, or one to which a search had come from there.
     pub manager: Option<Manager>,
 }
 
@@ -50,8 +52,9 @@ pub(crate) enum Judged {
 }
 
 /// Compiles and searches a formula alone at each start, by at most so many workers, of which there are 1 to 16, and
-/// chooses the start with the least size, the first in the order balanced, right, left among equals. The gates are
-/// those of the starts in this order; each is entered with the start's number in it, counted from 0.
+/// chooses the start with the least size, the first in the order balanced, right, left among equals. Where room or
+/// memory lacked at a start, there may be no choice, though others ended. The gates are those of the starts in this
+/// order; each is entered with the start's number in it, counted from 0.
 pub fn choose_start<R: Threads + Sync, G: Gate + Send + Drop>(
     rt: &R,
     alloc: Global,

@@ -3,10 +3,12 @@
 #![tactic(auto)]
 
 mod choosing;
+mod laws;
 mod start;
 #[cfg(test)]
 mod tests;
 mod work;
 
 pub use choosing::{Chosen, Refused, choose_start};
+pub use laws::{one_choice, one_end};
 pub use start::{Settings, Start};
