@@ -20,51 +20,43 @@ fn circuit(alloc: Global, text: &str) -> Option<Circuit> {
     read_aiger(alloc, bytes).ok()
 }
 
-// The codes of the nodes of four outputs over the balanced tree, in an arena of so many elements. Each output may sweep
-// where more than `most` are in use.
-#[tactic(auto, using(sd_apply::proofs::Tried::empty_serves, sd_manager::proofs::Marking::unmarked_new))]
-fn nodes(alloc: Global, circuit: &Circuit, bound: u32, most: u32) -> Result<[u32; 4], TakeError> {
+// The codes of the nodes of all outputs over the balanced tree, in an arena of so many elements, where each output may
+// sweep if more than `most` are in use; and how many are in use behind a sweep for the outputs from `from` on.
+fn made(
+    alloc: Global,
+    circuit: &Circuit,
+    bound: u32,
+    most: u32,
+    from: u32,
+) -> Result<(Vec<u32>, u32), TakeError> {
+    let mut codes = Vec::new(alloc);
     let inputs = circuit.inputs();
-    if inputs == 0 || circuit.outputs() < 4 {
-        return Ok([0; 4]);
+    if inputs == 0 {
+        return Ok((codes, 0));
     }
     let vtree = Vtree::balanced(alloc, inputs)?;
     if vtree.variables() != inputs {
-        return Ok([0; 4]);
+        return Ok((codes, 0));
     }
     let mut m = Manager::new(alloc, vtree, bound.min(1000))?;
     let mut c = Cache::new(alloc)?;
     let mut gates = GateNodes::new(alloc);
+    'outputs: for index in 0..circuit.outputs() {
+        let mut room = most;
+        let node = output_node(alloc, &mut m, &mut c, circuit, &mut gates, index, &mut room)?;
+        codes.push(node.0)?;
+    }
     let mut room = most;
-    let first = output_node(alloc, &mut m, &mut c, circuit, &mut gates, 0, &mut room)?;
-    let mut room = most;
-    let second = output_node(alloc, &mut m, &mut c, circuit, &mut gates, 1, &mut room)?;
-    let mut room = most;
-    let third = output_node(alloc, &mut m, &mut c, circuit, &mut gates, 2, &mut room)?;
-    let mut room = most;
-    let last = output_node(alloc, &mut m, &mut c, circuit, &mut gates, 3, &mut room)?;
-    Ok([first.0, second.0, third.0, last.0])
+    sweep_gates(alloc, &mut m, &mut c, circuit, &mut gates, from, &mut room)?;
+    Ok((codes, m.used()))
 }
 
-// How many elements are in use where two outputs were made, and a sweep kept what those from `from` on need.
-#[tactic(auto, using(sd_apply::proofs::Tried::empty_serves, sd_manager::proofs::Marking::unmarked_new))]
-fn left(alloc: Global, circuit: &Circuit, bound: u32, from: u32) -> Result<u32, TakeError> {
-    let inputs = circuit.inputs();
-    if inputs == 0 || circuit.outputs() < 2 {
-        return Ok(0);
+// Whether the outputs have nodes of these codes, and so many elements are in use behind the sweep.
+fn are_made(made: Result<(Vec<u32>, u32), TakeError>, codes: &[u32], used: u32) -> bool {
+    match made {
+        Ok((those, left)) => those.as_slice() == codes && left == used,
+        Err(_) => false,
     }
-    let vtree = Vtree::balanced(alloc, inputs)?;
-    if vtree.variables() != inputs {
-        return Ok(0);
-    }
-    let mut m = Manager::new(alloc, vtree, bound.min(1000))?;
-    let mut c = Cache::new(alloc)?;
-    let mut gates = GateNodes::new(alloc);
-    let mut most = 1000;
-    output_node(alloc, &mut m, &mut c, circuit, &mut gates, 0, &mut most)?;
-    output_node(alloc, &mut m, &mut c, circuit, &mut gates, 1, &mut most)?;
-    sweep_gates(alloc, &mut m, &mut c, circuit, &mut gates, from, &mut most)?;
-    Ok(m.used())
 }
 
 const PLAIN: &str = "aag 3 2 0 4 1\n4\n2\n0\n1\n4\n3\n6 2 4\n";
@@ -77,36 +69,35 @@ fn constants_and_inputs(rt: HostRuntime) -> Result<(), Fail> {
         assert!(rt; false);
         return Ok(());
     };
-    assert_eq!(rt; nodes(rt.alloc(), &plain, 0, 0), Ok([0, 1, 2, 5]));
+    let nodes = made(rt.alloc(), &plain, 0, 0, 0);
+    assert!(rt; are_made(nodes, &[0, 1, 2, 5], 0));
     Ok(())
 }
 
 const BOTH: &str = "aag 3 2 0 4 1\n4\n2\n6\n7\n7\n6\n6 2 4\n";
 
-/// Outputs that are repeated have the nodes that they had, also where a sweep comes behind a gate.
+/// A conjunction and its negation have two elements each. Outputs that are repeated have the nodes that they had, also
+/// where a sweep comes behind a gate. A sweep for later outputs keeps both, and else it takes both away.
 #[test]
 fn repeated_outputs_share_their_nodes(rt: HostRuntime) -> Result<(), Fail> {
     let Some(both) = circuit(rt.alloc(), BOTH) else {
         assert!(rt; false);
         return Ok(());
     };
-    let same = Ok([2050, 2051, 2051, 2050]);
-    assert_eq!(rt; nodes(rt.alloc(), &both, 1000, 1000), same);
-    assert_eq!(rt; nodes(rt.alloc(), &both, 1000, 0), same);
+    let codes = [2050, 2051, 2051, 2050];
+    assert!(rt; are_made(made(rt.alloc(), &both, 1000, 1000, 3), &codes, 4));
+    assert!(rt; are_made(made(rt.alloc(), &both, 1000, 0, 4), &codes, 0));
     Ok(())
 }
 
-/// A conjunction and its negation have two elements each, and an arena of three has no room for the second. A sweep
-/// keeps both for a later output, and takes both away where none is left.
+/// An arena of three elements has room for the conjunction and not for its negation.
 #[test]
-fn a_sweep_keeps_what_later_outputs_need(rt: HostRuntime) -> Result<(), Fail> {
+fn an_arena_is_full(rt: HostRuntime) -> Result<(), Fail> {
     let Some(both) = circuit(rt.alloc(), BOTH) else {
         assert!(rt; false);
         return Ok(());
     };
-    assert_eq!(rt; left(rt.alloc(), &both, 1000, 3), Ok(4));
-    assert_eq!(rt; left(rt.alloc(), &both, 1000, 4), Ok(0));
-    let full = Err(TakeError::ArenaFull { elements: 4 });
-    assert_eq!(rt; left(rt.alloc(), &both, 3, 4), full);
+    let full = Some(TakeError::ArenaFull { elements: 4 });
+    assert_eq!(rt; made(rt.alloc(), &both, 3, 0, 0).err(), full);
     Ok(())
 }
