@@ -38,8 +38,9 @@ pub struct Chosen {
 #[derive(Drop)]
 pub struct Refused {
     pub error: CompileError,
-    /// The manager of a start at which the arena was full, where that is the reason, and else none. Its arena is the one
-    /// of the error; it holds nothing, and its vtree is that of the start, or one to which a search had come from there.
+    /// The manager of a start at which the arena was full, where that is the reason, and else none. Its arena is the
+    /// one of the error. It holds nothing, and its vtree is that of the start, or one to which a search had come from
+    /// there.
     pub manager: Option<Manager>,
 }
 
