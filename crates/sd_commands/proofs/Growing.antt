@@ -8,8 +8,9 @@ use Rattle.std.proofs.lemmas.Option.{same_Some}
 use Rattle.std.proofs.lemmas.Cmp.{nat_cmp_total}
 use Rattle.std.specs.Prelude.{MatchBool}
 use Rattle.std.specs.Option.{IsSome}
-use Rattle.std.specs.FinMap.{get, remove, len, len-remove}
-use Rattle.sd_runs.proofs.Maps.{get_remove_other}
+use Rattle.std.specs.FinMap.{get, get-empty, empty, remove, len, len-empty, len-remove}
+use Rattle.std.specs.Ordering.{nat_cmp}
+use Rattle.sd_runs.proofs.Maps.{get_remove_same, get_remove_other, same_at_each}
 use Rattle.sd_model.specs.Diagram.{Diagram, meaning}
 use Rattle.sd_model.specs.Expression.{Expression}
 use Rattle.sd_model.specs.Size.{HasSize, IsDiagramOf}
@@ -31,6 +32,7 @@ use Rattle.sd_compile.specs.declared.error.CompileError.{CompileError}
 use Rattle.sd_compile.specs.declared.error.CompileError.TheVariants as compiling
 use Rattle.sd_compile.proofs.Kept.{kept_holds}
 use Rattle.sd_compile.proofs.Named.{total_formulas}
+use Rattle.sd_starts.specs.Starts.{HoldsAlone}
 use Rattle.sd_search.specs.Search.{Found, IsSearch, IsSearchBegun}
 use Rattle.sd_search.specs.Kept.{KeepsRoots, StaysShown, IsSearchRefusal}
 use Rattle.sd_search.specs.declared.error.SearchError.{SearchError}
@@ -38,7 +40,7 @@ use Rattle.sd_search.specs.declared.error.SearchError.TheVariants as searching
 use Rattle.sd_commands.specs.Commands.{State, OverLimit, Step, AreWithin, Grows, Follows, formulas_of, with_groups}
 use Rattle.sd_commands.specs.Commands.{is_due, with_name}
 use Rattle.sd_formula.specs.Formulas.{expression_of}
-use Rattle.sd_commands.specs.Standing.{Represents, StopsAt, without, error_of_compiling}
+use Rattle.sd_commands.specs.Standing.{Represents, StopsAt, AreForgotten, without, error_of_compiling}
 use Rattle.sd_commands.specs.Standing.{error_of_search, IsLeftByGroups, IsAsBefore, HoldsValue, StepsTo, root_count}
 use Rattle.sd_commands.specs.declared.error.CommandError.{CommandError}
 use Rattle.sd_commands.specs.declared.error.CommandError.TheVariants as errors
@@ -145,8 +147,9 @@ growing_serves code root state was =
 
 -- a root that is new and holds no group is a prefix
 pub growing_first : (input : Groups) (seen : State) (code : RunState) (t : Table) (work : CompiledPrefix)
-    → Represents code seen → IsBegun code.manager t input work → IsGrowing input seen (record code { manager = t }) work
-growing_first input seen code t work was begun =
+    → Represents code seen → AreForgotten code.shared → IsBegun code.manager t input work
+    → IsGrowing input seen (record code { manager = t }) work
+growing_first input seen code t work was forgotten begun =
     let same = code_regained code t work.root _ begun.absent begun.is in
     let tree : plain_tree t.vtree ≡ plain_tree code.manager.vtree = ap (λ u. plain_tree u.vtree) begun.is in
     record {
@@ -155,6 +158,7 @@ growing_first input seen code t work was begun =
           (was.tree ∙ sym tree) (subst (λ c. Represents c seen) (sym same) was);
       holds = begun.holds;
       course = subst (λ n. Grows input seen n (plain_tree t.vtree)) (sym begun.none) (tree ∙ sym was.tree);
+      forgotten = forgotten;
     }
 
 -- ---- a group more
@@ -190,7 +194,7 @@ module _ (input : Groups) (seen : State) (code : RunState) (work : CompiledPrefi
             (record seen { tree = u })) tree
             (stands_kept (without code work.root) (without_root t work.root) cache here was.represents
             (all_beside code.manager t work.root kept) (serves_roots cache t (remove t.roots work.root) serves)
-            unmarked));
+            unmarked (was.forgotten (without_root t work.root))));
         holds = holds;
         done = work.groups;
         next = more ∙ next;
@@ -198,6 +202,7 @@ module _ (input : Groups) (seen : State) (code : RunState) (work : CompiledPrefi
         within =
             subst (λ u. AreWithin (with_groups input seen (suc work.groups)) u seen.limit) tree
             (subst (λ n. AreWithin (with_groups input seen n) (plain_tree code.manager.vtree) seen.limit) next in_);
+        forgotten = was.forgotten;
       }
 
   -- or not, and all stays
@@ -213,7 +218,7 @@ module _ (input : Groups) (seen : State) (code : RunState) (work : CompiledPrefi
             (record seen { tree = u })) tree
             (stands_kept (without code work.root) (without_root t work.root) cache here was.represents
             (all_beside code.manager t work.root kept) (serves_roots cache t (remove t.roots work.root) serves)
-            unmarked);
+            unmarked (was.forgotten (without_root t work.root)));
         held = subst (λ o. IsSome o) (sym (ap (λ r. get r work.root) roots ∙ was.holds.1.held)) refl;
         grown = (
           work.groups,
@@ -266,6 +271,7 @@ module _ (input : Groups) (seen : State) (code : RunState) (work : CompiledPrefi
       was.within,
       follows _ (ap (is_due seen.every) (sym was.next) ∙ none),
     );
+    forgotten = was.forgotten;
   }
     where
       follows : (due : Bool) → due ≡ false
@@ -291,7 +297,7 @@ module _ (input : Groups) (seen : State) (code : RunState) (work : CompiledPrefi
   stands_beside t cache kept serves unmarked =
       stands_searched (without code work.root) (without_root t work.root) cache numbered
       (roots_beside code.manager t work.root kept) (serves_roots cache t (remove t.roots work.root) serves) unmarked
-      (record seen { tree = plain_tree code.manager.vtree }) was.represents
+      was.forgotten (record seen { tree = plain_tree code.manager.vtree }) was.represents
 
   -- it is done
   pub grown_searched : (t : Table) (cache : Answers) (found : Found) → KeepsRoots code.manager t → Serves cache t
@@ -308,6 +314,7 @@ module _ (input : Groups) (seen : State) (code : RunState) (work : CompiledPrefi
       was.within,
       follows _ (ap (is_due seen.every) (sym was.next) ∙ due),
     );
+    forgotten = was.forgotten;
   }
     where
       follows : (due : Bool) → due ≡ true
@@ -386,6 +393,21 @@ one_beside t root = at _ (len-remove nat_cmp_total t.roots root)
     at true e = omega (arith, e)
     at false e = omega (arith, e)
 
+-- a manager that holds nothing but one root has one at most
+pub one_root : (t : Table) (root : ℕ) (f : Groups) → HoldsAlone t f root → len t.roots ≤ 1
+one_root t root f holds =
+    let more = one_beside t root in
+    let none : len (remove t.roots root) ≡ 0 =
+    ap (λ r. len r) (same_at_each (remove t.roots root) empty (λ q. nothing q ∙ sym (get-empty nat_cmp q)))
+    ∙ len-empty nat_cmp ℕ in
+    omega (arith, more, none)
+  where
+    nothing : (q : ℕ) → get (remove t.roots root) q ≡ None
+    nothing q = elim (cases_eq q root) [
+      | inl same ↦ subst (λ k. get (remove t.roots root) k ≡ None) (sym same) (get_remove_same t.roots root)
+      | inr differ ↦ get_remove_other t.roots root q differ ∙ holds.only q differ
+    ]
+
 -- ---- steps one after another, and the end
 
 -- what holds, whatever a call answered
@@ -416,7 +438,7 @@ grown_all input seen code work root was all same =
     })
 
 module _ (input : Groups) (code : RunState) (t : Table) (work : CompiledPrefix)
-    (begun : IsBegun code.manager t input work) (new : RunState)
+    (begun : IsBegun code.manager t input work) (forgotten : AreForgotten code.shared) (new : RunState)
     (beside : IsSameBeside (record code { manager = t }) new work.root) where
   -- the other roots are those of the begin
   pub roots_again : remove new.manager.roots work.root ≡ code.manager.roots
@@ -445,8 +467,8 @@ module _ (input : Groups) (code : RunState) (t : Table) (work : CompiledPrefix)
   left_released m is broken =
       subst (λ u. IsLeftByGroups input code (record new { manager = u })) (sym is)
       (record {
-        represents = λ seen was. (broken seen (growing_first input seen code t work was begun)).represents;
-        grown = λ seen was. (broken seen (growing_first input seen code t work was begun)).grown;
+        represents = λ seen was. (broken seen (growing_first input seen code t work was forgotten begun)).represents;
+        grown = λ seen was. (broken seen (growing_first input seen code t work was forgotten begun)).grown;
         roots = roots_again;
       })
 

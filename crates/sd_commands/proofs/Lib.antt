@@ -1,4 +1,5 @@
 pub mod Begun
+pub mod Choosing
 pub mod Growing
 pub mod Limits
 pub mod Moved
@@ -10,3 +11,4 @@ pub mod Settling
 pub mod Standing
 pub mod Stepping
 pub mod Values
+pub mod Verdicts

@@ -34,12 +34,12 @@ use Rattle.sd_formula.specs.Dimacs.{Groups}
 use Rattle.sd_commands.specs.Commands.{State, Moves, Settles, Done, OverLimit, NotMovable, formulas_of, AreWithin}
 use Rattle.sd_commands.proofs.Settling.{settles_within, settles_past}
 use Rattle.sd_commands.specs.Standing.{Represents, HoldsName, HoldsValue, IsAsBefore, StepsTo, StopsAt}
-use Rattle.sd_commands.specs.Standing.{error_of_move}
+use Rattle.sd_commands.specs.Standing.{AreForgotten, error_of_move}
 use Rattle.sd_commands.specs.declared.command.RunCommand.TheVariants as commands
 use Rattle.sd_commands.specs.declared.state.RunState.{RunState}
 use Rattle.sd_commands.proofs.Limits.{held_formulas}
 use Rattle.sd_commands.proofs.Moved.{IsReordered, vtree_reordered, move_reordered}
-use Rattle.sd_commands.proofs.Standing.{as_before_kept, shown_canonical}
+use Rattle.sd_commands.proofs.Standing.{as_before_kept, shown_canonical, inputs_still}
 
 -- ---- the size of formulas whose diagrams are those of a list
 
@@ -127,7 +127,8 @@ serves_runs cache t new loose free is serves =
 
 module _ (code : RunState) (mid new : Table) (kind : Move) (place : ℕ) (j : Journal) (t : IsTable code.manager)
     (u : IsTable mid) (m : IsMoved code.manager mid kind place j) (settled : IsSettledBy mid new j)
-    (count : leaves (plain_tree mid.vtree) ≡ leaves (plain_tree code.manager.vtree)) where
+    (count : leaves (plain_tree mid.vtree) ≡ leaves (plain_tree code.manager.vtree))
+    (forgotten : AreForgotten code.shared) where
   -- a root holds its formula still
   value_moved : (root : ℕ) (f : Expression) → HoldsValue code.manager root f → HoldsValue new root f
   value_moved root f h =
@@ -179,6 +180,9 @@ module _ (code : RunState) (mid new : Table) (kind : Move) (place : ℕ) (j : Jo
     bound = ap (λ s. s.bound) settled.same ∙ m.bound ∙ was.bound;
     no_move = ap (λ s. s.moving) settled.same ∙ m.no_move;
     unmarked = subst AreUnmarked (sym settled.same) unmarked;
+    circuit = was.circuit;
+    inputs = inputs_still seen.circuit seen.tree (plain_tree mid.vtree) (count ∙ ap leaves (sym was.tree)) was.inputs;
+    shares = forgotten new;
   }
 
 -- ---- the command
@@ -253,8 +257,8 @@ module _ (input : Groups) (code : RunState) (seen : State) (kind : Move) (p plac
 -- all is as before a move that was refused
 pub as_before_refused : (code : RunState) (t : Table) (cache : Answers) → KeepsReached code.manager t
     → t.bound ≡ code.manager.bound → t.moving ≡ None → code.manager.moving ≡ None → Serves cache t → AreUnmarked t
-    → IsAsBefore code (record code { manager = t; cache = cache })
-as_before_refused code t cache kept bound still was serves unmarked =
+    → AreForgotten code.shared → IsAsBefore code (record code { manager = t; cache = cache })
+as_before_refused code t cache kept bound still was serves unmarked forgotten =
     as_before_kept code t cache
     (record {
       reached = kept;
@@ -262,4 +266,4 @@ as_before_refused code t cache kept bound still was serves unmarked =
       bound = bound;
       moving = still ∙ sym was;
     })
-    serves unmarked
+    serves unmarked (forgotten t)

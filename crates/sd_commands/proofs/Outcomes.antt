@@ -4,13 +4,15 @@ use Rattle.std.proofs.Common.{zero, suc, ◌≤◌, ◌+◌, ◌<◌, length, ge
 use Rattle.std.proofs.Common.{add-one, refl, sym, ap, subst, ◌∙◌, inl, inr}
 use Rattle.std.proofs.Common.{Option, Some, None, arith}
 use Rattle.std.specs.Prelude.{nat_le}
+use Rattle.std.specs.FinMap.{get}
 use Rattle.std.proofs.Math.Seq.{drop-cons}
 use Rattle.std.proofs.lemmas.Bool.{cases_eq, cases_order, eq-eqb, ne_eqb}
 use Rattle.sd_model.specs.Tree.{Tree, IsVtree, leaves}
 use Rattle.sd_model.specs.Moves.{moved_at}
 use Rattle.sd_model.specs.declared.trees.Move.{Move}
 use Rattle.sd_model.specs.Text.{roots_text}
-use Rattle.sd_model.specs.Expression.{Expression, Constant, Atom, Combined, Negated, Conditioned, Forgotten}
+use Rattle.sd_model.specs.Circuit.{Circuit}
+use Rattle.sd_model.specs.Expression.{Expression, Constant, Atom, Combined, Negated, Conditioned, Forgotten, OutputOf}
 use Rattle.sd_model.specs.Expression.{AreOneFunction}
 use Rattle.sd_model.specs.Size.{HasSize}
 use Rattle.sd_model.proofs.Determined.{diagrams_determined, size_determined}
@@ -18,11 +20,18 @@ use Rattle.sd_formula.specs.Dimacs.{Groups}
 use Rattle.sd_formula.specs.Formulas.{expression_of}
 use Rattle.sd_file.specs.Reads.{expression_of_file}
 use Rattle.sd_search.proofs.Determined.{search_determined}
+use Rattle.sd_parts.specs.Parts.{PartsOutcome, Joined, Passed}
+use Rattle.sd_parts.proofs.OneOutcome.{one_outcome as one_parts}
+use Rattle.sd_starts.specs.Starts.{Choice, Chosen, AllPassed}
+use Rattle.sd_starts.specs.declared.start.Start.{Start}
+use Rattle.sd_check.proofs.Verdicts.{verdict_once}
 use Rattle.sd_commands.specs.Effects.{Effect, Write, Print}
 use Rattle.sd_commands.specs.Commands.{State, Outcome, Done, OverLimit, Step, Settles, Binds, BindsInput}
 use Rattle.sd_commands.specs.Commands.{Moves, AreWithin, PassesAtGroup, IsTextOf, formulas_of, with_groups}
 use Rattle.sd_commands.specs.Commands.{Grows, Follows, is_due, IsBoundOrPast}
 use Rattle.sd_commands.specs.Commands.{with_name, formula_named, size_line, same_line, search_line}
+use Rattle.sd_commands.specs.Commands.{by_parts, by_choice, at_start, settings_of, start_line, verdict_line}
+use Rattle.sd_commands.proofs.Choosing.{one_choice, start_vtree}
 use Rattle.sd_commands.specs.Fits.{Fits, AllFit, has, bound_after}
 use Rattle.sd_commands.specs.Standing.{names_of}
 use Rattle.sd_commands.specs.declared.command.NumberedCommand.{NumberedCommand}
@@ -203,6 +212,18 @@ one_outcome input state (commands.Write names file) a b valid p q =
     (one_text state.tree (map (formula_named state) names) p.0 q.0 valid p.1 q.1)
     ∙ sym q.2
 one_outcome input state (commands.WriteVtree file) a b valid p q = p ∙ sym q
+one_outcome input state (commands.InputByParts n parts) a b valid p q =
+    p.2 ∙ ap (by_parts state n (expression_of input))
+    (one_parts state.tree valid state.limit (formulas_of state) input parts p.0 q.0 p.1 q.1)
+    ∙ sym q.2
+one_outcome input state (commands.Choose rounds) a b valid p q =
+    p.2 ∙ ap (by_choice state) (one_choice input (settings_of state rounds) p.0 q.0 p.1 q.1) ∙ sym q.2
+one_outcome input state (commands.Output n index) a b valid p q =
+    one_settled (with_name state n (OutputOf state.circuit index)) a b valid p q
+one_outcome input state (commands.Check file ids) a b valid p q =
+    p.2 ∙ ap (λ verdict. Done state (Print (verdict_line file verdict) ∷ []))
+    (verdict_once state.tree (get ids) file p.0 q.0 p.1 q.1)
+    ∙ sym q.2
 
 -- ---- the tree and the names
 
@@ -250,6 +271,26 @@ input_done input state next name effects (inl p) =
     record { tree = p.0; course = p.1; next_is = same; quiet = cc }
 input_done input state next name effects (inr p) = let e = p.7 in let bad : ⊥ = cc in absurd bad
 
+-- parts that are joined bind the name, without an effect
+pub parts_done : (state next : State) (effects : List Effect) (name : ℕ) (f : Expression) (end : PartsOutcome)
+    → Done next effects ≡ by_parts state name f end → (next ≡ with_name state name f) × (effects ≡ [])
+parts_done state next effects name f Joined e =
+    let same : next ≡ with_name state name f = cc in (same, cc)
+parts_done state next effects name f (Passed group size) e = let bad : ⊥ = cc in absurd bad
+
+-- a choice that is done leads to the tree of a start, which is printed
+pub record IsStartDone (state next : State) (effects : List Effect) : Type 0 where
+  pub start : Start
+  pub next_is : next ≡ at_start state start
+  pub told : effects ≡ Print (start_line start) ∷ []
+
+pub choice_done : (state next : State) (effects : List Effect) (choice : Choice)
+    → Done next effects ≡ by_choice state choice → IsStartDone state next effects
+choice_done state next effects (Chosen start size) e =
+    let same : next ≡ at_start state start = cc in
+    record { start = start; next_is = same; told = cc }
+choice_done state next effects (AllPassed group size) e = let bad : ⊥ = cc in absurd bad
+
 -- what a state is after a name was bound, or after nothing
 module _ (state next : State) (effects : List Effect) where
   bound_tree : (n : ℕ) (f : Expression) → Binds state n f (Done next effects) → next.tree ≡ state.tree
@@ -284,6 +325,7 @@ abbrev pub KeepsTree : RunCommand → Type 0
 KeepsTree (commands.Input name) = ⊥
 KeepsTree (commands.Turn kind position) = ⊥
 KeepsTree (commands.Minimise rounds) = ⊥
+KeepsTree (commands.Choose rounds) = ⊥
 KeepsTree command = Unit {0}
 
 -- leaves the tree
@@ -308,6 +350,11 @@ same_tree input state next (commands.Write names file) effects keeps p = kept_tr
 same_tree input state next (commands.WriteVtree file) effects keeps p = kept_tree state next effects _ p
 same_tree input state next (commands.Turn kind position) effects keeps p = absurd keeps
 same_tree input state next (commands.Minimise rounds) effects keeps p = absurd keeps
+same_tree input state next (commands.InputByParts n parts) effects keeps p =
+    ap (λ s. s.tree) (parts_done state next effects n (expression_of input) p.0 p.2).0
+same_tree input state next (commands.Choose rounds) effects keeps p = absurd keeps
+same_tree input state next (commands.Output n index) effects keeps p = bound_tree state next effects n _ p
+same_tree input state next (commands.Check file ids) effects keeps p = kept_tree state next effects _ p.2
 
 -- the same tree is a vtree
 kept_vtree : (state next : State) → next.tree ≡ state.tree → IsVtree state.tree → IsVtree next.tree
@@ -355,6 +402,15 @@ valid_after input state next (commands.Write x file) effects valid p =
     kept_vtree state next (same_tree input state next (commands.Write x file) effects tt p) valid
 valid_after input state next (commands.WriteVtree file) effects valid p =
     kept_vtree state next (same_tree input state next (commands.WriteVtree file) effects tt p) valid
+valid_after input state next (commands.InputByParts n parts) effects valid p =
+    kept_vtree state next (same_tree input state next (commands.InputByParts n parts) effects tt p) valid
+valid_after input state next (commands.Choose rounds) effects valid p =
+    let done = choice_done state next effects p.0 p.2 in
+    subst (λ (s : State). IsVtree s.tree) (sym done.next_is) (start_vtree done.start (leaves state.tree))
+valid_after input state next (commands.Output n index) effects valid p =
+    kept_vtree state next (same_tree input state next (commands.Output n index) effects tt p) valid
+valid_after input state next (commands.Check file ids) effects valid p =
+    kept_vtree state next (same_tree input state next (commands.Check file ids) effects tt p) valid
 
 pub names_after : (input : Groups) (state next : State) (command : RunCommand) (effects : List Effect)
     → Step input state command (Done next effects) → names_of next ≡ bound_after (names_of state) command
@@ -382,14 +438,68 @@ names_after input state next (commands.Size x) effects p = kept_names state next
 names_after input state next (commands.Value x bits) effects p = kept_names state next effects _ p
 names_after input state next (commands.Write names file) effects p = kept_names state next effects _ p.2
 names_after input state next (commands.WriteVtree file) effects p = kept_names state next effects _ p
+names_after input state next (commands.InputByParts n parts) effects p =
+    ap names_of (parts_done state next effects n (expression_of input) p.0 p.2).0
+    ∙ ap (λ l. n ∷ l) (sym (all_stay (names_of state)))
+names_after input state next (commands.Choose rounds) effects p =
+    ap names_of (choice_done state next effects p.0 p.2).next_is ∙ sym (all_stay (names_of state))
+names_after input state next (commands.Output n index) effects p = bound_names state next effects n _ p
+names_after input state next (commands.Check file ids) effects p = kept_names state next effects _ p.2
+
+-- ---- the circuit
+
+-- a move that is done keeps it
+moved_circuit : (state next : State) (effects : List Effect) (o : Option Tree) → Moves state o (Done next effects)
+    → next.circuit ≡ state.circuit
+moved_circuit state next effects None p = let bad : ⊥ = cc in absurd bad
+moved_circuit state next effects (Some tree) p =
+    ap (λ s. s.circuit) (settled_done (record state { tree = tree }) next effects p).0
+
+module _ (state next : State) (effects : List Effect) where
+  bound_circuit : (n : ℕ) (f : Expression) → Binds state n f (Done next effects) → next.circuit ≡ state.circuit
+  bound_circuit n f binds = ap (λ s. s.circuit) (settled_done (with_name state n f) next effects binds).0
+
+  kept_circuit : (effect : Effect) → Done next effects ≡ Done state (effect ∷ []) → next.circuit ≡ state.circuit
+  kept_circuit effect e = ap (λ s. s.circuit) (same_next _ _ _ _ e)
+
+-- so does each command
+pub circuit_after : (input : Groups) (state next : State) (command : RunCommand) (effects : List Effect)
+    → Step input state command (Done next effects) → next.circuit ≡ state.circuit
+circuit_after input state next (commands.Generated v g) effects p = kept_circuit state next effects _ p
+circuit_after input state next (commands.Input n) effects p =
+    ap (λ s. s.circuit) (input_done input state next n effects p).next_is
+circuit_after input state next (commands.Load n file) effects p = bound_circuit state next effects n _ p
+circuit_after input state next (commands.Literal n literal) effects p = bound_circuit state next effects n _ p
+circuit_after input state next (commands.Constant n value) effects p = bound_circuit state next effects n _ p
+circuit_after input state next (commands.Combine operation n x y) effects p = bound_circuit state next effects n _ p
+circuit_after input state next (commands.Negate n x) effects p = bound_circuit state next effects n _ p
+circuit_after input state next (commands.Given n x literal) effects p = bound_circuit state next effects n _ p
+circuit_after input state next (commands.Forget n x variable) effects p = bound_circuit state next effects n _ p
+circuit_after input state next (commands.Drop x) effects p = ap (λ s. s.circuit) (same_next _ _ _ _ p)
+circuit_after input state next (commands.Turn kind position) effects p =
+    moved_circuit state next effects (moved_at kind state.tree position) p
+circuit_after input state next (commands.Minimise rounds) effects p = ap (λ s. s.circuit) (same_next _ _ _ _ p.2)
+circuit_after input state next (commands.Limit limit) effects p =
+    ap (λ s. s.circuit) (settled_done (record state { limit = limit }) next effects p).0
+circuit_after input state next (commands.Same x y) effects p = kept_circuit state next effects _ p.2
+circuit_after input state next (commands.Size x) effects p = kept_circuit state next effects _ p.2
+circuit_after input state next (commands.Value x bits) effects p = kept_circuit state next effects _ p
+circuit_after input state next (commands.Write names file) effects p = kept_circuit state next effects _ p.2
+circuit_after input state next (commands.WriteVtree file) effects p = kept_circuit state next effects _ p
+circuit_after input state next (commands.InputByParts n parts) effects p =
+    ap (λ s. s.circuit) (parts_done state next effects n (expression_of input) p.0 p.2).0
+circuit_after input state next (commands.Choose rounds) effects p =
+    ap (λ s. s.circuit) (choice_done state next effects p.0 p.2).next_is
+circuit_after input state next (commands.Output n index) effects p = bound_circuit state next effects n _ p
+circuit_after input state next (commands.Check file ids) effects p = kept_circuit state next effects _ p.2
 
 -- ---- commands one after another
 
 -- a command of a list that can be done, and so can those after it
-pub fit_at : (v : ℕ) (names : List ℕ) (commands : List NumberedCommand) (i : ℕ) (c : NumberedCommand)
-    → i < length commands → c ≡ get_or commands i c → AllFit v names (drop i commands)
-    → Fits v names c.command × AllFit v (bound_after names c.command) (drop (i + 1) commands)
-fit_at v names commands i c below at fit = subst (AllFit v names) here fit
+pub fit_at : (v o : ℕ) (names : List ℕ) (commands : List NumberedCommand) (i : ℕ) (c : NumberedCommand)
+    → i < length commands → c ≡ get_or commands i c → AllFit v o names (drop i commands)
+    → Fits v o names c.command × AllFit v o (bound_after names c.command) (drop (i + 1) commands)
+fit_at v o names commands i c below at fit = subst (AllFit v o names) here fit
   where
     here : drop i commands ≡ c ∷ drop (i + 1) commands
     here = drop-cons commands i c below ∙ ap (λ x. x ∷ drop (suc i) commands) (sym at)

@@ -3,7 +3,7 @@ use Rattle.std.proofs.Common.{◌≡◌, ℕ, List, [], ◌∷◌, Option, Some,
 use Rattle.std.proofs.Common.{inr}
 use Rattle.std.specs.Option.{IsSome}
 use Rattle.std.specs.FinMap.{get}
-use Rattle.sd_model.specs.Tree.{Tree, IsVtree}
+use Rattle.sd_model.specs.Tree.{Tree, IsVtree, leaves}
 use Rattle.sd_model.specs.Diagram.{meaning}
 use Rattle.sd_model.specs.Expression.{Expression}
 use Rattle.sd_vtree.specs.Numbered.{plain_tree, IsNumbered}
@@ -22,12 +22,13 @@ use Rattle.sd_formula.specs.Dimacs.{Groups}
 use Rattle.sd_commands.specs.Effects.{Print}
 use Rattle.sd_commands.specs.Commands.{State, Done, formulas_of, search_line}
 use Rattle.sd_commands.specs.Standing.{Represents, HoldsName, HoldsValue, IsLeftBySearch, IsSearchLeft}
-use Rattle.sd_commands.specs.Standing.{StepsTo, StopsAt, error_of_search}
+use Rattle.sd_commands.specs.Standing.{StepsTo, StopsAt, AreForgotten, error_of_search}
 use Rattle.sd_commands.specs.declared.command.RunCommand.TheVariants as commands
 use Rattle.sd_commands.specs.declared.command.Effect.TheVariants.{PrintLine}
 use Rattle.sd_commands.specs.declared.state.RunState.{RunState}
 use Rattle.sd_commands.proofs.Begun.{search_begun}
 use Rattle.sd_commands.proofs.Limits.{held_formulas}
+use Rattle.sd_commands.proofs.Standing.{inputs_still}
 
 -- a search ends in a vtree
 pub search_valid : {fs : List Expression} {slack rounds : ℕ} {start : Tree} {found : Found} → IsVtree start
@@ -39,7 +40,8 @@ search_valid valid (further_round size round less more) = search_valid (round_va
 -- ---- what it leaves
 
 module _ (code : RunState) (t : Table) (cache : Answers) (numbered : IsNumbered code.manager.vtree)
-    (kept : KeepsRoots code.manager t) (serves : Serves cache t) (unmarked : AreUnmarked t) where
+    (kept : KeepsRoots code.manager t) (serves : Serves cache t) (unmarked : AreUnmarked t)
+    (forgotten : AreForgotten code.shared) where
   -- a root holds its formula still
   value_searched : (root : ℕ) (f : Expression) → HoldsValue code.manager root f → HoldsValue t root f
   value_searched root f h =
@@ -83,6 +85,10 @@ module _ (code : RunState) (t : Table) (cache : Answers) (numbered : IsNumbered 
     bound = kept.bound ∙ was.bound;
     no_move = kept.no_move;
     unmarked = unmarked;
+    circuit = was.circuit;
+    inputs = inputs_still seen.circuit seen.tree (plain_tree t.vtree) (kept.variables ∙ ap leaves (sym was.tree))
+        was.inputs;
+    shares = forgotten t;
   }
 
   -- what it leaves where it stops

@@ -1,6 +1,6 @@
 -- The state that the code represents at the start, and after each command.
-use Rattle.std.proofs.Common.{◌≡◌, ℕ, ◌+◌, ◌-◌, ◌≤◌, Bool, true, false, not, cond, eqb}
-use Rattle.std.proofs.Common.{List, [], ◌∷◌, filter, Option, Some, None, Result, Ok, Err}
+use Rattle.std.proofs.Common.{◌≡◌, ℕ, ◌+◌, ◌-◌, ◌<◌, ◌≤◌, Bool, true, false, not, cond, eqb}
+use Rattle.std.proofs.Common.{List, [], ◌∷◌, length, filter, Option, Some, None, Result, Ok, Err}
 use Rattle.std.proofs.Common.{refl, sym, ap, subst, ◌∙◌, ◌⊎◌, inl, inr, IfSome, OnErr, arith}
 use Rattle.std.proofs.lemmas.Bool.{cases_eq, eq-eqb, ne_eqb}
 use Rattle.std.proofs.lemmas.Bool.Decides.{nat_tests}
@@ -14,20 +14,24 @@ use Rattle.std.specs.Ordering.{nat_cmp}
 use Rattle.sd_runs.proofs.Maps.{get_insert_same, get_insert_other, get_remove_same, get_remove_other, same_at_each}
 use Rattle.sd_model.specs.Expression.{Expression, Constant}
 use Rattle.sd_model.specs.Size.{IsDiagramOf}
-use Rattle.sd_model.specs.Tree.{AreDistinct}
+use Rattle.sd_model.specs.Tree.{Tree, AreDistinct, leaves}
+use Rattle.sd_model.specs.Circuit.{Circuit}
 use Rattle.sd_vtree.specs.Numbered.{Numbered, plain_tree}
 use Rattle.sd_cache.specs.Entries.{Answers, no_answers}
+use Rattle.sd_circuit.specs.Circuits.{OrderedCircuit}
 use Rattle.sd_manager.specs.Table.{Table, no_table}
 use Rattle.sd_manager.specs.Shown.{ShowsCanonical, HoldsDiagram}
 use Rattle.sd_manager.specs.Making.{Extends, with_root, without_root}
 use Rattle.sd_apply.specs.Serving.{Serves}
 use Rattle.sd_apply.proofs.Served.{serves_beside}
 use Rattle.sd_apply.proofs.Tried.{empty_serves}
-use Rattle.sd_commands.specs.Commands.{State, named, with_name, dropped, formula_named}
+use Rattle.sd_formula.specs.Formulas.{expression_of}
+use Rattle.sd_commands.specs.Commands.{State, named, with_name, dropped, formula_named, no_circuit}
 use Rattle.sd_commands.specs.Standing.{Represents, IsOfName, HoldsName, HoldsValue, ShowsFormula, start, names_of}
 use Rattle.sd_formula.specs.Dimacs.{Groups}
 use Rattle.sd_commands.specs.Standing.{IsAsBefore, HoldsNames, IsFree, IsLeft, IsTreeLeft, without, removed}
-use Rattle.sd_commands.specs.Standing.{IsLeftByInput, IsGrown}
+use Rattle.sd_commands.specs.Standing.{IsLeftByInput, IsLeftBySearch, IsGrown, AreForgotten, AreInputs}
+use Rattle.sd_commands.specs.declared.gates.SharedCircuit.{SharedCircuit}
 use Rattle.sd_commands.specs.declared.command.RunCommand.{RunCommand}
 use Rattle.sd_commands.specs.declared.command.RunCommand.TheVariants as commands
 use Rattle.sd_commands.proofs.Names.{distinct_bound, distinct_dropped}
@@ -36,26 +40,39 @@ use Rattle.sd_manager.specs.Marking.{AreUnmarked}
 use Rattle.sd_manager.proofs.Marking.{unmarked_new, unmarked_extended}
 use Rattle.sd_compile.specs.Compiling.{KeepsAll, KeepsOtherRoots, HoldsFormula}
 use Rattle.sd_compile.proofs.Kept.{all_extended, released_all}
+use Rattle.sd_gates.specs.Sharing.{Shares}
+use Rattle.sd_gates.proofs.Shared.{shares_on, shares_beside}
+use Rattle.sd_starts.specs.Starts.{IsReady, HoldsAlone}
 
 -- ---- the start
 
--- a new manager and no names hold the start
-pub stands_first : (code : RunState) (vtree : Numbered) (limit slack : ℕ) (every : Option ℕ)
-    → code.manager ≡ no_table vtree 2147483647 → code.cache ≡ no_answers → code.names.entries ≡ [] → code.limit ≡ limit
-    → code.slack ≡ slack → code.every ≡ every → Represents code (start (plain_tree vtree) limit slack every)
-stands_first code vtree limit slack every is empty_ no_names same_limit same_slack same_every = record {
-  tree = ap (λ t. plain_tree t.vtree) (sym is);
-  limit = sym same_limit;
-  slack = sym same_slack;
-  every = sym same_every;
+-- the state at the start, with this circuit
+abbrev pub start_with : Numbered → ℕ → ℕ → Option ℕ → Circuit → State
+start_with vtree limit slack every circuit =
+    record (start (plain_tree vtree) limit slack every) { circuit = circuit }
+
+-- a manager that holds no root, and no names, hold the start
+pub stands_empty : (code : RunState) (circuit : Circuit) → ((root : ℕ) → get code.manager.roots root ≡ None)
+    → Serves code.cache code.manager → code.manager.bound ≡ 2147483647 → code.manager.moving ≡ None
+    → AreUnmarked code.manager → code.names.entries ≡ [] → code.shared.circuit.text ≡ circuit
+    → AreForgotten code.shared → AreInputs circuit (plain_tree code.manager.vtree)
+    → Represents code (start_with code.manager.vtree code.limit code.slack code.every circuit)
+stands_empty code circuit nothing serves bound no_move unmarked no_names same_circuit forgotten inputs = record {
+  tree = refl;
+  limit = refl;
+  slack = refl;
+  every = refl;
   once = tt;
   holds = λ name. subst (λ r. HoldsName code.manager r None) (sym (no_root name)) tt;
   apart = λ a b root first second. let bad : ◌≡◌ {A = Option ℕ} None (Some root) = sym (no_root a) ∙ first in absurd cc;
   only = λ root held. absurd (none_held root held);
-  serves = empty_serves code.cache code.manager empty_;
-  bound = ap (λ t. t.bound) is;
-  no_move = ap (λ t. t.moving) is;
-  unmarked = subst AreUnmarked (sym is) (unmarked_new vtree 2147483647);
+  serves = serves;
+  bound = bound;
+  no_move = no_move;
+  unmarked = unmarked;
+  circuit = sym same_circuit;
+  inputs = inputs;
+  shares = forgotten code.manager;
 }
   where
     no_root : (name : ℕ) → maps.get nat_cmp code.names name ≡ None
@@ -63,9 +80,33 @@ stands_first code vtree limit slack every is empty_ no_names same_limit same_sla
 
     none_held : (root : ℕ) → IsSome (get code.manager.roots root) → ⊥
     none_held root held =
-        let bad : IsSome {T = ℕ} None =
-        subst (λ o. IsSome o) (ap (λ t. get t.roots root) is ∙ get-empty nat_cmp root) held in
-        absurd cc
+        let bad : IsSome {T = ℕ} None = subst (λ o. IsSome o) (nothing root) held in absurd cc
+
+-- a new manager holds no root
+pub stands_first : (code : RunState) (vtree : Numbered) (circuit : Circuit) → code.manager ≡ no_table vtree 2147483647
+    → code.cache ≡ no_answers → code.names.entries ≡ [] → code.shared.circuit.text ≡ circuit
+    → AreForgotten code.shared → AreInputs circuit (plain_tree vtree)
+    → Represents code (start_with vtree code.limit code.slack code.every circuit)
+stands_first code vtree circuit is empty_ no_names same_circuit forgotten inputs =
+    subst (λ v. Represents code (start_with v code.limit code.slack code.every circuit)) (ap (λ t. t.vtree) is)
+    (stands_empty code circuit (λ root. ap (λ t. get t.roots root) is ∙ get-empty nat_cmp root)
+    (empty_serves code.cache code.manager empty_) (ap (λ t. t.bound) is) (ap (λ t. t.moving) is)
+    (subst AreUnmarked (sym is) (unmarked_new vtree 2147483647)) no_names same_circuit forgotten
+    (subst (λ v. AreInputs circuit (plain_tree v)) (sym (ap (λ t. t.vtree) is)) inputs))
+
+-- the inputs are the variables of each tree with as many leaves
+pub inputs_still : (circuit : Circuit) (old new : Tree) → leaves new ≡ leaves old → AreInputs circuit old
+    → AreInputs circuit new
+inputs_still circuit old new count inputs = λ some. count ∙ inputs some
+
+-- where a circuit has an output, its inputs are the variables of the manager's tree
+pub inputs_here : (code : RunState) (seen : State) (index : ℕ) → Represents code seen
+    → index < length code.shared.circuit.text.outputs
+    → leaves (plain_tree code.manager.vtree) ≡ length code.shared.circuit.text.inputs
+inputs_here code seen index was below =
+    ap leaves (sym was.tree)
+    ∙ was.inputs (subst (λ (c : Circuit). 1 ≤ length c.outputs) (sym was.circuit) (omega (arith, below)))
+    ∙ ap (λ (c : Circuit). length c.inputs) was.circuit
 
 -- ---- what the names have
 
@@ -169,6 +210,12 @@ pub serves_roots : (cache : Answers) (t : Table) (roots : FinMap nat_cmp ℕ) �
     → Serves cache (record t { roots = roots })
 serves_roots cache t roots serves = serves_beside cache t (record t { roots = roots }) refl refl refl serves
 
+-- and so do the nodes of the gates
+pub shares_roots : (shared : SharedCircuit) (t : Table) (roots : FinMap nat_cmp ℕ)
+    → Shares shared.circuit shared.gates t → Shares shared.circuit shared.gates (record t { roots = roots })
+shares_roots shared t roots shares =
+    shares_beside shared.circuit shared.gates t (record t { roots = roots }) refl refl refl shares
+
 -- two tests of one number
 is_at_eqb : (k q : ℕ) → is_at (nat_cmp k) q ≡ eqb k q
 is_at_eqb k q = grind (arith, nat_tests)
@@ -193,6 +240,7 @@ pub record ChangesName (code new : RunState) (name : ℕ) (root : Option ℕ) (r
   pub limit : new.limit ≡ code.limit
   pub slack : new.slack ≡ code.slack
   pub every : new.every ≡ code.every
+  pub shared : new.shared ≡ code.shared
   pub fresh : (r : ℕ) → root ≡ Some r → get code.manager.roots r ≡ None
   pub released : (r : ℕ) → maps.get nat_cmp code.names name ≡ Some r → get roots r ≡ None
   pub others : (r : ℕ) → ¬ (root ≡ Some r) → ¬ (maps.get nat_cmp code.names name ≡ Some r)
@@ -279,10 +327,10 @@ module _ (code new : RunState) (seen : State) (name : ℕ) (root : Option ℕ) (
 
   -- the code represents the state that is the same at each other name
   stands_changed : (next : State) (value : Option Expression) → next.tree ≡ seen.tree → next.limit ≡ seen.limit
-      → next.slack ≡ seen.slack → next.every ≡ seen.every → AreDistinct (names_of next)
+      → next.slack ≡ seen.slack → next.every ≡ seen.every → next.circuit ≡ seen.circuit → AreDistinct (names_of next)
       → ((q : ℕ) → named next.names q ≡ cond (eqb name q) value (named seen.names q))
       → HoldsName (record code.manager { roots = roots }) root value → Represents new next
-  stands_changed next value same_tree same_limit same_slack same_every distinct names here = record {
+  stands_changed next value same_tree same_limit same_slack same_every same_circuit distinct names here = record {
     tree = same_tree ∙ was.tree ∙ ap (λ t. plain_tree t.vtree) (sym changes.manager);
     limit = same_limit ∙ was.limit ∙ sym changes.limit;
     slack = same_slack ∙ was.slack ∙ sym changes.slack;
@@ -300,6 +348,13 @@ module _ (code new : RunState) (seen : State) (name : ℕ) (root : Option ℕ) (
     bound = ap (λ t. t.bound) changes.manager ∙ was.bound;
     no_move = ap (λ t. t.moving) changes.manager ∙ was.no_move;
     unmarked = subst AreUnmarked (sym changes.manager) was.unmarked;
+    circuit = same_circuit ∙ was.circuit ∙ ap (λ (s : SharedCircuit). s.circuit.text) (sym changes.shared);
+    inputs = subst (λ c. AreInputs c next.tree) (sym same_circuit)
+        (subst (AreInputs seen.circuit) (sym same_tree) was.inputs);
+    shares = subst (λ t. Shares new.shared.circuit new.shared.gates t) (sym changes.manager)
+        (subst (λ (s : SharedCircuit). Shares s.circuit s.gates (record code.manager { roots = roots }))
+        (sym changes.shared)
+        (shares_roots code.shared code.manager roots was.shares));
   }
 
 -- ---- one name more
@@ -308,13 +363,14 @@ module _ (code new : RunState) (seen : State) (name : ℕ) (root : Option ℕ) (
 pub stands_bound : (code new : RunState) (seen : State) (name node root : ℕ) (f : Expression)
     → Represents code seen → ShowsFormula code.manager node f → get code.manager.roots root ≡ None → IsFree code name
     → new.manager ≡ with_root code.manager root node → new.cache ≡ code.cache → new.limit ≡ code.limit
-    → new.slack ≡ code.slack → new.every ≡ code.every
+    → new.slack ≡ code.slack → new.every ≡ code.every → new.shared ≡ code.shared
     → ((q : ℕ) → maps.get nat_cmp new.names q
     ≡ cond (is_at (nat_cmp name) q) (Some root) (maps.get nat_cmp code.names q))
     → Represents new (with_name seen name f)
-stands_bound code new seen name node root f was shows absent free is same_cache same_limit same_slack same_every names =
+stands_bound code new seen name node root f was shows absent free is same_cache same_limit same_slack same_every
+    same_shared names =
     stands_changed code new seen name (Some root) (insert code.manager.roots root node) was changes
-    (with_name seen name f) (Some f) refl refl refl refl
+    (with_name seen name f) (Some f) refl refl refl refl refl
     (distinct_bound seen.names name (not_named code seen name was free) was.once)
     (λ q. refl) held
   where
@@ -326,6 +382,7 @@ stands_bound code new seen name node root f was shows absent free is same_cache 
       limit = same_limit;
       slack = same_slack;
       every = same_every;
+      shared = same_shared;
       fresh = λ r e. let same : root ≡ r = cc in subst (λ k. get code.manager.roots k ≡ None) same absent;
       released = λ r at. let bad : ◌≡◌ {A = Option ℕ} None (Some r) = sym free ∙ at in absurd cc;
       others = λ r other differ.
@@ -405,10 +462,10 @@ one_root_more old new root node is =
 pub stands_named : (code new : RunState) (seen : State) (name root : ℕ) (f : Expression)
     → Represents (without code root) seen → HoldsValue code.manager root f → IsFree code name
     → new.manager ≡ code.manager → new.cache ≡ code.cache → new.limit ≡ code.limit → new.slack ≡ code.slack
-    → new.every ≡ code.every → ((q : ℕ) → maps.get nat_cmp new.names q
+    → new.every ≡ code.every → new.shared ≡ code.shared → ((q : ℕ) → maps.get nat_cmp new.names q
     ≡ cond (is_at (nat_cmp name) q) (Some root) (maps.get nat_cmp code.names q))
     → Represents new (with_name seen name f)
-stands_named code new seen name root f was holds free is same_cache same_limit same_slack same_every names =
+stands_named code new seen name root f was holds free is same_cache same_limit same_slack same_every same_shared names =
     stands_bound (without code root) new seen name holds.code root f was
     (record {
       diagram = holds.diagram;
@@ -416,7 +473,7 @@ stands_named code new seen name root f was holds free is same_cache same_limit s
       of_value = holds.of_value;
     })
     (get_remove_same code.manager.roots root) free (is ∙ restored code.manager root holds.code holds.held)
-    same_cache same_limit same_slack same_every names
+    same_cache same_limit same_slack same_every same_shared names
 
 -- no root more
 pub no_root_more : (old new : Table) (root : Option ℕ) → new ≡ record old { roots = removed old.roots root }
@@ -458,12 +515,12 @@ pub stands_released : (code new : RunState) (seen : State) (name : ℕ) (former 
     → former ≡ maps.get nat_cmp code.names name
     → new.manager ≡ record code.manager { roots = removed code.manager.roots former } → new.cache ≡ code.cache
     → new.limit ≡ code.limit → new.slack ≡ code.slack
-    → new.every ≡ code.every
+    → new.every ≡ code.every → new.shared ≡ code.shared
     → ((q : ℕ) → maps.get nat_cmp new.names q ≡ cond (is_at (nat_cmp name) q) None (maps.get nat_cmp code.names q))
     → Represents new (dropped seen name)
-stands_released code new seen name former was had is same_cache same_limit same_slack same_every names =
+stands_released code new seen name former was had is same_cache same_limit same_slack same_every same_shared names =
     stands_changed code new seen name None (removed code.manager.roots former) was changes (dropped seen name) None refl
-    refl refl refl (distinct_dropped seen.names name was.once) (named_dropped seen.names name) tt
+    refl refl refl refl (distinct_dropped seen.names name was.once) (named_dropped seen.names name) tt
   where
     changes : ChangesName code new name None (removed code.manager.roots former)
     changes = record {
@@ -473,6 +530,7 @@ stands_released code new seen name former was had is same_cache same_limit same_
       limit = same_limit;
       slack = same_slack;
       every = same_every;
+      shared = same_shared;
       fresh = λ r e. absurd cc;
       released = λ r at. removed_at code.manager.roots former r (had ∙ at);
       others = λ r other differ. removed_else code.manager.roots former r (λ e. differ (sym had ∙ e));
@@ -502,11 +560,12 @@ holds_kept old new (Some r) (Some value) kept holds =
       of_value = subst (λ v. IsDiagramOf (plain_tree v) value holds.diagram) (sym kept.reached.vtree) holds.of_value;
     }
 
--- the code represents the state in a later table, whatever the next sweep waits for
-pub stands_swept : (code : RunState) (t : Table) (cache : Answers) (most : ℕ) (seen : State) → Represents code seen
-    → KeepsAll code.manager t → Serves cache t → AreUnmarked t
-    → Represents (record code { manager = t; cache = cache; most = most }) seen
-stands_swept code t cache most seen was kept serves unmarked = record {
+-- the code represents the state in a later table, whatever the next sweep waits for, and with other nodes of the gates
+pub stands_swept : (code : RunState) (t : Table) (cache : Answers) (most : ℕ) (shared : SharedCircuit) (seen : State)
+    → Represents code seen → KeepsAll code.manager t → Serves cache t → AreUnmarked t
+    → shared.circuit ≡ code.shared.circuit → Shares shared.circuit shared.gates t
+    → Represents (record code { manager = t; cache = cache; most = most; shared = shared }) seen
+stands_swept code t cache most shared seen was kept serves unmarked same_circuit shares = record {
   tree = was.tree ∙ ap plain_tree (sym kept.reached.vtree);
   limit = was.limit;
   slack = was.slack;
@@ -520,17 +579,20 @@ stands_swept code t cache most seen was kept serves unmarked = record {
   bound = kept.bound ∙ was.bound;
   no_move = kept.moving ∙ was.no_move;
   unmarked = unmarked;
+  circuit = was.circuit ∙ ap (λ (c : OrderedCircuit). c.text) (sym same_circuit);
+  inputs = was.inputs;
+  shares = shares;
 }
   where
     of_name : (root : ℕ) → IsOfName code root
-        → IsOfName (record code { manager = t; cache = cache; most = most }) root
+        → IsOfName (record code { manager = t; cache = cache; most = most; shared = shared }) root
     of_name root had = record { name = had.name; is = had.is }
 
 pub stands_kept : (code : RunState) (t : Table) (cache : Answers) (seen : State) → Represents code seen
-    → KeepsAll code.manager t → Serves cache t → AreUnmarked t
+    → KeepsAll code.manager t → Serves cache t → AreUnmarked t → Shares code.shared.circuit code.shared.gates t
     → Represents (record code { manager = t; cache = cache }) seen
-stands_kept code t cache seen was kept serves unmarked =
-    stands_swept code t cache code.most seen was kept serves unmarked
+stands_kept code t cache seen was kept serves unmarked shares =
+    stands_swept code t cache code.most code.shared seen was kept serves unmarked refl shares
 
 -- and after more nodes were made
 pub stands_on : (code : RunState) (t : Table) (cache : Answers) (seen : State) → Represents code seen
@@ -538,6 +600,29 @@ pub stands_on : (code : RunState) (t : Table) (cache : Answers) (seen : State) �
 stands_on code t cache seen was kept serves =
     stands_kept code t cache seen was (all_extended code.manager t kept) serves
     (unmarked_extended code.manager t kept was.unmarked)
+    (shares_on code.shared.circuit code.shared.gates code.manager t kept was.shares)
+
+-- and with other nodes of the gates, or none
+pub stands_shared : (code : RunState) (shared : SharedCircuit) (seen : State) → Represents code seen
+    → shared.circuit ≡ code.shared.circuit → Shares shared.circuit shared.gates code.manager
+    → Represents (record code { shared = shared }) seen
+stands_shared code shared seen was same_circuit shares = record {
+  tree = was.tree;
+  limit = was.limit;
+  slack = was.slack;
+  every = was.every;
+  once = was.once;
+  holds = was.holds;
+  apart = was.apart;
+  only = λ root held. let had = was.only root held in record { name = had.name; is = had.is };
+  serves = was.serves;
+  bound = was.bound;
+  no_move = was.no_move;
+  unmarked = was.unmarked;
+  circuit = was.circuit ∙ ap (λ (c : OrderedCircuit). c.text) (sym same_circuit);
+  inputs = was.inputs;
+  shares = shares;
+}
 
 -- and under another limit
 pub stands_limited : (code : RunState) (limit : ℕ) (seen : State) → Represents code seen
@@ -555,16 +640,19 @@ stands_limited code limit seen was = record {
   bound = was.bound;
   no_move = was.no_move;
   unmarked = was.unmarked;
+  circuit = was.circuit;
+  inputs = was.inputs;
+  shares = was.shares;
 }
 
 -- ---- what stays after an error
 
 -- where nothing changed, all is as before
 pub as_before : (code new : RunState) → new.manager ≡ code.manager → new.cache ≡ code.cache → new.limit ≡ code.limit
-    → new.slack ≡ code.slack → new.every ≡ code.every
+    → new.slack ≡ code.slack → new.every ≡ code.every → new.shared ≡ code.shared
     → ((q : ℕ) → maps.get nat_cmp new.names q ≡ maps.get nat_cmp code.names q)
     → IsAsBefore code new
-as_before code new is same_cache same_limit same_slack same_every names = record {
+as_before code new is same_cache same_limit same_slack same_every same_shared names = record {
   represents = λ seen was. record {
     tree = was.tree ∙ ap (λ t. plain_tree t.vtree) (sym is);
     limit = was.limit ∙ sym same_limit;
@@ -582,6 +670,10 @@ as_before code new is same_cache same_limit same_slack same_every names = record
     bound = ap (λ t. t.bound) is ∙ was.bound;
     no_move = ap (λ t. t.moving) is ∙ was.no_move;
     unmarked = subst AreUnmarked (sym is) was.unmarked;
+    circuit = was.circuit ∙ ap (λ (s : SharedCircuit). s.circuit.text) (sym same_shared);
+    inputs = was.inputs;
+    shares = subst (λ t. Shares new.shared.circuit new.shared.gates t) (sym is)
+        (subst (λ (s : SharedCircuit). Shares s.circuit s.gates code.manager) (sym same_shared) was.shares);
   };
   holds = λ root d held. subst (λ t. HoldsDiagram t root d) (sym is) held;
   roots = ap (λ t. t.roots) is;
@@ -590,13 +682,14 @@ as_before code new is same_cache same_limit same_slack same_every names = record
 -- a command that reads the state leaves it, whatever it answers
 pub as_before_self : {X E : Type 0} (code : RunState) (result : Result X E) → OnErr result (IsAsBefore code code)
 as_before_self code (Ok x) = tt
-as_before_self code (Err e) = as_before code code refl refl refl refl refl (λ q. refl)
+as_before_self code (Err e) = as_before code code refl refl refl refl refl refl (λ q. refl)
 
 -- a later table leaves all as before
 pub as_before_kept : (code : RunState) (t : Table) (cache : Answers) → KeepsAll code.manager t → Serves cache t
-    → AreUnmarked t → IsAsBefore code (record code { manager = t; cache = cache })
-as_before_kept code t cache kept serves unmarked = record {
-  represents = λ seen was. stands_kept code t cache seen was kept serves unmarked;
+    → AreUnmarked t → Shares code.shared.circuit code.shared.gates t
+    → IsAsBefore code (record code { manager = t; cache = cache })
+as_before_kept code t cache kept serves unmarked shares = record {
+  represents = λ seen was. stands_kept code t cache seen was kept serves unmarked shares;
   holds = λ root d held. kept.holds root d held;
   roots = kept.reached.roots;
 }
@@ -610,6 +703,25 @@ as_before_on code t cache kept serves = record {
   roots = kept.roots;
 }
 
+-- so does another list of the gates' nodes, or none
+pub as_before_shared : (code : RunState) (shared : SharedCircuit) → shared.circuit ≡ code.shared.circuit
+    → Shares shared.circuit shared.gates code.manager → IsAsBefore code (record code { shared = shared })
+as_before_shared code shared same_circuit shares = record {
+  represents = λ seen was. stands_shared code shared seen was same_circuit shares;
+  holds = λ root d held. held;
+  roots = refl;
+}
+
+-- and an output
+pub as_before_made : (code : RunState) (t : Table) (cache : Answers) (shared : SharedCircuit) → KeepsAll code.manager t
+    → Serves cache t → AreUnmarked t → shared.circuit ≡ code.shared.circuit → Shares shared.circuit shared.gates t
+    → IsAsBefore code (record code { manager = t; cache = cache; shared = shared })
+as_before_made code t cache shared kept serves unmarked same_circuit shares = record {
+  represents = λ seen was. stands_swept code t cache code.most shared seen was kept serves unmarked same_circuit shares;
+  holds = λ root d held. kept.holds root d held;
+  roots = kept.reached.roots;
+}
+
 -- all is as before after that, and after more
 pub before_both : (code mid new : RunState) → IsAsBefore code mid → IsAsBefore mid new → IsAsBefore code new
 before_both code mid new first later = record {
@@ -618,10 +730,37 @@ before_both code mid new first later = record {
   roots = later.roots ∙ first.roots;
 }
 
-before_then : {X E : Type 0} (result : Result X E) (code mid new : RunState) → IsAsBefore code mid
+pub before_then : {X E : Type 0} (result : Result X E) (code mid new : RunState) → IsAsBefore code mid
     → OnErr result (IsAsBefore mid new) → OnErr result (IsAsBefore code new)
 before_then (Ok x) code mid new first later = tt
 before_then (Err e) code mid new first later = before_both code mid new first later
+
+-- a search that stops leaves the same, where all was as before it
+pub search_forgotten : {X E : Type 0} (result : Result X E) (rounds : ℕ) (code mid new : RunState) → IsAsBefore code mid
+    → OnErr result (IsLeftBySearch rounds mid new) → OnErr result (IsLeftBySearch rounds code new)
+search_forgotten (Ok x) rounds code mid new first later = tt
+search_forgotten (Err e) rounds code mid new first later = record {
+  represents = λ seen was. later.represents seen (first.represents seen was);
+  searched = λ seen was. later.searched seen (first.represents seen was);
+  roots = later.roots ∙ first.roots;
+}
+
+-- and so does an input
+input_left_then : (every : Option ℕ) (input : Groups) (code mid new : RunState) → IsAsBefore code mid
+    → IsLeftByInput every input mid new → IsLeftByInput every input code new
+input_left_then None input code mid new first later = before_both code mid new first later
+input_left_then (Some k) input code mid new first later = record {
+  represents = λ seen was. later.represents seen (first.represents seen was);
+  grown = λ seen was. later.grown seen (first.represents seen was);
+  roots = later.roots ∙ first.roots;
+}
+
+pub input_forgotten : {X E : Type 0} (result : Result X E) (input : Groups) (code mid new : RunState)
+    → IsAsBefore code mid → mid.every ≡ code.every → OnErr result (IsLeftByInput mid.every input mid new)
+    → OnErr result (IsLeftByInput code.every input code new)
+input_forgotten (Ok x) input code mid new first same later = tt
+input_forgotten (Err e) input code mid new first same later =
+    input_left_then code.every input code mid new first (subst (λ k. IsLeftByInput k input mid new) same later)
 
 -- and after nodes were made
 pub as_before_then : {X E : Type 0} (result : Result X E) (code new : RunState) (t : Table) (cache : Answers)
@@ -637,20 +776,20 @@ as_before_then result code new t cache kept serves later =
 -- without it the code represents what it did
 pub stands_compiled : (code : RunState) (t : Table) (cache : Answers) (root : ℕ) (seen : State) → Represents code seen
     → get code.manager.roots root ≡ None → KeepsOtherRoots code.manager t root → Serves cache t → AreUnmarked t
-    → Represents (without (record code { manager = t; cache = cache }) root) seen
-stands_compiled code t cache root seen was absent kept serves unmarked =
+    → AreForgotten code.shared → Represents (without (record code { manager = t; cache = cache }) root) seen
+stands_compiled code t cache root seen was absent kept serves unmarked forgotten =
     stands_kept code (without_root t root) cache seen was
     (released_all code.manager t (without_root t root) root root absent kept refl refl)
-    (serves_roots cache t (remove t.roots root) serves) unmarked
+    (serves_roots cache t (remove t.roots root) serves) unmarked (forgotten (without_root t root))
 
 -- and all is as before
 pub as_before_compiled : (code : RunState) (t : Table) (cache : Answers) (root : ℕ) → get code.manager.roots root ≡ None
-    → KeepsOtherRoots code.manager t root → Serves cache t → AreUnmarked t
+    → KeepsOtherRoots code.manager t root → Serves cache t → AreUnmarked t → AreForgotten code.shared
     → IsAsBefore code (without (record code { manager = t; cache = cache }) root)
-as_before_compiled code t cache root absent kept serves unmarked =
+as_before_compiled code t cache root absent kept serves unmarked forgotten =
     as_before_kept code (without_root t root) cache
     (released_all code.manager t (without_root t root) root root absent kept refl refl)
-    (serves_roots cache t (remove t.roots root) serves) unmarked
+    (serves_roots cache t (remove t.roots root) serves) unmarked (forgotten (without_root t root))
 
 -- the root holds the formula
 pub holds_compiled : (t : Table) (root : ℕ) (f : Expression) → HoldsFormula t f root → HoldsValue t root f
@@ -661,6 +800,33 @@ holds_compiled t root f h = record {
   shows = h.shown.is.shows;
   of_value = record { canonical = h.shown.is.canonical; same_value = λ a fits. h.shown.value a };
 }
+
+-- a manager that holds one formula alone, at a root that gets the name 0
+pub stands_alone : (code new : RunState) (root : ℕ) (f : Groups) → IsReady code.manager code.cache
+    → HoldsAlone code.manager f root → code.names.entries ≡ [] → code.shared.circuit.text ≡ no_circuit
+    → AreForgotten code.shared → new.manager ≡ code.manager → new.cache ≡ code.cache → new.limit ≡ code.limit
+    → new.slack ≡ code.slack → new.every ≡ code.every → new.shared ≡ code.shared
+    → ((q : ℕ) → maps.get nat_cmp new.names q
+    ≡ cond (is_at (nat_cmp 0) q) (Some root) (maps.get nat_cmp code.names q))
+    → Represents new (with_name (start_with code.manager.vtree code.limit code.slack code.every no_circuit) 0
+    (expression_of f))
+stands_alone code new root f ready holds no_names same_circuit forgotten is same_cache same_limit same_slack same_every
+    same_shared names =
+    stands_named code new (start_with code.manager.vtree code.limit code.slack code.every no_circuit) 0 root
+    (expression_of f)
+    (stands_empty (without code root) no_circuit nothing
+    (serves_roots code.cache code.manager (remove code.manager.roots root) ready.serves) ready.bound ready.no_move
+    ready.unmarked no_names same_circuit forgotten (λ some. absurd (omega (arith, some))))
+    (holds_compiled code.manager root (expression_of f) holds.holds) (ap (lookup (is_at (nat_cmp 0))) no_names)
+    is same_cache same_limit same_slack same_every same_shared names
+  where
+    nothing : (q : ℕ) → get (remove code.manager.roots root) q ≡ None
+    nothing q = elim (cases_eq q root) [
+      | inl same ↦
+          subst (λ k. get (remove code.manager.roots root) k ≡ None) (sym same)
+          (get_remove_same code.manager.roots root)
+      | inr differ ↦ get_remove_other code.manager.roots root q differ ∙ holds.only q differ
+    ]
 
 -- ---- what the manager alone holds
 
@@ -733,3 +899,7 @@ left_state input (commands.Size a) old new seen was left = as_it_was old new see
 left_state input (commands.Value a bits) old new seen was left = as_it_was old new seen was left
 left_state input (commands.Write a file) old new seen was left = as_it_was old new seen was left
 left_state input (commands.WriteVtree file) old new seen was left = as_it_was old new seen was left
+left_state input (commands.InputByParts n parts) old new seen was left = as_it_was old new seen was left
+left_state input (commands.Choose rounds) old new seen was left = absurd left
+left_state input (commands.Output n index) old new seen was left = as_it_was old new seen was left
+left_state input (commands.Check file ids) old new seen was left = as_it_was old new seen was left

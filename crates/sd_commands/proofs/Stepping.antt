@@ -7,8 +7,9 @@ use Rattle.std.proofs.lemmas.List.{length-map}
 use Rattle.std.specs.List.{list_all, list_any, AllByRecursion}
 use Rattle.std.specs.Option.{IsSome}
 use Rattle.std.specs.declared.alloc.AllocError.{AllocError}
-use Rattle.std.proofs.lemmas.Bool.{cases_Bool, and_parts}
+use Rattle.std.proofs.lemmas.Bool.{cases_Bool, and_parts, ltb-true}
 use Rattle.std.specs.Prelude.{nat_le}
+use Rattle.sd_model.specs.Circuit.{Circuit}
 use Rattle.sd_runs.specs.declared.error.TakeError.{TakeError}
 use Rattle.sd_runs.specs.declared.error.TakeError.TheVariants as taking
 use Rattle.sd_model.specs.Expression.{Expression}
@@ -134,26 +135,26 @@ has_root code seen name was h = both _ _ (was.holds name) (named_has seen.names 
     both None (Some value) holds some = absurd holds
 
 -- the first name that a command uses
-pub first_used : (code : RunState) (seen : State) (v : ℕ) (command : RunCommand) (a : ℕ) (others : List ℕ)
-    → Represents code seen → Fits v (names_of seen) command → uses command ≡ a ∷ others → HasRoot code a
-first_used code seen v command a others was fits is =
+pub first_used : (code : RunState) (seen : State) (v o : ℕ) (command : RunCommand) (a : ℕ) (others : List ℕ)
+    → Represents code seen → Fits v o (names_of seen) command → uses command ≡ a ∷ others → HasRoot code a
+first_used code seen v o command a others was fits is =
     let all : list_all (has (names_of seen)) (a ∷ others) ≡ true =
     ap (list_all (has (names_of seen))) (sym is) ∙ fits.used_bound in
     has_root code seen a was (and_parts _ _ all).0
 
 -- and the second one
-pub second_used : (code : RunState) (seen : State) (v : ℕ) (command : RunCommand) (a b : ℕ) (others : List ℕ)
-    → Represents code seen → Fits v (names_of seen) command → uses command ≡ a ∷ b ∷ others → HasRoot code b
-second_used code seen v command a b others was fits is =
+pub second_used : (code : RunState) (seen : State) (v o : ℕ) (command : RunCommand) (a b : ℕ) (others : List ℕ)
+    → Represents code seen → Fits v o (names_of seen) command → uses command ≡ a ∷ b ∷ others → HasRoot code b
+second_used code seen v o command a b others was fits is =
     let all : list_all (has (names_of seen)) (a ∷ b ∷ others) ≡ true =
     ap (list_all (has (names_of seen))) (sym is) ∙ fits.used_bound in
     has_root code seen b was (and_parts _ _ (and_parts _ _ all).1).0
 
 -- all names that a command uses
-pub all_used : (code : RunState) (seen : State) (v : ℕ) (command : RunCommand) (names : List ℕ)
-    → Represents code seen → Fits v (names_of seen) command → uses command ≡ names
+pub all_used : (code : RunState) (seen : State) (v o : ℕ) (command : RunCommand) (names : List ℕ)
+    → Represents code seen → Fits v o (names_of seen) command → uses command ≡ names
     → AllByRecursion (HasRoot code) names
-all_used code seen v command names was fits is =
+all_used code seen v o command names was fits is =
     go names (ap (list_all (has (names_of seen))) (sym is) ∙ fits.used_bound)
   where
     go : (ns : List ℕ) → list_all (has (names_of seen)) ns ≡ true → AllByRecursion (HasRoot code) ns
@@ -162,18 +163,18 @@ all_used code seen v command names was fits is =
         let both = and_parts _ _ h in (has_root code seen n was both.0, go ns both.1)
 
 -- a write has a name
-pub some_named : (v : ℕ) (names : List ℕ) (command : RunCommand) (file bound : List ℕ)
-    → Fits v bound command → command ≡ commands.Write names file → 1 ≤ length names
-some_named v names command file bound fits is = go names (ap (in_range v) (sym is) ∙ fits.ranges)
+pub some_named : (v o : ℕ) (names : List ℕ) (command : RunCommand) (file bound : List ℕ)
+    → Fits v o bound command → command ≡ commands.Write names file → 1 ≤ length names
+some_named v o names command file bound fits is = go names (ap (in_range v o) (sym is) ∙ fits.ranges)
   where
     go : (ns : List ℕ) → nat_le 1 (length ns) ≡ true → 1 ≤ length ns
     go [] h = cc
     go (n ∷ ns) h = omega arith
 
 -- the name that a command binds is free
-pub binds_free : (code : RunState) (seen : State) (v : ℕ) (command : RunCommand) (name : ℕ)
-    → Represents code seen → Fits v (names_of seen) command → binds command ≡ name ∷ [] → IsFree code name
-binds_free code seen v command name was fits is =
+pub binds_free : (code : RunState) (seen : State) (v o : ℕ) (command : RunCommand) (name : ℕ)
+    → Represents code seen → Fits v o (names_of seen) command → binds command ≡ name ∷ [] → IsFree code name
+binds_free code seen v o command name was fits is =
     let none : list_any (has (names_of seen)) (name ∷ []) ≡ false =
     ap (list_any (has (names_of seen))) (sym is) ∙ fits.free in
     free _ _ (was.holds name) (named_not seen.names name (one (has (names_of seen) name) none))
@@ -187,13 +188,22 @@ binds_free code seen v command name was fits is =
     free (Some r) None holds none = absurd holds
     free (Some r) (Some value) holds none = absurd cc
 
+-- an output is one of the circuit
+pub output_there : (code : RunState) (seen : State) (v : ℕ) (command : RunCommand) (name index : ℕ)
+    → Represents code seen → Fits v (length seen.circuit.outputs) (names_of seen) command
+    → command ≡ commands.Output name index → index < length code.shared.circuit.text.outputs
+output_there code seen v command name index was fits is =
+    subst (λ (c : Circuit). index < length c.outputs) was.circuit
+    (ltb-true index (length seen.circuit.outputs)
+    (ap (in_range v (length seen.circuit.outputs)) (sym is) ∙ fits.ranges))
+
 -- ---- commands of no line
 
 -- one of them can be done, and so can those after it
-pub fit_next : (v : ℕ) (names : List ℕ) (commands : List RunCommand) (i : ℕ) (c : RunCommand) → i < length commands
-    → c ≡ get_or commands i c → AllFit v names (drop i (unnumbered commands))
-    → Fits v names c × AllFit v (bound_after names c) (drop (i + 1) (unnumbered commands))
-fit_next v names commands i c below at fit =
-    fit_at v names (unnumbered commands) i (of_no_line c)
+pub fit_next : (v o : ℕ) (names : List ℕ) (commands : List RunCommand) (i : ℕ) (c : RunCommand) → i < length commands
+    → c ≡ get_or commands i c → AllFit v o names (drop i (unnumbered commands))
+    → Fits v o names c × AllFit v o (bound_after names c) (drop (i + 1) (unnumbered commands))
+fit_next v o names commands i c below at fit =
+    fit_at v o names (unnumbered commands) i (of_no_line c)
     (subst (λ n. i < n) (sym (length-map commands of_no_line)) below)
     (ap of_no_line at ∙ sym (get_or-map of_no_line commands i c)) fit

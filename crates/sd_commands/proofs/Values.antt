@@ -5,12 +5,14 @@ use Rattle.std.specs.List.{AllByRecursion, AllZip}
 use Rattle.std.proofs.lemmas.List.{take_more}
 use Rattle.std.proofs.lemmas.List.Elements.{AllZip-push}
 use Rattle.std.proofs.Common.{List, [], ◌∷◌, ◌++◌, ◌+◌, map, take, get_or, length}
-use Rattle.std.proofs.Common.{ℤ, pos, negsuc, refl, sym, ap, subst, ◌∙◌, arith}
+use Rattle.std.proofs.Common.{ℤ, pos, negsuc, refl, sym, ap, subst, ◌∙◌, arith, Result, Ok, Err, IfOk}
+use Rattle.sd_runs.specs.declared.error.TakeError.{TakeError}
 use Rattle.sd_model.specs.declared.trees.Operation.{Operation}
 use Rattle.sd_model.specs.Tree.{Tree, leaves}
 use Rattle.sd_model.specs.Assignment.{literal_holds, with_entry, with_value, with_literal}
 use Rattle.sd_model.specs.Diagram.{Diagram, meaning}
-use Rattle.sd_model.specs.Expression.{Expression, Constant, Atom, Combined, Negated, Conditioned, Forgotten}
+use Rattle.sd_model.specs.Circuit.{Circuit, circuit_output}
+use Rattle.sd_model.specs.Expression.{Expression, Constant, Atom, Combined, Negated, Conditioned, Forgotten, OutputOf}
 use Rattle.sd_model.specs.Expression.{combine, expression_value, AreOneFunction}
 use Rattle.sd_model.specs.Size.{IsDiagramOf, HasSize, size_of}
 use Rattle.sd_model.specs.Text.{number_text, roots_text}
@@ -36,6 +38,15 @@ answer_value t c f h = record {
   is = h.is;
   of_value = record { canonical = h.is.canonical; same_value = λ a assignment. h.value a };
 }
+
+-- the node of an output
+pub output_value : (result : Result ℕ TakeError) (t : Table) (seen circuit : Circuit) (index : ℕ) → seen ≡ circuit
+    → IfOk result (λ node. HasAnswer t (circuit_output circuit index) node)
+    → IfOk result (λ node. ShowsFormula t node (OutputOf seen index))
+output_value (Ok node) t seen circuit index same h =
+    answer_value t node (OutputOf seen index)
+    (subst (λ c. HasAnswer t (circuit_output c index) node) (sym same) h)
+output_value (Err e) t seen circuit index same h = tt
 
 -- the node of a literal
 pub literal_value : (t : Table) (c : ℕ) (z : ℤ)

@@ -2,33 +2,51 @@
 use Rattle.std.specs.Prelude.{◌≡◌, ◌⊎◌, ◌↔◌, ℕ, zero, suc, ◌%◌, ◌<◌, ◌≤◌, nat_le, Bool, true, false, not, ◌==◌}
 use Rattle.std.specs.Prelude.{List, [], ◌∷◌, ◌++◌, map, filter, length, take, codes, Option, Some, None, unwrap_or}
 use Rattle.std.specs.Prelude.{if◌then◌else◌, MatchBool, MatchOption}
-use Rattle.sd_model.specs.Expression.{Expression, Constant, Atom, Combined, Negated, Conditioned, Forgotten}
+use Rattle.sd_model.specs.Circuit.{Circuit}
+use Rattle.sd_model.specs.Expression.{Expression, Constant, Atom, Combined, Negated, Conditioned, Forgotten, OutputOf}
 use Rattle.sd_model.specs.Expression.{expression_value, AreOneFunction}
 use Rattle.sd_model.specs.Tree.{Tree, leaves}
 use Rattle.sd_model.specs.Moves.{moved_at}
 use Rattle.sd_model.specs.Diagram.{Diagram}
 use Rattle.sd_model.specs.Size.{IsDiagramOf, HasSize}
 use Rattle.sd_model.specs.Text.{number_text, line_of_words, roots_text, vtree_text}
+use Rattle.std.specs.FinMap.{get}
 use Rattle.std.specs.List.{AllZip}
 use Rattle.std.specs.Option.{option_map_or, IsSome}
 use Rattle.sd_formula.specs.Dimacs.{Groups}
 use Rattle.sd_formula.specs.Formulas.{expression_of}
-use Rattle.sd_file.specs.Reads.{expression_of_file}
+use Rattle.sd_file.specs.Files.{entry_at}
+use Rattle.sd_file.specs.Reads.{File, expression_of_file}
 use Rattle.sd_search.specs.Search.{Found, IsSearch}
+use Rattle.sd_parts.specs.Parts.{PartsOutcome, Joined, Passed, IsPartsOutcome}
+use Rattle.sd_starts.specs.Starts.{tree_of_start, Choice, Chosen, AllPassed, IsChoice}
+use Rattle.sd_starts.specs.declared.start.Settings.{Settings}
+use Rattle.sd_starts.specs.declared.start.Start.{Start}
+use Rattle.sd_starts.specs.declared.start.Start.TheVariants.{Balanced, Right, Left}
+use Rattle.sd_check.specs.Rules.{HasVerdict}
+use Rattle.sd_check.specs.declared.rules.Rule.{Rule}
+use Rattle.sd_check.specs.declared.rules.Rule.TheVariants as rules
+use Rattle.sd_check.specs.declared.rules.Verdict.{Verdict}
+use Rattle.sd_check.specs.declared.rules.Verdict.TheVariants.{Yes, No}
 use Rattle.sd_commands.specs.Effects.{Effect, Write, Print}
 use Rattle.sd_commands.specs.declared.command.RunCommand.{RunCommand}
 use Rattle.sd_commands.specs.declared.command.RunCommand.TheVariants as commands
 use Rattle.sd_commands.specs.declared.command.NumberedCommand.{NumberedCommand}
 
 -- what a run holds between two commands: the bound names with their formulas, the last one first, the tree, the limit
--- of the total size, how many hundredths of the size at its start a walk of a search may reach, and of which number a
--- group's is to be a multiple, so that a search follows it
+-- of the total size, how many hundredths of the size at its start a walk of a search may reach, of which number a
+-- group's is to be a multiple, so that a search follows it, and the circuit
 pub record State : Type 0 where
   pub names : List (ℕ × Expression)
   pub tree : Tree
   pub limit : ℕ
   pub slack : ℕ
   pub every : Option ℕ
+  pub circuit : Circuit
+
+-- the circuit of a run without one: it has no lines
+abbrev pub no_circuit : Circuit
+no_circuit = record { variables = 0; inputs = []; outputs = []; ands = [] }
 
 -- a command is done, with a new state and at most one effect; its place is not movable; or the total size passes the
 -- limit, at a group of the input or after the command
@@ -113,10 +131,60 @@ pub record IsTextOf (tree : Tree) (fs : List Expression) (text : List ℕ) : Typ
 abbrev pub told_line : List ℕ → List ℕ → List ℕ
 told_line word numbers = line_of_words (word ∷ map number_text numbers)
 
+-- What an input by parts comes to: its name is bound to the formula, or the group that passes the limit is told.
+abbrev pub by_parts : State → ℕ → Expression → PartsOutcome → Outcome
+by_parts state name f Joined = Done (with_name state name f) []
+by_parts state name f (Passed group size) = OverLimit (Some group) size state.limit
+
+-- what is asked of each start
+abbrev pub settings_of : State → Option ℕ → Settings
+settings_of state rounds = record { limit = state.limit; slack = state.slack; rounds = rounds }
+
+-- the word for a start
+abbrev pub start_word : Start → List ℕ
+start_word Balanced = codes "balanced"
+start_word Right = codes "right"
+start_word Left = codes "left"
+
+-- the line with the start that was chosen
+abbrev pub start_line : Start → List ℕ
+start_line start = line_of_words (codes "start" ∷ start_word start ∷ [])
+
+-- the state over the tree of a start
+abbrev pub at_start : State → Start → State
+at_start state start = record state { tree = tree_of_start start (leaves state.tree) }
+
+-- What a choice comes to: the tree is that of the start that was chosen, which is printed, or the group that passes the
+-- limit is told.
+abbrev pub by_choice : State → Choice → Outcome
+by_choice state (Chosen start size) = Done (at_start state start) (Print (start_line start) ∷ [])
+by_choice state (AllPassed group size) = OverLimit (Some group) size state.limit
+
+-- the word for a rule that a node of a file may break
+abbrev pub rule_word : Rule → List ℕ
+rule_word rules.Vtree = codes "vtree"
+rule_word rules.Prime = codes "prime"
+rule_word rules.Sub = codes "sub"
+rule_word rules.Count = codes "count"
+rule_word rules.Overlap = codes "overlap"
+rule_word rules.Cover = codes "cover"
+rule_word rules.Subs = codes "subs"
+rule_word rules.Trim = codes "trim"
+
+-- the line that says that the node of an id breaks a rule
+abbrev pub refusal_line : ℕ → Rule → List ℕ
+refusal_line id rule = line_of_words (codes "no" ∷ number_text id ∷ rule_word rule ∷ [])
+
+-- the line with the verdict on a file: where a node breaks a rule, its id and the rule
+abbrev pub verdict_line : File → Verdict → List ℕ
+verdict_line file Yes = line_of_words (codes "yes" ∷ [])
+verdict_line file (No node rule) = refusal_line (entry_at file node).id rule
+
 -- What a command comes to in a state, where this formula is the input. At a move the names keep their formulas over the
 -- moved tree, if the total size is then within the limit; where there is no such tree, the place is not movable. At a
 -- search they keep them over the tree that it finds, of at most so many rounds; the size at its start, the one at its
--- end and its rounds are printed.
+-- end and its rounds are printed. At a choice the input is compiled alone over each start, and searched with the rounds.
+-- At a check the verdict on the file is printed, where the ids of its vtree have these positions.
 abbrev pub Step : Groups → State → RunCommand → Outcome → Type 0
 Step input state (commands.Generated variables groups) outcome =
     Does state (Print (told_line (codes "generated") (variables ∷ groups ∷ []))) outcome
@@ -152,6 +220,15 @@ Step input state (commands.Write names file) outcome =
     (text : List ℕ) × IsTextOf state.tree (map (formula_named state) names) text
     × Does state (Write file text) outcome
 Step input state (commands.WriteVtree file) outcome = Does state (Write file (vtree_text state.tree)) outcome
+Step input state (commands.InputByParts n parts) outcome =
+    (end : PartsOutcome) × IsPartsOutcome state.tree state.limit (formulas_of state) input parts end
+    × (outcome ≡ by_parts state n (expression_of input) end)
+Step input state (commands.Choose rounds) outcome =
+    (choice : Choice) × IsChoice input (settings_of state rounds) choice × (outcome ≡ by_choice state choice)
+Step input state (commands.Output n index) outcome = Binds state n (OutputOf state.circuit index) outcome
+Step input state (commands.Check file ids) outcome =
+    (verdict : Verdict) × HasVerdict state.tree (get ids) file verdict
+    × Does state (Print (verdict_line file verdict)) outcome
 
 -- The command may need the arena of the diagrams in this state. A move may only where it is defined: its place is
 -- looked at first.
@@ -164,6 +241,10 @@ MayFill state (commands.Given n a literal) = Unit {0}
 MayFill state (commands.Forget n a x) = Unit {0}
 MayFill state (commands.Turn kind p) = IsSome (moved_at kind state.tree p)
 MayFill state (commands.Minimise rounds) = Unit {0}
+MayFill state (commands.InputByParts n parts) = Unit {0}
+MayFill state (commands.Choose rounds) = Unit {0}
+MayFill state (commands.Output n index) = Unit {0}
+MayFill state (commands.Check file ids) = Unit {0}
 MayFill state command = ⊥
 
 -- these commands are all done, one after another, with these effects

@@ -6,7 +6,8 @@ use Rattle.std.specs.declared.alloc.AllocError.{AllocError}
 use Rattle.std.specs.BTreeMap as maps
 use Rattle.std.specs.FinMap.{FinMap, get, len, remove}
 use Rattle.std.specs.Ordering.{nat_cmp}
-use Rattle.sd_model.specs.Tree.{Tree, AreDistinct}
+use Rattle.sd_model.specs.Tree.{Tree, AreDistinct, leaves}
+use Rattle.sd_model.specs.Circuit.{Circuit}
 use Rattle.sd_model.specs.Diagram.{Diagram}
 use Rattle.sd_model.specs.Expression.{Expression}
 use Rattle.sd_model.specs.Size.{IsDiagramOf}
@@ -27,33 +28,52 @@ use Rattle.sd_move.specs.declared.error.MoveError.{MoveError}
 use Rattle.sd_move.specs.declared.error.MoveError.TheVariants as moving
 use Rattle.sd_runs.specs.declared.error.TakeError.{TakeError}
 use Rattle.sd_runs.specs.declared.error.TakeError.TheVariants as taking
+use Rattle.sd_circuit.specs.Circuits.{OrderedCircuit}
+use Rattle.sd_gates.specs.Sharing.{Shares}
+use Rattle.sd_starts.specs.Starts.{IsTreeLeft as IsTreeLeftBy}
+use Rattle.sd_starts.specs.declared.start.Start.{Start}
 use Rattle.sd_search.specs.Search.{IsSearchBegun}
 use Rattle.sd_search.specs.declared.error.SearchError.{SearchError}
 use Rattle.sd_search.specs.declared.error.SearchError.TheVariants as searching
 use Rattle.sd_commands.specs.Commands.{State, Done, OverLimit, NotMovable, Step, MayFill, named, formulas_of}
-use Rattle.sd_commands.specs.Commands.{formula_named, AreWithin, PassLimit, GrowsBy}
+use Rattle.sd_commands.specs.Commands.{formula_named, AreWithin, PassLimit, GrowsBy, no_circuit, settings_of, at_start}
 use Rattle.sd_commands.specs.declared.command.RunCommand.{RunCommand}
 use Rattle.sd_commands.specs.declared.command.RunCommand.TheVariants as commands
 use Rattle.sd_commands.specs.declared.command.Effect.{Effect as CodeEffect}
 use Rattle.sd_commands.specs.declared.command.Effect.TheVariants.{WriteFile, PrintLine}
 use Rattle.sd_commands.specs.declared.error.CommandError.{CommandError}
 use Rattle.sd_commands.specs.declared.error.CommandError.TheVariants as errors
+use Rattle.sd_commands.specs.declared.gates.SharedCircuit.{SharedCircuit}
 use Rattle.sd_commands.specs.declared.state.RunState.{RunState}
 
--- no name is bound
+-- no name is bound, and there is no circuit
 abbrev pub start : Tree → ℕ → ℕ → Option ℕ → State
-start tree limit slack every = record { names = []; tree = tree; limit = limit; slack = slack; every = every }
+start tree limit slack every = record {
+  names = [];
+  tree = tree;
+  limit = limit;
+  slack = slack;
+  every = every;
+  circuit = no_circuit;
+}
+
+-- the lines of a circuit, where there is one
+abbrev pub lines_of : Option OrderedCircuit → Circuit
+lines_of None = no_circuit
+lines_of (Some circuit) = circuit.text
 
 -- ---- what a command leaves where the arena is full
 
 -- The tree that a command leaves where it stops: that of the state, but at a search the one after the walks that were
--- done, and at an input the one to which some of its groups lead, where of the search behind the last of them, if it is
--- due, walks were done up to some point.
+-- done, at an input the one to which some of its groups lead, where of the search behind the last of them, if it is
+-- due, walks were done up to some point, and at a choice that of a start, or of its search after some walks.
 abbrev pub IsTreeLeft : Groups → State → RunCommand → Tree → Type 0
 IsTreeLeft input state (commands.Minimise rounds) tree =
     (tree ≡ state.tree) ⊎ IsSearchBegun (formulas_of state) state.slack rounds state.tree tree
 IsTreeLeft input state (commands.Input name) tree =
     (done : ℕ) × (done ≤ length input.groups) × GrowsBy IsSearchBegun input state done tree
+IsTreeLeft input state (commands.Choose rounds) tree =
+    (start : Start) × IsTreeLeftBy input (settings_of state rounds) (at_start state start).tree tree
 IsTreeLeft input state command tree = tree ≡ state.tree
 
 -- the root holds a code that shows the canonical diagram of a formula
@@ -97,8 +117,13 @@ pub record IsOfName (code : RunState) (root : ℕ) : Type 0 where
   pub name : ℕ
   pub is : maps.get nat_cmp code.names name ≡ Some root
 
+-- the inputs of a circuit with an output are the variables of a tree
+abbrev pub AreInputs : Circuit → Tree → Type 0
+AreInputs circuit tree = 1 ≤ length circuit.outputs → leaves tree ≡ length circuit.inputs
+
 -- The code represents this state: each bound name, bound once, has a root of its own in a manager with the whole bound
--- and outside a move, the manager holds no other root, no node is marked, and the cache serves it.
+-- and outside a move, the manager holds no other root, no node is marked, the cache serves it, and so do the nodes of
+-- the circuit's gates.
 pub record Represents (code : RunState) (state : State) : Type 0 where
   pub tree : state.tree ≡ plain_tree code.manager.vtree
   pub limit : state.limit ≡ code.limit
@@ -113,6 +138,13 @@ pub record Represents (code : RunState) (state : State) : Type 0 where
   pub bound : code.manager.bound ≡ 2147483647
   pub no_move : code.manager.moving ≡ None
   pub unmarked : AreUnmarked code.manager
+  pub circuit : state.circuit ≡ code.shared.circuit.text
+  pub inputs : AreInputs state.circuit state.tree
+  pub shares : Shares code.shared.circuit code.shared.gates code.manager
+
+-- no node of a gate is kept: whatever the manager becomes, none is wrong
+abbrev pub AreForgotten : SharedCircuit → Type 0
+AreForgotten shared = (t : Table) → Shares shared.circuit shared.gates t
 
 -- What a command that stops leaves: the code represents each state that it did, each root holds the diagram that it
 -- held, and no root is new.
@@ -151,8 +183,9 @@ abbrev pub IsLeftByInput : Option ℕ → Groups → RunState → RunState → T
 IsLeftByInput None input old new = IsAsBefore old new
 IsLeftByInput (Some every) input old new = IsLeftByGroups input old new
 
--- what a command that stops leaves: all as before, but for the tree of searches
+-- What a command that stops leaves: all as before, but for the tree of searches. A choice is none of one state.
 abbrev pub IsLeft : Groups → RunCommand → RunState → RunState → Type 0
+IsLeft input (commands.Choose rounds) old new = ⊥
 IsLeft input (commands.Minimise rounds) old new = IsLeftBySearch rounds old new
 IsLeft input (commands.Input name) old new = IsLeftByInput old.every input old new
 IsLeft input command old new = IsAsBefore old new

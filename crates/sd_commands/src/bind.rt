@@ -1,5 +1,6 @@
 //! The commands that bind a name or set the limit.
-ghost use Rattle.std.specs.Prelude.{◌≡◌, ◌<◌, ◌≤◌, ◌+◌, ◌-◌, ◌^◌, Some, None, IfOk, IfErr, OnErr};
+ghost use Rattle.std.specs.Prelude.{◌≡◌, ◌<◌, ◌≤◌, ◌+◌, ◌-◌, ◌^◌, Some, None, length};
+ghost use Rattle.std.specs.Prelude.{IfOk, IfErr, OnErr};
 ghost use Rattle.sd_model.specs.Tree.{leaves};
 ghost use Rattle.sd_model.specs.Expression.{Expression};
 ghost use Rattle.sd_vtree.specs.Numbered.{plain_tree};
@@ -8,6 +9,7 @@ ghost use Rattle.sd_manager.specs.Literals.{IsLiteralTo};
 ghost use Rattle.sd_commands.specs.Commands.{State, with_name};
 ghost use Rattle.sd_commands.specs.Standing.{Represents, ShowsFormula, HasRoot, IsFree, SettlesAt, IsNotSettled};
 ghost use Rattle.sd_commands.specs.Standing.{StepsTo, StopsAt, IsAsBefore, IsLeftByInput, IsLeftByGroups, root_count};
+ghost use Rattle.sd_commands.specs.Standing.{AreForgotten};
 
 use crate::command::{Effect, RunCommand};
 use crate::error::{CommandError, compiling_error, operation_error};
@@ -56,6 +58,7 @@ pub(crate) fn bind_input(
     requires variables { leaves (plain_tree state.old.manager.vtree) ≡ input.now.variables }
     requires free { IsFree state.old name }
     requires room { root_count state.old < 2 ^ 32 - 1 }
+    requires forgotten { AreForgotten state.old.shared }
     ensures done { (seen : State) → Represents state.old seen →
         IfOk result
         (λ effect. StepsTo input.now seen (RunCommand.Input name) state.new effect) }
@@ -83,6 +86,7 @@ fn bind_compiled(
     requires variables { leaves (plain_tree state.old.manager.vtree) ≡ input.now.variables }
     requires free { IsFree state.old name }
     requires room { root_count state.old < 2 ^ 32 - 1 }
+    requires forgotten { AreForgotten state.old.shared }
     requires every { state.old.every ≡ None }
     ensures done { (seen : State) → Represents state.old seen →
         IfOk result
@@ -119,6 +123,7 @@ fn bind_grown(
     requires variables { leaves (plain_tree state.old.manager.vtree) ≡ input.now.variables }
     requires free { IsFree state.old name }
     requires room { root_count state.old < 2 ^ 32 - 1 }
+    requires forgotten { AreForgotten state.old.shared }
     requires every { state.old.every ≡ Some every }
     ensures done { (seen : State) → Represents state.old seen →
         IfOk result
@@ -356,5 +361,37 @@ pub(crate) fn bind_forgotten(
     match forget(alloc, &mut state.manager, &mut state.cache, node, variable) {
         Ok(forgotten) => bind(state, name, forgotten),
         Err(e) => Err(operation_error(e)),
+    }
+}
+
+/// Binds a name to an output of the circuit, counted from 0.
+pub(crate) fn bind_output(
+    alloc: Global,
+    state: &mut RunState,
+    name: u32,
+    index: u32,
+) -> Result<Option<Effect>, CommandError>
+    requires represents { (seen : State) × Represents state.old seen }
+    requires index { index < length state.old.shared.circuit.text.outputs }
+    requires free { IsFree state.old name }
+    requires room { root_count state.old < 2 ^ 31 }
+    ensures done { (input : Groups) (seen : State) → Represents state.old seen →
+        IfOk result
+        (λ effect. StepsTo input seen (RunCommand.Output name index) state.new effect) }
+    ensures stops { (input : Groups) (seen : State) → Represents state.old seen →
+        IfErr result
+        (λ e. StopsAt input seen (RunCommand.Output name index) state.new.manager e) }
+    ensures err { OnErr result (IsAsBefore state.old state.new) }
+    ensures vtree { state.new.manager.vtree ≡ state.old.manager.vtree }
+    ensures roots { root_count state.new ≤ root_count state.old + 1 }
+{
+    let node = match state.output(alloc, index) {
+        Ok(node) => node,
+        Err(e) => return Err(operation_error(e)),
+    };
+    // a sweep here would take away what later outputs use
+    match state.bind_unswept(name, node) {
+        Ok(()) => Ok(None),
+        Err(e) => Err(e),
     }
 }

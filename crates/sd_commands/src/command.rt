@@ -4,6 +4,7 @@ use sd_base::{Bits, Bytes, Name};
 use sd_file::SddFile;
 use sd_model::{Move, Operation};
 use sd_script::Indices;
+use sd_vfile::Ids;
 
 /// A command of a run. Names are numbers; each name that a command uses has to be bound by an earlier one.
 #[derive(Drop)]
@@ -44,6 +45,17 @@ pub enum RunCommand {
     Write(Indices, Name),
     /// Writes the text of the vtree to a file.
     WriteVtree(Name),
+    /// Binds a name to the input's formula, whose groups are compiled in so many parts, each alone, and joined. `step`
+    /// does not do it: workers do.
+    InputByParts(u32, u32),
+    /// Chooses the start tree over which the input's formula has the least size, alone, with a search of at most so many
+    /// rounds where they are there, and prints it. `step` does not do it: workers do.
+    Choose(Option<u32>),
+    /// Binds a name to an output of the circuit, counted from 0.
+    Output(u32, u32),
+    /// Prints whether each node of an SDD file fits a vtree, or the first that does not; the ids are those of the file of
+    /// the vtree.
+    Check(SddFile, Ids),
 }
 
 /// A command with the number of its line, counted from 1, or 0 where it stands in no line.

@@ -10,7 +10,7 @@ ghost use Rattle.std.specs.FinMap.{remove};
 ghost use Rattle.sd_model.specs.Tree.{leaves};
 ghost use Rattle.sd_vtree.specs.Numbered.{plain_tree};
 ghost use Rattle.sd_commands.specs.Commands.{State, is_due};
-ghost use Rattle.sd_commands.specs.Standing.{Represents, StopsAt, IsLeftByGroups, root_count};
+ghost use Rattle.sd_commands.specs.Standing.{Represents, StopsAt, IsLeftByGroups, AreForgotten, root_count};
 ghost use Rattle.sd_commands.specs.Growing.{IsGrowing, IsAdded, IsBrokenOff, HasGrown, IsSameBeside};
 ghost use Rattle.sd_commands.specs.declared.command.RunCommand.TheVariants.{Input};
 
@@ -36,6 +36,7 @@ pub(crate) fn grow(
     requires variables { leaves (plain_tree state.old.manager.vtree) ≡ input.now.variables }
     requires room { root_count state.old < 2 ^ 32 - 1 }
     requires every { state.old.every ≡ Some every }
+    requires forgotten { AreForgotten state.old.shared }
     ensures ok { (seen : State) → Represents state.old seen →
         IfOk result (λ root. HasGrown input.now seen state.new root) }
     ensures stops { (seen : State) → Represents state.old seen → (name : ℕ) →

@@ -6,9 +6,11 @@
 #![tactic(auto)]
 
 mod bind;
+mod checking;
 mod command;
 mod effects;
 mod error;
+mod gates;
 mod growth;
 mod moving;
 mod searching;

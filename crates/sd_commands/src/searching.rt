@@ -4,7 +4,7 @@ ghost use Rattle.sd_model.specs.Tree.{leaves};
 ghost use Rattle.sd_vtree.specs.Numbered.{plain_tree};
 ghost use Rattle.sd_formula.specs.Dimacs.{Groups};
 ghost use Rattle.sd_commands.specs.Commands.{State, search_line};
-ghost use Rattle.sd_commands.specs.Standing.{Represents, StepsTo, StopsAt, IsLeftBySearch, root_count};
+ghost use Rattle.sd_commands.specs.Standing.{Represents, StepsTo, StopsAt, IsLeftBySearch, AreForgotten, root_count};
 
 use crate::command::{Effect, RunCommand};
 use crate::error::{CommandError, search_error};
@@ -23,6 +23,7 @@ pub(crate) fn search(
     rounds: u32,
 ) -> Result<Option<Effect>, CommandError>
     requires represents { (seen : State) × Represents state.old seen }
+    requires forgotten { AreForgotten state.old.shared }
     ensures done { (input : Groups) (seen : State) → Represents state.old seen →
         IfOk result (λ effect. StepsTo input seen (RunCommand.Minimise rounds) state.new effect) }
     ensures stops { (input : Groups) (seen : State) → Represents state.old seen →
@@ -44,7 +45,13 @@ pub(crate) fn search(
     }
 }
 
-fn search_text(alloc: Global, before: u32, after: u32, rounds: u32) -> Result<Bytes, AllocError>
+// The line of a search.
+pub(crate) fn search_text(
+    alloc: Global,
+    before: u32,
+    after: u32,
+    rounds: u32,
+) -> Result<Bytes, AllocError>
     ensures { IfOk result (λ text. text ≡ search_line before after rounds) }
 {
     let mut text = b"minimise ".to_vec(alloc)?;

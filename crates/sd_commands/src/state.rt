@@ -1,30 +1,38 @@
 //! What a run holds between two commands.
 ghost use Rattle.std.specs.Prelude.{◌≡◌, ℕ, [], ◌∷◌, ◌<◌, ◌≤◌, ◌+◌, ◌-◌, ◌^◌, Some, None, IfSome, IfOk, IfErr};
-ghost use Rattle.std.specs.Prelude.{OnOk, OnErr};
+ghost use Rattle.std.specs.Prelude.{OnOk, OnErr, length};
 ghost use Rattle.std.specs.List.{AllByRecursion, AllZip};
 ghost use Rattle.std.specs.Option.{IsSome};
 ghost use Rattle.std.specs.FinMap.{get};
 ghost use Rattle.std.specs.BTreeMap as maps;
 ghost use Rattle.std.specs.Ordering.{nat_cmp};
-ghost use Rattle.sd_model.specs.Expression.{Expression};
+ghost use Rattle.sd_model.specs.Expression.{Expression, OutputOf};
 ghost use Rattle.sd_model.specs.Size.{HasSize};
+ghost use Rattle.sd_formula.specs.Dimacs.{Groups};
+ghost use Rattle.sd_formula.specs.Formulas.{expression_of};
 ghost use Rattle.sd_vtree.specs.Numbered.{plain_tree};
+ghost use Rattle.sd_manager.specs.Making.{KeepsRule};
+ghost use Rattle.sd_starts.specs.Starts.{IsReady, HoldsAlone};
 ghost use Rattle.sd_commands.specs.Commands.{State, with_name, dropped, formula_named, formulas_of, AreWithin};
 ghost use Rattle.sd_commands.specs.Standing.{Represents, HoldsValue, ShowsFormula, ShowsNamed, HasRoot, IsFree};
 ghost use Rattle.sd_commands.specs.Standing.{start, root_count, removed, without, IsAsBefore, IsNotSettled};
+ghost use Rattle.sd_commands.specs.Standing.{AreForgotten, AreInputs, lines_of};
 
 use crate::error::{CommandError, holding_error};
+use crate::gates::SharedCircuit;
 use sd_cache::Cache;
+use sd_circuit::Circuit;
 use sd_compile::laws::{total_is_of_formulas, total_of_formulas};
 use sd_compile::{LEAST_GARBAGE, hold_within, sweep_past, total_over};
 use sd_manager::{Manager, NodeId, Root};
+use sd_runs::TakeError;
 use sd_sweep::size_of;
 use sd_vtree::Vtree;
 use std::alloc::{AllocError, Global};
 use std::collections::BTreeMap;
 
 /// The most elements that the arena of the diagrams may hold.
-const BOUND: u32 = 2_147_483_647;
+pub(crate) const BOUND: u32 = 2_147_483_647;
 
 /// What a run holds between two commands: the diagrams of its names, and what the words and scripts set.
 #[derive(Drop)]
@@ -42,19 +50,23 @@ pub struct RunState {
     pub(crate) every: Option<u32>,
     // a sweep pays where more elements than this are in use
     pub(crate) most: u32,
+    // the circuit, and the nodes of its gates that serve the manager
+    pub(crate) shared: SharedCircuit,
 }
 
 impl RunState {
-    /// No name is bound. The only error: out of memory.
+    /// No name is bound. The inputs of the circuit, if there is one, are the variables. The only error: out of memory.
     pub fn new(
         alloc: Global,
         vtree: Vtree,
         limit: u32,
         slack: u32,
         every: Option<u32>,
+        circuit: Option<Circuit>,
     ) -> Result<RunState, AllocError>
-        ensures represents { IfOk result (λ state.
-            Represents state (start (plain_tree vtree) limit slack every)) }
+        requires inputs { AreInputs (lines_of circuit) (plain_tree vtree) }
+        ensures represents { IfOk result (λ state. Represents state
+            (record (start (plain_tree vtree) limit slack every) { circuit = lines_of circuit })) }
         ensures vtree { IfOk result (λ state. state.manager.vtree ≡ vtree) }
         ensures roots { IfOk result (λ state. root_count state ≡ 0) }
     {
@@ -68,7 +80,55 @@ impl RunState {
             slack,
             every,
             most: LEAST_GARBAGE,
+            shared: SharedCircuit::new(alloc, circuit),
         })
+    }
+
+    /// The name 0 is bound to a formula that a manager holds at this root, and that holds nothing else. There is no
+    /// circuit. The only error: out of memory.
+    pub fn of_root(
+        alloc: Global,
+        manager: Manager,
+        cache: Cache,
+        root: Root,
+        limit: u32,
+        slack: u32,
+    ) -> Result<RunState, AllocError>
+        requires ready { IsReady manager cache }
+        requires holds { (f : Groups) × HoldsAlone manager f root }
+        ensures represents { (f : Groups) → HoldsAlone manager f root → IfOk result (λ state. Represents state
+            (with_name (start (plain_tree manager.vtree) limit slack None) 0 (expression_of f))) }
+        ensures vtree { IfOk result (λ state. state.manager.vtree ≡ manager.vtree) }
+        ensures roots { IfOk result (λ state. root_count state ≤ 1) }
+    {
+        let mut names = BTreeMap::new(alloc);
+        match names.insert(0, root) {
+            Ok(_) => Ok(RunState {
+                manager,
+                cache,
+                names,
+                limit,
+                slack,
+                every: None,
+                most: LEAST_GARBAGE,
+                shared: SharedCircuit::new(alloc, None),
+            }),
+            Err(_) => Err(AllocError),
+        }
+    }
+
+    /// The limit of the total size.
+    pub fn limit(&self) -> u32
+        ensures { result ≡ self.now.limit }
+    {
+        self.limit
+    }
+
+    /// How far a walk of a search may let the size grow, in percent.
+    pub fn slack(&self) -> u32
+        ensures { result ≡ self.now.slack }
+    {
+        self.slack
     }
 
     /// The root of a bound name.
@@ -141,13 +201,40 @@ impl RunState {
         ensures vtree { self.new.manager.vtree ≡ self.old.manager.vtree }
         ensures roots { root_count self.new ≤ root_count self.old + 1 }
     {
+        match self.bind_unswept(name, node) {
+            Ok(()) => {
+                self.sweep(0);
+                Ok(())
+            }
+            Err(error) => Err(error),
+        }
+    }
+
+    /// The same without a sweep.
+    pub(crate) fn bind_unswept(&mut self, name: u32, node: NodeId) -> Result<(), CommandError>
+        requires represents { (seen : State) × Represents self.old seen }
+        requires shown { (f : Expression) × ShowsFormula self.old.manager node f }
+        requires free { IsFree self.old name }
+        requires room { root_count self.old < 2 ^ 32 - 1 }
+        ensures represents { OnOk result ((seen : State) (f : Expression) → Represents self.old seen
+            → ShowsFormula self.old.manager node f → Represents self.new (with_name seen name f)) }
+        ensures within { OnOk result ((seen : State) (f : Expression) → Represents self.old seen →
+            ShowsFormula self.old.manager node f
+            → AreWithin (formulas_of (with_name seen name f)) seen.tree seen.limit) }
+        ensures refused { (seen : State) (f : Expression) → Represents self.old seen →
+            ShowsFormula self.old.manager node f →
+            IfErr result (λ e. IsNotSettled (with_name seen name f) e) }
+        ensures err { OnErr result (IsAsBefore self.old self.new) }
+        ensures vtree { self.new.manager.vtree ≡ self.old.manager.vtree }
+        ensures roots { root_count self.new ≤ root_count self.old + 1 }
+    {
         total_of_formulas(&self.manager);
         let limit = self.limit;
         let root = match hold_within(&mut self.manager, node, limit) {
             Ok(root) => root,
             Err(error) => return Err(holding_error(error, limit)),
         };
-        match self.name_root(name, root, 0) {
+        match self.insert_root(name, root) {
             Ok(()) => Ok(()),
             Err(_) => Err(CommandError::OutOfMemory),
         }
@@ -167,11 +254,29 @@ impl RunState {
         ensures vtree { self.new.manager.vtree ≡ self.old.manager.vtree }
         ensures roots { root_count self.new ≤ root_count self.old }
     {
-        match self.names.insert(name, root) {
-            Ok(_) => {
+        match self.insert_root(name, root) {
+            Ok(()) => {
                 self.sweep(room);
                 Ok(())
             }
+            Err(error) => Err(error),
+        }
+    }
+
+    // The same without a sweep.
+    fn insert_root(&mut self, name: u32, root: Root) -> Result<(), AllocError>
+        requires represents { (seen : State) × Represents (without self.old root) seen }
+        requires holds { (f : Expression) × HoldsValue self.old.manager root f }
+        requires free { IsFree self.old name }
+        ensures represents { OnOk result ((seen : State) (f : Expression) →
+            Represents (without self.old root) seen → HoldsValue self.old.manager root f
+            → Represents self.new (with_name seen name f)) }
+        ensures err { OnErr result (IsAsBefore (without self.old root) self.new) }
+        ensures vtree { self.new.manager.vtree ≡ self.old.manager.vtree }
+        ensures roots { root_count self.new ≤ root_count self.old }
+    {
+        match self.names.insert(name, root) {
+            Ok(_) => Ok(()),
             Err(refused) => {
                 let (_, root) = refused.value;
                 self.manager.release(root);
@@ -189,6 +294,8 @@ impl RunState {
         ensures roots { root_count self.new ≡ root_count self.old }
     {
         self.most = self.most.max(room);
+        // its range tells that no epoch is behind the last one
+        let _ = self.manager.epoch();
         sweep_past(
             &mut self.manager,
             &self.cache,
@@ -196,6 +303,34 @@ impl RunState {
             false,
             self.limit,
         );
+    }
+
+    /// The node of an output of the circuit, counted from 0. All else is as before, also where it is refused. Garbage is
+    /// taken away where there is enough of it, but for the nodes of gates that this output and later ones use.
+    pub(crate) fn output(&mut self, alloc: Global, index: u32) -> Result<NodeId, TakeError>
+        requires represents { (seen : State) × Represents self.old seen }
+        requires index { index < length self.old.shared.circuit.text.outputs }
+        requires room { root_count self.old < 2 ^ 31 }
+        ensures ok { (seen : State) → Represents self.old seen → IfOk result
+            (λ node. ShowsFormula self.new.manager node (OutputOf seen.circuit index)) }
+        ensures rule { IfErr result (λ e. KeepsRule self.new.manager e) }
+        ensures kept { IsAsBefore self.old self.new }
+        ensures names { self.new.names ≡ self.old.names }
+        ensures bound { self.new.manager.bound ≡ self.old.manager.bound }
+        ensures vtree { self.new.manager.vtree ≡ self.old.manager.vtree }
+    {
+        self.shared
+            .node(alloc, &mut self.manager, &mut self.cache, index)
+    }
+
+    /// Forgets the nodes of the circuit's gates: before a change of the manager after which they may be wrong.
+    pub(crate) fn forget_gates(&mut self)
+        ensures represents { (seen : State) → Represents self.old seen → Represents self.new seen }
+        ensures kept { IsAsBefore self.old self.new }
+        ensures forgotten { AreForgotten self.new.shared }
+        ensures rest { self.new ≡ record self.old { shared = self.new.shared } }
+    {
+        self.shared.forget();
     }
 
     /// Sets the limit, if the total size is within it. Else nothing is changed.

@@ -1,5 +1,5 @@
 //! What each command does.
-ghost use Rattle.std.specs.Prelude.{◌≡◌, ◌<◌, ◌≤◌, ◌+◌, ◌-◌, ◌^◌, IfOk, IfErr, OnErr};
+ghost use Rattle.std.specs.Prelude.{◌≡◌, ◌<◌, ◌≤◌, ◌+◌, ◌^◌, length, IfOk, IfErr, OnErr};
 ghost use Rattle.sd_model.specs.Tree.{leaves};
 ghost use Rattle.sd_vtree.specs.Numbered.{plain_tree};
 ghost use Rattle.sd_commands.specs.Commands.{State};
@@ -9,8 +9,9 @@ ghost use Rattle.sd_commands.specs.Standing.{names_of, root_count};
 
 use crate::bind::{
     bind_combination, bind_condition, bind_constant, bind_file, bind_forgotten, bind_input,
-    bind_literal, bind_negation, set_limit,
+    bind_literal, bind_negation, bind_output, set_limit,
 };
+use crate::checking::print_verdict;
 use crate::command::{Effect, RunCommand};
 use crate::effects::{
     print_generated, print_same, print_size, print_value, write_diagrams, write_vtree_text,
@@ -27,6 +28,7 @@ use std::alloc::{AllocError, Global};
 /// a group of the input; ArenaFull where the elements of a node find no room in the arena; and OutOfMemory where memory
 /// runs out. Then the names, the tree, the limit and what each root holds are as before; but a search leaves the vtree
 /// after the walks that were finished, where each root holds what it held, and so do those behind groups of the input.
+/// What workers do, an input by parts or a choice, is no command of it.
 pub fn step(
     alloc: Global,
     input: &Formula,
@@ -34,9 +36,9 @@ pub fn step(
     command: &RunCommand,
 ) -> Result<Option<Effect>, CommandError>
     requires represents { (seen : State) × Represents state.old seen
-        × Fits input.now.variables (names_of seen) command.now }
+        × Fits input.now.variables (length seen.circuit.outputs) (names_of seen) command.now }
     requires variables { leaves (plain_tree state.old.manager.vtree) ≡ input.now.variables }
-    requires room { root_count state.old < 2 ^ 32 - 1 }
+    requires room { root_count state.old < 2 ^ 31 }
     ensures done { (seen : State) → Represents state.old seen →
         IfOk result
         (λ effect. StepsTo input.now seen command.now state.new effect) }
@@ -51,7 +53,10 @@ pub fn step(
         RunCommand::Generated(variables, groups) => or_out_of_memory(print_generated(
             alloc, *variables, *groups,
         )),
-        RunCommand::Input(name) => bind_input(alloc, input, state, *name),
+        RunCommand::Input(name) => {
+            state.forget_gates();
+            bind_input(alloc, input, state, *name)
+        }
         RunCommand::Load(name, file) => bind_file(alloc, state, *name, file),
         RunCommand::Literal(name, literal) => bind_literal(state, *name, *literal),
         RunCommand::Constant(name, value) => bind_constant(state, *name, *value),
@@ -65,8 +70,14 @@ pub fn step(
             state.free(*name);
             Ok(None)
         }
-        RunCommand::Turn(kind, position) => turn_at(alloc, state, *kind, *position),
-        RunCommand::Minimise(rounds) => search(alloc, state, *rounds),
+        RunCommand::Turn(kind, position) => {
+            state.forget_gates();
+            turn_at(alloc, state, *kind, *position)
+        }
+        RunCommand::Minimise(rounds) => {
+            state.forget_gates();
+            search(alloc, state, *rounds)
+        }
         RunCommand::Limit(limit) => set_limit(state, *limit),
         RunCommand::Same(a, b) => or_out_of_memory(print_same(alloc, state, *a, *b)),
         RunCommand::Size(name) => or_out_of_memory(print_size(alloc, state, *name)),
@@ -78,6 +89,11 @@ pub fn step(
             file,
         )),
         RunCommand::WriteVtree(file) => or_out_of_memory(write_vtree_text(alloc, state, file)),
+        RunCommand::Output(name, index) => bind_output(alloc, state, *name, *index),
+        RunCommand::Check(file, ids) => print_verdict(alloc, state, file, ids),
+        // no command that workers do fits
+        RunCommand::InputByParts(_, _) => unreachable!(),
+        RunCommand::Choose(_) => unreachable!(),
     }
 }
 

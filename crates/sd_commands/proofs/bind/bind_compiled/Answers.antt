@@ -12,7 +12,7 @@ pub name_root-requires-clause-represents : goal.name_root-requires-clause-repres
 name_root-requires-clause-represents c = (
   c.requires.represents.0,
   stands_compiled c.args.state.now _ _ c.in-Ok.root _ c.requires.represents.1 c.in-Ok.ensures.absent
-      c.in-Ok.ensures.kept c.in-Ok.ensures.serves c.in-Ok.ensures.unmarked,
+      c.in-Ok.ensures.kept c.in-Ok.ensures.serves c.in-Ok.ensures.unmarked c.requires.forgotten,
 )
 
 pub name_root-requires-clause-holds : goal.name_root-requires-clause-holds
@@ -35,7 +35,7 @@ returns-in-Ok-name_root-clause-done c = λ seen was.
       represents =
           c.in-Ok-name_root.ensures.represents seen f
           (stands_compiled c.args.state.now _ _ c.in-Ok.root seen was c.in-Ok.ensures.absent c.in-Ok.ensures.kept
-          c.in-Ok.ensures.serves c.in-Ok.ensures.unmarked)
+          c.in-Ok.ensures.serves c.in-Ok.ensures.unmarked c.requires.forgotten)
           (holds_compiled c.compile.new.m c.in-Ok.root f c.in-Ok.ensures.ok);
     }
 
@@ -50,10 +50,11 @@ returns-in-Err-clause-stops c = λ seen was.
 pub returns-in-Err-clause-err : goal.returns-in-Err-clause-err
 returns-in-Err-clause-err c =
     as_before_kept c.args.state.now _ _ c.in-Err.ensures.all_kept c.in-Err.ensures.serves c.in-Err.ensures.unmarked
+    (c.requires.forgotten _)
 
 pub returns-in-Err-name_root-clause-err : goal.returns-in-Err-name_root-clause-err
 returns-in-Err-name_root-clause-err c =
     before_both c.args.state.now _ _
     (as_before_compiled c.args.state.now _ _ c.in-Ok.root c.in-Ok.ensures.absent c.in-Ok.ensures.kept
-    c.in-Ok.ensures.serves c.in-Ok.ensures.unmarked)
+    c.in-Ok.ensures.serves c.in-Ok.ensures.unmarked c.requires.forgotten)
     c.in-Err-name_root.ensures.err

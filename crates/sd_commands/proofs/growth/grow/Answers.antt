@@ -20,21 +20,21 @@ pub grow_all-requires-clause-growing : goal.grow_all-requires-clause-growing
 grow_all-requires-clause-growing c = (
   c.requires.represents.0,
   growing_first c.args.input.now c.requires.represents.0 c.args.state.now c.begin.new.m c.in-Ok.work
-      c.requires.represents.1 c.in-Ok.ensures.ok,
+      c.requires.represents.1 c.requires.forgotten c.in-Ok.ensures.ok,
 )
 
 pub returns-in-Ok-grow_all-clause-ok : goal.returns-in-Ok-grow_all-clause-ok
 returns-in-Ok-grow_all-clause-ok c = λ seen was.
     grown_all c.args.input.now seen c.grow_all.new.state c.grow_all.new.work _
     (c.in-Ok-grow_all.ensures.ok seen
-    (growing_first c.args.input.now seen c.args.state.now c.begin.new.m c.in-Ok.work was c.in-Ok.ensures.ok))
+    (growing_first c.args.input.now seen c.args.state.now c.begin.new.m c.in-Ok.work was c.requires.forgotten c.in-Ok.ensures.ok))
     c.in-Ok-grow_all.ensures.all c.finish.ensures
 
 pub returns-in-Ok-grow_all-clause-others : goal.returns-in-Ok-grow_all-clause-others
 returns-in-Ok-grow_all-clause-others c =
     ap (λ r. remove c.grow_all.new.state.manager.roots r) (c.finish.ensures ∙ c.in-Ok-grow_all.ensures.root)
     ∙ roots_again c.args.input.now c.args.state.now c.begin.new.m c.in-Ok.work c.in-Ok.ensures.ok
-    c.grow_all.new.state c.in-Ok-grow_all.ensures.beside
+    c.requires.forgotten c.grow_all.new.state c.in-Ok-grow_all.ensures.beside
 
 pub returns-in-Ok-grow_all-clause-rest : goal.returns-in-Ok-grow_all-clause-rest
 returns-in-Ok-grow_all-clause-rest c = c.in-Ok-grow_all.ensures.beside.rest
@@ -42,7 +42,7 @@ returns-in-Ok-grow_all-clause-rest c = c.in-Ok-grow_all.ensures.beside.rest
 pub returns-in-Ok-grow_all-clause-roots : goal.returns-in-Ok-grow_all-clause-roots
 returns-in-Ok-grow_all-clause-roots c =
     one_grown c.args.input.now c.args.state.now c.begin.new.m c.in-Ok.work c.in-Ok.ensures.ok
-    c.grow_all.new.state c.in-Ok-grow_all.ensures.beside
+    c.requires.forgotten c.grow_all.new.state c.in-Ok-grow_all.ensures.beside
 
 pub returns-in-Ok-grow_all-clause-variables : goal.returns-in-Ok-grow_all-clause-variables
 returns-in-Ok-grow_all-clause-variables c =
@@ -52,7 +52,7 @@ pub returns-in-Err-grow_all-clause-err : goal.returns-in-Err-grow_all-clause-err
 returns-in-Err-grow_all-clause-err c =
     let same = c.finish-in-Err-grow_all.ensures ∙ c.in-Err-grow_all.ensures.root in
     left_released c.args.input.now c.args.state.now c.begin.new.m c.in-Ok.work c.in-Ok.ensures.ok
-    c.grow_all.new.state c.in-Err-grow_all.ensures.beside c.release.new.self
+    c.requires.forgotten c.grow_all.new.state c.in-Err-grow_all.ensures.beside c.release.new.self
     (c.release.ensures.released ∙ ap (without_root c.grow_all.new.state.manager) same)
     (λ seen was.
     subst (IsBrokenOff c.args.input.now seen c.grow_all.new.state) c.in-Err-grow_all.ensures.root
@@ -63,12 +63,12 @@ returns-in-Err-grow_all-clause-stops c = λ seen was name.
     stops_released c.args.input.now seen name c.grow_all.new.state.manager c.release.new.self _ c.in-Err-grow_all.error
     c.release.ensures.released
     (c.in-Err-grow_all.ensures.stops seen
-    (growing_first c.args.input.now seen c.args.state.now c.begin.new.m c.in-Ok.work was c.in-Ok.ensures.ok) name)
+    (growing_first c.args.input.now seen c.args.state.now c.begin.new.m c.in-Ok.work was c.requires.forgotten c.in-Ok.ensures.ok) name)
 
 pub returns-in-Err-grow_all-clause-roots : goal.returns-in-Err-grow_all-clause-roots
 returns-in-Err-grow_all-clause-roots c =
     none_grown c.args.input.now c.args.state.now c.begin.new.m c.in-Ok.work c.in-Ok.ensures.ok
-    c.grow_all.new.state c.in-Err-grow_all.ensures.beside c.release.new.self
+    c.requires.forgotten c.grow_all.new.state c.in-Err-grow_all.ensures.beside c.release.new.self
     (c.release.ensures.released
     ∙ ap (without_root c.grow_all.new.state.manager)
     (c.finish-in-Err-grow_all.ensures ∙ c.in-Err-grow_all.ensures.root))
@@ -87,14 +87,14 @@ pub release-requires-clause-no_move : goal.release-requires-clause-no_move
 release-requires-clause-no_move c =
     (c.in-Err-grow_all.ensures.broken c.requires.represents.0
     (growing_first c.args.input.now c.requires.represents.0 c.args.state.now c.begin.new.m c.in-Ok.work
-    c.requires.represents.1 c.in-Ok.ensures.ok)).represents.no_move
+    c.requires.represents.1 c.requires.forgotten c.in-Ok.ensures.ok)).represents.no_move
 
 pub release-requires-clause-root : goal.release-requires-clause-root
 release-requires-clause-root c =
     subst (λ r. IsSome (get c.grow_all.new.state.manager.roots r)) (sym c.finish-in-Err-grow_all.ensures)
     (c.in-Err-grow_all.ensures.broken c.requires.represents.0
     (growing_first c.args.input.now c.requires.represents.0 c.args.state.now c.begin.new.m c.in-Ok.work
-    c.requires.represents.1 c.in-Ok.ensures.ok)).held
+    c.requires.represents.1 c.requires.forgotten c.in-Ok.ensures.ok)).held
 
 pub returns-in-Err-grow_all-clause-rest : goal.returns-in-Err-grow_all-clause-rest
 returns-in-Err-grow_all-clause-rest c =

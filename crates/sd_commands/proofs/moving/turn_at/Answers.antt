@@ -34,7 +34,8 @@ returns-in-Ok-clause-done c = λ input seen was.
     turn_done input code seen c.args.kind c.args.position c.in-Some.place was law c.turn.new.m _ c.in-Ok.moved.size
     c.vtree.ensures.table.numbered moved.vtree c.in-Ok.ensures.size c.in-Ok.ensures.within
     (stands_moved code c.turn.new.m c.settle.new.m c.args.kind c.in-Some.place c.in-Ok.moved.journal
-    c.vtree.ensures.table c.in-Ok.ensures.table moved c.settle.ensures.settled count c.turn.new.c seen
+    c.vtree.ensures.table c.in-Ok.ensures.table moved c.settle.ensures.settled count c.requires.forgotten c.turn.new.c
+    seen
     c.in-Ok.ensures.serves c.in-Ok.ensures.unmarked was)
 
 pub returns-in-Ok-clause-variables : goal.returns-in-Ok-clause-variables
@@ -64,3 +65,4 @@ pub returns-in-Err-clause-err : goal.returns-in-Err-clause-err
 returns-in-Err-clause-err c =
     as_before_refused c.args.state.now c.turn.new.m c.turn.new.c c.in-Err.ensures.back.0 c.in-Err.ensures.bound
     c.in-Err.ensures.back.1 c.requires.represents.1.no_move c.in-Err.ensures.serves c.in-Err.ensures.unmarked
+    c.requires.forgotten

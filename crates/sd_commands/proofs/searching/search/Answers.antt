@@ -9,7 +9,7 @@ returns-in-Err-clause-err c =
     let code = c.args.state.now in
     let numbered = c.total_of_formulas.ensures.table.numbered in
     left_by_search code c.minimise.new.m c.minimise.new.c numbered c.in-Err.ensures.kept c.in-Err.ensures.serves
-    c.in-Err.ensures.unmarked c.args.rounds
+    c.in-Err.ensures.unmarked c.requires.forgotten c.args.rounds
     (λ seen was. begun_of_names code seen c.args.rounds numbered was (plain_tree c.minimise.new.m.vtree)
     c.in-Err.ensures.begun)
 
@@ -26,7 +26,7 @@ returns-in-Ok-search_text-clause-done c = λ input seen was.
     search_done code seen c.args.rounds numbered was input _ found c.in-Ok-search_text.line c.in-Ok.ensures.search
     c.in-Ok-search_text.ensures
     (stands_searched code c.minimise.new.m c.minimise.new.c numbered c.in-Ok.ensures.kept c.in-Ok.ensures.serves
-    c.in-Ok.ensures.unmarked seen was)
+    c.in-Ok.ensures.unmarked c.requires.forgotten seen was)
 
 pub returns-in-Err-search_text-clause-err : goal.returns-in-Err-search_text-clause-err
 returns-in-Err-search_text-clause-err c =
@@ -39,5 +39,5 @@ returns-in-Err-search_text-clause-err c =
       rounds = c.in-Ok.found.rounds;
     } in
     left_by_search code c.minimise.new.m c.minimise.new.c numbered c.in-Ok.ensures.kept c.in-Ok.ensures.serves
-    c.in-Ok.ensures.unmarked c.args.rounds
+    c.in-Ok.ensures.unmarked c.requires.forgotten c.args.rounds
     (λ seen was. found_of_names code seen c.args.rounds numbered was found c.in-Ok.ensures.search)

@@ -7,110 +7,149 @@ use Rattle.sd_commands.specs.Fits.{uses, binds}
 use Rattle.sd_commands.specs.Standing.{StepsTo, StopsAt, IsAsBefore, IsLeft, HasRoot}
 use Rattle.sd_commands.specs.declared.command.RunCommand.TheVariants.{Literal, Given, Write}
 use Rattle.sd_commands.proofs.Stepping.{first_used, second_used, all_used, some_named, binds_free, handed_steps}
-use Rattle.sd_commands.proofs.Standing.{as_before_self}
+use Rattle.sd_commands.specs.declared.state.RunState.{RunState}
+use Rattle.sd_commands.proofs.Stepping.{output_there}
+use Rattle.sd_commands.proofs.Standing.{as_before_self, before_then, input_forgotten, search_forgotten}
 use Rattle.sd_commands.proofs.steps.step.Goals as goal
 
 -- ---- the names that a command uses have roots
 
 pub bind_combination-requires-clause-first : goal.bind_combination-requires-clause-first
 bind_combination-requires-clause-first c =
-    first_used c.args.state.now c.requires.represents.0 _ _ _ _ c.requires.represents.1 c.requires.represents.2
+    first_used c.args.state.now c.requires.represents.0 _ _ _ _ _ c.requires.represents.1 c.requires.represents.2
     (ap uses c.in-Combine.is)
 
 pub bind_combination-requires-clause-second : goal.bind_combination-requires-clause-second
 bind_combination-requires-clause-second c =
-    second_used c.args.state.now c.requires.represents.0 _ _ _ _ _ c.requires.represents.1 c.requires.represents.2
+    second_used c.args.state.now c.requires.represents.0 _ _ _ _ _ _ c.requires.represents.1 c.requires.represents.2
     (ap uses c.in-Combine.is)
 
 pub bind_negation-requires-clause-bound : goal.bind_negation-requires-clause-bound
 bind_negation-requires-clause-bound c =
-    first_used c.args.state.now c.requires.represents.0 _ _ _ _ c.requires.represents.1 c.requires.represents.2
+    first_used c.args.state.now c.requires.represents.0 _ _ _ _ _ c.requires.represents.1 c.requires.represents.2
     (ap uses c.in-Negate.is)
 
 pub bind_condition-requires-clause-bound : goal.bind_condition-requires-clause-bound
 bind_condition-requires-clause-bound c =
-    first_used c.args.state.now c.requires.represents.0 _ _ _ _ c.requires.represents.1 c.requires.represents.2
+    first_used c.args.state.now c.requires.represents.0 _ _ _ _ _ c.requires.represents.1 c.requires.represents.2
     (ap uses c.in-Given.is)
 
 pub bind_forgotten-requires-clause-bound : goal.bind_forgotten-requires-clause-bound
 bind_forgotten-requires-clause-bound c =
-    first_used c.args.state.now c.requires.represents.0 _ _ _ _ c.requires.represents.1 c.requires.represents.2
+    first_used c.args.state.now c.requires.represents.0 _ _ _ _ _ c.requires.represents.1 c.requires.represents.2
     (ap uses c.in-Forget.is)
 
 pub print_same-requires-clause-first : goal.print_same-requires-clause-first
 print_same-requires-clause-first c =
-    first_used c.args.state.now c.requires.represents.0 _ _ _ _ c.requires.represents.1 c.requires.represents.2
+    first_used c.args.state.now c.requires.represents.0 _ _ _ _ _ c.requires.represents.1 c.requires.represents.2
     (ap uses c.in-Same.is)
 
 pub print_same-requires-clause-second : goal.print_same-requires-clause-second
 print_same-requires-clause-second c =
-    second_used c.args.state.now c.requires.represents.0 _ _ _ _ _ c.requires.represents.1 c.requires.represents.2
+    second_used c.args.state.now c.requires.represents.0 _ _ _ _ _ _ c.requires.represents.1 c.requires.represents.2
     (ap uses c.in-Same.is)
 
 pub print_size-requires-clause-bound : goal.print_size-requires-clause-bound
 print_size-requires-clause-bound c =
-    first_used c.args.state.now c.requires.represents.0 _ _ _ _ c.requires.represents.1 c.requires.represents.2
+    first_used c.args.state.now c.requires.represents.0 _ _ _ _ _ c.requires.represents.1 c.requires.represents.2
     (ap uses c.in-Size.is)
 
 pub print_value-requires-clause-bound : goal.print_value-requires-clause-bound
 print_value-requires-clause-bound c =
-    first_used c.args.state.now c.requires.represents.0 _ _ _ _ c.requires.represents.1 c.requires.represents.2
+    first_used c.args.state.now c.requires.represents.0 _ _ _ _ _ c.requires.represents.1 c.requires.represents.2
     (ap uses c.in-Value.is)
 
 pub write_diagrams-requires-clause-bound : goal.write_diagrams-requires-clause-bound
 write_diagrams-requires-clause-bound c =
     subst (AllByRecursion (HasRoot c.args.state.now)) (sym c.as_slice.ensures)
-    (all_used c.args.state.now c.requires.represents.0 _ _ _ c.requires.represents.1 c.requires.represents.2
+    (all_used c.args.state.now c.requires.represents.0 _ _ _ _ c.requires.represents.1 c.requires.represents.2
     (ap uses c.in-Write.is))
 
 pub write_diagrams-requires-clause-some : goal.write_diagrams-requires-clause-some
 write_diagrams-requires-clause-some c =
     subst (λ names. 1 ≤ length names) (sym c.as_slice.ensures)
-    (some_named c.args.input.now.variables _ c.args.command.now _ _ c.requires.represents.2 c.in-Write.is)
+    (some_named c.args.input.now.variables _ _ c.args.command.now _ _ c.requires.represents.2 c.in-Write.is)
 
 -- ---- the name that a command binds is free
 
 pub bind_input-requires-clause-free : goal.bind_input-requires-clause-free
 bind_input-requires-clause-free c =
-    binds_free c.args.state.now c.requires.represents.0 _ _ _ c.requires.represents.1 c.requires.represents.2
+    binds_free c.forget_gates.new.self c.requires.represents.0 _ _ _ _
+    (c.forget_gates.ensures.represents c.requires.represents.0 c.requires.represents.1) c.requires.represents.2
     (ap binds c.in-Input.is)
 
 pub bind_file-requires-clause-free : goal.bind_file-requires-clause-free
 bind_file-requires-clause-free c =
-    binds_free c.args.state.now c.requires.represents.0 _ _ _ c.requires.represents.1 c.requires.represents.2
+    binds_free c.args.state.now c.requires.represents.0 _ _ _ _ c.requires.represents.1 c.requires.represents.2
     (ap binds c.in-Load.is)
 
 pub bind_literal-requires-clause-free : goal.bind_literal-requires-clause-free
 bind_literal-requires-clause-free c =
-    binds_free c.args.state.now c.requires.represents.0 _ _ _ c.requires.represents.1 c.requires.represents.2
+    binds_free c.args.state.now c.requires.represents.0 _ _ _ _ c.requires.represents.1 c.requires.represents.2
     (ap binds c.in-Literal.is)
 
 pub bind_constant-requires-clause-free : goal.bind_constant-requires-clause-free
 bind_constant-requires-clause-free c =
-    binds_free c.args.state.now c.requires.represents.0 _ _ _ c.requires.represents.1 c.requires.represents.2
+    binds_free c.args.state.now c.requires.represents.0 _ _ _ _ c.requires.represents.1 c.requires.represents.2
     (ap binds c.in-Constant.is)
 
 pub bind_combination-requires-clause-free : goal.bind_combination-requires-clause-free
 bind_combination-requires-clause-free c =
-    binds_free c.args.state.now c.requires.represents.0 _ _ _ c.requires.represents.1 c.requires.represents.2
+    binds_free c.args.state.now c.requires.represents.0 _ _ _ _ c.requires.represents.1 c.requires.represents.2
     (ap binds c.in-Combine.is)
 
 pub bind_negation-requires-clause-free : goal.bind_negation-requires-clause-free
 bind_negation-requires-clause-free c =
-    binds_free c.args.state.now c.requires.represents.0 _ _ _ c.requires.represents.1 c.requires.represents.2
+    binds_free c.args.state.now c.requires.represents.0 _ _ _ _ c.requires.represents.1 c.requires.represents.2
     (ap binds c.in-Negate.is)
 
 pub bind_condition-requires-clause-free : goal.bind_condition-requires-clause-free
 bind_condition-requires-clause-free c =
-    binds_free c.args.state.now c.requires.represents.0 _ _ _ c.requires.represents.1 c.requires.represents.2
+    binds_free c.args.state.now c.requires.represents.0 _ _ _ _ c.requires.represents.1 c.requires.represents.2
     (ap binds c.in-Given.is)
 
 pub bind_forgotten-requires-clause-free : goal.bind_forgotten-requires-clause-free
 bind_forgotten-requires-clause-free c =
-    binds_free c.args.state.now c.requires.represents.0 _ _ _ c.requires.represents.1 c.requires.represents.2
+    binds_free c.args.state.now c.requires.represents.0 _ _ _ _ c.requires.represents.1 c.requires.represents.2
     (ap binds c.in-Forget.is)
 
+pub bind_output-requires-clause-free : goal.bind_output-requires-clause-free
+bind_output-requires-clause-free c =
+    binds_free c.args.state.now c.requires.represents.0 _ _ _ _ c.requires.represents.1 c.requires.represents.2
+    (ap binds c.in-Output.is)
+
+-- ---- its numbers are in range
+
+pub bind_output-requires-clause-index : goal.bind_output-requires-clause-index
+bind_output-requires-clause-index c =
+    output_there c.args.state.now c.requires.represents.0 _ _ _ _ c.requires.represents.1 c.requires.represents.2
+    c.in-Output.is
+
 -- ---- what each command comes to
+
+pub returns-in-Input-clause-done : goal.returns-in-Input-clause-done
+returns-in-Input-clause-done c = λ seen was.
+    subst (λ command. IfOk c.bind_input.result
+    (λ effect. StepsTo c.args.input.now seen command c.bind_input.new.state effect)) (sym c.in-Input.is)
+    (c.bind_input.ensures.done seen (c.forget_gates.ensures.represents seen was))
+
+pub returns-in-Input-clause-stops : goal.returns-in-Input-clause-stops
+returns-in-Input-clause-stops c = λ seen was.
+    subst (λ command. IfErr c.bind_input.result
+    (λ e. StopsAt c.args.input.now seen command c.bind_input.new.state.manager e)) (sym c.in-Input.is)
+    (c.bind_input.ensures.stops seen (c.forget_gates.ensures.represents seen was))
+
+pub returns-in-Turn-clause-done : goal.returns-in-Turn-clause-done
+returns-in-Turn-clause-done c = λ seen was.
+    subst (λ command. IfOk c.turn_at.result
+    (λ effect. StepsTo c.args.input.now seen command c.turn_at.new.state effect)) (sym c.in-Turn.is)
+    (c.turn_at.ensures.done c.args.input.now seen (c.forget_gates-in-Turn.ensures.represents seen was))
+
+pub returns-in-Minimise-clause-done : goal.returns-in-Minimise-clause-done
+returns-in-Minimise-clause-done c = λ seen was.
+    subst (λ command. IfOk c.search.result
+    (λ effect. StepsTo c.args.input.now seen command c.search.new.state effect)) (sym c.in-Minimise.is)
+    (c.search.ensures.done c.args.input.now seen (c.forget_gates-in-Minimise.ensures.represents seen was))
 
 pub returns-in-Generated-clause-done : goal.returns-in-Generated-clause-done
 returns-in-Generated-clause-done c = λ seen was.
@@ -251,7 +290,7 @@ returns-in-Turn-clause-stops c = λ seen was.
     let input = c.args.input.now in
     let table = c.turn_at.new.state.manager in
     subst (λ command. IfErr c.turn_at.result (λ e. StopsAt input seen command table e)) (sym c.in-Turn.is)
-    (c.turn_at.ensures.stops input seen was)
+    (c.turn_at.ensures.stops input seen (c.forget_gates-in-Turn.ensures.represents seen was))
 
 pub returns-in-Limit-clause-stops : goal.returns-in-Limit-clause-stops
 returns-in-Limit-clause-stops c = λ seen was.
@@ -265,7 +304,21 @@ returns-in-Minimise-clause-stops c = λ seen was.
     let input = c.args.input.now in
     let table = c.search.new.state.manager in
     subst (λ command. IfErr c.search.result (λ e. StopsAt input seen command table e)) (sym c.in-Minimise.is)
-    (c.search.ensures.stops input seen was)
+    (c.search.ensures.stops input seen (c.forget_gates-in-Minimise.ensures.represents seen was))
+
+pub returns-in-Output-clause-stops : goal.returns-in-Output-clause-stops
+returns-in-Output-clause-stops c = λ seen was.
+    let input = c.args.input.now in
+    let table = c.bind_output.new.state.manager in
+    subst (λ command. IfErr c.bind_output.result (λ e. StopsAt input seen command table e)) (sym c.in-Output.is)
+    (c.bind_output.ensures.stops input seen was)
+
+pub returns-in-Check-clause-stops : goal.returns-in-Check-clause-stops
+returns-in-Check-clause-stops c = λ seen was.
+    let input = c.args.input.now in
+    let table = c.print_verdict.new.state.manager in
+    subst (λ command. IfErr c.print_verdict.result (λ e. StopsAt input seen command table e)) (sym c.in-Check.is)
+    (c.print_verdict.ensures.stops input seen was)
 
 -- ---- what it leaves
 
@@ -274,7 +327,9 @@ returns-in-Input-clause-err c =
     subst (λ command. OnErr c.bind_input.result
     (IsLeft c.args.input.now command c.args.state.now c.bind_input.new.state))
     (sym c.in-Input.is)
-    c.bind_input.ensures.err
+    (input_forgotten c.bind_input.result c.args.input.now c.args.state.now c.forget_gates.new.self
+    c.bind_input.new.state c.forget_gates.ensures.kept (ap (λ (s : RunState). s.every) c.forget_gates.ensures.rest)
+    c.bind_input.ensures.err)
 
 pub returns-in-Load-clause-err : goal.returns-in-Load-clause-err
 returns-in-Load-clause-err c =
@@ -328,13 +383,27 @@ pub returns-in-Turn-clause-err : goal.returns-in-Turn-clause-err
 returns-in-Turn-clause-err c =
     subst (λ command. OnErr c.turn_at.result
     (IsLeft c.args.input.now command c.args.state.now c.turn_at.new.state)) (sym c.in-Turn.is)
-    c.turn_at.ensures.err
+    (before_then c.turn_at.result c.args.state.now c.forget_gates-in-Turn.new.self c.turn_at.new.state
+    c.forget_gates-in-Turn.ensures.kept c.turn_at.ensures.err)
 
 pub returns-in-Minimise-clause-err : goal.returns-in-Minimise-clause-err
 returns-in-Minimise-clause-err c =
     subst (λ command. OnErr c.search.result
     (IsLeft c.args.input.now command c.args.state.now c.search.new.state)) (sym c.in-Minimise.is)
-    c.search.ensures.err
+    (search_forgotten c.search.result c.in-Minimise.rounds c.args.state.now c.forget_gates-in-Minimise.new.self
+    c.search.new.state c.forget_gates-in-Minimise.ensures.kept c.search.ensures.err)
+
+pub returns-in-Output-clause-err : goal.returns-in-Output-clause-err
+returns-in-Output-clause-err c =
+    subst (λ command. OnErr c.bind_output.result
+    (IsLeft c.args.input.now command c.args.state.now c.bind_output.new.state)) (sym c.in-Output.is)
+    c.bind_output.ensures.err
+
+pub returns-in-Check-clause-err : goal.returns-in-Check-clause-err
+returns-in-Check-clause-err c =
+    subst (λ command. OnErr c.print_verdict.result
+    (IsLeft c.args.input.now command c.args.state.now c.print_verdict.new.state)) (sym c.in-Check.is)
+    c.print_verdict.ensures.err
 
 pub returns-in-Limit-clause-err : goal.returns-in-Limit-clause-err
 returns-in-Limit-clause-err c =

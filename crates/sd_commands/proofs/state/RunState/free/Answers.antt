@@ -12,7 +12,7 @@ release_any-requires c = record {
 pub returns-clause-represents : goal.returns-clause-represents
 returns-clause-represents c = λ seen was.
     stands_released c.args.self.now _ seen c.args.name _ was c.remove-freed.ensures.value
-    c.release_any.ensures refl refl refl refl (λ q. c.remove-freed.ensures.updates.0 q)
+    c.release_any.ensures refl refl refl refl refl (λ q. c.remove-freed.ensures.updates.0 q)
 
 pub returns-clause-roots : goal.returns-clause-roots
 returns-clause-roots c = no_root_more c.args.self.now.manager _ _ c.release_any.ensures
