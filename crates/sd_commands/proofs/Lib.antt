@@ -1,4 +1,6 @@
 pub mod Begun
+pub mod ByChoice
+pub mod ByParts
 pub mod Choosing
 pub mod Growing
 pub mod Limits
@@ -7,6 +9,7 @@ pub mod MovedState
 pub mod Names
 pub mod Outcomes
 pub mod Searched
+pub mod SearchedLeaves
 pub mod Settling
 pub mod Standing
 pub mod Stepping

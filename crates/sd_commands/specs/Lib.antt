@@ -2,4 +2,5 @@ pub mod Commands
 pub mod Effects
 pub mod Fits
 pub mod Growing
+pub mod Opening
 pub mod Standing

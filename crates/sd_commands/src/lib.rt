@@ -3,6 +3,8 @@
 //!
 //! `step` does one of them in a `RunState`, and tests the limit. What a command does outside is handed out as a value
 //! (`Effect`), so that no code here knows of files and streams. What each comes to is `Step` in `specs/Commands.antt`.
+//!
+//! An input by parts and the choice of a start are done by workers: `input_by_parts` and `open_chosen`.
 #![tactic(auto)]
 
 mod bind;
@@ -13,11 +15,13 @@ mod error;
 mod gates;
 mod growth;
 mod moving;
+mod opening;
 mod searching;
 mod state;
 mod steps;
 
 pub use command::{Effect, NumberedCommand, RunCommand};
 pub use error::CommandError;
+pub use opening::{Opened, OpeningError, input_by_parts, open_chosen};
 pub use state::RunState;
 pub use steps::step;
