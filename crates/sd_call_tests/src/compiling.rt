@@ -8,7 +8,7 @@ use std::alloc::Global;
 use std::test::Fail;
 
 // The formula of a short text.
-fn formula(alloc: Global, kind: Kind, text: &str) -> Result<Formula, Fail> {
+pub(crate) fn formula(alloc: Global, kind: Kind, text: &str) -> Result<Formula, Fail> {
     let bytes = text.as_bytes();
     if bytes.len() > 1000 {
         return Ok(read_dimacs(alloc, b"", kind)?);

@@ -17,6 +17,8 @@ mod moves;
 #[cfg(test)]
 mod nodes;
 #[cfg(test)]
+mod opening;
+#[cfg(test)]
 mod plain;
 #[cfg(test)]
 mod plan;
