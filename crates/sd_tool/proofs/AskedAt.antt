@@ -1,13 +1,16 @@
 -- What a run asks of the shelf, status by status.
-use Rattle.std.proofs.Common.{◌≡◌, ◌⊎◌, ℕ, List, [], ◌∷◌, ◌++◌, map, Option, Some, None, Result, Ok, Err}
+use Rattle.std.proofs.Common.{◌≡◌, ◌⊎◌, ℕ, List, [], ◌∷◌, ◌++◌, length, map, Option, Some, None, Result, Ok, Err}
 use Rattle.std.proofs.Common.{inl, inr, refl, sym, ap, subst, ◌∙◌}
 use Rattle.std.proofs.lemmas.List.{append-nil, map-append}
+use Rattle.sd_aiger.specs.Reads.{aiger}
 use Rattle.sd_base.specs.Asked.{Request, ToRead, ToWrite}
 use Rattle.sd_base.specs.Files.{Files}
+use Rattle.sd_model.specs.Circuit.{Circuit}
 use Rattle.sd_model.specs.StartTrees.{balanced_tree, right_tree, left_tree}
 use Rattle.sd_model.specs.Tree.{Tree}
 use Rattle.sd_manager.specs.Table.{Table}
 use Rattle.sd_formula.specs.Dimacs.{Groups, dimacs}
+use Rattle.sd_formula.specs.Formulas.{no_groups}
 use Rattle.sd_formula.specs.Generated.{generated_formula}
 use Rattle.sd_formula.specs.declared.formula.Kind.TheVariants as kinds
 use Rattle.sd_vfile.specs.Reads.{vtree_file}
@@ -22,12 +25,14 @@ use Rattle.sd_words.specs.declared.jobs.InputWord.{InputWord}
 use Rattle.sd_words.specs.declared.jobs.InputWord.TheVariants as inputs
 use Rattle.sd_words.specs.declared.jobs.TreeWord.{TreeWord}
 use Rattle.sd_words.specs.declared.jobs.TreeWord.TheVariants as trees
+use Rattle.sd_commands.specs.Commands.{no_circuit}
 use Rattle.sd_commands.specs.Effects.{Effect, Write, Print}
 use Rattle.sd_commands.specs.declared.command.NumberedCommand.{NumberedCommand}
 use Rattle.sd_commands.specs.declared.command.RunCommand.{RunCommand}
 use Rattle.sd_commands.specs.declared.command.RunCommand.TheVariants as commands
 use Rattle.sd_tool.specs.inside.Asks.{ReadsBy, GoesTo, writings, begun}
-use Rattle.sd_tool.specs.Readings.{Point, Refuses, Reads, Stands}
+use Rattle.sd_tool.specs.Readings.{Point, Refuses, Reads, Stands, CheckedVtree, checked_vtree, or_refused, reads}
+use Rattle.sd_tool.specs.Readings.{with_check, with_checked, with_circuit}
 use Rattle.sd_tool.specs.inside.Plans.{point_of, plan_for}
 use Rattle.sd_tool.specs.inside.Readings.{Text}
 use Rattle.sd_tool.specs.Laws.{HasAsked}
@@ -39,7 +44,7 @@ use Rattle.sd_tool.specs.inside.Readings.{Input, with_job, with_input, with_form
 use Rattle.sd_tool.specs.Readings.{reading_of, with_input_word, with_tree_word, with_tree, with_commands}
 use Rattle.sd_tool.specs.inside.Readings.{with_vtree_text, with_vtree_reading, script_reading}
 use Rattle.sd_tool.specs.Readings.{with_lines, with_action, file_name}
-use Rattle.sd_tool.specs.inside.Readings.{in_line}
+use Rattle.sd_tool.specs.inside.Readings.{in_line, parsed}
 use Rattle.sd_tool.specs.inside.Readings.{with_script_text, with_script_reading, with_sdd, with_sdd_reading}
 use Rattle.sd_tool.proofs.ByStatus.{no_idle, unwritable_status}
 
@@ -72,6 +77,7 @@ accepted_sdd v file next (Some bytes) accepted = go (sdd_file v bytes)
 accepted_action : (v : ℕ) (s : Script) (next : RunCommand → Point) (action : Action)
     → ((command : RunCommand) → AreAccepted (next command)) → AreAccepted (with_action v s next action)
 accepted_action v s next (actions.Input n) accepted = accepted (commands.Input n)
+accepted_action v s next (actions.Output n index) accepted = accepted (commands.Output n index)
 accepted_action v s next (actions.Load n file) accepted = λ text.
     accepted_sdd v (file_name s file) (λ read. next (commands.Load n read)) text
     (λ read. accepted (commands.Load n read))
@@ -103,38 +109,38 @@ accepted_script : (v : ℕ) (s : Script) (begin : List NumberedCommand → Point
     → ((cs : List NumberedCommand) → AreAccepted (begin cs)) → AreAccepted (script_reading v begin s)
 accepted_script v s begin accepted = accepted_lines v s begin [] s.commands accepted
 
-accepted_script_text : (file : List ℕ) (v : ℕ) (begin : List NumberedCommand → Point) (text : Text)
-    → ((cs : List NumberedCommand) → AreAccepted (begin cs)) → AreAccepted (with_script_text file v begin text)
-accepted_script_text file v begin None accepted = λ e. cc
-accepted_script_text file v begin (Some bytes) accepted = go (script_of v bytes)
+accepted_script_text : (file : List ℕ) (v o : ℕ) (begin : List NumberedCommand → Point) (text : Text)
+    → ((cs : List NumberedCommand) → AreAccepted (begin cs)) → AreAccepted (with_script_text file v o begin text)
+accepted_script_text file v o begin None accepted = λ e. cc
+accepted_script_text file v o begin (Some bytes) accepted = go (script_of v o bytes)
   where
     go : (read : Result Script (List ℕ)) → AreAccepted (with_script_reading file v begin read)
     go (Ok s) = accepted_script v s begin accepted
     go (Err fault) = λ e. cc
 
-accepted_tree : (job : Job) (f : Groups) (tree : Tree) → AreAccepted (with_tree job f tree)
-accepted_tree job f tree = go job.script
+accepted_tree : (job : Job) (f : Groups) (circuit : Circuit) (tree : Tree) → AreAccepted (with_tree job f circuit tree)
+accepted_tree job f circuit tree = go job.script
   where
-    begin : List NumberedCommand → Point
-    begin cs = point_of (plan_for job f tree cs)
-
     go : (file : Option (List ℕ))
-        → AreAccepted (with_commands job f.variables (λ cs. point_of (plan_for job f tree cs)) file)
+        → AreAccepted (with_commands job f.variables (length circuit.outputs)
+        (λ cs. point_of (plan_for job f circuit tree cs)) file)
     go None = tt
     go (Some file) = λ text.
-        accepted_script_text file f.variables (λ cs. point_of (plan_for job f tree cs)) text (λ cs. tt)
+        accepted_script_text file f.variables (length circuit.outputs)
+        (λ cs. point_of (plan_for job f circuit tree cs)) text (λ cs. tt)
 
-accepted_tree_word : (job : Job) (f : Groups) (word : TreeWord) → AreAccepted (with_tree_word job f word)
-accepted_tree_word job f trees.Balanced = accepted_tree job f (balanced_tree f.variables)
-accepted_tree_word job f trees.Right = accepted_tree job f (right_tree f.variables)
-accepted_tree_word job f trees.Left = accepted_tree job f (left_tree f.variables)
-accepted_tree_word job f (trees.File file) = λ text. read text
+accepted_tree_word : (job : Job) (f : Groups) (circuit : Circuit) (word : TreeWord)
+    → AreAccepted (with_tree_word job f circuit word)
+accepted_tree_word job f circuit trees.Balanced = accepted_tree job f circuit (balanced_tree f.variables)
+accepted_tree_word job f circuit trees.Right = accepted_tree job f circuit (right_tree f.variables)
+accepted_tree_word job f circuit trees.Left = accepted_tree job f circuit (left_tree f.variables)
+accepted_tree_word job f circuit (trees.File file) = λ text. read text
   where
-    go : (read : Result Tree (List ℕ)) → AreAccepted (with_vtree_reading job f file read)
-    go (Ok tree) = accepted_tree job f tree
+    go : (read : Result Tree (List ℕ)) → AreAccepted (with_vtree_reading job f circuit file read)
+    go (Ok tree) = accepted_tree job f circuit tree
     go (Err fault) = λ e. cc
 
-    read : (text : Text) → AreAccepted (with_vtree_text job f file text)
+    read : (text : Text) → AreAccepted (with_vtree_text job f circuit file text)
     read None = λ e. cc
     read (Some bytes) = go (vtree_file f.variables bytes)
 
@@ -143,13 +149,63 @@ accepted_input job input None = λ e. cc
 accepted_input job input (Some bytes) = go (dimacs input.kind bytes)
   where
     go : (read : Result Groups (List ℕ)) → AreAccepted (with_formula_reading job input.file read)
-    go (Ok f) = accepted_tree_word job f job.tree
+    go (Ok f) = accepted_tree_word job f no_circuit job.tree
     go (Err fault) = λ e. cc
 
-accepted_input_word : (job : Job) (word : InputWord) → AreAccepted (with_input_word job word)
-accepted_input_word job (inputs.Cnf file) = λ text. accepted_input job (record { kind = kinds.Cnf; file = file }) text
-accepted_input_word job (inputs.Dnf file) = λ text. accepted_input job (record { kind = kinds.Dnf; file = file }) text
-accepted_input_word job (inputs.Generate count seed) = accepted_tree_word job (generated_formula count seed) job.tree
+accepted_circuit : (job : Job) (file : List ℕ) (text : Text)
+    → AreAccepted (parsed 2 aiger file (with_circuit job) text)
+accepted_circuit job file None = λ e. cc
+accepted_circuit job file (Some bytes) = go (aiger bytes)
+  where
+    go : (read : Result Circuit (List ℕ)) → AreAccepted (or_refused 2 file (with_circuit job) read)
+    go (Ok circuit) =
+        accepted_tree_word job (no_groups kinds.Cnf (length circuit.inputs)) circuit job.tree
+    go (Err fault) = λ e. cc
+
+accepted_check : (job : Job) (file tree : List ℕ) → AreAccepted (with_check job file (trees.File tree))
+accepted_check job file tree = λ text. read text
+  where
+    go : (read : Result CheckedVtree (List ℕ))
+        → AreAccepted (or_refused 2 tree (λ vtree. reads 2 (sdd_file vtree.variables) file (with_checked job vtree))
+        read)
+    go (Ok vtree) = λ text. accepted_sdd vtree.variables file (with_checked job vtree) text (λ read. tt)
+    go (Err fault) = λ e. cc
+
+    read : (text : Text)
+        → AreAccepted (parsed 2 checked_vtree tree (λ vtree. reads 2 (sdd_file vtree.variables) file
+        (with_checked job vtree)) text)
+    read None = λ e. cc
+    read (Some bytes) = go (checked_vtree bytes)
+
+-- words that are refused in spite of their reading are refused before any file
+none_of_word : (files : Option Files) (job : Job) (word : InputWord) (names : List (List ℕ)) (refusal : ℕ × List ℕ)
+    → ReadsBy files (with_input_word job word) names (Refuses refusal) → refusal.0 ≡ 1 → names ≡ []
+none_of_word files job (inputs.Cnf file) names refusal a e =
+    absurd (accepted_on files (with_input_word job (inputs.Cnf file)) names refusal
+    (λ text. accepted_input job (record { kind = kinds.Cnf; file = file }) text) a e)
+none_of_word files job (inputs.Dnf file) names refusal a e =
+    absurd (accepted_on files (with_input_word job (inputs.Dnf file)) names refusal
+    (λ text. accepted_input job (record { kind = kinds.Dnf; file = file }) text) a e)
+none_of_word files job (inputs.Generate count seed) names refusal a e =
+    absurd (accepted_on files (with_input_word job (inputs.Generate count seed)) names refusal
+    (accepted_tree_word job (generated_formula count seed) no_circuit job.tree) a e)
+none_of_word files job (inputs.Aag file) names refusal a e =
+    absurd (accepted_on files (with_input_word job (inputs.Aag file)) names refusal
+    (λ text. accepted_circuit job file text) a e)
+none_of_word files job (inputs.Check file) names refusal a e = by_tree job.tree names a
+  where
+    by_tree : (word : TreeWord) (names : List (List ℕ)) → ReadsBy files (with_check job file word) names
+        (Refuses refusal)
+        → names ≡ []
+    by_tree (trees.File tree) names a =
+        absurd (accepted_on files (with_check job file (trees.File tree)) names refusal (accepted_check job file tree) a
+        e)
+    by_tree trees.Balanced [] a = refl
+    by_tree trees.Balanced (x ∷ xs) a = absurd a
+    by_tree trees.Right [] a = refl
+    by_tree trees.Right (x ∷ xs) a = absurd a
+    by_tree trees.Left [] a = refl
+    by_tree trees.Left (x ∷ xs) a = absurd a
 
 -- where the words are refused, no file was read before
 none_read : (files : Option Files) (words : List (List ℕ)) (names : List (List ℕ)) (refusal : ℕ × List ℕ)
@@ -160,8 +216,7 @@ none_read files words names refusal = go (job_of words) names
         → refusal.0 ≡ 1 → names ≡ []
     go (Err fault) [] a e = refl
     go (Err fault) (x ∷ xs) a e = absurd a
-    go (Ok job) names a e =
-        absurd (accepted_on files (with_job (Ok job)) names refusal (accepted_input_word job job.input) a e)
+    go (Ok job) names a e = none_of_word files job job.input names refusal a e
 
 -- ---- the order
 

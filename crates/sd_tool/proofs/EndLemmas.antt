@@ -13,7 +13,6 @@ use Rattle.sd_tool.specs.Readings.{reading_of}
 use Rattle.sd_tool.specs.inside.Plans.{Plan, point_of}
 use Rattle.sd_tool.specs.inside.Asks.{ComesTo}
 use Rattle.sd_tool.specs.inside.Course.{EndLeaves, EndsAmong, after_effects}
-use Rattle.sd_tool.specs.PlanViews.{plan_with}
 use Rattle.sd_tool.specs.inside.ByStatus.{IsOneCourse}
 use Rattle.sd_tool.specs.Ends.{End, Finished, Refused, Unreadable, Unwritable, OutOfMemory as NoMemory}
 use Rattle.sd_tool.specs.Ends.{ArenaFull as NoRoom, OverLimit as Passes, NotMovable as Unmoved, line_of, status_of}
@@ -70,7 +69,7 @@ reading_stops words OutOfMemory kept old new before now none same stops = record
 }
 
 -- a cause among the commands is a cause in the whole run
-cause_from : (plan : Plan) (effects : List Effect) (end : End) (files others : Option Files)
+pub cause_from : (plan : Plan) (effects : List Effect) (end : End) (files others : Option Files)
     (first mid last : Faults) → EndsAmong plan effects end → NotFewer first mid → HasReason end files mid last
     → HasReason end others first last
 cause_from plan effects Finished files others first mid last ends fewer cause = tt
@@ -89,6 +88,7 @@ no_refusal (refusals.BadWords fault) e = let bad : ⊥ = cc in bad
 no_refusal (refusals.TooLong file) e = let bad : ⊥ = cc in bad
 no_refusal (refusals.BadFormula file fault) e = let bad : ⊥ = cc in bad
 no_refusal (refusals.BadVtree file fault) e = let bad : ⊥ = cc in bad
+no_refusal (refusals.BadCircuit file fault) e = let bad : ⊥ = cc in bad
 no_refusal (refusals.BadSdd file fault) e = let bad : ⊥ = cc in bad
 no_refusal (refusals.LongScript file) e = let bad : ⊥ = cc in bad
 no_refusal (refusals.BadScript file fault) e = let bad : ⊥ = cc in bad
@@ -133,23 +133,14 @@ carried plan t kept result old new before now goes keeps = record {
   reason = goes.reason;
 }
 
--- the commands in hand are those of the plan
-abbrev with_own : (List Request → Type 0) → Groups → RunState → Option Table → Result (Unit {0}) Stop → Contents
-    → Contents → Faults → Faults → List NumberedCommand → Type 0
-with_own asks formula state kept result old new before now commands =
-    PlanEnds asks (plan_with formula state commands) kept result old new before now
-
 -- all commands were done
-pub carried_done : {asks : List Request → Type 0} (formula : Groups) (state : RunState)
-    (done commands : List NumberedCommand) (t : Table)
-    (kept : Option Table) (old new : Contents) (before now : Faults) → done ≡ commands → kept ≡ None
-    → RunsToEnd asks (plan_with formula state done) t (Ok tt) old new before now
-    → PlanEnds asks (plan_with formula state commands) kept (Ok tt) old new before now
-carried_done {asks = asks} formula state done commands t kept old new before now all none goes =
-    subst (with_own asks formula state kept (Ok tt) old new before now) all
-    (carried (plan_with formula state done) t kept (Ok tt) old new before now goes
-    (subst (KeepsOf (plan_with formula state done) goes.effects goes.end) (sym none)
-    (kept_none (plan_with formula state done) goes.effects goes.end (λ e. other goes.at e))))
+pub carried_done : {asks : List Request → Type 0} (plan : Plan) (t : Table) (kept : Option Table)
+    (old new : Contents) (before now : Faults) → kept ≡ None → RunsToEnd asks plan t (Ok tt) old new before now
+    → PlanEnds asks plan kept (Ok tt) old new before now
+carried_done plan t kept old new before now none goes =
+    carried plan t kept (Ok tt) old new before now goes
+    (subst (KeepsOf plan goes.effects goes.end) (sym none)
+    (kept_none plan goes.effects goes.end (λ e. other goes.at e)))
   where
     other : goes.end ≡ Finished → status_of goes.end ≡ 8 → ⊥
     other is e = let zero_ = ap status_of is in let bad : ⊥ = cc in bad
@@ -182,17 +173,12 @@ keeps_at plan effects (NotMovable l) end t kept was none is ends status full_at 
     kept_other plan effects (NotMovable l) end kept was none is status (λ e. cc)
 
 -- the commands stopped, and the manager is kept if it was full
-pub carried_stop : {asks : List Request → Type 0} (formula : Groups) (state : RunState)
-    (done commands : List NumberedCommand) (t : Table)
-    (kept was : Option Table) (stop : Stop) (old new : Contents) (before now : Faults) → done ≡ commands
-    → was ≡ None → kept ≡ cond (is_full stop) (Some t) was
-    → RunsToEnd asks (plan_with formula state done) t (Err stop) old new before now
-    → PlanEnds asks (plan_with formula state commands) kept (Err stop) old new before now
-carried_stop {asks = asks} formula state done commands t kept was stop old new before now all none is goes =
-    subst (with_own asks formula state kept (Err stop) old new before now) all
-    (carried (plan_with formula state done) t kept (Err stop) old new before now goes
-    (keeps_at (plan_with formula state done) goes.effects stop goes.end t kept was none is goes.ends
-    goes.at.status goes.full_at))
+pub carried_stop : {asks : List Request → Type 0} (plan : Plan) (t : Table) (kept was : Option Table) (stop : Stop)
+    (old new : Contents) (before now : Faults) → was ≡ None → kept ≡ cond (is_full stop) (Some t) was
+    → RunsToEnd asks plan t (Err stop) old new before now → PlanEnds asks plan kept (Err stop) old new before now
+carried_stop plan t kept was stop old new before now none is goes =
+    carried plan t kept (Err stop) old new before now goes
+    (keeps_at plan goes.effects stop goes.end t kept was none is goes.ends goes.at.status goes.full_at)
 
 -- the commands go on from where the readings led
 pub commands_go : {a b c : List Request → Type 0} (words : List (List ℕ)) (plan : Plan) (kept : Option Table)

@@ -3,8 +3,12 @@ use Rattle.std.proofs.Common.{ℕ, List, Option}
 use Rattle.sd_manager.specs.Table.{Table}
 use Rattle.sd_tool.specs.Devices.{Seen}
 use Rattle.sd_tool.specs.Laws.{HasWritten, HasWrittenValues, HasLimit, IsDoneOrOverLimit, HasJoined, HasAsked}
+use Rattle.sd_tool.specs.Laws.{HasChecked, HasChosen, HasCircuits, HasParted}
 use Rattle.sd_tool.specs.Theorem.{IsCourse}
 use Rattle.sd_tool.proofs.AskedAt.{asked_at}
+use Rattle.sd_tool.proofs.ByWorkers.{chosen_at, parted_at}
+use Rattle.sd_tool.proofs.Checked.{checked_at}
+use Rattle.sd_tool.proofs.CircuitsWritten.{circuits_at}
 use Rattle.sd_tool.proofs.Joined.{joined_at}
 use Rattle.sd_tool.proofs.Limited.{limited_at}
 use Rattle.sd_tool.proofs.OneRun.{done_or_over}
@@ -27,6 +31,18 @@ module _ (words : List (List ℕ)) (status : ℕ) (kept : Option Table) (seen : 
 
   pub joined : HasJoined words status seen
   joined = joined_at words status kept seen (one_course words status kept seen course)
+
+  pub parted : HasParted words status seen
+  parted = parted_at words status kept seen (one_course words status kept seen course)
+
+  pub chosen : HasChosen words status seen
+  chosen = chosen_at words status kept seen (one_course words status kept seen course)
+
+  pub circuits : HasCircuits words status seen
+  circuits = circuits_at words status kept seen (one_course words status kept seen course)
+
+  pub checked : HasChecked words status seen
+  checked = checked_at words status kept seen (one_course words status kept seen course)
 
   pub asked : HasAsked words status seen
   asked = asked_at words status kept seen (one_course words status kept seen course)

@@ -18,11 +18,13 @@ use Rattle.sd_script.specs.Scripts.{Script, script_of, see, number_of_word, comm
 use Rattle.sd_script.specs.declared.command.Action.{Action}
 use Rattle.sd_script.specs.declared.command.Action.TheVariants as actions
 use Rattle.sd_script.specs.declared.command.Command.{Command as Line}
+use Rattle.sd_words.proofs.Fitting.{job_fits_together}
 use Rattle.sd_words.specs.declared.jobs.Job.{Job}
 use Rattle.sd_words.specs.declared.jobs.TreeWord.{TreeWord}
 use Rattle.sd_words.specs.declared.jobs.TreeWord.TheVariants as trees
 use Rattle.sd_commands.specs.Effects.{Effect, Write}
 use Rattle.sd_commands.specs.Commands.{State, Done, Step, Steps, IsTextOf, named, with_name, formula_named}
+use Rattle.sd_commands.specs.Commands.{no_circuit}
 use Rattle.sd_commands.specs.declared.command.NumberedCommand.{NumberedCommand}
 use Rattle.sd_commands.specs.declared.command.RunCommand.{RunCommand}
 use Rattle.sd_commands.specs.declared.command.RunCommand.TheVariants as commands
@@ -48,6 +50,8 @@ use Rattle.sd_tool.proofs.OneCourse.{whole_plan}
 use Rattle.sd_tool.proofs.OnePoint.{one_point, one_plan_at}
 use Rattle.sd_tool.proofs.OneRun.{formula_follows, ends_at_plan}
 use Rattle.sd_tool.proofs.StillCommands.{is_move, AreStill}
+use Rattle.sd_tool.proofs.InputLemmas.{no_choice}
+use Rattle.sd_tool.proofs.PlainPlans.{formula_plan, formula_plan_is}
 use Rattle.sd_tool.proofs.ReadingLemmas.{reads_on, reads_same}
 use Rattle.sd_tool.proofs.WrittenLemmas.{single_text}
 
@@ -159,20 +163,20 @@ module _ (input : Groups) (script : Script) (two : HasLinesOf (expression_of inp
 
 -- the start tree of the words is followed
 tree_follows : (files : Files) (job : Job) (f : Groups) (tree : Tree) (point : Point) (word : TreeWord)
-    → IsStartTree files word f.variables tree → ReadsTo (Some files) (with_tree job f tree) point
-    → ReadsTo (Some files) (with_tree_word job f word) point
+    → IsStartTree files word f.variables tree → ReadsTo (Some files) (with_tree job f no_circuit tree) point
+    → ReadsTo (Some files) (with_tree_word job f no_circuit word) point
 tree_follows files job f tree point trees.Balanced is led =
-    subst (λ t. ReadsTo (Some files) (with_tree job f t) point) is led
+    subst (λ t. ReadsTo (Some files) (with_tree job f no_circuit t) point) is led
 tree_follows files job f tree point trees.Right is led =
-    subst (λ t. ReadsTo (Some files) (with_tree job f t) point) is led
+    subst (λ t. ReadsTo (Some files) (with_tree job f no_circuit t) point) is led
 tree_follows files job f tree point trees.Left is led =
-    subst (λ t. ReadsTo (Some files) (with_tree job f t) point) is led
+    subst (λ t. ReadsTo (Some files) (with_tree job f no_circuit t) point) is led
 tree_follows files job f tree point (trees.File file) (bytes, there, short, reads) led =
     inr (
       Some bytes,
       (there, short),
-      reads_on (Some files) (with_vtree_text job f file (Some bytes)) (with_tree job f tree) point
-          (reads_same (Some files) _ _ (ap (with_vtree_reading job f file) reads)) led,
+      reads_on (Some files) (with_vtree_text job f no_circuit file (Some bytes)) (with_tree job f no_circuit tree) point
+          (reads_same (Some files) _ _ (ap (with_vtree_reading job f no_circuit file) reads)) led,
     )
 
 module _ {words : List (List ℕ)} {seen : Seen} (run : FourLines words seen) where
@@ -180,15 +184,17 @@ module _ {words : List (List ℕ)} {seen : Seen} (run : FourLines words seen) wh
   script_follows : (cs : List NumberedCommand)
       → ((begin : List NumberedCommand → Point)
       → script_reading run.given.formula.variables begin run.script ≡ begin cs)
-      → ReadsTo (Some run.given.files) (with_tree run.given.job run.given.formula run.given.tree)
-      (point_of (plan_for run.given.job run.given.formula run.given.tree cs))
+      → ReadsTo (Some run.given.files) (with_tree run.given.job run.given.formula no_circuit run.given.tree)
+      (point_of (formula_plan run.given.job run.given.formula run.given.tree cs))
   script_follows cs becomes =
       let told = Some run.given.files in
       let job = run.given.job in
       let formula = run.given.formula in
       let tree = run.given.tree in
-      let begin = λ (l : List NumberedCommand). point_of (plan_for job formula tree l) in
-      let asks = Reads run.script_file (with_script_text run.script_file formula.variables begin) in
+      let begin = λ (l : List NumberedCommand). point_of (plan_for job formula no_circuit tree l) in
+      let asks = Reads run.script_file (with_script_text run.script_file formula.variables 0 begin) in
+      let none = no_choice job run.script_file (job_fits_together words job run.given.named) run.asked in
+      let same = ap point_of (formula_plan_is job formula tree cs none) in
       let read : ReadsTo told asks (begin cs) =
       inr (
         Some run.reads.0,
@@ -196,25 +202,26 @@ module _ {words : List (List ℕ)} {seen : Seen} (run : FourLines words seen) wh
         reads_same told _ _
             (ap (with_script_reading run.script_file formula.variables begin) run.reads.3 ∙ becomes begin),
       ) in
-      reads_on told (with_tree job formula tree) asks (begin cs)
-      (reads_same told _ _ (ap (with_commands job formula.variables begin) run.asked)) read
+      subst (ReadsTo told (with_tree job formula no_circuit tree)) same
+      (reads_on told (with_tree job formula no_circuit tree) asks (begin cs)
+      (reads_same told _ _ (ap (with_commands job formula.variables 0 begin) run.asked)) read)
 
   -- the words, the input, the tree and the script lead to it
   leads_to_script : (cs : List NumberedCommand)
       → ((begin : List NumberedCommand → Point)
       → script_reading run.given.formula.variables begin run.script ≡ begin cs)
       → ReadsTo (Some run.given.files) (reading_of words)
-      (point_of (plan_for run.given.job run.given.formula run.given.tree cs))
+      (point_of (formula_plan run.given.job run.given.formula run.given.tree cs))
   leads_to_script cs becomes =
       let told = Some run.given.files in
       let job = run.given.job in
       let formula = run.given.formula in
       let tree = run.given.tree in
-      let point = point_of (plan_for job formula tree cs) in
+      let point = point_of (formula_plan job formula tree cs) in
       let named : ReadsTo told (reading_of words) (with_input_word job job.input) =
       reads_same told _ _ (ap with_job run.given.named) in
       reads_on told (reading_of words) (with_input_word job job.input) point named
-      (reads_on told (with_input_word job job.input) (with_tree_word job formula job.tree) point
+      (reads_on told (with_input_word job job.input) (with_tree_word job formula no_circuit job.tree) point
       (formula_follows run.given.files job formula job.input run.given.input)
       (tree_follows run.given.files job formula tree point job.tree run.given.starts (script_follows cs becomes)))
 
@@ -376,7 +383,7 @@ joined_at words status kept seen went = λ run.
     let given = run.given in
     let two = lines_of (expression_of given.formula) run.script run.lines in
     let cs = four_commands given.formula run.script two in
-    let plan = plan_for given.job given.formula given.tree cs in
+    let plan = formula_plan given.job given.formula given.tree cs in
     let led = leads_to_script run cs (script_leads given.formula run.script two given.formula.variables) in (
       λ zero_.
           let all = (effects_at words status kept seen went).all zero_ in
@@ -396,7 +403,7 @@ joined_at words status kept seen went = λ run.
     writes : (files : Files) (job : Job) (formula : Groups) (tree : Tree) (script : Script)
         (two : HasLinesOf (expression_of formula) script) → seen.old.contents.files ≡ Some files
         → announcement job.input formula ≡ [] → job.every ≡ None → ReadsTo (Some files) (reading_of words)
-        (point_of (plan_for job formula tree (four_commands formula script two)))
+        (point_of (formula_plan job formula tree (four_commands formula script two)))
         → (effects : List Effect) → MayEnd words (Some files) effects Finished
         → seen.new.contents ≡ after_effects effects seen.old.contents
         → WritesDiagram files tree (Combined two.operation two.left two.right) (file_name script two.number)
@@ -404,7 +411,7 @@ joined_at words status kept seen went = λ run.
     writes files job formula tree script two told none plain led effects (inl p) is = absurd p.0
     writes files job formula tree script two told none plain led effects (inr p) is =
         let cs = four_commands formula script two in
-        let plan = plan_for job formula tree cs in
+        let plan = formula_plan job formula tree cs in
         let same = one_plan words files plan p.0 led p.1 in
         let all = subst (λ (q : Plan). Steps q.input q.start q.commands effects p.2.0) same
         (whole_plan p.0 p.2.0 effects p.2.1) in
@@ -418,7 +425,7 @@ joined_at words status kept seen went = λ run.
 
 -- the input and a literal, joined by and
 worked : (v : ℕ) × (script : Script)
-    × (script_of v (codes "input f\nlit g 1\nand h f g\nwrite h out\n") ≡ Ok script)
+    × (script_of v 0 (codes "input f\nlit g 1\nand h f g\nwrite h out\n") ≡ Ok script)
     × ((input : Expression) → (two : JoinsTwo input script)
     × (Combined two.operation two.left two.right ≡ Combined And input (Atom (pos 1)))
     × (file_name script two.number ≡ codes "out"))

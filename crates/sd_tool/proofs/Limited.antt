@@ -20,13 +20,14 @@ use Rattle.sd_tool.specs.Devices.{Seen, WritesEndLine}
 use Rattle.sd_tool.specs.Ends.{OverLimit}
 use Rattle.sd_tool.specs.Laws.{HasLimit}
 use Rattle.sd_tool.specs.inside.ByStatus.{IsOneCourse}
-use Rattle.sd_tool.specs.Readings.{reading_of, announcement, default_of}
-use Rattle.sd_tool.specs.inside.Plans.{Plan, plan_for}
+use Rattle.sd_tool.specs.Readings.{reading_of, announcement}
+use Rattle.sd_tool.specs.inside.Plans.{Plan}
 use Rattle.sd_tool.specs.inside.Readings.{in_lines, for_file}
 use Rattle.sd_tool.specs.inside.Readings.{search_of}
 use Rattle.sd_tool.specs.Written.{IsStartTree}
 use Rattle.sd_tool.specs.inside.Readings.{IsInput}
 use Rattle.sd_tool.proofs.ByStatus.{end_at}
+use Rattle.sd_tool.proofs.PlainPlans.{plain_plan}
 use Rattle.sd_tool.proofs.OneRun.{comes_to_own, plain_input, leads_to_plan, same_plan}
 use Rattle.sd_tool.proofs.WrittenLemmas.{announces}
 
@@ -119,6 +120,18 @@ at_input input formula first state (inputs.Dnf file) rest (d ∷ done) left next
     refused =
     let later : done ++ next ∷ left ≡ rest = cc in
     absurd (quiet_at input state rest done left next group size limit later quiet refused)
+at_input input formula first state (inputs.Aag file) rest [] left next effects group size limit quiet same p refused =
+    record { next_is = cc; state_is = p.1 }
+at_input input formula first state (inputs.Check file) rest [] left next effects group size limit quiet same p refused =
+    record { next_is = cc; state_is = p.1 }
+at_input input formula first state (inputs.Aag file) rest (d ∷ done) left next effects group size limit quiet same p
+    refused =
+    let later : done ++ next ∷ left ≡ rest = cc in
+    absurd (quiet_at input state rest done left next group size limit later quiet refused)
+at_input input formula first state (inputs.Check file) rest (d ∷ done) left next effects group size limit quiet same p
+    refused =
+    let later : done ++ next ∷ left ≡ rest = cc in
+    absurd (quiet_at input state rest done left next group size limit later quiet refused)
 at_input input formula first state (inputs.Generate count seed) rest [] left next effects group size limit quiet same p
     refused =
     let one : next.command ≡ commands.Generated formula.variables (length formula.groups) =
@@ -153,7 +166,7 @@ refused_group input state name group size limit (inr p) =
 
 -- the plan of an input on its start tree
 abbrev pub plan_of_input : Job → Groups → Tree → Plan
-plan_of_input job formula tree = plan_for job formula tree (default_of job)
+plan_of_input job formula tree = plain_plan job formula tree
 
 -- where its commands pass the limit, the input does
 passes_among : (job : Job) (formula : Groups) (tree : Tree) (effects : List Effect) (line : ℕ) (group : Option ℕ)
@@ -192,6 +205,8 @@ announced_steps : (formula : Groups) (state : State) (word : InputWord)
     → Steps formula state (announcement word formula) (announces word formula) state
 announced_steps formula state (inputs.Cnf file) = (refl, refl)
 announced_steps formula state (inputs.Dnf file) = (refl, refl)
+announced_steps formula state (inputs.Aag file) = (refl, refl)
+announced_steps formula state (inputs.Check file) = (refl, refl)
 announced_steps formula state (inputs.Generate count seed) = (state, _, [], refl, (refl, refl), refl)
 
 -- an input that passes the limit is where the words and files lead

@@ -13,11 +13,12 @@ use Rattle.sd_words.specs.declared.jobs.InputWord.TheVariants as inputs
 use Rattle.sd_words.specs.declared.jobs.TreeWord.{TreeWord}
 use Rattle.sd_words.specs.declared.jobs.TreeWord.TheVariants as trees
 use Rattle.sd_commands.specs.Effects.{Effect, Write, Print}
+use Rattle.sd_commands.specs.Commands.{no_circuit}
 use Rattle.sd_tool.specs.Readings.{Point, Refuses, Reads, reading_of}
 use Rattle.sd_tool.specs.inside.Plans.{Plan, point_of, plan_for}
 use Rattle.sd_tool.specs.inside.Readings.{Text}
 use Rattle.sd_tool.specs.inside.Course.{EndLeaves, EndsAmong, ReadsTo, MayEnd, IsOwn, after_effects}
-use Rattle.sd_tool.specs.Readings.{with_input_word, with_tree_word, with_tree, with_commands, default_of}
+use Rattle.sd_tool.specs.Readings.{with_input_word, with_tree_word, with_tree, with_commands}
 use Rattle.sd_tool.specs.inside.Readings.{with_job, with_formula_reading, with_vtree_text, with_vtree_reading, IsInput}
 use Rattle.sd_tool.specs.Ends.{End, Finished, Refused, Unreadable, Unwritable, OutOfMemory, ArenaFull, OverLimit}
 use Rattle.sd_tool.specs.Ends.{NotMovable, status_of}
@@ -26,11 +27,12 @@ use Rattle.sd_tool.specs.inside.Devices.{NoneRose}
 use Rattle.sd_tool.specs.Laws.{LacksRoom, IsDoneOrOverLimit}
 use Rattle.sd_tool.specs.Theorem.{IsComplete}
 use Rattle.sd_tool.specs.inside.ByStatus.{IsOneCourse}
-use Rattle.sd_tool.specs.Written.{IsFormulaOf, IsStartTree, PlainRun}
+use Rattle.sd_tool.specs.Written.{IsFormulaOf, IsPlainJob, IsStartTree, PlainRun}
 use Rattle.sd_tool.proofs.AskLemmas.{goes_may_end}
 use Rattle.sd_tool.proofs.OneCourse.{one_end_among}
 use Rattle.sd_tool.proofs.SoundReadings.{valid_start}
 use Rattle.sd_tool.proofs.OnePoint.{one_point, one_plan_at}
+use Rattle.sd_tool.proofs.PlainPlans.{plain_plan, plain_is}
 use Rattle.sd_tool.proofs.ReadingLemmas.{reads_on, reads_same}
 use Rattle.sd_tool.proofs.StillCommands.{AreStill, never_unmoved, default_still}
 use Rattle.sd_tool.proofs.Walks.{all_of, leaves_all, course_may_end}
@@ -191,31 +193,31 @@ comes_to_own words status kept seen went calm files told effects own few leads =
       | inr (inr full) ↦ inr (inr (went.status_is ∙ ap status_of full.1))
     ]
 
--- a tree leads to its plan, without a script
-leads_at_tree : (told : Option Files) (job : Job) (f : Groups) (own tree : Tree) → job.script ≡ None → own ≡ tree
-    → ReadsTo told (with_tree job f own) (point_of (plan_for job f tree (default_of job)))
-leads_at_tree told job f own tree alone is =
+-- a tree leads to its plan
+leads_at_tree : (told : Option Files) (job : Job) (f : Groups) (own tree : Tree) → IsPlainJob job → own ≡ tree
+    → ReadsTo told (with_tree job f no_circuit own) (point_of (plain_plan job f tree))
+leads_at_tree told job f own tree plain is =
     reads_same told _ _
-    (ap (with_commands job f.variables (λ commands. point_of (plan_for job f own commands))) alone
-    ∙ ap (λ t. point_of (plan_for job f t (default_of job))) is)
+    (ap (with_commands job f.variables 0 (λ commands. point_of (plan_for job f no_circuit own commands))) plain.alone
+    ∙ ap point_of (plain_is job f own plain) ∙ ap (λ t. point_of (plain_plan job f t)) is)
 
 -- a start tree of the words leads to its plan
-leads_with_tree : (files : Files) (job : Job) (f : Groups) (tree : Tree) (word : TreeWord) → job.script ≡ None
+leads_with_tree : (files : Files) (job : Job) (f : Groups) (tree : Tree) (word : TreeWord) → IsPlainJob job
     → IsStartTree files word f.variables tree
-    → ReadsTo (Some files) (with_tree_word job f word) (point_of (plan_for job f tree (default_of job)))
-leads_with_tree files job f tree trees.Balanced alone is =
-    leads_at_tree (Some files) job f (balanced_tree f.variables) tree alone (sym is)
-leads_with_tree files job f tree trees.Right alone is =
-    leads_at_tree (Some files) job f (right_tree f.variables) tree alone (sym is)
-leads_with_tree files job f tree trees.Left alone is =
-    leads_at_tree (Some files) job f (left_tree f.variables) tree alone (sym is)
-leads_with_tree files job f tree (trees.File file) alone (bytes, there, short, reads) =
+    → ReadsTo (Some files) (with_tree_word job f no_circuit word) (point_of (plain_plan job f tree))
+leads_with_tree files job f tree trees.Balanced plain is =
+    leads_at_tree (Some files) job f (balanced_tree f.variables) tree plain (sym is)
+leads_with_tree files job f tree trees.Right plain is =
+    leads_at_tree (Some files) job f (right_tree f.variables) tree plain (sym is)
+leads_with_tree files job f tree trees.Left plain is =
+    leads_at_tree (Some files) job f (left_tree f.variables) tree plain (sym is)
+leads_with_tree files job f tree (trees.File file) plain (bytes, there, short, reads) =
     inr (
       Some bytes,
       (there, short),
-      reads_on (Some files) (with_vtree_text job f file (Some bytes)) (with_tree job f tree) _
-          (reads_same (Some files) _ _ (ap (with_vtree_reading job f file) reads))
-          (leads_at_tree (Some files) job f tree tree alone refl),
+      reads_on (Some files) (with_vtree_text job f no_circuit file (Some bytes)) (with_tree job f no_circuit tree) _
+          (reads_same (Some files) _ _ (ap (with_vtree_reading job f no_circuit file) reads))
+          (leads_at_tree (Some files) job f tree tree plain refl),
     )
 
 -- the words lead to their input
@@ -226,24 +228,26 @@ job_follows words files job f input =
 
 -- and to its formula
 pub formula_follows : (files : Files) (job : Job) (f : Groups) (word : InputWord) → IsFormulaOf files word f
-    → ReadsTo (Some files) (with_input_word job word) (with_tree_word job f job.tree)
+    → ReadsTo (Some files) (with_input_word job word) (with_tree_word job f no_circuit job.tree)
 formula_follows files job f (inputs.Cnf file) (bytes, there, short, reads) =
     inr (Some bytes, (there, short), reads_same (Some files) _ _ (ap (with_formula_reading job file) reads))
 formula_follows files job f (inputs.Dnf file) (bytes, there, short, reads) =
     inr (Some bytes, (there, short), reads_same (Some files) _ _ (ap (with_formula_reading job file) reads))
 formula_follows files job f (inputs.Generate count seed) is =
-    reads_same (Some files) _ _ (ap (λ g. with_tree_word job g job.tree) (sym is))
+    reads_same (Some files) _ _ (ap (λ g. with_tree_word job g no_circuit job.tree) (sym is))
+formula_follows files job f (inputs.Aag file) is = absurd is
+formula_follows files job f (inputs.Check file) is = absurd is
 
 -- an input with a start tree leads to its plan
 pub leads_to_plan : (words : List (List ℕ)) (files : Files) (job : Job) (f : Groups) (tree : Tree)
     → IsInput words files job f → IsStartTree files job.tree f.variables tree
-    → ReadsTo (Some files) (reading_of words) (point_of (plan_for job f tree (default_of job)))
+    → ReadsTo (Some files) (reading_of words) (point_of (plain_plan job f tree))
 leads_to_plan words files job f tree input start =
     let told = Some files in
     let asks = with_input_word job job.input in
     reads_on told (reading_of words) asks _ (job_follows words files job f input)
-    (reads_on told asks (with_tree_word job f job.tree) _ (formula_follows files job f job.input input.input)
-    (leads_with_tree files job f tree job.tree input.alone start))
+    (reads_on told asks (with_tree_word job f no_circuit job.tree) _ (formula_follows files job f job.input input.input)
+    (leads_with_tree files job f tree job.tree input.plain start))
 
 -- where the readings lead to a plan and no device fails, all is done, or the size passes the limit, or there was no
 -- memory
@@ -294,7 +298,7 @@ ends_at_plan words status kept seen went files plan told leads still calm =
 -- the words of a run without a script
 pub plain_input : {words : List (List ℕ)} {seen : Seen} (run : PlainRun words seen)
     → IsInput words run.given.files run.given.job run.given.formula
-plain_input run = record { named = run.given.named; alone = run.alone; input = run.given.input }
+plain_input run = record { named = run.given.named; plain = run.plain; input = run.given.input }
 
 -- files that are told are some
 told_files : (told : Option Files) → told ≢ None → (files : Files) × (told ≡ Some files)
@@ -321,6 +325,7 @@ pub done_or_over : (words : List (List ℕ)) (status : ℕ) (kept : Option Table
 done_or_over words status kept seen went = λ run calm.
     let given = run.given in
     ends_at_plan words status kept seen went given.files
-    (plan_for given.job given.formula given.tree (default_of given.job)) given.told
+    (plain_plan given.job given.formula given.tree) given.told
     (leads_to_plan words given.files given.job given.formula given.tree (plain_input run) given.starts)
-    (default_still given.job given.formula) calm
+    (subst (λ (plan : Plan). AreStill plan.commands) (plain_is given.job given.formula given.tree run.plain)
+    (default_still given.job given.formula 0)) calm

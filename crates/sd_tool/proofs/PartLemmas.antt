@@ -58,7 +58,7 @@ line_is front back = ap (λ (l : List ℕ). l ++ 10 ∷ []) (append_assoc (codes
 
 -- ---- a fault of a formula or a vtree file that ends in a number
 
-nothing_after : (file before number : List ℕ) → file ++ before ++ number ++ [] ≡ file ++ (before ++ number)
+pub nothing_after : (file before number : List ℕ) → file ++ before ++ number ++ [] ≡ file ++ (before ++ number)
 nothing_after file before number = append-nil (file ++ before ++ number) ∙ append_assoc file before number
 
 pub variables_text : (file : List ℕ) (v : ℕ)

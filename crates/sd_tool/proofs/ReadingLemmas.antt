@@ -1,34 +1,20 @@
 -- The readings of a run, one after another.
 use Rattle.std.proofs.Common.{◌≡◌, ◌⊎◌, ℕ, ◌≤◌, List, [], ◌∷◌, ◌++◌, length, Option, Some, None, Result, Ok, Err}
-use Rattle.std.proofs.Common.{IfOk, MatchResult, ◌∙◌}
+use Rattle.std.proofs.Common.{MatchResult}
 use Rattle.std.proofs.Common.{inl, inr, refl, sym, ap, subst, arith}
-use Rattle.std.specs.declared.alloc.AllocError.{AllocError}
 use Rattle.sd_base.specs.Asked.{Request, ToRead}
 use Rattle.sd_base.specs.Faults.{Rose}
 use Rattle.sd_base.specs.Files.{Files, HasBytes, HasLonger, Lacks}
-use Rattle.sd_model.specs.Tree.{Tree}
-use Rattle.sd_formula.specs.Dimacs.{Groups}
-use Rattle.sd_formula.specs.Generated.{generated_formula}
-use Rattle.sd_formula.specs.declared.formula.Kind.{Kind}
-use Rattle.sd_formula.specs.declared.formula.Kind.TheVariants as kinds
-use Rattle.sd_vtree.specs.Numbered.{Numbered, plain_tree}
-use Rattle.sd_words.specs.declared.jobs.Job.{Job}
-use Rattle.sd_words.specs.declared.jobs.InputWord.{InputWord}
-use Rattle.sd_words.specs.declared.jobs.InputWord.TheVariants as inputs
-use Rattle.sd_words.specs.declared.jobs.TreeWord.{TreeWord}
-use Rattle.sd_words.specs.declared.jobs.TreeWord.TheVariants as trees
-use Rattle.sd_tool.specs.Readings.{Point, Refuses, Reads, Stands, IsText, with_commands}
-use Rattle.sd_tool.specs.Refusals.{refusal_answer}
+use Rattle.sd_base.specs.Shelf.{Hand, Reading}
+use Rattle.std.specs.Prelude.{codes, IsErrAnd}
+use Rattle.std.proofs.lemmas.Result.{err_from_is_err_and}
+use Rattle.sd_tool.specs.Readings.{Point, Refuses, Reads, Stands, IsText}
 use Rattle.sd_tool.specs.inside.Course.{ReadsTo}
-use Rattle.sd_script.specs.Scripts.{Script}
-use Rattle.sd_commands.specs.declared.command.NumberedCommand.{NumberedCommand}
-use Rattle.sd_tool.specs.inside.Readings.{Text, script_reading, with_script_text, Input, input_file, with_input}
-use Rattle.sd_tool.specs.Readings.{with_input_word, with_tree_word, with_tree}
-use Rattle.sd_tool.specs.inside.Readings.{with_vtree_text}
+use Rattle.sd_tool.specs.inside.Readings.{Text}
 use Rattle.sd_tool.specs.inside.Asks.{ComesTo}
-use Rattle.sd_tool.specs.Stops.{StopsReading, LeadsTo, StopsFor, GivesText}
+use Rattle.sd_tool.specs.Stops.{StopsReading, LeadsTo, IsLongStop, GivesText, stop_status}
+use Rattle.sd_tool.specs.Theorem.{HasFinished}
 use Rattle.sd_tool.proofs.AskLemmas.{Joins, comes_on, last_on, breaks_on, last_here, comes_same, breaks_here}
-use Rattle.sd_tool.specs.declared.refusal.Refusal.{Refusal}
 use Rattle.sd_tool.specs.declared.stop.Stop.{Stop}
 use Rattle.sd_tool.specs.declared.stop.Stop.TheVariants.{Refused, ReadFault, WriteFault, OutputFault, OutOfMemory}
 use Rattle.sd_tool.specs.declared.stop.Stop.TheVariants.{ArenaFull, OverLimit, NotMovable}
@@ -116,20 +102,35 @@ leads_on {b = b} told now reading mid next (Err stop) first before last join sam
     stops_on stop told reading mid first before last join p later
     (subst (λ t. StopsReading b stop t mid before last) same q)
 
--- the stop at a refusal to which the readings lead
-pub stops_for : (asks : List Request → Type 0) (told : Option Files) (reading : Point) (refusal : Refusal)
-    (stop : Stop) (before now : ℕ) → ComesTo asks told reading (Refuses (refusal_answer refusal))
-    → StopsFor refusal stop
+-- the stop at a file that is too long
+pub long_leads : (asks : List Request → Type 0) (told : Option Files) (reading : Point) (status : ℕ) (file : List ℕ)
+    (stop : Stop) (before now : ℕ) → ComesTo asks told reading (Refuses (status, file ++ codes ": too long"))
+    → IsLongStop status file stop
     → StopsReading asks stop told reading before now
-stops_for asks told reading refusal (Refused found) before now a is =
-    subst (λ r. ComesTo asks told reading (Refuses (refusal_answer r))) (sym is) a
-stops_for asks told reading refusal (ReadFault file) before now a is = absurd is
-stops_for asks told reading refusal (WriteFault file) before now a is = absurd is
-stops_for asks told reading refusal OutputFault before now a is = absurd is
-stops_for asks told reading refusal OutOfMemory before now a is = inl (Refuses (refusal_answer refusal), a)
-stops_for asks told reading refusal (ArenaFull n) before now a is = absurd is
-stops_for asks told reading refusal (OverLimit l g n k) before now a is = absurd is
-stops_for asks told reading refusal (NotMovable l) before now a is = absurd is
+long_leads asks told reading status file (Refused found) before now a is =
+    subst (λ (r : ℕ × List ℕ). ComesTo asks told reading (Refuses r)) (sym is.0) a
+long_leads asks told reading status file (ReadFault name) before now a is = absurd is
+long_leads asks told reading status file (WriteFault name) before now a is = absurd is
+long_leads asks told reading status file OutputFault before now a is = absurd is
+long_leads asks told reading status file OutOfMemory before now a is =
+    inl (Refuses (status, file ++ codes ": too long"), a)
+long_leads asks told reading status file (ArenaFull n) before now a is = absurd is
+long_leads asks told reading status file (OverLimit l g n k) before now a is = absurd is
+long_leads asks told reading status file (NotMovable l) before now a is = absurd is
+
+-- the shelf may tell of it then
+pub long_finished : (status : ℕ) (file : List ℕ) (stop : Stop) (old new : Hand) → IsLongStop status file stop
+    → (new ≡ old) ⊎ (new ≡ Reading file 67108865) → HasFinished (stop_status stop) old new
+long_finished status file (Refused refusal) old new is (inl same) = λ low. inl same
+long_finished status file (Refused refusal) old new is (inr told) = λ low.
+    inr (subst (λ (n : ℕ). (n ≡ 2) ⊎ (n ≡ 3)) (sym (ap (λ (r : ℕ × List ℕ). r.0) is.0)) is.1, file, told)
+long_finished status file (ReadFault name) old new is left = absurd is
+long_finished status file (WriteFault name) old new is left = absurd is
+long_finished status file OutputFault old new is left = absurd is
+long_finished status file OutOfMemory old new is left = λ low. absurd (omega (arith, low))
+long_finished status file (ArenaFull n) old new is left = absurd is
+long_finished status file (OverLimit l g n k) old new is left = absurd is
+long_finished status file (NotMovable l) old new is left = absurd is
 
 -- what a text gives leads on, and its fault is where the readings stop
 pub text_leads : {X Y : Type 0} (asks : List Request → Type 0) (told : Option Files) (reading : Point)
@@ -171,83 +172,32 @@ pub text_lacking : (asks : List Request → Type 0) (told : Option Files) (file 
 text_lacking asks told file next field is a =
     subst (λ f. ComesTo asks told (Reads file next) (next f)) is a
 
--- ---- the words for the input and for the tree
+-- ---- the readings of words
 
--- a formula file of the words is read first
-pub file_asked : (job : Job) (word : InputWord) (input : Input) → input_file word ≡ Some input
-    → with_input_word job word ≡ Reads input.file (with_input job input)
-file_asked job (inputs.Cnf file) input is =
-    let same : record { kind = kinds.Cnf; file = file } ≡ input = cc in
-    ap (λ (i : Input). Reads i.file (with_input job i)) same
-file_asked job (inputs.Dnf file) input is =
-    let same : record { kind = kinds.Dnf; file = file } ≡ input = cc in
-    ap (λ (i : Input). Reads i.file (with_input job i)) same
-file_asked job (inputs.Generate count seed) input is = let bad : ⊥ = cc in absurd bad
+-- where a word is told otherwise, the readings are the same
+pub leads_same : {A : Type 0} (asks : List Request → Type 0) (told : Option Files) (reading other : Point)
+    (next after : A → Point) (result : Result A Stop) (before now : ℕ) → reading ≡ other
+    → ((x : A) → next x ≡ after x) → LeadsTo asks told other next result before now
+    → LeadsTo asks told reading after result before now
+leads_same asks told reading other next after (Ok x) before now is same a =
+    subst (λ p. ComesTo asks told reading p) (same x) (subst (λ r. ComesTo asks told r (next x)) (sym is) a)
+leads_same asks told reading other next after (Err stop) before now is same a =
+    subst (λ r. StopsReading asks stop told r before now) (sym is) a
 
--- the input is that of its word
-pub input_leads : (asks : List Request → Type 0) (told : Option Files) (job : Job) (input : InputWord) (kind : Kind)
-    (name file : List ℕ)
-    (result : Result Groups Stop) (before now : ℕ)
-    → input_file input ≡ Some (record { kind = kind; file = file }) → name ≡ file
-    → LeadsTo asks told (Reads name (with_input job (record { kind = kind; file = name })))
-    (λ formula. with_tree_word job formula job.tree) result before now
-    → LeadsTo asks told (with_input_word job input) (λ formula. with_tree_word job formula job.tree)
-    result before now
-input_leads asks told job input kind name file result before now is same leads =
-    subst (λ r. LeadsTo asks told r (λ formula. with_tree_word job formula job.tree)
-    result before now) (sym (file_asked job input (record { kind = kind; file = file }) is))
-    (subst (λ (n : List ℕ). LeadsTo asks told (Reads n (with_input job (record { kind = kind; file = n })))
-    (λ formula. with_tree_word job formula job.tree) result before now) same leads)
+-- what is there without a file leads on, and want of memory stops
+pub made_leads : {A : Type 0} (asks : List Request → Type 0) (told : Option Files) (reading : Point) (next : A → Point)
+    (result : Result A Stop) (before now : ℕ) → asks []
+    → MatchResult result (λ x. reading ≡ next x) (λ stop. stop ≡ OutOfMemory)
+    → LeadsTo asks told reading next result before now
+made_leads asks told reading next (Ok x) before now none is = comes_same asks told reading (next x) none is
+made_leads asks told reading next (Err stop) before now none is =
+    subst (λ s. StopsReading asks s told reading before now) (sym is) (breaks_here asks told reading none)
 
--- the input is a generated formula
-pub generated_leads : (asks : List Request → Type 0) (told : Option Files) (job : Job) (word : InputWord)
-    (count seed : ℕ) (result : Result Groups Stop) (before now : ℕ) → word ≡ inputs.Generate count seed → asks []
-    → MatchResult result (λ formula. formula ≡ generated_formula count seed) (λ stop. stop ≡ OutOfMemory)
-    → LeadsTo asks told (with_input_word job word) (λ formula. with_tree_word job formula job.tree) result before now
-generated_leads asks told job word count seed (Ok formula) before now is none gives =
-    comes_same asks told _ _ none (ap (with_input_word job) is ∙ ap (λ f. with_tree_word job f job.tree) (sym gives))
-generated_leads asks told job word count seed (Err stop) before now is none gives =
-    subst (λ s. StopsReading asks s told (with_input_word job word) before now) (sym gives)
-    (breaks_here asks told _ none)
-
--- the tree is a start tree that was made
-pub start_leads : (asks : List Request → Type 0) (told : Option Files) (reading : Point) (job : Job)
-    (formula : Groups) (tree : Tree) (start : Result Numbered AllocError) (result : Result Numbered Stop)
-    (before now : ℕ) → asks [] → reading ≡ with_tree job formula tree → IfOk start (λ t. plain_tree t ≡ tree)
-    → MatchResult start (λ t. result ≡ Ok t) (λ _. result ≡ Err OutOfMemory)
-    → LeadsTo asks told reading (λ vtree. with_tree job formula (plain_tree vtree)) result before now
-start_leads asks told reading job formula tree (Ok t) result before now none is made kept =
-    subst (λ r. LeadsTo asks told reading (λ vtree. with_tree job formula (plain_tree vtree)) r before now) (sym kept)
-    (comes_same asks told reading (with_tree job formula (plain_tree t)) none
-    (is ∙ ap (with_tree job formula) (sym made)))
-start_leads asks told reading job formula tree (Err e) result before now none is made kept =
-    subst (λ r. LeadsTo asks told reading (λ vtree. with_tree job formula (plain_tree vtree)) r before now) (sym kept)
-    (breaks_here asks told reading none)
-
--- the tree is that of a file
-pub vtree_file_leads : (asks : List Request → Type 0) (told : Option Files) (job : Job) (formula : Groups)
-    (word : TreeWord) (name file : List ℕ)
-    (result : Result Numbered Stop) (before now : ℕ) → word ≡ trees.File file → name ≡ file
-    → LeadsTo asks told (Reads name (with_vtree_text job formula name))
-    (λ vtree. with_tree job formula (plain_tree vtree))
-    result before now
-    → LeadsTo asks told (with_tree_word job formula word) (λ vtree. with_tree job formula (plain_tree vtree)) result
-    before
-    now
-vtree_file_leads asks told job formula word name file result before now is same leads =
-    subst (λ w. LeadsTo asks told (with_tree_word job formula w) (λ vtree. with_tree job formula (plain_tree vtree))
-    result before now) (sym is)
-    (subst (λ (n : List ℕ). LeadsTo asks told (Reads n (with_vtree_text job formula n))
-    (λ vtree. with_tree job formula (plain_tree vtree)) result before now) same leads)
-
--- the commands are those of a script
-pub script_leads : (asks : List Request → Type 0) (told : Option Files) (job : Job) (v : ℕ)
-    (begin : List NumberedCommand → Point)
-    (word : Option (List ℕ)) (name file : List ℕ) (result : Result Script Stop) (before now : ℕ)
-    → word ≡ Some file → name ≡ file
-    → LeadsTo asks told (Reads name (with_script_text name v begin)) (script_reading v begin) result before now
-    → LeadsTo asks told (with_commands job v begin word) (script_reading v begin) result before now
-script_leads asks told job v begin word name file result before now is same leads =
-    subst (λ w. LeadsTo asks told (with_commands job v begin w) (script_reading v begin) result before now) (sym is)
-    (subst (λ (n : List ℕ). LeadsTo asks told (Reads n (with_script_text n v begin)) (script_reading v begin)
-    result before now) same leads)
+-- a stop that is handed on
+pub handed_on : {A : Type 0} (asks : List Request → Type 0) (told : Option Files) (reading : Point) (next : A → Point)
+    (result : Result A Stop) (stop : Stop) (before now : ℕ) → IsErrAnd result (λ e. e ≡ stop)
+    → StopsReading asks stop told reading before now → LeadsTo asks told reading next result before now
+handed_on asks told reading next result stop before now is a =
+    let p = err_from_is_err_and result is in
+    subst (λ r. LeadsTo asks told reading next r before now) (sym p.1)
+    (subst (λ s. StopsReading asks s told reading before now) (sym p.2) a)

@@ -15,16 +15,14 @@ use Rattle.sd_script.specs.Scripts.{Script}
 use Rattle.sd_script.specs.declared.command.Action.{Action}
 use Rattle.sd_script.specs.declared.command.Action.TheVariants as actions
 use Rattle.sd_script.specs.declared.command.Command.{Command as Line}
-use Rattle.sd_words.specs.declared.jobs.Job.{Job}
 use Rattle.sd_commands.specs.Fits.{Fits, AllFit, frees, has, bound_after}
 use Rattle.sd_commands.specs.declared.command.NumberedCommand.{NumberedCommand}
 use Rattle.sd_commands.specs.declared.command.RunCommand.{RunCommand}
 use Rattle.sd_commands.specs.declared.command.RunCommand.TheVariants as commands
 use Rattle.sd_tool.specs.Actions.{plain_of, bound_by, IsCommandOf, AreCommandsOf}
-use Rattle.sd_file.specs.Reads.{File}
-use Rattle.sd_tool.specs.Readings.{Point, Reads, with_action, with_lines, file_name, default_of}
-use Rattle.sd_tool.specs.inside.Readings.{with_sdd}
-use Rattle.sd_tool.specs.inside.Readings.{in_lines, search_of, for_file, in_line}
+use Rattle.sd_file.specs.Reads.{File, sdd_file}
+use Rattle.sd_tool.specs.Readings.{Point, reads, with_action, with_lines, file_name}
+use Rattle.sd_tool.specs.inside.Readings.{in_line}
 use Rattle.sd_tool.specs.inside.Asks.{ComesTo}
 use Rattle.sd_tool.specs.Stops.{LeadsTo}
 use Rattle.sd_tool.specs.declared.stop.Stop.{Stop}
@@ -39,48 +37,50 @@ OfSome holds None = Unit {0}
 OfSome holds (Some command) = holds command
 
 -- the command of an action without a file, and where the readings go
-pub record IsPlain (v : ℕ) (script : Script) (next : RunCommand → Point) (action : Action) (command : RunCommand)
+pub record IsPlain (v o : ℕ) (script : Script) (next : RunCommand → Point) (action : Action) (command : RunCommand)
     : Type 0 where
-  pub same : IsCommandOf v action command
+  pub same : IsCommandOf v o action command
   pub leads : with_action v script next action ≡ next command
 
-plain : (v : ℕ) (script : Script) (next : RunCommand → Point) (action : Action)
-    → OfSome (IsPlain v script next action) (plain_of action)
-plain v script next (actions.Input n) =
-    record { same = record { uses = refl; binds = refl; frees = refl; in_range = λ h. h }; leads = refl }
-plain v script next (actions.Lit n literal) =
-    record { same = record { uses = refl; binds = refl; frees = refl; in_range = λ h. h }; leads = refl }
-plain v script next (actions.Constant n value) =
-    record { same = record { uses = refl; binds = refl; frees = refl; in_range = λ h. h }; leads = refl }
-plain v script next (actions.Binary operation n a b) =
-    record { same = record { uses = refl; binds = refl; frees = refl; in_range = λ h. h }; leads = refl }
-plain v script next (actions.Not n a) =
-    record { same = record { uses = refl; binds = refl; frees = refl; in_range = λ h. h }; leads = refl }
-plain v script next (actions.Given n a literal) =
-    record { same = record { uses = refl; binds = refl; frees = refl; in_range = λ h. h }; leads = refl }
-plain v script next (actions.Forget n a x) =
-    record { same = record { uses = refl; binds = refl; frees = refl; in_range = λ h. h }; leads = refl }
-plain v script next (actions.Drop a) =
-    record { same = record { uses = refl; binds = refl; frees = refl; in_range = λ h. h }; leads = refl }
-plain v script next (actions.Turn kind p) =
+plain : (v o : ℕ) (script : Script) (next : RunCommand → Point) (action : Action)
+    → OfSome (IsPlain v o script next action) (plain_of action)
+plain v o script next (actions.Input n) =
     record { same = record { uses = refl; binds = refl; frees = refl; in_range = λ h. refl }; leads = refl }
-plain v script next (actions.Minimise rounds) =
+plain v o script next (actions.Output n index) =
+    record { same = record { uses = refl; binds = refl; frees = refl; in_range = λ h. h }; leads = refl }
+plain v o script next (actions.Lit n literal) =
+    record { same = record { uses = refl; binds = refl; frees = refl; in_range = λ h. h }; leads = refl }
+plain v o script next (actions.Constant n value) =
+    record { same = record { uses = refl; binds = refl; frees = refl; in_range = λ h. h }; leads = refl }
+plain v o script next (actions.Binary operation n a b) =
+    record { same = record { uses = refl; binds = refl; frees = refl; in_range = λ h. h }; leads = refl }
+plain v o script next (actions.Not n a) =
+    record { same = record { uses = refl; binds = refl; frees = refl; in_range = λ h. h }; leads = refl }
+plain v o script next (actions.Given n a literal) =
+    record { same = record { uses = refl; binds = refl; frees = refl; in_range = λ h. h }; leads = refl }
+plain v o script next (actions.Forget n a x) =
+    record { same = record { uses = refl; binds = refl; frees = refl; in_range = λ h. h }; leads = refl }
+plain v o script next (actions.Drop a) =
+    record { same = record { uses = refl; binds = refl; frees = refl; in_range = λ h. h }; leads = refl }
+plain v o script next (actions.Turn kind p) =
     record { same = record { uses = refl; binds = refl; frees = refl; in_range = λ h. refl }; leads = refl }
-plain v script next (actions.Limit limit) =
+plain v o script next (actions.Minimise rounds) =
     record { same = record { uses = refl; binds = refl; frees = refl; in_range = λ h. refl }; leads = refl }
-plain v script next (actions.Same a b) =
+plain v o script next (actions.Limit limit) =
+    record { same = record { uses = refl; binds = refl; frees = refl; in_range = λ h. refl }; leads = refl }
+plain v o script next (actions.Same a b) =
     record { same = record { uses = refl; binds = refl; frees = refl; in_range = λ h. h }; leads = refl }
-plain v script next (actions.Size a) =
+plain v o script next (actions.Size a) =
     record { same = record { uses = refl; binds = refl; frees = refl; in_range = λ h. h }; leads = refl }
-plain v script next (actions.Value a bits) =
+plain v o script next (actions.Value a bits) =
     record { same = record { uses = refl; binds = refl; frees = refl; in_range = λ h. h }; leads = refl }
-plain v script next action = tt
+plain v o script next action = tt
 
 -- the same of a command that was found
-pub plain_found : (v : ℕ) (script : Script) (next : RunCommand → Point) (action : Action) (command : RunCommand)
-    → plain_of action ≡ Some command → IsPlain v script next action command
-plain_found v script next action command is =
-    subst (OfSome (IsPlain v script next action)) is (plain v script next action)
+pub plain_found : (v o : ℕ) (script : Script) (next : RunCommand → Point) (action : Action) (command : RunCommand)
+    → plain_of action ≡ Some command → IsPlain v o script next action command
+plain_found v o script next action command is =
+    subst (OfSome (IsPlain v o script next action)) is (plain v o script next action)
 
 -- the name of a file that is there
 pub file_named : (script : Script) (n : ℕ) (name : List ℕ) → slice_get script.files n ≡ Some name
@@ -100,10 +100,10 @@ fold_more f b [] x = refl
 fold_more f b (y ∷ ys) x = fold_more f (f b y) ys x
 
 -- a command that fits behind the others
-fit_more : (v : ℕ) (names : List ℕ) (cs : List NumberedCommand) (c : NumberedCommand) → AllFit v names cs
-    → Fits v (fold (λ ns d. bound_after ns d.command) names cs) c.command → AllFit v names (cs ++ c ∷ [])
-fit_more v names [] c all fits = (fits, tt)
-fit_more v names (d ∷ ds) c all fits = (all.0, fit_more v (bound_after names d.command) ds c all.1 fits)
+fit_more : (v o : ℕ) (names : List ℕ) (cs : List NumberedCommand) (c : NumberedCommand) → AllFit v o names cs
+    → Fits v o (fold (λ ns d. bound_after ns d.command) names cs) c.command → AllFit v o names (cs ++ c ∷ [])
+fit_more v o names [] c all fits = (fits, tt)
+fit_more v o names (d ∷ ds) c all fits = (all.0, fit_more v o (bound_after names d.command) ds c all.1 fits)
 
 -- the element of a loop stands at its index
 found : {X : Type 0} (xs : List X) (i : ℕ) (x : X) → i < length xs → slice_get xs i ≡ Some (get_or xs i x)
@@ -119,13 +119,13 @@ pub record IsNext (lines : List Line) (index : ℕ) (line : Line) : Type 0 where
   pub is : line ≡ get_or lines index line
 
 -- no line is done yet
-pub becomes_first : (v : ℕ) (lines : List Line) → AreCommandsOf v lines 0 []
-becomes_first v lines = record { count = refl; names = refl; fit = tt }
+pub becomes_first : (v o : ℕ) (lines : List Line) → AreCommandsOf v o lines 0 []
+becomes_first v o lines = record { count = refl; names = refl; fit = tt }
 
 -- the line can be done
-pub next_allowed : (v : ℕ) (script : Script) (index : ℕ) (line : Line) → IsScript v script
-    → IsNext script.commands index line → IsAllowed v script (take index script.commands) line
-next_allowed v script index line is next =
+pub next_allowed : (v o : ℕ) (script : Script) (index : ℕ) (line : Line) → IsScript v o script
+    → IsNext script.commands index line → IsAllowed v o script (take index script.commands) line
+next_allowed v o script index line is next =
     is.allowed index line (found script.commands index line next.within ∙ ap Some (sym next.is))
 
 -- the lines up to the next, with it
@@ -135,28 +135,28 @@ taken xs index line next =
     take_more xs index line next.within ∙ ap (λ l. take index xs ++ l ∷ []) (sym next.is)
 
 -- the names that are bound then
-bound_same : (names others : List ℕ) (v : ℕ) (line : Line) (c : RunCommand) → IsCommandOf v line.action c → names ≡
+bound_same : (names others : List ℕ) (v o : ℕ) (line : Line) (c : RunCommand) → IsCommandOf v o line.action c → names ≡
     others
     → bound_after names c ≡ lines.bound_after others line
-bound_same names others v line c same is =
+bound_same names others v o line c same is =
     ap (λ (b : List ℕ). b ++ filter (λ n. not (has (frees c) n)) names) same.binds
     ∙ ap (λ (f : List ℕ). lines.binds line.action ++ filter (λ n. not (has f n)) names) same.frees
     ∙ ap (λ (ns : List ℕ). lines.bound_after ns line) is
 
 -- one more line became a command
-pub becomes_next : (v : ℕ) (script : Script) (index : ℕ) (done : List NumberedCommand) (line : Line) (c : RunCommand)
-    → IsScript v script → IsNext script.commands index line → IsCommandOf v line.action c
-    → AreCommandsOf v script.commands index done
-    → AreCommandsOf v script.commands (index + 1) (done ++ in_line line c ∷ [])
-becomes_next v script index done line c is next same was =
-    let allowed = next_allowed v script index line is next in
+pub becomes_next : (v o : ℕ) (script : Script) (index : ℕ) (done : List NumberedCommand) (line : Line) (c : RunCommand)
+    → IsScript v o script → IsNext script.commands index line → IsCommandOf v o line.action c
+    → AreCommandsOf v o script.commands index done
+    → AreCommandsOf v o script.commands (index + 1) (done ++ in_line line c ∷ [])
+becomes_next v o script index done line c is next same was =
+    let allowed = next_allowed v o script index line is next in
     record {
       count = length-append done (in_line line c ∷ []) ∙ ap (λ n. n + 1) was.count;
       names = fold_more (λ ns d. bound_after ns d.command) [] done (in_line line c)
-          ∙ bound_same (bound_by done) (lines.bound (take index script.commands)) v line c same was.names
+          ∙ bound_same (bound_by done) (lines.bound (take index script.commands)) v o line c same was.names
           ∙ sym (fold_more lines.bound_after [] (take index script.commands) line)
           ∙ ap lines.bound (sym (taken script.commands index line next));
-      fit = fit_more v [] done (in_line line c) was.fit (record {
+      fit = fit_more v o [] done (in_line line c) was.fit (record {
         used_bound = ap (list_all (has (bound_by done))) same.uses
             ∙ ap (λ (ns : List ℕ). list_all (has ns) (lines.uses line.action)) was.names ∙ allowed.used_bound;
         free = ap (list_any (has (bound_by done))) same.binds
@@ -172,51 +172,6 @@ left_at xs index line next =
     drop-cons xs index line next.within ∙ ap (λ l. l ∷ drop (suc index) xs) (sym next.is)
     ∙ ap (λ n. line ∷ drop n xs) (let e : suc index ≡ index + 1 = omega arith in e)
 
--- ---- a run without a script
-
--- its commands can be done
-pub stated_fit : (v : ℕ) (job : Job) → AllFit v [] (default_of job)
-stated_fit v job =
-    (record { used_bound = refl; free = refl; ranges = refl }, all job.minimise job.out_vtree job.out_sdd)
-  where
-    size_fits : (line : ℕ) → AllFit v (0 ∷ []) (in_lines line (commands.Size 0 ∷ []))
-    size_fits line = (record { used_bound = refl; free = refl; ranges = refl }, tt)
-
-    diagram_fits : (line : ℕ) (diagram : Option (List ℕ))
-        → AllFit v (0 ∷ []) (in_lines line (for_file (commands.Write (0 ∷ [])) diagram ++ commands.Size 0 ∷ []))
-    diagram_fits line None = size_fits line
-    diagram_fits line (Some d) = (record { used_bound = refl; free = refl; ranges = refl }, size_fits (line + 1))
-
-    both_fit : (line : ℕ) (tree diagram : Option (List ℕ))
-        → AllFit v (0 ∷ []) (in_lines line
-        (for_file commands.WriteVtree tree ++ for_file (commands.Write (0 ∷ [])) diagram ++ commands.Size 0 ∷ []))
-    both_fit line None diagram = diagram_fits line diagram
-    both_fit line (Some t) diagram =
-        (record { used_bound = refl; free = refl; ranges = refl }, diagram_fits (line + 1) diagram)
-
-    all : (rounds : Option ℕ) (tree diagram : Option (List ℕ))
-        → AllFit v (0 ∷ []) (in_lines 2
-        (search_of rounds ++ for_file commands.WriteVtree tree ++ for_file (commands.Write (0 ∷ [])) diagram
-        ++ commands.Size 0 ∷ []))
-    all None tree diagram = both_fit 2 tree diagram
-    all (Some n) tree diagram = (record { used_bound = refl; free = refl; ranges = refl }, both_fit 3 tree diagram)
-
--- and there are few of them
-pub stated_few : (job : Job) → length (default_of job) ≤ 100000
-stated_few job = go job.minimise job.out_vtree job.out_sdd
-  where
-    go : (rounds : Option ℕ) (tree diagram : Option (List ℕ)) → length (in_lines 1 (commands.Input 0
-        ∷ search_of rounds ++ for_file commands.WriteVtree tree ++ for_file (commands.Write (0 ∷ [])) diagram
-        ++ commands.Size 0 ∷ [])) ≤ 100000
-    go None None None = omega arith
-    go None None (Some d) = omega arith
-    go None (Some t) None = omega arith
-    go None (Some t) (Some d) = omega arith
-    go (Some n) None None = omega arith
-    go (Some n) None (Some d) = omega arith
-    go (Some n) (Some t) None = omega arith
-    go (Some n) (Some t) (Some d) = omega arith
-
 -- ---- the commands with a file
 
 -- a load leads on where its file does
@@ -224,13 +179,13 @@ pub load_leads : (asks : List Request → Type 0) (told : Option Files) (v : ℕ
     (n file : ℕ) (name : List ℕ)
     (result : Result File Stop) (before now : ℕ) → action ≡ actions.Load n file
     → slice_get script.files file ≡ Some name
-    → ((next : File → Point) → LeadsTo asks told (Reads name (with_sdd v name next)) next result before now)
+    → ((next : File → Point) → LeadsTo asks told (reads 2 (sdd_file v) name next) next result before now)
     → (next : RunCommand → Point)
     → LeadsTo asks told (with_action v script next action) (λ read. next (commands.Load n read)) result before now
 load_leads asks told v script action n file name result before now is there leads next =
     subst (λ a. LeadsTo asks told (with_action v script next a) (λ read. next (commands.Load n read)) result before now)
     (sym is)
-    (subst (λ (f : List ℕ). LeadsTo asks told (Reads f (with_sdd v f (λ read. next (commands.Load n read))))
+    (subst (λ (f : List ℕ). LeadsTo asks told (reads 2 (sdd_file v) f (λ read. next (commands.Load n read)))
     (λ read. next (commands.Load n read)) result before now) (sym (file_named script file name there))
     (leads (λ read. next (commands.Load n read))))
 
@@ -245,10 +200,11 @@ write_leads asks told v script action names file name command is there same none
     ∙ ap (λ (f : List ℕ). next (commands.Write names f)) (file_named script file name there) ∙ ap next (sym same))
 
 -- the command of such an action
-pub write_same : (v : ℕ) (action : Action) (names : List ℕ) (file : ℕ) (name : List ℕ) (command : RunCommand)
-    → action ≡ actions.Write names file → command ≡ commands.Write names name → IsCommandOf v action command
-write_same v action names file name command is same =
-    subst (IsCommandOf v action) (sym same) (subst (λ a. IsCommandOf v a (commands.Write names name)) (sym is) (record {
+pub write_same : (v o : ℕ) (action : Action) (names : List ℕ) (file : ℕ) (name : List ℕ) (command : RunCommand)
+    → action ≡ actions.Write names file → command ≡ commands.Write names name → IsCommandOf v o action command
+write_same v o action names file name command is same =
+    subst (IsCommandOf v o action) (sym same)
+    (subst (λ a. IsCommandOf v o a (commands.Write names name)) (sym is) (record {
       uses = refl;
       binds = refl;
       frees = refl;

@@ -1,14 +1,21 @@
 -- Where the readings of a run are over, a refusal has one of three statuses, and a plan begins with a vtree.
-use Rattle.std.proofs.Common.{◌≡◌, ◌⊎◌, ℕ, ◌≤◌, List, [], ◌∷◌, ◌++◌, Option, Some, None, Result, Ok, Err}
+use Rattle.std.proofs.Common.{◌≡◌, ◌⊎◌, ℕ, ◌≤◌, List, [], ◌∷◌, ◌++◌, length, Option, Some, None, Result, Ok, Err}
 use Rattle.std.proofs.Common.{inl, inr, refl, sym, subst, arith}
+use Rattle.std.specs.FinMap.{FinMap}
+use Rattle.std.specs.Ordering.{nat_cmp}
+use Rattle.sd_aiger.specs.Reads.{aiger}
 use Rattle.sd_base.specs.Files.{Files}
+use Rattle.sd_base.specs.Reading.{◌>>=◌}
+use Rattle.sd_model.specs.Circuit.{Circuit}
 use Rattle.sd_model.specs.Tree.{Tree, IsVtree}
 use Rattle.sd_model.specs.StartTrees.{balanced_tree, right_tree, left_tree}
 use Rattle.sd_formula.specs.Dimacs.{Groups, dimacs}
+use Rattle.sd_formula.specs.Formulas.{no_groups}
 use Rattle.sd_formula.specs.Generated.{IsGenerable, generated_formula}
 use Rattle.sd_formula.specs.declared.formula.Kind.TheVariants as kinds
 use Rattle.sd_formula.proofs.RangeLaws.{accepted_fits}
-use Rattle.sd_vfile.specs.Reads.{vtree_file}
+use Rattle.sd_vfile.specs.Ids.{ids_of}
+use Rattle.sd_vfile.specs.Reads.{vtree_file, variables_stated}
 use Rattle.sd_vfile.proofs.Accepted.{accepted}
 use Rattle.sd_file.specs.Reads.{File, sdd_file}
 use Rattle.sd_script.specs.Scripts.{Script, script_of}
@@ -21,18 +28,22 @@ use Rattle.sd_words.specs.declared.jobs.InputWord.{InputWord}
 use Rattle.sd_words.specs.declared.jobs.InputWord.TheVariants as inputs
 use Rattle.sd_words.specs.declared.jobs.TreeWord.{TreeWord}
 use Rattle.sd_words.specs.declared.jobs.TreeWord.TheVariants as trees
+use Rattle.sd_commands.specs.Commands.{no_circuit}
 use Rattle.sd_commands.specs.declared.command.NumberedCommand.{NumberedCommand}
 use Rattle.sd_commands.specs.declared.command.RunCommand.{RunCommand}
 use Rattle.sd_commands.specs.declared.command.RunCommand.TheVariants as commands
 use Rattle.sd_tool.specs.Readings.{Point, Refuses, Reads, Stands}
 use Rattle.sd_tool.specs.inside.Plans.{Plan, point_of, plan_for}
 use Rattle.sd_tool.specs.inside.Course.{ReadsTo}
-use Rattle.sd_tool.specs.inside.Readings.{Text, Input, with_job, with_input, with_formula_reading}
+use Rattle.sd_tool.specs.Readings.{CheckedVtree, checked_vtree, with_check, with_checked, with_circuit, reads}
+use Rattle.sd_tool.specs.Readings.{or_refused}
+use Rattle.sd_tool.specs.inside.Readings.{Text, Input, parsed, with_job, with_input, with_formula_reading}
 use Rattle.sd_tool.specs.Readings.{reading_of, with_input_word, with_tree_word, with_tree, with_commands}
 use Rattle.sd_tool.specs.inside.Readings.{with_vtree_text, with_vtree_reading, script_reading}
 use Rattle.sd_tool.specs.Readings.{with_lines, with_action, file_name, default_of}
 use Rattle.sd_tool.specs.inside.Readings.{in_line}
 use Rattle.sd_tool.specs.inside.Readings.{with_script_text, with_script_reading, with_sdd, with_sdd_reading}
+use Rattle.sd_tool.proofs.Circuits.{both_kinds}
 use Rattle.sd_tool.proofs.StartTrees.{balanced_fits, right_fits, left_fits}
 use Rattle.sd_tool.proofs.WordsInRange.{IsInRange, in_range}
 
@@ -78,6 +89,7 @@ sound_sdd v file next (Some bytes) sound = go (sdd_file v bytes)
 sound_action : (v : ℕ) (s : Script) (next : RunCommand → Point) (action : Action)
     → ((command : RunCommand) → AreSound (next command)) → AreSound (with_action v s next action)
 sound_action v s next (actions.Input n) sound = sound (commands.Input n)
+sound_action v s next (actions.Output n index) sound = sound (commands.Output n index)
 sound_action v s next (actions.Load n file) sound = λ text.
     sound_sdd v (file_name s file) (λ read. next (commands.Load n read)) text (λ read. sound (commands.Load n read))
 sound_action v s next (actions.Lit n literal) sound = sound (commands.Literal n literal)
@@ -109,39 +121,42 @@ sound_script : (v : ℕ) (s : Script) (begin : List NumberedCommand → Point) �
     → AreSound (script_reading v begin s)
 sound_script v s begin sound = sound_lines v s begin [] s.commands sound
 
-sound_script_text : (file : List ℕ) (v : ℕ) (begin : List NumberedCommand → Point) (text : Text)
-    → ((cs : List NumberedCommand) → AreSound (begin cs)) → AreSound (with_script_text file v begin text)
-sound_script_text file v begin None sound = inr (inr refl)
-sound_script_text file v begin (Some bytes) sound = go (script_of v bytes)
+sound_script_text : (file : List ℕ) (v o : ℕ) (begin : List NumberedCommand → Point) (text : Text)
+    → ((cs : List NumberedCommand) → AreSound (begin cs)) → AreSound (with_script_text file v o begin text)
+sound_script_text file v o begin None sound = inr (inr refl)
+sound_script_text file v o begin (Some bytes) sound = go (script_of v o bytes)
   where
     go : (read : Result Script (List ℕ)) → AreSound (with_script_reading file v begin read)
     go (Ok s) = sound_script v s begin sound
     go (Err fault) = inr (inr refl)
 
-sound_commands : (job : Job) (v : ℕ) (begin : List NumberedCommand → Point) (file : Option (List ℕ))
-    → ((cs : List NumberedCommand) → AreSound (begin cs)) → AreSound (with_commands job v begin file)
-sound_commands job v begin None sound = sound (default_of job)
-sound_commands job v begin (Some file) sound = λ text. sound_script_text file v begin text sound
+sound_commands : (job : Job) (v o : ℕ) (begin : List NumberedCommand → Point) (file : Option (List ℕ))
+    → ((cs : List NumberedCommand) → AreSound (begin cs)) → AreSound (with_commands job v o begin file)
+sound_commands job v o begin None sound = sound (default_of job o)
+sound_commands job v o begin (Some file) sound = λ text. sound_script_text file v o begin text sound
 
--- ---- the formula and its tree
+-- ---- the input and its tree
 
-sound_tree : (job : Job) (f : Groups) (tree : Tree) → IsVtree tree → AreSound (with_tree job f tree)
-sound_tree job f tree is =
-    sound_commands job f.variables (λ cs. point_of (plan_for job f tree cs)) job.script (λ cs. is)
+sound_tree : (job : Job) (f : Groups) (c : Circuit) (tree : Tree) → IsVtree tree → AreSound (with_tree job f c tree)
+sound_tree job f c tree is = sound_commands job f.variables (length c.outputs)
+    (λ cs. point_of (plan_for job f c tree cs)) job.script (λ cs. is)
 
-sound_tree_word : (job : Job) (f : Groups) (word : TreeWord) → 1 ≤ f.variables → AreSound (with_tree_word job f word)
-sound_tree_word job f trees.Balanced some =
-    sound_tree job f (balanced_tree f.variables) (balanced_fits f.variables some).vtree
-sound_tree_word job f trees.Right some = sound_tree job f (right_tree f.variables) (right_fits f.variables some).vtree
-sound_tree_word job f trees.Left some = sound_tree job f (left_tree f.variables) (left_fits f.variables some).vtree
-sound_tree_word job f (trees.File file) some = λ text. read text
+sound_tree_word : (job : Job) (f : Groups) (c : Circuit) (word : TreeWord) → 1 ≤ f.variables
+    → AreSound (with_tree_word job f c word)
+sound_tree_word job f c trees.Balanced some =
+    sound_tree job f c (balanced_tree f.variables) (balanced_fits f.variables some).vtree
+sound_tree_word job f c trees.Right some =
+    sound_tree job f c (right_tree f.variables) (right_fits f.variables some).vtree
+sound_tree_word job f c trees.Left some =
+    sound_tree job f c (left_tree f.variables) (left_fits f.variables some).vtree
+sound_tree_word job f c (trees.File file) some = λ text. read text
   where
     go : (bytes : List ℕ) (read : Result Tree (List ℕ)) → vtree_file f.variables bytes ≡ read
-        → AreSound (with_vtree_reading job f file read)
-    go bytes (Ok tree) is = sound_tree job f tree (accepted f.variables bytes tree is).vtree
+        → AreSound (with_vtree_reading job f c file read)
+    go bytes (Ok tree) is = sound_tree job f c tree (accepted f.variables bytes tree is).vtree
     go bytes (Err fault) is = inr (inl refl)
 
-    read : (text : Text) → AreSound (with_vtree_text job f file text)
+    read : (text : Text) → AreSound (with_vtree_text job f c file text)
     read None = inr (inl refl)
     read (Some bytes) = go bytes (vtree_file f.variables bytes) refl
 
@@ -151,8 +166,64 @@ sound_input job input (Some bytes) = go (dimacs input.kind bytes) refl
   where
     go : (read : Result Groups (List ℕ)) → dimacs input.kind bytes ≡ read
         → AreSound (with_formula_reading job input.file read)
-    go (Ok f) is = sound_tree_word job f job.tree (accepted_fits input.kind bytes f is).at_least_one
+    go (Ok f) is = sound_tree_word job f no_circuit job.tree (accepted_fits input.kind bytes f is).at_least_one
     go (Err fault) is = inr (inl refl)
+
+sound_circuit : (job : Job) (file : List ℕ) (text : Text) → AreSound (parsed 2 aiger file (with_circuit job) text)
+sound_circuit job file None = inr (inl refl)
+sound_circuit job file (Some bytes) = go (aiger bytes) refl
+  where
+    go : (read : Result Circuit (List ℕ)) → aiger bytes ≡ read → AreSound (or_refused 2 file (with_circuit job) read)
+    go (Ok c) is =
+        sound_tree_word job (no_groups kinds.Cnf (length c.inputs)) c job.tree (both_kinds bytes c is).inputs.0
+    go (Err fault) is = inr (inl refl)
+
+-- ---- a check
+
+-- the tree of a vtree file that is read so
+checked_tree : (bytes : List ℕ) (vtree : CheckedVtree) → checked_vtree bytes ≡ Ok vtree → IsVtree vtree.tree
+checked_tree bytes vtree e = by (variables_stated bytes) e
+  where
+    last : (v : ℕ) (tree : Tree) (ids : Result (FinMap nat_cmp ℕ) (List ℕ)) → IsVtree tree
+        → (ids >>= λ ids. Ok (record { variables = v; tree = tree; ids = ids })) ≡ Ok vtree → IsVtree vtree.tree
+    last v tree (Ok ids) is e =
+        let same : record { variables = v; tree = tree; ids = ids } ≡ vtree = cc in
+        subst (λ (c : CheckedVtree). IsVtree c.tree) same is
+    last v tree (Err fault) is e = let bad : ⊥ = cc in absurd bad
+
+    with_tree_of : (v : ℕ) (tree : Result Tree (List ℕ)) → vtree_file v bytes ≡ tree
+        → (tree >>= λ tree. ids_of v bytes >>= λ ids. Ok (record { variables = v; tree = tree; ids = ids })) ≡ Ok vtree
+        → IsVtree vtree.tree
+    with_tree_of v (Ok tree) is e = last v tree (ids_of v bytes) (accepted v bytes tree is).vtree e
+    with_tree_of v (Err fault) is e = let bad : ⊥ = cc in absurd bad
+
+    by : (v : Result ℕ (List ℕ))
+        → (v >>= λ v. vtree_file v bytes >>= λ tree. ids_of v bytes >>= λ ids.
+        Ok (record { variables = v; tree = tree; ids = ids })) ≡ Ok vtree → IsVtree vtree.tree
+    by (Ok v) e = with_tree_of v (vtree_file v bytes) refl e
+    by (Err fault) e = let bad : ⊥ = cc in absurd bad
+
+sound_checked : (job : Job) (file : List ℕ) (vtree : CheckedVtree) (text : Text) → IsVtree vtree.tree
+    → AreSound (with_sdd vtree.variables file (with_checked job vtree) text)
+sound_checked job file vtree text is = sound_sdd vtree.variables file (with_checked job vtree) text (λ read. is)
+
+sound_check : (job : Job) (file : List ℕ) (word : TreeWord) → AreSound (with_check job file word)
+sound_check job file trees.Balanced = inl refl
+sound_check job file trees.Right = inl refl
+sound_check job file trees.Left = inl refl
+sound_check job file (trees.File tree) = λ text. read text
+  where
+    next : CheckedVtree → Point
+    next vtree = reads 2 (sdd_file vtree.variables) file (with_checked job vtree)
+
+    go : (bytes : List ℕ) (read : Result CheckedVtree (List ℕ)) → checked_vtree bytes ≡ read
+        → AreSound (or_refused 2 tree next read)
+    go bytes (Ok vtree) is = λ text. sound_checked job file vtree text (checked_tree bytes vtree is)
+    go bytes (Err fault) is = inr (inl refl)
+
+    read : (text : Text) → AreSound (parsed 2 checked_vtree tree next text)
+    read None = inr (inl refl)
+    read (Some bytes) = go bytes (checked_vtree bytes) refl
 
 -- ---- the words
 
@@ -160,10 +231,12 @@ sound_input_word : (job : Job) (word : InputWord) → IsInRange word → AreSoun
 sound_input_word job (inputs.Cnf file) fits = λ text. sound_input job (record { kind = kinds.Cnf; file = file }) text
 sound_input_word job (inputs.Dnf file) fits = λ text. sound_input job (record { kind = kinds.Dnf; file = file }) text
 sound_input_word job (inputs.Generate count seed) fits =
-    sound_tree_word job (generated_formula count seed) job.tree (some_of count seed fits)
+    sound_tree_word job (generated_formula count seed) no_circuit job.tree (some_of count seed fits)
   where
     some_of : (n s : ℕ) → IsGenerable n s → 1 ≤ n
     some_of n s fits = let three = fits.at_least_three in omega arith
+sound_input_word job (inputs.Aag file) fits = λ text. sound_circuit job file text
+sound_input_word job (inputs.Check file) fits = sound_check job file job.tree
 
 sound_words : (ws : List (List ℕ)) → AreSound (reading_of ws)
 sound_words ws = go (job_of ws) refl

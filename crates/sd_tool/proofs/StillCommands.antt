@@ -1,19 +1,25 @@
 -- Commands that do not move the vtree, so that no place of theirs is not movable.
-use Rattle.std.proofs.Common.{◌≡◌, ℕ, Bool, true, false, Option, Some, None, List, [], ◌∷◌, ◌++◌, inl, inr}
-use Rattle.std.proofs.Common.{refl, sym, subst}
+use Rattle.std.proofs.Common.{◌≡◌, ℕ, zero, suc, ◌+◌, Bool, true, false, Option, Some, None, List, [], ◌∷◌, ◌++◌}
+use Rattle.std.proofs.Common.{inl, inr, map, refl, sym, subst}
+use Rattle.std.specs.List.{range_with_len}
+use Rattle.std.specs.Option.{option_map_or, option_to_list}
+use Rattle.std.specs.Prelude.{if◌then◌else◌}
 use Rattle.sd_formula.specs.Dimacs.{Groups}
+use Rattle.sd_formula.specs.Formulas.{expression_of}
+use Rattle.sd_parts.specs.Parts.{PartsOutcome, Joined, Passed}
+use Rattle.sd_starts.specs.Starts.{Choice, Chosen, AllPassed}
 use Rattle.sd_words.specs.declared.jobs.Job.{Job}
 use Rattle.sd_words.specs.declared.jobs.InputWord.{InputWord}
 use Rattle.sd_words.specs.declared.jobs.InputWord.TheVariants as inputs
 use Rattle.sd_commands.specs.Effects.{Effect}
-use Rattle.sd_commands.specs.Commands.{State, NotMovable as Unmoved, Step, Settles}
+use Rattle.sd_commands.specs.Commands.{State, NotMovable as Unmoved, Step, Settles, by_parts, by_choice}
 use Rattle.sd_commands.specs.declared.command.NumberedCommand.{NumberedCommand}
 use Rattle.sd_commands.specs.declared.command.RunCommand.{RunCommand}
 use Rattle.sd_commands.specs.declared.command.RunCommand.TheVariants as commands
 use Rattle.sd_commands.proofs.Settling.{never_unmoved as never_settled}
-use Rattle.sd_tool.specs.Readings.{announcement, default_of}
+use Rattle.sd_tool.specs.Readings.{announcement, binding, choice, default_of, first_names}
 use Rattle.sd_tool.specs.inside.Plans.{Plan}
-use Rattle.sd_tool.specs.inside.Readings.{in_lines, for_file, search_of}
+use Rattle.sd_tool.specs.inside.Readings.{in_lines}
 use Rattle.sd_tool.specs.Ends.{NotMovable}
 use Rattle.sd_tool.specs.inside.Course.{EndsAmong}
 
@@ -53,6 +59,18 @@ not_unmoved input state (commands.Size a) still p = let e = p.2 in cc
 not_unmoved input state (commands.Value a bits) still step = cc
 not_unmoved input state (commands.Write names file) still p = let e = p.2 in cc
 not_unmoved input state (commands.WriteVtree file) still step = cc
+not_unmoved input state (commands.InputByParts n count) still p = by_end p.0 p.2
+  where
+    by_end : (end : PartsOutcome) → Unmoved ≡ by_parts state n (expression_of input) end → ⊥
+    by_end Joined e = cc
+    by_end (Passed group size) e = cc
+not_unmoved input state (commands.Choose rounds) still p = by_end p.0 p.2
+  where
+    by_end : (choice : Choice) → Unmoved ≡ by_choice state choice → ⊥
+    by_end (Chosen start size) e = cc
+    by_end (AllPassed group size) e = cc
+not_unmoved input state (commands.Output n index) still p = not_settled _ p
+not_unmoved input state (commands.Check file ids) still p = let e = p.2 in cc
 
 -- each of them does not
 still_at : (done left : List NumberedCommand) (command : NumberedCommand) → AreStill (done ++ command ∷ left)
@@ -67,23 +85,64 @@ never_unmoved plan effects line still (state, next, at, is_line, step) =
     not_unmoved plan.input state next.command
     (still_at at.reaches.done at.left next (subst AreStill (sym at.reaches.in_order) still)) step
 
--- the commands of a job without a script are of that kind
-pub default_still : (job : Job) (f : Groups) → AreStill (announcement job.input f ++ default_of job)
-default_still job f = first job.input
-  where
-    all_still : (search : Option ℕ) (vtree sdd : Option (List ℕ))
-        → AreStill (in_lines 1 (commands.Input 0 ∷ search_of search ++ for_file commands.WriteVtree vtree
-        ++ for_file (commands.Write (0 ∷ [])) sdd ++ commands.Size 0 ∷ []))
-    all_still None None None = (refl, (refl, tt))
-    all_still None None (Some sdd) = (refl, (refl, (refl, tt)))
-    all_still None (Some vtree) None = (refl, (refl, (refl, tt)))
-    all_still None (Some vtree) (Some sdd) = (refl, (refl, (refl, (refl, tt))))
-    all_still (Some rounds) None None = (refl, (refl, (refl, tt)))
-    all_still (Some rounds) None (Some sdd) = (refl, (refl, (refl, (refl, tt))))
-    all_still (Some rounds) (Some vtree) None = (refl, (refl, (refl, (refl, tt))))
-    all_still (Some rounds) (Some vtree) (Some sdd) = (refl, (refl, (refl, (refl, (refl, tt)))))
+-- commands without lines of that kind
+abbrev AreStillAlone : List RunCommand → Type 0
+AreStillAlone [] = Unit {0}
+AreStillAlone (command ∷ commands) = (is_move command ≡ false) × AreStillAlone commands
 
-    first : (word : InputWord) → AreStill (announcement word f ++ default_of job)
-    first (inputs.Cnf file) = all_still job.minimise job.out_vtree job.out_sdd
-    first (inputs.Dnf file) = all_still job.minimise job.out_vtree job.out_sdd
-    first (inputs.Generate count seed) = (refl, all_still job.minimise job.out_vtree job.out_sdd)
+still_on : (cs ds : List RunCommand) → AreStillAlone cs → AreStillAlone ds → AreStillAlone (cs ++ ds)
+still_on [] ds p q = q
+still_on (c ∷ cs) ds p q = (p.0, still_on cs ds p.1 q)
+
+still_lines : (first : ℕ) (cs : List RunCommand) → AreStillAlone cs → AreStill (in_lines first cs)
+still_lines first [] p = tt
+still_lines first (c ∷ cs) p = (p.0, still_lines (first + 1) cs p.1)
+
+-- one command for each of a list
+still_each : {A : Type 0} (f : A → RunCommand) → ((x : A) → is_move (f x) ≡ false) → (xs : List A)
+    → AreStillAlone (map f xs)
+still_each f still [] = tt
+still_each f still (x ∷ xs) = (still x, still_each f still xs)
+
+still_append : (xs ys : List NumberedCommand) → AreStill xs → AreStill ys → AreStill (xs ++ ys)
+still_append [] ys p q = q
+still_append (x ∷ xs) ys p q = (p.0, still_append xs ys p.1 q)
+
+-- what binds the first names
+still_binding : (job : Job) (outputs : ℕ) → AreStillAlone (binding job outputs)
+still_binding job zero = go job.parts
+  where
+    go : (parts : Option ℕ) → AreStillAlone (option_map_or (commands.InputByParts 0) parts (commands.Input 0) ∷ [])
+    go None = (refl, tt)
+    go (Some count) = (refl, tt)
+still_binding job (suc o) = still_each (λ i. commands.Output i i) (λ i. refl) (range_with_len 0 (suc o))
+
+-- the commands of a job without a script are of that kind
+pub default_still : (job : Job) (f : Groups) (outputs : ℕ)
+    → AreStill (announcement job.input f ++ (choice job ++ default_of job outputs))
+default_still job f outputs =
+    still_append (announcement job.input f) (choice job ++ default_of job outputs) (told job.input)
+    (still_append (choice job) (default_of job outputs) (chosen job.portfolio) (still_lines 1 _ all))
+  where
+    told : (word : InputWord) → AreStill (announcement word f)
+    told (inputs.Cnf file) = tt
+    told (inputs.Dnf file) = tt
+    told (inputs.Generate count seed) = (refl, tt)
+    told (inputs.Aag file) = tt
+    told (inputs.Check file) = tt
+
+    chosen : (b : Bool)
+        → AreStill (if b then record { line = 1; command = commands.Choose job.minimise } ∷ [] else [])
+    chosen true = (refl, tt)
+    chosen false = tt
+
+    all : AreStillAlone (binding job outputs ++ map commands.Minimise (option_to_list job.minimise)
+        ++ map commands.WriteVtree (option_to_list job.out_vtree)
+        ++ map (commands.Write (first_names outputs)) (option_to_list job.out_sdd)
+        ++ map commands.Size (first_names outputs))
+    all =
+        still_on _ _ (still_on _ _ (still_on _ _ (still_on _ _ (still_binding job outputs)
+        (still_each commands.Minimise (λ r. refl) (option_to_list job.minimise)))
+        (still_each commands.WriteVtree (λ file. refl) (option_to_list job.out_vtree)))
+        (still_each (commands.Write (first_names outputs)) (λ file. refl) (option_to_list job.out_sdd)))
+        (still_each commands.Size (λ n. refl) (first_names outputs))

@@ -82,23 +82,28 @@ generate_reads : (parsed : ParsedOptions) → number_range parsed ≡ None
 unfolding number_range
 generate_reads parsed is = first_fits (has_bad_number parsed (codes "generate")) _ is
 
--- one of the three inputs is there
+-- one of the five inputs is there
 some_input : (parsed : ParsedOptions) → no_input parsed ≡ None
     → fault_where (count_by (λ (o : Option (List ℕ)). is_some o)
-    (parsed (codes "cnf") ∷ parsed (codes "dnf") ∷ parsed (codes "generate") ∷ []) == 0) words.NoInput ≡ None
+    (parsed (codes "cnf") ∷ parsed (codes "dnf") ∷ parsed (codes "generate") ∷ parsed (codes "aag")
+    ∷ parsed (codes "check") ∷ []) == 0) words.NoInput ≡ None
 unfolding no_input
 some_input parsed is = is
 
 -- the input of values that are there and read
-input_fits : (cnf dnf numbers : Option (List ℕ))
-    → fault_where (count_by (λ (o : Option (List ℕ)). is_some o) (cnf ∷ dnf ∷ numbers ∷ []) == 0) words.NoInput ≡ None
+input_fits : (cnf dnf numbers aag check : Option (List ℕ))
+    → fault_where (count_by (λ (o : Option (List ℕ)). is_some o) (cnf ∷ dnf ∷ numbers ∷ aag ∷ check ∷ []) == 0)
+    words.NoInput ≡ None
     → fails count_and_seed numbers ≡ false
-    → IsInRange (option_map_or input.Cnf cnf (option_map_or input.Dnf dnf
-    (option_map_or (λ g. input.Generate g.0 g.1) (option_and_then count_and_seed numbers) (input.Generate 0 0))))
-input_fits (Some file) dnf numbers some reads = tt
-input_fits None (Some file) numbers some reads = tt
-input_fits None None None some reads = let bad : ⊥ = cc in absurd bad
-input_fits None None (Some text) some reads = go (count_and_seed text) refl reads
+    → IsInRange (option_map_or input.Cnf cnf (option_map_or input.Dnf dnf (option_map_or input.Aag aag
+    (option_map_or input.Check check
+    (option_map_or (λ g. input.Generate g.0 g.1) (option_and_then count_and_seed numbers) (input.Generate 0 0))))))
+input_fits (Some file) dnf numbers aag check some reads = tt
+input_fits None (Some file) numbers aag check some reads = tt
+input_fits None None numbers (Some file) check some reads = tt
+input_fits None None numbers None (Some file) some reads = tt
+input_fits None None None None None some reads = let bad : ⊥ = cc in absurd bad
+input_fits None None (Some text) None None some reads = go (count_and_seed text) refl reads
   where
     go : (read : Option (ℕ × ℕ)) → count_and_seed text ≡ read → is_none read ≡ false
         → IsInRange (option_map_or (λ g. input.Generate g.0 g.1) read (input.Generate 0 0))
@@ -112,7 +117,8 @@ parsed_fits parsed none =
     let second = none_here (two_inputs parsed) (drop 2 (rows parsed)) first.1 in
     let third = none_here (two_vtrees parsed) (drop 3 (rows parsed)) second.1 in
     let fourth = none_here (number_range parsed) (drop 4 (rows parsed)) third.1 in
-    input_fits (parsed (codes "cnf")) (parsed (codes "dnf")) (parsed (codes "generate"))
+    input_fits (parsed (codes "cnf")) (parsed (codes "dnf")) (parsed (codes "generate")) (parsed (codes "aag"))
+    (parsed (codes "check"))
     (some_input parsed first.0) (generate_reads parsed fourth.0)
 
 job_fits : (parsed : ParsedOptions) (job : Job) → unless (first_some (rows parsed)) (job_of_parsed parsed) ≡ Ok job

@@ -1,11 +1,15 @@
 -- At status 0 a run without a script writes the texts of the input's diagram and of its vtree.
 -- Equal texts of diagrams are one function.
-use Rattle.std.proofs.Common.{◌≡◌, ◌↔◌, ℕ, ◌+◌, List, [], ◌∷◌, ◌++◌, length, Option, Some, None}
-use Rattle.std.proofs.Common.{Result, Ok, Err, codes}
+use Rattle.std.proofs.Common.{◌≡◌, ◌↔◌, ℕ, ◌+◌, Bool, List, [], ◌∷◌, ◌++◌, length, Option, Some, None}
+use Rattle.std.proofs.Common.{Result, Ok, Err}
+use Rattle.std.proofs.Common.{codes}
+use Rattle.std.specs.Prelude.{if◌then◌else◌, is_some}
+use Rattle.std.specs.Option.{option_and_then, option_map_or}
 use Rattle.std.proofs.Common.{inl, inr, refl, sym, ap, subst, ◌∙◌}
 use Rattle.std.specs.List.{AllZip}
 use Rattle.sd_base.specs.Files.{Files, told_with}
 use Rattle.sd_base.specs.Sink.{told_then}
+use Rattle.sd_model.specs.Circuit.{Circuit}
 use Rattle.sd_model.specs.Expression.{Expression, AreOneFunction}
 use Rattle.sd_model.specs.StartTrees.{balanced_tree, right_tree, left_tree}
 use Rattle.sd_model.specs.Tree.{Tree, IsVtree, leaves}
@@ -19,9 +23,10 @@ use Rattle.sd_formula.specs.Generated.{generated_formula}
 use Rattle.sd_formula.specs.declared.formula.Kind.TheVariants as kinds
 use Rattle.sd_vfile.specs.Reads.{vtree_file}
 use Rattle.sd_manager.specs.Table.{Table}
+use Rattle.sd_words.specs.Fitting.{IsFormulaWord}
 use Rattle.sd_words.specs.JobOf.{job_of, job_of_parsed}
-use Rattle.sd_words.specs.Ordinary.{setting_of}
-use Rattle.sd_words.specs.ParsedOptions.{ParsedOptions}
+use Rattle.sd_words.specs.Numbers.{count_and_seed, number_of_text}
+use Rattle.sd_words.specs.Ordinary.{Setting, setting_of}
 use Rattle.sd_words.proofs.OrdinaryLaw.{ordinary_values_kept}
 use Rattle.sd_words.specs.declared.jobs.Job.{Job}
 use Rattle.sd_words.specs.declared.jobs.InputWord.{InputWord}
@@ -30,7 +35,7 @@ use Rattle.sd_words.specs.declared.jobs.TreeWord.{TreeWord}
 use Rattle.sd_words.specs.declared.jobs.TreeWord.TheVariants as trees
 use Rattle.sd_commands.specs.Effects.{Effect, Write, Print}
 use Rattle.sd_commands.specs.Commands.{Grows, State, Done, Steps, IsTextOf, with_name, formula_named, size_line}
-use Rattle.sd_commands.specs.Commands.{generated_line, search_line, formulas_of}
+use Rattle.sd_commands.specs.Commands.{generated_line, no_circuit, search_line, formulas_of}
 use Rattle.sd_commands.specs.Standing.{start}
 use Rattle.sd_commands.specs.declared.command.NumberedCommand.{NumberedCommand}
 use Rattle.sd_commands.specs.declared.command.RunCommand.{RunCommand}
@@ -44,20 +49,19 @@ use Rattle.sd_tool.specs.inside.Plans.{Plan, point_of, plan_for}
 use Rattle.sd_tool.specs.inside.Readings.{Text}
 use Rattle.sd_tool.specs.inside.Course.{ReadsTo, MayEnd, after_effects}
 use Rattle.sd_tool.specs.inside.Readings.{Input, with_job, with_input, with_formula_reading, with_vtree_reading}
-use Rattle.sd_tool.specs.inside.Readings.{IsInput}
 use Rattle.sd_tool.specs.Readings.{reading_of, with_input_word, with_tree_word}
 use Rattle.sd_tool.specs.Readings.{with_tree, with_commands, default_of}
 use Rattle.sd_tool.specs.inside.Readings.{in_lines, for_file}
-use Rattle.sd_tool.specs.Readings.{announcement}
+use Rattle.sd_tool.specs.Readings.{announcement, choice, first_state}
 use Rattle.sd_tool.specs.inside.Readings.{search_of}
 use Rattle.sd_tool.specs.Ends.{Finished}
 use Rattle.sd_tool.specs.Devices.{Seen}
-use Rattle.sd_tool.specs.Laws.{HasWritten, HasWrittenValues}
+use Rattle.sd_tool.specs.Laws.{ArePlain, HasWritten, HasWrittenValues}
 use Rattle.sd_tool.specs.Course.{Goes, Course}
 use Rattle.sd_tool.specs.Texts.{WritesAt}
 use Rattle.sd_tool.specs.inside.ByStatus.{IsOneCourse}
-use Rattle.sd_tool.specs.Written.{ReadsAs, IsFormulaOf, IsStartTree, IsWritten, PlainRun, WritesInput, WritesJob}
-use Rattle.sd_tool.specs.Written.{with_output, with_announcement, IsFound}
+use Rattle.sd_tool.specs.Written.{ReadsAs, IsFormulaOf, IsPlainJob, IsStartTree, IsWritten, IsWrittenFrom, PlainRun}
+use Rattle.sd_tool.specs.Written.{with_output, with_announcement, IsFound, WritesInput, WritesJob}
 use Rattle.sd_tool.proofs.AskLemmas.{by_reads_to}
 use Rattle.sd_tool.proofs.ByStatus.{effects_at}
 use Rattle.sd_tool.proofs.OneCourse.{steps_valid, whole_plan}
@@ -67,75 +71,81 @@ use Rattle.sd_tool.proofs.RootsTexts.{texts_of_roots}
 use Rattle.sd_tool.proofs.Walks.{all_of, commands_back}
 
 -- a plan is that of an input and its tree, with the stated commands
-record FromInput (words : List (List ℕ)) (files : Files) (job : Job) (plan : Plan) : Type 0 where
-  formula : Groups
-  tree : Tree
-  input : IsInput words files job formula
-  start : IsStartTree files job.tree formula.variables tree
-  is : plan ≡ plan_for job formula tree (default_of job)
+pub record FromInput (words : List (List ℕ)) (files : Files) (job : Job) (plan : Plan) : Type 0 where
+  pub formula : Groups
+  pub tree : Tree
+  pub named : job_of words ≡ Ok job
+  pub input : IsFormulaOf files job.input formula
+  pub start : IsStartTree files job.tree formula.variables tree
+  pub is : plan ≡ plan_for job formula no_circuit tree (default_of job 0)
 
 -- a plan over a tree is that of this tree
-from_tree : (told : Option Files) (job : Job) (f : Groups) (tree : Tree) (plan : Plan) → job.script ≡ None
-    → ReadsTo told (with_tree job f tree) (point_of plan) → plan ≡ plan_for job f tree (default_of job)
-from_tree told job f tree plan alone p =
-    let begin = λ (l : List NumberedCommand). point_of (plan_for job f tree l) in
-    let is : point_of plan ≡ point_of (plan_for job f tree (default_of job)) =
-    subst (λ script. ReadsTo told (with_commands job f.variables begin script) (point_of plan)) alone p in
-    one_plan_at plan (plan_for job f tree (default_of job)) is
+from_tree : (told : Option Files) (job : Job) (f : Groups) (circuit : Circuit) (tree : Tree) (plan : Plan)
+    → job.script ≡ None → ReadsTo told (with_tree job f circuit tree) (point_of plan)
+    → plan ≡ plan_for job f circuit tree (default_of job (length circuit.outputs))
+from_tree told job f circuit tree plan alone p =
+    let o = length circuit.outputs in
+    let begin = λ (l : List NumberedCommand). point_of (plan_for job f circuit tree l) in
+    let is : point_of plan ≡ point_of (plan_for job f circuit tree (default_of job o)) =
+    subst (λ script. ReadsTo told (with_commands job f.variables o begin script) (point_of plan)) alone p in
+    one_plan_at plan (plan_for job f circuit tree (default_of job o)) is
 
--- a plan after a formula, with its tree
-record FromTree (files : Files) (job : Job) (f : Groups) (plan : Plan) : Type 0 where
-  tree : Tree
-  start : IsStartTree files job.tree f.variables tree
-  is : plan ≡ plan_for job f tree (default_of job)
+-- a plan after a formula and a circuit, with its tree
+pub record FromTree (files : Files) (job : Job) (f : Groups) (circuit : Circuit) (plan : Plan) : Type 0 where
+  pub tree : Tree
+  pub start : IsStartTree files job.tree f.variables tree
+  pub is : plan ≡ plan_for job f circuit tree (default_of job (length circuit.outputs))
 
 -- a tree of the word is the tree of the plan
-found_tree : (files : Files) (job : Job) (f : Groups) (plan : Plan) (word : TreeWord) (tree : Tree) → job.tree ≡ word
-    → job.script ≡ None → IsStartTree files word f.variables tree
-    → ReadsTo (Some files) (with_tree job f tree) (point_of plan) → FromTree files job f plan
-found_tree files job f plan word tree e alone start p = record {
+found_tree : (files : Files) (job : Job) (f : Groups) (circuit : Circuit) (plan : Plan) (word : TreeWord) (tree : Tree)
+    → job.tree ≡ word → job.script ≡ None → IsStartTree files word f.variables tree
+    → ReadsTo (Some files) (with_tree job f circuit tree) (point_of plan) → FromTree files job f circuit plan
+found_tree files job f circuit plan word tree e alone start p = record {
   tree = tree;
   start = subst (λ w. IsStartTree files w f.variables tree) (sym e) start;
-  is = from_tree (Some files) job f tree plan alone p;
+  is = from_tree (Some files) job f circuit tree plan alone p;
 }
 
-from_word : (files : Files) (job : Job) (f : Groups) (plan : Plan) (word : TreeWord) → job.tree ≡ word
-    → job.script ≡ None → ReadsTo (Some files) (with_tree_word job f word) (point_of plan) → FromTree files job f plan
-from_word files job f plan trees.Balanced e alone p =
-    found_tree files job f plan trees.Balanced (balanced_tree f.variables) e alone refl p
-from_word files job f plan trees.Right e alone p =
-    found_tree files job f plan trees.Right (right_tree f.variables) e alone refl p
-from_word files job f plan trees.Left e alone p =
-    found_tree files job f plan trees.Left (left_tree f.variables) e alone refl p
-from_word files job f plan (trees.File file) e alone (inl p) = let bad : ⊥ = cc in absurd bad
-from_word files job f plan (trees.File file) e alone (inr (None, has, p)) = let bad : ⊥ = cc in absurd bad
-from_word files job f plan (trees.File file) e alone (inr (Some bytes, has, p)) =
+pub from_word : (files : Files) (job : Job) (f : Groups) (circuit : Circuit) (plan : Plan) (word : TreeWord)
+    → job.tree ≡ word → job.script ≡ None
+    → ReadsTo (Some files) (with_tree_word job f circuit word) (point_of plan) → FromTree files job f circuit plan
+from_word files job f circuit plan trees.Balanced e alone p =
+    found_tree files job f circuit plan trees.Balanced (balanced_tree f.variables) e alone refl p
+from_word files job f circuit plan trees.Right e alone p =
+    found_tree files job f circuit plan trees.Right (right_tree f.variables) e alone refl p
+from_word files job f circuit plan trees.Left e alone p =
+    found_tree files job f circuit plan trees.Left (left_tree f.variables) e alone refl p
+from_word files job f circuit plan (trees.File file) e alone (inl p) = let bad : ⊥ = cc in absurd bad
+from_word files job f circuit plan (trees.File file) e alone (inr (None, has, p)) = let bad : ⊥ = cc in absurd bad
+from_word files job f circuit plan (trees.File file) e alone (inr (Some bytes, has, p)) =
     go (vtree_file f.variables bytes) refl p
   where
     go : (reading : Result Tree (List ℕ)) → vtree_file f.variables bytes ≡ reading
-        → ReadsTo (Some files) (with_vtree_reading job f file reading) (point_of plan) → FromTree files job f plan
+        → ReadsTo (Some files) (with_vtree_reading job f circuit file reading) (point_of plan)
+        → FromTree files job f circuit plan
     go (Err fault) is p = let bad : ⊥ = cc in absurd bad
     go (Ok tree) is p =
-        found_tree files job f plan (trees.File file) tree e alone (bytes, has.0, has.1, is) p
+        found_tree files job f circuit plan (trees.File file) tree e alone (bytes, has.0, has.1, is) p
 
 -- a plan is made of a formula
 from_formula : (files : Files) (job : Job) (file : List ℕ) (formula : Result Groups (List ℕ)) (plan : Plan)
     → job.script ≡ None → ReadsTo (Some files) (with_formula_reading job file formula) (point_of plan)
-    → (f : Groups) × (formula ≡ Ok f) × FromTree files job f plan
+    → (f : Groups) × (formula ≡ Ok f) × FromTree files job f no_circuit plan
 from_formula files job file (Err fault) plan alone p = let bad : ⊥ = cc in absurd bad
 from_formula files job file (Ok formula) plan alone p =
-    (formula, refl, from_word files job formula plan job.tree refl alone p)
+    (formula, refl, from_word files job formula no_circuit plan job.tree refl alone p)
 
 -- a formula of a word, and a plan that begins with it
 record FromWord (files : Files) (job : Job) (word : InputWord) (plan : Plan) : Type 0 where
   formula : Groups
   of_word : IsFormulaOf files word formula
-  from : FromTree files job formula plan
+  from : FromTree files job formula no_circuit plan
 
 -- the text of a formula file
 from_text : (files : Files) (job : Job) (input : Input) (plan : Plan) (text : Text) → job.script ≡ None
     → IsText (Some files) input.file text → ReadsTo (Some files) (with_input job input text) (point_of plan)
-    → (formula : Groups) × ReadsAs files input.file (dimacs input.kind) formula × FromTree files job formula plan
+    → (formula : Groups) × ReadsAs files input.file (dimacs input.kind) formula
+    × FromTree files job formula no_circuit plan
 from_text files job input plan None alone has p = let bad : ⊥ = cc in absurd bad
 from_text files job input plan (Some bytes) alone has p =
     let found = from_formula files job input.file (dimacs input.kind bytes) plan alone p in (
@@ -145,32 +155,36 @@ from_text files job input plan (Some bytes) alone has p =
     )
 
 -- the formula of a word
-from_job : (files : Files) (job : Job) (plan : Plan) (word : InputWord) → job.script ≡ None
+from_job : (files : Files) (job : Job) (plan : Plan) (word : InputWord) → job.script ≡ None → IsFormulaWord word
     → ReadsTo (Some files) (with_input_word job word) (point_of plan) → FromWord files job word plan
-from_job files job plan (inputs.Cnf file) alone (inl p) = let bad : ⊥ = cc in absurd bad
-from_job files job plan (inputs.Dnf file) alone (inl p) = let bad : ⊥ = cc in absurd bad
-from_job files job plan (inputs.Cnf file) alone (inr p) =
+from_job files job plan (inputs.Cnf file) alone asks (inl p) = let bad : ⊥ = cc in absurd bad
+from_job files job plan (inputs.Dnf file) alone asks (inl p) = let bad : ⊥ = cc in absurd bad
+from_job files job plan (inputs.Cnf file) alone asks (inr p) =
     let found = from_text files job (record { kind = kinds.Cnf; file = file }) plan p.0 alone p.1 p.2 in
     record { formula = found.0; of_word = found.1; from = found.2 }
-from_job files job plan (inputs.Dnf file) alone (inr p) =
+from_job files job plan (inputs.Dnf file) alone asks (inr p) =
     let found = from_text files job (record { kind = kinds.Dnf; file = file }) plan p.0 alone p.1 p.2 in
     record { formula = found.0; of_word = found.1; from = found.2 }
-from_job files job plan (inputs.Generate count seed) alone p = record {
+from_job files job plan (inputs.Aag file) alone asks p = absurd asks
+from_job files job plan (inputs.Check file) alone asks p = absurd asks
+from_job files job plan (inputs.Generate count seed) alone asks p = record {
   formula = generated_formula count seed;
   of_word = refl;
-  from = from_word files job (generated_formula count seed) plan job.tree refl alone p;
+  from = from_word files job (generated_formula count seed) no_circuit plan job.tree refl alone p;
 }
 
 -- the plan of the readings comes from the input
 from_input : (words : List (List ℕ)) (files : Files) (job : Job) (plan : Plan) → job_of words ≡ Ok job
-    → job.script ≡ None → ReadsTo (Some files) (reading_of words) (point_of plan) → FromInput words files job plan
-from_input words files job plan named alone p =
-    let found = from_job files job plan job.input alone
+    → job.script ≡ None → IsFormulaWord job.input → ReadsTo (Some files) (reading_of words) (point_of plan)
+    → FromInput words files job plan
+from_input words files job plan named alone asks p =
+    let found = from_job files job plan job.input alone asks
     (subst (λ j. ReadsTo (Some files) (with_job j) (point_of plan)) named p) in
     record {
       formula = found.formula;
       tree = found.from.tree;
-      input = record { named = named; alone = alone; input = found.of_word };
+      named = named;
+      input = found.of_word;
       start = found.from.start;
       is = found.from.is;
     }
@@ -224,7 +238,7 @@ diagram_done : (input : Groups) (state last : State) (line : ℕ) (file : List �
 diagram_done input state last line file rest effects (mid, first, others, step, steps, is) =
     (step.0, step.1, first_done input state mid last rest _ first others effects step.2 steps is)
 
-one_diagram : (t : Tree) (f : Expression) (ds : List Diagram) → AllZip (IsDiagramOf t) (f ∷ []) ds
+pub one_diagram : (t : Tree) (f : Expression) (ds : List Diagram) → AllZip (IsDiagramOf t) (f ∷ []) ds
     → (d : Diagram) × IsDiagramOf t f d × (ds ≡ d ∷ [])
 one_diagram t f [] p = absurd p
 one_diagram t f (d ∷ []) p = (d, p.0, refl)
@@ -309,13 +323,13 @@ all_done input state last line (Some file) (Some other) effects valid p =
     }
 
 -- name 0 is bound to the input first, without an effect, over the tree to which its groups lead
-record AfterInput (input : Groups) (state last : State) (rest : List NumberedCommand) (effects : List Effect)
+pub record AfterInput (input : Groups) (state last : State) (rest : List NumberedCommand) (effects : List Effect)
     : Type 0 where
-  grown : Tree
-  course : Grows input state (length input.groups) grown
-  steps : Steps input (with_name (record state { tree = grown }) 0 (expression_of input)) rest effects last
+  pub grown : Tree
+  pub course : Grows input state (length input.groups) grown
+  pub steps : Steps input (with_name (record state { tree = grown }) 0 (expression_of input)) rest effects last
 
-after_input : (input : Groups) (state last : State) (line : ℕ) (rest : List NumberedCommand) (effects : List Effect)
+pub after_input : (input : Groups) (state last : State) (line : ℕ) (rest : List NumberedCommand) (effects : List Effect)
     → Steps input state (record { line = line; command = commands.Input 0 } ∷ rest) effects last
     → AfterInput input state last rest effects
 after_input input state last line rest effects (mid, first, others, step, steps, is) =
@@ -461,6 +475,10 @@ announced_done input state last (inputs.Cnf file) formula rest effects p =
     record { others = effects; steps = p; are = refl }
 announced_done input state last (inputs.Dnf file) formula rest effects p =
     record { others = effects; steps = p; are = refl }
+announced_done input state last (inputs.Aag file) formula rest effects p =
+    record { others = effects; steps = p; are = refl }
+announced_done input state last (inputs.Check file) formula rest effects p =
+    record { others = effects; steps = p; are = refl }
 announced_done input state last (inputs.Generate count seed) formula rest effects p =
     let done = first_done input state p.0 last rest _ p.1 p.2 effects p.3 p.4 p.5 in
     record { others = done.others; steps = done.steps; are = done.are }
@@ -471,10 +489,12 @@ after_announced : (word : InputWord) (formula : Groups) (effects : List Effect) 
     ≡ after_effects effects (record old { printed = with_announcement word formula old.printed })
 after_announced (inputs.Cnf file) formula effects old = refl
 after_announced (inputs.Dnf file) formula effects old = refl
+after_announced (inputs.Aag file) formula effects old = refl
+after_announced (inputs.Check file) formula effects old = refl
 after_announced (inputs.Generate count seed) formula effects old = refl
 
 -- the state of a plan once its formula is bound, over this tree
-abbrev compiled : Job → Groups → Tree → State
+abbrev pub compiled : Job → Groups → Tree → State
 compiled job formula tree = with_name (start tree job.limit job.slack job.every) 0 (expression_of formula)
 
 -- the commands behind the search
@@ -486,97 +506,147 @@ grouped : (rounds : Option ℕ) (vtree sdd : Option (List ℕ))
 grouped None vtree sdd = refl
 grouped (Some rounds) vtree sdd = refl
 
--- these effects write the formula's texts
-writes : (files : Files) (job : Job) (formula : Groups) (tree grown found : Tree) (told : Option (List ℕ))
-    (effects : List Effect) (old new : Contents) → old.files ≡ Some files
-    → Grows formula (start tree job.limit job.slack job.every) (length formula.groups) grown
-    → IsFound job.minimise job.slack (expression_of formula) grown (with_announcement job.input formula old.printed)
-    found told
-    → AllDone (record (compiled job formula grown) { tree = found }) job.out_vtree job.out_sdd effects
-    → new ≡ after_effects effects (record old { printed = told }) → IsWritten files job formula tree old new
-writes files job formula tree grown found told effects old new there course search done is =
-    let begun : Contents = record old { printed = told } in
-    let now = is ∙ ap (λ l. after_effects l begun) done.are in record {
-      found = found;
-      told = told;
-      grown = grown;
-      course = course;
-      search = search;
-      diagram = done.diagram;
-      of_formula = done.of_value;
-      files_are = ap (λ (o : Contents). o.files) now
-          ∙ files_after job.out_vtree job.out_sdd (vtree_text found) (sdd_text done.diagram) _ begun files there;
-      printed_is = ap (λ (o : Contents). o.printed) now
-          ∙ printed_after job.out_vtree job.out_sdd (vtree_text found) (sdd_text done.diagram) _ begun;
-    }
+-- the stated lines behind those that bind the formula
+abbrev pub lines_behind : Job → List NumberedCommand
+lines_behind job = in_lines 2
+    (search_of job.minimise ++ for_file commands.WriteVtree job.out_vtree ++ for_file (commands.Write (0 ∷ []))
+    job.out_sdd
+    ++ commands.Size 0 ∷ [])
 
--- what a plan of an input does
-plan_writes : (words : List (List ℕ)) (files : Files) (job : Job) (plan : Plan) (last : State) (effects : List Effect)
-    (old new : Contents) → old.files ≡ Some files → (from : FromInput words files job plan) → IsVtree plan.start.tree
-    → Steps plan.input plan.start plan.commands effects last → new ≡ after_effects effects old
-    → IsWritten files job from.formula from.tree old new
-plan_writes words files job plan last effects old new there from valid steps is =
-    let own = plan_for job from.formula from.tree (default_of job) in
-    let own_steps = subst (λ (p : Plan). Steps p.input p.start p.commands effects last) from.is steps in
-    let own_valid = subst (λ (p : Plan). IsVtree p.start.tree) from.is valid in
-    let told_of = announced_done own.input own.start last job.input from.formula (default_of job) effects own_steps in
+-- they write the formula over a tree
+pub writes_from : (files : Files) (job : Job) (formula input : Groups) (tree : Tree) (last : State)
+    (effects : List Effect) (begun new : Contents) → IsVtree tree → begun.files ≡ Some files
+    → Steps input (compiled job formula tree) (lines_behind job) effects last → new ≡ after_effects effects begun
+    → IsWrittenFrom files job formula tree begun.printed new
+writes_from files job formula input tree last effects begun new valid there steps is =
+    let state = compiled job formula tree in
     let written : List RunCommand =
     for_file commands.WriteVtree job.out_vtree ++ for_file (commands.Write (0 ∷ [])) job.out_sdd ++ commands.Size 0
     ∷ [] in
-    let bound = after_input own.input own.start last 1
-    (in_lines 2
-    (search_of job.minimise ++ for_file commands.WriteVtree job.out_vtree ++ for_file (commands.Write (0 ∷ []))
-    job.out_sdd
-    ++ commands.Size 0 ∷ []))
-    told_of.others told_of.steps in
-    let state = compiled job from.formula bound.grown in
-    let grown_valid = grows_valid own.input own.start (length own.input.groups) bound.grown own_valid bound.course in
-    let searched = after_search own.input state last job.minimise written told_of.others
-    (subst (λ cs. Steps own.input state (in_lines 2 cs) told_of.others last)
-    (grouped job.minimise job.out_vtree job.out_sdd) bound.steps) in
-    let printed = with_announcement job.input from.formula old.printed in
-    writes files job from.formula from.tree bound.grown searched.tree (told_behind searched.before printed)
-    searched.others old new there bound.course
-    (found_by job.minimise state (expression_of from.formula) searched.tree searched.before printed refl
-    searched.search)
-    (all_done own.input (record state { tree = searched.tree }) last searched.line job.out_vtree job.out_sdd
-    searched.others (searched_valid job.minimise state searched.tree searched.before grown_valid searched.search)
-    searched.steps)
-    (is ∙ ap (λ l. after_effects l old) told_of.are ∙ after_announced job.input from.formula told_of.others old
-    ∙ ap (λ l. after_effects l (record old { printed = printed })) searched.are
-    ∙ after_searched job.minimise state searched.tree searched.before searched.others (record old { printed = printed })
-    searched.search)
+    let searched = after_search input state last job.minimise written effects
+    (subst (λ cs. Steps input state (in_lines 2 cs) effects last) (grouped job.minimise job.out_vtree job.out_sdd)
+    steps) in
+    let done = all_done input (record state { tree = searched.tree }) last searched.line job.out_vtree job.out_sdd
+    searched.others (searched_valid job.minimise state searched.tree searched.before valid searched.search)
+    searched.steps in
+    let told = told_behind searched.before begun.printed in
+    let mid : Contents = record begun { printed = told } in
+    let now = is ∙ ap (λ l. after_effects l begun) searched.are
+    ∙ after_searched job.minimise state searched.tree searched.before searched.others begun searched.search
+    ∙ ap (λ l. after_effects l mid) done.are in
+    record {
+      found = searched.tree;
+      told = told;
+      search = found_by job.minimise state (expression_of formula) searched.tree searched.before begun.printed refl
+          searched.search;
+      diagram = done.diagram;
+      of_formula = done.of_value;
+      files_are = ap (λ (o : Contents). o.files) now
+          ∙ files_after job.out_vtree job.out_sdd (vtree_text searched.tree) (sdd_text done.diagram) _ mid files there;
+      printed_is = ap (λ (o : Contents). o.printed) now
+          ∙ printed_after job.out_vtree job.out_sdd (vtree_text searched.tree) (sdd_text done.diagram) _ mid;
+    }
 
--- at status 0 the formula of the job was written
-wrote : (words : List (List ℕ)) (status : ℕ) (kept : Option Table) (seen : Seen) (files : Files) (job : Job)
+-- without parts and a choice the formula is bound as a whole
+pub plain_lines : (job : Job) → IsPlainJob job
+    → choice job ++ default_of job 0 ≡ record { line = 1; command = commands.Input 0 } ∷ lines_behind job
+plain_lines job plain =
+    ap (λ (b : Bool). (if b then record { line = 1; command = commands.Choose job.minimise } ∷ [] else [])
+    ++ default_of job 0) plain.settled
+    ∙ ap (λ (parts : Option ℕ). record {
+      line = 1;
+      command = option_map_or (commands.InputByParts 0) parts (commands.Input 0);
+    } ∷ lines_behind job) plain.whole
+
+-- what a plan of an input does behind its opening line
+pub record Opened (words : List (List ℕ)) (files : Files) (job : Job) (plan : Plan) (last : State) (old new : Contents)
+    (from : FromInput words files job plan)
+    : Type 0 where
+  pub valid : IsVtree from.tree
+  pub effects : List Effect
+  pub steps : Steps from.formula (first_state job from.tree no_circuit) (choice job ++ default_of job 0) effects last
+  pub is : new ≡ after_effects effects (record old { printed = with_announcement job.input from.formula old.printed })
+
+opened : (words : List (List ℕ)) (files : Files) (job : Job) (plan : Plan) (last : State) (effects : List Effect)
+    (old new : Contents) (from : FromInput words files job plan) → IsVtree plan.start.tree
+    → Steps plan.input plan.start plan.commands effects last → new ≡ after_effects effects old
+    → Opened words files job plan last old new from
+opened words files job plan last effects old new from valid steps is =
+    let own = plan_for job from.formula no_circuit from.tree (default_of job 0) in
+    let told_of = announced_done own.input own.start last job.input from.formula (choice job ++ default_of job 0)
+    effects (subst (λ (p : Plan). Steps p.input p.start p.commands effects last) from.is steps) in
+    record {
+      valid = subst (λ (p : Plan). IsVtree p.start.tree) from.is valid;
+      effects = told_of.others;
+      steps = told_of.steps;
+      is = is ∙ ap (λ l. after_effects l old) told_of.are
+          ∙ after_announced job.input from.formula told_of.others old;
+    }
+
+-- what a plan of an input does
+plan_writes : (words : List (List ℕ)) (files : Files) (job : Job) (plan : Plan) (last : State)
+    (old new : Contents) → old.files ≡ Some files → (from : FromInput words files job plan) → IsPlainJob job
+    → Opened words files job plan last old new from → IsWritten files job from.formula from.tree old new
+plan_writes words files job plan last old new there from plain begun =
+    let first = first_state job from.tree no_circuit in
+    let bound = after_input from.formula first last 1 (lines_behind job) begun.effects
+    (subst (λ l. Steps from.formula first l begun.effects last) (plain_lines job plain) begun.steps) in
+    record {
+      grown = bound.grown;
+      course = bound.course;
+      writes = writes_from files job from.formula from.formula bound.grown last begun.effects
+          (record old { printed = with_announcement job.input from.formula old.printed }) new
+          (grows_valid from.formula first (length from.formula.groups) bound.grown begun.valid bound.course) there
+          bound.steps begun.is;
+    }
+
+-- where all is done, the plan of the words and files wrote something of its input
+pub done_of_input : (words : List (List ℕ)) (status : ℕ) (kept : Option Table) (seen : Seen) (files : Files) (job : Job)
     → IsOneCourse words status kept seen → status ≡ 0 → seen.old.contents.files ≡ Some files → job_of words ≡ Ok job
-    → job.script ≡ None → WritesJob job files seen
-wrote words status kept seen files job went zero_ told named alone =
+    → job.script ≡ None → IsFormulaWord job.input
+    → (plan : Plan) × (last : State) × (from : FromInput words files job plan)
+    × Opened words files job plan last seen.old.contents seen.new.contents from
+done_of_input words status kept seen files job went zero_ told named alone asks =
     let all = (effects_at words status kept seen went).all zero_ in
     go all.0 (subst (λ f. MayEnd words f all.0 Finished) told all.1) all.2
   where
     go : (effects : List Effect) → MayEnd words (Some files) effects Finished
-        → seen.new.contents ≡ after_effects effects seen.old.contents → WritesJob job files seen
+        → seen.new.contents ≡ after_effects effects seen.old.contents
+        → (plan : Plan) × (last : State) × (from : FromInput words files job plan)
+        × Opened words files job plan last seen.old.contents seen.new.contents from
     go effects (inl p) is = absurd p.0
     go effects (inr p) is =
-        let from = from_input words files job p.0 named alone p.1 in (
-          from.formula,
-          from.input.input,
-          from.tree,
-          from.start,
-          plan_writes words files job p.0 p.2.0 effects seen.old.contents seen.new.contents told from
+        let from = from_input words files job p.0 named alone asks p.1 in (
+          p.0,
+          p.2.0,
+          from,
+          opened words files job p.0 p.2.0 effects seen.old.contents seen.new.contents from
               (valid_start (Some files) words p.0 p.1) (whole_plan p.0 p.2.0 effects p.2.1) is,
         )
+
+-- at status 0 the formula of the job was written
+wrote : (words : List (List ℕ)) (status : ℕ) (kept : Option Table) (seen : Seen) (files : Files) (job : Job)
+    → IsOneCourse words status kept seen → status ≡ 0 → seen.old.contents.files ≡ Some files → job_of words ≡ Ok job
+    → IsPlainJob job → IsFormulaWord job.input → WritesJob job files seen
+wrote words status kept seen files job went zero_ told named plain asks =
+    let done = done_of_input words status kept seen files job went zero_ told named plain.alone asks in
+    let from = done.2 in (
+      from.formula,
+      from.input,
+      from.tree,
+      from.start,
+      plan_writes words files job done.0 done.1 seen.old.contents seen.new.contents told from plain done.3,
+    )
 
 -- so that of the input
 pub written_at : (words : List (List ℕ)) (status : ℕ) (kept : Option Table) (seen : Seen)
     → IsOneCourse words status kept seen → HasWritten words status seen
 written_at words status kept seen went = λ zero_ plain. go plain.0 plain.1 plain.2 plain.3 plain.4
-    (wrote words status kept seen plain.0 plain.1 went zero_ plain.2 plain.3 plain.4)
+    (wrote words status kept seen plain.0 plain.1 went zero_ plain.2 plain.3 plain.4 plain.5)
   where
     go : (files : Files) (job : Job) → seen.old.contents.files ≡ Some files → job_of words ≡ Ok job
-        → job.script ≡ None → WritesJob job files seen → (run : PlainRun words seen) × WritesInput run
-    go files job told named alone (formula, input, tree, starts, writes) = (
+        → IsPlainJob job → WritesJob job files seen → (run : PlainRun words seen) × WritesInput run
+    go files job told named plain (formula, input, tree, starts, writes) = (
       record {
         given = record {
           files = files;
@@ -588,7 +658,7 @@ written_at words status kept seen went = λ zero_ plain. go plain.0 plain.1 plai
           tree = tree;
           starts = starts;
         };
-        alone = alone;
+        plain = plain;
       },
       writes,
     )
@@ -611,20 +681,43 @@ has_job words status kept seen went zero_ =
         subst (λ j. ReadsTo told (with_job j) (point_of p.0)) is p.1 in
         let bad : ⊥ = cc in absurd bad
 
--- the script of a job is the value of its option
-script_of_values : (parsed : ParsedOptions) → parsed (codes "script") ≡ None → (job_of_parsed parsed).script ≡ None
+-- a job is plain where its options are
+plain_values : (settings : List Setting) → ArePlain settings → IsPlainJob (job_of_parsed (setting_of settings))
 unfolding job_of_parsed
-script_of_values parsed none = none
+plain_values settings plain = record {
+  alone = plain.script;
+  whole = ap (option_and_then (number_of_text (codes "parts"))) plain.parts;
+  settled = ap is_some plain.portfolio;
+}
+
+-- and then it is of a formula
+formula_of_values : (settings : List Setting) → ArePlain settings
+    → IsFormulaWord (job_of_parsed (setting_of settings)).input
+unfolding job_of_parsed
+formula_of_values settings plain = by (setting_of settings (codes "cnf")) (setting_of settings (codes "dnf"))
+    (setting_of settings (codes "aag")) (setting_of settings (codes "check"))
+    (option_and_then count_and_seed (setting_of settings (codes "generate"))) plain.aag plain.check
+  where
+    by : (c d a k : Option (List ℕ)) (g : Option (ℕ × ℕ)) → a ≡ None → k ≡ None
+        → IsFormulaWord (option_map_or inputs.Cnf c (option_map_or inputs.Dnf d (option_map_or inputs.Aag a
+        (option_map_or inputs.Check k (option_map_or (λ g. inputs.Generate g.0 g.1) g (inputs.Generate 0 0))))))
+    by (Some c) d a k g e f = tt
+    by None (Some d) a k g e f = tt
+    by None None (Some a) k g e f = let bad : ⊥ = cc in absurd bad
+    by None None None (Some k) g e f = let bad : ⊥ = cc in absurd bad
+    by None None None None (Some g) e f = tt
+    by None None None None None e f = tt
 
 -- at status 0 the formula of the values was written
 pub values_written_at : (words : List (List ℕ)) (status : ℕ) (kept : Option Table) (seen : Seen)
     → IsOneCourse words status kept seen → HasWrittenValues words status seen
-values_written_at words status kept seen went settings files zero_ spells none told =
+values_written_at words status kept seen went settings files zero_ spells plain told =
     let parsed = setting_of settings in
     let found = has_job words status kept seen went zero_ in
     let named : job_of words ≡ Ok (job_of_parsed parsed) =
     found.1 ∙ ap (λ (job : Job). Ok job) (ordinary_values_kept settings words found.0 spells found.1) in
-    wrote words status kept seen files (job_of_parsed parsed) went zero_ told named (script_of_values parsed none)
+    wrote words status kept seen files (job_of_parsed parsed) went zero_ told named (plain_values settings plain)
+    (formula_of_values settings plain)
 
 -- ---- equal texts
 

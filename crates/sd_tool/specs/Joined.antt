@@ -47,7 +47,7 @@ pub record FourLines (words : List (List ℕ)) (seen : Seen) : Type 0 where
   pub script_file : List ℕ
   pub asked : given.job.script ≡ Some script_file
   pub script : Script
-  pub reads : ReadsAs given.files script_file (script_of given.formula.variables) script
+  pub reads : ReadsAs given.files script_file (script_of given.formula.variables 0) script
   pub lines : JoinsTwo (expression_of given.formula) script
 
 -- its file is the text of the canonical diagram of the two formulas joined, for the start tree, no other file changed,

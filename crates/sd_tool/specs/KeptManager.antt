@@ -10,8 +10,8 @@ use Rattle.sd_tool.specs.Devices.{Seen, HasReason, WritesEndLine}
 
 -- At a full arena the manager that refused is kept, as the command in hand left it: its bound is the whole one, which
 -- the number passes by the rule of the arena; its vtree is the tree of the state there, or at a search or an input the
--- tree after the walks that were done; and its roots hold the diagrams of the names that are bound there, and nothing
--- else. At each other end none is kept.
+-- tree after the walks that were done, or at a choice that of a start or one on the way of its search; and its roots
+-- hold the diagrams of the names that are bound there, and nothing else. At each other end none is kept.
 abbrev pub KeepsManager : Point → End → Option Table → Type 0
 KeepsManager (Stands input state (next ∷ left)) (ArenaFull elements) kept =
     (t : Table) × (kept ≡ Some t) × (t.bound ≡ 2147483647) × IsPastBound t elements

@@ -3,10 +3,12 @@ pub mod Course
 pub mod Devices
 pub mod Effects
 pub mod Ends
+pub mod Formats
 pub mod inside
 pub mod Joined
 pub mod KeptManager
 pub mod Laws
+pub mod Orders
 pub mod Parts
 pub mod PlanViews
 pub mod Readings

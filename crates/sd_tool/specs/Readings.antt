@@ -1,19 +1,25 @@
 -- The points of a run, and how it comes to its commands: what it reads before the first one, when that is refused, and
 -- which commands follow. A later reading is one more `Reads`.
-use Rattle.std.specs.Prelude.{◌≡◌, ℕ, ◌+◌, ◌-◌, ◌/◌, ◌<◌, ◌≤◌}
-use Rattle.std.specs.Prelude.{List, [], ◌∷◌, ◌++◌, codes, length, map, slice_index_or}
-use Rattle.std.specs.List.{enumerate_from}
-use Rattle.std.specs.FinMap.{get}
+use Rattle.std.specs.Prelude.{◌≡◌, ℕ, zero, suc, ◌+◌, ◌-◌, ◌/◌, ◌<◌, ◌≤◌}
+use Rattle.std.specs.Prelude.{List, [], ◌∷◌, ◌++◌, codes, length, map, slice_index_or, if◌then◌else◌}
+use Rattle.std.specs.List.{enumerate_from, range_with_len}
+use Rattle.std.specs.FinMap.{FinMap, get}
 use Rattle.std.specs.Option.{option_map_or, option_to_list}
+use Rattle.std.specs.Ordering.{nat_cmp}
 use Rattle.std.specs.Prelude.{Option, Some, None, Result, Ok, Err}
+use Rattle.sd_aiger.specs.Reads.{aiger}
 use Rattle.sd_base.specs.Files.{Files}
+use Rattle.sd_base.specs.Reading.{◌>>=◌}
+use Rattle.sd_model.specs.Circuit.{Circuit}
 use Rattle.sd_model.specs.Tree.{Tree}
 use Rattle.sd_model.specs.StartTrees.{start_tree}
 use Rattle.sd_formula.specs.declared.formula.Kind.TheVariants as kinds
 use Rattle.sd_formula.specs.Dimacs.{Groups, dimacs}
+use Rattle.sd_formula.specs.Formulas.{no_groups}
 use Rattle.sd_formula.specs.Generated.{generated_formula}
-use Rattle.sd_vfile.specs.Reads.{vtree_file}
-use Rattle.sd_file.specs.Reads.{sdd_file}
+use Rattle.sd_vfile.specs.Ids.{ids_of}
+use Rattle.sd_vfile.specs.Reads.{vtree_file, variables_stated}
+use Rattle.sd_file.specs.Reads.{File, sdd_file}
 use Rattle.sd_script.specs.Scripts.{Script, script_of}
 use Rattle.sd_script.specs.declared.command.Action.{Action}
 use Rattle.sd_script.specs.declared.command.Action.TheVariants as actions
@@ -24,7 +30,7 @@ use Rattle.sd_words.specs.declared.jobs.InputWord.{InputWord}
 use Rattle.sd_words.specs.declared.jobs.InputWord.TheVariants as inputs
 use Rattle.sd_words.specs.declared.jobs.TreeWord.{TreeWord}
 use Rattle.sd_words.specs.declared.jobs.TreeWord.TheVariants as trees
-use Rattle.sd_commands.specs.Commands.{State}
+use Rattle.sd_commands.specs.Commands.{State, no_circuit}
 use Rattle.sd_commands.specs.Standing.{start}
 use Rattle.sd_commands.specs.declared.command.NumberedCommand.{NumberedCommand}
 use Rattle.sd_commands.specs.declared.command.RunCommand.{RunCommand}
@@ -39,13 +45,28 @@ pub data Point : Type 0 where
 
 -- ---- the commands
 
--- Without a script the formula is compiled, a search is done where the words ask for one, the vtree and the diagram are
--- written, and then its size is printed: a script of two to five lines.
-abbrev pub default_of : Job → List NumberedCommand
-default_of job = map (λ (n, command). record { line = n; command = command }) (enumerate_from 1
-    (commands.Input 0 ∷ map commands.Minimise (option_to_list job.minimise)
+-- the name 0 for the formula, which is compiled as a whole or in so many parts
+abbrev pub input_command : Job → RunCommand
+input_command job = option_map_or (commands.InputByParts 0) job.parts (commands.Input 0)
+
+-- the names of a run without a script: the numbers of the circuit's outputs, and 0 for a formula, which has no outputs
+abbrev pub first_names : ℕ → List ℕ
+first_names zero = 0 ∷ []
+first_names (suc o) = range_with_len 0 (suc o)
+
+-- what binds them
+abbrev pub binding : Job → ℕ → List RunCommand
+binding job zero = input_command job ∷ []
+binding job (suc o) = map (λ i. commands.Output i i) (range_with_len 0 (suc o))
+
+-- Without a script the formula or each output is compiled, a search is done where the words ask for one, the vtree and
+-- the diagrams are written, and then each size is printed: these are the lines of a script, from 1 on.
+abbrev pub default_of : Job → ℕ → List NumberedCommand
+default_of job outputs = map (λ (n, command). record { line = n; command = command }) (enumerate_from 1
+    (binding job outputs ++ map commands.Minimise (option_to_list job.minimise)
     ++ map commands.WriteVtree (option_to_list job.out_vtree)
-    ++ map (commands.Write (0 ∷ [])) (option_to_list job.out_sdd) ++ commands.Size 0 ∷ []))
+    ++ map (commands.Write (first_names outputs)) (option_to_list job.out_sdd)
+    ++ map commands.Size (first_names outputs)))
 
 -- the name of a file of a script
 abbrev pub file_name : Script → ℕ → List ℕ
@@ -66,6 +87,7 @@ reads status read file next = let long = Refuses (status, file ++ codes ": too l
 -- a command of a script as one of the run; a file that it loads is read
 abbrev pub with_action : ℕ → Script → (RunCommand → Point) → Action → Point
 with_action v script next (actions.Input n) = next (commands.Input n)
+with_action v script next (actions.Output n index) = next (commands.Output n index)
 with_action v script next (actions.Load n file) =
     reads 2 (sdd_file v) (file_name script file) (λ read. next (commands.Load n read))
 with_action v script next (actions.Lit n literal) = next (commands.Literal n literal)
@@ -91,13 +113,14 @@ with_lines v script begin done (line ∷ lines) = with_action v script
     (λ command. with_lines v script begin (done ++ record { line = line.line; command = command } ∷ []) lines)
     line.action
 
--- the commands of a job: those of its script, or the stated ones
-abbrev pub with_commands : Job → ℕ → (List NumberedCommand → Point) → Option (List ℕ) → Point
-with_commands job v begin None = begin (default_of job)
-with_commands job v begin (Some file) =
-    reads 3 (script_of v) file (λ script. with_lines v script begin [] script.commands)
+-- the commands of a job over so many variables and outputs: those of its script, or the stated ones
+abbrev pub with_commands : Job → (variables outputs : ℕ) → (List NumberedCommand → Point) → Option (List ℕ)
+    → Point
+with_commands job v o begin None = begin (default_of job o)
+with_commands job v o begin (Some file) =
+    reads 3 (script_of v o) file (λ script. with_lines v script begin [] script.commands)
 
--- ---- the formula and its tree
+-- ---- the input and its tree
 
 -- a generated formula is told of first, before all lines, by its numbers of variables and groups
 abbrev pub announcement : InputWord → Groups → List NumberedCommand
@@ -105,30 +128,77 @@ announcement (inputs.Generate count seed) formula =
     record { line = 0; command = commands.Generated formula.variables (length formula.groups) } ∷ []
 announcement word formula = []
 
--- The commands over this formula and this tree: with them all is accepted. They begin with no name, and with the job's
--- limit, slack and number for searches.
-abbrev pub with_tree : Job → Groups → Tree → Point
-with_tree job formula tree = with_commands job formula.variables (λ commands.
-    Stands formula (start tree job.limit job.slack job.every) (announcement job.input formula ++ commands)) job.script
+-- then a start is chosen, where the words ask for that, with a search where they ask for one; it is of the first line
+abbrev pub choice : Job → List NumberedCommand
+choice job = if job.portfolio then record { line = 1; command = commands.Choose job.minimise } ∷ [] else []
+
+-- no name is bound yet, and the limit, the slack and the number for searches are those of the words
+abbrev pub first_state : Job → Tree → Circuit → State
+first_state job tree circuit = record (start tree job.limit job.slack job.every) { circuit = circuit }
+
+-- the commands over this formula, this circuit and this tree: with them all is accepted
+abbrev pub with_tree : Job → Groups → Circuit → Tree → Point
+with_tree job formula circuit tree = with_commands job formula.variables (length circuit.outputs)
+    (λ commands. Stands formula (first_state job tree circuit)
+    (announcement job.input formula ++ (choice job ++ commands))) job.script
 
 -- the start tree over the variables in order of which each left child gets half, one, or all but one of what is there,
 -- or the tree of a vtree file
-abbrev pub with_tree_word : Job → Groups → TreeWord → Point
-with_tree_word job formula trees.Balanced = with_tree job formula (start_tree (λ m. m / 2) formula.variables)
-with_tree_word job formula trees.Right = with_tree job formula (start_tree (λ m. 1) formula.variables)
-with_tree_word job formula trees.Left = with_tree job formula (start_tree (λ m. m - 1) formula.variables)
-with_tree_word job formula (trees.File file) =
-    reads 2 (vtree_file formula.variables) file (with_tree job formula)
+abbrev pub with_tree_word : Job → Groups → Circuit → TreeWord → Point
+with_tree_word job formula circuit trees.Balanced =
+    with_tree job formula circuit (start_tree (λ m. m / 2) formula.variables)
+with_tree_word job formula circuit trees.Right =
+    with_tree job formula circuit (start_tree (λ m. 1) formula.variables)
+with_tree_word job formula circuit trees.Left =
+    with_tree job formula circuit (start_tree (λ m. m - 1) formula.variables)
+with_tree_word job formula circuit (trees.File file) =
+    reads 2 (vtree_file formula.variables) file (with_tree job formula circuit)
 
--- the same over the tree of the words
+-- a formula over the tree of the words
 abbrev pub with_formula : Job → Groups → Point
-with_formula job formula = with_tree_word job formula job.tree
+with_formula job formula = with_tree_word job formula no_circuit job.tree
 
--- a formula file is read; a generated formula is there
+-- a circuit over the tree of the words, whose variables are its inputs; there is no group then
+abbrev pub with_circuit : Job → Circuit → Point
+with_circuit job circuit =
+    with_tree_word job (no_groups kinds.Cnf (length circuit.inputs)) circuit job.tree
+
+-- ---- a file that is checked
+
+-- the vtree of a file over as many variables as it states, and the positions of the file's ids
+pub record CheckedVtree : Type 0 where
+  pub variables : ℕ
+  pub tree : Tree
+  pub ids : FinMap nat_cmp ℕ
+
+-- what a vtree file stands for beside a file that is checked
+abbrev pub checked_vtree : List ℕ → Result CheckedVtree (List ℕ)
+checked_vtree bytes = do
+  variables ← variables_stated bytes
+  tree ← vtree_file variables bytes
+  ids ← ids_of variables bytes
+  Ok (record { variables = variables; tree = tree; ids = ids })
+
+-- the check is the only command; there is no formula, so there is no group
+abbrev pub with_checked : Job → CheckedVtree → File → Point
+with_checked job vtree read = Stands (no_groups kinds.Cnf vtree.variables) (first_state job vtree.tree no_circuit)
+    (record { line = 0; command = commands.Check read vtree.ids } ∷ [])
+
+-- the vtree file is read, and then the SDD file; without a vtree file the words were refused before
+abbrev pub with_check : Job → List ℕ → TreeWord → Point
+with_check job file (trees.File tree) = reads 2 checked_vtree tree
+    (λ vtree. reads 2 (sdd_file vtree.variables) file (with_checked job vtree))
+with_check job file word = Refuses (1, codes "no vtree")
+
+-- ---- the words
+
+-- a file of the input is read; a generated formula is there
 abbrev pub with_input_word : Job → InputWord → Point
 with_input_word job (inputs.Cnf file) = reads 2 (dimacs kinds.Cnf) file (with_formula job)
 with_input_word job (inputs.Dnf file) = reads 2 (dimacs kinds.Dnf) file (with_formula job)
 with_input_word job (inputs.Generate count seed) = with_formula job (generated_formula count seed)
+with_input_word job (inputs.Aag file) = reads 2 aiger file (with_circuit job)
+with_input_word job (inputs.Check file) = with_check job file job.tree
 
 -- the readings of a run, in order
 abbrev pub reading_of : List (List ℕ) → Point

@@ -1,6 +1,6 @@
 -- What the stops and the effects of the code say, for the contracts of its private functions.
 use Rattle.std.specs.Prelude.{Bool, true, false, ◌≡◌, ◌≢◌, ◌⊎◌, ℕ, ◌≤◌, List, [], ◌∷◌, ◌++◌, length, Option, Some}
-use Rattle.std.specs.Prelude.{None, Result, Ok, Err}
+use Rattle.std.specs.Prelude.{None, Result, Ok, Err, codes}
 use Rattle.sd_base.specs.Asked.{Request}
 use Rattle.sd_base.specs.Faults.{Rose}
 use Rattle.sd_base.specs.Files.{Files, Lacks}
@@ -22,7 +22,6 @@ use Rattle.sd_tool.specs.inside.Devices.{LeavesPart}
 use Rattle.sd_tool.specs.inside.Kept.{HoldsAt, KeepsOf}
 use Rattle.sd_tool.specs.inside.Plans.{Plan}
 use Rattle.sd_tool.specs.Theorem.{HasFinished}
-use Rattle.sd_tool.specs.declared.refusal.Refusal.{Refusal}
 use Rattle.sd_tool.specs.declared.stop.Stop.{Stop}
 use Rattle.sd_tool.specs.declared.stop.Stop.TheVariants as stops
 
@@ -137,11 +136,12 @@ abbrev pub IsShort : Option (List ℕ) → Type 0
 IsShort None = Unit {0}
 IsShort (Some bytes) = length bytes ≤ 67108864
 
--- the stop at this refusal, or at OutOfMemory
-abbrev pub StopsFor : Refusal → Stop → Type 0
-StopsFor refusal (stops.Refused found) = found ≡ refusal
-StopsFor refusal stops.OutOfMemory = Unit {0}
-StopsFor refusal stop = ⊥
+-- the stop at the refusal of a file that is too long, of this status, or at OutOfMemory
+abbrev pub IsLongStop : ℕ → List ℕ → Stop → Type 0
+IsLongStop status file (stops.Refused refusal) =
+    (refusal_answer refusal ≡ (status, file ++ codes ": too long")) × ((status ≡ 2) ⊎ (status ≡ 3))
+IsLongStop status file stops.OutOfMemory = Unit {0}
+IsLongStop status file stop = ⊥
 
 -- The answer, as view sees it, is what the reading gives. Where it has a fault the refusal has this status and, behind
 -- the name of the file, the text of the fault; or memory ran out.

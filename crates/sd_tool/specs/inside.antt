@@ -7,3 +7,4 @@ pub mod Joined
 pub mod Kept
 pub mod Plans
 pub mod Readings
+pub mod Segments

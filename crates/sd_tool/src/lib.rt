@@ -2,13 +2,16 @@
 //! the script, which build formulas under one vtree, compare and evaluate them, move the vtree or search for a better
 //! one, and write texts.
 //!
-//! `run` (`whole_run.rt`) is the one door. It reads all inputs first (`reading.rt`, `scripts.rt`), which makes a plan
-//! (`plan.rt`), then does the plan's commands one by one with what each asks for outside (`devices.rt`), and ends with
-//! a status and at most one line (`stop.rt`, `refusal.rt`, `parts.rt`). What it promises is `specs/Theorem.antt`, and
-//! what follows from that stands in `laws`.
+//! `run` (`whole_run.rt`) is the door, and `run_gated` is it with gates before the work of parts. It reads all inputs
+//! first (`reading.rt`, `scripts.rt`), which makes a plan (`plan.rt`), then does the plan's commands one by one
+//! (`execution.rt`) with what each asks for outside (`devices.rt`), and ends with a status and at most one line
+//! (`stop.rt`, `refusal.rt`, `parts.rt`). What it promises is `specs/Theorem.antt`, and what follows from that stands
+//! in `laws`.
 #![tactic(auto)]
 
 mod devices;
+mod execution;
+mod formats;
 pub mod laws;
 mod parts;
 mod plan;
@@ -19,4 +22,4 @@ mod stop;
 mod texts;
 mod whole_run;
 
-pub use whole_run::run;
+pub use whole_run::{run, run_gated};

@@ -2,6 +2,7 @@
 ghost use Rattle.std.specs.Prelude.{◌≡◌, ◌++◌};
 ghost use Rattle.sd_tool.specs.Parts.{parts_text};
 ghost use Rattle.sd_tool.specs.Refusals.{refusal_status, refusal_text};
+ghost use Rattle.sd_aiger.specs.Reads.{aiger_fault_text};
 ghost use Rattle.sd_file.specs.Reads.{sdd_fault_text};
 ghost use Rattle.sd_script.specs.Faults.{script_fault_text};
 ghost use Rattle.sd_formula.specs.Dimacs.{formula_fault_text};
@@ -9,6 +10,7 @@ ghost use Rattle.sd_vfile.specs.Reads.{vtree_fault_text};
 ghost use Rattle.sd_words.specs.Rows.{words_fault_text};
 
 use crate::parts::{Parts, at_line, counts, literal_at_line, numbered, plain};
+use sd_aiger::AigerFault;
 use sd_base::Name;
 use sd_file::SddFault;
 use sd_formula::FormulaError;
@@ -21,10 +23,12 @@ use sd_words::WordsFault;
 pub enum Refusal {
     /// The words have this fault.
     BadWords(WordsFault),
-    /// The named formula file, vtree file or SDD file is too long.
+    /// The named formula file, circuit file, vtree file or SDD file is too long.
     TooLong(Name),
     /// The named formula file has this fault.
     BadFormula(Name, FormulaError),
+    /// The named circuit file has this fault.
+    BadCircuit(Name, AigerFault),
     /// The named vtree file has this fault.
     BadVtree(Name, VtreeFault),
     /// The named SDD file has this fault.
@@ -44,6 +48,7 @@ impl Refusal {
             Refusal::BadWords(_) => 1,
             Refusal::TooLong(_)
             | Refusal::BadFormula(_, _)
+            | Refusal::BadCircuit(_, _)
             | Refusal::BadVtree(_, _)
             | Refusal::BadSdd(_, _) => 2,
             Refusal::LongScript(_) | Refusal::BadScript(_, _) => 3,
@@ -58,6 +63,7 @@ impl Refusal {
             Refusal::BadWords(fault) => words_parts(fault),
             Refusal::TooLong(file) => plain(file.as_str().as_bytes(), b": too long"),
             Refusal::BadFormula(file, fault) => formula_parts(file.as_str().as_bytes(), *fault),
+            Refusal::BadCircuit(file, fault) => circuit_parts(file.as_str().as_bytes(), *fault),
             Refusal::BadVtree(file, fault) => vtree_parts(file.as_str().as_bytes(), *fault),
             Refusal::BadSdd(file, fault) => sdd_parts(file.as_str().as_bytes(), *fault),
             Refusal::LongScript(file) => plain(file.as_str().as_bytes(), b": too long"),
@@ -84,6 +90,18 @@ fn words_parts(fault: &WordsFault) -> Parts<'_>
         WordsFault::FileTwice { name } => plain(b"file named twice: ", name.as_str().as_bytes()),
         WordsFault::StartUnknown => plain(b"start unknown", b""),
         WordsFault::EmptyName { option } => plain(b"empty name: --", option.word().as_bytes()),
+        WordsFault::WorkersAlone => plain(b"workers without work", b""),
+        WordsFault::WithParts { option } => {
+            plain(b"not with --parts: --", option.word().as_bytes())
+        }
+        WordsFault::WithPortfolio { option } => {
+            plain(b"not with --portfolio: --", option.word().as_bytes())
+        }
+        WordsFault::WithAag { option } => plain(b"not with --aag: --", option.word().as_bytes()),
+        WordsFault::WithCheck { option } => {
+            plain(b"not with --check: --", option.word().as_bytes())
+        }
+        WordsFault::NoVtree => plain(b"no vtree", b""),
         WordsFault::OutOfMemory => plain(b"", b""),
     }
 }
@@ -106,6 +124,33 @@ fn formula_parts(file: &[u8], fault: FormulaError) -> Parts<'_>
         FormulaError::Unterminated => plain(file, b": last group is not ended"),
         FormulaError::CountDiffers { stated, found } => counts(file, stated, found),
         FormulaError::OutOfMemory => plain(file, b""),
+    }
+}
+
+// The text of a fault of this circuit file.
+fn circuit_parts(file: &[u8], fault: AigerFault) -> Parts<'_>
+    ensures { parts_text result ≡ file.now ++ aiger_fault_text fault }
+{
+    match fault {
+        AigerFault::NoHeader => plain(file, b": no header"),
+        AigerFault::BadHeader { line } => at_line(file, line, b": bad header"),
+        AigerFault::VariablesRange { found } => {
+            numbered(file, b": variables out of range: ", found, b"")
+        }
+        AigerFault::Latches { found } => numbered(file, b": latches: ", found, b""),
+        AigerFault::OutputsRange { found } => {
+            numbered(file, b": outputs out of range: ", found, b"")
+        }
+        AigerFault::IndexRange { found } => {
+            numbered(file, b": index out of range: ", found, b"")
+        }
+        AigerFault::CountDiffers { stated, found } => counts(file, stated, found),
+        AigerFault::BadLine { line } => at_line(file, line, b": bad line"),
+        AigerFault::LiteralRange { line } => at_line(file, line, b": literal out of range"),
+        AigerFault::BadDefinition { line } => at_line(file, line, b": bad definition"),
+        AigerFault::Undefined { line } => at_line(file, line, b": undefined literal"),
+        AigerFault::Cycle { line } => at_line(file, line, b": cycle"),
+        AigerFault::OutOfMemory => plain(file, b""),
     }
 }
 
@@ -161,6 +206,7 @@ fn script_parts(file: &[u8], fault: ScriptFault) -> Parts<'_>
         ScriptFault::FileTwice { line } => at_line(file, line, b": file named twice"),
         ScriptFault::TooManyLines => plain(file, b": too many lines"),
         ScriptFault::TooManyLoads { line } => at_line(file, line, b": too many loads"),
+        ScriptFault::NoFormula { line } => at_line(file, line, b": no formula"),
         ScriptFault::OutOfMemory => plain(file, b""),
     }
 }

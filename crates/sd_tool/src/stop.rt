@@ -6,6 +6,8 @@ ghost use Rattle.sd_tool.specs.Stops.{stop_status, stop_text, is_full};
 use crate::parts::{LineParts, alone, numbered, over_limit, plain};
 use crate::refusal::Refusal;
 use sd_base::Name;
+use sd_manager::Manager;
+use std::alloc::AllocError;
 
 /// Why a run stops before its end.
 #[derive(Drop)]
@@ -31,6 +33,24 @@ pub enum Stop {
         size: u32,
         limit: u32,
     },
+}
+
+/// How the commands of a run stop: why, and the manager whose arena was full, where it is not that of the run's state.
+#[derive(Drop)]
+pub struct Halt {
+    pub stop: Stop,
+    pub manager: Option<Manager>,
+}
+
+impl From<AllocError> for Stop {
+    ghost use Rattle.std.specs.Prelude.{◌≡◌};
+    ghost use Rattle.sd_tool.specs.declared.stop.Stop.TheVariants.{OutOfMemory};
+
+    ghost from_gives = { λ _ e. e ≡ OutOfMemory };
+
+    fn from(_e: AllocError) -> Stop {
+        Stop::OutOfMemory
+    }
 }
 
 impl Stop {

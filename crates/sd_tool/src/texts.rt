@@ -1,11 +1,11 @@
-// Files as texts, and the stops at what they are refused for.
-ghost use Rattle.std.specs.Prelude.{◌≡◌, ◌≤◌, IfOk, MatchResult};
+// Files as texts: the bytes of a file, what they stand for, and the stop at what they are refused for.
+ghost use Rattle.std.specs.Prelude.{◌≡◌, ◌⊎◌, ◌≤◌, ◌++◌, ℕ, List, Result, IfOk, MatchResult, codes, length};
 ghost use Rattle.sd_base.specs.Asked.{Adds};
 ghost use Rattle.sd_base.specs.Shelf.{NoFile};
-ghost use Rattle.sd_tool.specs.Readings.{Point, Reads};
+ghost use Rattle.sd_tool.specs.Readings.{Point, Reads, reads};
+ghost use Rattle.sd_tool.specs.Refusals.{refusal_answer};
 ghost use Rattle.sd_tool.specs.inside.Readings.{Text};
-ghost use Rattle.sd_tool.specs.Stops.{LeadsTo, StopsFor, IsShort, LeavesText};
-ghost use Rattle.sd_tool.specs.declared.refusal.Refusal.TheVariants as refusals;
+ghost use Rattle.sd_tool.specs.Stops.{LeadsTo, GivesText, IsLongStop, IsShort, LeavesFinished, LeavesText};
 ghost use Rattle.sd_tool.specs.declared.stop.Stop.TheVariants as stops;
 
 use crate::refusal::Refusal;
@@ -13,8 +13,69 @@ use crate::stop::Stop;
 use sd_base::{Bytes, Name, ReadError, Shelf, read_all};
 use std::alloc::Global;
 
-/// The bytes of a file; none where it is too long.
-pub fn read_text<F: Shelf>(alloc: Global, file: &str, shelf: &mut F) -> Result<Option<Bytes>, Stop>
+/// How the text of a file is read: what it stands for, and the status of its refusals.
+pub trait Format {
+    type Value;
+
+    /// What contracts see of a value.
+    ghost Seen: { Type 0 };
+
+    ghost seen: { Self.Value → Seen };
+
+    /// What a text stands for, or the text of its fault.
+    ghost reading: { Self → List ℕ → Result Seen (List ℕ) };
+
+    ghost status: { Self → ℕ };
+
+    /// Its numbers are in the ranges that the reader asks for.
+    ghost suits: { Self → Type 0 };
+
+    /// What is known of each value.
+    ghost holds: { Self → Self.Value → Type 0 };
+
+    /// The value of the text of this file, or the stop at its first fault.
+    fn parse(&self, alloc: Global, file: &str, bytes: &[u8]) -> Result<Self::Value, Stop>
+        requires suits { suits self.now }
+        requires short { length bytes.now ≤ 67108864 }
+        ensures gives { GivesText seen (status self.now) file.now (reading self.now bytes.now) result }
+        ensures holds { IfOk result (holds self.now) };
+
+    /// The refusal of a file that is too long.
+    fn too_long(&self, file: Name) -> Refusal
+        ensures answer { refusal_answer result ≡ (status self.now, file ++ codes ": too long") }
+        ensures status { (status self.now ≡ 2) ⊎ (status self.now ≡ 3) };
+}
+
+/// What a file stands for, in this format.
+pub fn read<F: Shelf, T: Format>(
+    alloc: Global,
+    format: &T,
+    file: &str,
+    shelf: &mut F,
+) -> Result<T::Value, Stop>
+    requires hand { F.hand shelf.old ≡ NoFile }
+    requires suits { T.suits format.now }
+    ensures hand { F.hand shelf.new ≡ NoFile }
+    ensures files { F.files shelf.new ≡ F.files shelf.old }
+    ensures read_faults { F.read_faults shelf.old ≤ F.read_faults shelf.new }
+    ensures write_faults { F.write_faults shelf.new ≡ F.write_faults shelf.old }
+    ensures leads { (next : T.Seen → Point)
+        → LeadsTo (Adds F.asked shelf.old shelf.new) (F.files shelf.old)
+        (reads (T.status format.now) (T.reading format.now) file.now next)
+        (λ value. next (T.seen value))
+        result (F.read_faults shelf.old) (F.read_faults shelf.new) }
+    ensures holds { IfOk result (T.holds format.now) }
+    ensures finished { LeavesFinished result (F.unfinished shelf.old) (F.unfinished shelf.new) }
+{
+    match read_text(alloc, file, shelf) {
+        Ok(Some(bytes)) => format.parse(alloc, file, bytes.as_slice()),
+        Ok(None) => Err(long_stop(alloc, format, file)),
+        Err(stop) => Err(stop),
+    }
+}
+
+// The bytes of a file; none where it is too long.
+fn read_text<F: Shelf>(alloc: Global, file: &str, shelf: &mut F) -> Result<Option<Bytes>, Stop>
     requires { F.hand shelf.old ≡ NoFile }
     ensures hand { F.hand shelf.new ≡ NoFile }
     ensures files { F.files shelf.new ≡ F.files shelf.old }
@@ -48,12 +109,12 @@ pub fn copy_of(alloc: Global, file: &str) -> Result<Name, Stop>
     }
 }
 
-/// The stop at a file that is too long.
-pub fn too_long(alloc: Global, file: &str) -> Stop
-    ensures { StopsFor (refusals.TooLong file.now) result }
+// The stop at a file of this format that is too long.
+fn long_stop<T: Format>(alloc: Global, format: &T, file: &str) -> Stop
+    ensures { IsLongStop (T.status format.now) file.now result }
 {
     match Name::copy_of(alloc, file) {
-        Ok(name) => Stop::Refused(Refusal::TooLong(name)),
+        Ok(name) => Stop::Refused(format.too_long(name)),
         Err(_) => Stop::OutOfMemory,
     }
 }

@@ -1,33 +1,30 @@
 // The whole run: its readings, its commands, and the line of its end.
-ghost use Rattle.std.specs.Prelude.{◌≡◌, Some, None, cond, map, string_bytes};
+ghost use Rattle.std.specs.Prelude.{◌≡◌, None, IfOk, map, string_bytes, vec_len};
 ghost use Rattle.sd_base.specs.Asked.{Adds};
 ghost use Rattle.sd_base.specs.Shelf.{NoFile};
 ghost use Rattle.sd_tool.specs.Devices.{seen};
-ghost use Rattle.sd_tool.specs.inside.Devices.{contents, faults, NotFewer};
-ghost use Rattle.sd_tool.specs.PlanViews.{plan_of, plan_with, IsReady, IsReadyWith};
+ghost use Rattle.sd_tool.specs.inside.Devices.{contents, faults};
 ghost use Rattle.sd_tool.specs.Theorem.{IsCourse, HasEffects, HasEqualTexts, HasLine, HasEnd, IsComplete};
 ghost use Rattle.sd_tool.specs.Theorem.{HasFinished};
 ghost use Rattle.sd_tool.specs.inside.ByStatus.{IsOneCourse};
-ghost use Rattle.sd_tool.specs.Stops.{RunsToEnd, PlanEnds, RunEnds, LeavesFinished};
-ghost use Rattle.sd_tool.specs.Stops.{is_full, stop_of};
+ghost use Rattle.sd_tool.specs.Stops.{RunEnds, LeavesFinished};
 
-use crate::devices::write_effect_if_any;
+use crate::execution::{Crew, execute_plan};
 use crate::parts::write_line;
-use crate::plan::RunPlan;
 use crate::reading::prepare;
 use crate::stop::Stop;
 use sd_base::{Shelf, Sink};
-use sd_commands::{CommandError, NumberedCommand, RunState, step};
-use sd_formula::Formula;
 use sd_manager::Manager;
-use std::alloc::Global;
+use sd_parts::{Gate, Open};
+use std::alloc::{AllocError, Global};
 use std::thread::Threads;
 
 /// Runs the program with these words over a shelf of files, and answers its status:
 ///
 /// - 0 all was done;
 /// - 1 the words are refused;
-/// - 2 the formula file, the vtree file or a loaded file is too long or has a fault;
+/// - 2 the file of the formula or the circuit, the vtree file, a loaded file or one to be checked is too long or has a
+///   fault;
 /// - 3 the script is too long or has a fault, or the vtree cannot be moved as a command says;
 /// - 4 the total size passes the limit;
 /// - 5 an input was not read;
@@ -35,20 +32,22 @@ use std::thread::Threads;
 /// - 7 memory ran out;
 /// - 8 the arena of the diagrams was full.
 ///
-/// The words are read first, then the formula file, the vtree file, the script, and the files that it loads; no other
-/// is asked for, and none after an output. At every status but 0 the one line that says so is written to `err`. At 8
-/// the manager that refused is put into `kept`, which is empty before.
+/// The words are read first, then the file of the formula or the circuit, the vtree file, the script, and the files
+/// that it loads; or the vtree file and the file to be checked. No other is asked for, and none after an output. At
+/// every status but 0 the one line that says so is written to `err`. At 8 the manager that refused is put into `kept`,
+/// which is empty before. Parts of a formula, and starts of which one is chosen, are worked in threads of `rt`.
 ///
 /// At 0 to 4 the shelf tells no failed `finish` that it did not tell before; but at 2 and 3 it may tell that of a file
 /// that is too long (`finished`).
 ///
 /// `course` says all of this, by one walk over files and commands: `effects`, `line` and `ends` are its parts, and
 /// `complete` follows from it. So do the laws of [`laws`](crate::laws), which speak of no course: what a run without a
-/// script writes (`written`), when it passes its limit (`limited`) and that it is done or does so
-/// (`done_or_over_limit`), what a script of four lines writes (`joined`), and in which order files are asked for
+/// script writes, of a formula (`written`), by parts (`parted`), over a chosen start (`chosen`) and of a circuit
+/// (`circuits`), when it passes its limit (`limited`) and that it is done or does so (`done_or_over_limit`), what a
+/// script of four lines writes (`joined`), what a check prints (`checked`), and in which order files are asked for
 /// (`asked`).
 pub fn run<R: Threads + Sync, F: Shelf, O: Sink, E: Sink>(
-    _rt: &R,
+    rt: &R,
     alloc: Global,
     words: &[String],
     shelf: &mut F,
@@ -73,12 +72,69 @@ pub fn run<R: Threads + Sync, F: Shelf, O: Sink, E: Sink>(
         (seen F.Shelf O.Sink E.Sink shelf.old out.old err.old shelf.new out.new err.new) }
     ensures finished { HasFinished result (F.unfinished shelf.old) (F.unfinished shelf.new) }
 {
-    run_and_report(alloc, words, shelf, out, err, kept)
+    run_and_report(alloc, open_crew(rt, alloc), words, shelf, out, err, kept)
+}
+
+/// Runs the program as [`run`] does, with these 64 gates before the work in threads, and answers its status. It has
+/// each clause of that call:
+///
+/// - 0 all was done;
+/// - 1 the words are refused;
+/// - 2 the file of the formula or the circuit, the vtree file, a loaded file or one to be checked is too long or has a
+///   fault;
+/// - 3 the script is too long or has a fault, or the vtree cannot be moved as a command says;
+/// - 4 the total size passes the limit;
+/// - 5 an input was not read;
+/// - 6 an output or a printed line was not written;
+/// - 7 memory ran out;
+/// - 8 the arena of the diagrams was full.
+///
+/// A gate is entered before the part of the formula, or the start, that has its number, counted from 0. Those that no
+/// part and no start has are dropped.
+pub fn run_gated<R: Threads + Sync, F: Shelf, O: Sink, E: Sink, G: Gate + Send + Drop>(
+    rt: &R,
+    alloc: Global,
+    words: &[String],
+    shelf: &mut F,
+    out: &mut O,
+    err: &mut E,
+    kept: &mut Option<Manager>,
+    gates: Vec<G>,
+) -> u8
+    requires gates { vec_len gates ≡ 64 }
+    requires hand { F.hand shelf.old ≡ NoFile }
+    requires none { kept.old ≡ None }
+    ensures hand { F.hand shelf.new ≡ NoFile }
+    ensures course { IsCourse (map string_bytes words.now) result kept.new
+        (seen F.Shelf O.Sink E.Sink shelf.old out.old err.old shelf.new out.new err.new) }
+    ensures effects { HasEffects (map string_bytes words.now) result
+        (seen F.Shelf O.Sink E.Sink shelf.old out.old err.old shelf.new out.new err.new) }
+    ensures line { HasLine (map string_bytes words.now) result
+        (seen F.Shelf O.Sink E.Sink shelf.old out.old err.old shelf.new out.new err.new) }
+    ensures ends { HasEnd (map string_bytes words.now) result kept.new
+        (seen F.Shelf O.Sink E.Sink shelf.old out.old err.old shelf.new out.new err.new) }
+    ensures complete { IsComplete (map string_bytes words.now) result
+        (seen F.Shelf O.Sink E.Sink shelf.old out.old err.old shelf.new out.new err.new) }
+    ensures equal_texts { HasEqualTexts (map string_bytes words.now)
+        (seen F.Shelf O.Sink E.Sink shelf.old out.old err.old shelf.new out.new err.new) }
+    ensures finished { HasFinished result (F.unfinished shelf.old) (F.unfinished shelf.new) }
+{
+    let crew = Crew { rt, alloc, gates };
+    run_and_report(alloc, Ok(crew), words, shelf, out, err, kept)
+}
+
+// A crew with gates that do nothing.
+fn open_crew<R>(rt: &R, alloc: Global) -> Result<Crew<'_, R, Open>, AllocError>
+    ensures { IfOk result (λ crew. vec_len crew.gates ≡ 64) }
+{
+    let gates = Vec::from_slice(alloc, &[Open; 64])?;
+    Ok(Crew { rt, alloc, gates })
 }
 
 // The run to its end, with the line of that end.
-fn run_and_report<F: Shelf, O: Sink, E: Sink>(
+fn run_and_report<R: Threads + Sync, F: Shelf, O: Sink, E: Sink, G: Gate + Send + Drop>(
     alloc: Global,
+    crew: Result<Crew<'_, R, G>, AllocError>,
     words: &[String],
     shelf: &mut F,
     out: &mut O,
@@ -87,12 +143,13 @@ fn run_and_report<F: Shelf, O: Sink, E: Sink>(
 ) -> u8
     requires hand { F.hand shelf.old ≡ NoFile }
     requires none { kept.old ≡ None }
+    requires gates { IfOk crew (λ crew. vec_len crew.gates ≡ 64) }
     ensures hand { F.hand shelf.new ≡ NoFile }
     ensures course { IsOneCourse (map string_bytes words.now) result kept.new
         (seen F.Shelf O.Sink E.Sink shelf.old out.old err.old shelf.new out.new err.new) }
     ensures finished { HasFinished result (F.unfinished shelf.old) (F.unfinished shelf.new) }
 {
-    match read_and_execute(alloc, words, shelf, out, kept) {
+    match read_and_execute(alloc, crew, words, shelf, out, kept) {
         Ok(()) => 0,
         Err(stop) => {
             write_line(err, &stop.parts());
@@ -102,8 +159,9 @@ fn run_and_report<F: Shelf, O: Sink, E: Sink>(
 }
 
 // The readings and the commands.
-fn read_and_execute<F: Shelf, O: Sink>(
+fn read_and_execute<R: Threads + Sync, F: Shelf, O: Sink, G: Gate + Send + Drop>(
     alloc: Global,
+    crew: Result<Crew<'_, R, G>, AllocError>,
     words: &[String],
     shelf: &mut F,
     out: &mut O,
@@ -111,6 +169,7 @@ fn read_and_execute<F: Shelf, O: Sink>(
 ) -> Result<(), Stop>
     requires hand { F.hand shelf.old ≡ NoFile }
     requires none { kept.old ≡ None }
+    requires gates { IfOk crew (λ crew. vec_len crew.gates ≡ 64) }
     ensures hand { F.hand shelf.new ≡ NoFile }
     ensures ends { RunEnds (Adds F.asked shelf.old shelf.new) (map string_bytes words.now) kept.new
         result
@@ -120,102 +179,12 @@ fn read_and_execute<F: Shelf, O: Sink>(
         (faults F.read_faults F.write_faults O.faults shelf.new out.new) }
     ensures finished { LeavesFinished result (F.unfinished shelf.old) (F.unfinished shelf.new) }
 {
+    let crew = match crew {
+        Ok(crew) => crew,
+        Err(_) => return Err(Stop::OutOfMemory),
+    };
     match prepare(alloc, words, shelf) {
-        Ok(plan) => execute_plan(alloc, shelf, out, plan, kept),
+        Ok(plan) => execute_plan(crew, shelf, out, plan, kept),
         Err(stop) => Err(stop),
-    }
-}
-
-// Does all commands of the plan, and keeps the manager whose arena was full.
-fn execute_plan<F: Shelf, O: Sink>(
-    alloc: Global,
-    shelf: &mut F,
-    out: &mut O,
-    plan: RunPlan,
-    kept: &mut Option<Manager>,
-) -> Result<(), Stop>
-    requires hand { F.hand shelf.old ≡ NoFile }
-    requires none { kept.old ≡ None }
-    requires ready { IsReady plan }
-    ensures hand { F.hand shelf.new ≡ NoFile }
-    ensures goes { PlanEnds (Adds F.asked shelf.old shelf.new) (plan_of plan) kept.new result
-        (contents F.files O.written shelf.old out.old)
-        (contents F.files O.written shelf.new out.new)
-        (faults F.read_faults F.write_faults O.faults shelf.old out.old)
-        (faults F.read_faults F.write_faults O.faults shelf.new out.new) }
-    ensures finished { LeavesFinished result (F.unfinished shelf.old) (F.unfinished shelf.new) }
-{
-    let RunPlan {
-        formula,
-        mut state,
-        commands,
-    } = plan;
-    match execute_commands(alloc, shelf, out, &formula, &mut state, commands) {
-        Ok(()) => Ok(()),
-        Err(stop) => {
-            keep(kept, &stop, state.manager);
-            Err(stop)
-        }
-    }
-}
-
-// Keeps the manager if its arena was full.
-fn keep(kept: &mut Option<Manager>, stop: &Stop, manager: Manager)
-    ensures { kept.new ≡ cond (is_full stop.now) (Some manager) kept.old }
-{
-    if stop.is_full() {
-        *kept = Some(manager);
-    }
-}
-
-// Does the commands in order, up to the first that stops. Each is freed once it is done, with the file that it loaded.
-fn execute_commands<F: Shelf, O: Sink>(
-    alloc: Global,
-    shelf: &mut F,
-    out: &mut O,
-    formula: &Formula,
-    state: &mut RunState,
-    commands: Vec<NumberedCommand>,
-) -> Result<(), Stop>
-    requires hand { F.hand shelf.old ≡ NoFile }
-    requires ready { IsReadyWith formula.now state.old commands.items }
-    ensures hand { F.hand shelf.new ≡ NoFile }
-    ensures fewer { NotFewer (faults F.read_faults F.write_faults O.faults shelf.old out.old)
-        (faults F.read_faults F.write_faults O.faults shelf.new out.new) }
-    ensures goes { RunsToEnd (Adds F.asked shelf.old shelf.new)
-        (plan_with formula.now state.old commands.items) state.new.manager result
-        (contents F.files O.written shelf.old out.old)
-        (contents F.files O.written shelf.new out.new)
-        (faults F.read_faults F.write_faults O.faults shelf.old out.old)
-        (faults F.read_faults F.write_faults O.faults shelf.new out.new) }
-    ensures finished { LeavesFinished result (F.unfinished shelf.old) (F.unfinished shelf.new) }
-{
-    for command in commands {
-        let effect = match step(alloc, formula, state, &command.command) {
-            Ok(effect) => effect,
-            Err(error) => return Err(stop_at(command.line, error)),
-        };
-        match write_effect_if_any(shelf, out, effect) {
-            Ok(()) => drop(command),
-            Err(stop) => return Err(stop),
-        }
-    }
-    Ok(())
-}
-
-// The stop at a command of this line.
-fn stop_at(line: u32, error: CommandError) -> Stop
-    ensures { result ≡ stop_of line error }
-{
-    match error {
-        CommandError::OverLimit { group, size, limit } => Stop::OverLimit {
-            line,
-            group,
-            size,
-            limit,
-        },
-        CommandError::NotMovable => Stop::NotMovable(line),
-        CommandError::ArenaFull { elements } => Stop::ArenaFull(elements),
-        CommandError::OutOfMemory => Stop::OutOfMemory,
     }
 }

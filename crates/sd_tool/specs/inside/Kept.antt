@@ -11,8 +11,8 @@ use Rattle.sd_tool.specs.inside.Course.{IsAtCommand}
 use Rattle.sd_tool.specs.inside.Plans.{Plan}
 
 -- The manager holds the run's formulas at the command in hand, which may need the arena: its vtree is the tree of the
--- state there, or at a search or an input the tree after the walks that were done, and its roots hold the diagrams
--- of the names that are bound there.
+-- state there, at a search or an input the tree after the walks that were done, or at a choice that of a start or one
+-- on the way of its search, and its roots hold the diagrams of the names that are bound there.
 pub record HoldsAt (plan : Plan) (effects : List Effect) (t : Table) : Type 0 where
   pub state : State
   pub next : NumberedCommand

@@ -1,26 +1,24 @@
 -- The readings step by step, for the contracts of private functions and for proofs.
-use Rattle.std.specs.Prelude.{◌≡◌, ℕ, List, [], ◌++◌, codes, map, Option, Some, None, Result, Ok}
+use Rattle.std.specs.Prelude.{◌≡◌, ℕ, List, [], ◌++◌, codes, map, Option, None, Result, Ok}
 use Rattle.std.specs.List.{enumerate_from}
 use Rattle.std.specs.Option.{option_map_or, option_to_list}
 use Rattle.sd_base.specs.Files.{Files}
+use Rattle.sd_model.specs.Circuit.{Circuit}
 use Rattle.sd_model.specs.Tree.{Tree}
 use Rattle.sd_formula.specs.declared.formula.Kind.{Kind}
-use Rattle.sd_formula.specs.declared.formula.Kind.TheVariants as kinds
 use Rattle.sd_formula.specs.Dimacs.{Groups, dimacs}
 use Rattle.sd_vfile.specs.Reads.{vtree_file}
 use Rattle.sd_file.specs.Reads.{File, sdd_file}
 use Rattle.sd_script.specs.Scripts.{Script, script_of}
 use Rattle.sd_words.specs.JobOf.{job_of}
 use Rattle.sd_words.specs.declared.jobs.Job.{Job}
-use Rattle.sd_words.specs.declared.jobs.InputWord.{InputWord}
-use Rattle.sd_words.specs.declared.jobs.InputWord.TheVariants as inputs
 use Rattle.sd_commands.specs.declared.command.NumberedCommand.{NumberedCommand}
 use Rattle.sd_commands.specs.declared.command.RunCommand.{RunCommand}
 use Rattle.sd_commands.specs.declared.command.RunCommand.TheVariants as commands
 use Rattle.sd_script.specs.declared.command.Command.{Command as Line}
 use Rattle.sd_tool.specs.Readings.{Point, Refuses, or_refused, with_lines, with_tree, with_formula}
 use Rattle.sd_tool.specs.Readings.{with_input_word}
-use Rattle.sd_tool.specs.Written.{IsFormulaOf}
+use Rattle.sd_tool.specs.Written.{IsFormulaOf, IsPlainJob}
 
 -- commands in lines that follow one another, from this one on
 abbrev pub in_lines : ℕ → List RunCommand → List NumberedCommand
@@ -42,12 +40,6 @@ in_line line command = record { line = line.line; command = command }
 pub record Input : Type 0 where
   pub kind : Kind
   pub file : List ℕ
-
--- the formula file of the words, where they name one
-abbrev pub input_file : InputWord → Option Input
-input_file (inputs.Cnf file) = Some record { kind = kinds.Cnf; file = file }
-input_file (inputs.Dnf file) = Some record { kind = kinds.Dnf; file = file }
-input_file (inputs.Generate count seed) = None
 
 -- what reading a file gives: its bytes, or none where it is too long
 abbrev pub Text : Type 0
@@ -75,18 +67,18 @@ script_reading v begin script = with_lines v script begin [] script.commands
 abbrev pub with_script_reading : List ℕ → ℕ → (List NumberedCommand → Point) → Result Script (List ℕ) → Point
 with_script_reading file v begin read = or_refused 3 file (script_reading v begin) read
 
--- the text of one over v variables
-abbrev pub with_script_text : List ℕ → ℕ → (List NumberedCommand → Point) → Text → Point
-with_script_text file v begin text = parsed 3 (script_of v) file (script_reading v begin) text
+-- the text of one over v variables and o outputs
+abbrev pub with_script_text : List ℕ → ℕ → ℕ → (List NumberedCommand → Point) → Text → Point
+with_script_text file v o begin text = parsed 3 (script_of v o) file (script_reading v begin) text
 
 -- a vtree file that was read
-abbrev pub with_vtree_reading : Job → Groups → List ℕ → Result Tree (List ℕ) → Point
-with_vtree_reading job formula file read = or_refused 2 file (with_tree job formula) read
+abbrev pub with_vtree_reading : Job → Groups → Circuit → List ℕ → Result Tree (List ℕ) → Point
+with_vtree_reading job formula circuit file read = or_refused 2 file (with_tree job formula circuit) read
 
 -- the text of one
-abbrev pub with_vtree_text : Job → Groups → List ℕ → Text → Point
-with_vtree_text job formula file text =
-    parsed 2 (vtree_file formula.variables) file (with_tree job formula) text
+abbrev pub with_vtree_text : Job → Groups → Circuit → List ℕ → Text → Point
+with_vtree_text job formula circuit file text =
+    parsed 2 (vtree_file formula.variables) file (with_tree job formula circuit) text
 
 -- a formula file that was read
 abbrev pub with_formula_reading : Job → List ℕ → Result Groups (List ℕ) → Point
@@ -102,8 +94,8 @@ with_input job input text =
 abbrev pub with_job : Result Job (List ℕ) → Point
 with_job read = or_refused 1 [] (λ job. with_input_word job job.input) read
 
--- the words, without a script, ask for this formula
+-- the plain words ask for this formula
 pub record IsInput (words : List (List ℕ)) (files : Files) (job : Job) (formula : Groups) : Type 0 where
   pub named : job_of words ≡ Ok job
-  pub alone : job.script ≡ None
+  pub plain : IsPlainJob job
   pub input : IsFormulaOf files job.input formula

@@ -10,7 +10,7 @@ returns-in-Ok-Some-clause-leads g c = λ next.
     let field = c.in-Ok-Some.field-0-is in
     let is : plain_of c.args.action.now ≡ Some c.in-Ok-Some.command = cc in
     comes_same _ (g.F.Shelf.files c.args.shelf.now) _ _ (asks_none g.F.Shelf.asked c.args.shelf.now)
-    (plain_found c.args.variables c.args.script.now next c.args.action.now c.in-Ok-Some.command is).leads
+    (plain_found c.args.variables 0 c.args.script.now next c.args.action.now c.in-Ok-Some.command is).leads
 
 pub returns-in-Err-clause-leads : goal.returns-in-Err-clause-leads
 returns-in-Err-clause-leads g c = λ next.

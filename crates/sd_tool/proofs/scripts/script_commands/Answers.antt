@@ -14,7 +14,8 @@ use Rattle.sd_tool.proofs.scripts.script_commands.Goals as goal
 pub loop-line-init : goal.loop-line-init
 loop-line-init g c =
     let told = g.F.Shelf.files c.args.shelf.now in
-    let v = c.args.variables in
+    let v = c.args.format.now.variables in
+    let o = c.args.format.now.outputs in
     let script = c.args.script.now in
     record {
       hand = c.requires.hand;
@@ -23,9 +24,9 @@ loop-line-init g c =
       write_faults = refl;
       unfinished = refl;
       same = c.commands-line-items.ensures;
-      commands_of = subst (λ (done : List NumberedCommand). AreCommandsOf v script.commands 0 done)
+      commands_of = subst (λ (done : List NumberedCommand). AreCommandsOf v o script.commands 0 done)
           (sym c.new-commands.ensures.items)
-          (becomes_first v script.commands);
+          (becomes_first v o script.commands);
       leads = λ begin. subst (λ (done : List NumberedCommand). ComesTo
           (Adds g.F.Shelf.asked c.args.shelf.now c.args.shelf.now) told (with_lines v script begin [] script.commands)
           (with_lines v script begin done script.commands)) (sym c.new-commands.ensures.items)
@@ -41,7 +42,8 @@ command_of-requires-clause-files g c =
     let here : IsNext c.commands-line-items.result.now c.loop-line.line-index line =
     record { within = omega arith; is = c.line-item.is } in
     let next = subst (λ (ls : List Line). IsNext ls c.loop-line.line-index line) was.same here in
-    (next_allowed c.args.variables c.args.script.now c.loop-line.line-index line c.requires.script next).files
+    (next_allowed c.args.format.now.variables c.args.format.now.outputs c.args.script.now c.loop-line.line-index line
+    c.requires.script next).files
 
 -- the stop at a line
 pub returns-in-Err-clause-leads : goal.returns-in-Err-clause-leads
@@ -51,7 +53,7 @@ returns-in-Err-clause-leads g c = λ begin.
     let here : IsNext c.commands-line-items.result.now c.loop-line.line-index line =
     record { within = omega arith; is = c.line-item.is } in
     let next = subst (λ (ls : List Line). IsNext ls c.loop-line.line-index line) was.same here in
-    line_leads (g.F.Shelf.files c.args.shelf.now) (g.F.Shelf.files c.loop-line.shelf) c.args.variables
+    line_leads (g.F.Shelf.files c.args.shelf.now) (g.F.Shelf.files c.loop-line.shelf) c.args.format.now.variables
     c.args.script.now c.loop-line.line-index line c.loop-line.commands.items begin (Err c.in-Err.stop)
     (g.F.Shelf.read_faults c.args.shelf.now) (g.F.Shelf.read_faults c.loop-line.shelf)
     (g.F.Shelf.read_faults c.command_of.new.shelf)
@@ -64,7 +66,8 @@ pub loop-line-preserved : goal.loop-line-preserved
 loop-line-preserved g c =
     let was = c.loop-line.invariant in
     let told = g.F.Shelf.files c.args.shelf.now in
-    let v = c.args.variables in
+    let v = c.args.format.now.variables in
+    let o = c.args.format.now.outputs in
     let script = c.args.script.now in
     let index = c.loop-line.line-index in
     let done = c.loop-line.commands.items in
@@ -79,9 +82,9 @@ loop-line-preserved g c =
       write_faults = c.in-Ok.ensures.write_faults ∙ was.write_faults;
       unfinished = c.in-Ok.ensures.finished ∙ was.unfinished;
       same = was.same;
-      commands_of = subst (λ (cs : List NumberedCommand). AreCommandsOf v script.commands (index + 1) cs)
+      commands_of = subst (λ (cs : List NumberedCommand). AreCommandsOf v o script.commands (index + 1) cs)
           (sym c.in-Ok-put.ensures)
-          (becomes_next v script index done line c.in-Ok.command c.requires.script next c.in-Ok.ensures.same
+          (becomes_next v o script index done line c.in-Ok.command c.requires.script next (c.in-Ok.ensures.same o)
           was.commands_of);
       leads = λ begin. subst (λ (cs : List NumberedCommand). ComesTo
           (Adds g.F.Shelf.asked c.args.shelf.now c.command_of.new.shelf) told
@@ -106,7 +109,7 @@ returns-in-Err-put-clause-leads g c = λ begin.
     let next = subst (λ (ls : List Line). IsNext ls c.loop-line.line-index line) was.same here in
     inl (
       _,
-      line_leads (g.F.Shelf.files c.args.shelf.now) (g.F.Shelf.files c.loop-line.shelf) c.args.variables
+      line_leads (g.F.Shelf.files c.args.shelf.now) (g.F.Shelf.files c.loop-line.shelf) c.args.format.now.variables
           c.args.script.now c.loop-line.line-index line c.loop-line.commands.items begin (Ok c.in-Ok.command)
           (g.F.Shelf.read_faults c.args.shelf.now) (g.F.Shelf.read_faults c.loop-line.shelf)
           (g.F.Shelf.read_faults c.command_of.new.shelf)

@@ -16,9 +16,10 @@ invariant-loop-line g l = record {
   write_faults : g.F.Shelf.write_faults l.shelf ≡ g.F.Shelf.write_faults l.fn.shelf;
   unfinished : g.F.Shelf.unfinished l.shelf ≡ g.F.Shelf.unfinished l.fn.shelf;
   same : l.line-items ≡ l.fn.script.commands;
-  commands_of : AreCommandsOf l.fn.variables l.fn.script.commands l.line-index l.commands.items;
+  commands_of : AreCommandsOf l.fn.format.variables l.fn.format.outputs l.fn.script.commands l.line-index
+      l.commands.items;
   leads : (begin : List NumberedCommand → Point) → ComesTo (Adds g.F.Shelf.asked l.fn.shelf l.shelf)
       (g.F.Shelf.files l.fn.shelf)
-      (with_lines l.fn.variables l.fn.script begin [] l.fn.script.commands)
-      (with_lines l.fn.variables l.fn.script begin l.commands.items (drop l.line-index l.fn.script.commands));
+      (with_lines l.fn.format.variables l.fn.script begin [] l.fn.script.commands)
+      (with_lines l.fn.format.variables l.fn.script begin l.commands.items (drop l.line-index l.fn.script.commands));
 }
