@@ -58,7 +58,9 @@ printf 'p dnf 4 2\n1 2 0\n3 4 0\n' >terms
 printf 'p cnf 4 0\n' >none
 printf 'p cnf 2 1\n1 5 0\n' >bad
 printf 'vtree 7\nL 0 1\nL 2 2\nI 1 0 2\nL 4 3\nL 6 4\nI 5 4 6\nI 3 1 5\n' >tree
+printf 'vtree 3\nL 0 1\nL 2 2\nI 1 0 2\n' >two
 printf 'sdd 5\nL 0 0 -1\nL 1 2 2\nL 2 0 1\nT 3\nD 4 1 2 0 1 2 3\n' >part
+printf 'aag 6 2 0 2 4\n2\n4\n7\n12\n6 9 11\n8 2 5\n10 3 4\n12 2 4\n' >adder
 : >s
 cp -- * "$work/ref" && cp -- * "$work/run" || exit 1
 newline='
@@ -171,6 +173,11 @@ refuse_each 'none, a bad CNF' '--cnf bad --out-sdd out'
 refuse_each 'none, with `--minimise`' '--dnf pairs --minimise 3 --out-sdd out --out-vtree shape'
 refuse_each 'none, with `--every`' '--dnf pairs --every 1 --out-sdd out'
 refuse_each 'none, bad words' '--cnf bad --colour x'
+refuse_each 'none, in parts' '--dnf pairs --parts 2 --out-sdd out'
+refuse_each 'none, with `--portfolio`' '--dnf pairs --portfolio --out-sdd out --out-vtree shape'
+refuse_each 'none, a circuit' '--aag adder --out-sdd out'
+refuse_each 'none, a check' '--check part --vtree two'
+refuse_each '`output`' '--aag adder --script s' 'output a 0\noutput b 1\n'
 refuse_each '`input`' '--dnf pairs --script s' 'input f\n'
 refuse_each '`load`' '--cnf none --script s' 'load g part\n'
 refuse_each '`lit`' '--cnf none --script s' 'lit a 1\n'
