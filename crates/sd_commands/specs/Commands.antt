@@ -180,11 +180,11 @@ abbrev pub verdict_line : File → Verdict → List ℕ
 verdict_line file Yes = line_of_words (codes "yes" ∷ [])
 verdict_line file (No node rule) = refusal_line (entry_at file node).id rule
 
--- What a command comes to in a state, where this formula is the input. At a move the names keep their formulas over the
--- moved tree, if the total size is then within the limit; where there is no such tree, the place is not movable. At a
--- search they keep them over the tree that it finds, of at most so many rounds; the size at its start, the one at its
--- end and its rounds are printed. At a choice the input is compiled alone over each start, and searched with the rounds.
--- At a check the verdict on the file is printed, where the ids of its vtree have these positions.
+-- What a command comes to in a state, where this formula is the input. At a move the names keep their formulas over
+-- the moved tree, if the total size is then within the limit; where there is no such tree, the place is not movable.
+-- At a search they keep them over the tree that it finds, of at most so many rounds; the size at its start, the one
+-- at its end and its rounds are printed. At a choice the input is compiled alone over each start, and searched with
+-- the rounds. At a check the verdict on the file is printed, where the ids of its vtree have these positions.
 abbrev pub Step : Groups → State → RunCommand → Outcome → Type 0
 Step input state (commands.Generated variables groups) outcome =
     Does state (Print (told_line (codes "generated") (variables ∷ groups ∷ []))) outcome

@@ -48,13 +48,13 @@ pub enum RunCommand {
     /// Binds a name to the input's formula, whose groups are compiled in so many parts, each alone, and joined. `step`
     /// does not do it: workers do.
     InputByParts(u32, u32),
-    /// Chooses the start tree over which the input's formula has the least size, alone, with a search of at most so many
-    /// rounds where they are there, and prints it. `step` does not do it: workers do.
+    /// Chooses the start tree over which the input's formula has the least size, alone, with a search of at most so
+    /// many rounds where they are there, and prints it. `step` does not do it: workers do.
     Choose(Option<u32>),
     /// Binds a name to an output of the circuit, counted from 0.
     Output(u32, u32),
-    /// Prints whether each node of an SDD file fits a vtree, or the first that does not; the ids are those of the file of
-    /// the vtree.
+    /// Prints whether each node of an SDD file fits a vtree, or the first that does not; the ids are those of the
+    /// file of the vtree.
     Check(SddFile, Ids),
 }
 

@@ -305,8 +305,8 @@ impl RunState {
         );
     }
 
-    /// The node of an output of the circuit, counted from 0. All else is as before, also where it is refused. Garbage is
-    /// taken away where there is enough of it, but for the nodes of gates that this output and later ones use.
+    /// The node of an output of the circuit, counted from 0. All else is as before, also where it is refused. Garbage
+    /// is taken away where there is enough of it, but for the nodes of gates that this output and later ones use.
     pub(crate) fn output(&mut self, alloc: Global, index: u32) -> Result<NodeId, TakeError>
         requires represents { (seen : State) × Represents self.old seen }
         requires index { index < length self.old.shared.circuit.text.outputs }

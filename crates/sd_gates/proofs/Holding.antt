@@ -1,5 +1,6 @@
 -- Roots that are held for a while: one more, one less, and what stays where a sweep comes between.
-use Rattle.std.proofs.Common.{◌≡◌, ◌≢◌, ◌⊎◌, ℕ, ◌+◌, ◌-◌, ◌*◌, ◌<◌, ◌≤◌, zero, suc, Bool, true, false, List, [], ◌∷◌, ◌++◌}
+use Rattle.std.proofs.Common.{◌≡◌, ◌≢◌, ◌⊎◌, ℕ, ◌+◌, ◌-◌, ◌*◌, ◌<◌, ◌≤◌}
+use Rattle.std.proofs.Common.{zero, suc, Bool, true, false, List, [], ◌∷◌, ◌++◌}
 use Rattle.std.proofs.Common.{length, get_or, Option, Some, None}
 use Rattle.std.proofs.Common.{refl, sym, ◌∙◌, ap, subst, arith, inl, inr}
 use Rattle.std.specs.Option.{IsSome}
@@ -181,7 +182,8 @@ pub held_on : (mid new : Table) (xs ys : List ℕ) (node other : ℕ) → HoldsO
 held_on mid new xs ys node other one held = (
   held.0,
   ap (λ (t : Table). get t.roots held.0) one.is
-      ∙ get_insert_other mid.roots one.root node held.0 (λ e. absurd (differ (ap (get mid.roots) e ∙ one.absent) held.1))
+      ∙ get_insert_other mid.roots one.root node held.0
+      (λ e. absurd (differ (ap (get mid.roots) e ∙ one.absent) held.1))
       ∙ held.1,
 )
   where

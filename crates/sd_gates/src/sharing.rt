@@ -33,8 +33,8 @@ impl GateNodes {
         }
     }
 
-    /// Forgets all nodes: for another circuit or another manager, or where the manager may have changed otherwise. Their
-    /// memory is kept until the next output.
+    /// Forgets all nodes: for another circuit or another manager, or where the manager may have changed otherwise.
+    /// Their memory is kept until the next output.
     pub fn forget(&mut self)
         ensures { (c : OrderedCircuit) (t : Table) → Shares c self.new t }
     {

@@ -26,9 +26,9 @@ use sd_manager::{Manager, NodeId, Root};
 use std::alloc::{AllocError, Global};
 
 /// Takes nodes away that no root and no loose run needs, but not those of gates that the outputs from `from` on are
-/// made of next. Then `most` is how many elements may be in use before the next sweep pays: twice what is left, and at least
-/// `sd_compile::LEAST_GARBAGE`. Which nodes are taken away, and what `most` becomes, is chosen for speed and stands in
-/// no clause. The only error: out of memory, and then nothing is swept.
+/// made of next. Then `most` is how many elements may be in use before the next sweep pays: twice what is left, and
+/// at least `sd_compile::LEAST_GARBAGE`. Which nodes are taken away, and what `most` becomes, is chosen for speed and
+/// stands in no clause. The only error: out of memory, and then nothing is swept.
 pub fn sweep_gates(
     alloc: Global,
     m: &mut Manager,

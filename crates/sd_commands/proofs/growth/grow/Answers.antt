@@ -27,7 +27,8 @@ pub returns-in-Ok-grow_all-clause-ok : goal.returns-in-Ok-grow_all-clause-ok
 returns-in-Ok-grow_all-clause-ok c = λ seen was.
     grown_all c.args.input.now seen c.grow_all.new.state c.grow_all.new.work _
     (c.in-Ok-grow_all.ensures.ok seen
-    (growing_first c.args.input.now seen c.args.state.now c.begin.new.m c.in-Ok.work was c.requires.forgotten c.in-Ok.ensures.ok))
+    (growing_first c.args.input.now seen c.args.state.now c.begin.new.m c.in-Ok.work was c.requires.forgotten
+    c.in-Ok.ensures.ok))
     c.in-Ok-grow_all.ensures.all c.finish.ensures
 
 pub returns-in-Ok-grow_all-clause-others : goal.returns-in-Ok-grow_all-clause-others
@@ -63,7 +64,8 @@ returns-in-Err-grow_all-clause-stops c = λ seen was name.
     stops_released c.args.input.now seen name c.grow_all.new.state.manager c.release.new.self _ c.in-Err-grow_all.error
     c.release.ensures.released
     (c.in-Err-grow_all.ensures.stops seen
-    (growing_first c.args.input.now seen c.args.state.now c.begin.new.m c.in-Ok.work was c.requires.forgotten c.in-Ok.ensures.ok) name)
+    (growing_first c.args.input.now seen c.args.state.now c.begin.new.m c.in-Ok.work was c.requires.forgotten
+    c.in-Ok.ensures.ok) name)
 
 pub returns-in-Err-grow_all-clause-roots : goal.returns-in-Err-grow_all-clause-roots
 returns-in-Err-grow_all-clause-roots c =

@@ -53,4 +53,5 @@ holding-preserved c =
 
 pub returns-clause-held : goal.returns-clause-held
 returns-clause-held c =
-    below_all c.holding.m c.args.nodes.now c.holding.index (omega (arith, c.holding-test.false)) c.holding.invariant.held
+    below_all c.holding.m c.args.nodes.now c.holding.index (omega (arith, c.holding-test.false))
+    c.holding.invariant.held

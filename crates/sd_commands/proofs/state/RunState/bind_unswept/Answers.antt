@@ -49,7 +49,8 @@ returns-in-Err-clause-refused c = λ seen f was shows.
     (c.in-Err.ensures.err f shows.diagram shows.is shows.of_value))
 
 pub returns-in-Err-clause-err : goal.returns-in-Err-clause-err
-returns-in-Err-clause-err c = as_before c.args.self.now _ c.in-Err.ensures.unchanged refl refl refl refl refl (λ q. refl)
+returns-in-Err-clause-err c = as_before c.args.self.now _ c.in-Err.ensures.unchanged refl refl refl refl refl
+    (λ q. refl)
 
 pub returns-in-Err-insert_root-clause-err : goal.returns-in-Err-insert_root-clause-err
 returns-in-Err-insert_root-clause-err c =

@@ -19,7 +19,8 @@ release-requires c = record {
 
 pub returns-in-Ok-clause-represents : goal.returns-in-Ok-clause-represents
 returns-in-Ok-clause-represents c = λ seen f was holds.
-    stands_named c.args.self.now _ seen c.args.name c.args.root f was holds c.requires.free refl refl refl refl refl refl
+    stands_named c.args.self.now _ seen c.args.name c.args.root f was holds c.requires.free refl refl refl refl refl
+    refl
     (λ q. c.in-Ok.ensures.updates.0 q)
 
 pub returns-in-Err-clause-err : goal.returns-in-Err-clause-err
