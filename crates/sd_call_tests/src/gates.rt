@@ -10,14 +10,15 @@ use std::thread::Threads;
 /// How often a gate looks whether the other one was entered.
 const MOST_TURNS: u32 = 200_000_000;
 
-/// What the first two parts tell each other: that they came, and that they saw the other one; and whether a part came
-/// to a gate of another number.
+/// What the first two parts tell each other: that they came, and that they saw the other one; whether the third one
+/// came; and whether a part came to a gate of another number.
 #[derive(Drop)]
 struct Flags {
     first_came: AtomicBool,
     first_met: AtomicBool,
     second_came: AtomicBool,
     second_met: AtomicBool,
+    third_came: AtomicBool,
     strayed: AtomicBool,
 }
 
@@ -37,6 +38,8 @@ impl Gate for Meeting<'_> {
             meet(&flags.first_came, &flags.second_came, &flags.first_met);
         } else if part == 1 {
             meet(&flags.second_came, &flags.first_came, &flags.second_met);
+        } else if part == 2 {
+            flags.third_came.store(true, Ordering::SeqCst);
         }
     }
 }
@@ -59,14 +62,16 @@ fn no_flags() -> Flags {
         first_met: AtomicBool::new(false),
         second_came: AtomicBool::new(false),
         second_met: AtomicBool::new(false),
+        third_came: AtomicBool::new(false),
         strayed: AtomicBool::new(false),
     }
 }
 
-// Whether the first two parts met, and each part came to the gate of its number.
-fn have_met(flags: &Flags) -> bool {
+// Whether the first two parts met, each part came to the gate of its number, and a third one came where there is one.
+fn have_met(flags: &Flags, third: bool) -> bool {
     flags.first_met.load(Ordering::SeqCst)
         && flags.second_met.load(Ordering::SeqCst)
+        && flags.third_came.load(Ordering::SeqCst) == third
         && !flags.strayed.load(Ordering::SeqCst)
 }
 
@@ -97,12 +102,14 @@ fn shelf_of(alloc: Global, text: &[u8]) -> Result<MemoryShelf, AllocError> {
     Ok(MemoryShelf::new(alloc, files, 64, Vec::new(alloc)))
 }
 
-// Whether the first two parts of a run with these words meet, and the run ends with status 0 and prints this.
+// Whether the first two parts of a run with these words meet, a third one comes where there is one, and the run ends
+// with status 0 and prints this.
 fn meets<R: Threads + Sync>(
     rt: &R,
     alloc: Global,
     line: &str,
     text: &[u8],
+    third: bool,
     printed: &[u8],
 ) -> Result<bool, AllocError> {
     let flags = no_flags();
@@ -117,17 +124,19 @@ fn meets<R: Threads + Sync>(
     let status = run_gated(
         rt, alloc, &words, &mut shelf, &mut out, &mut err, &mut None, gates,
     );
-    Ok(status == 0 && out.bytes() == printed && have_met(&flags))
+    Ok(status == 0 && out.bytes() == printed && have_met(&flags, third))
 }
 
-/// Two parts in two threads wait for one another, and so do the first two starts, each at the gate of its number.
+/// Two parts in two threads wait for one another, and so do the first two of three starts, each at the gate of its
+/// number.
 #[test]
 fn two_are_in_work_at_once(rt: HostRuntime) -> Result<(), AllocError> {
     let apart = b"p dnf 4 2\n1 2 0\n3 4 0\n";
     let crossed = b"p dnf 4 2\n1 3 0\n2 4 0\n";
     let parts = "--dnf in --parts 2 --workers 2";
-    assert!(rt; meets(&rt, rt.alloc(), parts, apart, b"size 8\n")?);
+    assert!(rt; meets(&rt, rt.alloc(), parts, apart, false, b"size 8\n")?);
     let starts = "--dnf in --portfolio --workers 3";
-    assert!(rt; meets(&rt, rt.alloc(), starts, crossed, b"start right\nsize 8\n")?);
+    let answer = b"start right\nsize 8\n";
+    assert!(rt; meets(&rt, rt.alloc(), starts, crossed, true, answer)?);
     Ok(())
 }

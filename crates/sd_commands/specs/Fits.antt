@@ -47,7 +47,7 @@ abbrev pub bound_after : List ℕ → RunCommand → List ℕ
 bound_after names c = binds c ++ filter (λ n. not (has (frees c) n)) names
 
 -- a literal is of a variable of 1 to v, so is a variable that is forgotten, a file is over v variables, a value has v
--- bits, a write has a name, and of o outputs one is named; what workers do is not in range
+-- bits, a write has a name, and of o outputs one is named; what workers do is in no range, since `step` never does it
 abbrev pub in_range : ℕ → ℕ → RunCommand → Bool
 in_range v o (commands.Load n file) = file.variables == v
 in_range v o (commands.Literal n literal) = nat_le 1 (unsigned_abs literal) && nat_le (unsigned_abs literal) v

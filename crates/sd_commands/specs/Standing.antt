@@ -183,7 +183,8 @@ abbrev pub IsLeftByInput : Option ℕ → Groups → RunState → RunState → T
 IsLeftByInput None input old new = IsAsBefore old new
 IsLeftByInput (Some every) input old new = IsLeftByGroups input old new
 
--- What a command that stops leaves: all as before, but for the tree of searches. A choice is none of one state.
+-- What a command that stops leaves: all as before, but for the tree of searches. A choice is not done in a state that
+-- stands: workers do it, over managers of their own.
 abbrev pub IsLeft : Groups → RunCommand → RunState → RunState → Type 0
 IsLeft input (commands.Choose rounds) old new = ⊥
 IsLeft input (commands.Minimise rounds) old new = IsLeftBySearch rounds old new

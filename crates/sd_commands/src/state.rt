@@ -306,7 +306,7 @@ impl RunState {
     }
 
     /// The node of an output of the circuit, counted from 0. All else is as before, also where it is refused. Garbage
-    /// is taken away where there is enough of it, but for the nodes of gates that this output and later ones use.
+    /// is taken away where there is enough of it; which nodes of gates are kept then is chosen for speed.
     pub(crate) fn output(&mut self, alloc: Global, index: u32) -> Result<NodeId, TakeError>
         requires represents { (seen : State) × Represents self.old seen }
         requires index { index < length self.old.shared.circuit.text.outputs }
