@@ -4,10 +4,7 @@ use Rattle.std.proofs.Common.{inl, inr, cond, refl, sym, ap, subst, ◌∙◌}
 use Rattle.sd_base.specs.Asked.{Request}
 use Rattle.sd_base.specs.Files.{Files}
 use Rattle.sd_manager.specs.Table.{Table}
-use Rattle.sd_formula.specs.Dimacs.{Groups}
 use Rattle.sd_commands.specs.Effects.{Effect, Write, Print}
-use Rattle.sd_commands.specs.declared.command.NumberedCommand.{NumberedCommand}
-use Rattle.sd_commands.specs.declared.state.RunState.{RunState}
 use Rattle.sd_tool.specs.Effects.{Contents}
 use Rattle.sd_tool.specs.Readings.{reading_of}
 use Rattle.sd_tool.specs.inside.Plans.{Plan, point_of}

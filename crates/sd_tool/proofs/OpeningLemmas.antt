@@ -8,12 +8,12 @@ use Rattle.sd_model.specs.Tree.{Tree, leaves}
 use Rattle.sd_formula.specs.Dimacs.{Groups}
 use Rattle.sd_vtree.specs.Numbered.{plain_tree}
 use Rattle.sd_manager.specs.Table.{Table}
-use Rattle.sd_commands.specs.Effects.{Effect, Print}
+use Rattle.sd_commands.specs.Effects.{Effect}
 use Rattle.sd_commands.specs.Commands.{State, Done, Step, Steps}
 use Rattle.sd_commands.specs.Fits.{AllFit, bound_after}
 use Rattle.sd_commands.specs.Opening.{FollowsInput, IsHandedBack, IsOpeningStopped, IsStoppedByParts, OpensChosen}
 use Rattle.sd_commands.specs.Opening.{StopsWithRoom}
-use Rattle.sd_commands.specs.Standing.{Represents, StepsTo, StopsAt, IsAsBefore, IsLeft, IsTreeLeft, HoldsNames}
+use Rattle.sd_commands.specs.Standing.{Represents, StepsTo, StopsAt, IsAsBefore, IsLeft, HoldsNames}
 use Rattle.sd_commands.specs.Standing.{effects_of, names_of, start}
 use Rattle.sd_commands.specs.declared.command.Effect.{Effect as CodeEffect}
 use Rattle.sd_commands.specs.declared.command.NumberedCommand.{NumberedCommand}

@@ -1,5 +1,5 @@
 -- The plan of a plain job: its formula is compiled whole, over the start tree of the words.
-use Rattle.std.proofs.Common.{◌≡◌, ℕ, Bool, true, false, List, [], ◌∷◌, ◌++◌, Option, Some, None, refl, ap, ◌∙◌}
+use Rattle.std.proofs.Common.{◌≡◌, ℕ, Bool, false, List, [], ◌∷◌, ◌++◌, Option, None, ap, ◌∙◌}
 use Rattle.std.specs.Option.{option_map_or}
 use Rattle.std.specs.Prelude.{if◌then◌else◌}
 use Rattle.sd_model.specs.Tree.{Tree}
@@ -8,7 +8,6 @@ use Rattle.sd_words.specs.declared.jobs.Job.{Job}
 use Rattle.sd_commands.specs.Commands.{no_circuit}
 use Rattle.sd_commands.specs.Standing.{start}
 use Rattle.sd_commands.specs.declared.command.NumberedCommand.{NumberedCommand}
-use Rattle.sd_commands.specs.declared.command.RunCommand.{RunCommand}
 use Rattle.sd_commands.specs.declared.command.RunCommand.TheVariants as commands
 use Rattle.sd_tool.specs.Readings.{announcement, choice, default_of}
 use Rattle.sd_tool.specs.Written.{IsPlainJob}

@@ -7,7 +7,7 @@ use Rattle.sd_base.specs.Asked.{Request}
 use Rattle.sd_formula.specs.Dimacs.{Groups}
 use Rattle.sd_manager.specs.Table.{Table}
 use Rattle.sd_commands.specs.Effects.{Effect}
-use Rattle.sd_commands.specs.Commands.{State, Done, Step, Steps}
+use Rattle.sd_commands.specs.Commands.{State, Steps}
 use Rattle.sd_commands.specs.Fits.{AllFit, bound_after}
 use Rattle.sd_model.specs.Tree.{leaves}
 use Rattle.sd_vtree.specs.Numbered.{plain_tree}
@@ -18,11 +18,10 @@ use Rattle.sd_commands.proofs.Outcomes.{names_after, circuit_after}
 use Rattle.sd_tool.specs.Effects.{Contents}
 use Rattle.sd_tool.specs.Ends.{End, Finished, Refused, Unreadable, Unwritable, OutOfMemory, ArenaFull, OverLimit}
 use Rattle.sd_tool.specs.Ends.{NotMovable}
-use Rattle.sd_tool.specs.Devices.{Faults, HasReason}
+use Rattle.sd_tool.specs.Devices.{Faults}
 use Rattle.sd_tool.specs.inside.Devices.{NotFewer}
 use Rattle.sd_tool.specs.inside.Asks.{begun, writings}
 use Rattle.sd_tool.specs.inside.Course.{EndLeaves, EndsAmong, IsAtCommand, Reaches, after_effects}
-use Rattle.sd_tool.specs.inside.Kept.{HoldsAt}
 use Rattle.sd_tool.specs.inside.Segments.{segment, AreDone, DoesAll, RunsSegment, CanRun, refuser}
 use Rattle.sd_tool.specs.inside.Plans.{Plan}
 use Rattle.sd_tool.specs.Stops.{IsFullAt, PlanEnds, RunsToEnd, is_full}

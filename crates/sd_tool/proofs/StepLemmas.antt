@@ -1,5 +1,5 @@
 -- One command of a run, and what is done outside.
-use Rattle.std.proofs.Common.{◌≡◌, ℕ, ◌+◌, ◌<◌, ◌≤◌, Option, Ok, Err, List, [], ◌∷◌, ◌++◌, length, take, drop}
+use Rattle.std.proofs.Common.{◌≡◌, ℕ, ◌+◌, ◌<◌, ◌≤◌, Option, Err, List, [], ◌∷◌, ◌++◌, length, drop}
 use Rattle.std.proofs.Common.{get_or, refl, sym, ap, subst, ◌∙◌, arith, add-one}
 use Rattle.std.proofs.lemmas.List.{append-nil}
 use Rattle.std.proofs.lemmas.List.Concat.{flat_map-append}
@@ -18,7 +18,7 @@ use Rattle.sd_commands.specs.declared.command.NumberedCommand.{NumberedCommand}
 use Rattle.sd_commands.specs.declared.command.RunCommand.{RunCommand}
 use Rattle.sd_commands.specs.declared.error.CommandError.{CommandError}
 use Rattle.sd_commands.specs.declared.error.CommandError.TheVariants as errors
-use Rattle.sd_tool.specs.Effects.{Contents, after_effect, DoesPart}
+use Rattle.sd_tool.specs.Effects.{Contents, after_effect}
 use Rattle.sd_tool.specs.Course.{asked_by}
 use Rattle.sd_tool.specs.Ends.{Unwritable, OutOfMemory as NoMemory, ArenaFull as NoRoom, OverLimit as Passes}
 use Rattle.sd_tool.specs.Ends.{NotMovable as StaysPut}

@@ -1,5 +1,5 @@
 -- The readings step by step, for the contracts of private functions and for proofs.
-use Rattle.std.specs.Prelude.{◌≡◌, ℕ, List, [], ◌++◌, codes, map, Option, None, Result, Ok}
+use Rattle.std.specs.Prelude.{◌≡◌, ℕ, List, [], ◌++◌, codes, map, Option, Result, Ok}
 use Rattle.std.specs.List.{enumerate_from}
 use Rattle.std.specs.Option.{option_map_or, option_to_list}
 use Rattle.sd_base.specs.Files.{Files}
