@@ -105,7 +105,7 @@ fn the_first_among_equals_is_chosen(rt: HostRuntime) -> Result<(), Fail> {
     };
     assert_eq!(rt;
         chosen(&rt, rt.alloc(), &f, searched, 3),
-        Ok((Start::Balanced, 8))
+        Ok((Start::Balanced, 6))
     );
     Ok(())
 }
