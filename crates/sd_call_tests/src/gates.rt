@@ -93,13 +93,13 @@ fn words_of(alloc: Global, line: &str) -> Result<Vec<String>, AllocError> {
     Ok(words)
 }
 
-// A shelf with one file, "in", of this text.
-fn shelf_of(alloc: Global, text: &[u8]) -> Result<MemoryShelf, AllocError> {
+// One file, "in", of this text.
+fn files_of(alloc: Global, text: &[u8]) -> Result<Vec<NamedBytes>, AllocError> {
     let mut files = Vec::new(alloc);
     let name = Name::copy_of(alloc, "in")?;
     let bytes = Bytes::new(text.to_vec(alloc)?);
     files.push(NamedBytes { name, bytes })?;
-    Ok(MemoryShelf::new(alloc, files, 64, Vec::new(alloc)))
+    Ok(files)
 }
 
 // Whether the first two parts of a run with these words meet, a third one comes where there is one, and the run ends
@@ -115,7 +115,7 @@ fn meets<R: Threads + Sync>(
     let flags = no_flags();
     let gates = meetings(alloc, &flags)?;
     let words = words_of(alloc, line)?;
-    let mut shelf = shelf_of(alloc, text)?;
+    let mut shelf = MemoryShelf::new(alloc, files_of(alloc, text)?, 64, Vec::new(alloc));
     let mut out = MemorySink::new(alloc, Vec::new(alloc));
     let mut err = MemorySink::new(alloc, Vec::new(alloc));
     if gates.len() != 64 {
