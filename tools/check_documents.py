@@ -280,6 +280,17 @@ def run_stored(program, words, printed, files):
             path = os.path.join(folder, os.path.basename(name)) if name in words.split() else name
             written = open(path, encoding="utf-8").read() if os.path.exists(path) else None
             expect(written == text_of(same), "./sddc %s: %s differs from %s" % (words, name, same))
+        if "--out-sdd" in moved:
+            expect_canonical(program, folder, moved, files[0][1])
+
+
+def expect_canonical(program, folder, words, same):
+    """The stored file that these words write is one that a check over their vtree accepts."""
+    tree = os.path.join(folder, "written.vtree")
+    subprocess.run([os.path.abspath(program)] + words + ["--out-vtree", tree], cwd=folder, stdout=subprocess.DEVNULL)
+    run = subprocess.run([os.path.abspath(program), "--check", same, "--vtree", tree], cwd=folder,
+                         stdout=subprocess.PIPE, text=True)
+    expect(run.stdout == "yes\n", "./sddc --check %s: printed %r" % (same, run.stdout))
 
 
 def main():
