@@ -11,15 +11,11 @@ mod cases;
 #[cfg(test)]
 mod compiling;
 #[cfg(test)]
-mod gates;
-#[cfg(test)]
 mod joining;
 #[cfg(test)]
 mod moves;
 #[cfg(test)]
 mod nodes;
-#[cfg(test)]
-mod opening;
 #[cfg(test)]
 mod plain;
 #[cfg(test)]

@@ -9,7 +9,8 @@ use Rattle.sd_compile.specs.declared.error.CompileError.TheVariants as refused
 use Rattle.sd_starts.specs.Starts.{StartEnd, Ended, Passed, IsLeast, PassesAtEach, AllPassed}
 use Rattle.sd_starts.specs.Starts.{IsChoice, IsChosenStart, IsChoiceRefused, IsNoChoice, IsEndAt}
 use Rattle.sd_starts.specs.Starts.{rank, tree_of_start, AnswersStart, IsDoneAt, IsStoppedAt, IsSearchedTo}
-use Rattle.sd_starts.specs.Deciding.{decider, judged, judged_end, is_stopped, is_less, Decides, IsHeldAt, IsRefusedStart, AnswerEach}
+use Rattle.sd_starts.specs.Deciding.{decider, judged, judged_end, is_stopped, is_less, Decides}
+use Rattle.sd_starts.specs.Deciding.{IsHeldAt, IsRefusedStart, AnswerEach}
 use Rattle.sd_starts.specs.declared.start.Start.{Start}
 use Rattle.sd_starts.specs.declared.start.Start.TheVariants.{Balanced, Right, Left}
 use Rattle.sd_starts.specs.declared.start.Settings.{Settings}
@@ -131,7 +132,8 @@ module _ (f : Groups) (settings : Settings) (a b c : StartEnd)
       go (refused.ArenaFull elements) k = absurd (never_stopped (ends a b c (decided a b c)) k.3)
       go refused.OutOfMemory k = absurd (never_stopped (ends a b c (decided a b c)) k.1)
 
-shown_ends : (a b c : StartEnd) (s : Start) → shown_at (shown_of a) (shown_of b) (shown_of c) s ≡ shown_of (ends a b c s)
+shown_ends : (a b c : StartEnd) (s : Start)
+    → shown_at (shown_of a) (shown_of b) (shown_of c) s ≡ shown_of (ends a b c s)
 shown_ends a b c Balanced = refl
 shown_ends a b c Right = refl
 shown_ends a b c Left = refl

@@ -61,9 +61,11 @@ module _ (t : Table) (none : HoldsNothing t) (f : Groups) (limit : ℕ)
 
   -- and so passes the first that isn't
   pub passes_alone : (group size most : ℕ) → 0 < group → group ≤ length f.groups → PassesLimit t f limit group size most
-      → ((n : ℕ) → 0 < n → n < group → (size : ℕ) × HasSize (prefix_of f n ∷ []) (plain_tree t.vtree) size × (size ≤ limit))
+      → ((n : ℕ) → 0 < n → n < group
+        → (size : ℕ) × HasSize (prefix_of f n ∷ []) (plain_tree t.vtree) size × (size ≤ limit))
       → PassesAlone (plain_tree t.vtree) limit f 0 group size
-  passes_alone (suc before) size most some there passes fits = let same : suc before ≡ before + 1 = omega arith in record {
+  passes_alone (suc before) size most some there passes fits =
+    let same : suc before ≡ before + 1 = omega arith in record {
     before = before;
     left = omega (arith, there);
     fits = λ m one up. fits m (omega (arith, one)) (omega (arith, up));
@@ -204,7 +206,8 @@ pub refused_alone : (old new : Table) → HoldsNothing old → (f : Groups) (set
     → IsFormulaRefused old new f settings.limit 0 e → IsRefusedAt f settings (plain_tree old.vtree) new e
 refused_alone old new none f settings total (refused.OverLimit group size most) h = (
   passes_alone old none f settings.limit total group size most h.0 h.1 h.2
-      (λ n some less. let k = h.3 n some less in (k.size, total (prefix_of f n) [] k.size (none_held old none) k.total, k.within)),
+      (λ n some less. let k = h.3 n some less in
+        (k.size, total (prefix_of f n) [] k.size (none_held old none) k.total, k.within)),
   h.2.most_is,
 )
 refused_alone old new none f settings total (refused.ArenaFull elements) h = h

@@ -1,5 +1,5 @@
 -- Behind the input no move is going on.
-use Rattle.sd_call_tests.proofs.opening.size_in_parts.Goals as goal
+use Rattle.sd_worker_tests.proofs.opening.size_in_parts.Goals as goal
 
 pub total-requires : goal.total-requires
 total-requires g c =

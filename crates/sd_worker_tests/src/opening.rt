@@ -1,13 +1,21 @@
 // An input by parts and the choice of a start, by several workers.
-use crate::compiling::formula;
 use sd_commands::{CommandError, Effect, RunState, input_by_parts, open_chosen};
-use sd_formula::{Formula, Kind};
+use sd_formula::{Formula, Kind, read_dimacs};
 use sd_parts::Open;
 use sd_starts::Settings;
 use sd_vtree::Vtree;
 use std::alloc::{AllocError, Global};
 use std::test::Fail;
 use std::thread::Threads;
+
+// The formula of a short text.
+fn formula(alloc: Global, kind: Kind, text: &str) -> Result<Formula, Fail> {
+    let bytes = text.as_bytes();
+    if bytes.len() > 1000 {
+        return Ok(read_dimacs(alloc, b"", kind)?);
+    }
+    Ok(read_dimacs(alloc, bytes, kind)?)
+}
 
 // So many gates that do nothing.
 fn open_gates(alloc: Global, count: u32) -> Result<Vec<Open>, AllocError> {
