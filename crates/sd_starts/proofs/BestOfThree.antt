@@ -112,19 +112,19 @@ least_decided (Ended a) (Ended b) (Ended c) n = go (nat_lt c a) refl (nat_lt c b
     go true e false f true g is =
         let same = same_size b n is in
         least_right (Ended a) (Ended b) (Ended c) n (ap Ended same)
-          (grind (arith, nat_tests)) (grind (arith, nat_tests))
+        (grind (arith, nat_tests)) (grind (arith, nat_tests))
     go true e false f false g is =
         let same = same_size a n is in
         least_balanced (Ended a) (Ended b) (Ended c) n (ap Ended same)
-          (grind (arith, nat_tests)) (grind (arith, nat_tests))
+        (grind (arith, nat_tests)) (grind (arith, nat_tests))
     go false e cb f true g is =
         let same = same_size b n is in
         least_right (Ended a) (Ended b) (Ended c) n (ap Ended same)
-          (grind (arith, nat_tests)) (grind (arith, nat_tests))
+        (grind (arith, nat_tests)) (grind (arith, nat_tests))
     go false e cb f false g is =
         let same = same_size a n is in
         least_balanced (Ended a) (Ended b) (Ended c) n (ap Ended same)
-          (grind (arith, nat_tests)) (grind (arith, nat_tests))
+        (grind (arith, nat_tests)) (grind (arith, nat_tests))
 least_decided (Ended a) (Ended b) (Passed h c) n = go (nat_lt b a) refl
   where
     go : (ba : Bool) → nat_lt b a ≡ ba → let s = if ba then Right else Balanced in
@@ -178,7 +178,7 @@ pub passed_decided : (a b c : StartEnd) → shown_of (ends a b c (decided a b c)
 passed_decided (Passed o a) (Passed k b) (Passed h c) is = (refl, passes)
   where
     passes : (start : Start)
-      → (group size : ℕ) × (ends (Passed o a) (Passed k b) (Passed h c) start ≡ Passed group size)
+        → (group size : ℕ) × (ends (Passed o a) (Passed k b) (Passed h c) start ≡ Passed group size)
     passes Balanced = (o, a, refl)
     passes Right = (k, b, refl)
     passes Left = (h, c, refl)

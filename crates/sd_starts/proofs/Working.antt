@@ -62,18 +62,18 @@ module _ (t : Table) (none : HoldsNothing t) (f : Groups) (limit : ℕ)
   -- and so passes the first that isn't
   pub passes_alone : (group size most : ℕ) → 0 < group → group ≤ length f.groups → PassesLimit t f limit group size most
       → ((n : ℕ) → 0 < n → n < group
-        → (size : ℕ) × HasSize (prefix_of f n ∷ []) (plain_tree t.vtree) size × (size ≤ limit))
+      → (size : ℕ) × HasSize (prefix_of f n ∷ []) (plain_tree t.vtree) size × (size ≤ limit))
       → PassesAlone (plain_tree t.vtree) limit f 0 group size
   passes_alone (suc before) size most some there passes fits =
-    let same : suc before ≡ before + 1 = omega arith in record {
-    before = before;
-    left = omega (arith, there);
-    fits = λ m one up. fits m (omega (arith, one)) (omega (arith, up));
-    number = omega arith;
-    total = subst (λ n. HasSize (prefix_of f n ∷ []) (plain_tree t.vtree) size) same
-        (total (prefix_of f (suc before)) [] size (none_held t none) passes.total);
-    passes = passes.passes;
-  }
+      let same : suc before ≡ before + 1 = omega arith in record {
+        before = before;
+        left = omega (arith, there);
+        fits = λ m one up. fits m (omega (arith, one)) (omega (arith, up));
+        number = omega arith;
+        total = subst (λ n. HasSize (prefix_of f n ∷ []) (plain_tree t.vtree) size) same
+            (total (prefix_of f (suc before)) [] size (none_held t none) passes.total);
+        passes = passes.passes;
+      }
   passes_alone zero size most some there passes fits = absurd (omega (arith, some))
 
 -- ---- the formula alone is held
@@ -207,7 +207,7 @@ pub refused_alone : (old new : Table) → HoldsNothing old → (f : Groups) (set
 refused_alone old new none f settings total (refused.OverLimit group size most) h = (
   passes_alone old none f settings.limit total group size most h.0 h.1 h.2
       (λ n some less. let k = h.3 n some less in
-        (k.size, total (prefix_of f n) [] k.size (none_held old none) k.total, k.within)),
+      (k.size, total (prefix_of f n) [] k.size (none_held old none) k.total, k.within)),
   h.2.most_is,
 )
 refused_alone old new none f settings total (refused.ArenaFull elements) h = h
