@@ -1,7 +1,7 @@
 -- Nodes as elements at a vtree node, and what operations make of them.
 use Rattle.std.proofs.Common.{◌≡◌, ◌≢◌, ℕ, ◌+◌, ◌-◌, ◌*◌, ◌≤◌, ◌<◌, Bool, true, false}
 use Rattle.std.proofs.Common.{not, cond, List, []}
-use Rattle.std.proofs.Common.{◌∷◌, length, map, Some, slice_get, refl, sym}
+use Rattle.std.proofs.Common.{◌∷◌, length, Some, slice_get, refl, sym}
 use Rattle.std.proofs.Common.{◌∙◌, ap, subst, arith, length-append}
 use Rattle.std.proofs.Common.{unwrap_or, nat_lt, if◌then◌else◌}
 use Rattle.std.specs.List.{AllZip, AllByRecursion}
@@ -18,7 +18,7 @@ use Rattle.sd_vtree.specs.Numbered.{plain_tree, numbers}
 use Rattle.sd_vtree.specs.Numbered.{or_else}
 use Rattle.sd_vtree.proofs.Times.{one_place}
 use Rattle.sd_vtree.proofs.Subtrees.{once_numbered}
-use Rattle.sd_laws.specs.Pairs.{answers}
+use Rattle.sd_laws.specs.Pairs.{answers, IsCompressed}
 use Rattle.sd_laws.specs.Parts.{here, IsInner, HasPosition}
 use Rattle.sd_laws.specs.Shown.{ShowPairs, HasPairs, ShowsCanonical as ShowsCanonicalBy}
 use Rattle.sd_laws.proofs.Codes.{literal_range}
@@ -33,7 +33,7 @@ use Rattle.sd_apply.specs.Places.{IsCanonicalUnder, IsNodeUnder, IsBelow}
 use Rattle.sd_apply.specs.Places.{HasPlace, HasChildren}
 use Rattle.sd_apply.specs.Elements.{IsPair, ListsElements, IsPartitionUnder, HasList, AreListedElements}
 use Rattle.sd_apply.specs.Elements.{IsPartitionBelow, products}
-use Rattle.sd_apply.specs.Calls.{Applies, NegatesAt, Expands, Multiplies, Joins, NegatesSubs}
+use Rattle.sd_apply.specs.Calls.{Applies, NegatesAt, Expands, Multiplies, Joins}
 use Rattle.sd_apply.proofs.Trees.{ChildrenOf, children_of, apart, not_under, canonical_below}
 use Rattle.sd_apply.proofs.Trees.{below_canonical, left_tree, right_tree}
 use Rattle.sd_apply.proofs.Trees.{left_part, right_part, bottom_under, top_under}
@@ -75,11 +75,18 @@ listed t u w P Q R p q r (e ∷ l) (d ∷ ds) h a b c = (
   listed t u w P Q R p q r l ds h.1 a.1 b.1 c.1,
 )
 
+-- the pairs of a node are elements with its value, no two subs of which are equal
+pub record HasOwn (t : Table) (u w : ℕ) (l : List (ℕ × ℕ)) (x : Diagram) : Type 0 where
+  pub shown : List (Diagram × Diagram)
+  pub lists : ListsElements t u w l shown
+  pub value : (g : List Bool) → answers g shown ≡ meaning x g ∷ []
+  pub compressed : IsCompressed shown
+
 -- the elements of a node at its own place
 own_shows : (t : Table) → IsTable t → (p u w c : ℕ) → HasChildren t.vtree p u w →
     (q : ℕ) (es : Elements) →
     ShowsCanonical t c (Decomposition q es) → HasPlace t.vtree p (Decomposition q es) →
-    HasList t u w (pairs_at t c) (λ g. meaning (Decomposition q es) g ∷ [])
+    HasOwn t u w (pairs_at t c) (Decomposition q es)
 own_shows t i p u w c e q es h place =
     let v = i.numbered in
     let k : HasPairs t.vtree (get t.linked) c q h.shows.0 = h.shows.1 in
@@ -110,20 +117,29 @@ own_shows t i p u w c e q es h place =
       shown = s.pairs;
       lists = subst (λ l. ListsElements t u w l s.pairs) (sym list) lists;
       value = s.value;
+      compressed = s.compressed;
     }
 
-pub own_list : (t : Table) → IsTable t → (p u w c : ℕ) → HasChildren t.vtree p u w →
+pub own_elements : (t : Table) → IsTable t → (p u w c : ℕ) → HasChildren t.vtree p u w →
     (x : Diagram) → ShowsCanonical t c x →
-    HasPlace t.vtree p x → 2050 ≤ c → HasList t u w (pairs_at t c) (λ g. meaning x g ∷ [])
-own_list t i p u w c e Bottom h place code = absurd place.stands
-own_list t i p u w c e Top h place code = absurd place.stands
-own_list t i p u w c e (Literal q y s) h place code =
+    HasPlace t.vtree p x → 2050 ≤ c → HasOwn t u w (pairs_at t c) x
+own_elements t i p u w c e Bottom h place code = absurd place.stands
+own_elements t i p u w c e Top h place code = absurd place.stands
+own_elements t i p u w c e (Literal q y s) h place code =
     absurd (omega (
       arith,
       (literal_range t.vtree (get t.linked) i.numbered c q y s h.shows).2,
       code,
     ))
-own_list t i p u w c e (Decomposition q es) h place code = own_shows t i p u w c e q es h place
+own_elements t i p u w c e (Decomposition q es) h place code = own_shows t i p u w c e q es h place
+
+-- their values alone
+pub own_list : (t : Table) → IsTable t → (p u w c : ℕ) → HasChildren t.vtree p u w →
+    (x : Diagram) → ShowsCanonical t c x →
+    HasPlace t.vtree p x → 2050 ≤ c → HasList t u w (pairs_at t c) (λ g. meaning x g ∷ [])
+own_list t i p u w c e x h place code =
+    let q = own_elements t i p u w c e x h place code in
+    record { shown = q.shown; lists = q.lists; value = q.value }
 
 -- a node at an inner place is no literal
 pub own_code : (t : Table) → IsTable t → (p u w c : ℕ) → HasChildren t.vtree p u w →
@@ -418,55 +434,9 @@ applied_at_lca m0 m1 m2 m3 m4 o v p u w a b r l k q e1 e2 under_a under_b first 
           join.each h.shown h.is (λ g. combine o (meaning x g) (meaning y g)) h.value;
     }
 
--- the negated elements of a decomposition
-record HasFlips (t : Table) (u w : ℕ) (k : List (ℕ × ℕ)) (x : Diagram) : Type 0 where
-  shown : List (Diagram × Diagram)
-  is : IsPartitionUnder t u w k shown
-  value : (g : List Bool) → answers g shown ≡ not (meaning x g) ∷ []
-
-has_negated_subs : (m0 m1 : Table) → IsTable m0 → (p u w c : ℕ) (k : List (ℕ × ℕ)) →
-    HasChildren m0.vtree p u w → (x : Diagram) →
-    ShowsCanonical m0 c x → HasPlace m0.vtree p x → 2050 ≤ c → NegatesSubs m0 m1 u w (pairs_at m0 c) k →
-    HasFlips m1 u w k x
-has_negated_subs m0 m1 i p u w c k e x h place code negated_subs =
-    let ds = own_list m0 i p u w c e x h place code in
-    let gs = negated_subs.each ds.shown ds.lists in
-    let value : (g : List Bool) → answers g gs.shown ≡ not (meaning x g) ∷ [] = λ g. gs.value g
-    ∙ ap (map not) (ds.value g) in
-    record {
-      shown = gs.shown;
-      is = record {
-        lists = gs.lists;
-        one_true = λ g. ap length (value g);
-      };
-      value = value;
-    }
-
-pub negated_subs_partition : (m0 m1 : Table) → IsTable m0 → (p u w c : ℕ) (k : List (ℕ × ℕ)) →
-    HasChildren m0.vtree p u w →
-    (x : Diagram) → ShowsCanonical m0 c x → HasPlace m0.vtree p x → 2050 ≤ c →
-    NegatesSubs m0 m1 u w (pairs_at m0 c) k →
-    IsPartitionBelow m1 u w k
-negated_subs_partition m0 m1 i p u w c k e x h place code negated_subs =
-    let q = has_negated_subs m0 m1 i p u w c k e x h place code negated_subs in
-    record { shown = q.shown; is = q.is }
-
 pub own_listed : (t : Table) → IsTable t → (p u w c : ℕ) → HasChildren t.vtree p u w →
     (x : Diagram) → ShowsCanonical t c x →
     HasPlace t.vtree p x → 2050 ≤ c → AreListedElements t u w (pairs_at t c)
 own_listed t i p u w c e x h place code =
     let q = own_list t i p u w c e x h place code in
     record { shown = q.shown; is = q.lists }
-
--- the answer of negation at a decomposition
-pub negate_subs_negates : (m0 m1 m2 : Table) → IsTable m0 → (v p u w c r : ℕ) (k : List (ℕ × ℕ)) →
-    HasChildren m0.vtree p u w →
-    ((d : Diagram) → ShowsCanonical m0 c d → HasPlace m0.vtree p d) → 2050 ≤ c →
-    NegatesSubs m0 m1 u w (pairs_at m0 c) k →
-    Joins m1 m2 u w k r → NegatesAt m0 m2 v c r
-negate_subs_negates m0 m1 m2 i v p u w c r k e place code negated_subs join = record {
-  each = λ x h.
-      let shown : ShowsCanonical m0 c x = record { shows = h.shows; canonical = h.under.canonical } in
-      let q = has_negated_subs m0 m1 i p u w c k e x shown (place x shown) code negated_subs in
-      join.each q.shown q.is (λ g. not (meaning x g)) q.value;
-}

@@ -1,5 +1,6 @@
 -- What the calls inside an operation answer, for the contracts of private functions.
-use Rattle.std.specs.Prelude.{◌≡◌, ℕ, Bool, not, List, [], ◌∷◌, ◌++◌, map}
+use Rattle.std.specs.Prelude.{◌≡◌, ℕ, Bool, not, List, [], ◌∷◌, ◌++◌}
+use Rattle.std.specs.List.{AllZip}
 use Rattle.sd_model.specs.declared.trees.Operation.{Operation}
 use Rattle.sd_model.specs.Diagram.{Diagram, meaning}
 use Rattle.sd_model.specs.Expression.{combine}
@@ -52,7 +53,11 @@ pub record Joins (old new : Table) (u w : ℕ) (l : List (ℕ × ℕ)) (c : ℕ)
   pub each : (ds : List (Diagram × Diagram)) → IsPartitionUnder old u w l ds → (f : List Bool → Bool) →
       ((g : List Bool) → answers g ds ≡ f g ∷ []) → HasAnswer new f c
 
+-- the second pair has the prime of the first, and the negation of its sub, which is below w
+pub record IsNegated (old new : Table) (w : ℕ) (e f : ℕ × ℕ) : Type 0 where
+  pub prime : f.0 ≡ e.0
+  pub sub : NegatesAt old new w e.1 f.1
+
 -- the elements with their subs negated
-pub record NegatesSubs (old new : Table) (u w : ℕ) (l r : List (ℕ × ℕ)) : Type 0 where
-  pub each : (ds : List (Diagram × Diagram)) → ListsElements old u w l ds →
-      HasList new u w r (λ g. map not (answers g ds))
+abbrev pub NegatesSubs : Table → Table → ℕ → List (ℕ × ℕ) → List (ℕ × ℕ) → Type 0
+NegatesSubs old new w l r = AllZip (IsNegated old new w) l r

@@ -8,7 +8,8 @@ ghost use Rattle.sd_apply.specs.Serving.{Serves};
 ghost use Rattle.sd_apply.specs.Places.{IsBelow, IsThere};
 ghost use Rattle.sd_apply.specs.Calls.{Applies, NegatesAt};
 
-use crate::calls::{apply, negate_at};
+use crate::calls::apply;
+use crate::negation::negate_at;
 use crate::opposites::{are_opposite, keep_opposites};
 use crate::places::{lca_with_children, place_with_children};
 use crate::recent::Recent;

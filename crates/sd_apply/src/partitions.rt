@@ -14,8 +14,9 @@ ghost use Rattle.sd_apply.specs.Partitions.{IsInnerNode, AreDisjointAt, ExpandsA
 ghost use Rattle.sd_apply.specs.Places.{IsBelow};
 ghost use Rattle.sd_apply.specs.Recent.{Knows};
 
-use crate::calls::{merge, multiply, negate_at};
+use crate::calls::{merge, multiply};
 use crate::lists::{Pairs, below_left, below_right, by_sub, elements_of};
+use crate::negation::negate_at;
 use crate::places::{Fork, place_of};
 use crate::recent::Recent;
 use sd_manager::{Manager, NodeId};

@@ -1,0 +1,15 @@
+-- How the calls get smaller: the vtree node gets narrower, or the call's rank falls. And what the loop keeps.
+use Rattle.std.proofs.Common.{◌+◌, ◌*◌}
+use Rattle.sd_apply.specs.Places.{width}
+use Rattle.sd_apply.proofs.Steps.{InFlip}
+use Rattle.sd_apply.proofs.negation.+negate.Given as goal
+
+abbrev pub decreases-negate_at : goal.decreases-negate_at
+decreases-negate_at l = 8 * width l.m.now.vtree l.at + 4
+
+abbrev pub decreases-negate_subs : goal.decreases-negate_subs
+decreases-negate_subs l = 8 * width l.m.now.vtree l.fork.now.right + 5
+
+abbrev pub invariant-negate_subs-loop-i : goal.invariant-negate_subs-loop-i
+invariant-negate_subs-loop-i l = InFlip l.fn.m l.m l.recent l.fn.fork.left l.fn.fork.right l.list
+    l.pairs.items l.i

@@ -1,0 +1,90 @@
+// Negation, which goes down to the subs of a decomposition.
+//
+// The primes stay, and subs that differ have negations that differ: so no elements are joined, and the cost is a visit
+// of each node.
+ghost use Rattle.std.specs.Prelude.{IfOk, IfErr, OnErr};
+ghost use Rattle.sd_manager.specs.Valid.{IsTable};
+ghost use Rattle.sd_manager.specs.Making.{Extends, KeepsRule};
+ghost use Rattle.sd_apply.specs.Recent.{Knows};
+ghost use Rattle.sd_apply.specs.Growing.{GrowsBelow, GrowsBelowEither, GrowsByAnswer, GrowsStrictlyBelow};
+ghost use Rattle.sd_apply.specs.Places.{IsBelow, IsThere, IsFork};
+ghost use Rattle.sd_apply.specs.Elements.{AreListedElements};
+ghost use Rattle.sd_apply.specs.Calls.{NegatesAt, NegatesSubs};
+
+use crate::lists::{Pairs, elements_of, push};
+use crate::making::make_apart;
+use crate::places::{Fork, place_with_children};
+use crate::recent::Recent;
+use crate::terminal::{NEGATION, opposite};
+use sd_manager::{Manager, NodeId};
+use sd_runs::TakeError;
+use sd_vtree::VNode;
+use smallvec::SmallVec;
+use std::alloc::Global;
+
+/// The negation of a node below a vtree node. Subs that differ have negations that differ, so none are joined.
+#[cycle(negate)]
+pub(crate) fn negate_at(
+    alloc: Global,
+    m: &mut Manager,
+    recent: &mut Recent,
+    at: VNode,
+    a: NodeId,
+) -> Result<NodeId, TakeError>
+    requires at { IsThere m.old.vtree at }
+    requires a { IsBelow m.old at a }
+    requires knows { Knows recent.old m.old }
+    ensures ok { IfOk result (λ r. NegatesAt m.old m.new at a r) }
+    ensures kept { Extends m.old m.new }
+    ensures grown { GrowsBelow m.old m.new at }
+    ensures one { IfOk result (λ r. GrowsByAnswer m.old m.new at r) }
+    ensures none { OnErr result (GrowsStrictlyBelow m.old m.new at) }
+    ensures knows { Knows recent.new m.new }
+    ensures rule { IfErr result (λ e. KeepsRule m.new e) }
+    ensures table { IsTable m.new }
+{
+    // its contract tells that the table is valid
+    let _ = m.vtree();
+    if let Some(code) = opposite(a.0) {
+        return Ok(NodeId(code));
+    }
+    if let Some(code) = recent.look(NEGATION, a.0, 0) {
+        return Ok(NodeId(code));
+    }
+    let fork = place_with_children(m, at, a);
+    let list = elements_of(alloc, m, a)?;
+    let pairs = negate_subs(alloc, m, recent, &fork, list.as_slice())?;
+    let code = make_apart(m, &fork, pairs.as_slice())?;
+    recent.keep(alloc, NEGATION, a.0, 0, code.0);
+    Ok(code)
+}
+
+// The elements with their subs negated.
+#[cycle(negate)]
+fn negate_subs(
+    alloc: Global,
+    m: &mut Manager,
+    recent: &mut Recent,
+    fork: &Fork,
+    list: &[(NodeId, NodeId)],
+) -> Result<Pairs, TakeError>
+    requires children { IsFork m.old.vtree fork.now }
+    requires list { AreListedElements m.old fork.now.left fork.now.right list.now }
+    requires knows { Knows recent.old m.old }
+    requires table { IsTable m.old }
+    ensures ok { IfOk result
+        (λ r. NegatesSubs m.old m.new fork.now.right list.now r.items) }
+    ensures kept { Extends m.old m.new }
+    ensures grown { GrowsBelowEither m.old m.new fork.now.left fork.now.right }
+    ensures knows { Knows recent.new m.new }
+    ensures rule { IfErr result (λ e. KeepsRule m.new e) }
+    ensures table { IsTable m.new }
+{
+    let mut pairs = SmallVec::new(alloc);
+    for i in 0..list.len() {
+        let (prime, sub) = list[i];
+        let other = negate_at(alloc, m, recent, fork.right, sub)?;
+        push(&mut pairs, prime, other)?;
+    }
+    Ok(pairs)
+}
