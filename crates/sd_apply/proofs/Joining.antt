@@ -21,14 +21,16 @@ use Rattle.sd_manager.specs.Views.{pairs_at, view_of, view_of_key}
 use Rattle.sd_manager.specs.declared.view.View.TheVariants.{Constant as ConstantView, Literal as LiteralView}
 use Rattle.sd_manager.specs.declared.view.View.TheVariants.{Decomposition as DecompositionView}
 use Rattle.sd_manager.specs.Literals.{literal_at}
-use Rattle.sd_manager.specs.Making.{IsMade}
+use Rattle.sd_manager.specs.Making.{Extends, IsMade}
 use Rattle.sd_manager.specs.Valid.{IsTable}
+use Rattle.sd_apply.specs.Answers.{HasAnswer}
 use Rattle.sd_apply.specs.Places.{IsNodeUnder, IsBelow, HasPlace}
 use Rattle.sd_apply.specs.Elements.{ListsElements}
 use Rattle.sd_apply.specs.Group.{group_value}
-use Rattle.sd_apply.specs.GroupCalls.{HasHalves, Halves, MakesHalves, IsLeafFork}
+use Rattle.sd_apply.specs.Halves.{HasHalves, Halves, MakesHalves, IsLeafFork}
 use Rattle.sd_apply.specs.GroupCalls.{deciding, between}
 use Rattle.sd_apply.proofs.Trees.{bottom_under, top_under}
+use Rattle.sd_apply.proofs.Listed.{node_on}
 use Rattle.sd_apply.proofs.Standing.{shown}
 use Rattle.sd_apply.proofs.Rows.{not_bottom}
 use Rattle.sd_apply.proofs.Merging.{partition_at, head_same}
@@ -201,6 +203,28 @@ same_made t w x a b i same = record {
             ∙ ap (λ d. cond (value_in g x) (meaning h.first g) (meaning d g)) one ∙ h.value g;
       };
 }
+
+-- and where they are a node's own halves it is the node
+pub same_answer : (old new : Table) → IsTable new → Extends old new → (v w x c : ℕ) (h r : ℕ × ℕ) →
+    Halves old v w x c h → r.0 ≡ h.0 → r.1 ≡ h.1 → (d : Diagram) → IsNodeUnder old v c d → (f : List Bool → Bool) →
+    HasHalves new w x r.0 r.1 f → HasAnswer new f c
+same_answer old new i e v w x c h r k one other d q f z =
+    let p = k.each d q in
+    let first : z.first ≡ p.first = one_diagram new.vtree (get new.linked) i.numbered z.first r.0 p.first
+    z.first_is.shows (subst (λ n. Shows new n p.first) (sym one)
+    (node_on old new e w h.0 p.first p.first_is).shows) in
+    let second : z.second ≡ p.second = one_diagram new.vtree (get new.linked) i.numbered z.second r.1 p.second
+    z.second_is.shows (subst (λ n. Shows new n p.second) (sym other)
+    (node_on old new e w h.1 p.second p.second_is).shows) in
+    record {
+      diagram = d;
+      is = shown new v c d (node_on old new e v c d q);
+      value = λ g.
+          sym (p.value g)
+          ∙ ap (λ y. cond (value_in g x) (meaning y g) (meaning p.second g)) (sym first)
+          ∙ ap (λ y. cond (value_in g x) (meaning z.first g) (meaning y g)) (sym second)
+          ∙ z.value g;
+    }
 
 -- the two elements
 pub record ListsHalves (t : Table) (u w x a b : ℕ) (f : List Bool → Bool) : Type 0 where

@@ -35,7 +35,8 @@ use Rattle.sd_apply.specs.Answers.{HasAnswer}
 use Rattle.sd_apply.specs.Places.{plain, tree_at, width, IsCanonicalUnder, IsNodeUnder, IsBelow, IsThere, HasChildren}
 use Rattle.sd_apply.specs.Places.{HasPlace}
 use Rattle.sd_apply.specs.Group.{group_value}
-use Rattle.sd_apply.specs.GroupCalls.{IsLiteralBelow, AreLiteralsBelow, IsLeafFork, joined_value}
+use Rattle.sd_apply.specs.Halves.{IsLeafFork}
+use Rattle.sd_apply.specs.GroupCalls.{IsLiteralBelow, AreLiteralsBelow, joined_value}
 use Rattle.sd_apply.specs.GroupCalls.{StandsFrom, StandLower}
 use Rattle.sd_apply.proofs.Trees.{children_of, canonical_below, below_canonical, right_tree, right_part}
 use Rattle.sd_apply.proofs.Trees.{children_width, width_positive, there_inner, right_there, bottom_under, top_under}

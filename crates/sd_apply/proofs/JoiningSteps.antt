@@ -27,7 +27,8 @@ use Rattle.sd_apply.specs.Calls.{Applies}
 use Rattle.sd_apply.specs.Growing.{GrowsBelow}
 use Rattle.sd_apply.specs.Places.{IsNodeUnder, IsBelow, HasChildren}
 use Rattle.sd_apply.specs.Group.{group_value}
-use Rattle.sd_apply.specs.GroupCalls.{Halves, JoinsHalves, MakesHalves, joined_value, JoinsFrom, IsLiteralBelow}
+use Rattle.sd_apply.specs.Halves.{Halves, MakesHalves}
+use Rattle.sd_apply.specs.GroupCalls.{JoinsHalves, joined_value, JoinsFrom, IsLiteralBelow}
 use Rattle.sd_apply.specs.GroupCalls.{AreLiteralsBelow, IsGroupNode, deciding}
 use Rattle.sd_apply.specs.GroupCalls.{between, IsFound, IsFoundBefore, Remembers}
 use Rattle.sd_apply.proofs.Trees.{bottom_under, top_under, answer_under}
@@ -35,7 +36,7 @@ use Rattle.sd_apply.proofs.Listed.{node_on, answer_on, shown_on, children_on}
 use Rattle.sd_apply.proofs.Standing.{shown}
 use Rattle.sd_apply.proofs.Growing.{grows_over, grows_right, grows_wider}
 use Rattle.sd_apply.proofs.JoiningPlaces.{joined_under, literals_on}
-use Rattle.sd_apply.proofs.Joining.{from_more, from_none, decides, decides_first}
+use Rattle.sd_apply.proofs.Joining.{from_more, from_none, decides, decides_first, same_answer}
 
 -- ---- the node of the literals
 
@@ -249,24 +250,8 @@ pub joins_same : (old new : Table) → IsTable new → Extends old new → (o : 
     (l : List (ℕ × ℤ)) (h r : ℕ × ℕ) → Halves old v w x c h → JoinsHalves old new o w x h.0 h.1 from l r → r.0 ≡ h.0 →
     r.1 ≡ h.1 → JoinsFrom old new o v c from l c
 joins_same old new i e o v w x c from l h r k j one other = record {
-  each = λ d q.
-      let p = k.each d q in
-      let z = j.each (meaning d) p in
-      let first : z.first ≡ p.first = one_diagram new.vtree (get new.linked) i.numbered z.first r.0 p.first
-      z.first_is.shows (subst (λ n. Shows new n p.first) (sym one)
-      (node_on old new e w h.0 p.first p.first_is).shows) in
-      let second : z.second ≡ p.second = one_diagram new.vtree (get new.linked) i.numbered z.second r.1 p.second
-      z.second_is.shows (subst (λ n. Shows new n p.second) (sym other)
-      (node_on old new e w h.1 p.second p.second_is).shows) in
-      record {
-        diagram = d;
-        is = shown new v c d (node_on old new e v c d q);
-        value = λ g.
-            sym (p.value g)
-            ∙ ap (λ y. cond (value_in g x) (meaning y g) (meaning p.second g)) (sym first)
-            ∙ ap (λ y. cond (value_in g x) (meaning z.first g) (meaning y g)) (sym second)
-            ∙ z.value g;
-      };
+  each = λ d q. same_answer old new i e v w x c h r k one other d q (joined_value o d from l)
+      (j.each (meaning d) (k.each d q));
 }
 
 -- ---- the halves themselves

@@ -1,25 +1,26 @@
 -- What the calls answer that join a node with the literals of a group, for the contracts of private functions.
-use Rattle.std.specs.Prelude.{◌≡◌, ◌≢◌, ℕ, suc, ◌+◌, ◌≤◌, ℤ, Bool, true, false, cond, List, drop, Some}
+use Rattle.std.specs.Prelude.{◌≡◌, ◌≢◌, ℕ, suc, ◌+◌, ◌≤◌, ℤ, Bool, true, false, List, drop, Some}
 use Rattle.std.specs.Prelude.{slice_get, unsigned_abs}
 use Rattle.std.specs.List.{All}
 use Rattle.sd_model.specs.declared.trees.Operation.{Operation}
 use Rattle.sd_model.specs.declared.trees.Operation.TheVariants.{And, Or, Xor}
 use Rattle.sd_model.specs.Tree.{leaves}
-use Rattle.sd_model.specs.Assignment.{literal_holds, value_in}
+use Rattle.sd_model.specs.Assignment.{literal_holds}
 use Rattle.sd_model.specs.Diagram.{Diagram, meaning}
 use Rattle.sd_model.specs.Expression.{combine}
-use Rattle.sd_vtree.specs.Numbered.{Numbered, plain_tree, variable_at}
+use Rattle.sd_vtree.specs.Numbered.{plain_tree}
 use Rattle.sd_vtree.specs.Numbered.{IsUnder as StandsUnder}
 use Rattle.sd_laws.specs.Parts.{HasPosition}
 use Rattle.sd_manager.specs.Literals.{IsLiteralTo, code_of_literal}
 use Rattle.sd_manager.specs.Table.{Table}
 use Rattle.sd_manager.specs.Shown.{ShowsCanonical}
-use Rattle.sd_apply.specs.declared.join.Split.{Split}
+use Rattle.sd_apply.specs.declared.halves.Split.{Split}
 use Rattle.sd_apply.specs.declared.node_answers.NodeEntry.{NodeEntry}
 use Rattle.sd_apply.specs.declared.node_answers.NodeAnswers.{NodeAnswers}
 use Rattle.sd_apply.specs.Answers.{HasAnswer}
-use Rattle.sd_apply.specs.Places.{width, IsNodeUnder, IsBelow, IsThere, HasChildren}
+use Rattle.sd_apply.specs.Places.{width, IsNodeUnder, IsBelow, IsThere}
 use Rattle.sd_apply.specs.Group.{group_value}
+use Rattle.sd_apply.specs.Halves.{HasHalves}
 
 -- the constant that decides a connective, whatever the other operand
 abbrev pub deciding : Operation → Bool
@@ -75,15 +76,6 @@ pub record IsGroupNode (t : Table) (o : Operation) (v from : ℕ) (literals : Li
   pub is : IsNodeUnder t v c diagram
   pub value : (a : List Bool) → meaning diagram a ≡ group_value o (drop from literals) a
 
--- the vtree node has these children, and the left one is the leaf of the variable
-pub record IsLeafFork (t : Numbered) (at left right variable : ℕ) : Type 0 where
-  pub children : HasChildren t at left right
-  pub leaf : variable_at t left ≡ Some variable
-
--- the same of what a join has of a vtree node
-abbrev pub IsSplit : Numbered → ℕ → Split → Type 0
-IsSplit t at s = IsLeafFork t at s.left s.right s.variable
-
 -- the right child is there, and the literals from an index on are below it, but for the first where that is of the
 -- variable
 pub record GoesRight (t : Table) (s : Split) (from : ℕ) (literals : List (ℕ × ℤ)) : Type 0 where
@@ -93,27 +85,11 @@ pub record GoesRight (t : Table) (s : Split) (from : ℕ) (literals : List (ℕ 
   pub past : (e : ℕ × ℤ) → slice_get literals from ≡ Some e → unsigned_abs e.1 ≢ s.variable →
       AreLiteralsBelow t s.right from literals
 
--- the first node has the value f where the variable is true, the second where it is false; both are below w
-pub record HasHalves (t : Table) (w variable a b : ℕ) (f : List Bool → Bool) : Type 0 where
-  pub first : Diagram
-  pub second : Diagram
-  pub first_is : IsNodeUnder t w a first
-  pub second_is : IsNodeUnder t w b second
-  pub value : (g : List Bool) → cond (value_in g variable) (meaning first g) (meaning second g) ≡ f g
-
--- the halves of a node below v
-pub record Halves (t : Table) (v w variable c : ℕ) (halves : ℕ × ℕ) : Type 0 where
-  pub each : (x : Diagram) → IsNodeUnder t v c x → HasHalves t w variable halves.0 halves.1 (meaning x)
-
 -- halves joined with the literals from an index on
 pub record JoinsHalves (old new : Table) (o : Operation) (w variable a b from : ℕ) (literals : List (ℕ × ℤ))
     (r : ℕ × ℕ) : Type 0 where
   pub each : (f : List Bool → Bool) → HasHalves old w variable a b f →
       HasHalves new w variable r.0 r.1 (λ g. combine o (f g) (group_value o (drop from literals) g))
-
--- the node of two halves
-pub record MakesHalves (old new : Table) (w variable a b c : ℕ) : Type 0 where
-  pub each : (f : List Bool → Bool) → HasHalves old w variable a b f → HasAnswer new f c
 
 -- ---- what a join found so far
 

@@ -26,15 +26,16 @@ ghost use Rattle.sd_apply.specs.Serving.{Serves};
 ghost use Rattle.sd_apply.specs.Places.{width, IsBelow, IsThere, HasChildren, HasPlace};
 ghost use Rattle.sd_apply.specs.Group.{AreOrdered, JoinsGroup, GrowsBelowGroup};
 ghost use Rattle.sd_apply.specs.GroupCalls.{deciding, between, AreLiteralsBelow, JoinsFrom, IsGroupNode};
-ghost use Rattle.sd_apply.specs.GroupCalls.{StandLower, StandsFrom, IsSplit, GoesRight, Halves, JoinsHalves};
-ghost use Rattle.sd_apply.specs.GroupCalls.{MakesHalves, Remembers};
+ghost use Rattle.sd_apply.specs.Halves.{IsSplit, Halves};
+ghost use Rattle.sd_apply.specs.GroupCalls.{StandLower, StandsFrom, GoesRight, JoinsHalves, Remembers};
 
 use crate::calls::apply;
+use crate::halves::{Split, halves_of, is_same, make_halves, split_at};
 use crate::node_answers::NodeAnswers;
 use crate::places::place_of;
 use crate::recent::Recent;
 use sd_cache::Cache;
-use sd_manager::{Manager, NodeId, View};
+use sd_manager::{Manager, NodeId};
 use sd_model::Operation;
 use sd_runs::TakeError;
 use sd_vtree::{VNode, Vtree};
@@ -47,17 +48,6 @@ struct Tables {
     recent: Recent,
     // what this join answered at each node, for the literals from an index on
     found: NodeAnswers,
-}
-
-// A vtree node whose left child is a leaf: a node there has two halves, one for each value of the leaf's variable.
-#[derive(Clone, Copy, Drop)]
-struct Split {
-    // the left child, which is the leaf
-    left: VNode,
-    // the right child: both halves stand below it
-    right: VNode,
-    // the variable of the leaf
-    variable: u32,
 }
 
 /// A node joined with a group of literals, in one pass along the node: for And a clause, the disjunction of the
@@ -466,26 +456,6 @@ fn halves_at(
     Some((split, halves))
 }
 
-// The children of a vtree node and the variable of the left one, where that is a leaf.
-#[inline(always)]
-fn split_at(m: &Manager, at: VNode) -> Option<Split>
-    requires { IsThere m.now.vtree at }
-    ensures { IfSome result (λ s. IsSplit m.now.vtree at s) }
-{
-    let vtree = m.vtree();
-    let Some((left, right)) = vtree.children(at) else {
-        return None;
-    };
-    let Some(variable) = vtree.variable(left) else {
-        return None;
-    };
-    Some(Split {
-        left,
-        right,
-        variable,
-    })
-}
-
 // The index of the first literal from an index on that is not of the variable, where it is this or the next one.
 #[inline(always)]
 fn next_right(literals: &[(u32, i32)], from: usize, variable: u32) -> usize
@@ -524,21 +494,6 @@ fn are_right(
     }
     let (position, _) = literal_at(literals, next);
     m.vtree().position(at) < position
-}
-
-// Whether a node stands below the right child.
-fn is_right(m: &Manager, at: VNode, split: &Split, node: NodeId) -> bool
-    requires children { HasChildren m.now.vtree at split.now.left split.now.right }
-    requires node { IsBelow m.now at node }
-    requires table { IsTable m.now }
-    ensures { IsTrue result → IsBelow m.now split.now.right node }
-{
-    if node.is_constant() {
-        return true;
-    }
-    let own = place_of(m, node);
-    let vtree = m.vtree();
-    vtree.position(at) < vtree.position(own)
 }
 
 // The vtree node itself where the node stands there, and else the one that `skip_right` finds.
@@ -592,104 +547,4 @@ fn least_position(m: &Manager, at: VNode, node: NodeId, first: u32) -> u32
     }
     let own = place_of(m, node);
     first.min(m.vtree().position(own))
-}
-
-// What a node is where the variable of the left child is true, and where it is false.
-#[inline(always)]
-fn halves_of(m: &Manager, at: VNode, split: &Split, node: NodeId) -> Option<(NodeId, NodeId)>
-    requires split { IsSplit m.now.vtree at split.now }
-    requires node { IsBelow m.now at node }
-    requires table { IsTable m.now }
-    ensures { IfSome result (λ r. Halves m.now at split.now.right split.now.variable node r) }
-{
-    if node.is_decomposition() {
-        if let Some(halves) = own_halves(m, at, split, node) {
-            return Some(halves);
-        }
-    }
-    if is_right(m, at, split, node) {
-        return Some((node, node));
-    }
-    if node.is_constant() || node.is_decomposition() {
-        return None;
-    }
-    literal_halves(m, at, split, node)
-}
-
-// The halves of a literal of the variable.
-fn literal_halves(m: &Manager, at: VNode, split: &Split, node: NodeId) -> Option<(NodeId, NodeId)>
-    requires least { 2 ≤ node }
-    requires code { node < 2050 }
-    requires table { IsTable m.now }
-    ensures { IfSome result (λ r. Halves m.now at split.now.right split.now.variable node r) }
-{
-    if node.variable() != split.variable {
-        return None;
-    }
-    if node.is_positive() {
-        Some((NodeId::TRUE, NodeId::FALSE))
-    } else {
-        Some((NodeId::FALSE, NodeId::TRUE))
-    }
-}
-
-// Whether two nodes are one.
-fn is_same(a: &NodeId, b: &NodeId) -> bool
-    ensures { IsTrue result → (a.now ≡ b.now) }
-{
-    a.0 == b.0
-}
-
-// The halves of a decomposition of two elements, of which the first has the variable as its prime.
-#[inline(always)]
-fn own_halves(m: &Manager, at: VNode, split: &Split, node: NodeId) -> Option<(NodeId, NodeId)>
-    requires split { IsSplit m.now.vtree at split.now }
-    requires node { IsBelow m.now at node }
-    requires code { 2050 ≤ node }
-    requires table { IsTable m.now }
-    ensures { IfSome result (λ r. Halves m.now at split.now.right split.now.variable node r) }
-{
-    if place_of(m, node).0 != at.0 {
-        return None;
-    }
-    let View::Decomposition { count, .. } = m.view(node) else {
-        unreachable!()
-    };
-    if count != 2 {
-        return None;
-    }
-    let (prime, sub) = m.element(node, 0);
-    let (_, other) = m.element(node, 1);
-    if prime.0 == 2 * split.variable {
-        Some((sub, other))
-    } else {
-        None
-    }
-}
-
-// The node of two halves below the right child.
-#[inline(always)]
-fn make_halves(
-    m: &mut Manager,
-    at: VNode,
-    split: &Split,
-    first: NodeId,
-    second: NodeId,
-) -> Result<NodeId, TakeError>
-    requires split { IsSplit m.old.vtree at split.now }
-    requires first { IsBelow m.old split.now.right first }
-    requires second { IsBelow m.old split.now.right second }
-    requires table { IsTable m.old }
-    ensures ok { IfOk result
-        (λ r. MakesHalves m.old m.new split.now.right split.now.variable first second r) }
-    ensures kept { Extends m.old m.new }
-    ensures grown { GrowsBelow m.old m.new at }
-    ensures rule { IfErr result (λ e. KeepsRule m.new e) }
-    ensures table { IsTable m.new }
-{
-    if first.0 == second.0 {
-        return Ok(first);
-    }
-    let (one, other) = (NodeId(2 * split.variable), NodeId(2 * split.variable + 1));
-    m.make(at, &[(one, first), (other, second)])
 }

@@ -6,7 +6,8 @@ use Rattle.sd_model.specs.Assignment.{value_in}
 use Rattle.std.proofs.lemmas.Int.{to_z-of_z}
 use Rattle.std.proofs.lemmas.Result.{IfOk-weaker}
 use Rattle.sd_apply.specs.Places.{width}
-use Rattle.sd_apply.specs.GroupCalls.{IsSplit, JoinsFrom, MakesHalves, IsFoundBefore, deciding}
+use Rattle.sd_apply.specs.Halves.{IsSplit, MakesHalves}
+use Rattle.sd_apply.specs.GroupCalls.{JoinsFrom, IsFoundBefore, deciding}
 use Rattle.sd_apply.proofs.Listed.{below_on, there_on, width_on}
 use Rattle.sd_manager.proofs.Extending.{extends_on}
 use Rattle.sd_apply.proofs.RightEntries.{knows_on}

@@ -3,7 +3,7 @@ use Rattle.sd_apply.specs.Places.{HasPlace}
 use Rattle.sd_apply.proofs.Standing.{has_node}
 use Rattle.sd_apply.proofs.Joining.{decomposed_halves, count_pairs}
 use Rattle.sd_apply.proofs.JoiningPlaces.{fork_range}
-use Rattle.sd_apply.proofs.join.own_halves.Goals as goal
+use Rattle.sd_apply.proofs.halves.own_halves.Goals as goal
 
 pub view-requires : goal.view-requires
 view-requires c =

@@ -5,7 +5,7 @@ use Rattle.sd_apply.proofs.Trees.{there_inner}
 use Rattle.sd_apply.proofs.Standing.{shown}
 use Rattle.sd_apply.proofs.Expanding.{right_under}
 use Rattle.sd_apply.proofs.JoiningPlaces.{there_within, constant_under}
-use Rattle.sd_apply.proofs.join.is_right.Goals as goal
+use Rattle.sd_apply.proofs.halves.is_right.Goals as goal
 
 pub returns-then-is_constant : goal.returns-then-is_constant
 returns-then-is_constant c = λ yes.

@@ -1,6 +1,6 @@
 use Rattle.std.proofs.Common.{◌∙◌, sym, rules}
 use Rattle.sd_apply.proofs.Joining.{positive_halves, negative_halves}
-use Rattle.sd_apply.proofs.join.literal_halves.Goals as goal
+use Rattle.sd_apply.proofs.halves.literal_halves.Goals as goal
 
 pub returns-then-is_positive : goal.returns-then-is_positive
 returns-then-is_positive c =

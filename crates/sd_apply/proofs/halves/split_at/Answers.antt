@@ -1,7 +1,7 @@
 use Rattle.std.proofs.Common.{◌<◌, length, sym, subst}
 use Rattle.sd_vtree.specs.Numbered.{numbers}
 use Rattle.sd_apply.proofs.JoiningPlaces.{there_within}
-use Rattle.sd_apply.proofs.join.split_at.Goals as goal
+use Rattle.sd_apply.proofs.halves.split_at.Goals as goal
 
 pub children-requires : goal.children-requires
 children-requires c =

@@ -1,5 +1,5 @@
 use Rattle.sd_apply.proofs.Joining.{whole_halves}
-use Rattle.sd_apply.proofs.join.halves_of.Goals as goal
+use Rattle.sd_apply.proofs.halves.halves_of.Goals as goal
 
 pub returns-then-is_right : goal.returns-then-is_right
 returns-then-is_right c =
