@@ -24,6 +24,10 @@ pub(crate) fn number(operation: Operation) -> u8
 pub(crate) fn terminal(number: u8, a: u32, b: u32) -> Option<u32>
     ensures { result ≡ terminal_of number a b }
 {
+    // half of all calls end here
+    if a >= 2 && b >= 2 && a / 2 != b / 2 {
+        return None;
+    }
     if a == b {
         return if number == 2 { Some(0) } else { Some(a) };
     }
