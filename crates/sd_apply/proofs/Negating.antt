@@ -6,7 +6,7 @@ use Rattle.std.specs.List.{AllZip, AllByRecursion}
 use Rattle.std.specs.FinMap.{get}
 use Rattle.std.proofs.Math.Seq.{take-length}
 use Rattle.std.proofs.lemmas.List.Elements.{AllZip-push}
-use Rattle.std.proofs.lemmas.Option.{same_Some, slice_get-get_or}
+use Rattle.std.proofs.lemmas.Option.{same_Some, slice_get-get_or, slice_get_within, get_or_from_slice_get}
 use Rattle.sd_model.specs.Tree.{AreDistinct, leaves}
 use Rattle.sd_model.specs.Diagram.{Diagram, meaning, subs}
 use Rattle.sd_vtree.specs.Numbered.{plain_tree}
@@ -22,12 +22,12 @@ use Rattle.sd_manager.specs.Valid.{IsTable}
 use Rattle.sd_manager.proofs.Extending.{extends_self, extends_on}
 use Rattle.sd_apply.specs.declared.recent.Recent.{Recent}
 use Rattle.sd_apply.specs.Recent.{Knows}
-use Rattle.sd_apply.specs.Places.{IsNodeUnder, HasPlace, HasChildren}
-use Rattle.sd_apply.specs.Elements.{IsPair, IsPartitionUnder}
+use Rattle.sd_apply.specs.Places.{IsNodeUnder, IsBelow, HasPlace, HasChildren}
+use Rattle.sd_apply.specs.Elements.{IsPair, IsPartitionUnder, AreListedElements}
 use Rattle.sd_apply.specs.Calls.{NegatesAt, IsNegated, NegatesSubs, Joins}
 use Rattle.sd_apply.proofs.Trees.{apart, not_under}
 use Rattle.sd_apply.proofs.Listed.{node_on, pair_on, answer_on, take_next}
-use Rattle.sd_apply.proofs.Rows.{pair_sub}
+use Rattle.sd_apply.proofs.Rows.{pair_sub, sub_below, paired_at}
 use Rattle.sd_apply.proofs.Growing.{either_none, either_both}
 use Rattle.sd_apply.proofs.TerminalLaws.{not_not}
 use Rattle.sd_apply.proofs.Expanding.{own_elements}
@@ -103,13 +103,28 @@ negate_subs_done m0 m c u w l r i h lo hi =
 -- ---- two elements
 
 -- a list of two has the elements that are read of it
-pub two_elements : (l : List (ℕ × ℕ)) (e f : ℕ × ℕ) → length l ≡ 2 → slice_get l 0 ≡ Some e →
+two_elements : (l : List (ℕ × ℕ)) (e f : ℕ × ℕ) → length l ≡ 2 → slice_get l 0 ≡ Some e →
     slice_get l 1 ≡ Some f → l ≡ e ∷ f ∷ []
 two_elements [] e f n a b = absurd (omega (arith, n))
 two_elements (x ∷ []) e f n a b = absurd (omega (arith, n))
 two_elements (x ∷ y ∷ []) e f n a b =
     ap (λ z. z ∷ y ∷ []) (same_Some x e a) ∙ ap (λ z. e ∷ z ∷ []) (same_Some y f b)
 two_elements (x ∷ y ∷ z ∷ l) e f n a b = absurd (omega (arith, n))
+
+-- the sub of an element that is read is below the right child
+pub read_below : (t : Table) (u w : ℕ) (l : List (ℕ × ℕ)) (i : ℕ) (e : ℕ × ℕ) → AreListedElements t u w l →
+    slice_get l i ≡ Some e → IsBelow t w e.1
+read_below t u w l i e h at =
+    sub_below t t (extends_self t) u w e
+    (paired_at t u w l i e h (slice_get_within l i e at) (sym (get_or_from_slice_get l i e (0, 0) at)))
+
+-- two elements with their subs negated
+pub two_negated : (m0 m1 : Table) (w : ℕ) (l : List (ℕ × ℕ)) (e f : ℕ × ℕ) (r s : ℕ) → length l ≡ 2 →
+    slice_get l 0 ≡ Some e → slice_get l 1 ≡ Some f → NegatesAt m0 m1 w e.1 r → NegatesAt m0 m1 w f.1 s →
+    NegatesSubs m0 m1 w l ((e.0, r) ∷ (f.0, s) ∷ [])
+two_negated m0 m1 w l e f r s n a b h k =
+    subst (λ x. NegatesSubs m0 m1 w x ((e.0, r) ∷ (f.0, s) ∷ [])) (sym (two_elements l e f n a b))
+    (record { prime = refl; sub = h }, (record { prime = refl; sub = k }, tt))
 
 -- ---- subs that differ have negations that differ
 

@@ -2,7 +2,7 @@
 //
 // The primes stay, and subs that differ have negations that differ: so no elements are joined, and the cost is a visit
 // of each node.
-ghost use Rattle.std.specs.Prelude.{IfOk, IfErr, OnErr};
+ghost use Rattle.std.specs.Prelude.{◌≤◌, IfOk, IfErr, OnErr};
 ghost use Rattle.sd_manager.specs.Valid.{IsTable};
 ghost use Rattle.sd_manager.specs.Making.{Extends, KeepsRule};
 ghost use Rattle.sd_apply.specs.Recent.{Knows};
@@ -11,7 +11,7 @@ ghost use Rattle.sd_apply.specs.Places.{IsBelow, IsThere, IsFork};
 ghost use Rattle.sd_apply.specs.Elements.{AreListedElements};
 ghost use Rattle.sd_apply.specs.Calls.{NegatesAt, NegatesSubs};
 
-use crate::lists::{Pairs, elements_of, push};
+use crate::lists::{Pairs, are_two, elements_of, push};
 use crate::making::make_apart;
 use crate::places::{Fork, place_with_children};
 use crate::recent::Recent;
@@ -22,9 +22,34 @@ use sd_vtree::VNode;
 use smallvec::SmallVec;
 use std::alloc::Global;
 
-/// The negation of a node below a vtree node. Subs that differ have negations that differ, so none are joined.
-#[cycle(negate)]
+/// The negation of a node below a vtree node.
+#[inline(never)]
 pub(crate) fn negate_at(
+    alloc: Global,
+    m: &mut Manager,
+    recent: &mut Recent,
+    at: VNode,
+    a: NodeId,
+) -> Result<NodeId, TakeError>
+    requires at { IsThere m.old.vtree at }
+    requires a { IsBelow m.old at a }
+    requires knows { Knows recent.old m.old }
+    ensures ok { IfOk result (λ r. NegatesAt m.old m.new at a r) }
+    ensures kept { Extends m.old m.new }
+    ensures grown { GrowsBelow m.old m.new at }
+    ensures one { IfOk result (λ r. GrowsByAnswer m.old m.new at r) }
+    ensures none { OnErr result (GrowsStrictlyBelow m.old m.new at) }
+    ensures knows { Knows recent.new m.new }
+    ensures rule { IfErr result (λ e. KeepsRule m.new e) }
+    ensures table { IsTable m.new }
+{
+    find_or_negate(alloc, m, recent, at, a)
+}
+
+// The same in place, so that what is known is found without a call.
+#[cycle(negate)]
+#[inline(always)]
+fn find_or_negate(
     alloc: Global,
     m: &mut Manager,
     recent: &mut Recent,
@@ -51,12 +76,98 @@ pub(crate) fn negate_at(
     if let Some(code) = recent.look(NEGATION, a.0, 0) {
         return Ok(NodeId(code));
     }
-    let fork = place_with_children(m, at, a);
-    let list = elements_of(alloc, m, a)?;
-    let pairs = negate_subs(alloc, m, recent, &fork, list.as_slice())?;
-    let code = make_apart(m, &fork, pairs.as_slice())?;
+    negate_anew(alloc, m, recent, at, a)
+}
+
+// The negation of a decomposition, which is not known, and is kept.
+#[cycle(negate)]
+#[inline(never)]
+fn negate_anew(
+    alloc: Global,
+    m: &mut Manager,
+    recent: &mut Recent,
+    at: VNode,
+    a: NodeId,
+) -> Result<NodeId, TakeError>
+    requires at { IsThere m.old.vtree at }
+    requires a { IsBelow m.old at a }
+    requires code { 2050 ≤ a }
+    requires knows { Knows recent.old m.old }
+    ensures ok { IfOk result (λ r. NegatesAt m.old m.new at a r) }
+    ensures kept { Extends m.old m.new }
+    ensures grown { GrowsBelow m.old m.new at }
+    ensures one { IfOk result (λ r. GrowsByAnswer m.old m.new at r) }
+    ensures none { OnErr result (GrowsStrictlyBelow m.old m.new at) }
+    ensures knows { Knows recent.new m.new }
+    ensures rule { IfErr result (λ e. KeepsRule m.new e) }
+    ensures table { IsTable m.new }
+{
+    let code = negate_elements(alloc, m, recent, at, a)?;
     recent.keep(alloc, NEGATION, a.0, 0, code.0);
     Ok(code)
+}
+
+// The node of the elements of a decomposition with their subs negated. Subs that differ have negations that differ, so
+// none are joined.
+#[cycle(negate)]
+fn negate_elements(
+    alloc: Global,
+    m: &mut Manager,
+    recent: &mut Recent,
+    at: VNode,
+    a: NodeId,
+) -> Result<NodeId, TakeError>
+    requires at { IsThere m.old.vtree at }
+    requires a { IsBelow m.old at a }
+    requires code { 2050 ≤ a }
+    requires knows { Knows recent.old m.old }
+    ensures ok { IfOk result (λ r. NegatesAt m.old m.new at a r) }
+    ensures kept { Extends m.old m.new }
+    ensures grown { GrowsBelow m.old m.new at }
+    ensures one { IfOk result (λ r. GrowsByAnswer m.old m.new at r) }
+    ensures none { OnErr result (GrowsStrictlyBelow m.old m.new at) }
+    ensures knows { Knows recent.new m.new }
+    ensures rule { IfErr result (λ e. KeepsRule m.new e) }
+    ensures table { IsTable m.new }
+{
+    let fork = place_with_children(m, at, a);
+    if are_two(m, a) {
+        let (prime, sub) = m.element(a, 0);
+        let (other, value) = m.element(a, 1);
+        let negated = negate_both(alloc, m, recent, fork.right, sub, value)?;
+        return make_apart(m, &fork, &[(prime, negated.0), (other, negated.1)]);
+    }
+    let list = elements_of(alloc, m, a)?;
+    let pairs = negate_subs(alloc, m, recent, &fork, list.as_slice())?;
+    make_apart(m, &fork, pairs.as_slice())
+}
+
+// The negations of two nodes.
+#[cycle(negate)]
+#[inline(always)]
+fn negate_both(
+    alloc: Global,
+    m: &mut Manager,
+    recent: &mut Recent,
+    at: VNode,
+    a: NodeId,
+    b: NodeId,
+) -> Result<(NodeId, NodeId), TakeError>
+    requires at { IsThere m.old.vtree at }
+    requires a { IsBelow m.old at a }
+    requires b { IsBelow m.old at b }
+    requires knows { Knows recent.old m.old }
+    ensures first { IfOk result (λ r. NegatesAt m.old m.new at a r.0) }
+    ensures second { IfOk result (λ r. NegatesAt m.old m.new at b r.1) }
+    ensures kept { Extends m.old m.new }
+    ensures grown { GrowsBelow m.old m.new at }
+    ensures knows { Knows recent.new m.new }
+    ensures rule { IfErr result (λ e. KeepsRule m.new e) }
+    ensures table { IsTable m.new }
+{
+    let first = find_or_negate(alloc, m, recent, at, a)?;
+    let second = find_or_negate(alloc, m, recent, at, b)?;
+    Ok((first, second))
 }
 
 // The elements with their subs negated.
@@ -83,7 +194,7 @@ fn negate_subs(
     let mut pairs = SmallVec::new(alloc);
     for i in 0..list.len() {
         let (prime, sub) = list[i];
-        let other = negate_at(alloc, m, recent, fork.right, sub)?;
+        let other = find_or_negate(alloc, m, recent, fork.right, sub)?;
         push(&mut pairs, prime, other)?;
     }
     Ok(pairs)

@@ -1,11 +1,11 @@
-use Rattle.std.proofs.Common.{◌≡◌, ◌∙◌, sym, subst, ℕ, ◌+◌, ◌-◌, ◌*◌, ◌<◌, List}
-use Rattle.std.proofs.Common.{[], ◌∷◌, Some, slice_get, arith}
+use Rattle.std.proofs.Common.{◌≡◌, ◌∙◌, sym, subst, ℕ, ◌-◌, List}
+use Rattle.std.proofs.Common.{[], ◌∷◌, Some, slice_get}
 use Rattle.std.proofs.lemmas.Result.{IfOk-weaker}
 use Rattle.sd_vtree.specs.Numbered.{numbers}
 use Rattle.sd_manager.specs.Views.{pairs_at}
-use Rattle.sd_apply.specs.Places.{width, HasPlace}
+use Rattle.sd_apply.specs.Places.{HasPlace}
 use Rattle.sd_apply.specs.Calls.{Expands}
-use Rattle.sd_apply.proofs.Trees.{width_positive, left_there, place_before}
+use Rattle.sd_apply.proofs.Trees.{left_there, place_before}
 use Rattle.sd_apply.proofs.Standing.{shown}
 use Rattle.sd_apply.proofs.Expanding.{own_code, expand_own, expand_right, expand_left}
 use Rattle.sd_apply.proofs.Expanding.{right_under, left_under}
