@@ -1,5 +1,5 @@
 -- A connective from the halves of two nodes, at a vtree node whose left child is a leaf.
-use Rattle.std.proofs.Common.{◌≡◌, ℕ, Bool, true, false, cond, List, refl, ◌∙◌, ap}
+use Rattle.std.proofs.Common.{◌≡◌, ℕ, Bool, true, false, cond, refl, ◌∙◌, ap}
 use Rattle.sd_model.specs.declared.trees.Operation.{Operation}
 use Rattle.sd_model.specs.Assignment.{value_in}
 use Rattle.sd_model.specs.Diagram.{Diagram, meaning}
