@@ -1,7 +1,8 @@
 // Negation, which goes down to the subs of a decomposition.
 //
 // The primes stay, and subs that differ have negations that differ: so no elements are joined, and the cost is a visit
-// of each node.
+// of each node. Of two elements, which most nodes have, no list is made. The table of steps is asked for a sub before
+// the call (`find_or_negate`); at the top it is asked in the call, so that the connectives' own calls stay short.
 ghost use Rattle.std.specs.Prelude.{◌≤◌, IfOk, IfErr, OnErr};
 ghost use Rattle.sd_manager.specs.Valid.{IsTable};
 ghost use Rattle.sd_manager.specs.Making.{Extends, KeepsRule};
