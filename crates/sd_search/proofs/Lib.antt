@@ -12,5 +12,7 @@ pub mod Journals
 pub mod AfterStep
 pub mod Rounds
 pub mod Walks
+pub mod WalksInARow
+pub mod WalksOverTables
 pub mod SearchOn
 pub mod NeverFalling

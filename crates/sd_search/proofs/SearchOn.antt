@@ -170,6 +170,14 @@ module _ (old now new : Table) (rounds slack root before done after : ℕ)
       goes_broken fs slack rounds (plain_tree old.vtree) before done (plain_tree now.vtree) (plain_tree new.vtree)
       after after (h.goes fs held) (h.size fs (held_now fs held)) less (begun fs [] (held_now fs held) h.at_root)
 
+-- the root stands where it stood
+pub root_stays : (old now new : Table) (rounds slack root before done after : ℕ)
+    → IsSearching old now rounds slack root before done after
+    → ((path : List Side) → IsAtPath now.vtree path root → KeepsAlong now.vtree new.vtree path)
+    → IsAtPath new.vtree [] root
+root_stays old now new rounds slack root before done after h along =
+    along_at now.vtree new.vtree [] root (along [] h.at_root) h.at_root
+
 -- all rounds are done
 pub searching_end : (old now : Table) (rounds slack root before done after : ℕ)
     → IsSearching old now rounds slack root before done after → done ≡ rounds

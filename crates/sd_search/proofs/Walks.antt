@@ -24,6 +24,7 @@ use Rattle.sd_search.specs.Walking.{move_of, IsCapped, IsAhead, CanGoOn, AreStep
 use Rattle.sd_search.specs.declared.steps.Step.{Step}
 use Rattle.sd_search.proofs.LeastState.{all_middle, least_found}
 use Rattle.sd_search.proofs.WorkedSearch.{from_left, from_right, of_two}
+use Rattle.sd_search.proofs.AnyFormulas.{any_formulas}
 use Rattle.sd_search.proofs.Rounds.{has_path}
 use Rattle.sd_search.proofs.KeptRoots.{shows_kept, shows_back, formulas_on}
 
@@ -175,6 +176,14 @@ module _ (a b : Table) (place most size slack : ℕ) (steps : List Step) (t : Is
       let p = has_path a.vtree place t.numbered less in
       found_size fs (size * slack / 100) (plain_tree a.vtree) (plain_tree b.vtree) p.0 (map move_of steps) size least
       (tells fs p.0 (size * slack / 100) (held_before fs held) p.1 capped)
+
+  -- a later state that is found is smaller than the start
+  pub less_walked : (least : ℕ) → place < length (numbers a.vtree) → a.moving ≡ None
+      → TellsAhead a b place most size (map move_of steps) (Some least) → least < size
+  less_walked least less still tells =
+      let some = any_formulas a t still in
+      let p = has_path a.vtree place t.numbered less in
+      (tells some.0 p.0 (size * slack / 100) some.1 p.1 capped).finds.1
 
   pub size_stayed : KeepsReached a b → IsSizeOfHeld b size
   size_stayed back fs held =

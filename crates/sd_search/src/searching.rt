@@ -1,7 +1,9 @@
 // Rounds of walks over all nodes, and a search of several rounds.
-ghost use Rattle.std.specs.Prelude.{◌≡◌, ℕ, ◌<◌, List, [], length, None, IfOk, IfErr, OnErr};
+ghost use Rattle.std.specs.Prelude.{◌≡◌, ℕ, suc, ◌^◌, ◌<◌, List, [], length, None, IfOk, IfErr, OnErr};
+ghost use Rattle.std.specs.Prelude.{nat_lt, if◌then◌else◌};
 ghost use Rattle.sd_model.specs.declared.trees.Side.{Side as TheSide};
 ghost use Rattle.sd_model.specs.Expression.{Expression};
+ghost use Rattle.sd_model.specs.Tree.{leaves};
 ghost use Rattle.sd_vtree.specs.Numbered.{numbers, plain_tree};
 ghost use Rattle.sd_manager.specs.Marking.{AreUnmarked};
 ghost use Rattle.sd_manager.specs.Valid.{IsTable};
@@ -11,6 +13,7 @@ ghost use Rattle.sd_compile.specs.Total.{AreHeldFormulas};
 ghost use Rattle.sd_search.specs.Search.{IsRound, IsRoundBegun, IsSearch, IsSearchBegun};
 ghost use Rattle.sd_search.specs.Kept.{KeepsRoots, IsSizeOfHeld, IsSearchRefusal};
 ghost use Rattle.sd_search.specs.Paths.{IsAtPath, KeepsAlong};
+ghost use Rattle.sd_search.specs.WalksInARow.{KeepBefore, KeepThrough};
 
 use crate::error::SearchError;
 use crate::walking::walk;
@@ -58,41 +61,75 @@ pub fn minimise(
 {
     let root = m.vtree().root();
     let before = size(m);
-    let mut after = before;
+    let mut reached = Reached {
+        size: before,
+        kept: 0,
+    };
     for done in 0..rounds {
-        let next = match round(alloc, m, c, root, slack, after) {
+        let next = match round(alloc, m, c, root, slack, reached) {
             Ok(next) => next,
             Err(error) => return Err(error),
         };
-        if next >= after {
+        if next.size >= reached.size {
             return Ok(Outcome {
                 before,
-                after: next,
+                after: next.size,
                 rounds: done + 1,
             });
         }
-        after = next;
+        reached = next;
     }
     Ok(Outcome {
         before,
-        after,
+        after: reached.size,
         rounds,
     })
 }
 
-// A round at a node, from a state of this size: a walk there, then a round at its left child, and then one at its right
-// child, in the vtree as it then is. Answers the size of the state that it leads to.
+// Where a search stands: the size of the state, and how many walks in a row kept their start.
+#[derive(Clone, Copy)]
+struct Reached {
+    size: u32,
+    kept: u32,
+}
+
+// Where a search stands after one more walk, to a state of this size.
+fn walked_to(so_far: Reached, size: u32) -> Reached
+    requires room { suc so_far.kept < 2 ^ 32 }
+    ensures size { result.size ≡ size }
+    ensures kept { result.kept ≡ (if nat_lt size so_far.size then 0 else suc so_far.kept) }
+{
+    let kept = if size < so_far.size {
+        0
+    } else {
+        so_far.kept + 1
+    };
+    Reached { size, kept }
+}
+
+// How many internal nodes the vtree has.
+fn inner_nodes(m: &Manager) -> u32
+    ensures count { suc result ≡ leaves (plain_tree m.now.vtree) }
+    ensures table { IsTable m.now }
+{
+    m.vtree().variables() - 1
+}
+
+// A round at a node: a walk there, then a round at its left child, and then one at its right child, in the vtree as it
+// then is. Where as many walks in a row as there are internal nodes kept their start, each further one would see what
+// one of these saw, so none is made. Answers where the search stands afterwards.
 fn round(
     alloc: Global,
     m: &mut Manager,
     c: &mut Cache,
     place: VNode,
     slack: u32,
-    size: u32,
-) -> Result<u32, SearchError>
+    so_far: Reached,
+) -> Result<Reached, SearchError>
     requires no_move { m.old.moving ≡ None }
     requires place { place < length (numbers m.old.vtree) }
-    requires size { IsSizeOfHeld m.old size }
+    requires size { IsSizeOfHeld m.old so_far.size }
+    requires in_a_row { KeepBefore m.old slack place so_far.kept }
     requires unmarked { AreUnmarked m.old }
     requires serves { Serves c.old m.old }
     ensures round { (fs : List Expression) (path : List TheSide) → AreHeldFormulas m.old fs
@@ -101,7 +138,8 @@ fn round(
     ensures begun { (fs : List Expression) (path : List TheSide) → AreHeldFormulas m.old fs
         → IsAtPath m.old.vtree path place
         → OnErr result (IsRoundBegun fs slack (plain_tree m.old.vtree) path (plain_tree m.new.vtree)) }
-    ensures size { IfOk result (λ after. IsSizeOfHeld m.new after) }
+    ensures size { IfOk result (λ after. IsSizeOfHeld m.new after.size) }
+    ensures in_a_row { IfOk result (λ after. KeepThrough m.new slack place after.kept) }
     ensures along { (path : List TheSide) → IsAtPath m.old.vtree path place
         → KeepsAlong m.old.vtree m.new.vtree path }
     ensures kept { KeepsRoots m.old m.new }
@@ -111,13 +149,18 @@ fn round(
     ensures serves { Serves c.new m.new }
     ensures table { IsTable m.new }
 {
+    let inner = inner_nodes(m);
+    if so_far.kept >= inner {
+        return Ok(so_far);
+    }
     let Some(_) = m.vtree().children(place) else {
-        return Ok(size);
+        return Ok(so_far);
     };
-    let walked = match walk(alloc, m, c, place, slack, size) {
-        Ok(walked) => walked,
+    let size = match walk(alloc, m, c, place, slack, so_far.size) {
+        Ok(size) => size,
         Err(error) => return Err(error),
     };
+    let walked = walked_to(so_far, size);
     let first = m.vtree().children(place).unwrap();
     let left = match round(alloc, m, c, first.0, slack, walked) {
         Ok(left) => left,

@@ -146,6 +146,7 @@ pub(crate) fn walk(
         → IsAtPath m.old.vtree path place
         → IfOk result (λ after. IsWalk fs slack (plain_tree m.old.vtree) path (plain_tree m.new.vtree)) }
     ensures size { IfOk result (λ after. IsSizeOfHeld m.new after) }
+    ensures stays { IfOk result (λ after. size ≤ after → m.new.vtree ≡ m.old.vtree) }
     ensures along { (path : List TheSide) → IsAtPath m.old.vtree path place
         → KeepsAlong m.old.vtree m.new.vtree path }
     ensures back { OnErr result (KeepsReached m.old m.new) }

@@ -3,10 +3,13 @@ use Rattle.std.proofs.lemmas.Result.{IfOk-weaker, on_err_weaker}
 use Rattle.sd_model.specs.declared.trees.Side.TheVariants.{Left, Right}
 use Rattle.sd_vtree.specs.Numbered.{children_at, numbers, plain_tree}
 use Rattle.sd_search.specs.Search.{IsRound}
+use Rattle.sd_search.specs.Kept.{IsSizeOfHeld}
+use Rattle.sd_search.specs.WalksInARow.{KeepThrough}
 use Rattle.sd_search.proofs.AlongPaths.{along_same, along_at, along_both, along_up, place_along}
 use Rattle.sd_search.proofs.KeptRoots.{kept_itself, kept_both}
 use Rattle.sd_search.proofs.Rounds.{has_path, left_less, right_less, round_leaf, begun_none, are_then, begun_left}
 use Rattle.sd_search.proofs.Rounds.{are_last}
+use Rattle.sd_search.proofs.WalksOverTables.{keep_leaf, keep_rest, round_rest, keep_left, keep_right, keep_node}
 use Rattle.sd_search.proofs.Rounds.{round_whole, begun_right, kids, kids_within, some_kids, kid_paths}
 use Rattle.sd_sweep.proofs.NeverFalling.{never_same, never_both}
 use Rattle.sd_search.proofs.searching.+round.Goals as goal
@@ -53,7 +56,19 @@ round-requires t c =
           (kids_within c.vtree-2.result.now c.walk.new.m.vtree c.children-2.result c.unwrap-first.result
               c.unwrap-first.ensures
               c.vtree-2.ensures.vtree c.children-2.ensures.nodes).0,
-          (c.in-Ok.ensures.size, (c.walk.ensures.unmarked, c.walk.ensures.serves)),
+          (
+            subst (IsSizeOfHeld c.walk.new.m) (sym c.walked_to-walked.ensures.size) c.in-Ok.ensures.size,
+            (
+              keep_left c.args.slack c.args.place c.unwrap-first.result.0 c.unwrap-first.result.1 c.args.m.now
+                  c.walk.new.m c.vtree.ensures.table c.walk.ensures.table c.requires.place c.walk.ensures.along
+                  (kids c.vtree-2.result.now c.walk.new.m.vtree c.children-2.result c.unwrap-first.result c.args.place
+                  c.unwrap-first.ensures c.children-2.ensures.children c.vtree-2.ensures.vtree)
+                  c.args.so_far.kept c.args.so_far.size c.in-Ok.size c.walked_to-walked.result.kept
+                  c.walk.ensures.kept c.requires.in_a_row c.in-Ok.ensures.walk c.walked_to-walked.ensures.kept
+                  c.in-Ok.ensures.stays,
+              (c.walk.ensures.unmarked, c.walk.ensures.serves),
+            ),
+          ),
         ),
       ),
     )
@@ -99,7 +114,21 @@ round-requires-2 t c =
           (kids_within c.vtree-3.result.now c.round.new.m.vtree c.children-3.result c.unwrap-second.result
               c.unwrap-second.ensures
               c.vtree-3.ensures.vtree c.children-3.ensures.nodes).1,
-          (c.in-Ok-round.ensures.size, (c.round.ensures.unmarked, c.round.ensures.serves)),
+          (
+            c.in-Ok-round.ensures.size,
+            (
+              keep_right c.args.slack c.args.place c.unwrap-first.result.0 c.unwrap-first.result.1 c.args.m.now
+                  c.walk.new.m c.vtree.ensures.table c.walk.ensures.table c.requires.place c.walk.ensures.along
+                  (kids c.vtree-2.result.now c.walk.new.m.vtree c.children-2.result c.unwrap-first.result c.args.place
+                  c.unwrap-first.ensures c.children-2.ensures.children c.vtree-2.ensures.vtree)
+                  c.unwrap-second.result.0 c.unwrap-second.result.1 c.in-Ok-round.left.kept c.round.new.m
+                  c.round.ensures.table c.round.ensures.along
+                  (kids c.vtree-3.result.now c.round.new.m.vtree c.children-3.result c.unwrap-second.result
+                  c.args.place c.unwrap-second.ensures c.children-3.ensures.children c.vtree-3.ensures.vtree)
+                  c.in-Ok-round.ensures.in_a_row,
+              (c.round.ensures.unmarked, c.round.ensures.serves),
+            ),
+          ),
         ),
       ),
     )
@@ -308,7 +337,51 @@ children-requires-3 t c =
     c.unwrap-first.ensures
     c.children-2.ensures.children c.vtree-2.ensures.vtree)).0))) c.requires.place)
 
+-- ---- walks in a row
+
+pub returns-in_default-clause-in_a_row : goal.returns-in_default-clause-in_a_row
+returns-in_default-clause-in_a_row t c =
+    keep_leaf c.args.m.now c.args.slack c.args.place c.args.so_far.kept c.vtree.ensures.table c.requires.in_a_row
+    (c.in_default.ensures.children ∙ ap (λ v. children_at v c.args.place) c.vtree.ensures.vtree)
+
+pub returns-clause-in_a_row : goal.returns-clause-in_a_row
+returns-clause-in_a_row t c =
+    IfOk-weaker c.round-2.result
+    (λ r. KeepThrough c.round-2.new.m c.args.slack c.unwrap-second.result.1 r.kept)
+    (λ r. KeepThrough c.round-2.new.m c.args.slack c.args.place r.kept)
+    (λ r. keep_node c.args.slack c.args.place c.unwrap-first.result.0 c.unwrap-first.result.1 c.args.m.now
+    c.walk.new.m c.vtree.ensures.table c.walk.ensures.table c.requires.place c.walk.ensures.along
+    (kids c.vtree-2.result.now c.walk.new.m.vtree c.children-2.result c.unwrap-first.result c.args.place
+    c.unwrap-first.ensures c.children-2.ensures.children c.vtree-2.ensures.vtree)
+    c.unwrap-second.result.0 c.unwrap-second.result.1 c.in-Ok-round.left.kept c.round.new.m
+    c.round.ensures.table c.round.ensures.along
+    (kids c.vtree-3.result.now c.round.new.m.vtree c.children-3.result c.unwrap-second.result
+    c.args.place c.unwrap-second.ensures c.children-3.ensures.children c.vtree-3.ensures.vtree)
+    c.round-2.new.m r.kept c.round-2.ensures.table c.round-2.ensures.along)
+    c.round-2.ensures.in_a_row
+
+pub returns-then-so_far-inner-clause-round : goal.returns-then-so_far-inner-clause-round
+returns-then-so_far-inner-clause-round t c =
+    round_rest c.args.m.now c.args.slack c.args.place c.args.so_far.kept c.inner_nodes-inner.ensures.table
+    c.requires.in_a_row c.inner_nodes-inner.result c.inner_nodes-inner.ensures.count c.if-so_far-inner.true
+
+pub returns-then-so_far-inner-clause-in_a_row : goal.returns-then-so_far-inner-clause-in_a_row
+returns-then-so_far-inner-clause-in_a_row t c =
+    keep_rest c.args.m.now c.args.slack c.args.place c.args.so_far.kept c.inner_nodes-inner.ensures.table
+    c.requires.in_a_row c.inner_nodes-inner.result c.inner_nodes-inner.ensures.count c.if-so_far-inner.true
+
+pub returns-then-so_far-inner-clause-along : goal.returns-then-so_far-inner-clause-along
+returns-then-so_far-inner-clause-along t c path at =
+    along_same c.args.m.now.vtree path c.args.place at
+
+pub returns-then-so_far-inner-clause-kept : goal.returns-then-so_far-inner-clause-kept
+returns-then-so_far-inner-clause-kept t c =
+    kept_itself c.args.m.now c.inner_nodes-inner.ensures.table c.requires.no_move
+
 -- ---- what never falls
+
+pub returns-then-so_far-inner-clause-never_falls : goal.returns-then-so_far-inner-clause-never_falls
+returns-then-so_far-inner-clause-never_falls t c = never_same c.args.m.now c.args.m.now refl
 
 pub returns-in_default-clause-never_falls : goal.returns-in_default-clause-never_falls
 returns-in_default-clause-never_falls t c = never_same c.args.m.now c.args.m.now refl
