@@ -9,6 +9,7 @@ which has what each prints and writes. With --run PROGRAM it runs these too, as 
 README has over 40 words; no document has a paragraph of over 120, or a cell or a sentence of over 45, and none names a
 commit. Its status is 1 where something differs.
 """
+import fnmatch
 import glob
 import os
 import re
@@ -152,6 +153,40 @@ def check_answers():
         for name in re.findall(r"`(\w+)`", row[4]):
             expect(name in homes or name in cases or edits.get(name, set()) & crates,
                    "docs/PROVED.md: %s: no edit, case or test is named %s" % (row[0], name))
+
+
+def tests_of(path):
+    """The tests of a file of code."""
+    return set(re.findall(r"#\[test\]\s+(?:///.*\s+)*fn (\w+)", text_of(path)))
+
+
+def check_tests():
+    """TESTS names cases and tests that are there, each file of cases and each test."""
+    homes = {"calls": "crates/sd_call_tests/src", "workers": "crates/sd_worker_tests/src"}
+    cases, tests, named = {}, {}, set()
+    for path in glob.glob(TOP + "/crates/sd_cases/data/*.cases"):
+        text = text_of(os.path.relpath(path, TOP))
+        cases[os.path.basename(path)] = set(re.findall(r"^(?:case|differs) (\w+)$", text, re.M))
+    for path in glob.glob(TOP + "/crates/*/src/**/*.rt", recursive=True):
+        path = os.path.relpath(path, TOP)
+        tests[path] = tests_of(path)
+    for row in rows_of(text_of("docs/TESTS.md")):
+        for cell in row[1:3]:
+            known = set()
+            for word in re.findall(r"`([^`]*)`", cell):
+                first, _, rest = word.partition("/")
+                path = homes.get(first, "crates/" + first) + "/" + rest
+                if word in cases or path in tests:
+                    known = cases[word] if word in cases else tests[path]
+                    named.add(word if word in cases else "")
+                    continue
+                found = {name for name in known if fnmatch.fnmatchcase(name, word)}
+                expect(found, "docs/TESTS.md: %s: no case or test is named %s" % (row[0], word))
+                named |= found
+    for name in sorted(set(cases) - named - {"differs.cases"}):
+        faults.append("docs/TESTS.md: names no case of %s" % name)
+    for name in sorted(set().union(*tests.values()) - named):
+        faults.append("docs/TESTS.md: does not name the test %s" % name)
 
 
 def check_cases():
@@ -299,6 +334,7 @@ def main():
     check_crates()
     check_answers()
     check_cases()
+    check_tests()
     check_paths()
     check_crate_paths()
     check_count()
