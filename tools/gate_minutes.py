@@ -2,13 +2,17 @@
 """What a whole run of the gate takes, crate by crate, in processor minutes.
 
     python3 tools/gate_minutes.py run LOG [WORD ..]   runs `rt ci WORD ..` and writes to LOG what each prover took
-    python3 tools/gate_minutes.py table LOG           prints the table of docs/PROVING.md from such a log
+    python3 tools/gate_minutes.py table LOG           prints the table of all crates from such a log
+    python3 tools/gate_minutes.py document            writes the table of docs/PROVING.md from the newest log, which is
+                                                      gate.json in a folder of bench/runs whose name ends in gate
+    python3 tools/gate_minutes.py check               says whether that table is so; the status is 1 where it is not
 
 While the gate runs, each prover's processor time (user and system, all its threads) is read from /proc once a second,
 so that of each less than a second is missed; the sum that stands below the table is the kernel's own, of all
 processes of the run. `alone` is a crate's proof, `tests` the crate once more with its tests, `edits` what its
 must-fail edits take, with the check that they begin with. Standard library alone; Linux.
 """
+import glob
 import json
 import os
 import re
@@ -18,6 +22,10 @@ import sys
 import time
 
 TICKS = os.sysconf("SC_CLK_TCK")
+TOP = os.path.join(os.path.dirname(os.path.abspath(__file__)), "..")
+PROVING = os.path.join(TOP, "docs/PROVING.md")
+# A crate has a row of its own in docs/PROVING.md where it takes so many minutes in all.
+LEAST_MINUTES = 5.5
 
 
 def prover(pid):
@@ -72,7 +80,18 @@ def run(log, words):
     return gate.returncode
 
 
-def table(log):
+def row_of(name, kinds):
+    cells = ("%.1f" % kinds[kind] if kind in kinds else "" for kind in ("alone", "tests", "edits"))
+    return "| %s | %s |" % (name, " | ".join(cells))
+
+
+def sum_of(rows):
+    """The minutes of each kind that some crates take together."""
+    return {kind: sum(kinds.get(kind, 0) for _, kinds in rows) for kind in ("alone", "tests", "edits")}
+
+
+def table(log, least):
+    """The lines of the table: a row for each crate of so many minutes or more, one for the others, one for all."""
     with open(log, encoding="utf-8") as file:
         found = json.load(file)
     minutes = {}
@@ -80,21 +99,41 @@ def table(log):
         of_crate = minutes.setdefault(crate, {})
         of_crate[kind] = of_crate.get(kind, 0) + seconds / 60
     rows = sorted(minutes.items(), key=lambda row: -sum(row[1].values()))
-    print("| crate | alone | tests | edits |\n|---|---:|---:|---:|")
-    for crate, kinds in rows:
-        cells = ("%.1f" % kinds[kind] if kind in kinds else "" for kind in ("alone", "tests", "edits"))
-        print("| `%s` | %s |" % (crate, " | ".join(cells)))
-    sums = ("%.0f" % sum(kinds.get(kind, 0) for kinds in minutes.values()) for kind in ("alone", "tests", "edits"))
-    print("| all | %s |" % " | ".join(sums))
-    print("\nTogether %.0f processor minutes, %.0f minutes by the clock on %d processors." % (
-        found["processor"] / 60, found["clock"] / 60, found["processors"]))
+    large = [row for row in rows if sum(row[1].values()) >= least]
+    lines = ["| crate | alone | tests | edits |", "|---|---:|---:|---:|"]
+    lines += [row_of("`%s`" % crate, kinds) for crate, kinds in large]
+    if len(large) < len(rows):
+        lines.append(row_of("%d others" % (len(rows) - len(large)), sum_of(rows[len(large):])))
+    lines += [row_of("all", sum_of(rows)), "", "Together %.0f processor minutes, %.0f minutes by the clock on %d "
+              "processors." % (found["processor"] / 60, found["clock"] / 60, found["processors"])]
+    return lines
+
+
+def document():
+    """docs/PROVING.md as it is, and with the table of the newest log."""
+    with open(PROVING, encoding="utf-8") as file:
+        old = file.read()
+    log = sorted(glob.glob(os.path.join(TOP, "bench/runs/*-gate/gate.json")))[-1]
+    begin = old.index("\n", old.index("<!-- made by tools/gate_minutes.py")) + 1
+    end = old.index("<!-- end -->", begin)
+    return old, old[:begin] + "\n".join(table(log, LEAST_MINUTES)) + "\n" + old[end:]
 
 
 def main(words):
     if len(words) >= 2 and words[0] == "run":
         return run(words[1], words[2:])
     if len(words) == 2 and words[0] == "table" and re.search(r"\S", words[1]):
-        return table(words[1])
+        print("\n".join(table(words[1], 0)))
+        return 0
+    if words == ["document"] or words == ["check"]:
+        old, new = document()
+        if words == ["document"]:
+            with open(PROVING, "w", encoding="utf-8") as file:
+                file.write(new)
+        elif old != new:
+            print("docs/PROVING.md: the table of the gate is not that of the newest gate.json in bench/runs")
+            return 1
+        return 0
     print(__doc__)
     return 2
 
