@@ -3,11 +3,12 @@
 
 README's table of options against the options of `sd_words`, the fault texts of docs/FORMATS.md against the tables
 of the readers and the table of answers of `sd_tool`, the crates of docs/MAP.md against crates.txt, each clause, edit,
-case and test that the answers of docs/PROVED.md name and each path that a document names against the files, the number
-of definitions in README against the count, and the commands of README and docs/TOUR.md against examples/expected.txt,
-which has what each prints and writes. With --run PROGRAM it runs these too, as the merge gate does. No sentence of
-README has over 40 words; no document has a paragraph of over 120, or a cell or a sentence of over 45, and none names a
-commit. Its status is 1 where something differs.
+case and test that the answers of docs/PROVED.md or the rows of docs/TESTS.md name, each path that a document names and
+each link against the files, the number of definitions in README against the count, the pictures and tables of speed and
+of the gate's minutes against the raw tables in bench/runs, and the commands of README and docs/TOUR.md against
+examples/expected.txt, which has what each prints and writes. With --run PROGRAM it runs these too, as the merge gate
+does. `LIMITS` says how long each document may be, and its paragraphs, cells and sentences; none names a commit. The
+status is 1 where something differs.
 """
 import fnmatch
 import glob
@@ -18,8 +19,21 @@ import sys
 import tempfile
 
 TOP = os.path.join(os.path.dirname(os.path.abspath(__file__)), "..")
-DOCUMENTS = ["README.md", "CHANGES.md", "CONTRIBUTING.md"] + sorted(os.path.relpath(p, TOP) for p in glob.glob(TOP + "/docs/*.md"))
+DOCUMENTS = ["README.md", "CHANGES.md", "CONTRIBUTING.md"]
+DOCUMENTS += sorted(os.path.relpath(path, TOP) for path in glob.glob(TOP + "/docs/*.md"))
 faults = []
+# The most lines of a document, and words of a paragraph, of a cell and of a sentence of it.
+LIMITS = {
+    "README.md": (160, 80, 45, 30),
+    "CONTRIBUTING.md": (60, 80, 45, 30),
+    "docs/MAP.md": (None, 100, 25, 40),
+    "docs/DEFINITIONS.md": (None, 100, 45, 45),
+    "docs/PROVED.md": (None, 100, 40, 40),
+    "docs/DECISIONS.md": (None, 60, 45, 45),
+    "docs/PROVING.md": (350, 80, 45, 45),
+    "docs/SPEED.md": (250, 80, 45, 35),
+}
+OTHER_LIMITS = (None, 120, 45, 45)
 
 
 def text_of(path):
@@ -255,33 +269,62 @@ def sizes_in(text):
     return sizes
 
 
-def check_sentences():
-    """A sentence ends at a mark before a capital, at the end of a cell, of a line of a list, or of a paragraph."""
-    text = re.sub(r"^```.*?^```", "", text_of("README.md"), flags=re.M | re.S)
-    for line in re.split(r"[|\n]", text):
-        for sentence in sentences_of(line):
-            expect(len(sentence.split()) <= 40, "README.md: a sentence has over 40 words: %s" % sentence[:60])
-
-
 def sentences_of(text):
     return re.split(r"(?<=[.!?:;])\s+(?=[A-Z`*(\[])", text)
 
 
-def check_lengths():
+def check_commits():
+    """No document names a commit."""
     for document in DOCUMENTS:
-        text = re.sub(r"^```.*?^```", "", text_of(document), flags=re.M | re.S)
         for number, line in enumerate(text_of(document).splitlines(), 1):
             for word in re.findall(r"\b[0-9a-f]{7,40}\b", line):
                 named = re.search(r"\d", word) and re.search(r"[a-f]", word) and word != "dac8208d650f15bf"
                 expect(not named, "%s:%d: names a commit: %s" % (document, number, word))
-        for paragraph in re.split(r"\n\s*\n|\n(?=[-|#>]|\d+\. )", text):
-            if paragraph.lstrip().startswith("|"):
-                for cell in paragraph.strip().strip("|").split("|"):
-                    expect(len(cell.split()) <= 45, "%s: a cell of over 45 words: %s" % (document, cell.strip()[:60]))
-                continue
-            expect(len(paragraph.split()) <= 120, "%s: a paragraph of over 120 words: %s" % (document, paragraph[:60]))
-            for sentence in sentences_of(paragraph):
-                expect(len(sentence.split()) <= 45, "%s: a sentence of over 45 words: %s" % (document, sentence[:60]))
+
+
+def check_lengths():
+    """A sentence ends at a mark before a capital, or with its cell or paragraph."""
+    for document in DOCUMENTS:
+        most_lines, *most = LIMITS.get(document, OTHER_LIMITS)
+        text = text_of(document)
+        lines = len(text.splitlines())
+        expect(most_lines is None or lines <= most_lines, "%s: %d lines, of at most %s" % (document, lines, most_lines))
+        text = re.sub(r"^```.*?^```|<!--.*?-->", "", text, flags=re.M | re.S)
+        paragraphs, found = re.split(r"\n\s*\n|\n(?=[-|#>]|\d+\. )", text), []
+        for paragraph in paragraphs:
+            cells = paragraph.strip().strip("|").split("|") if paragraph.lstrip().startswith("|") else []
+            found += [("cell", most[1], cell) for cell in cells] or [("paragraph", most[0], paragraph)]
+            found += [("sentence", most[2], sentence) for sentence in sentences_of(paragraph) if not cells]
+        for kind, limit, words in found:
+            count = len(words.split())
+            expect(count <= limit, "%s: a %s of %d words, of at most %d: %s"
+                   % (document, kind, count, limit, " ".join(words.split())[:60]))
+    for number, line in enumerate(text_of("docs/SPEED.md").splitlines(), 1):
+        expect(len(line) <= 120, "docs/SPEED.md:%d: a line of over 120 columns" % number)
+
+
+def anchors_of(document):
+    """The names by which the headings of a document are linked."""
+    headings = re.findall(r"^#+ (.*)$", text_of(document), re.M)
+    return {re.sub(r"[^\w\- ]", "", heading).lower().replace(" ", "-") for heading in headings}
+
+
+def check_links():
+    for document in DOCUMENTS:
+        for target in re.findall(r"\]\(([^)\s]+)\)", text_of(document)):
+            path, _, anchor = target.partition("#")
+            path = os.path.normpath(os.path.join(os.path.dirname(document), path)) if path else document
+            there = os.path.exists(os.path.join(TOP, path))
+            expect(there, "%s: there is no %s" % (document, target))
+            expect(not there or not anchor or anchor in anchors_of(path), "%s: no heading is %s" % (document, target))
+
+
+def check_made():
+    """What tools make of the raw tables is as they make it."""
+    for words in (["draw_speed.py", "--check"], ["gate_minutes.py", "check"]):
+        run = subprocess.run([sys.executable, os.path.join(TOP, "tools", words[0])] + words[1:],
+                             stdout=subprocess.PIPE, stderr=subprocess.STDOUT, text=True)
+        faults.extend(run.stdout.splitlines() or (["%s failed" % words[0]] if run.returncode else []))
 
 
 def check_commands(program):
@@ -338,8 +381,10 @@ def main():
     check_paths()
     check_crate_paths()
     check_count()
-    check_sentences()
+    check_commits()
     check_lengths()
+    check_links()
+    check_made()
     check_commands(sys.argv[2] if sys.argv[1:2] == ["--run"] else None)
     for fault in faults:
         print(fault)
