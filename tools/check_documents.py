@@ -26,9 +26,10 @@ faults = []
 LIMITS = {
     "README.md": (160, 80, 45, 30),
     "CONTRIBUTING.md": (60, 80, 45, 30),
-    "docs/MAP.md": (None, 100, 25, 40),
-    "docs/DEFINITIONS.md": (None, 100, 45, 45),
-    "docs/PROVED.md": (None, 100, 40, 40),
+    "docs/MAP.md": (None, 100, 25, 30),
+    "docs/TOUR.md": (None, 100, 45, 30),
+    "docs/DEFINITIONS.md": (None, 100, 45, 35),
+    "docs/PROVED.md": (None, 100, 40, 30),
     "docs/DECISIONS.md": (None, 60, 45, 45),
     "docs/PROVING.md": (350, 80, 45, 45),
     "docs/SPEED.md": (250, 80, 45, 35),
