@@ -12,6 +12,7 @@ status is 1 where something differs.
 """
 import fnmatch
 import glob
+import json
 import os
 import re
 import subprocess
@@ -35,6 +36,7 @@ LIMITS = {
     "docs/SPEED.md": (250, 80, 45, 35),
 }
 OTHER_LIMITS = (None, 120, 45, 45)
+HOURS = ["no", "one", "two", "three", "four", "five", "six"]
 
 
 def text_of(path):
@@ -235,6 +237,10 @@ def check_count():
     definitions, lines = re.findall(r"\d+", counted)
     said = "{} definitions of {:,} lines".format(definitions, int(lines))
     expect(said in text_of("README.md"), "README.md: a reader believes %s" % said)
+    log = json.loads(text_of(os.path.relpath(sorted(glob.glob(TOP + "/bench/runs/*-gate/gate.json"))[-1], TOP)))
+    said = "about %s processor hours" % HOURS[round(log["processor"] / 3600)]
+    for document in "README.md", "CONTRIBUTING.md":
+        expect(said in text_of(document), "%s: the gate takes %s" % (document, said))
 
 
 def stored_runs():
@@ -297,9 +303,9 @@ def check_lengths():
             found += [("cell", most[1], cell) for cell in cells] or [("paragraph", most[0], paragraph)]
             found += [("sentence", most[2], sentence) for sentence in sentences_of(paragraph) if not cells]
         for kind, limit, words in found:
-            count = len(words.split())
-            expect(count <= limit, "%s: a %s of %d words, of at most %d: %s"
-                   % (document, kind, count, limit, " ".join(words.split())[:60]))
+            count, whole = len(words.split()), text_of(document)
+            number = whole[:whole.find(words.strip())].count("\n") + 1
+            expect(count <= limit, "%s:%d: a %s of %d words, of at most %d" % (document, number, kind, count, limit))
     for number, line in enumerate(text_of("docs/SPEED.md").splitlines(), 1):
         expect(len(line) <= 120, "docs/SPEED.md:%d: a line of over 120 columns" % number)
 
