@@ -7,8 +7,12 @@
 #       program could not take the words of the command line, no line at all
 #   0   as without the refusal, which the cache of operations passes over
 #   5   a read fault, 6 a write fault, where the shelf of files found no memory for itself
+# With several workers the calls of all threads are counted together. Which thread has the one of a number may differ
+# from run to run, so the columns may too; how a run may end does not.
+#
 # It takes the program of this repository, or the one that the first word names, and wants a C compiler: a small
-# library counts the calls of malloc and realloc, and refuses one of them.
+# library counts the calls of malloc and realloc, and refuses one of them. A run that does not end in a minute counts as
+# one that ended in another way.
 set -u
 top=$(dirname -- "$(dirname -- "$(readlink -f -- "$0")")")
 if [ $# -gt 0 ]; then
@@ -42,8 +46,8 @@ __attribute__((constructor)) static void begin(void) {
 
 // Says on descriptor 9 that a call was refused.
 static int refuses(void) {
-    calls++;
-    return calls == refused && write(9, "x", 1) >= 0;
+    unsigned long call = __atomic_add_fetch(&calls, 1, __ATOMIC_RELAXED);
+    return call == refused && write(9, "x", 1) >= 0;
 }
 
 void *malloc(size_t size) { return refuses() ? NULL : __libc_malloc(size); }
@@ -60,6 +64,7 @@ printf 'p cnf 2 1\n1 5 0\n' >bad
 printf 'vtree 7\nL 0 1\nL 2 2\nI 1 0 2\nL 4 3\nL 6 4\nI 5 4 6\nI 3 1 5\n' >tree
 printf 'vtree 3\nL 0 1\nL 2 2\nI 1 0 2\n' >two
 printf 'sdd 5\nL 0 0 -1\nL 1 2 2\nL 2 0 1\nT 3\nD 4 1 2 0 1 2 3\n' >part
+printf 'sdd 4\nL 0 0 1\nL 1 2 2\nT 2\nD 3 1 2 0 1 0 2\n' >broken
 printf 'aag 6 2 0 2 4\n2\n4\n7\n12\n6 9 11\n8 2 5\n10 3 4\n12 2 4\n' >adder
 : >s
 cp -- * "$work/ref" && cp -- * "$work/run" || exit 1
@@ -71,7 +76,8 @@ newline='
 run() {
     cd "$1" && rm -f ./out ./other ./shape && cp "$work/in/s" . || exit 1
     # shellcheck disable=SC2086
-    REFUSED=$2 LD_PRELOAD=$work/refuse.so "$program" $words >"$work/out" 2>"$work/err" 9>"$work/refused"
+    timeout 60 env REFUSED="$2" LD_PRELOAD="$work/refuse.so" "$program" $words \
+        >"$work/out" 2>"$work/err" 9>"$work/refused"
     ended=$?
     out=$(cat "$work/out" && echo .)
     err=$(cat "$work/err" && echo .)
@@ -174,9 +180,13 @@ refuse_each 'none, with `--minimise`' '--dnf pairs --minimise 3 --out-sdd out --
 refuse_each 'none, with `--every`' '--dnf pairs --every 1 --out-sdd out'
 refuse_each 'none, bad words' '--cnf bad --colour x'
 refuse_each 'none, in parts' '--dnf pairs --parts 2 --out-sdd out'
+refuse_each 'none, in parts, by two workers' '--dnf pairs --parts 2 --workers 2 --out-sdd out'
 refuse_each 'none, with `--portfolio`' '--dnf pairs --portfolio --out-sdd out --out-vtree shape'
+refuse_each 'none, with `--portfolio`, by three workers' \
+    '--dnf pairs --portfolio --workers 3 --out-sdd out --out-vtree shape'
 refuse_each 'none, a circuit' '--aag adder --out-sdd out'
 refuse_each 'none, a check' '--check part --vtree two'
+refuse_each 'none, a check of a broken file' '--check broken --vtree two'
 refuse_each '`output`' '--aag adder --script s' 'output a 0\noutput b 1\n'
 refuse_each '`input`' '--dnf pairs --script s' 'input f\n'
 refuse_each '`load`' '--cnf none --script s' 'load g part\n'
