@@ -30,7 +30,7 @@ use Rattle.sd_gates.specs.Sharing.{AreShared, wire_function, place_of}
 use Rattle.sd_gates.specs.Holding.{AddsRoots, HoldsMore, HoldsOneMore, IsHeldNode, AreHeldBelow, AreHeldNodes}
 use Rattle.sd_gates.specs.Holding.{DropsEntries}
 use Rattle.sd_gates.specs.declared.sharing.GateNodes.{GateNodes}
-use Rattle.sd_gates.specs.Making.{IsReady, IsDescent, StaysOrRises, blanks, current, work_left}
+use Rattle.sd_gates.specs.Making.{AreCurrent, IsDescent, StaysOrRises, blanks, current, work_left}
 use Rattle.sd_gates.proofs.Shared.{shared_beside}
 use Rattle.sd_gates.proofs.Descending.{current_most}
 
@@ -311,7 +311,7 @@ all_self t = all_extended t t (extends_self t)
 -- a table that is ready stays so where entries are dropped
 pub ready_dropped : (c : OrderedCircuit) (old new : GateNodes) (t : Table)
     → DropsEntries old.nodes.items new.nodes.items → length new.nodes.items ≡ length old.nodes.items
-    → new.epoch ≡ old.epoch → IsReady c old t → IsReady c new t
+    → new.epoch ≡ old.epoch → AreCurrent c old t → AreCurrent c new t
 ready_dropped c old new t drops size epoch ready = record {
   epoch = epoch ∙ ready.epoch;
   size = size ∙ ready.size;

@@ -19,7 +19,7 @@ use Rattle.sd_compile.specs.Compiling.{MaySweep}
 use Rattle.sd_compile.proofs.Joining.{answer_on}
 use Rattle.sd_gates.specs.declared.sharing.GateNodes.{GateNodes}
 use Rattle.sd_gates.specs.Sharing.{wire_function, place_of, node_at, AreShared, Shares}
-use Rattle.sd_gates.specs.Making.{IsReady, blanks, AddsNegations}
+use Rattle.sd_gates.specs.Making.{AreCurrent, blanks, AddsNegations}
 
 -- ---- places
 
@@ -116,8 +116,8 @@ shared_on c nodes old new kept shared g node p e =
     answer_on old new (wire_function c (Gate g p)) node kept (shared g node p e)
 
 -- the table is ready for each later table
-pub ready_on : (c : OrderedCircuit) (gates : GateNodes) (old new : Table) → Extends old new → IsReady c gates old
-    → IsReady c gates new
+pub ready_on : (c : OrderedCircuit) (gates : GateNodes) (old new : Table) → Extends old new → AreCurrent c gates old
+    → AreCurrent c gates new
 ready_on c gates old new kept ready = record {
   epoch = ready.epoch ∙ ap Some (sym kept.epoch);
   size = ready.size;
@@ -125,10 +125,10 @@ ready_on c gates old new kept ready = record {
 }
 
 -- and with one more node
-pub ready_put : (c : OrderedCircuit) (before after : GateNodes) (t : Table) (g n : ℕ) (p : Bool) → IsReady c before t
+pub ready_put : (c : OrderedCircuit) (before after : GateNodes) (t : Table) (g n : ℕ) (p : Bool) → AreCurrent c before t
     → g < length c.order → HasAnswer t (wire_function c (Gate g p)) n
     → after.nodes.items ≡ slice_set before.nodes.items (place_of g p) (Some n) → after.epoch ≡ before.epoch
-    → IsReady c after t
+    → AreCurrent c after t
 ready_put c before after t g n p ready h answer nodes epoch =
     let inside : place_of g p < length before.nodes.items = rw ready.size (place_inside g (length c.order) p h) in
     record {
@@ -139,7 +139,7 @@ ready_put c before after t g n p ready h answer nodes epoch =
     }
 
 -- what is ready is shared
-pub ready_shares : (c : OrderedCircuit) (gates : GateNodes) (t : Table) → IsReady c gates t → Shares c gates t
+pub ready_shares : (c : OrderedCircuit) (gates : GateNodes) (t : Table) → AreCurrent c gates t → Shares c gates t
 ready_shares c gates t ready = record {
   early = λ e h. go e (sym ready.epoch ∙ h);
   right = λ n h. ready.shared;

@@ -10,7 +10,7 @@ use Rattle.sd_gates.specs.declared.sharing.GateNodes.{GateNodes}
 use Rattle.sd_gates.specs.Sharing.{AreShared, node_at}
 
 -- the nodes are of the manager's epoch, with room for each gate
-pub record IsReady (c : OrderedCircuit) (gates : GateNodes) (t : Table) : Type 0 where
+pub record AreCurrent (c : OrderedCircuit) (gates : GateNodes) (t : Table) : Type 0 where
   pub epoch : gates.epoch ≡ Some t.epoch
   pub size : length gates.nodes.items ≡ 2 * length c.order
   pub shared : AreShared c gates.nodes.items t

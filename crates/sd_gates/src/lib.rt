@@ -12,4 +12,3 @@ mod tests;
 
 pub use output::output_node;
 pub use sharing::GateNodes;
-pub use sweeping::sweep_gates;

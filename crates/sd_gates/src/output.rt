@@ -18,7 +18,7 @@ ghost use Rattle.sd_compile.specs.Compiling.{KeepsAll};
 ghost use Rattle.sd_circuit.specs.Circuits.{OrderedCircuit, IsWireWithin, gate_values};
 ghost use Rattle.sd_circuit.specs.declared.wire.Wire.TheVariants.{Gate};
 ghost use Rattle.sd_gates.specs.Sharing.{Shares, wire_function, node_at};
-ghost use Rattle.sd_gates.specs.Making.{IsReady, IsKnown, AddsNegations, IsDescent, current, work_left, blanks};
+ghost use Rattle.sd_gates.specs.Making.{AreCurrent, IsKnown, AddsNegations, IsDescent, current, work_left, blanks};
 ghost use Rattle.sd_gates.specs.Making.{StaysOrRises};
 ghost use Rattle.sd_gates.specs.Holding.{DropsEntries};
 
@@ -43,10 +43,10 @@ struct Pace {
 }
 
 /// The node of an output, counted from 0. It is made from the gates that it needs and that have no node yet; their
-/// nodes are kept for the next output. Where more elements are in use than `most` behind a gate, it sweeps as
-/// `sweep_gates` does, and then `most` is a greater number: how many may be in use before the next sweep pays. What a
-/// sweep takes away, and what `most` becomes, is chosen for speed and stands in no clause. It refuses as
-/// `sd_apply::and`, and where a sweep finds no memory.
+/// nodes are kept for the next output. Where more elements are in use than `most` behind a gate, nodes are taken away
+/// that no root and no gate of an output from this one on needs. Then `most` is a greater number: how many may be in use
+/// before the next sweep pays. What a sweep takes away, and what `most` becomes, is chosen for speed and stands in no
+/// clause. It refuses as `sd_apply::and`, and where a sweep finds no memory.
 pub fn output_node(
     alloc: Global,
     m: &mut Manager,
@@ -106,13 +106,13 @@ fn make_wire(
     requires no_move { m.old.moving ≡ None }
     requires unmarked { AreUnmarked m.old }
     requires serves { Serves c.old m.old }
-    requires ready { IsReady circuit.now gates.old m.old }
+    requires ready { AreCurrent circuit.now gates.old m.old }
     requires room { len m.old.roots < 2 ^ 31 }
     requires within { IsWireWithin circuit.now (length circuit.now.order) wire }
     ensures ok { OnOk result (IsKnown gates.new.nodes.items wire) }
     ensures kept { KeepsAll m.old m.new }
     ensures never_falls { NeverFalls m.old m.new }
-    ensures ready { IsReady circuit.now gates.new m.new }
+    ensures ready { AreCurrent circuit.now gates.new m.new }
     ensures serves { Serves c.new m.new }
     ensures unmarked { AreUnmarked m.new }
     ensures rule { IfErr result (λ e. KeepsRule m.new e) }
@@ -145,13 +145,13 @@ fn make_gates(
     requires no_move { m.old.moving ≡ None }
     requires unmarked { AreUnmarked m.old }
     requires serves { Serves c.old m.old }
-    requires ready { IsReady circuit.now gates.old m.old }
+    requires ready { AreCurrent circuit.now gates.old m.old }
     requires room { len m.old.roots < 2 ^ 31 }
     requires top { top < length circuit.now.order }
     ensures ok { OnOk result (IsSome (node_at gates.new.nodes.items top true)) }
     ensures kept { KeepsAll m.old m.new }
     ensures never_falls { NeverFalls m.old m.new }
-    ensures ready { IsReady circuit.now gates.new m.new }
+    ensures ready { AreCurrent circuit.now gates.new m.new }
     ensures serves { Serves c.new m.new }
     ensures unmarked { AreUnmarked m.new }
     ensures rule { IfErr result (λ e. KeepsRule m.new e) }
@@ -184,14 +184,14 @@ fn sweep_if_full(
     requires no_move { m.old.moving ≡ None }
     requires unmarked { AreUnmarked m.old }
     requires serves { Serves c.now m.old }
-    requires ready { IsReady circuit.now gates.old m.old }
+    requires ready { AreCurrent circuit.now gates.old m.old }
     requires room { len m.old.roots < 2 ^ 31 }
     ensures next { OnOk result (StaysOrRises gates.old.nodes.items gates.new.nodes.items
         pace.old.most pace.new.most) }
     ensures fewer { DropsEntries gates.old.nodes.items gates.new.nodes.items }
     ensures kept { KeepsAll m.old m.new }
     ensures never_falls { NeverFalls m.old m.new }
-    ensures ready { IsReady circuit.now gates.new m.new }
+    ensures ready { AreCurrent circuit.now gates.new m.new }
     ensures serves { Serves c.now m.new }
     ensures unmarked { AreUnmarked m.new }
     ensures table { IsTable m.new }
@@ -225,7 +225,7 @@ fn step(
 ) -> Result<(), TakeError>
     requires variables { leaves (plain_tree m.old.vtree) ≡ length circuit.now.text.inputs }
     requires serves { Serves c.old m.old }
-    requires ready { IsReady circuit.now gates.old m.old }
+    requires ready { AreCurrent circuit.now gates.old m.old }
     requires top { top < length circuit.now.order }
     requires unknown { node_at gates.old.nodes.items top true ≡ None }
     requires descent { IsDescent gates.old.nodes.items top stack.old.items }
@@ -233,7 +233,7 @@ fn step(
     ensures less { OnOk result (work_left gates.new.nodes.items top stack.new.items
         < work_left gates.old.nodes.items top stack.old.items) }
     ensures kept { Extends m.old m.new }
-    ensures ready { IsReady circuit.now gates.new m.new }
+    ensures ready { AreCurrent circuit.now gates.new m.new }
     ensures serves { Serves c.new m.new }
     ensures rule { IfErr result (λ e. KeepsRule m.new e) }
     ensures table { IsTable m.new }
@@ -314,7 +314,7 @@ fn make_gate(
 ) -> Result<(), TakeError>
     requires variables { leaves (plain_tree m.old.vtree) ≡ length circuit.now.text.inputs }
     requires serves { Serves c.old m.old }
-    requires ready { IsReady circuit.now gates.old m.old }
+    requires ready { AreCurrent circuit.now gates.old m.old }
     requires gate { gate < length circuit.now.order }
     requires first { IsWireWithin circuit.now (length circuit.now.order) sides.0 }
     requires second { IsWireWithin circuit.now (length circuit.now.order) sides.1 }
@@ -328,7 +328,7 @@ fn make_gate(
         → node_at gates.new.nodes.items other true ≡ node_at gates.old.nodes.items other true) }
     ensures fewer { OnOk result (blanks gates.new.nodes.items < blanks gates.old.nodes.items) }
     ensures kept { Extends m.old m.new }
-    ensures ready { IsReady circuit.now gates.new m.new }
+    ensures ready { AreCurrent circuit.now gates.new m.new }
     ensures serves { Serves c.new m.new }
     ensures rule { IfErr result (λ e. KeepsRule m.new e) }
     ensures table { IsTable m.new }
@@ -351,13 +351,13 @@ fn wire_node(
 ) -> Result<NodeId, TakeError>
     requires variables { leaves (plain_tree m.old.vtree) ≡ length circuit.now.text.inputs }
     requires serves { Serves c.old m.old }
-    requires ready { IsReady circuit.now gates.old m.old }
+    requires ready { AreCurrent circuit.now gates.old m.old }
     requires within { IsWireWithin circuit.now (length circuit.now.order) wire }
     requires known { IsKnown gates.old.nodes.items wire }
     ensures ok { IfOk result (λ node. HasAnswer m.new (wire_function circuit.now wire) node) }
     ensures gates { AddsNegations gates.old.nodes.items gates.new.nodes.items }
     ensures kept { Extends m.old m.new }
-    ensures ready { IsReady circuit.now gates.new m.new }
+    ensures ready { AreCurrent circuit.now gates.new m.new }
     ensures serves { Serves c.new m.new }
     ensures rule { IfErr result (λ e. KeepsRule m.new e) }
     ensures table { IsTable m.new }
@@ -401,13 +401,13 @@ fn negated(
     gate: u32,
 ) -> Result<NodeId, TakeError>
     requires serves { Serves c.old m.old }
-    requires ready { IsReady circuit.now gates.old m.old }
+    requires ready { AreCurrent circuit.now gates.old m.old }
     requires gate { gate < length circuit.now.order }
     requires known { IsSome (node_at gates.old.nodes.items gate true) }
     ensures ok { IfOk result (λ node. HasAnswer m.new (wire_function circuit.now (Gate gate false)) node) }
     ensures gates { AddsNegations gates.old.nodes.items gates.new.nodes.items }
     ensures kept { Extends m.old m.new }
-    ensures ready { IsReady circuit.now gates.new m.new }
+    ensures ready { AreCurrent circuit.now gates.new m.new }
     ensures serves { Serves c.new m.new }
     ensures rule { IfErr result (λ e. KeepsRule m.new e) }
     ensures table { IsTable m.new }

@@ -6,7 +6,7 @@ ghost use Rattle.sd_manager.specs.Table.{Table};
 ghost use Rattle.sd_apply.specs.Serving.{last_epoch};
 ghost use Rattle.sd_circuit.specs.Circuits.{OrderedCircuit};
 ghost use Rattle.sd_gates.specs.Sharing.{Shares, node_at, place_of};
-ghost use Rattle.sd_gates.specs.Making.{IsReady};
+ghost use Rattle.sd_gates.specs.Making.{AreCurrent};
 ghost use Rattle.sd_gates.specs.Holding.{DropsEntries};
 
 use sd_circuit::Circuit;
@@ -49,7 +49,7 @@ impl GateNodes {
         circuit: &Circuit,
     ) -> Result<(), AllocError>
         requires shares { Shares circuit.now self.old m.now }
-        ensures ok { OnOk result (IsReady circuit.now self.new m.now) }
+        ensures ok { OnOk result (AreCurrent circuit.now self.new m.now) }
         ensures err { OnErr result (Shares circuit.now self.new m.now) }
     {
         let epoch = m.epoch();

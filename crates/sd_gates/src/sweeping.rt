@@ -14,8 +14,7 @@ ghost use Rattle.sd_apply.specs.Serving.{Serves};
 ghost use Rattle.sd_sweep.specs.Falling.{NeverFalls};
 ghost use Rattle.sd_compile.specs.Compiling.{KeepsAll};
 ghost use Rattle.sd_circuit.specs.Circuits.{IsWireWithin};
-ghost use Rattle.sd_gates.specs.Sharing.{Shares};
-ghost use Rattle.sd_gates.specs.Making.{IsReady};
+ghost use Rattle.sd_gates.specs.Making.{AreCurrent};
 ghost use Rattle.sd_gates.specs.Holding.{AddsRoots, HoldsMore, HoldsOneMore, AreHeldNodes, DropsEntries};
 
 use crate::sharing::GateNodes;
@@ -25,41 +24,10 @@ use sd_compile::sweep_past;
 use sd_manager::{Manager, NodeId, Root};
 use std::alloc::{AllocError, Global};
 
-/// Takes nodes away that no root and no loose run needs, but not those of gates that the outputs from `from` on are
-/// made of next. Then `most` is how many elements may be in use before the next sweep pays: twice what is left, and
-/// at least `sd_compile::LEAST_GARBAGE`. Which nodes are taken away, and what `most` becomes, is chosen for speed and
-/// stands in no clause. The only error: out of memory, and then nothing is swept.
-pub fn sweep_gates(
-    alloc: Global,
-    m: &mut Manager,
-    c: &mut Cache,
-    circuit: &Circuit,
-    gates: &mut GateNodes,
-    from: u32,
-    most: &mut u32,
-) -> Result<(), AllocError>
-    requires no_move { m.old.moving ≡ None }
-    requires unmarked { AreUnmarked m.old }
-    requires serves { Serves c.old m.old }
-    requires shares { Shares circuit.now gates.old m.old }
-    requires room { len m.old.roots < 2 ^ 31 }
-    ensures kept { KeepsAll m.old m.new }
-    ensures never_falls { NeverFalls m.old m.new }
-    ensures shares { Shares circuit.now gates.new m.new }
-    ensures serves { Serves c.new m.new }
-    ensures unmarked { AreUnmarked m.new }
-    ensures table { IsTable m.new }
-{
-    // its contract tells that the table is valid
-    let _ = m.vtree();
-    gates.ready(alloc, m, circuit)?;
-    let next = sweep_between(alloc, m, c, circuit, gates, from, circuit.outputs())?;
-    *most = next;
-    Ok(())
-}
-
-/// The same for the outputs from `from` on and before `to`. The answer is how many elements may be in use before the
-/// next sweep.
+/// Takes nodes away that no root and no loose run needs, but not those of gates that the outputs from `from` on and
+/// before `to` are made of next. The answer is how many elements may be in use before the next sweep pays: twice what
+/// is left, and at least `sd_compile::LEAST_GARBAGE`. Which nodes are taken away, and the answer, is chosen for speed
+/// and stands in no clause. The only error: out of memory, and then nothing is swept.
 pub(crate) fn sweep_between(
     alloc: Global,
     m: &mut Manager,
@@ -72,12 +40,12 @@ pub(crate) fn sweep_between(
     requires no_move { m.old.moving ≡ None }
     requires unmarked { AreUnmarked m.old }
     requires serves { Serves c.now m.old }
-    requires ready { IsReady circuit.now gates.old m.old }
+    requires ready { AreCurrent circuit.now gates.old m.old }
     requires room { len m.old.roots < 2 ^ 31 }
     ensures fewer { DropsEntries gates.old.nodes.items gates.new.nodes.items }
     ensures kept { KeepsAll m.old m.new }
     ensures never_falls { NeverFalls m.old m.new }
-    ensures ready { IsReady circuit.now gates.new m.new }
+    ensures ready { AreCurrent circuit.now gates.new m.new }
     ensures serves { Serves c.now m.new }
     ensures unmarked { AreUnmarked m.new }
     ensures table { IsTable m.new }
@@ -99,12 +67,12 @@ fn sweep_others(
     requires no_move { m.old.moving ≡ None }
     requires unmarked { AreUnmarked m.old }
     requires serves { Serves c.now m.old }
-    requires ready { IsReady circuit.now gates.old m.old }
+    requires ready { AreCurrent circuit.now gates.old m.old }
     requires room { len m.old.roots < 2 ^ 31 }
     ensures nodes { gates.new.nodes.items ≡ gates.old.nodes.items }
     ensures kept { KeepsAll m.old m.new }
     ensures never_falls { NeverFalls m.old m.new }
-    ensures ready { IsReady circuit.now gates.new m.new }
+    ensures ready { AreCurrent circuit.now gates.new m.new }
     ensures serves { Serves c.now m.new }
     ensures unmarked { AreUnmarked m.new }
     ensures table { IsTable m.new }

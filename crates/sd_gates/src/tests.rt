@@ -1,7 +1,6 @@
 // Outputs as nodes, with ample memory. The helpers have no contract, so a test has nothing to prove.
 use crate::output::output_node;
 use crate::sharing::GateNodes;
-use crate::sweeping::sweep_gates;
 use sd_aiger::read_aiger;
 use sd_cache::Cache;
 use sd_circuit::Circuit;
@@ -21,13 +20,12 @@ fn circuit(alloc: Global, text: &str) -> Option<Circuit> {
 }
 
 // The codes of the nodes of all outputs over the balanced tree, in an arena of so many elements, where each output may
-// sweep if more than `most` are in use; and how many are in use behind a sweep for the outputs from `from` on.
+// sweep if more than `most` are in use; and how many are in use behind the last one.
 fn made(
     alloc: Global,
     circuit: &Circuit,
     bound: u32,
     most: u32,
-    from: u32,
 ) -> Result<(Vec<u32>, u32), TakeError> {
     let mut codes = Vec::new(alloc);
     let inputs = circuit.inputs();
@@ -46,12 +44,10 @@ fn made(
         let node = output_node(alloc, &mut m, &mut c, circuit, &mut gates, index, &mut room)?;
         codes.push(node.0)?;
     }
-    let mut room = most;
-    sweep_gates(alloc, &mut m, &mut c, circuit, &mut gates, from, &mut room)?;
     Ok((codes, m.used()))
 }
 
-// Whether the outputs have nodes of these codes, and so many elements are in use behind the sweep.
+// Whether the outputs have nodes of these codes, and so many elements are in use behind them.
 fn are_made(made: Result<(Vec<u32>, u32), TakeError>, codes: &[u32], used: u32) -> bool {
     match made {
         Ok((those, left)) => those.as_slice() == codes && left == used,
@@ -69,7 +65,7 @@ fn constants_and_inputs(rt: HostRuntime) -> Result<(), Fail> {
         assert!(rt; false);
         return Ok(());
     };
-    let nodes = made(rt.alloc(), &plain, 0, 0, 0);
+    let nodes = made(rt.alloc(), &plain, 0, 0);
     assert!(rt; are_made(nodes, &[0, 1, 2, 5], 0));
     Ok(())
 }
@@ -77,7 +73,7 @@ fn constants_and_inputs(rt: HostRuntime) -> Result<(), Fail> {
 const BOTH: &str = "aag 3 2 0 4 1\n4\n2\n6\n7\n7\n6\n6 2 4\n";
 
 /// A conjunction and its negation have two elements each. Outputs that are repeated have the nodes that they had, also
-/// where a sweep comes behind a gate. A sweep for later outputs keeps both, and else it takes both away.
+/// where a sweep comes behind a gate.
 #[test]
 fn repeated_outputs_share_their_nodes(rt: HostRuntime) -> Result<(), Fail> {
     let Some(both) = circuit(rt.alloc(), BOTH) else {
@@ -85,8 +81,23 @@ fn repeated_outputs_share_their_nodes(rt: HostRuntime) -> Result<(), Fail> {
         return Ok(());
     };
     let codes = [2050, 2051, 2051, 2050];
-    assert!(rt; are_made(made(rt.alloc(), &both, 1000, 1000, 3), &codes, 4));
-    assert!(rt; are_made(made(rt.alloc(), &both, 1000, 0, 4), &codes, 0));
+    assert!(rt; are_made(made(rt.alloc(), &both, 1000, 1000), &codes, 4));
+    assert!(rt; are_made(made(rt.alloc(), &both, 1000, 0), &codes, 4));
+    Ok(())
+}
+
+const APART: &str = "aag 5 3 0 2 2\n2\n4\n6\n8\n10\n8 2 4\n10 2 6\n";
+
+/// Two conjunctions have two elements each. A sweep behind the gate of the second output takes the first one away.
+#[test]
+fn a_sweep_takes_what_no_later_output_needs(rt: HostRuntime) -> Result<(), Fail> {
+    let Some(apart) = circuit(rt.alloc(), APART) else {
+        assert!(rt; false);
+        return Ok(());
+    };
+    let codes = [2050, 2051];
+    assert!(rt; are_made(made(rt.alloc(), &apart, 1000, 1000), &codes, 4));
+    assert!(rt; are_made(made(rt.alloc(), &apart, 1000, 0), &codes, 2));
     Ok(())
 }
 
@@ -98,6 +109,6 @@ fn an_arena_is_full(rt: HostRuntime) -> Result<(), Fail> {
         return Ok(());
     };
     let full = Some(TakeError::ArenaFull { elements: 4 });
-    assert_eq!(rt; made(rt.alloc(), &both, 3, 0, 0).err(), full);
+    assert_eq!(rt; made(rt.alloc(), &both, 3, 0).err(), full);
     Ok(())
 }

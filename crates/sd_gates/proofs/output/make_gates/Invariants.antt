@@ -8,7 +8,7 @@ use Rattle.sd_manager.specs.Marking.{AreUnmarked}
 use Rattle.sd_apply.specs.Serving.{Serves}
 use Rattle.sd_sweep.specs.Falling.{NeverFalls}
 use Rattle.sd_compile.specs.Compiling.{KeepsAll}
-use Rattle.sd_gates.specs.Making.{IsReady, IsDescent}
+use Rattle.sd_gates.specs.Making.{AreCurrent, IsDescent}
 use Rattle.sd_gates.proofs.Holding.{steps_left}
 use Rattle.sd_gates.proofs.output.make_gates.Given as goal
 
@@ -20,7 +20,7 @@ invariant-making l = record {
   no_move : l.m.moving ≡ None;
   few : len l.m.roots < 2 ^ 31;
   unmarked : AreUnmarked l.m;
-  ready : IsReady l.circuit l.gates l.m;
+  ready : AreCurrent l.circuit l.gates l.m;
   serves : Serves l.c l.m;
   descent : IsDescent l.gates.nodes.items l.top l.stack.items;
   table : IsTable l.m;
