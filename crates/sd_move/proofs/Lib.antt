@@ -63,3 +63,4 @@ pub mod RotationWhole
 pub mod NeverFalling
 pub mod SettledKept
 pub mod OneSize
+pub mod Branching

@@ -25,7 +25,7 @@ use Rattle.sd_manager.proofs.Reading.{among_at, linked_key, detached_key, pairs_
 use Rattle.sd_manager.proofs.Holding.{some_value}
 use Rattle.sd_apply.specs.Growing.{GrowsStrictlyBelow}
 use Rattle.sd_apply.specs.Places.{IsBelow, IsNodeUnder}
-use Rattle.sd_apply.specs.Partitions.{IsPartitionOf, ExpandsAt, MultipliesAt}
+use Rattle.sd_apply.specs.Partitions.{IsPartitionOf, ExpandsAt}
 use Rattle.sd_apply.proofs.AtNode.{partition_of_on}
 use Rattle.sd_apply.proofs.Growing.{strictly_both}
 use Rattle.sd_apply.proofs.Listed.{node_on}
@@ -47,13 +47,6 @@ pub expanded_then : (m m1 m2 : Table) → Extends m m1 → (p b : ℕ) (l k : Li
 expanded_then m m1 m2 x p b l k d node h same =
     subst (λ q. IsPartitionOf m2 p q (meaning d)) (sym same) (h.each d (node_on m m1 x p b d node))
 
--- the product of both, as a slice
-pub product_of : (m2 m3 : Table) (p : ℕ) (one other l k : List (ℕ × ℕ)) (f g : List Bool → Bool) →
-    MultipliesAt m2 m3 And p one other l → IsPartitionOf m2 p one f → IsPartitionOf m2 p other g → k ≡ l →
-    IsPartitionOf m3 p k (λ a. combine And (f a) (g a))
-product_of m2 m3 p one other l k f g h hf hg same =
-    subst (λ q. IsPartitionOf m3 p q (λ a. combine And (f a) (g a))) (sym same) (h.whole f g hf hg)
-
 -- three steps one after the other
 pub extends_three : (a b c d : Table) → Extends a b → Extends b c → Extends c d → Extends a d
 extends_three a b c d x y z = extends_on a c d (extends_on a b c x y) z
@@ -70,7 +63,7 @@ bottom_below m p =
     record { diagram = Bottom; is = record { shows = refl; under = bottom_under m.vtree p } }
 
 -- a node keeps its key
-key_stays : (a b : Table) → IsTable b → Extends a b → (n : ℕ) (k : ℕ × List (ℕ × ℕ)) → key_at a n ≡ Some k →
+pub key_stays : (a b : Table) → IsTable b → Extends a b → (n : ℕ) (k : ℕ × List (ℕ × ℕ)) → key_at a n ≡ Some k →
     key_at b n ≡ Some k
 key_stays a b t e n k h = go (get a.linked n) refl
   where
@@ -125,11 +118,11 @@ drop_pair l i e at =
     at_drop_more (λ k. k) l i e (slice_get_within l i e at)
     ∙ ap (λ (y : ℕ × ℕ). y ∷ drop (i + 1) l) (get_or_from_slice_get l i e e at)
 
-or_assoc : (x y z : Bool) → ((x || y) || z) ≡ (x || (y || z))
+pub or_assoc : (x y z : Bool) → ((x || y) || z) ≡ (x || (y || z))
 or_assoc true y z = refl
 or_assoc false y z = refl
 
-or_false : (x : Bool) → x ≡ (x || false)
+pub or_false : (x : Bool) → x ≡ (x || false)
 or_false true = refl
 or_false false = refl
 
@@ -164,7 +157,7 @@ sum_more first now next p node sum more rest pair t s prime sub e g t' product =
         value_of_shown first.vtree (get first.linked) t.numbered c b.diagram
         (record { shows = b.is.shows; canonical = b.is.under.canonical }) a
 
-and_false : (x : Bool) → (x && false) ≡ false
+pub and_false : (x : Bool) → (x && false) ≡ false
 and_false true = refl
 and_false false = refl
 

@@ -1,6 +1,6 @@
 -- Nodes that wait in a move for another list, for the contracts of private functions: what rewriting them asks, and
 -- what it does to the table.
-use Rattle.std.specs.Prelude.{◌≡◌, ◌⊎◌, ℕ, ◌+◌, ◌≤◌, true, false, List, ◌++◌, map, length, Some, None}
+use Rattle.std.specs.Prelude.{◌≡◌, ◌⊎◌, ℕ, ◌+◌, ◌≤◌, false, List, ◌++◌, map, length, Some, None}
 use Rattle.std.specs.List.{AllByRecursion}
 use Rattle.std.specs.Option.{IsSome}
 use Rattle.std.specs.FinMap.{get}
@@ -9,10 +9,9 @@ use Rattle.sd_vtree.specs.Numbered.{Numbered, NumberedNode, plain_tree, subtree}
 use Rattle.sd_runs.specs.Arena.{IsMember, HasNoCopies}
 use Rattle.sd_laws.specs.Depends.{DependsOn}
 use Rattle.sd_laws.specs.Shown.{Lookup, Keeps}
-use Rattle.sd_laws.specs.Values.{Valuation, Takes, IsTwoSided, ShowsValue, KeepsValues}
-use Rattle.sd_laws.proofs.Evaluated.{value_of}
+use Rattle.sd_laws.specs.Values.{Valuation, IsTwoSided, ShowsValue, KeepsValues}
 use Rattle.sd_manager.specs.Table.{Table, key_at}
-use Rattle.sd_apply.specs.Places.{HasChildren, IsBelow}
+use Rattle.sd_apply.specs.Places.{IsBelow}
 use Rattle.sd_move.specs.Journal.{Named, IsOwnRun, starts_of}
 use Rattle.sd_move.specs.Moving.{Progress, IsNew, HasNumber, IsBelowNode, MoveInProgress}
 
@@ -24,21 +23,6 @@ pub record ShowsWithin (t : Numbered) (at : Lookup) (v : Valuation) (tree : Tree
 -- both codes of each pair show diagrams that stand at the vtree node or below it
 abbrev pub AreBelow : Table → ℕ → List (ℕ × ℕ) → Type 0
 AreBelow t place list = AllByRecursion (λ (e : ℕ × ℕ). IsBelow t place e.0 × IsBelow t place e.1) list
-
--- the code shows a diagram below the left child of the vtree node, and it is not false
-pub record IsPrimeAt (t : Table) (place c : ℕ) : Type 0 where
-  pub left : ℕ
-  pub right : ℕ
-  pub children : HasChildren t.vtree place left right
-  pub below : IsBelow t left c
-  pub possible : Takes (value_of (get t.linked)) c true
-
--- the primes of the list show diagrams below the left child of the vtree node
-pub record HasPrimesLeft (t : Table) (place : ℕ) (list : List (ℕ × ℕ)) : Type 0 where
-  pub left : ℕ
-  pub right : ℕ
-  pub children : HasChildren t.vtree place left right
-  pub primes : AllByRecursion (λ (e : ℕ × ℕ). IsBelow t left e.0) list
 
 -- A detached node waits at x for another list: it is none of the new ones, it looks at both children of x, and the
 -- codes of its list show what looks at the variables below x alone.

@@ -22,6 +22,7 @@
 
 mod beginning;
 mod bounding;
+mod branches;
 mod detaching;
 mod ending;
 mod error;

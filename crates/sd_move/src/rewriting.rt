@@ -6,16 +6,16 @@
 // rewritten one keeps its function, so that each answer stays right. The cache is not asked, since a put into it is
 // dear beside a step.
 //
-// Where the primes of a node stand below the left child of its place (`by_primes`), the elements of its subs are a list
-// prime by prime. Otherwise it is the disjunction of the products of primes and subs (`by_products`), each of which is
-// multiplied with what was made before: quadratic in the number of elements.
-ghost use Rattle.std.specs.Prelude.{◌≡◌, ◌∷◌, ℕ, ◌≤◌, Bool, List, [], map, Some, IfOk, OnOk, OnErr, IfErr};
+// After a rotation to the left the primes of a node are a partition of the inner left child, and the list has one prime
+// for each sub that is met (`branches.rt`). Otherwise it is the disjunction of the products of primes and subs
+// (`by_products`), each of which is multiplied with what was made before: quadratic in the number of elements.
+ghost use Rattle.std.specs.Prelude.{◌≡◌, ◌∷◌, ℕ, ◌≤◌, Bool, List, [], map, Some, IfOk, IfSome, OnOk, OnErr, IfErr};
 ghost use Rattle.sd_model.specs.Tree.{AreDistinct};
 ghost use Rattle.sd_model.specs.Diagram.{Diagram, meaning};
 ghost use Rattle.sd_model.specs.Expression.{combine};
 ghost use Rattle.sd_model.specs.declared.trees.Operation.TheVariants.{And, Or};
 ghost use Rattle.std.specs.FinMap.{get};
-ghost use Rattle.sd_laws.specs.Values.{Valuation, pairs_value, chosen, IsWhole};
+ghost use Rattle.sd_laws.specs.Values.{Valuation, pairs_value, IsWhole};
 ghost use Rattle.sd_laws.proofs.Evaluated.{value_of};
 ghost use Rattle.sd_manager.specs.Table.{Table};
 ghost use Rattle.sd_manager.specs.Shown.{HasNode};
@@ -23,14 +23,16 @@ ghost use Rattle.sd_manager.specs.Valid.{IsTable};
 ghost use Rattle.sd_manager.specs.Views.{pairs_at};
 ghost use Rattle.sd_manager.specs.Making.{Extends, KeepsRule};
 ghost use Rattle.sd_apply.specs.Growing.{GrowsStrictlyBelow};
-ghost use Rattle.sd_apply.specs.Partitions.{IsInnerNode, IsPartitionOf, AreElementsOf};
+ghost use Rattle.sd_apply.specs.Partitions.{IsInnerNode, IsPartitionOf};
 ghost use Rattle.sd_apply.specs.Places.{IsBelow, IsNodeUnder};
 ghost use Rattle.sd_apply.specs.Recent.{Knows};
 ghost use Rattle.sd_apply.specs.Serving.{Serves};
+ghost use Rattle.sd_move.specs.Branches.{IsCornerOf};
 ghost use Rattle.sd_move.specs.Moving.{Progress};
 ghost use Rattle.sd_move.specs.Rewriting.{AreBelow, CanRewriteAll, MayRewriteAll, AreRewritten};
-ghost use Rattle.sd_move.specs.Rewriting.{HasRewritten, GoesOn, IsPrimeAt, HasPrimesLeft};
+ghost use Rattle.sd_move.specs.Rewriting.{HasRewritten, GoesOn};
 
+use crate::branches::{Corner, by_branches, product_at};
 use crate::journal::Entry;
 use crate::sorting::{Side, are_below};
 use sd_apply::{Pairs, Recent, expand_at, merge_at, multiply_at};
@@ -39,7 +41,6 @@ use sd_manager::{Manager, NodeId, View};
 use sd_model::Operation;
 use sd_runs::TakeError;
 use sd_vtree::VNode;
-use smallvec::SmallVec;
 use std::alloc::Global;
 
 // A partition of a vtree node, with the conjunction of two nodes below it joined to its value.
@@ -67,10 +68,7 @@ fn with_product(
     ensures rule { IfErr result (λ e. KeepsRule m.new e) }
     ensures table { IsTable m.new }
 {
-    let first = expand_at(alloc, m, recent, place, prime)?;
-    let second = expand_at(alloc, m, recent, place, sub)?;
-    let (one, other) = (first.as_slice(), second.as_slice());
-    let product = multiply_at(alloc, m, recent, Operation::And, place, one, other)?;
+    let product = product_at(alloc, m, recent, place, prime, sub)?;
     multiply_at(
         alloc,
         m,
@@ -120,80 +118,8 @@ fn by_products(
     Ok(sum)
 }
 
-// The elements of a node below a vtree node, there, each in conjunction with a prime below the left child: where that
-// prime is true one of them is, and has the node's value. It refuses as `and`.
-fn with_prime(
-    alloc: Global,
-    m: &mut Manager,
-    recent: &mut Recent,
-    place: VNode,
-    prime: NodeId,
-    sub: NodeId,
-) -> Result<Pairs, TakeError>
-    requires prime { IsPrimeAt m.old place prime }
-    requires sub { IsBelow m.old place sub }
-    requires knows { Knows recent.old m.old }
-    requires table { IsTable m.old }
-    ensures ok { IfOk result (λ r. AreElementsOf m.new place r.items
-        (chosen (value_of (get m.old.linked)) ((prime, sub) ∷ []))) }
-    ensures kept { Extends m.old m.new }
-    ensures grown { GrowsStrictlyBelow m.old m.new place }
-    ensures knows { Knows recent.new m.new }
-    ensures rule { IfErr result (λ e. KeepsRule m.new e) }
-    ensures table { IsTable m.new }
-{
-    let list = expand_at(alloc, m, recent, place, sub)?;
-    let one = [(prime, NodeId(1))];
-    multiply_at(
-        alloc,
-        m,
-        recent,
-        Operation::And,
-        place,
-        &one,
-        list.as_slice(),
-    )
-}
-
-// The same partition where the node's primes stand below the left child: each of them with its sub's elements. No lists
-// are multiplied, and none of these primes is negated.
-fn by_primes(
-    alloc: Global,
-    m: &mut Manager,
-    recent: &mut Recent,
-    place: VNode,
-    node: NodeId,
-) -> Result<Pairs, TakeError>
-    requires primes { HasPrimesLeft m.old place (pairs_at m.old node) }
-    requires whole { IsWhole (value_of (get m.old.linked)) (pairs_at m.old node) }
-    requires node { HasNode m.old node }
-    requires code { 2050 ≤ node }
-    requires codes { AreBelow m.old place (pairs_at m.old node) }
-    requires knows { Knows recent.old m.old }
-    requires table { IsTable m.old }
-    ensures ok { IfOk result (λ r. IsPartitionOf m.new place r.items
-        (pairs_value (value_of (get m.old.linked)) (pairs_at m.old node))) }
-    ensures kept { Extends m.old m.new }
-    ensures grown { GrowsStrictlyBelow m.old m.new place }
-    ensures knows { Knows recent.new m.new }
-    ensures rule { IfErr result (λ e. KeepsRule m.new e) }
-    ensures table { IsTable m.new }
-{
-    let View::Decomposition { count, .. } = m.view(node) else {
-        unreachable!()
-    };
-    let mut all = SmallVec::new(alloc);
-    for index in 0..count {
-        let (prime, sub) = m.element(node, index);
-        let part = with_prime(alloc, m, recent, place, prime, sub)?;
-        let Ok(()) = all.extend_from_slice(part.as_slice()) else {
-            return Err(TakeError::OutOfMemory);
-        };
-    }
-    Ok(all)
-}
-
-// The same partition in the way that fits. After a rotation to the left all primes stand below the left child.
+// The same partition in the way that fits. After a rotation to the left all primes stand below the left child of the
+// left child.
 fn partition_at(
     alloc: Global,
     m: &mut Manager,
@@ -216,13 +142,42 @@ fn partition_at(
     ensures rule { IfErr result (λ e. KeepsRule m.new e) }
     ensures table { IsTable m.new }
 {
-    let Some(children) = m.vtree().children(place) else {
+    let Some(corner) = corner_of(m, place, node) else {
+        return by_products(alloc, m, recent, place, node);
+    };
+    match by_branches(alloc, m, recent, &corner, node)? {
+        Some(list) => Ok(list),
+        None => by_products(alloc, m, recent, place, node),
+    }
+}
+
+// A vtree node whose left child has children, where the primes of a node stand below the left one of these.
+fn corner_of(m: &Manager, place: VNode, node: NodeId) -> Option<Corner>
+    requires place { IsInnerNode m.now.vtree place }
+    requires node { HasNode m.now node }
+    requires code { 2050 ≤ node }
+    requires codes { AreBelow m.now place (pairs_at m.now node) }
+    requires whole { IsWhole (value_of (get m.now.linked)) (pairs_at m.now node) }
+    requires table { IsTable m.now }
+    ensures { IfSome result (λ c. IsCornerOf m.now place (pairs_at m.now node) c) }
+{
+    let vtree = m.vtree();
+    let Some(children) = vtree.children(place) else {
         unreachable!()
     };
-    if are_below(m, place, node.0 - 2050, Side::Left, children.0) {
-        return by_primes(alloc, m, recent, place, node);
+    let Some(inner) = vtree.children(children.0) else {
+        return None;
+    };
+    if are_below(m, place, node.0 - 2050, Side::Left, inner.0) {
+        return Some(Corner {
+            upper: place,
+            lower: children.0,
+            left: inner.0,
+            middle: inner.1,
+            right: children.1,
+        });
     }
-    by_products(alloc, m, recent, place, node)
+    None
 }
 
 // The list that a node has at a vtree node at which or below which its elements stand: a partition there with its

@@ -66,8 +66,8 @@ fn place_of(m: &Manager, node: NodeId) -> VNode
     place
 }
 
-// Whether a node stands below a vtree node, where both stand below another one.
-fn is_below(m: &Manager, at: VNode, node: NodeId, child: VNode) -> bool
+/// Whether a node stands below a vtree node, where both stand below another one.
+pub(crate) fn is_below(m: &Manager, at: VNode, node: NodeId, child: VNode) -> bool
     requires at { IsThere m.now.vtree at }
     requires node { IsBelow m.now at node }
     requires under { IsUnder m.now.vtree child at }
