@@ -6,15 +6,8 @@
 // what else is in the table, so that the answer follows from the formula and the vtree alone. While all lists in use
 // together are within the limit, no size has to be counted (`limited.rt`).
 //
-// `add_group` sweeps behind each answer. `compile`, which adds all groups, and `add_group_past` sweep only where the
-// elements in use pass twice what the last sweep left, and at least `LEAST_GARBAGE`: a sweep that takes a node away
-// raises the epoch, and the kept answers are lost. Where each left child of the vtree is a leaf no group but an
-// exclusive one asks for them, and they sweep where a quarter more is in use, and at least 4,096 elements more, or, of
-// a large diagram, three fifths more to three times as many (`room_over`). `compile` also sweeps where a quarter more
-// is in use, and at least 8,192 elements more, where the groups are such that hardly one asks. Where each left child is
-// a leaf it leaves a large diagram unswept while no more is in use than the limit and there is room from an earlier
-// sweep, and toward the end of the formula it mostly sweeps it less often. Behind the last group it sweeps only if that
-// is refused (`pace.rt`).
+// `add_group` sweeps behind each answer. `compile`, which adds all groups, and `add_group_past` sweep only where that
+// pays (`pace.rt`). Behind the last group `compile` sweeps only if that is refused.
 ghost use Rattle.std.specs.Prelude.{◌≡◌, ◌↔◌, ℕ, ◌+◌, ◌-◌, ◌^◌, ◌<◌, ◌≤◌, None, IfOk, IfErr, OnOk, OnErr, IsTrue};
 ghost use Rattle.std.specs.Prelude.{length};
 ghost use Rattle.std.specs.Option.{IsSome};
@@ -39,7 +32,7 @@ use crate::error::{CompileError, compile_error};
 use crate::groups::group_node;
 use crate::limited::{sweep_kept, sweep_past, try_hold};
 use crate::one_pass::{is_right_linear, join_literals, suits_one_pass};
-use crate::pace::{pace_of, sweep_between};
+use crate::pace::{pace_over, sweep_between};
 use sd_cache::Cache;
 use sd_formula::Formula;
 use sd_manager::{Manager, NodeId, Root};
@@ -300,13 +293,15 @@ fn add_groups(
 {
     // its contract tells that the table is valid
     let _ = m.vtree();
-    let mut pace = pace_of(m, f);
+    let mut pace = pace_over(m);
+    let groups = f.groups();
     'left: while is_left(f, work) {
         if let Err(error) = join_next(alloc, m, c, f, work, limit) {
             sweep_kept(m, c);
             return Err(error);
         }
-        sweep_between(m, c, &mut pace, limit);
+        let is_last = work.groups as usize == groups;
+        sweep_between(m, c, &mut pace, is_last, limit);
     }
     Ok(())
 }

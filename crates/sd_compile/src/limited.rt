@@ -6,9 +6,8 @@
 // never.
 //
 // No contract of a run says when it is swept: garbage stays only within a number and the limit (`sweep_past`), and the
-// number is chosen for speed. A sweep costs what died since the last one, but it raises the
-// epoch, and with it goes what the cache knows: where groups use kept answers, rare sweeps pay (`room_over`). Where
-// they don't, what just died of a small diagram is still near, and its records are taken again.
+// number is chosen for speed (`pace.rt`). A sweep costs what died since the last one, but it raises the epoch, and with
+// it goes what the cache knows.
 ghost use Rattle.std.specs.Prelude.{◌≡◌, ℕ, ◌<◌, ◌≤◌, ◌-◌, ◌^◌, List, None, IfSome, IfNone, IfOk, IfErr, OnOk, OnErr};
 ghost use Rattle.std.specs.Option.{IsSome};
 ghost use Rattle.std.specs.FinMap.{get, len};
@@ -28,42 +27,10 @@ ghost use Rattle.sd_compile.specs.Total.{HasTotalWith, IsTotal, IsTotalWithin, I
 ghost use Rattle.sd_compile.specs.Compiling.{MaySweep, IsSweptPast, KeepsAll, IsHoldRefused};
 
 use crate::error::HoldError;
+use crate::pace::room_over;
 use sd_cache::Cache;
 use sd_manager::{Manager, NodeId, Root};
 use sd_sweep::{size, sweep};
-
-/// The least number of elements in use that a sweep between groups or commands is for, where they use kept answers.
-pub const LEAST_GARBAGE: u32 = 262_144;
-
-// So many elements may come between two sweeps on any diagram where these are often: what is made and dropped there
-// is still near.
-const LEAST_ROOM: u32 = 4_096;
-
-// From so many elements on, the nodes fill the cache that a processor has for itself.
-pub(crate) const LARGE: u32 = 40_000;
-
-// So many elements, garbage included, may be in use in any case before a large diagram is swept, where that is at most
-// three times what the last sweep left.
-const ROOM_OF_LARGE: u32 = 550_000;
-
-// How many elements may be in use before the next sweep, where so many are now. A sweep that takes a node away raises
-// the epoch, and what the cache keeps and lends is lost: twice as many, so that what is swept pays for the sweep, and a
-// small diagram is left alone. `often`, where hardly a group uses kept answers, a quarter more: what just died is near,
-// and rarer sweeps are paid for with new pages. What died of a large diagram is not near, and the more of it stands
-// together the fewer lines of the cache a sweep reads for each node: there three fifths more, and up to three times as
-// many where that takes little memory.
-pub(crate) fn room_over(used: u32, often: bool) -> u32
-    ensures { used ≤ result }
-{
-    if !often {
-        return used.saturating_mul(2).max(LEAST_GARBAGE);
-    }
-    if used < LARGE {
-        return used.saturating_add((used / 4).max(LEAST_ROOM));
-    }
-    let more = used.saturating_add((used / 5).saturating_mul(3));
-    more.max(used.saturating_mul(3).min(ROOM_OF_LARGE))
-}
 
 // Takes away what no root and no loose run needs. The cache still serves.
 pub(crate) fn sweep_kept(m: &mut Manager, c: &Cache)
