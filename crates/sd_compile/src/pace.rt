@@ -31,7 +31,7 @@ pub(crate) struct Pace {
     often: bool,
     // there are many variables
     spread: bool,
-    // how many elements the last sweep left (0 before the first one: all may be garbage), and how many groups came since
+    // how many elements the last sweep left (before the first one 0: all may be garbage), and the groups joined since
     left: u32,
     groups: u32,
 }
