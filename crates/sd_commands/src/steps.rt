@@ -1,5 +1,5 @@
 //! What each command does.
-ghost use Rattle.std.specs.Prelude.{◌≡◌, ◌<◌, ◌≤◌, ◌+◌, ◌^◌, length, IfOk, IfErr, OnErr};
+ghost use Rattle.std.specs.Prelude.{◌≡◌, ℕ, ◌<◌, ◌≤◌, ◌+◌, ◌-◌, ◌^◌, length, IfOk, IfErr, OnErr};
 ghost use Rattle.sd_model.specs.Tree.{leaves};
 ghost use Rattle.sd_vtree.specs.Numbered.{plain_tree};
 ghost use Rattle.sd_commands.specs.Commands.{State};
@@ -28,7 +28,8 @@ use std::alloc::{AllocError, Global};
 /// a group of the input; ArenaFull where the elements of a node find no room in the arena; and OutOfMemory where memory
 /// runs out. Then the names, the tree, the limit and what each root holds are as before; but a search leaves the vtree
 /// after the walks that were finished, where each root holds what it held, and so do those behind groups of the input.
-/// What workers do, an input by parts or a choice, is no command of it.
+/// What workers do, an input by parts or a choice, is no command of it. An output asks for fewer roots than the others:
+/// for a while it holds up to two nodes of each gate.
 pub fn step(
     alloc: Global,
     input: &Formula,
@@ -38,7 +39,9 @@ pub fn step(
     requires represents { (seen : State) × Represents state.old seen
         × Fits input.now.variables (length seen.circuit.outputs) (names_of seen) command.now }
     requires variables { leaves (plain_tree state.old.manager.vtree) ≡ input.now.variables }
-    requires room { root_count state.old < 2 ^ 31 }
+    requires room { root_count state.old < 2 ^ 32 - 1 }
+    requires output_room { (name index : ℕ) → command.now ≡ RunCommand.Output name index
+        → root_count state.old < 2 ^ 31 }
     ensures done { (seen : State) → Represents state.old seen →
         IfOk result
         (λ effect. StepsTo input.now seen command.now state.new effect) }

@@ -125,6 +125,10 @@ bind_output-requires-clause-index c =
     output_there c.args.state.now c.requires.represents.0 _ _ _ _ c.requires.represents.1 c.requires.represents.2
     c.in-Output.is
 
+-- it has fewer roots than an output asks for
+pub bind_output-requires-clause-room : goal.bind_output-requires-clause-room
+bind_output-requires-clause-room c = c.requires.output_room _ _ c.in-Output.is
+
 -- ---- what each command comes to
 
 pub returns-in-Input-clause-done : goal.returns-in-Input-clause-done

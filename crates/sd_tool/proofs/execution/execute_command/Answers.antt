@@ -2,6 +2,9 @@ use Rattle.sd_tool.proofs.AskLemmas.{asks_none}
 use Rattle.sd_tool.proofs.OpeningLemmas.{step_stops, step_done, step_fails}
 use Rattle.sd_tool.proofs.execution.execute_command.Goals as goal
 
+pub step-requires-clause-output_room : goal.step-requires-clause-output_room
+step-requires-clause-output_room g c = λ name index is. c.requires.room
+
 pub returns-in-Ok-write_effect_if_any-clause-goes : goal.returns-in-Ok-write_effect_if_any-clause-goes
 returns-in-Ok-write_effect_if_any-clause-goes g c = λ seen was.
     step_done c.args.formula.now c.args.command.now c.step.new.state seen c.in-Ok.effect _ _
