@@ -1,7 +1,9 @@
-//! Tests by calls of parts and starts in workers: that they are in work at once, each at its own gate, and that one,
-//! two and three workers come to one answer.
+//! Tests by calls of parts and starts in workers: that they are in work at once, each at its own gate, and that several
+//! workers come to the answer of one, within small bounds and limits too.
 #![tactic(auto)]
 
+#[cfg(test)]
+mod bounds;
 #[cfg(test)]
 mod gates;
 #[cfg(test)]

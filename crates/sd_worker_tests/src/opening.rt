@@ -9,7 +9,7 @@ use std::test::Fail;
 use std::thread::Threads;
 
 // The formula of a short text.
-fn formula(alloc: Global, kind: Kind, text: &str) -> Result<Formula, Fail> {
+pub(crate) fn formula(alloc: Global, kind: Kind, text: &str) -> Result<Formula, Fail> {
     let bytes = text.as_bytes();
     if bytes.len() > 1000 {
         return Ok(read_dimacs(alloc, b"", kind)?);
@@ -66,7 +66,7 @@ fn by_workers<R: Threads + Sync>(
     ])
 }
 
-const DISJOINT: &str = "p dnf 4 2\n1 2 0\n3 4 0\n";
+pub(crate) const DISJOINT: &str = "p dnf 4 2\n1 2 0\n3 4 0\n";
 
 /// `(1 and 2) or (3 and 4)` has the size 8 on the balanced vtree, whatever the parts and the workers.
 #[test]
@@ -139,7 +139,7 @@ fn size_on_the_right<R: Threads + Sync>(
     }
 }
 
-const CROSSED: &str = "p dnf 4 2\n1 3 0\n2 4 0\n";
+pub(crate) const CROSSED: &str = "p dnf 4 2\n1 3 0\n2 4 0\n";
 
 /// Over the balanced, right and left tree the size is 14, 8 and 19, so a run goes on over the right one, whatever the
 /// workers. Within 7 each passes the limit, and the balanced one tells it.
