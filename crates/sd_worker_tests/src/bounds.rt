@@ -1,5 +1,5 @@
-// A formula in parts within arenas of each small bound, and the choice of a start within each small limit, by one worker
-// and by sixteen.
+// A formula in parts within arenas of each small bound, and the choice of a start within each small limit, by one
+// worker and by sixteen.
 use crate::opening::{CROSSED, DISJOINT, formula};
 use sd_cache::Cache;
 use sd_compile::CompileError;
