@@ -4,7 +4,7 @@ ghost use Rattle.std.specs.Prelude.{◌≡◌, ◌≢◌, ◌↔◌, ◌⊎◌, 
 ghost use Rattle.std.specs.Prelude.{Some, None, IfOk, IfErr, IfSome, IfNone, OnOk, OnErr, IsTrue, slice_get, cond};
 ghost use Rattle.std.specs.Option.{IsSome};
 ghost use Rattle.std.specs.List.Sorted.{IsPermutation};
-ghost use Rattle.std.specs.FinMap.{get, len};
+ghost use Rattle.std.specs.FinMap.{contains_key, get, len};
 ghost use Rattle.sd_model.specs.Tree.{leaves, AreDistinct};
 ghost use Rattle.sd_model.specs.Assignment.{literal_holds};
 ghost use Rattle.sd_model.specs.Diagram.{Diagram, Elements, Decomposition, meaning};
@@ -427,6 +427,16 @@ impl Manager {
         ensures table { IsTable self.now }
     {
         self.nodes.mark(number)
+    }
+
+    /// Whether a number, which may be any, is that of a linked node, in constant time. The node has the code of the number
+    /// and 2,050.
+    pub fn is_linked(&self, number: u32) -> bool
+        ensures linked { result ≡ contains_key self.now.linked number }
+        ensures table { IsTable self.now }
+    {
+        let _ = &self.epoch;
+        number < self.nodes.records() && self.nodes.is_linked(number)
     }
 
     /// Gives a node a mark, linked or detached, by its number. Nothing else changes.
