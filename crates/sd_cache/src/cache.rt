@@ -1,8 +1,8 @@
 // The cache: a map of bounded size whose entries are in the order of their last use, and a table for the steps of
 // operations, which it lends to one after another.
-ghost use Rattle.std.specs.Prelude.{◌≡◌, ◌^◌, ◌<◌, ◌≤◌, [], length, IfOk, IfSome, IsOk, IsSome, OnErr, OnOk};
+ghost use Rattle.std.specs.Prelude.{◌≡◌, ◌^◌, ◌<◌, ◌≤◌, [], length, IfOk, IfSome, IsOk, IsSome, OnErr, OnOk, slice_set};
 ghost use Rattle.std.specs.Map.{lookup};
-ghost use Rattle.sd_cache.specs.Entries.{IsCache, all_lent, answers_of, call, is_call, kept, looked, no_answers};
+ghost use Rattle.sd_cache.specs.Entries.{IsCache, all_lent, answers_of, blank, call, is_call, kept, looked, no_answers};
 
 use crate::call::Call;
 use crate::computed::ComputedTable;
@@ -117,6 +117,36 @@ impl Cache {
         ensures { self.new ≡ answers_of self.old.entries table epoch }
     {
         self.computed = table;
+        self.epoch = epoch;
+    }
+
+    /// The epoch of the computed answers.
+    pub fn epoch(&self) -> u64
+        ensures { result ≡ self.now.epoch }
+    {
+        self.epoch
+    }
+
+    /// The table of the computed answers, where it is not lent.
+    pub fn computed(&self) -> &ComputedTable
+        ensures { result.now ≡ self.now.computed }
+    {
+        &self.computed
+    }
+
+    /// Drops the computed answer of an entry.
+    pub fn blank(&mut self, index: usize)
+        requires { index < length self.old.computed }
+        ensures { self.new ≡ answers_of self.old.entries (slice_set self.old.computed index blank)
+            self.old.epoch }
+    {
+        self.computed.blank(index);
+    }
+
+    /// Calls the computed answers those of another epoch.
+    pub fn renew(&mut self, epoch: u64)
+        ensures { self.new ≡ answers_of self.old.entries self.old.computed epoch }
+    {
         self.epoch = epoch;
     }
 

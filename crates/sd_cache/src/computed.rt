@@ -20,7 +20,8 @@
 // and at its negation do where they fall on one entry, each level repeats the work of the one below
 // it and the time is exponential in the depth. No contract sees this: whoever changes the hash, the
 // size at first or the growth runs the test `deepest_level` of `sd_apply`, which goes down 1,024 levels.
-ghost use Rattle.std.specs.Prelude.{◌≡◌, ◌<◌, ◌≤◌, ◌∷◌, [], length, Contains, IfOk, IfSome};
+ghost use Rattle.std.specs.Prelude.{◌≡◌, ◌<◌, ◌≤◌, ◌∷◌, [], length, Contains, IfOk, IfSome, Some, slice_get, slice_set};
+ghost use Rattle.std.specs.Option.{option_map};
 ghost use Rattle.sd_cache.specs.Entries.{AreAmong, Entries, blank, call};
 
 use std::alloc::{AllocError, Global};
@@ -175,6 +176,32 @@ impl ComputedTable {
             answer,
         };
         self.kept = self.kept.saturating_add(1);
+    }
+
+    /// How many entries there are, those of no answer too.
+    pub fn len(&self) -> usize
+        ensures { result ≡ length self.now }
+    {
+        self.entries.len()
+    }
+
+    /// The two numbers of an entry, and its answer.
+    pub fn numbers(&self, index: usize) -> (u32, u32, u32)
+        requires { index < length self.now }
+        ensures first { option_map (λ e. e.0.a) (slice_get self.now index) ≡ Some result.0 }
+        ensures second { option_map (λ e. e.0.b) (slice_get self.now index) ≡ Some result.1 }
+        ensures answer { option_map (λ e. e.1) (slice_get self.now index) ≡ Some result.2 }
+    {
+        let entry = self.entries[index];
+        (entry.a, entry.b, entry.answer)
+    }
+
+    /// Drops the answer of an entry.
+    pub(crate) fn blank(&mut self, index: usize)
+        requires { index < length self.old }
+        ensures { self.new ≡ slice_set self.old index blank }
+    {
+        self.entries[index] = Entry::blank();
     }
 
     // Makes room for four times as many answers, or for the first ones, where memory is not refused.
