@@ -1,6 +1,7 @@
 -- A walk that marks under one node, step by step.
 use Rattle.std.proofs.Common.{◌≡◌, ℕ, ◌+◌, ◌-◌, ◌^◌, ◌≤◌, ◌<◌, List, [], ◌∷◌, ◌++◌, length}
-use Rattle.std.proofs.Common.{Bool, true, false, ℤ, Some, slice_get, refl, sym, ap, subst, ◌∙◌, arith}
+use Rattle.std.proofs.Common.{inl, inr, Bool, true, false, ltb, IsTrue, Some, slice_get, refl, sym, ap, subst, ◌∙◌, arith}
+use Rattle.std.proofs.lemmas.Bool.{ltb-true, ltb-false}
 use Rattle.std.specs.Option.{IsSome}
 use Rattle.std.specs.FinMap.{get}
 use Rattle.sd_model.specs.Diagram.{Diagram, Bottom, Top, Literal, Decomposition, Elements}
@@ -8,13 +9,12 @@ use Rattle.sd_model.specs.Size.{walk, walk_elements}
 use Rattle.sd_laws.specs.Depth.{depth}
 use Rattle.sd_laws.proofs.Codes.{one_diagram, literal_range}
 use Rattle.sd_laws.proofs.Lists.{IsAmong, IsWithin}
-use Rattle.sd_manager.specs.Table.{Table}
-use Rattle.sd_manager.specs.Shown.{Shows, ShowsCanonical, constant_diagram}
+use Rattle.sd_manager.specs.Table.{Table, key_at}
+use Rattle.sd_manager.specs.Shown.{Shows, ShowsCanonical, HasNode}
 use Rattle.sd_manager.specs.Valid.{IsTable}
-use Rattle.sd_manager.specs.Views.{pairs_at, IsViewOf}
+use Rattle.sd_manager.specs.Views.{pairs_at}
 use Rattle.sd_manager.specs.Marking.{with_mark, AreUnmarked}
-use Rattle.sd_manager.specs.declared.view.View.TheVariants.{Constant as ConstantView, Literal as LiteralView}
-use Rattle.sd_manager.proofs.Reading.{element_fits}
+use Rattle.sd_manager.proofs.Reading.{element_fits, shown_has_node}
 use Rattle.sd_manager.proofs.Evaluating.{HasChildren, children}
 use Rattle.sd_sweep.specs.Marked.{DifferInMarks, LackMark, Walks, MarksUnder, MarksElements}
 use Rattle.sd_sweep.specs.Marked.{IsWalking}
@@ -109,15 +109,20 @@ IsLeaf Top = Unit {0}
 IsLeaf (Literal p x s) = Unit {0}
 IsLeaf (Decomposition p es) = ⊥
 
-constant_leaf : (b : Bool) → IsLeaf (constant_diagram b)
-constant_leaf true = tt
-constant_leaf false = tt
+-- what is no decomposition has a code below those of nodes
+pub below_nodes : (n : ℕ) (b : Bool) → (2050 ≤ n → IsTrue b) → b ≡ false → n < 2050
+below_nodes n b high low = go (ltb n 2050) refl
+  where
+    go : (c : Bool) → ltb n 2050 ≡ c → n < 2050
+    go true e = ltb-true n 2050 e
+    go false e = let yes : b ≡ true = high (ltb-false n 2050 e) in absurd (cc (yes, low))
 
-pub leaf_of_constant : (t : Table) (b : Bool) (d : Diagram) → IsViewOf t (ConstantView b) d → IsLeaf d
-leaf_of_constant t b d view = subst IsLeaf (sym view) (constant_leaf b)
-
-pub leaf_of_literal : (t : Table) (l : ℤ) (d : Diagram) → IsViewOf t (LiteralView l) d → IsLeaf d
-leaf_of_literal t l d view = subst IsLeaf (sym view.3) tt
+-- what has a code below those of nodes shows such a diagram
+pub leaf_of_code : (t : Table) (c : ℕ) → c < 2050 → (d : Diagram) → ShowsCanonical t c d → IsLeaf d
+leaf_of_code t c low Bottom is = tt
+leaf_of_code t c low Top is = tt
+leaf_of_code t c low (Literal p x s) is = tt
+leaf_of_code t c low (Decomposition p es) is = let k = is.shows.1 in absurd (omega (arith, low, k.code))
 
 -- such a node is not marked
 pub marks_leaf : (old : Table) (value c : ℕ) → ((d : Diagram) → ShowsCanonical old c d → IsLeaf d) →
@@ -133,6 +138,15 @@ marks_leaf old value c leaf first d table rest is lacks = go d is (leaf d (shown
     go (Decomposition p es) h k = absurd k
 
 -- a decomposition
+
+-- what has such a code and shows something has a key
+pub key_of_code : (t : Table) → IsTable t → (c : ℕ) (d : Diagram) → Shows t c d → 2050 ≤ c →
+    IsSome (key_at t (c - 2050))
+key_of_code t table c d is high = go (shown_has_node t table.numbered c d is)
+  where
+    go : HasNode t c → IsSome (key_at t (c - 2050))
+    go (inl low) = absurd (omega (arith, low, high, table.numbered.within_limit))
+    go (inr k) = k.1
 
 -- its code has a number, which is that of a linked node
 pub number_linked : (t : Table) → IsTable t → (c p : ℕ) (es : Elements) → ShowsCanonical t c (Decomposition p es) →

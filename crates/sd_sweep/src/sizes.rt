@@ -1,6 +1,6 @@
 // Sizes without memory. That of one root is found by a walk that marks each node that it sees first, and a second one
 // that takes the marks off. That of all held roots is in the manager's live counts.
-ghost use Rattle.std.specs.Prelude.{◌≡◌, ◌≤◌, ◌<◌, ◌^◌, ℕ, [], ◌∷◌, List, length, None};
+ghost use Rattle.std.specs.Prelude.{◌≡◌, ◌≢◌, ◌-◌, ◌≤◌, ◌<◌, ◌^◌, ℕ, [], ◌∷◌, List, length, None, Some};
 ghost use Rattle.std.specs.Option.{IsSome};
 ghost use Rattle.std.specs.FinMap.{get};
 ghost use Rattle.sd_model.specs.Diagram.{Diagram, Elements, Decomposition};
@@ -45,10 +45,33 @@ pub fn size(m: &mut Manager) -> u32
 }
 
 // Gives the nodes of decompositions below a node this mark, where they lack it, and answers how many elements they have
-// together.
+// together. What is no decomposition, and what has the mark, is not entered.
 #[cycle(marking)]
+#[inline(always)]
 fn mark_below(m: &mut Manager, node: NodeId, levels: u32, value: u32) -> u32
     requires table { IsTable m.old }
+    requires shown { (d : Diagram) × ShowsCanonical m.old node d × (depth d ≤ levels)
+        × IsWalking m.old value (walk d) }
+    ensures marks { MarksUnder m.old m.new value result node }
+    ensures rest { DifferInMarks m.old m.new }
+    ensures small { result < 2 ^ 31 }
+    ensures table { IsTable m.new }
+{
+    if !node.is_decomposition() {
+        return 0;
+    }
+    if m.mark(node.number()) == value {
+        return 0;
+    }
+    mark_node(m, node, levels, value)
+}
+
+// The same for a decomposition that lacks the mark.
+#[cycle(marking)]
+fn mark_node(m: &mut Manager, node: NodeId, levels: u32, value: u32) -> u32
+    requires table { IsTable m.old }
+    requires code { 2050 ≤ node }
+    requires unmarked { get m.old.marks (node - 2050) ≢ Some value }
     requires shown { (d : Diagram) × ShowsCanonical m.old node d × (depth d ≤ levels)
         × IsWalking m.old value (walk d) }
     ensures marks { MarksUnder m.old m.new value result node }
@@ -61,12 +84,8 @@ fn mark_below(m: &mut Manager, node: NodeId, levels: u32, value: u32) -> u32
         View::Literal(_) => return 0,
         View::Decomposition { count, .. } => count,
     };
-    let number = node.number();
-    if m.mark(number) == value {
-        return 0;
-    }
     let below = mark_children(m, node, count, levels, value);
-    m.set_mark(number, value);
+    m.set_mark(node.number(), value);
     below + count
 }
 

@@ -1,45 +1,46 @@
-use Rattle.std.proofs.Common.{◌≡◌, ◌∙◌, Some, sym, ap, subst, arith}
+use Rattle.std.proofs.Common.{◌∙◌, Some, sym, ap, subst, arith}
+use Rattle.std.specs.Option.{IsSome}
 use Rattle.std.specs.FinMap.{get}
 use Rattle.sd_model.specs.Diagram.{Decomposition}
 use Rattle.sd_model.specs.Size.{walk, walk_elements}
 use Rattle.sd_laws.specs.Depth.{depth}
+use Rattle.sd_manager.specs.Table.{key_at}
 use Rattle.sd_manager.specs.Shown.{ShowsCanonical}
 use Rattle.sd_manager.specs.Marking.{with_mark}
 use Rattle.sd_manager.proofs.Reading.{shown_has_node}
 use Rattle.sd_manager.proofs.Evaluating.{count_is}
 use Rattle.sd_sweep.specs.Marked.{IsWalking}
 use Rattle.sd_sweep.proofs.Below.{among_left}
-use Rattle.sd_sweep.proofs.Marking.{walking_under, marks_leaf, leaf_of_constant, leaf_of_literal, number_linked}
+use Rattle.sd_sweep.proofs.Marking.{walking_under, marks_leaf, below_nodes, leaf_of_code, key_of_code}
 use Rattle.sd_sweep.proofs.Marking.{marks_known, marks_node, node_fits, in_pairs_none, prime_asked, sub_asked}
 use Rattle.sd_sweep.proofs.Marking.{pairs_on, pairs_marked}
 use Rattle.sd_sweep.proofs.sizes.+marking.Goals as goal
 
-pub mark_below-view-requires : goal.mark_below-view-requires
-mark_below-view-requires t c =
-    shown_has_node c.args.m.now c.requires.table.numbered c.args.node c.requires.shown.0 c.requires.shown.1.shows
-
-pub mark_below-returns-in-Constant-clause-marks : goal.mark_below-returns-in-Constant-clause-marks
-mark_below-returns-in-Constant-clause-marks t c =
+pub mark_below-returns-then-not-is_decomposition-clause-marks :
+    goal.mark_below-returns-then-not-is_decomposition-clause-marks
+mark_below-returns-then-not-is_decomposition-clause-marks t c =
     marks_leaf c.args.m.now c.args.value c.args.node
-    (λ d h. leaf_of_constant c.args.m.now c.in-Constant.field-0 d (c.in-Constant.ensures.shown d h.shows))
+    (leaf_of_code c.args.m.now c.args.node
+    (below_nodes c.args.node c.is_decomposition.result c.is_decomposition.ensures.1 c.if-not-is_decomposition.true))
 
-pub mark_below-returns-in-Literal-clause-marks : goal.mark_below-returns-in-Literal-clause-marks
-mark_below-returns-in-Literal-clause-marks t c =
-    marks_leaf c.args.m.now c.args.value c.args.node
-    (λ d h. leaf_of_literal c.args.m.now c.in-Literal.field-0 d (c.in-Literal.ensures.shown d h.shows))
+pub mark_below-mark-requires : goal.mark_below-mark-requires
+mark_below-mark-requires t c =
+    subst (λ n. IsSome (key_at c.args.m.now n)) (sym c.number.ensures)
+    (key_of_code c.args.m.now c.requires.table c.args.node c.requires.shown.0 c.requires.shown.1.shows
+    (c.is_decomposition.ensures.0 c.if-not-is_decomposition.false))
 
 pub mark_below-returns-then-mark-value-clause-marks :
     goal.mark_below-returns-then-mark-value-clause-marks
 mark_below-returns-then-mark-value-clause-marks t c =
-    let w = c.in-Decomposition.ensures.shown c.requires.shown.0 c.requires.shown.1.shows in
-    let is = subst (ShowsCanonical c.args.m.now c.args.node) w.2 c.requires.shown.1 in
-    let at = number_linked c.args.m.now c.requires.table c.args.node w.0 w.1 is in
-    marks_known c.args.m.now c.args.value c.args.node at.0
-    (ap (get c.args.m.now.marks) (sym c.number-number.ensures) ∙ c.mark.ensures.mark
-    ∙ ap Some c.if-mark-value.true)
+    marks_known c.args.m.now c.args.value c.args.node (c.is_decomposition.ensures.0 c.if-not-is_decomposition.false)
+    (ap (get c.args.m.now.marks) (sym c.number.ensures) ∙ c.mark.ensures.mark ∙ ap Some c.if-mark-value.true)
 
-pub mark_below-mark_children-below-requires : goal.mark_below-mark_children-below-requires
-mark_below-mark_children-below-requires t c =
+pub mark_node-view-requires : goal.mark_node-view-requires
+mark_node-view-requires t c =
+    shown_has_node c.args.m.now c.requires.table.numbered c.args.node c.requires.shown.0 c.requires.shown.1.shows
+
+pub mark_node-mark_children-below-requires : goal.mark_node-mark_children-below-requires
+mark_node-mark_children-below-requires t c =
     let w = c.in-Decomposition.ensures.shown c.requires.shown.0 c.requires.shown.1.shows in
     let is = subst (ShowsCanonical c.args.m.now c.args.node) w.2 c.requires.shown.1 in
     let walking = subst (λ d. IsWalking c.args.m.now c.args.value (walk d)) w.2 c.requires.shown.3 in (
@@ -61,43 +62,31 @@ mark_below-mark_children-below-requires t c =
       ),
     )
 
-pub mark_below-returns-clause-small : goal.mark_below-returns-clause-small
-mark_below-returns-clause-small t c =
+pub mark_node-returns-clause-small : goal.mark_node-returns-clause-small
+mark_node-returns-clause-small t c =
     let w = c.in-Decomposition.ensures.shown c.requires.shown.0 c.requires.shown.1.shows in
     let is = subst (ShowsCanonical c.args.m.now c.args.node) w.2 c.requires.shown.1 in
     let walking = subst (λ d. IsWalking c.args.m.now c.args.value (walk d)) w.2 c.requires.shown.3 in
-    let at = number_linked c.args.m.now c.requires.table c.args.node w.0 w.1 is in
     node_fits c.args.m.now c.mark_children-below.new.m c.args.value c.mark_children-below.result
-    c.in-Decomposition.count c.args.node w.0 w.1 at.0 is
-    (λ marked.
-    let both : Some c.mark.result ≡ Some c.args.value =
-    sym c.mark.ensures.mark ∙ ap (get c.args.m.now.marks) c.number-number.ensures ∙ marked in
-    let same : c.mark.result ≡ c.args.value = cc in
-    c.if-mark-value.false same)
+    c.in-Decomposition.count c.args.node w.0 w.1 c.requires.code is c.requires.unmarked
     c.mark_children-below.ensures.marks
     (count_is c.args.m.now c.args.node c.in-Decomposition.place c.in-Decomposition.count w.0 w.1 is
     c.in-Decomposition.ensures.view) c.requires.table walking
 
-pub mark_below-overflow_add-result : goal.mark_below-overflow_add-result
-mark_below-overflow_add-result t c = omega (arith, mark_below-returns-clause-small t c)
+pub mark_node-overflow_add-result : goal.mark_node-overflow_add-result
+mark_node-overflow_add-result t c = omega (arith, mark_node-returns-clause-small t c)
 
-pub mark_below-returns-clause-marks : goal.mark_below-returns-clause-marks
-mark_below-returns-clause-marks t c =
+pub mark_node-returns-clause-marks : goal.mark_node-returns-clause-marks
+mark_node-returns-clause-marks t c =
     let w = c.in-Decomposition.ensures.shown c.requires.shown.0 c.requires.shown.1.shows in
     let is = subst (ShowsCanonical c.args.m.now c.args.node) w.2 c.requires.shown.1 in
-    let at = number_linked c.args.m.now c.requires.table c.args.node w.0 w.1 is in
     marks_node c.args.m.now c.mark_children-below.new.m c.set_mark.new.self c.args.value c.mark_children-below.result
-    c.in-Decomposition.count c.args.node w.0 w.1 at.0 is
-    (λ marked.
-    let both : Some c.mark.result ≡ Some c.args.value =
-    sym c.mark.ensures.mark ∙ ap (get c.args.m.now.marks) c.number-number.ensures ∙ marked in
-    let same : c.mark.result ≡ c.args.value = cc in
-    c.if-mark-value.false same)
+    c.in-Decomposition.count c.args.node w.0 w.1 c.requires.code is c.requires.unmarked
     c.mark_children-below.ensures.marks
     (count_is c.args.m.now c.args.node c.in-Decomposition.place c.in-Decomposition.count w.0 w.1 is
     c.in-Decomposition.ensures.view)
     (c.set_mark.ensures.mark
-    ∙ ap (λ z. with_mark c.mark_children-below.new.m z c.args.value) c.number-number.ensures) c.requires.table
+    ∙ ap (λ z. with_mark c.mark_children-below.new.m z c.args.value) c.number.ensures) c.requires.table
 
 pub mark_children-loop-index-init : goal.mark_children-loop-index-init
 mark_children-loop-index-init t c = in_pairs_none c.args.m.now c.requires.table c.args.value c.args.node
