@@ -7,7 +7,7 @@ use Rattle.std.proofs.lemmas.Bool.{cases_Bool}
 use Rattle.std.proofs.lemmas.List.{length-map}
 use Rattle.sd_base.specs.Words.{words_of, lines_of, is_filled, is_separator, is_line_end, without_empty_end}
 use Rattle.sd_base.specs.Lines.{TextLine, numbered_lines_from, content_of, begins_with, is_content}
-use Rattle.sd_formula.specs.WordByWord.{words_at, body_words}
+use Rattle.sd_formula.specs.Dimacs.{words_at, body_words}
 
 -- ---- pieces of a list
 

@@ -8,8 +8,7 @@ use Rattle.sd_base.specs.Reading.{◌>>=◌}
 use Rattle.sd_formula.specs.declared.error.FormulaError.TheVariants.{LiteralRange}
 use Rattle.sd_formula.specs.declared.formula.Kind.{Kind}
 use Rattle.sd_formula.specs.declared.formula.Kind.TheVariants.{Cnf, Dnf}
-use Rattle.sd_formula.specs.Dimacs.{formula_fault_text}
-use Rattle.sd_formula.specs.WordByWord.{BodyWord, literal_of_word, is_zero, is_mark, has_begun}
+use Rattle.sd_formula.specs.Dimacs.{BodyWord, formula_fault_text, literal_of_word, is_zero, is_mark, has_begun}
 use Rattle.sd_formula.specs.Formulas.{IsLiteral, IsGroup}
 use Rattle.sd_formula.specs.Steps.{Parts, no_group, marked, put_literal, literal_read, put_word, put_words, PartsFit}
 use Rattle.sd_formula.proofs.PartsLaws.{done, in_range}

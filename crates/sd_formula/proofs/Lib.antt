@@ -1,6 +1,5 @@
 pub mod Rows
 pub mod PartsLaws
-pub mod SameReading
 pub mod ReaderLaws
 pub mod FitLaws
 pub mod FlatLaws

@@ -5,6 +5,7 @@ use Rattle.std.proofs.Common.{ℤ, unsigned_abs, ltb, Option, Some, None, ok_or,
 use Rattle.std.proofs.Common.{refl, sym, ap, subst, ◌∙◌, append_assoc, arith, inl, inr}
 use Rattle.std.specs.Prelude.{codes, bytes_eq}
 use Rattle.std.specs.List.{slice_split, onto_first}
+use Rattle.std.specs.Option.{option_map_or}
 use Rattle.std.proofs.lemmas.List.{append-nil}
 use Rattle.std.proofs.lemmas.Bool.{cases_Bool, and_parts, not-true, not-false, not_from_false, eqb-true, ltb-true}
 use Rattle.std.proofs.lemmas.Slice.Eq.{bytes_eq-Decides}
@@ -15,11 +16,14 @@ use Rattle.sd_model.specs.Expression.{Group}
 use Rattle.sd_formula.specs.declared.error.FormulaError.TheVariants.{BadWord, LiteralRange}
 use Rattle.sd_formula.specs.declared.formula.Kind.{Kind}
 use Rattle.sd_formula.specs.declared.formula.Kind.TheVariants.{Cnf, Dnf}
-use Rattle.sd_formula.specs.WordByWord.{BodyWord, literal_of_word, group_of_words, has_begun}
-use Rattle.sd_formula.specs.Dimacs.{formula_fault_text}
-use Rattle.sd_formula.specs.WordByWord.{is_mark, is_zero, ends, is_end_word}
+use Rattle.sd_formula.specs.Dimacs.{BodyWord, literal_of_word, group_of, has_begun, formula_fault_text}
+use Rattle.sd_formula.specs.Dimacs.{is_mark, is_zero, is_end_word}
 use Rattle.sd_formula.specs.Steps.{Parts, no_group, no_parts, ended, put_literal}
 use Rattle.sd_formula.specs.Steps.{put_word, put_words, all_groups}
+
+-- a number that is a zero
+abbrev pub ends : Option ℤ → Bool
+ends z = option_map_or is_zero z false
 
 abbrev pub done : {A : Type 0} → A → Result A (List ℕ)
 done x = Ok x
@@ -64,7 +68,7 @@ literals_behind v o words =
 
 -- the group in hand with the words up to the next zero
 abbrev goes_on : Kind → ℕ → Group → List BodyWord → Result Group (List ℕ)
-goes_on kind v o words = if has_begun o then literals_behind v o words else group_of_words kind v words
+goes_on kind v o words = if has_begun o then literals_behind v o words else group_of kind v words
 
 -- no words are left for it
 goes_nowhere : (kind : Kind) (v : ℕ) (o : Group) → goes_on kind v o [] ≡ Ok o
@@ -102,7 +106,7 @@ with_more closed r rs = r >>= λ g. rs >>= λ gs. Ok (closed ++ g ∷ gs)
 abbrev resumed : Kind → ℕ → Parts → List (List BodyWord) → Result (List Group) (List ℕ)
 resumed kind v p [] = Ok p.closed
 resumed kind v p (part ∷ parts) =
-    with_more p.closed (goes_on kind v p.open_part part) (each (group_of_words kind v) parts)
+    with_more p.closed (goes_on kind v p.open_part part) (each (group_of kind v) parts)
 
 -- a literal that was read is put before the others
 literal_more : (kind : Kind) (v : ℕ) (p : Parts) (r : Result ℤ (List ℕ)) (part : List BodyWord)
@@ -110,7 +114,7 @@ literal_more : (kind : Kind) (v : ℕ) (p : Parts) (r : Result ℤ (List ℕ)) (
     → ((r >>= λ z. done (put_literal p z)) >>= λ q. resumed kind v q (part ∷ parts))
     ≡ with_more p.closed ((r >>= λ z. each (literal_of_word v) part >>= λ zs. done (z ∷ zs)) >>= λ zs.
     done (record { exclusive = p.open_part.exclusive; literals = p.open_part.literals ++ zs }))
-    (each (group_of_words kind v) parts)
+    (each (group_of kind v) parts)
 literal_more kind v p (Err e) part parts other = refl
 literal_more kind v p (Ok z) part parts other =
     rw (other z refl, begun_more p.open_part.exclusive p.open_part.literals z)
@@ -119,14 +123,14 @@ literal_more kind v p (Ok z) part parts other =
     regroup : (r : Result (List ℤ) (List ℕ)) →
         with_more p.closed (r >>= λ zs.
         done (record { exclusive = p.open_part.exclusive; literals = (p.open_part.literals ++ z ∷ []) ++ zs }))
-        (each (group_of_words kind v) parts)
+        (each (group_of kind v) parts)
         ≡ with_more p.closed ((r >>= λ zs. done (z ∷ zs)) >>= λ zs.
         done (record { exclusive = p.open_part.exclusive; literals = p.open_part.literals ++ zs }))
-        (each (group_of_words kind v) parts)
+        (each (group_of kind v) parts)
     regroup (Err e) = refl
     regroup (Ok zs) =
         ap (λ ys. with_more p.closed (Ok (record { exclusive = p.open_part.exclusive; literals = ys }))
-        (each (group_of_words kind v) parts)) (append_assoc p.open_part.literals (z ∷ []) zs)
+        (each (group_of kind v) parts)) (append_assoc p.open_part.literals (z ∷ []) zs)
 
 -- what was read of a word that ends no group is not zero
 not_zero : (v line : ℕ) (o : Option ℤ) (z : ℤ) → ends o ≡ false → in_range v line o ≡ Ok z → is_zero z ≡ false
@@ -149,12 +153,12 @@ word_more kind v p w part parts other = elim (cases_Bool (is_mark kind w && not 
       let fresh = not-true (has_begun p.open_part) facts.1 in
       let same = ap (λ g. with_more p.closed
       (literals_behind v (record { exclusive = true; literals = g.literals }) part)
-      (each (group_of_words kind v) parts)) (not_begun p.open_part fresh) in
+      (each (group_of kind v) parts)) (not_begun p.open_part fresh) in
       rw (both, fresh, facts.0) same
   | inr plain ↦
       let read = literal_more kind v p (literal_of_word v w) part parts
       (λ z is. not_zero v w.line (integer_value w.bytes) z other is) in
-      let behind = ap (λ g. with_more p.closed g (each (group_of_words kind v) parts))
+      let behind = ap (λ g. with_more p.closed g (each (group_of kind v) parts))
       (go_literal kind v p.open_part w part plain) in
       rw plain (read ∙ sym behind)
 ]
@@ -190,8 +194,8 @@ end_more : (kind : Kind) (v : ℕ) (p : Parts) (parts : List (List BodyWord)) �
     → resumed kind v (ended p) parts ≡ resumed kind v p ([] ∷ parts)
 end_more kind v p [] h = absurd (omega arith)
 end_more kind v p (part ∷ parts) h =
-    go (group_of_words kind v part) (each (group_of_words kind v) parts)
-    ∙ sym (ap (λ g. with_more p.closed g (each (group_of_words kind v) (part ∷ parts)))
+    go (group_of kind v part) (each (group_of kind v) parts)
+    ∙ sym (ap (λ g. with_more p.closed g (each (group_of kind v) (part ∷ parts)))
     (goes_nowhere kind v p.open_part))
   where
     go : (r : Result Group (List ℕ)) (rs : Result (List Group) (List ℕ))
@@ -239,13 +243,13 @@ puts_are kind v p (w ∷ ws) = elim (cases_Bool (is_end_word w)) [
 
 -- from the start on, they are the groups of all the words
 from_none : (kind : Kind) (v : ℕ) (parts : List (List BodyWord)) → 0 < length parts
-    → resumed kind v no_parts parts ≡ each (group_of_words kind v) parts
+    → resumed kind v no_parts parts ≡ each (group_of kind v) parts
 from_none kind v [] h = absurd (omega arith)
 from_none kind v (part ∷ parts) h = refl
 
 -- what comes after the words sees the groups of the whole list of words
 pub by_parts : {Y : Type 0} (kind : Kind) (v : ℕ) (words : List BodyWord)
-    (next : List Group → Result Y (List ℕ)) → (each (group_of_words kind v) (slice_split is_end_word words) >>= next)
+    (next : List Group → Result Y (List ℕ)) → (each (group_of kind v) (slice_split is_end_word words) >>= next)
     ≡ (put_words kind v no_parts words >>= λ p. next (all_groups p))
 by_parts kind v words next =
     let filled = split_is_filled is_end_word words in

@@ -9,17 +9,14 @@ use Rattle.sd_base.specs.Lines.{TextLine, content_of}
 use Rattle.sd_base.specs.Reading.{◌>>=◌, ◌>>◌, fault_if}
 use Rattle.sd_formula.specs.declared.formula.Kind.{Kind}
 use Rattle.sd_formula.specs.declared.error.FormulaError.TheVariants.{BadHeader}
-use Rattle.sd_formula.specs.Dimacs.{Groups, dimacs}
-use Rattle.sd_formula.specs.WordByWord.{Stated, formula_of, stated_of, counts_in_range}
-use Rattle.sd_formula.specs.Dimacs.{formula_fault_text}
-use Rattle.sd_formula.specs.WordByWord.{stated_in, is_header}
-use Rattle.sd_formula.specs.WordByWord.{groups_of, body_words, all_but_last, has_begun, word_pieces}
+use Rattle.sd_formula.specs.Dimacs.{Groups, dimacs, Stated, formula_of, stated_of, counts_in_range, stated_in}
+use Rattle.sd_formula.specs.Dimacs.{is_header, formula_fault_text, groups_of, body_words, all_but_last, has_begun}
+use Rattle.sd_formula.specs.Dimacs.{word_pieces}
 use Rattle.sd_formula.specs.Formulas.{IsGroup, IsFormula}
 use Rattle.sd_formula.specs.Steps.{Parts, no_parts, put_words, all_groups, InRange, PartsFit}
 use Rattle.sd_formula.proofs.FitLaws.{nothing_fits, words_fit}
 use Rattle.sd_formula.proofs.PartsLaws.{by_parts}
-use Rattle.sd_formula.proofs.ReaderLaws.{all_but_last_push}
-use Rattle.sd_formula.proofs.SameReading.{same_reading}
+use Rattle.sd_formula.proofs.ReaderLaws.{all_but_last_push, text_of_lines}
 
 -- a chain of two steps that came to an end went through the first
 record Through {A B E : Type 0} (first : Result A E) (rest : A → Result B E) (end : B) : Type 0 where
@@ -97,4 +94,4 @@ lines_fit kind (header ∷ lines) f e =
 
 -- the formula of a text has its numbers and its literals in range
 pub accepted_fits : (kind : Kind) (bytes : List ℕ) (f : Groups) → dimacs kind bytes ≡ Ok f → IsFormula f
-accepted_fits kind bytes f e = lines_fit kind (content_of 99 bytes) f (sym (same_reading kind bytes) ∙ e)
+accepted_fits kind bytes f e = lines_fit kind (content_of 99 bytes) f (sym (text_of_lines kind bytes) ∙ e)

@@ -5,18 +5,16 @@ use Rattle.std.proofs.Common.{◌&&◌, if◌then◌else◌, Option, Some, ◌-�
 use Rattle.std.specs.List.{take_while, flat_map, last_or, slice_split}
 use Rattle.std.proofs.lemmas.Grind.{flat_map-append}
 use Rattle.std.proofs.lemmas.List.Sums.{take_while-cons}
-use Rattle.sd_base.specs.Lines.{TextLine, begins_with}
+use Rattle.sd_base.specs.Lines.{TextLine, begins_with, content_of}
 use Rattle.sd_base.specs.Reading.{◌>>=◌, each}
 use Rattle.sd_model.specs.Expression.{Group}
 use Rattle.sd_formula.specs.declared.formula.Kind.{Kind}
 use Rattle.sd_formula.specs.declared.formula.Kind.TheVariants.{Cnf, Dnf}
 use Rattle.sd_formula.specs.declared.error.FormulaError.{FormulaError}
 use Rattle.sd_formula.specs.declared.error.FormulaError.TheVariants.{OutOfMemory}
-use Rattle.sd_formula.specs.Dimacs.{Groups}
-use Rattle.sd_formula.specs.WordByWord.{Stated, BodyWord, after_mark, word_pieces, is_mark, is_end_word}
-use Rattle.sd_formula.specs.WordByWord.{group_of_words, has_begun}
-use Rattle.sd_formula.specs.Dimacs.{Fails}
-use Rattle.sd_formula.specs.WordByWord.{all_but_last, body_words, words_at, groups_of, stated_of, formula_of}
+use Rattle.sd_formula.specs.Dimacs.{Groups, Stated, BodyWord, after_mark, word_pieces, is_mark, is_end_word}
+use Rattle.sd_formula.specs.Dimacs.{group_of, has_begun, Fails, all_but_last, body_words, words_at, groups_of}
+use Rattle.sd_formula.specs.Dimacs.{stated_of, formula_of, dimacs}
 use Rattle.sd_formula.specs.Steps.{Parts, no_parts, marked, literal_read, put_word, put_words, put_pieces}
 use Rattle.sd_formula.specs.Steps.{all_groups}
 use Rattle.sd_formula.proofs.FlatLaws.{length_cut}
@@ -35,6 +33,11 @@ pub last_part_push : (first : Option Group) (parts : List Group) (part : Group)
     → last_or first (parts ++ part ∷ []) ≡ Some part
 last_part_push first [] part = refl
 last_part_push first (x ∷ xs) part = last_part_push (Some x) xs part
+
+-- the formula of a text is that of its lines
+pub text_of_lines : (kind : Kind) (bytes : List ℕ) → dimacs kind bytes ≡ formula_of kind (content_of 99 bytes)
+unfolding dimacs
+text_of_lines kind bytes = refl
 
 -- what the count of groups rests on
 pub ruleset counted = (all_but_last_push, last_part_push, length_cut)
@@ -131,7 +134,7 @@ formula_by_parts : (kind : Kind) (header : TextLine) (lines : List TextLine)
 formula_by_parts kind header lines = at (stated_of kind header)
   where
     at : (r : Result Stated (List ℕ))
-        → (r >>= λ s. each (group_of_words kind s.variables) (slice_split is_end_word (flat_map (word_pieces kind)
+        → (r >>= λ s. each (group_of kind s.variables) (slice_split is_end_word (flat_map (word_pieces kind)
         (body_words lines))) >>= groups_of kind s)
         ≡ (r >>= λ s. of_parts kind s (body_parts kind lines s))
     at (Ok s) = by_parts kind s.variables (flat_map (word_pieces kind) (body_words lines)) (groups_of kind s)

@@ -1,10 +1,10 @@
 -- The formula that a text of DIMACS stands for, or the text of its first fault, behind the name of the file.
-use Rattle.std.specs.Prelude.{◌≡◌, ℕ, ◌-◌, Bool, false, not, ◌==◌, nat_eq, nat_lt, if◌then◌else◌}
-use Rattle.std.specs.Prelude.{codes, bytes_eq}
+use Rattle.std.specs.Prelude.{◌≡◌, ℕ, ◌-◌, Bool, true, false, not, ◌||◌, ◌==◌, nat_lt}
+use Rattle.std.specs.Prelude.{if◌then◌else◌, codes, bytes_eq}
 use Rattle.std.specs.Prelude.{List, [], ◌∷◌, ◌++◌, length, take, drop, filter, map, flat_map, take_while}
-use Rattle.std.specs.Prelude.{ℤ, unsigned_abs, Option, None, ok_or, Result, Ok, Err}
-use Rattle.std.specs.Option.{option_map_or, option_zip, unwrap_or}
-use Rattle.std.specs.List.{last_or, slice_split, find, list_any, starts_with}
+use Rattle.std.specs.Prelude.{ℤ, unsigned_abs, Option, Some, None, ok_or, Result, Ok, Err}
+use Rattle.std.specs.Option.{option_map, option_map_or, option_zip}
+use Rattle.std.specs.List.{last_or, slice_split}
 use Rattle.sd_base.specs.Words.{is_filled}
 use Rattle.sd_base.specs.Lines.{TextLine, content_of, begins_with}
 use Rattle.sd_base.specs.Numbers.{natural_value, integer_value, is_within}
@@ -24,74 +24,147 @@ pub record Groups : Type 0 where
   pub variables : ℕ
   pub groups : List Group
 
--- what a header calls the kind, and the marks that a group may begin with: an x makes it exclusive, terms have none
-abbrev pub signs : Kind → List ℕ × List (List ℕ)
-signs Cnf = (codes "cnf", codes "x" ∷ [])
-signs Dnf = (codes "dnf", [])
+-- ---- the header: the words p and cnf or dnf, and the numbers of variables and groups
 
--- the numbers of variables and of groups in the words of a header behind its first
-abbrev pub numbers_of : Kind → List (List ℕ) → Option (ℕ × ℕ)
-numbers_of kind (name ∷ variables ∷ groups ∷ []) = if bytes_eq name (signs kind).0
-    then option_zip (natural_value variables) (natural_value groups) else None
-numbers_of kind words = None
+-- the two numbers of a header
+pub record Stated : Type 0 where
+  pub variables : ℕ
+  pub groups : ℕ
 
--- The numbers of the header, which is the line, where there is one: its first word is p, with 1 to 1,024 variables and
--- at most 1,000,000 groups.
-abbrev pub header_of : Kind → List TextLine → Result (ℕ × ℕ) (List ℕ)
-header_of kind lines = do
-  header ← ok_or (find (λ line. starts_with bytes_eq line.words (codes "p" ∷ [])) lines)
-      (codes ": no header")
-  (variables, groups) ← ok_or (numbers_of kind (drop 1 header.words))
-      (at_line header.number (codes ": bad header"))
-  fault_if (not (is_within 1 1024 variables))
-      (codes ": variables out of range: " ++ number_text variables)
-  fault_if (nat_lt 1000000 groups) (codes ": too many groups: " ++ number_text groups)
-  Ok (variables, groups)
+-- the word for the kind
+abbrev pub kind_word : Kind → List ℕ
+kind_word Cnf = codes "cnf"
+kind_word Dnf = codes "dnf"
 
--- what a word of the body stands for: itself, or the mark that it begins with and what is joined to it
-abbrev pub pieces_of : Kind → List ℕ → List (List ℕ)
-pieces_of kind word = if list_any (starts_with nat_eq word) (signs kind).1
-    then filter is_filled (take 1 word ∷ drop 1 word ∷ []) else word ∷ []
+-- the first word of a line is p
+abbrev pub is_header : List (List ℕ) → Bool
+is_header [] = false
+is_header (word ∷ words) = bytes_eq word (codes "p")
 
--- the body: these words with the numbers of their lines, up to the first line that begins with %, which ends the
--- files of the collection SATLIB
-abbrev pub body_of : Kind → List TextLine → List (ℕ × List ℕ)
-body_of kind lines =
-    flat_map (λ line. map (λ word. (line.number, word)) (flat_map (pieces_of kind) line.words))
-    (take_while (λ line. not (begins_with 37 line.words)) lines)
+-- the numbers in the words after the first
+abbrev pub stated_in : Kind → List (List ℕ) → Option Stated
+stated_in kind (name ∷ variables ∷ groups ∷ []) =
+    if bytes_eq name (kind_word kind)
+    then option_map (λ (v, g). record { variables = v; groups = g })
+    (option_zip (natural_value variables) (natural_value groups))
+    else None
+stated_in kind words = None
 
--- a word that ends a group: a zero
-abbrev pub is_end : ℕ × List ℕ → Bool
-is_end (line, word) = option_map_or (λ z. unsigned_abs z == 0) (integer_value word) false
+-- they are 1 to 1,024 variables and at most 1,000,000 groups, or the first that is not has this fault
+abbrev pub counts_in_range : Stated → Result Stated (List ℕ)
+counts_in_range stated = do
+  fault_if (not (is_within 1 1024 stated.variables))
+      (codes ": variables out of range: " ++ number_text stated.variables)
+  fault_if (nat_lt 1000000 stated.groups)
+      (codes ": too many groups: " ++ number_text stated.groups)
+  Ok stated
 
--- the literal of a word
-abbrev pub literal_of : ℕ → ℕ × List ℕ → Result ℤ (List ℕ)
-literal_of variables (line, word) = do
-  z ← ok_or (integer_value word) (at_line line (codes ": bad word"))
+-- the numbers of a header line, or the text of its fault
+abbrev pub stated_of : Kind → TextLine → Result Stated (List ℕ)
+stated_of kind line = do
+  fault_if (not (is_header line.words)) (codes ": no header")
+  stated ← ok_or (stated_in kind (drop 1 line.words)) (at_line line.number (codes ": bad header"))
+  counts_in_range stated
+
+-- ---- the body: the lines before the first that begins with %, which ends the files of the collection SATLIB;
+-- ---- as words with their lines
+
+-- a word of the body, with the number of its line
+pub record BodyWord : Type 0 where
+  pub line : ℕ
+  pub bytes : List ℕ
+
+-- the words of a line
+abbrev pub words_at : TextLine → List BodyWord
+words_at line = map (λ word. record { line = line.number; bytes = word }) line.words
+
+-- the words of the lines up to the first that begins with %
+abbrev pub body_words : List TextLine → List BodyWord
+body_words lines = flat_map words_at (take_while (λ line. not (begins_with 37 line.words)) lines)
+
+-- the literal, or the zero, of a word
+abbrev pub literal_of_word : ℕ → BodyWord → Result ℤ (List ℕ)
+literal_of_word variables word = do
+  z ← ok_or (integer_value word.bytes) (at_line word.line (codes ": bad word"))
   fault_if (nat_lt variables (unsigned_abs z))
-      (at_line line (codes ": literal out of range: " ++ signed_text z))
+      (at_line word.line (codes ": literal out of range: " ++ signed_text z))
   Ok z
 
--- the group of the words between two zeros, which a mark may begin; a mark elsewhere is no literal
-abbrev pub group_of : Kind → ℕ → List (ℕ × List ℕ) → Result Group (List ℕ)
-group_of kind variables words =
-    let marked = list_any (λ word. list_any (bytes_eq word.1) (signs kind).1) (take 1 words) in do
-      literals ← each (literal_of variables) (if marked then drop 1 words else words)
-      Ok (record { exclusive = marked; literals = literals })
+-- ---- the groups: the parts of the words between zeros, where nothing stands after the last zero; under cnf a part
+-- ---- that begins with the mark is an exclusive group of the literals after it
 
--- The formula of a text, or the text of its first fault. Blank lines and comments, which begin with c, are passed over,
--- and the header is the first line that is left. The groups are the parts of the body between zeros, as many as was
--- stated, and nothing stands after the last zero.
+-- what follows the x that a word begins with, under cnf
+abbrev pub after_mark : Kind → List ℕ → Option (List ℕ)
+after_mark Cnf (byte ∷ bytes) = if byte == 120 then Some bytes else None
+after_mark kind bytes = None
+
+-- the words that a word stands for: itself, or the mark and, where bytes follow it, a further word of these
+abbrev pub word_pieces : Kind → BodyWord → List BodyWord
+word_pieces kind word =
+    option_map_or (λ rest. map (λ piece. record word { bytes = piece })
+    (filter is_filled (codes "x" ∷ rest ∷ []))) (after_mark kind word.bytes) (word ∷ [])
+
+-- the mark
+abbrev pub is_mark : Kind → BodyWord → Bool
+is_mark Cnf word = bytes_eq word.bytes (codes "x")
+is_mark Dnf word = false
+
+-- a zero
+abbrev pub is_zero : ℤ → Bool
+is_zero z = unsigned_abs z == 0
+
+-- a word that ends a group: a zero
+abbrev pub is_end_word : BodyWord → Bool
+is_end_word word = option_map_or is_zero (integer_value word.bytes) false
+
+-- the literals of words, as a group
+abbrev pub literals_group : ℕ → Bool → List BodyWord → Result Group (List ℕ)
+literals_group variables exclusive words = do
+  literals ← each (literal_of_word variables) words
+  Ok (record { exclusive = exclusive; literals = literals })
+
+-- the group of the words between two zeros; a mark that is not the first is no literal
+abbrev pub group_of : Kind → ℕ → List BodyWord → Result Group (List ℕ)
+group_of kind variables [] = literals_group variables false []
+group_of kind variables (word ∷ words) =
+    if is_mark kind word
+    then literals_group variables true words
+    else literals_group variables false (word ∷ words)
+
+-- a mark or a literal
+abbrev pub has_begun : Group → Bool
+has_begun group = group.exclusive || not (length group.literals == 0)
+
+-- the parts that a zero ends
+abbrev pub all_but_last : List Group → List Group
+all_but_last parts = take (length parts - 1) parts
+
+-- the formula of the parts, of which the last is empty and the others are as many as was stated
+abbrev pub groups_of : Kind → Stated → List Group → Result Groups (List ℕ)
+groups_of kind stated parts =
+    let groups = all_but_last parts in
+    let found = length groups in do
+      fault_if (option_map_or has_begun (last_or None parts) false) (codes ": last group is not ended")
+      fault_if (not (stated.groups == found)) (counts stated.groups found)
+      Ok (record { kind = kind; variables = stated.variables; groups = groups })
+
+-- ---- the text: blank lines and comments, which begin with c, are passed over, and the header is the first line that
+-- ---- is left
+
+-- the formula of a header and the lines after it
+abbrev pub formula_of : Kind → List TextLine → Result Groups (List ℕ)
+formula_of kind [] = Err (codes ": no header")
+formula_of kind (header ∷ lines) = do
+  stated ← stated_of kind header
+  parts ← each (group_of kind stated.variables)
+      (slice_split is_end_word (flat_map (word_pieces kind) (body_words lines)))
+  groups_of kind stated parts
+
+-- the formula of a text, or the text of its first fault
 unfoldable pub dimacs : Kind → List ℕ → Result Groups (List ℕ)
-dimacs kind bytes = let lines = content_of 99 bytes in
-    let parts = slice_split is_end (body_of kind (drop 1 lines)) in do
-      (variables, stated) ← header_of kind (take 1 lines)
-      groups ← each (group_of kind variables) parts
-      fault_if (is_filled (unwrap_or (last_or None parts) [])) (codes ": last group is not ended")
-      fault_if (not (stated == length parts - 1)) (counts stated (length parts - 1))
-      Ok (record { kind = kind; variables = variables; groups = take stated groups })
+dimacs kind bytes = formula_of kind (content_of 99 bytes)
 
--- ---- what a reader answers, for its contract and for proofs
+-- ---- what a reader answers
 
 -- the text of a fault, after the file's name
 abbrev pub formula_fault_text : FormulaError → List ℕ

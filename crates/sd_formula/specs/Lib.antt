@@ -1,5 +1,4 @@
 pub mod Dimacs
-pub mod WordByWord
 pub mod Flat
 pub mod Formulas
 pub mod Steps

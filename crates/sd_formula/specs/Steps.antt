@@ -8,7 +8,7 @@ use Rattle.sd_formula.specs.declared.flat.End.{End}
 use Rattle.sd_formula.specs.declared.formula.Kind.{Kind}
 use Rattle.sd_formula.specs.declared.header.Header.{Header}
 use Rattle.sd_formula.specs.declared.parts.Body.{Body}
-use Rattle.sd_formula.specs.WordByWord.{Stated, BodyWord, literal_of_word, is_zero, is_mark, has_begun, word_pieces}
+use Rattle.sd_formula.specs.Dimacs.{Stated, BodyWord, literal_of_word, is_zero, is_mark, has_begun, word_pieces}
 use Rattle.sd_formula.specs.Flat.{cut, last_end}
 use Rattle.sd_formula.specs.Formulas.{IsGroup}
 

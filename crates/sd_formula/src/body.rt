@@ -2,7 +2,7 @@
 
 ghost use Rattle.std.specs.Prelude.{◌≡◌, ◌≤◌, ◌<◌, ◌+◌, ◌^◌, length, option_map};
 ghost use Rattle.sd_base.specs.Views.{line_view, content_left};
-ghost use Rattle.sd_formula.specs.WordByWord as texts;
+ghost use Rattle.sd_formula.specs.Dimacs as texts;
 ghost use Rattle.sd_formula.specs.Dimacs.{Gives};
 ghost use Rattle.sd_formula.specs.Steps.{body_view, no_parts, literal_read, put_words, put_pieces};
 

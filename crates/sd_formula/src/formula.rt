@@ -4,7 +4,7 @@ ghost use Rattle.std.specs.Prelude.{◌≡◌, ◌<◌, ◌≤◌, true, length,
 ghost use Rattle.std.specs.List.{list_any, list_all};
 ghost use Rattle.sd_model.specs.Assignment.{literal_holds};
 ghost use Rattle.sd_model.specs.Expression.{expression_value, group_holds};
-ghost use Rattle.sd_formula.specs.WordByWord.{kind_word};
+ghost use Rattle.sd_formula.specs.Dimacs.{kind_word};
 ghost use Rattle.sd_formula.specs.Formulas.{AreLiterals, expression_of, no_groups, groups_part};
 
 use crate::flat::{End, ends_without, group_between, is_marked, literals_between, start_of};

@@ -2,7 +2,7 @@
 
 ghost use Rattle.std.specs.Prelude.{◌≡◌, ◌≢◌, ◌↔◌, ◌<◌, ◌≤◌, ◌+◌, ◌*◌, ◌^◌, [], ◌∷◌, ◌++◌, length, false};
 ghost use Rattle.std.specs.Prelude.{IfOk, IfErr, ◌-◌};
-ghost use Rattle.sd_formula.specs.WordByWord.{is_zero};
+ghost use Rattle.sd_formula.specs.Dimacs.{is_zero};
 ghost use Rattle.sd_formula.specs.Generated.{IsGenerable, next_state, state_at};
 ghost use Rattle.sd_formula.specs.Generated.{literal_by, generated_clauses, generated_formula};
 ghost use Rattle.sd_formula.specs.Steps.{body_view, no_group, extended, ended};

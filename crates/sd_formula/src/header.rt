@@ -2,7 +2,7 @@
 
 ghost use Rattle.std.specs.Prelude.{◌≡◌, IfOk, option_map};
 ghost use Rattle.sd_base.specs.Views.{line_view, words_left};
-ghost use Rattle.sd_formula.specs.WordByWord as texts;
+ghost use Rattle.sd_formula.specs.Dimacs as texts;
 ghost use Rattle.sd_formula.specs.Dimacs.{Gives};
 ghost use Rattle.sd_formula.specs.Steps.{header_view, pair_view, InRange};
 

@@ -22,7 +22,7 @@ pub(crate) struct Body {
 }
 
 impl Body {
-    ghost use Rattle.sd_formula.specs.WordByWord.{has_begun};
+    ghost use Rattle.sd_formula.specs.Dimacs.{has_begun};
     ghost use Rattle.sd_formula.specs.Steps.{body_view, no_parts, ended, extended, marked, put_literal};
 
     /// Nothing read yet.

@@ -2,8 +2,7 @@
 
 ghost use Rattle.std.specs.Prelude.{◌≡◌, ◌≤◌, length, IfOk, IfErr};
 ghost use Rattle.sd_base.specs.Lines.{content_of};
-ghost use Rattle.sd_formula.specs.Dimacs.{Fails, Gives, dimacs};
-ghost use Rattle.sd_formula.specs.WordByWord.{formula_of, groups_of};
+ghost use Rattle.sd_formula.specs.Dimacs.{Fails, Gives, dimacs, formula_of, groups_of};
 ghost use Rattle.sd_formula.specs.Formulas.{IsFormula};
 ghost use Rattle.sd_formula.specs.Steps.{header_view, body_view, all_groups, PartsFit, InRange};
 
@@ -23,7 +22,7 @@ use std::alloc::Global;
 /// the group. Under `cnf` a group that begins with `x`, as a word or joined to the next one, is an
 /// exclusive group. Literals that are repeated or opposite are kept as they are written. Separators
 /// before the first byte of a line do not count. Any text may answer `OutOfMemory`.
-#[tactic(auto, using(crate::proofs::SameReading::same_reading))]
+#[tactic(auto, using(crate::proofs::ReaderLaws::text_of_lines))]
 pub fn read_dimacs(alloc: Global, bytes: &[u8], kind: Kind) -> Result<Formula, FormulaError>
     requires { length bytes.now ≤ 67108864 }
     ensures ok { IfOk result (λ f. dimacs kind bytes.now ≡ Ok f) }

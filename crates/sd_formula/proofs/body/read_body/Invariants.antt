@@ -1,6 +1,6 @@
 use Rattle.std.proofs.Common.{◌≡◌, ◌+◌, ◌≤◌, length}
 use Rattle.sd_base.specs.Views.{content_left}
-use Rattle.sd_formula.specs.WordByWord.{body_words}
+use Rattle.sd_formula.specs.Dimacs.{body_words}
 use Rattle.sd_formula.specs.Steps.{body_view, no_parts, put_pieces}
 use Rattle.sd_formula.proofs.body.read_body.Given as goal
 

@@ -1,6 +1,6 @@
 use Rattle.std.proofs.Common.{◌≡◌, ◌+◌, ◌≤◌, map, length}
 use Rattle.sd_base.specs.Views.{words_left, line_view}
-use Rattle.sd_formula.specs.WordByWord.{words_at}
+use Rattle.sd_formula.specs.Dimacs.{words_at}
 use Rattle.sd_formula.specs.Steps.{body_view, put_pieces}
 use Rattle.sd_formula.proofs.body.read_line.Given as goal
 

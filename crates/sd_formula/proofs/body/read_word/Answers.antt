@@ -1,6 +1,5 @@
 use Rattle.std.proofs.Common.{◌≡◌, ◌==◌, false, length, Some, sym, ap, subst, ◌∙◌}
-use Rattle.sd_formula.specs.Dimacs.{Gives}
-use Rattle.sd_formula.specs.WordByWord.{BodyWord, after_mark, has_begun}
+use Rattle.sd_formula.specs.Dimacs.{BodyWord, Gives, after_mark, has_begun}
 use Rattle.sd_formula.specs.Steps.{body_view, literal_read}
 use Rattle.sd_formula.proofs.ReaderLaws.{mark_joined}
 use Rattle.sd_formula.proofs.body.read_word.Goals as goal

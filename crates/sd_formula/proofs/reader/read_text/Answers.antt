@@ -2,7 +2,7 @@ use Rattle.std.proofs.Common.{sym, ◌∙◌, arith}
 use Rattle.std.proofs.lemmas.Result.{err_from_is_err_and}
 use Rattle.std.specs.List.{flat_map}
 use Rattle.sd_base.specs.Views.{content_left}
-use Rattle.sd_formula.specs.WordByWord.{body_words, word_pieces}
+use Rattle.sd_formula.specs.Dimacs.{body_words, word_pieces}
 use Rattle.sd_formula.specs.Steps.{no_parts, body_view}
 use Rattle.sd_formula.proofs.FewWords.{few_words}
 use Rattle.sd_formula.proofs.FitLaws.{nothing_fits, words_fit}
