@@ -4,6 +4,7 @@ use Rattle.std.proofs.Common.{Some, slice_get, refl, sym, ◌∙◌, ap, subst, 
 use Rattle.std.specs.List.{AllByRecursion}
 use Rattle.std.proofs.lemmas.Option.{same_Some}
 use Rattle.std.proofs.lemmas.List.{append_assoc}
+use Rattle.sd_laws.proofs.Products.{all_push}
 
 -- the first elements of a list and the next one
 pub take_next : {X : Type 0} (xs : List X) (i : ℕ) (x : X) → slice_get xs i ≡ Some x →
@@ -32,17 +33,11 @@ mapped_more f old now new xs i x so_far at is =
     is ∙ ap (λ l. l ++ f x ∷ []) so_far ∙ append_assoc old (map f (take i xs)) (f x ∷ [])
     ∙ ap (λ l. old ++ l) (sym (map_push f (take i xs) x) ∙ ap (map f) (sym (take_next xs i x at)))
 
--- what all have with one element more
-pub all_pushed : {X : Type 0} (P : X → Type 0) (xs : List X) (x : X) → AllByRecursion P xs → P x
-    → AllByRecursion P (xs ++ x ∷ [])
-all_pushed P [] x all last = (last, tt)
-all_pushed P (y ∷ xs) x all last = (all.0, all_pushed P xs x all.1 last)
-
 -- what the first elements have
 pub all_taken : {X : Type 0} (P : X → Type 0) (xs : List X) (i : ℕ) (x : X) → AllByRecursion P (take i xs)
     → slice_get xs i ≡ Some x → P x → AllByRecursion P (take (i + 1) xs)
 all_taken P xs i x all at last =
-    subst (AllByRecursion P) (sym (take_next xs i x at)) (all_pushed P (take i xs) x all last)
+    subst (AllByRecursion P) (sym (take_next xs i x at)) (all_push P (take i xs) x all last)
 
 -- what is read inside the first of two lists
 pub slice_get_left : {X : Type 0} (xs ys : List X) (i : ℕ) → i < length xs
