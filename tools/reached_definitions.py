@@ -2,14 +2,18 @@
 """Counts the definitions that a reader of the contract of `run` has to believe.
 
 Starts at the clauses of `sd_tool::run`, follows each name through the imports of the file that it stands in, and
-prints how many definitions are reached, and their lines, without comments and blank lines. With --list it names them.
-Definitions of the standard library are not counted, nor are enums and structs of the code.
+prints how many definitions are reached, and their lines, without comments and blank lines. With --list it names them,
+and checks that each stands in one of the files that docs/DEFINITIONS.md lists at its head. With --files it prints that
+list: each file comes behind those whose words it uses. Definitions of the standard library are not counted, nor are
+enums and structs of the code.
 """
+import itertools
 import os
 import re
 import sys
 
-CRATES = os.path.join(os.path.dirname(os.path.abspath(__file__)), "..", "crates")
+TOP = os.path.join(os.path.dirname(os.path.abspath(__file__)), "..")
+CRATES = os.path.join(TOP, "crates")
 IMPORT = re.compile(r"^(?:unfoldable |pub |ghost )*use Rattle\.([\w.+]+?)\.(?:\{([^}]*)\}|(\w+))(?: as (\w+))?;?$")
 NAME = re.compile(r"[A-Za-z_]\w*(?:\.[A-Za-z_]\w*)*")
 
@@ -126,6 +130,38 @@ def clauses_of_run():
     return "\n".join(lines[begin:end]), imports, modules
 
 
+def crate_of(path):
+    return os.path.relpath(path, CRATES).split(os.sep)[0]
+
+
+def in_reading_order(paths):
+    """The files, each behind those of them whose words it uses."""
+    ordered = []
+
+    def put(path, waiting):
+        if path in ordered or path in waiting:
+            return
+        for module in sorted({module for module, _ in specs(path).imports.values()}):
+            used = file_of(module)
+            if used in paths:
+                put(used, waiting | {path})
+        ordered.append(path)
+
+    crates = re.findall(r"^(\w+):", open(os.path.join(TOP, "crates.txt"), encoding="utf-8").read(), re.M)
+    for path in sorted(paths, key=lambda path: (crates.index(crate_of(path)), path)):
+        put(path, frozenset())
+    return ordered
+
+
+def files_told():
+    """The files that docs/DEFINITIONS.md lists before its first section."""
+    text = open(os.path.join(TOP, "docs", "DEFINITIONS.md"), encoding="utf-8").read().split("\n## ")[0]
+    told = set()
+    for crate, names in re.findall(r"`(sd_\w+)`: ((?:`\w+`(?:, )?)+)", text):
+        told |= {os.path.join(crate, "specs", name + ".antt") for name in re.findall(r"`(\w+)`", names)}
+    return told
+
+
 def main():
     text, imports, modules = clauses_of_run()
     seen = {}
@@ -133,10 +169,19 @@ def main():
         first = word.split(".")[0]
         if first in imports:
             reach(*imports[first], seen)
+    paths = {path for path, _ in seen}
+    missing = []
     if "--list" in sys.argv:
         for (path, name), count in sorted(seen.items()):
             print(f"{count:4} {os.path.relpath(path, CRATES)} {name}")
+        missing = sorted({os.path.relpath(path, CRATES) for path in paths} - files_told())
+        for path in missing:
+            print(f"{path}: docs/DEFINITIONS.md does not list it at its head")
+    if "--files" in sys.argv:
+        for crate, group in itertools.groupby(in_reading_order(paths), crate_of):
+            print(f"- `{crate}`: " + ", ".join(f"`{os.path.basename(path)[:-5]}`" for path in group))
     print(f"{len(seen)} definitions, {sum(seen.values())} lines")
+    sys.exit(1 if missing else 0)
 
 
 main()
