@@ -1,6 +1,6 @@
 -- The forms of the words of a script.
 use Rattle.std.specs.Prelude.{ℕ, Bool, false, ◌&&◌, ◌||◌, ◌==◌, nat_le, if◌then◌else◌}
-use Rattle.std.specs.Prelude.{List, [], ◌∷◌, length, map, Option, Some, None, option_map, pos, int_le, unsigned_abs}
+use Rattle.std.specs.Prelude.{List, [], ◌∷◌, length, map, Option, Some, None, option_map, ℤ, pos, int_le, unsigned_abs}
 use Rattle.std.specs.Char.{is_ascii_alphabetic, is_ascii_alphanumeric}
 use Rattle.std.specs.List.{list_all}
 use Rattle.sd_base.specs.Numbers.{integer_value}
@@ -10,35 +10,47 @@ pub use Rattle.sd_base.specs.Numbers.{is_within}
 abbrev pub Word : Type 0
 Word = List ℕ
 
--- a letter or _ (byte 95), and at most 31 letters, digits or _ after it
+-- a letter or _ (byte 95)
+abbrev pub starts_name : ℕ → Bool
+starts_name b = is_ascii_alphabetic b || b == 95
+
+-- a letter, a digit or _
+abbrev pub continues_name : ℕ → Bool
+continues_name b = is_ascii_alphanumeric b || b == 95
+
+-- a letter or _, and at most 31 letters, digits or _ after it
 abbrev pub is_name : Word → Bool
 is_name [] = false
-is_name (b ∷ bs) =
-    (is_ascii_alphabetic b || b == 95) && nat_le (length bs) 31
-    && list_all (λ c. is_ascii_alphanumeric c || c == 95) bs
+is_name (b ∷ bs) = starts_name b && nat_le (length bs) 31 && list_all continues_name bs
+
+-- words that are 1 to 1,024 names
+abbrev pub are_names : List Word → Bool
+are_names words = is_within 1 1024 (length words) && list_all is_name words
+
+-- no byte but 33 to 126
+abbrev pub is_printable : Word → Bool
+is_printable word = list_all (is_within 33 126) word
+
+-- a word that names a file: at most 255 such bytes
+abbrev pub is_file_name : Word → Bool
+is_file_name word = nat_le (length word) 255 && is_printable word
 
 -- a digit 0 or 1 (bytes 48 and 49)
 abbrev pub is_bit : ℕ → Bool
 is_bit b = b == 48 || b == 49
 
+-- digits as truth values
+abbrev pub digit_values : Word → List Bool
+digit_values word = map (λ b. b == 49) word
+
 -- a word of v digits 0 or 1, as truth values
 abbrev pub bits_of : ℕ → Word → Option (List Bool)
-bits_of v word = if length word == v && list_all is_bit word then Some (map (λ b. b == 49) word) else None
+bits_of v word = if length word == v && list_all is_bit word then Some (digit_values word) else None
 
--- a word that is an integer, as a variable; one below 1 is 0, which is none
+-- an integer as a variable; one below 1 is 0, which is none
+abbrev pub variable_from : ℤ → ℕ
+variable_from x = if int_le (pos 1) x then unsigned_abs x else 0
+
+-- a word that is an integer, as a variable
 abbrev pub variable_of : Word → Option ℕ
-variable_of word = option_map (λ x. if int_le (pos 1) x then unsigned_abs x else 0) (integer_value word)
-
--- ---- for the contracts of private functions, and for proofs
-
--- a word that is a name
-abbrev pub name_of : Word → Option Word
-name_of word = if is_name word then Some word else None
-
--- a word that names a file: at most 255 bytes, each of 33 to 126
-abbrev pub file_name_of : Word → Option Word
-file_name_of word = if nat_le (length word) 255 && list_all (is_within 33 126) word then Some word else None
-
--- words that are names, 1 to 1,024 of them
-abbrev pub names_of : List Word → Option (List Word)
-names_of words = if is_within 1 1024 (length words) && list_all is_name words then Some words else None
+variable_of word = option_map variable_from (integer_value word)

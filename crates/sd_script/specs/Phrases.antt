@@ -1,10 +1,9 @@
 -- How the words of a line are read in two steps, for the contracts of private functions: a phrase has its names
 -- and files as they are written, and then as numbers.
-use Rattle.std.specs.Prelude.{ℕ, Bool, true, false, ◌-◌, ◌==◌, ◌||◌, if◌then◌else◌, codes, bytes_eq}
-use Rattle.std.specs.Prelude.{Result, ok_or, pos, int_le, unsigned_abs}
-use Rattle.std.specs.Char.{is_ascii_alphabetic, is_ascii_alphanumeric}
+use Rattle.std.specs.Prelude.{ℕ, Bool, true, false, ◌-◌, if◌then◌else◌, codes, bytes_eq}
+use Rattle.std.specs.Prelude.{Result, ok_or}
 use Rattle.std.specs.Prelude.{List, [], ◌∷◌, ◌++◌, length, take, map, Option, Some, None, option_map, ℤ}
-use Rattle.std.specs.List.{last_or, list_all}
+use Rattle.std.specs.List.{last_or}
 use Rattle.std.specs.Option.{option_and_then}
 use Rattle.sd_base.specs.Lines.{TextLine}
 use Rattle.sd_base.specs.Numbers.{natural_value, integer_value}
@@ -18,29 +17,20 @@ use Rattle.sd_script.specs.declared.command.Action.TheVariants as actions
 use Rattle.sd_script.specs.declared.command.Command.{Command}
 use Rattle.sd_base.specs.FaultTexts.{at_line}
 use Rattle.sd_script.specs.Scripts.{Script, see_all, number_of_word, with_action}
-pub use Rattle.sd_script.specs.Forms.{Word, is_name, name_of, file_name_of, is_bit, is_within, bits_of, names_of}
+pub use Rattle.sd_script.specs.Forms.{Word, starts_name, continues_name, is_name, are_names, is_printable, is_file_name}
+pub use Rattle.sd_script.specs.Forms.{is_bit, is_within, digit_values, bits_of, variable_from}
 
--- ---- parts of the forms of words
+-- a word that is a name
+abbrev pub name_of : Word → Option Word
+name_of word = if is_name word then Some word else None
 
--- a letter or _ (byte 95)
-abbrev pub starts_name : ℕ → Bool
-starts_name b = is_ascii_alphabetic b || b == 95
+-- a word that names a file
+abbrev pub file_name_of : Word → Option Word
+file_name_of word = if is_file_name word then Some word else None
 
--- a letter, a digit or _
-abbrev pub continues_name : ℕ → Bool
-continues_name b = is_ascii_alphanumeric b || b == 95
-
--- no byte but 33 to 126
-abbrev pub is_printable : Word → Bool
-is_printable word = list_all (is_within 33 126) word
-
--- digits as truth values
-abbrev pub digit_values : Word → List Bool
-digit_values word = map (λ b. b == 49) word
-
--- an integer as a variable; one below 1 is 0, which is none
-abbrev pub variable_from : ℤ → ℕ
-variable_from x = if int_le (pos 1) x then unsigned_abs x else 0
+-- words that are names, 1 to 1,024 of them
+abbrev pub names_of : List Word → Option (List Word)
+names_of words = if are_names words then Some words else None
 
 -- a command, with names and files of a type
 pub data Phrase (W : Type 0) : Type 0 where

@@ -32,12 +32,16 @@ abbrev pub formula_fits : ℕ → Action → Bool
 formula_fits o (Input n) = o == 0
 formula_fits o action = true
 
+-- a literal is of a variable, and what is forgotten is a variable
+abbrev pub literals_fit : ℕ → Action → Bool
+literals_fit v action = list_all (is_within 1 v) (footprint action).variables
+
 -- the tests of a command, in their order, each with the text of its fault
 abbrev pub checked : ℕ → ℕ → List Command → ℕ → Action → Result (Unit {0}) (List ℕ)
 checked v o earlier line action = let said = footprint action in do
   fault_if (not (list_all (has (bound earlier)) said.uses)) (at_line line (codes ": name unknown"))
   fault_if (list_any (has (bound earlier)) said.binds) (at_line line (codes ": name taken"))
-  fault_if (not (list_all (is_within 1 v) said.variables)) (at_line line (codes ": literal out of range"))
+  fault_if (not (literals_fit v action)) (at_line line (codes ": literal out of range"))
   fault_if (not (numbers_fit v o action)) (at_line line (codes ": number out of range"))
   fault_if (list_any (has (flat_map (λ c. (footprint c.action).writes) earlier)) said.writes)
       (at_line line (codes ": file named twice"))
@@ -46,12 +50,17 @@ checked v o earlier line action = let said = footprint action in do
   fault_if (not (formula_fits o action)) (at_line line (codes ": no formula"))
   Ok tt
 
+-- a script with one more command behind the others
+abbrev pub with_action : ℕ → ℕ → ℕ → Action → Script → Result Script (List ℕ)
+with_action v o line action s = do
+  checked v o s.commands line action
+  Ok (record s { commands = s.commands ++ record { line = line; action = action } ∷ [] })
+
 -- a script with the command of a line behind the others
 abbrev pub with_line : ℕ → ℕ → Script → TextLine → Result Script (List ℕ)
 with_line v o s line = do
   (action, seen) ← ok_or (command_of v s line.words) (at_line line.number (codes ": bad line"))
-  checked v o seen.commands line.number action
-  Ok (record seen { commands = seen.commands ++ record { line = line.number; action = action } ∷ [] })
+  with_action v o line.number action seen
 
 -- ---- the lines of a text
 
@@ -61,27 +70,14 @@ after_line v o script line = do
   fault_if (nat_lt 100000 line.number) (codes ": too many lines")
   if is_content 35 line then with_line v o script line else Ok script
 
--- The script that a text stands for over the variables 1 to v and a circuit of o outputs (0 for a formula), or the
--- fault of the first line that has one, as the line of the end tells it after the file's name.
-unfoldable pub script_of : ℕ → ℕ → List ℕ → Result Script (List ℕ)
-script_of v o bytes = each_to (after_line v o) (record { commands = []; names = []; files = [] })
-    (numbered_lines bytes)
-
--- ---- for the contracts of private functions, and for proofs
-
--- a literal is of a variable, and what is forgotten is a variable
-abbrev pub literals_fit : ℕ → Action → Bool
-literals_fit v action = list_all (is_within 1 v) (footprint action).variables
-
 -- a script after more lines
 abbrev pub after_lines : ℕ → ℕ → Script → List TextLine → Result Script (List ℕ)
 after_lines v o = each_to (after_line v o)
 
--- a script with one more command behind the others
-abbrev pub with_action : ℕ → ℕ → ℕ → Action → Script → Result Script (List ℕ)
-with_action v o line action s = do
-  checked v o s.commands line action
-  Ok (record s { commands = s.commands ++ record { line = line; action = action } ∷ [] })
+-- The script that a text stands for over the variables 1 to v and a circuit of o outputs (0 for a formula), or the
+-- fault of the first line that has one, as the line of the end tells it after the file's name.
+unfoldable pub script_of : ℕ → ℕ → List ℕ → Result Script (List ℕ)
+script_of v o bytes = after_lines v o empty (numbered_lines bytes)
 
 -- ---- what a reader answers
 

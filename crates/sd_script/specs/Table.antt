@@ -1,8 +1,8 @@
 -- A script as it is seen, and the command that the words of a line stand for.
-use Rattle.std.specs.Prelude.{ℕ, ◌-◌, true, false, not, ◌&&◌, nat_le, if◌then◌else◌, bytes_eq, codes}
+use Rattle.std.specs.Prelude.{ℕ, ◌-◌, true, false, not, if◌then◌else◌, bytes_eq, codes}
 use Rattle.std.specs.Prelude.{Option, Some, None, option_map}
 use Rattle.std.specs.Prelude.{List, [], ◌∷◌, ◌++◌, length, take, drop, map, fold}
-use Rattle.std.specs.List.{list_any, list_all, position_or_len}
+use Rattle.std.specs.List.{list_any, position_or_len}
 use Rattle.std.specs.Bool.{then_some}
 use Rattle.std.specs.Option.{option_and_then}
 use Rattle.sd_base.specs.Numbers.{natural_value, integer_value}
@@ -14,7 +14,7 @@ use Rattle.sd_script.specs.declared.command.Action.TheVariants.{Input, Load, Out
 use Rattle.sd_script.specs.declared.command.Action.TheVariants.{Given, Forget, Drop, Turn, Minimise, Limit}
 use Rattle.sd_script.specs.declared.command.Action.TheVariants.{Same, Size, Value, Write, Vtree}
 use Rattle.sd_script.specs.declared.command.Command.{Command}
-use Rattle.sd_script.specs.Forms.{Word, is_name, is_within, bits_of, variable_of}
+use Rattle.sd_script.specs.Forms.{Word, is_name, are_names, is_file_name, bits_of, variable_of}
 
 -- A script as it is seen. The names, and apart from them the files, stand in the order in which
 -- they are first seen, and the commands have their indices there, counted from 0.
@@ -23,11 +23,19 @@ pub record Script : Type 0 where
   pub names : List Word
   pub files : List Word
 
+-- the script before its first line
+abbrev pub empty : Script
+empty = record { commands = []; names = []; files = [] }
+
 -- ---- numbers in first-seen order
 
 -- the distinct words with one more
 unfoldable pub see : List Word → Word → List Word
 see words word = if list_any (bytes_eq word) words then words else words ++ word ∷ []
+
+-- the distinct words with more of them, in order
+abbrev pub see_all : List Word → List Word → List Word
+see_all words more = fold see words more
 
 -- the number of a word: its index among the distinct words
 unfoldable pub number_of_word : List Word → Word → ℕ
@@ -35,10 +43,13 @@ number_of_word words word = position_or_len (bytes_eq word) words
 
 -- ---- the parts of a line
 
--- a part of a line, over a script with the names and files so far and the words that are left: where they have its
--- form, its value, and the script and the words behind it
+-- a script with the names and files so far, and the words of a line that are left
+abbrev pub Rest : Type 0
+Rest = Script × List Word
+
+-- a part of a line: where the words that are left have its form, its value, and what is left behind it
 abbrev pub Part : Type 0 → Type 0
-Part A = Script × List Word → Option (A × (Script × List Word))
+Part A = Rest → Option (A × Rest)
 
 -- a part, and then another by its value
 infixl 10 ◌>>=◌
@@ -60,18 +71,17 @@ name (s, []) = None
 name (s, word ∷ words) = let all = see s.names word in
     then_some (is_name word) (number_of_word all word, (record s { names = all }, words))
 
--- a word that names a file (at most 255 bytes, each of 33 to 126), with its number as its value
+-- a word that names a file, with its number as its value
 abbrev pub file : Part ℕ
 file (s, []) = None
 file (s, word ∷ words) = let all = see s.files word in
-    then_some (nat_le (length word) 255 && list_all (is_within 33 126) word)
-    (number_of_word all word, (record s { files = all }, words))
+    then_some (is_file_name word) (number_of_word all word, (record s { files = all }, words))
 
--- 1 to 1,024 names, which are all words but the last, with their numbers
+-- names, which are all words but the last, with their numbers
 abbrev pub names : Part (List ℕ)
 names (s, words) = let most = length words - 1 in let own = take most words in
-    let all = fold see s.names own in
-    then_some (is_within 1 1024 (length own) && list_all is_name own)
+    let all = see_all s.names own in
+    then_some (are_names own)
     (map (number_of_word all) own, (record s { names = all }, drop most words))
 
 -- The table of commands over v variables: what stands behind the first word.
@@ -102,27 +112,12 @@ table v command =
     else if bytes_eq command (codes "forget") then (do pure (Forget (← name) (← name) (← value variable_of)))
     else (λ rest. None)
 
--- the command of the words of a line, behind which no word is left, and the script with its names and files
-unfoldable pub command_of : ℕ → Script → List Word → Option (Action × Script)
-command_of v s [] = None
-command_of v s (command ∷ words) =
-    option_and_then (λ (action, (seen, left)). then_some (not (is_filled left)) (action, seen))
-    (table v command (s, words))
-
--- ---- for the contracts of private functions, and for proofs
-
--- nothing read yet
-abbrev pub empty : Script
-empty = record { commands = []; names = []; files = [] }
-
--- the distinct words with more of them, in order
-abbrev pub see_all : List Word → List Word → List Word
-see_all words more = fold see words more
-
--- a script with the names and files so far, and the words of a line that are left
-abbrev pub Rest : Type 0
-Rest = Script × List Word
-
 -- a command behind which no word is left
 abbrev pub whole : Action × Rest → Option (Action × Script)
 whole (action, (s, words)) = then_some (not (is_filled words)) (action, s)
+
+-- the command of the words of a line, and the script with its names and files
+unfoldable pub command_of : ℕ → Script → List Word → Option (Action × Script)
+command_of v s [] = None
+command_of v s (command ∷ words) =
+    option_and_then whole (table v command (s, words))
