@@ -7,6 +7,7 @@ use Rattle.std.specs.List.{AllByRecursion}
 use Rattle.std.specs.BTreeMap as tree
 use Rattle.sd_model.specs.Diagram.{Diagram, Decomposition}
 use Rattle.sd_vtree.specs.Numbered.{IsNumbered, numbers}
+use Rattle.sd_laws.proofs.Products.{all_push}
 use Rattle.sd_manager.specs.Table.{Table}
 use Rattle.sd_manager.specs.Shown.{Shows, ShowsCanonical}
 use Rattle.sd_manager.specs.declared.view.View.TheVariants.{Decomposition as DecompositionView}
@@ -17,9 +18,9 @@ use Rattle.sd_file.specs.Ordered.{Rank, rank_of}
 use Rattle.sd_file.specs.Ranks.{IsLeft, HasRankOrGroup, BothHaveRankOrGroup, KeepRankOrGroup}
 use Rattle.sd_file.specs.Ranks.{AreCollected, KeepCollected, IsFoundAlso}
 use Rattle.sd_file.specs.Ranks.{AreFound, FitsPlain, HasCollectedTo, IsNodeAt, was_seen, seen_at}
-use Rattle.sd_file.proofs.Collecting.{plain_given, same_position}
+use Rattle.sd_file.proofs.Collecting.{plain_given}
+use Rattle.sd_file.proofs.Literals.{same_position}
 use Rattle.sd_file.proofs.Finding.{nothing}
-use Rattle.sd_file.proofs.Giving.{all_pushed}
 use Rattle.sd_file.proofs.Grouping.{take_next}
 use Rattle.sd_file.proofs.Standing.{given_keeps, given_has, stand_again, pairs_still}
 
@@ -119,7 +120,7 @@ collected_more t o p q r f g h k c i e so_far at first prime collected second su
       keeps_all = λ b s. second b (first b (so_far.keeps_all b s));
       stand =
           subst (AllByRecursion (BothHaveRankOrGroup r k.groups)) (sym (take_next (pairs_at t c) i e at))
-          (all_pushed (BothHaveRankOrGroup r k.groups) (take i (pairs_at t c)) e
+          (all_push (BothHaveRankOrGroup r k.groups) (take i (pairs_at t c)) e
           (pairs_still p r g.groups k.groups (λ b s. second b (first b s)) (take i (pairs_at t c)) so_far.stand)
           (second e.0 prime, sub));
     }

@@ -5,13 +5,8 @@ use Rattle.std.specs.Prelude.{is_some}
 use Rattle.std.specs.List.{AllByRecursion, position_or_len}
 use Rattle.std.proofs.lemmas.Bool.{cases_lt, lt-ltb, eq-eqb}
 use Rattle.sd_model.specs.Tree.{AreDistinct}
+use Rattle.sd_laws.proofs.Products.{all_push}
 use Rattle.sd_file.specs.Reads.{index_of_id}
-
--- one more of a kind
-all_push : {X : Type 0} (P : X → Type 0) (xs : List X) (y : X) → AllByRecursion P xs → P y
-    → AllByRecursion P (xs ++ y ∷ [])
-all_push P [] y all here = (here, tt)
-all_push P (x ∷ xs) y all here = (all.0, all_push P xs y all.1 here)
 
 -- one more id, which is none of the others
 pub distinct_push : (ids : List ℕ) (id : ℕ) → AreDistinct ids → AllByRecursion (λ x. x ≢ id) ids

@@ -1,7 +1,7 @@
 -- What an accepted text says: literals are in range, and children are earlier nodes.
 use Rattle.std.proofs.Common.{◌≡◌, ℕ, zero, suc, ◌+◌, ◌≤◌, ◌<◌, ◌==◌, Bool, true, false, not, ◌&&◌, List, [], ◌∷◌, ◌++◌}
 use Rattle.std.proofs.Common.{map, length}
-use Rattle.std.proofs.Common.{Option, Some, None, ok_or, Result, Ok, Err, refl, sym, ap, ◌∙◌, subst, arith, ℤ}
+use Rattle.std.proofs.Common.{Option, Some, None, ok_or, Result, Ok, Err, refl, sym, ap, subst, arith, ℤ}
 use Rattle.std.proofs.Common.{unsigned_abs, slice_get, slice_index_or}
 use Rattle.std.specs.Prelude.{nat_le, is_some, codes}
 use Rattle.std.specs.List.{AllByRecursion}
@@ -21,7 +21,6 @@ use Rattle.sd_file.specs.Reads.{File, entry_with, entry_of}
 use Rattle.sd_file.proofs.Growing.{two, each_length}
 use Rattle.sd_file.proofs.FormPairs.{HasPairs, form_pairs}
 use Rattle.sd_file.proofs.Distinct.{distinct_push, not_among}
-use Rattle.sd_file.proofs.LineForms.{entry_is}
 
 -- ---- steps that came to an end
 
@@ -170,7 +169,7 @@ after_fits v [] earlier all are h = subst (AreEntries v) (ends_at earlier all h)
 after_fits v (line ∷ lines) earlier all are h =
     let more = through (read_more (entry_of v) earlier line) (λ now. each_after (entry_of v) now lines) all h in
     let read = through (entry_of v earlier line) (λ e. Ok (earlier ++ e ∷ [])) more.middle more.gave in
-    let here = entry_fits v (ids_in earlier) line read.middle (sym (entry_is v earlier line) ∙ read.gave) in
+    let here = entry_fits v (ids_in earlier) line read.middle read.gave in
     let count : length (ids_in earlier) ≡ 0 + length earlier =
     omega (arith, length-map earlier (λ (e : Entry). e.id)) in
     let at = subst (λ n. FitsAt v n read.middle.node) count here.fits in

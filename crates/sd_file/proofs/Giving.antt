@@ -1,6 +1,5 @@
 -- What the calls on maps and lists say, in the words of ranks.
-use Rattle.std.proofs.Common.{◌≡◌, ℕ, false, cond, List, [], ◌∷◌, ◌++◌, Option, refl, sym, ◌∙◌, ap}
-use Rattle.std.specs.List.{AllByRecursion}
+use Rattle.std.proofs.Common.{◌≡◌, ℕ, false, cond, Option, refl, sym, ◌∙◌, ap}
 use Rattle.std.specs.Ordering.{nat_cmp, is_eq}
 use Rattle.std.specs.declared.cmp.Ordering.{Ordering}
 use Rattle.std.specs.declared.cmp.Ordering.TheVariants.{Less, Equal, Greater}
@@ -24,9 +23,3 @@ updated_here c w o n e = e ∙ ap (λ q. cond (is_eq q) w o) (nat_same c c refl)
 pub updated_other : {A : Type 0} (c b : ℕ) (w o n : Option A) → n ≡ cond (is_eq (nat_cmp c b)) w o → (b ≡ c → ⊥) →
     n ≡ o
 updated_other c b w o n e h = e ∙ ap (λ q. cond q w o) (nat_other c b (λ k. h (sym k)))
-
--- one more that has a property
-pub all_pushed : {X : Type 0} (P : X → Type 0) (xs : List X) (x : X) → AllByRecursion P xs → P x →
-    AllByRecursion P (xs ++ x ∷ [])
-all_pushed P [] x h k = (k, tt)
-all_pushed P (y ∷ xs) x h k = (h.0, all_pushed P xs x h.1 k)

@@ -24,6 +24,7 @@ use Rattle.std.proofs.lemmas.List.Sorted.{IsPermutation-sym}
 use Rattle.std.proofs.lemmas.Map.Keys.{IsDistinct-push}
 use Rattle.std.proofs.lemmas.Option.{same_Some}
 use Rattle.sd_laws.proofs.Lists.{all_permuted, all_weaker}
+use Rattle.sd_laws.proofs.Products.{all_push}
 use Rattle.sd_manager.specs.Table.{Table}
 use Rattle.sd_manager.specs.Views.{pairs_at}
 use Rattle.sd_manager.specs.Valid.{IsTable}
@@ -37,7 +38,7 @@ use Rattle.sd_file.specs.Ranks.{items_of, HasRankedTo, HasEntries, HasGiven, IsL
 use Rattle.sd_file.specs.Ranks.{HaveRanksTo, KeepRanks}
 use Rattle.sd_file.proofs.Ascending.{sorted_strict}
 use Rattle.sd_file.proofs.Ranking.{if_tells, entry_total, given_one, elements_sorted}
-use Rattle.sd_file.proofs.Giving.{all_pushed, nat_other}
+use Rattle.sd_file.proofs.Giving.{nat_other}
 use Rattle.sd_file.proofs.Standing.{added_also, given_keeps, given_has}
 
 -- the first elements of a list and the next one
@@ -65,7 +66,7 @@ ranked_more t o c i v w e x h at a b r s same =
           ∙ ap (λ z. take i (pairs_at t c) ++ z ∷ []) pair ∙ sym (take_next (pairs_at t c) i e at);
       ranked =
           subst (AllByRecursion (IsRanked o)) (sym same)
-          (all_pushed (IsRanked o) v x h.ranked (ap (rank_of o) a ∙ r, ap (rank_of o) b ∙ s));
+          (all_push (IsRanked o) v x h.ranked (ap (rank_of o) a ∙ r, ap (rank_of o) b ∙ s));
     }
   where
     pair : codes_of x ≡ e
@@ -83,7 +84,7 @@ entries_more t o group i d v w x h lt code is same =
           ∙ sym (take_more group i d lt);
       entries = λ p each.
           subst (AllByRecursion (IsEntry t o p)) (sym same)
-          (all_pushed (IsEntry t o p) v x (h.entries p each) (is p (all_or (IsNodeAt t p) group i each lt)));
+          (all_push (IsEntry t o p) v x (h.entries p each) (is p (all_or (IsNodeAt t p) group i each lt)));
     }
   where
     all_or : (P : ℕ → Type 0) (xs : List ℕ) (i : ℕ) → AllByRecursion P xs → i < length xs → P (get_or xs i d)
@@ -138,7 +139,7 @@ ranks_more old o new p i xs x list h lt is given =
       given =
           subst (AllByRecursion (λ (e : RankedNode). IsSome (rank_of new e.2)))
           (sym (take_more xs i x lt ∙ ap (λ z. take i xs ++ z ∷ []) (sym is)))
-          (all_pushed (λ (e : RankedNode). IsSome (rank_of new e.2)) (take i xs) x
+          (all_push (λ (e : RankedNode). IsSome (rank_of new e.2)) (take i xs) x
           (all_weaker (λ (e : RankedNode). IsSome (rank_of o e.2)) (λ (e : RankedNode). IsSome (rank_of new e.2))
           (λ e s. keeps e.2 s) (take i xs) h.given) (given_has o new x.2 (2, p, i) given.ranks));
     }
@@ -284,7 +285,7 @@ added_found t old new p c h k at fresh =
     grown =
         let g = had (tree.get nat_cmp old.groups p) refl in
         record {
-          each = all_pushed (IsNodeAt t p) (items_of (tree.get nat_cmp old.groups p)) c g.0.each at;
+          each = all_push (IsNodeAt t p) (items_of (tree.get nat_cmp old.groups p)) c g.0.each at;
           distinct =
               IsDistinct-push nat_eq_equiv (items_of (tree.get nat_cmp old.groups p)) c g.0.distinct
               (none_of old c (items_of (tree.get nat_cmp old.groups p)) fresh g.1);
@@ -310,7 +311,7 @@ added_found t old new p c h k at fresh =
             let same : k.group ≡ v = same_Some k.group v (sym k.is ∙ ap (tree.get nat_cmp new.groups) (sym w.1) ∙ e) in
             let g = had (tree.get nat_cmp old.groups p) refl in
             subst (AllByRecursion (λ b. was_seen new b ≡ true)) (sym k.items ∙ ap (λ z. z.items) same)
-            (all_pushed (λ b. was_seen new b ≡ true) (items_of (tree.get nat_cmp old.groups p)) c
+            (all_push (λ b. was_seen new b ≡ true) (items_of (tree.get nat_cmp old.groups p)) c
             (all_weaker (λ b. was_seen old b ≡ true) (λ b. was_seen new b ≡ true) was
             (items_of (tree.get nat_cmp old.groups p)) g.1) now)
         go (inr w) =

@@ -19,7 +19,6 @@ pub mod Giving
 pub mod Grouping
 pub mod Growing
 pub mod IdPlaces
-pub mod LineForms
 pub mod LineLaws
 pub mod LinesRead
 pub mod Literals

@@ -13,7 +13,6 @@ use Rattle.sd_base.specs.FaultTexts.{at_line}
 use Rattle.sd_file.specs.Reads.{Node, Entry, Fails, form_of, index_of_id, node_of, entry_with, entry_of}
 use Rattle.sd_file.specs.Steps.{node_in, entries_of, IsWithin, IsPutIn}
 use Rattle.sd_file.proofs.Growing.{ids_same, entries_push}
-use Rattle.sd_file.proofs.LineForms.{entry_is}
 
 -- an id and a node
 abbrev entry : ℕ → Node → Entry
@@ -42,8 +41,7 @@ with_form v kept pairs line form form_is =
     let put : Result Entry (List ℕ) → Result (List Entry) (List ℕ) =
     λ r. r >>= λ e. Ok (entries_of kept pairs ++ e ∷ []) in
     let rest : Entry → Result Entry (List ℕ) = placed v (kept_ids kept) line.number in
-    ap put (entry_is v (entries_of kept pairs) line)
-    ∙ ap (λ ids. put (entry_with v ids line)) (ids_same kept pairs)
+    ap (λ ids. put (entry_with v ids line)) (ids_same kept pairs)
     ∙ ap (λ (o : Option Entry). put (ok_or o (at_line line.number (codes ": bad line")) >>= rest)) form_is
 
 -- the line has no form
@@ -53,8 +51,7 @@ no_form v kept pairs line none =
     let put : Result Entry (List ℕ) → Result (List Entry) (List ℕ) =
     λ r. r >>= λ e. Ok (entries_of kept pairs ++ e ∷ []) in
     let rest : Entry → Result Entry (List ℕ) = placed v (map (λ e. e.id) (entries_of kept pairs)) line.number in
-    ap put (entry_is v (entries_of kept pairs) line)
-    ∙ ap (λ (o : Option Entry). put (ok_or o (at_line line.number (codes ": bad line")) >>= rest)) none
+    ap (λ (o : Option Entry). put (ok_or o (at_line line.number (codes ": bad line")) >>= rest)) none
 
 -- the id is that of an earlier node
 pub id_twice : (v : ℕ) (kept : List FileEntry) (pairs : List (ℕ × ℕ)) (line : TextLine) (form : Entry) (id : ℕ)

@@ -13,10 +13,10 @@ use Rattle.sd_model.proofs.ClosedLists.{IsClosed}
 use Rattle.sd_model.proofs.Words.{number_is_word}
 use Rattle.sd_vfile.proofs.Texts.{IsFullWord, IsTextLine, numbered, full_number, natural_back}
 use Rattle.sd_file.proofs.Comments.{IsComment, lines_before_comments}
-use Rattle.sd_file.specs.Reads.{Entry, entry_of, file_of_lines}
+use Rattle.sd_file.specs.Reads.{Entry, entry_of}
+use Rattle.sd_file.specs.Steps.{file_of_lines}
 use Rattle.sd_file.proofs.IdPlaces.{AreOwnPlaces, no_ids, next_id}
 use Rattle.sd_file.proofs.DiagramPlaces.{AreNew, index_new, index_below, index_most}
-use Rattle.sd_file.proofs.LineForms.{entry_is}
 use Rattle.sd_file.proofs.NodeLines.{written_entry, IsReadable, HaveIds, line_back}
 
 -- ---- the lines are lines of words
@@ -96,8 +96,8 @@ lines_read v n nodes before (d ∷ ds) earlier is small closed new fit own same 
     let known : HaveIds before nodes ids = λ x there.
     own.known (index_in x nodes) (omega (arith, count, ap (index_in x) is, index_below x before (d ∷ ds) there)) in
     let fresh = own.new (index_in d nodes) (omega (arith, index)) in
-    let line = entry_is v earlier (record { number = n; words = node_words nodes d })
-    ∙ line_back v n before nodes ids d small fit.0 closed.0 known fresh in
+    let line : entry_of v earlier (record { number = n; words = node_words nodes d }) ≡ Ok entry =
+    line_back v n before nodes ids d small fit.0 closed.0 known fresh in
     let pushed : ids_of (earlier ++ entry ∷ []) ≡ ids ++ length ids ∷ [] =
     map_push (λ (e : Entry). e.id) earlier entry ∙ ap (λ i. ids ++ i ∷ []) index in
     let longer : length (earlier ++ entry ∷ []) ≡ length (before ++ d ∷ []) =

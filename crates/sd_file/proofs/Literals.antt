@@ -1,5 +1,5 @@
--- The literal that is read of a node, at its leaf.
-use Rattle.std.proofs.Common.{◌≡◌, ℕ, ◌≤◌, Bool, true, false, Some, slice_get}
+-- The position of a node of a vtree, and the literal that is read of a node, at its leaf.
+use Rattle.std.proofs.Common.{◌≡◌, ℕ, ◌≤◌, ◌<◌, Bool, true, false, Some, length, slice_get}
 use Rattle.std.proofs.Common.{refl, sym, ◌∙◌, ap, subst, arith, w32}
 use Rattle.std.specs.Prelude.{ℤ, pos}
 use mir.Val.{SFits, to_z, of_z}
@@ -11,8 +11,8 @@ use Rattle.std.proofs.lemmas.Option.{same_Some}
 use Rattle.sd_model.specs.Diagram.{Diagram, Literal}
 use Rattle.sd_model.specs.Tree.{leaves}
 use Rattle.sd_vtree.specs.Numbered.{Numbered, IsNumbered, numbers, plain_tree, variable_at}
-use Rattle.sd_vtree.proofs.Subtrees.{once_numbered}
-use Rattle.sd_vtree.proofs.Times.{one_place}
+use Rattle.sd_vtree.proofs.Subtrees.{once_numbered, node_within}
+use Rattle.sd_vtree.proofs.Times.{one_place, times_slice_get}
 use Rattle.sd_laws.proofs.Codes.{leaf_range}
 use Rattle.sd_laws.proofs.Leaves.{leaf_number}
 use Rattle.sd_manager.specs.Table.{Table}
@@ -21,7 +21,12 @@ use Rattle.sd_manager.specs.Literals.{literal_of}
 use Rattle.sd_manager.specs.Views.{IsViewOf}
 use Rattle.sd_manager.specs.Valid.{IsTable}
 
--- a node of a vtree stands at one position
+-- a node that stands at a position is one of the vtree
+pub stands_within : (t : Numbered) → IsNumbered t → (p u : ℕ) → slice_get (numbers t) p ≡ Some u →
+    u < length (numbers t)
+stands_within t v p u e = node_within t v u (times_slice_get (numbers t) p u e)
+
+-- it stands at one position
 pub same_position : (t : Numbered) → IsNumbered t → (u p q : ℕ) → slice_get (numbers t) p ≡ Some u →
     slice_get (numbers t) q ≡ Some u → p ≡ q
 same_position t v u p q = one_place (numbers t) u p q (once_numbered t v u)

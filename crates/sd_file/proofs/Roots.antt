@@ -17,6 +17,7 @@ use Rattle.sd_model.proofs.ClosedLists.{AreAllAmong, roots_among}
 use Rattle.sd_vtree.specs.Numbered.{plain_tree, number_of}
 use Rattle.sd_laws.proofs.Depths.{depth_canonical}
 use Rattle.sd_laws.proofs.Lists.{all_weaker}
+use Rattle.sd_laws.proofs.Products.{all_push}
 use Rattle.sd_manager.specs.Table.{Table}
 use Rattle.sd_manager.specs.Shown.{Shows, ShowsCanonical, IsNodeOf}
 use Rattle.sd_manager.specs.Valid.{IsTable}
@@ -30,7 +31,6 @@ use Rattle.sd_file.specs.Ordered.{Lists, HasOrder, list_of}
 use Rattle.sd_file.specs.Ranks.{IsLeft, HasRankOrGroup, KeepCollected, AreCollected, AreRanks}
 use Rattle.sd_file.specs.Ranks.{IsCanonicalForSubtree, IsShownWithin, HaveCollectedTo}
 use Rattle.sd_file.proofs.Collecting.{in_order_below}
-use Rattle.sd_file.proofs.Giving.{all_pushed}
 use Rattle.sd_file.proofs.Grouping.{take_next}
 use Rattle.sd_file.proofs.RankedBelow.{root_below, ranked_or}
 
@@ -51,7 +51,7 @@ collected_root t o p f g codes i c so_far lt is collected keeps_all stands =
       stand =
           subst (AllByRecursion (HasRankOrGroup p g.groups))
           (sym (take_next codes i c (slice_get_read codes (length codes) i c refl lt is)))
-          (all_pushed (HasRankOrGroup p g.groups) (take i codes) c
+          (all_push (HasRankOrGroup p g.groups) (take i codes) c
           (all_weaker (HasRankOrGroup o f.groups) (HasRankOrGroup p g.groups) keeps_all (take i codes) so_far.stand)
           stands);
     }

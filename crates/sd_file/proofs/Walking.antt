@@ -11,9 +11,7 @@ use Rattle.sd_model.specs.Canonical.{IsCanonical, IsElement, first, later}
 use Rattle.sd_model.specs.Size.{walk, walk_elements}
 use Rattle.sd_model.specs.Listing.{add}
 use Rattle.sd_model.proofs.Adding.{add_pair}
-use Rattle.sd_vtree.specs.Numbered.{Numbered, IsNumbered, numbers, plain_tree}
-use Rattle.sd_vtree.proofs.Subtrees.{node_within}
-use Rattle.sd_vtree.proofs.Times.{times_slice_get}
+use Rattle.sd_vtree.specs.Numbered.{numbers, plain_tree}
 use Rattle.sd_laws.specs.Depth.{depth, depth_of}
 use Rattle.sd_laws.specs.Shown.{ShowElements}
 use Rattle.sd_laws.proofs.Nodes.{elements_canonical}
@@ -188,8 +186,3 @@ pub inside_walkable : (t : Table) (lists : Lists) (levels c place : ℕ) (d : Di
 inside_walkable t lists levels c place d l i is =
     elements_walkable t lists levels c i.position i.elements l i.shown
     (inside_shown t lists levels c place d l i is) i.ordered i.deep
-
--- a node that stands at a position is one of the vtree
-pub stands_within : (t : Numbered) → IsNumbered t → (p u : ℕ) → slice_get (numbers t) p ≡ Some u →
-    u < length (numbers t)
-stands_within t v p u e = node_within t v u (times_slice_get (numbers t) p u e)

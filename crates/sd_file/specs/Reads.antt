@@ -3,13 +3,11 @@
 use Rattle.std.specs.Prelude.{◌≡◌, ℕ, Bool, true, false, not, ◌&&◌, ◌==◌, ◌*◌, nat_le, if◌then◌else◌}
 use Rattle.std.specs.Prelude.{List, [], ◌∷◌, map, length, position, Option, Some, None, ok_or, option_map}
 use Rattle.std.specs.Prelude.{option_and_then, is_some, Result, Ok, Err, ℤ, unsigned_abs, codes, bytes_eq}
-use Rattle.std.specs.Bool.{then_some}
-use Rattle.std.specs.List.{list_any}
 use Rattle.std.specs.Option.{option_zip}
 use Rattle.sd_base.specs.Lines.{TextLine, content_of}
 use Rattle.sd_base.specs.Numbers.{is_within, natural_value, integer_value}
 use Rattle.sd_base.specs.Reading.{◌>>=◌, ◌>>◌, fault_if, each}
-pub use Rattle.sd_vfile.specs.Reads.{all_values, nodes_of, of_nodes, stated_behind}
+pub use Rattle.sd_vfile.specs.Reads.{all_values, nodes_of}
 use Rattle.sd_model.specs.Expression.{FileNode, FileConstant, FileLiteral, FileDecomposition, Expression, OfFile}
 use Rattle.sd_file.specs.declared.fault.SddFault.{SddFault}
 use Rattle.sd_file.specs.declared.fault.SddFault.TheVariants.{NoHeader, BadLine, IdTwice, ChildUnknown}
@@ -27,85 +25,36 @@ pub record File : Type 0 where
   pub variables : ℕ
   pub nodes : List Entry
 
--- ---- the four forms of a node line: `F id`, `T id`, `L id vtree literal`, and `D id vtree k` with k pairs of ids
-
--- the literal of the words behind L and an id, or the text of its fault where its variable is none of 1 to v
-abbrev pub literal_of : ℕ → ℕ → List (List ℕ) → Option (Result (ℕ × FileNode) (List ℕ))
-literal_of v line (vtree ∷ literal ∷ []) = option_map (λ (p, z). do
-  fault_if (not (is_within 1 v (unsigned_abs z))) (at_line line (codes ": literal out of range"))
-  Ok (p, FileLiteral z)) (option_zip (natural_value vtree) (integer_value literal))
-literal_of v line words = None
-
--- two by two
-abbrev pub two_by_two : List ℕ → List (ℕ × ℕ)
-two_by_two (p ∷ s ∷ others) = (p, s) ∷ two_by_two others
-two_by_two others = []
-
--- the decomposition of the numbers behind D and an id (a vtree id, k, and k pairs, at least one) with the places of its
--- children among these ids, or the text of its fault where one is not among them
-abbrev pub decomposition : List ℕ → ℕ → Option (List ℕ) → Option (Result (ℕ × FileNode) (List ℕ))
-decomposition ids line (Some (vtree ∷ k ∷ children)) =
-    then_some (nat_le 1 k && length children == 2 * k) (
-    each (λ c. ok_or (position (λ i. i == c) ids) (at_line line (codes ": child unknown"))) children
-    >>= λ places. Ok (vtree, FileDecomposition (two_by_two places)))
-decomposition ids line numbers = None
-
--- a line of one of the four forms behind lines of these ids: its own id, and its node or the text of its fault
-abbrev pub line_of : ℕ → List ℕ → ℕ → List (List ℕ) → Option (ℕ × Result (ℕ × FileNode) (List ℕ))
-line_of v ids line (kind ∷ id ∷ words) = option_zip (natural_value id) (
-    if bytes_eq kind (codes "F") then then_some (length words == 0) (Ok (0, FileConstant false))
-    else if bytes_eq kind (codes "T") then then_some (length words == 0) (Ok (0, FileConstant true))
-    else if bytes_eq kind (codes "L") then literal_of v line words
-    else if bytes_eq kind (codes "D") then decomposition ids line (all_values natural_value words)
-    else None)
-line_of v ids line words = None
-
--- the entry of a line after earlier ones
-abbrev pub entry_of : ℕ → List Entry → TextLine → Result Entry (List ℕ)
-entry_of v earlier line = let ids = map (λ e. e.id) earlier in let fault = at_line line.number in do
-  (id, said) ← ok_or (line_of v ids line.number line.words) (fault (codes ": bad line"))
-  fault_if (list_any (λ i. i == id) ids) (fault (codes ": id twice"))
-  said >>= λ node. Ok (record { id = id; node = node })
-
--- ---- the text
-
--- The file of a text over the variables 1 to v, or the text of its first fault, as the line of the end has it behind
--- the file's name. Blank lines and comments, which begin with c, are passed over.
-unfoldable pub sdd_file : ℕ → List ℕ → Result File (List ℕ)
-sdd_file v bytes = do
-  entries ← nodes_of (codes "sdd") (entry_of v) (content_of 99 bytes)
-  fault_if (length entries == 0) (codes ": no nodes")
-  Ok (record { variables = v; nodes = entries })
-
--- the propositional formula of a file: that of its last node
-abbrev pub expression_of_file : File → Expression
-expression_of_file f = OfFile (map (λ e. e.node.1) f.nodes)
-
 -- a node with its vtree id, as calls of this crate tell it
 abbrev pub Node : Type 0
 Node = ℕ × FileNode
-
--- ---- for the contracts of private functions, and for proofs
 
 -- a node without it
 abbrev pub without_ids : Node → FileNode
 without_ids node = node.1
 
--- ---- the forms of a line as it is written, where primes and subs are ids
+-- ---- the four forms of a node line, as it is written, where primes and subs are ids: `F id`, `T id`,
+-- ---- `L id vtree literal`, and `D id vtree k` with k pairs of ids
 
--- the constant of the words after F or T
+-- the constant of the words behind F or T
 abbrev pub constant_form : Bool → List (List ℕ) → Option Entry
-constant_form value (id ∷ []) = option_map (λ n. record { id = n; node = (0, FileConstant value) }) (natural_value id)
+constant_form value (id ∷ []) =
+    option_map (λ n. record { id = n; node = (0, FileConstant value) }) (natural_value id)
 constant_form value words = None
 
--- the literal of the words after L
+-- the literal of the words behind L
 abbrev pub literal_form : List (List ℕ) → Option Entry
 literal_form (id ∷ vtree ∷ literal ∷ []) =
     option_map (λ (n, (p, z)). record { id = n; node = (p, FileLiteral z) })
     (option_zip (natural_value id) (option_zip (natural_value vtree) (integer_value literal)))
 literal_form words = None
 
--- the numbers after D: an id, a vtree id, k, and k pairs, at least one
+-- two by two
+abbrev pub two_by_two : List ℕ → List (ℕ × ℕ)
+two_by_two (p ∷ s ∷ others) = (p, s) ∷ two_by_two others
+two_by_two others = []
+
+-- the decomposition of the numbers behind D: an id, a vtree id, k, and k pairs, at least one
 abbrev pub decomposition_form : List ℕ → Option Entry
 decomposition_form (id ∷ vtree ∷ k ∷ children) =
     if nat_le 1 k && length children == 2 * k
@@ -118,35 +67,44 @@ abbrev pub form_of : List (List ℕ) → Option Entry
 form_of [] = None
 form_of (letter ∷ words) =
     if bytes_eq letter (codes "F") then constant_form false words
-    else (if bytes_eq letter (codes "T") then constant_form true words
-    else (if bytes_eq letter (codes "L") then literal_form words
-    else (if bytes_eq letter (codes "D") then option_and_then decomposition_form (all_values natural_value words)
-    else None)))
+    else if bytes_eq letter (codes "T") then constant_form true words
+    else if bytes_eq letter (codes "L") then literal_form words
+    else if bytes_eq letter (codes "D")
+    then option_and_then decomposition_form (all_values natural_value words)
+    else None
 
--- ---- the node of a form after lines with these ids
+-- ---- the node of a form behind lines with these ids
 
--- the index of an id
+-- the place of an id
 abbrev pub index_of_id : ℕ → List ℕ → Option ℕ
 index_of_id id ids = position (λ i. i == id) ids
 
--- the places of a prime and a sub
+-- the places of a prime and a sub, or the text of the fault where one is not there
 abbrev pub pair_at : List ℕ → ℕ → ℕ × ℕ → Result (ℕ × ℕ) (List ℕ)
 pair_at ids line (prime, sub) = do
   p ← ok_or (index_of_id prime ids) (at_line line (codes ": child unknown"))
   s ← ok_or (index_of_id sub ids) (at_line line (codes ": child unknown"))
   Ok (p, s)
 
+-- the literal is one of a variable of 1 to v
+abbrev pub is_literal : ℕ → ℤ → Bool
+is_literal v z = is_within 1 v (unsigned_abs z)
+
+-- the decomposition of these pairs of ids
+abbrev pub decomposition_of : List ℕ → ℕ → ℕ → List (ℕ × ℕ) → Result Node (List ℕ)
+decomposition_of ids line vtree pairs = do
+  places ← each (pair_at ids line) pairs
+  Ok (vtree, FileDecomposition places)
+
 -- a node as it is written on a line, over the variables 1 to v, with places for ids
 abbrev pub node_of : ℕ → List ℕ → ℕ → Node → Result Node (List ℕ)
 node_of v ids line (vtree, FileConstant value) = Ok (vtree, FileConstant value)
 node_of v ids line (vtree, FileLiteral literal) = do
-  fault_if (not (is_within 1 v (unsigned_abs literal))) (at_line line (codes ": literal out of range"))
+  fault_if (not (is_literal v literal)) (at_line line (codes ": literal out of range"))
   Ok (vtree, FileLiteral literal)
-node_of v ids line (vtree, FileDecomposition pairs) = do
-  places ← each (pair_at ids line) pairs
-  Ok (vtree, FileDecomposition places)
+node_of v ids line (vtree, FileDecomposition pairs) = decomposition_of ids line vtree pairs
 
--- the entry of a line after lines with these ids
+-- the entry of a line behind lines with these ids
 abbrev pub entry_with : ℕ → List ℕ → TextLine → Result Entry (List ℕ)
 entry_with v ids line = do
   form ← ok_or (form_of line.words) (at_line line.number (codes ": bad line"))
@@ -154,39 +112,28 @@ entry_with v ids line = do
   node ← node_of v ids line.number form.node
   Ok (record { id = form.id; node = node })
 
+-- the entry of a line behind earlier ones
+abbrev pub entry_of : ℕ → List Entry → TextLine → Result Entry (List ℕ)
+entry_of v earlier line = entry_with v (map (λ e. e.id) earlier) line
+
+-- ---- the text
+
 -- the file of these nodes, where there is at least one
 abbrev pub file_of : ℕ → List Entry → Result File (List ℕ)
 file_of v entries = do
   fault_if (length entries == 0) (codes ": no nodes")
   Ok (record { variables = v; nodes = entries })
 
--- the literal is one of a variable of 1 to v
-abbrev pub is_literal : ℕ → ℤ → Bool
-is_literal v z = is_within 1 v (unsigned_abs z)
-
--- the file of all node lines, where the header states a number of them
-abbrev pub finish : ℕ → ℕ → List Entry → Result File (List ℕ)
-finish v stated entries = do
-  fault_if (not (stated == length entries)) (counts stated (length entries))
+-- The file of a text over the variables 1 to v, or the text of its first fault, as the line of the end has it behind
+-- the file's name. Blank lines and comments, which begin with c, are passed over.
+unfoldable pub sdd_file : ℕ → List ℕ → Result File (List ℕ)
+sdd_file v bytes = do
+  entries ← nodes_of (codes "sdd") (entry_of v) (content_of 99 bytes)
   file_of v entries
 
--- the file of a header `sdd N` and the lines after it
-abbrev pub file_of_lines : ℕ → List TextLine → Result File (List ℕ)
-file_of_lines v lines = of_nodes (codes "sdd") (codes ": no header") counts (entry_of v) (file_of v) lines
-
--- the id of a line
-abbrev pub id_of : Entry → ℕ
-id_of form = form.id
-
--- the number of a header `sdd N`
-abbrev pub stated_by : List (List ℕ) → Option ℕ
-stated_by words = stated_behind (codes "sdd") words
-
--- the decomposition of these pairs of ids
-abbrev pub decomposition_of : List ℕ → ℕ → ℕ → List (ℕ × ℕ) → Result Node (List ℕ)
-decomposition_of ids line vtree pairs = do
-  places ← each (pair_at ids line) pairs
-  Ok (vtree, FileDecomposition places)
+-- the propositional formula of a file: that of its last node
+abbrev pub expression_of_file : File → Expression
+expression_of_file f = OfFile (map (λ e. without_ids e.node) f.nodes)
 
 -- ---- what a reader answers
 

@@ -1,10 +1,12 @@
--- How the reader keeps nodes, for the contracts of its private functions.
-use Rattle.std.specs.Prelude.{◌≡◌, ℕ, ◌+◌, ◌≤◌, List, [], ◌∷◌, ◌++◌, map, length, take, drop, Result, Ok}
+-- How the reader goes on and keeps nodes, for the contracts of its private functions.
+use Rattle.std.specs.Prelude.{◌≡◌, ℕ, ◌+◌, ◌≤◌, ◌==◌, not, List, [], ◌∷◌, ◌++◌, map, length, take, drop}
+use Rattle.std.specs.Prelude.{Option, Result, Ok, codes}
 use Rattle.std.specs.BTreeMap as tree
 use Rattle.std.specs.List.{AllByRecursion}
 use Rattle.std.specs.Ordering.{nat_cmp}
 use Rattle.sd_base.specs.Lines.{TextLine}
-use Rattle.sd_base.specs.Reading.{◌>>=◌}
+use Rattle.sd_base.specs.FaultTexts.{counts}
+use Rattle.sd_base.specs.Reading.{◌>>=◌, ◌>>◌, fault_if}
 use Rattle.sd_model.specs.Expression.{FileConstant, FileLiteral, FileDecomposition}
 use Rattle.sd_file.specs.declared.file.FileNode.{FileNode}
 use Rattle.sd_file.specs.declared.file.FileNode.TheVariants as kinds
@@ -13,8 +15,27 @@ use Rattle.sd_file.specs.declared.form.Form as forms
 use Rattle.sd_file.specs.declared.form.Form.TheVariants.{ConstantLine, LiteralLine, DecompositionLine}
 use Rattle.sd_file.specs.declared.id_table.IdTable.{IdTable}
 use Rattle.sd_file.specs.declared.reader.Nodes.{Nodes}
-use Rattle.sd_file.specs.Reads.{two_by_two, index_of_id}
-use Rattle.sd_file.specs.Reads.{Node, Entry, File}
+use Rattle.sd_vfile.specs.Reads.{of_nodes, stated_behind}
+use Rattle.sd_file.specs.Reads.{Node, Entry, File, two_by_two, index_of_id, entry_of, file_of}
+
+-- ---- the steps of a reading
+
+-- the number of a header `sdd N`
+abbrev pub stated_by : List (List ℕ) → Option ℕ
+stated_by words = stated_behind (codes "sdd") words
+
+-- the file of all node lines, where the header states a number of them
+abbrev pub finish : ℕ → ℕ → List Entry → Result File (List ℕ)
+finish v stated entries = do
+  fault_if (not (stated == length entries)) (counts stated (length entries))
+  file_of v entries
+
+-- the file of a header `sdd N` and the lines after it
+abbrev pub file_of_lines : ℕ → List TextLine → Result File (List ℕ)
+file_of_lines v lines =
+    of_nodes (codes "sdd") (codes ": no header") counts (entry_of v) (file_of v) lines
+
+-- ---- a line
 
 -- a line as it is written
 abbrev pub form_view : forms.Form → Entry
@@ -52,8 +73,8 @@ abbrev pub entries_of : List FileEntry → List (ℕ × ℕ) → List Entry
 entries_of kept pairs = map (entry_in pairs) kept
 
 -- a file of these nodes
-abbrev pub file_of : ℕ → List Entry → File
-file_of variables entries = record { variables = variables; nodes = entries }
+abbrev pub file_with : ℕ → List Entry → File
+file_with variables entries = record { variables = variables; nodes = entries }
 
 -- the pairs of a node are among a number of them
 abbrev pub IsWithin : ℕ → FileEntry → Type 0

@@ -39,14 +39,14 @@ impl Model for SddFile {
     ghost use Rattle.std.specs.List.{AllByRecursion};
     ghost use Rattle.sd_file.specs.Files.{IsFile};
     ghost use Rattle.sd_file.specs.Reads.{File};
-    ghost use Rattle.sd_file.specs.Steps.{entries_of, file_of, IsWithin};
+    ghost use Rattle.sd_file.specs.Steps.{entries_of, file_with, IsWithin};
 
     ghost Value = { File };
 
-    ghost view = { λ f. file_of f.variables (entries_of f.entries.items f.pairs.items) };
+    ghost view = { λ f. file_with f.variables (entries_of f.entries.items f.pairs.items) };
 
     ghost invariant = { λ f. AllByRecursion (IsWithin (length f.pairs.items)) f.entries.items
-        × IsFile (file_of f.variables (entries_of f.entries.items f.pairs.items)) };
+        × IsFile (file_with f.variables (entries_of f.entries.items f.pairs.items)) };
 }
 
 impl SddFile {

@@ -36,7 +36,7 @@ pub(crate) enum Form {
 impl Form {
     /// The id of the node.
     pub(crate) fn id(&self) -> u64
-        ensures { result ≡ texts.id_of (form_view self.now) }
+        ensures { result ≡ (form_view self.now).id }
     {
         match self {
             Form::ConstantLine { id, .. }

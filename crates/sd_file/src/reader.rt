@@ -8,6 +8,7 @@ ghost use Rattle.sd_model.specs.Tree.{AreDistinct};
 ghost use Rattle.sd_file.specs.Files.{FitFrom, IsFile};
 ghost use Rattle.sd_file.specs.Reads as texts;
 ghost use Rattle.sd_file.specs.Reads.{Fails, Gives, sdd_file};
+ghost use Rattle.sd_file.specs.Steps as steps;
 ghost use Rattle.sd_file.specs.Steps.{nodes_view, entries_of, IsRead, word_count};
 
 use crate::fault::SddFault;
@@ -87,7 +88,7 @@ fn read_nodes(alloc: Global, variables: u32, lines: ContentLines<'_>) -> Result<
 
 /// The number of node lines that a header states.
 fn stated_by(line: &Line<'_>) -> Option<u64>
-    ensures { result ≡ texts.stated_by (line_view line.now).words }
+    ensures { result ≡ steps.stated_by (line_view line.now).words }
 {
     let mut words = line.words();
     if words.next() != Some(b"sdd") {
@@ -146,7 +147,7 @@ fn finish(variables: u32, stated: u64, nodes: Nodes) -> Result<SddFile, SddFault
     requires fit { FitFrom variables 0 (nodes_view nodes) }
     requires distinct { AreDistinct (map (λ e. e.id) (nodes_view nodes)) }
     requires read { IsRead nodes }
-    ensures value { Gives (λ f. f) result (texts.finish variables stated (nodes_view nodes)) }
+    ensures value { Gives (λ f. f) result (steps.finish variables stated (nodes_view nodes)) }
     ensures variables { IfOk result (λ f. f.variables ≡ variables) }
 {
     let id_table = nodes.id_table;

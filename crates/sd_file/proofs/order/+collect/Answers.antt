@@ -9,7 +9,7 @@ use Rattle.sd_manager.proofs.Reading.{shown_has_node}
 use Rattle.sd_manager.proofs.Evaluating.{children}
 use Rattle.sd_file.specs.Ranks.{FitsPlain}
 use Rattle.sd_file.proofs.Collected.{plain_collected, at_place, added_collected, collected_more}
-use Rattle.sd_file.proofs.Collecting.{stands_within}
+use Rattle.sd_file.proofs.Literals.{stands_within}
 use Rattle.sd_file.proofs.Grouping.{on_ok}
 use Rattle.sd_file.proofs.order.+collect.Goals as goal
 

@@ -3,7 +3,8 @@ use mir.Val.{SFits, to_z, of_z}
 use lib.Signed.{lt_z}
 use Rattle.std.specs.Prelude.{pos}
 use Rattle.sd_model.specs.Diagram.{Literal}
-use Rattle.sd_file.proofs.Collecting.{literal_range, literal_shown, literal_fits}
+use Rattle.sd_file.proofs.Collecting.{literal_fits}
+use Rattle.sd_file.proofs.Literals.{literal_range, literal_shown}
 use Rattle.sd_file.proofs.order.literal_rank.Goals as goal
 
 pub leaf-requires-clause-positive : goal.leaf-requires-clause-positive

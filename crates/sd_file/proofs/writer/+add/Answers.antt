@@ -20,10 +20,10 @@ use Rattle.sd_file.specs.Lines.{HasNodeLines}
 use Rattle.sd_file.proofs.Added.{walk_done, is_new, constant_written, literal_written, inner_can_give}
 use Rattle.sd_file.proofs.Added.{decomposition_written}
 use Rattle.sd_file.proofs.Complete.{children_added}
-use Rattle.sd_file.proofs.Literals.{same_position}
+use Rattle.sd_file.proofs.Literals.{same_position, stands_within}
 use Rattle.sd_file.proofs.Numbering.{have_numbers}
 use Rattle.sd_file.proofs.Walking.{walked_more, walked_all, both_at, next_left, none_left}
-use Rattle.sd_file.proofs.Walking.{inside, inside_shown, inside_walkable, stands_within}
+use Rattle.sd_file.proofs.Walking.{inside, inside_shown, inside_walkable}
 use Rattle.sd_file.proofs.writer.+add.Goals as goal
 
 pub add_elements-add_node-requires : goal.add_elements-add_node-requires
