@@ -7,7 +7,8 @@ use Rattle.std.proofs.lemmas.List.{map-append}
 use Rattle.sd_formula.specs.declared.flat.End.{End}
 use Rattle.sd_formula.specs.declared.formula.Kind.TheVariants.{Cnf}
 use Rattle.sd_formula.specs.Formulas.{IsLiteral, IsGroup, IsFormula, groups_between}
-use Rattle.sd_formula.specs.Generated.{IsGenerable, state_at, literal_by, generated_clause, generated_clauses}
+use Rattle.sd_formula.specs.Generated.{IsGenerable, state_at, literal_by, generated_clause}
+use Rattle.sd_formula.specs.Steps.{generated_clauses}
 use Rattle.sd_formula.specs.Flat.{cut}
 use Rattle.sd_formula.specs.Steps.{Parts, no_group, ended, extended, parts_of}
 use Rattle.sd_formula.proofs.FitLaws.{all_push}

@@ -144,7 +144,8 @@ abbrev pub groups_of : Kind → Stated → List Group → Result Groups (List �
 groups_of kind stated parts =
     let groups = all_but_last parts in
     let found = length groups in do
-      fault_if (option_map_or has_begun (last_or None parts) false) (codes ": last group is not ended")
+      fault_if (option_map_or has_begun (last_or None parts) false)
+          (codes ": last group is not ended")
       fault_if (not (stated.groups == found)) (counts stated.groups found)
       Ok (record { kind = kind; variables = stated.variables; groups = groups })
 

@@ -1,6 +1,6 @@
 -- The generated formula: clauses of three neighbouring variables, whose signs a linear congruential generator gives.
 use Rattle.std.specs.Prelude.{ℕ, zero, suc, ◌+◌, ◌-◌, ◌*◌, ◌%◌, ◌≤◌}
-use Rattle.std.specs.Prelude.{◌<◌, ◌^◌, nat_lt, if◌then◌else◌, List, [], ◌∷◌, ◌++◌, map}
+use Rattle.std.specs.Prelude.{◌<◌, ◌^◌, nat_lt, if◌then◌else◌, [], ◌∷◌, map}
 use Rattle.std.specs.List.{range_with_len}
 use Rattle.std.specs.Prelude.{ℤ, pos, neg_ℤ, false}
 use Rattle.sd_model.specs.Expression.{Group}
@@ -13,10 +13,14 @@ pub record IsGenerable (count seed : ℕ) : Type 0 where
   pub within_limit : count ≤ 1024
   pub seed_fits : seed < 2 ^ 32
 
--- the state of a number, where the seed has the number 0, with the multiplier and the increment of Numerical Recipes
+-- the state after another one, with the multiplier and the increment of Numerical Recipes
+abbrev pub next_state : ℕ → ℕ
+next_state x = (1664525 * x + 1013904223) % 4294967296
+
+-- the state of a number, where the seed has the number 0
 abbrev pub state_at : ℕ → ℕ → ℕ
 state_at seed zero = seed
-state_at seed (suc n) = (1664525 * state_at seed n + 1013904223) % 4294967296
+state_at seed (suc n) = next_state (state_at seed n)
 
 -- the literal of a variable, which is positive where the state is in the lower half
 abbrev pub literal_by : ℕ → ℕ → ℤ
@@ -32,15 +36,8 @@ generated_clause seed i = record {
 -- the formula of so many variables: a clause begins at each variable but the last two
 abbrev pub generated_formula : ℕ → ℕ → Groups
 generated_formula count seed =
-    record { kind = Cnf; variables = count; groups = map (generated_clause seed) (range_with_len 0 (count - 2)) }
-
--- ---- for the contracts of private functions
-
--- the state after another one
-abbrev pub next_state : ℕ → ℕ
-next_state x = (1664525 * x + 1013904223) % 4294967296
-
--- the first clauses
-abbrev pub generated_clauses : ℕ → ℕ → List Group
-generated_clauses seed zero = []
-generated_clauses seed (suc n) = generated_clauses seed n ++ generated_clause seed n ∷ []
+    record {
+      kind = Cnf;
+      variables = count;
+      groups = map (generated_clause seed) (range_with_len 0 (count - 2));
+    }

@@ -1,5 +1,5 @@
--- How the reader goes on, for the contracts of its private functions.
-use Rattle.std.specs.Prelude.{ℕ, ◌≤◌, Bool, true, false, not, ◌&&◌, if◌then◌else◌}
+-- How the reader and the generator go on, for the contracts of their private functions.
+use Rattle.std.specs.Prelude.{ℕ, zero, suc, ◌≤◌, Bool, true, false, not, ◌&&◌, if◌then◌else◌}
 use Rattle.std.specs.Prelude.{List, [], ◌∷◌, ◌++◌, drop, flat_map, Result, Ok, ℤ}
 use Rattle.std.specs.List.{AllByRecursion}
 use Rattle.sd_base.specs.Reading.{◌>>=◌}
@@ -10,6 +10,7 @@ use Rattle.sd_formula.specs.declared.header.Header.{Header}
 use Rattle.sd_formula.specs.declared.parts.Body.{Body}
 use Rattle.sd_formula.specs.Dimacs.{Stated, BodyWord, literal_of_word, is_zero, is_mark, has_begun, word_pieces}
 use Rattle.sd_formula.specs.Flat.{cut, last_end}
+use Rattle.sd_formula.specs.Generated.{generated_clause}
 use Rattle.sd_formula.specs.Formulas.{IsGroup}
 
 -- what a header states
@@ -91,6 +92,11 @@ put_pieces kind variables p words = put_words kind variables p (flat_map (word_p
 -- the parts as one list
 abbrev pub all_groups : Parts → List Group
 all_groups p = p.closed ++ p.open_part ∷ []
+
+-- the first clauses that are generated
+abbrev pub generated_clauses : ℕ → ℕ → List Group
+generated_clauses seed zero = []
+generated_clauses seed (suc n) = generated_clauses seed n ++ generated_clause seed n ∷ []
 
 -- ---- what is known of what was read
 

@@ -4,7 +4,8 @@ ghost use Rattle.std.specs.Prelude.{◌≡◌, ◌≢◌, ◌↔◌, ◌<◌, �
 ghost use Rattle.std.specs.Prelude.{IfOk, IfErr, ◌-◌};
 ghost use Rattle.sd_formula.specs.Dimacs.{is_zero};
 ghost use Rattle.sd_formula.specs.Generated.{IsGenerable, next_state, state_at};
-ghost use Rattle.sd_formula.specs.Generated.{literal_by, generated_clauses, generated_formula};
+ghost use Rattle.sd_formula.specs.Generated.{literal_by, generated_formula};
+ghost use Rattle.sd_formula.specs.Steps.{generated_clauses};
 ghost use Rattle.sd_formula.specs.Steps.{body_view, no_group, extended, ended};
 
 use crate::formula::{Formula, Kind};

@@ -1,5 +1,6 @@
 use Rattle.std.proofs.Common.{◌≡◌, ◌≤◌, ◌*◌, length}
-use Rattle.sd_formula.specs.Generated.{state_at, generated_clauses}
+use Rattle.sd_formula.specs.Generated.{state_at}
+use Rattle.sd_formula.specs.Steps.{generated_clauses}
 use Rattle.sd_formula.specs.Steps.{body_view, no_group}
 use Rattle.sd_formula.proofs.generated.generated_body.Given as goal
 
