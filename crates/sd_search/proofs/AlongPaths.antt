@@ -22,6 +22,7 @@ use Rattle.sd_vtree.proofs.Subtrees.{Here, Left as OnLeft, Right as OnRight}
 use Rattle.sd_vtree.proofs.Put.{moved_none}
 use Rattle.sd_search.specs.Search.{subtree_at}
 use Rattle.sd_search.specs.Paths.{part_at, IsAtPath, KeepsAlong}
+use Rattle.sd_search.proofs.Moved.{mapped}
 
 -- ---- nodes at the ends of paths
 
@@ -239,11 +240,6 @@ top_along RotateLeft (NumberedNode m a (NumberedNode k b c)) u e =
 top_along Swap (NumberedNode m a b) u e =
     subst (λ s. KeepsAlong (NumberedNode m a b) s []) (same_Some _ u e)
     (refl, omega (arith, length-append (numbers a) (m ∷ numbers b), length-append (numbers b) (m ∷ numbers a)))
-
--- what a mapped option was made of
-mapped : {A : Type 0} (f : A → A) (o : Option A) (u : A) → option_map f o ≡ Some u → (v : A) × (o ≡ Some v) × (f v ≡ u)
-mapped f None u e = absurd (none-some u e)
-mapped f (Some v) u e = (v, refl, same_Some (f v) u e)
 
 -- a move at the node at the end of a path
 pub moved_along : (kind : Move) (t : Numbered) (path : List Side) (n : ℕ) (u : Numbered) → AtMostOnce t

@@ -7,7 +7,8 @@ use Rattle.std.proofs.lemmas.Bool.{cases_lt}
 use Rattle.sd_model.specs.Expression.{Expression}
 use Rattle.sd_model.specs.Tree.{Tree}
 use Rattle.sd_model.specs.declared.trees.Side.{Side}
-use Rattle.sd_search.specs.Search.{State, first_least, IsFirstLeast, IsWalk}
+use Rattle.sd_search.specs.Search.{State, first_least, IsWalk}
+use Rattle.sd_search.specs.Walking.{IsFirstLeast}
 
 -- what holds of all holds of one in the middle
 pub all_middle : {A : Type 0} (P : A → Type 0) (xs ys : List A) (a : A) → AllByRecursion P (xs ++ a ∷ ys) → P a

@@ -20,7 +20,7 @@ record HasSizeWithin (fs : List Expression) (t : Tree) (n : ℕ) : Type 0 where
   pub within : size ≤ n
 
 -- the states that moves lead through have their sizes
-through_sized : (fs : List Expression) (bound : ℕ) (t : Tree) (path : List Side) (ms : List WalkMove)
+pub through_sized : (fs : List Expression) (bound : ℕ) (t : Tree) (path : List Side) (ms : List WalkMove)
     (states : List State) → LeadWithin fs bound t path ms states → AllByRecursion (λ s. HasSize fs s.tree s.size) states
 through_sized fs bound t path ms [] h = tt
 through_sized fs bound t path [] (s ∷ states) h = cc

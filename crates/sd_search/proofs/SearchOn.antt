@@ -16,7 +16,8 @@ use Rattle.sd_compile.specs.Total.{AreHeldFormulas}
 use Rattle.sd_compile.proofs.Named.{held_size}
 use Rattle.sd_search.specs.Search.{IsRound, IsRoundBegun, Found, IsSearch, no_round, last_round, further_round}
 use Rattle.sd_search.specs.Search.{IsSearchBegun, in_round, after_round}
-use Rattle.sd_search.specs.Kept.{KeepsRoots, IsSizeOfHeld}
+use Rattle.sd_search.specs.Kept.{KeepsRoots}
+use Rattle.sd_search.specs.Walking.{IsSizeOfHeld}
 use Rattle.sd_search.specs.Paths.{IsAtPath, KeepsAlong}
 use Rattle.sd_search.proofs.AlongPaths.{along_at, place_along}
 use Rattle.sd_search.proofs.KeptRoots.{shows_kept, kept_itself, kept_both, formulas_on}

@@ -1,10 +1,9 @@
 -- What is found from a step of a walk on, by what is found from the next one on.
-use Rattle.std.proofs.Common.{◌≡◌, ◌⊎◌, inl, inr, ℕ, zero, suc, ◌+◌, ◌≤◌, ◌<◌, List, [], ◌∷◌, ◌++◌, map}
-use Rattle.std.proofs.Common.{min, Option, Some, None, slice_get, refl, sym, ap, subst, ◌∙◌, arith}
-use Rattle.std.proofs.Common.{length, get_or, ltb, IfSome, Bor, lt-ltb, le-ltb, if◌then◌else◌}
+use Rattle.std.proofs.Common.{◌≡◌, ◌⊎◌, inl, inr, ℕ, ◌+◌, ◌≤◌, ◌<◌, List, [], ◌∷◌, ◌++◌, map}
+use Rattle.std.proofs.Common.{min, Option, Some, None, refl, sym, ap, subst, ◌∙◌, arith}
+use Rattle.std.proofs.Common.{length, lt-ltb, le-ltb, if◌then◌else◌}
 use Rattle.std.specs.List.{AllByRecursion}
-use Rattle.std.specs.Option.{is_some, option_copied}
-use Rattle.std.proofs.lemmas.Bool.{cases_lt, ltb-true}
+use Rattle.std.proofs.lemmas.Bool.{cases_lt}
 use Rattle.std.proofs.lemmas.Option.{same_Some, none-some}
 use Rattle.sd_model.specs.declared.trees.Side.{Side}
 use Rattle.sd_model.specs.Expression.{Expression}
@@ -20,29 +19,19 @@ use Rattle.sd_compile.specs.Total.{AreHeldFormulas}
 use Rattle.sd_search.specs.Search.{WalkMove, State, LeadThrough, LeadWithin}
 use Rattle.sd_search.specs.Paths.{IsAtPath, KeepsAlong}
 use Rattle.sd_search.specs.Kept.{IsSearchRefusal}
-use Rattle.sd_search.specs.Walking.{move_of, moves_from, IsAhead, CanGoOn, IsCapped, IsStepRefusal, best_of}
+use Rattle.sd_search.specs.Walking.{move_of, IsAhead, CanGoOn, IsCapped, IsStepRefusal, best_of}
 use Rattle.sd_search.specs.Walking.{stop_of_move, HasSmallSize}
 use Rattle.sd_search.specs.declared.error.SearchError.{SearchError}
 use Rattle.sd_search.specs.declared.error.SearchError.TheVariants as stops
 use Rattle.sd_search.specs.declared.steps.Step.{Step}
 use Rattle.sd_search.proofs.AlongPaths.{along_at}
 
--- ---- the steps from an index on
+-- ---- the moves of steps
 
-pub moves_more : (steps : List Step) (i : ℕ) (s : Step) → slice_get steps i ≡ Some s
-    → moves_from steps i ≡ move_of s ∷ moves_from steps (i + 1)
-moves_more [] zero s e = absurd (none-some s e)
-moves_more [] (suc i) s e = absurd (none-some s e)
-moves_more (x ∷ xs) zero s e = ap (λ y. move_of y ∷ map move_of xs) (same_Some x s e)
-moves_more (x ∷ xs) (suc i) s e =
-    let same : suc (i + 1) ≡ suc i + 1 = omega arith in
-    subst (λ n. moves_from xs i ≡ move_of s ∷ moves_from (x ∷ xs) n) same (moves_more xs i s e)
-
-pub moves_end : (steps : List Step) (i : ℕ) → slice_get steps i ≡ None → moves_from steps i ≡ []
-moves_end [] zero e = refl
-moves_end [] (suc i) e = refl
-moves_end (x ∷ xs) zero e = absurd (none-some x (sym e))
-moves_end (x ∷ xs) (suc i) e = moves_end xs i e
+-- without steps there are none
+pub no_moves : (steps : List Step) → length steps ≡ 0 → map move_of steps ≡ []
+no_moves [] none = refl
+no_moves (x ∷ xs) none = absurd (omega (arith, none))
 
 -- the moves behind the first one can be made after it
 pub can_go_on : (t u : Numbered) (place : ℕ) (m : WalkMove) (ms rest : List WalkMove) → ms ≡ m ∷ rest
@@ -177,27 +166,6 @@ lesser_of a b n is = (grind (arith, is), grind (arith, is), one)
       | inr h ↦ inl (grind (arith, is, h))
     ]
 
--- ---- the step at an index
-
-item_none : (xs : List Step) (i : ℕ) → length xs ≤ i → slice_get xs i ≡ None
-item_none [] zero h = refl
-item_none [] (suc i) h = refl
-item_none (x ∷ xs) zero h = absurd (omega (arith, h))
-item_none (x ∷ xs) (suc i) h = item_none xs i (omega (arith, h))
-
-item_some : (xs : List Step) (i : ℕ) (s : Step) → i < length xs → s ≡ get_or xs i s → slice_get xs i ≡ Some s
-item_some [] i s h e = absurd (omega (arith, h))
-item_some (x ∷ xs) zero s h e = ap Some (sym e)
-item_some (x ∷ xs) (suc i) s h e = item_some xs i s (omega (arith, h)) e
-
-pub item_at : (xs : List Step) (i : ℕ) (o : Option (Bor Step)) → is_some o ≡ ltb i (length xs)
-    → IfSome o (λ x. x.now ≡ get_or xs i x.now) → option_copied o ≡ slice_get xs i
-item_at xs i None a b = elim (cases_lt i (length xs)) [
-  | inl h ↦ (let e = lt-ltb i (length xs) h in absurd (cc (a, e)))
-  | inr h ↦ sym (item_none xs i (omega (arith, h)))
-]
-item_at xs i (Some x) a b = sym (item_some xs i x.now (ltb-true i (length xs) (sym a)) b)
-
 -- ---- the choice between a state and the later ones
 
 module _ (fs : List Expression) (bound : ℕ) (t v u : Tree) (path : List Side) (m : WalkMove) (ms rest : List WalkMove)
@@ -260,8 +228,3 @@ stop_rule a b place most m (OverMost size limit) stop e h = absurd (none-some st
 stop_rule a b place most m (ArenaFull elements) stop e h =
     subst (IsSearchRefusal b) (same_Some (stops.ArenaFull elements) stop e) h
 stop_rule a b place most m OutOfMemory stop e h = subst (IsSearchRefusal b) (same_Some stops.OutOfMemory stop e) tt
-
--- a step that is there has an index within the list
-pub item_within : (i n : ℕ) (o : Option (Bor Step)) (s : Step) → is_some o ≡ ltb i n → Some s ≡ option_copied o → i < n
-item_within i n None s a e = absurd (none-some s (sym e))
-item_within i n (Some x) s a e = ltb-true i n (sym a)

@@ -18,11 +18,13 @@ use Rattle.sd_sweep.specs.Reached.{KeepsReached}
 use Rattle.sd_compile.specs.Total.{AreHeldFormulas}
 use Rattle.sd_search.specs.Search.{WalkMove, walk_moves, subtree_at, State, LeadThrough, LeadWithin}
 use Rattle.sd_search.specs.Search.{IsWalk}
-use Rattle.sd_search.specs.Kept.{KeepsRoots, IsSizeOfHeld}
+use Rattle.sd_search.specs.Kept.{KeepsRoots}
+use Rattle.sd_search.specs.Walking.{IsSizeOfHeld}
 use Rattle.sd_search.specs.Paths.{IsAtPath}
 use Rattle.sd_search.specs.Walking.{move_of, IsCapped, IsAhead, CanGoOn, AreStepsAt}
 use Rattle.sd_search.specs.declared.steps.Step.{Step}
 use Rattle.sd_search.proofs.LeastState.{all_middle, least_found}
+use Rattle.sd_search.proofs.NeverLarger.{through_sized}
 use Rattle.sd_search.proofs.WorkedSearch.{from_left, from_right, of_two}
 use Rattle.sd_search.proofs.AnyFormulas.{any_formulas}
 use Rattle.sd_search.proofs.Rounds.{has_path}
@@ -84,13 +86,6 @@ can_walk t place steps num less are =
 
 -- ---- what a walk leads to
 
--- each state has its size
-lead_sizes : (fs : List Expression) (bound : ℕ) (t : Tree) (path : List Side) (ms : List WalkMove) (states : List State)
-    → LeadWithin fs bound t path ms states → AllByRecursion (λ s. HasSize fs s.tree s.size) states
-lead_sizes fs bound t path ms [] h = tt
-lead_sizes fs bound t path [] (s ∷ states) h = absurd (cc (h))
-lead_sizes fs bound t path (m ∷ ms) (s ∷ states) h = (h.1, lead_sizes fs bound s.tree path ms states h.3)
-
 -- so the state that is found has the size that is told
 found_size : (fs : List Expression) (bound : ℕ) (t u : Tree) (path : List Side) (ms : List WalkMove) (least size : ℕ)
     → IsAhead fs bound t path ms least (Some size) u → HasSize fs u size
@@ -98,7 +93,7 @@ found_size fs bound t u path ms least size h =
     let first = h.finds.0 in
     all_middle (λ s. HasSize fs s.tree s.size) first.before first.behind (record { tree = u; size = size })
     (subst (AllByRecursion (λ s. HasSize fs s.tree s.size)) first.parts
-    (lead_sizes fs bound t path ms h.states h.through))
+    (through_sized fs bound t path ms h.states h.through))
 
 module _ (fs : List Expression) (slack size : ℕ) (t : Tree) (path : List Side) (here : Tree) (ms : List WalkMove)
     (at : subtree_at t path ≡ Some here) (is : ms ≡ walk_moves here) (start : HasSize fs t size) where

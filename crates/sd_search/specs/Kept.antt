@@ -3,13 +3,10 @@ use Rattle.std.specs.Prelude.{◌≡◌, ℕ, Bool, List, Some, None}
 use Rattle.std.specs.FinMap.{get}
 use Rattle.sd_model.specs.Tree.{leaves}
 use Rattle.sd_model.specs.Diagram.{Diagram, meaning}
-use Rattle.sd_model.specs.Expression.{Expression}
-use Rattle.sd_model.specs.Size.{HasSize}
 use Rattle.sd_vtree.specs.Numbered.{plain_tree}
 use Rattle.sd_manager.specs.Table.{Table}
 use Rattle.sd_manager.specs.Shown.{ShowsCanonical}
 use Rattle.sd_manager.specs.Making.{IsPastBound}
-use Rattle.sd_compile.specs.Total.{AreHeldFormulas}
 use Rattle.sd_search.specs.declared.error.SearchError.{SearchError}
 use Rattle.sd_search.specs.declared.error.SearchError.TheVariants.{ArenaFull, OutOfMemory}
 
@@ -35,9 +32,3 @@ pub record KeepsRoots (old new : Table) : Type 0 where
 abbrev pub IsSearchRefusal : Table → SearchError → Type 0
 IsSearchRefusal t (ArenaFull elements) = IsPastBound t elements
 IsSearchRefusal t OutOfMemory = Unit {0}
-
--- ---- for the contracts of private functions
-
--- n is the size of the formulas that the roots hold, whatever formulas stand for their functions
-abbrev pub IsSizeOfHeld : Table → ℕ → Type 0
-IsSizeOfHeld t n = (fs : List Expression) → AreHeldFormulas t fs → HasSize fs (plain_tree t.vtree) n

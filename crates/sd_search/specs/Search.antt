@@ -2,7 +2,7 @@
 -- node, a round of walks over all nodes, and rounds until one gains nothing.
 use Rattle.std.specs.Prelude.{◌≡◌, ℕ, zero, suc, ◌*◌, ◌/◌, ◌<◌, ◌≤◌, nat_lt, if◌then◌else◌}
 use Rattle.std.specs.Prelude.{List, [], ◌∷◌, ◌++◌, Option, Some, None}
-use Rattle.std.specs.List.{AllByRecursion, fold}
+use Rattle.std.specs.List.{fold}
 use Rattle.sd_model.specs.Expression.{Expression}
 use Rattle.sd_model.specs.Tree.{Tree, Leaf, Node}
 use Rattle.sd_model.specs.Size.{HasSize}
@@ -129,13 +129,3 @@ pub data IsSearchBegun (fs : List Expression) (slack : ℕ) : ℕ → Tree → T
   in_round : {t u : Tree} {rounds : ℕ} → IsRoundBegun fs slack t [] u → IsSearchBegun fs slack (suc rounds) t u
   after_round : {t u v : Tree} {rounds n k : ℕ} → HasSize fs t n → IsRound fs slack t [] u → HasSize fs u k →
       k < n → IsSearchBegun fs slack rounds u v → IsSearchBegun fs slack (suc rounds) t v
-
--- ---- for the contracts of private functions, and for proofs
-
--- the first one of least size, with those before and behind it
-pub record IsFirstLeast (states : List State) (least : State) : Type 0 where
-  pub before : List State
-  pub behind : List State
-  pub parts : states ≡ before ++ least ∷ behind
-  pub larger : AllByRecursion (λ s. least.size < s.size) before
-  pub not_smaller : AllByRecursion (λ s. least.size ≤ s.size) behind

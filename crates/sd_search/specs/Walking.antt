@@ -1,6 +1,6 @@
 -- The steps of a walk over a table, for the contracts of private functions.
 use Rattle.std.specs.Prelude.{nat_lt, if◌then◌else◌}
-use Rattle.std.specs.Prelude.{◌≡◌, ℕ, ◌^◌, ◌<◌, ◌≤◌, List, ◌++◌, map, drop, Option, Some, None}
+use Rattle.std.specs.Prelude.{◌≡◌, ℕ, ◌^◌, ◌<◌, ◌≤◌, List, ◌∷◌, ◌++◌, map, Option, Some, None}
 use Rattle.std.specs.List.{AllByRecursion}
 use Rattle.sd_model.specs.declared.trees.Side.{Side}
 use Rattle.sd_model.specs.declared.trees.Side.TheVariants.{Left, Right}
@@ -18,7 +18,7 @@ use Rattle.sd_move.specs.declared.error.MoveError.{MoveError}
 use Rattle.sd_move.specs.declared.error.MoveError.TheVariants.{NotMovable, OverMost, ArenaFull, OutOfMemory}
 use Rattle.sd_compile.specs.Total.{AreHeldFormulas}
 use Rattle.sd_search.specs.Search.{WalkMove, swap, rotate, swap_child, walk_moves, subtree_at, State}
-use Rattle.sd_search.specs.Search.{LeadThrough, LeadWithin, IsFirstLeast}
+use Rattle.sd_search.specs.Search.{LeadThrough, LeadWithin}
 use Rattle.sd_search.specs.Paths.{IsAtPath, KeepsAlong}
 use Rattle.sd_search.specs.declared.error.SearchError.{SearchError}
 use Rattle.sd_search.specs.declared.error.SearchError.TheVariants as stops
@@ -30,10 +30,6 @@ abbrev pub move_of : Step → WalkMove
 move_of Swap = swap
 move_of Rotate = rotate
 move_of (SwapChild side) = swap_child side
-
--- the moves of the steps from an index on
-abbrev pub moves_from : List Step → ℕ → List WalkMove
-moves_from steps from = map move_of (drop from steps)
 
 -- the step was made at the node, or at its child, and its journal leads back
 pub record HasStepped (old new : Table) (step : WalkMove) (place : ℕ) (j : Journal) : Type 0 where
@@ -72,6 +68,18 @@ pub record CanGoOn (t : Numbered) (place : ℕ) (moves : List WalkMove) : Type 0
   pub here : IsAtPath t path place
   pub trees : List Tree
   pub through : LeadThrough (plain_tree t) path moves trees
+
+-- n is the size of the formulas that the roots hold, whatever formulas stand for their functions
+abbrev pub IsSizeOfHeld : Table → ℕ → Type 0
+IsSizeOfHeld t n = (fs : List Expression) → AreHeldFormulas t fs → HasSize fs (plain_tree t.vtree) n
+
+-- the first one of least size, with those before and behind it
+pub record IsFirstLeast (states : List State) (least : State) : Type 0 where
+  pub before : List State
+  pub behind : List State
+  pub parts : states ≡ before ++ least ∷ behind
+  pub larger : AllByRecursion (λ s. least.size < s.size) before
+  pub not_smaller : AllByRecursion (λ s. least.size ≤ s.size) behind
 
 -- Of these states the first of least size is this one, where it is less than the least size so far; none is less where
 -- none is named.

@@ -11,7 +11,8 @@ ghost use Rattle.sd_apply.specs.Serving.{Serves};
 ghost use Rattle.sd_sweep.specs.Falling.{NeverFalls};
 ghost use Rattle.sd_compile.specs.Total.{AreHeldFormulas};
 ghost use Rattle.sd_search.specs.Search.{IsRound, IsRoundBegun, IsSearch, IsSearchBegun};
-ghost use Rattle.sd_search.specs.Kept.{KeepsRoots, IsSizeOfHeld, IsSearchRefusal};
+ghost use Rattle.sd_search.specs.Kept.{KeepsRoots, IsSearchRefusal};
+ghost use Rattle.sd_search.specs.Walking.{IsSizeOfHeld};
 ghost use Rattle.sd_search.specs.Paths.{IsAtPath, KeepsAlong};
 ghost use Rattle.sd_search.specs.WalksInARow.{KeepBefore, KeepThrough};
 

@@ -1,5 +1,5 @@
 // A walk over the arrangements of the subtrees at a node.
-ghost use Rattle.std.specs.Prelude.{◌≡◌, ℕ, ◌*◌, ◌/◌, ◌<◌, ◌≤◌, List, length, None, IfOk, IfErr, OnErr};
+ghost use Rattle.std.specs.Prelude.{◌≡◌, ℕ, ◌*◌, ◌/◌, ◌<◌, ◌≤◌, List, length, map, None, IfOk, IfErr, OnErr};
 ghost use Rattle.sd_model.specs.declared.trees.Side.{Side as TheSide};
 ghost use Rattle.sd_model.specs.Expression.{Expression};
 ghost use Rattle.sd_vtree.specs.Numbered.{numbers, plain_tree};
@@ -10,10 +10,10 @@ ghost use Rattle.sd_sweep.specs.Reached.{KeepsReached};
 ghost use Rattle.sd_sweep.specs.Falling.{NeverFalls};
 ghost use Rattle.sd_compile.specs.Total.{AreHeldFormulas};
 ghost use Rattle.sd_search.specs.Search.{IsWalk};
-ghost use Rattle.sd_search.specs.Kept.{KeepsRoots, IsSizeOfHeld, IsSearchRefusal};
+ghost use Rattle.sd_search.specs.Kept.{KeepsRoots, IsSearchRefusal};
 ghost use Rattle.sd_search.specs.Paths.{IsAtPath, KeepsAlong};
-ghost use Rattle.sd_search.specs.Walking.{moves_from, CanGoOn, IsCapped, IsAhead, GoesBackAtNone};
-ghost use Rattle.sd_search.specs.Walking.{best_of, stop_of_move, HasSmallSize};
+ghost use Rattle.sd_search.specs.Walking.{move_of, CanGoOn, IsCapped, IsAhead, GoesBackAtNone};
+ghost use Rattle.sd_search.specs.Walking.{IsSizeOfHeld, best_of, stop_of_move, HasSmallSize};
 
 use crate::error::SearchError;
 use crate::steps::{Step, make, steps_at};
@@ -23,27 +23,26 @@ use sd_move::{MoveError, Moved, settle, undo};
 use sd_vtree::VNode;
 use std::alloc::Global;
 
-// Makes the steps from an index on, up to the first that leads past `most`. Where some state of these has a size below
-// `least`, the first of least size stays, and its size is the answer; else all is gone back, as after an error.
+// Makes the steps, up to the first that leads past `most`. Where some state of these has a size below `least`, the
+// first of least size stays, and its size is the answer; else all is gone back, as after an error.
 fn ahead(
     alloc: Global,
     m: &mut Manager,
     c: &mut Cache,
     place: VNode,
     steps: &[Step],
-    from: usize,
     most: u32,
     least: u32,
 ) -> Result<Option<u32>, SearchError>
     requires no_move { m.old.moving ≡ None }
     requires place { place < length (numbers m.old.vtree) }
-    requires possible { CanGoOn m.old.vtree place (moves_from steps.now from) }
+    requires possible { CanGoOn m.old.vtree place (map move_of steps.now) }
     requires unmarked { AreUnmarked m.old }
     requires serves { Serves c.old m.old }
     requires table { IsTable m.old }
     ensures ahead { (fs : List Expression) (path : List TheSide) (bound : ℕ) → AreHeldFormulas m.old fs
         → IsAtPath m.old.vtree path place → IsCapped most bound
-        → IfOk result (λ found. IsAhead fs bound (plain_tree m.old.vtree) path (moves_from steps.now from) least found
+        → IfOk result (λ found. IsAhead fs bound (plain_tree m.old.vtree) path (map move_of steps.now) least found
         (plain_tree m.new.vtree)) }
     ensures along { (path : List TheSide) → IsAtPath m.old.vtree path place
         → KeepsAlong m.old.vtree m.new.vtree path }
@@ -56,10 +55,10 @@ fn ahead(
     ensures serves { Serves c.new m.new }
     ensures table { IsTable m.new }
 {
-    let Some(step) = steps.get(from).copied() else {
+    let Some((step, others)) = steps.split_first() else {
         return Ok(None);
     };
-    let moved = match make(alloc, m, c, place, step, most) {
+    let moved = match make(alloc, m, c, place, *step, most) {
         Ok(moved) => moved,
         Err(error) => {
             return match stop_of(error) {
@@ -70,7 +69,7 @@ fn ahead(
     };
     let Moved { size, journal } = moved;
     let so_far = size.min(least);
-    let found = ahead(alloc, m, c, place, steps, from + 1, most, so_far);
+    let found = ahead(alloc, m, c, place, others, most, so_far);
     // That the epoch is a `u64` tells that it is the last one where it no longer rises.
     let _ = m.epoch();
     match found {
@@ -159,7 +158,7 @@ pub(crate) fn walk(
 {
     let steps = steps_at(m, place);
     let most = bound_of(size, slack);
-    match ahead(alloc, m, c, place, steps, 0, most, size) {
+    match ahead(alloc, m, c, place, steps, most, size) {
         Ok(found) => match found {
             Some(least) => Ok(least),
             None => Ok(size),

@@ -3,7 +3,7 @@ use Rattle.std.proofs.lemmas.Result.{IfOk-weaker, on_err_weaker}
 use Rattle.sd_model.specs.declared.trees.Side.TheVariants.{Left, Right}
 use Rattle.sd_vtree.specs.Numbered.{children_at, numbers, plain_tree}
 use Rattle.sd_search.specs.Search.{IsRound}
-use Rattle.sd_search.specs.Kept.{IsSizeOfHeld}
+use Rattle.sd_search.specs.Walking.{IsSizeOfHeld}
 use Rattle.sd_search.specs.WalksInARow.{KeepThrough}
 use Rattle.sd_search.proofs.AlongPaths.{along_same, along_at, along_both, along_up, place_along}
 use Rattle.sd_search.proofs.KeptRoots.{kept_itself, kept_both}

@@ -1,10 +1,10 @@
-use Rattle.std.proofs.Common.{◌∙◌, ◌+◌, length, sym, refl, arith}
-use Rattle.sd_search.specs.Walking.{move_of, moves_from}
+use Rattle.std.proofs.Common.{map, sym, ap, refl, arith}
+use Rattle.sd_search.specs.Walking.{move_of}
 use Rattle.sd_vtree.specs.Numbered.{plain_tree}
 use Rattle.sd_search.proofs.AlongPaths.{along_same, along_at}
 use Rattle.sd_search.proofs.KeptRoots.{kept_itself, kept_reached}
 use Rattle.sd_search.proofs.AlongPaths.{place_along}
-use Rattle.sd_search.proofs.StepsAhead.{moves_more, moves_end, item_at, item_within, ahead_none}
+use Rattle.sd_search.proofs.StepsAhead.{no_moves, ahead_none}
 use Rattle.sd_search.proofs.StepsAhead.{ahead_refused}
 use Rattle.sd_search.proofs.StepsAhead.{stop_rule, can_go_on, lesser_of}
 use Rattle.sd_search.proofs.Journals.{along_reached, can_settle, settled_kept, undone_reached, undone_kept, undoable}
@@ -17,10 +17,8 @@ use Rattle.sd_search.proofs.walking.+ahead.Goals as goal
 pub returns-in_default-clause-ahead : goal.returns-in_default-clause-ahead
 returns-in_default-clause-ahead t c fs path bound held at capped =
     ahead_none fs bound (plain_tree c.args.m.now.vtree) (plain_tree c.args.m.now.vtree) path
-    (moves_from c.args.steps.now c.args.from) c.args.least
-    (moves_end c.args.steps.now c.args.from
-    (sym (c.in_default.ensures
-    ∙ item_at c.args.steps.now c.args.from c.get.result c.get.ensures.lookup.0 c.get.ensures.lookup.1)))
+    (map move_of c.args.steps.now) c.args.least
+    (no_moves c.args.steps.now c.in_default.ensures.cases)
 
 pub returns-in_default-clause-along : goal.returns-in_default-clause-along
 returns-in_default-clause-along t c path at = along_same c.args.m.now.vtree path c.args.place at
@@ -47,17 +45,15 @@ returns-in-Some-stop_of-clause-kept t c =
 
 pub returns-in-Some-stop_of-clause-refused : goal.returns-in-Some-stop_of-clause-refused
 returns-in-Some-stop_of-clause-refused t c =
-    stop_rule c.args.m.now c.make.new.m c.args.place c.args.most (move_of c.in-Some.step) c.in-Err.error
+    stop_rule c.args.m.now c.make.new.m c.args.place c.args.most (move_of c.in-Some.step.now) c.in-Err.error
     c.in-Some-stop_of.stop (sym c.in-Some-stop_of.ensures.stop) c.in-Err.ensures.refused
 
 pub returns-in-None-clause-ahead : goal.returns-in-None-clause-ahead
 returns-in-None-clause-ahead t c fs path bound held at capped =
     ahead_refused fs bound c.args.m.now c.make.new.m (plain_tree c.make.new.m.vtree) path c.args.place c.args.most
     c.args.least
-    c.in-Some.step (moves_from c.args.steps.now c.args.from) (moves_from c.args.steps.now (c.args.from + 1))
-    c.in-Err.error (moves_more c.args.steps.now c.args.from c.in-Some.step
-    (sym (c.in-Some.ensures
-    ∙ item_at c.args.steps.now c.args.from c.get.result c.get.ensures.lookup.0 c.get.ensures.lookup.1))) at
+    c.in-Some.step.now (map move_of c.args.steps.now) (map move_of c.in-Some.others.now)
+    c.in-Err.error (ap (map move_of) c.in-Some.ensures.cases.0) at
     c.requires.possible (sym c.in-None.ensures.stop) c.stop_of.ensures.small c.in-Err.ensures.refused held capped
 
 pub returns-in-None-clause-along : goal.returns-in-None-clause-along
@@ -76,21 +72,17 @@ returns-in-None-clause-kept t c =
 pub ahead-found-requires : goal.ahead-found-requires
 ahead-found-requires t c =
     let p = c.requires.possible in
-    let within = item_within c.args.from (length c.args.steps.now) c.get.result c.in-Some.step c.get.ensures.lookup.0
-    c.in-Some.ensures in
     let s = c.in-Ok.ensures.stepped in (
-      omega (arith, c.decreases, within),
+      omega (arith, c.decreases, c.in-Some.ensures.cases.1),
       (
         s.is.no_move,
         (
           place_along c.args.m.now.vtree c.make.new.m.vtree p.path c.args.place (s.along p.path p.here)
               c.requires.place,
           (
-            can_go_on c.args.m.now.vtree c.make.new.m.vtree c.args.place (move_of c.in-Some.step)
-                (moves_from c.args.steps.now c.args.from) (moves_from c.args.steps.now (c.args.from + 1))
-                (moves_more c.args.steps.now c.args.from c.in-Some.step
-                (sym (c.in-Some.ensures
-                ∙ item_at c.args.steps.now c.args.from c.get.result c.get.ensures.lookup.0 c.get.ensures.lookup.1))) p
+            can_go_on c.args.m.now.vtree c.make.new.m.vtree c.args.place (move_of c.in-Some.step.now)
+                (map move_of c.args.steps.now) (map move_of c.in-Some.others.now)
+                (ap (map move_of) c.in-Some.ensures.cases.0) p
                 s.led s.along,
             (c.make.ensures.unmarked, (c.make.ensures.serves, c.make.ensures.table)),
           ),
@@ -108,7 +100,7 @@ settle-requires t c =
 pub undo-requires : goal.undo-requires
 undo-requires t c =
     record {
-      can_undo = undoable c.args.m.now c.make.new.m c.ahead-found.new.m c.ahead-found.new.m (move_of c.in-Some.step)
+      can_undo = undoable c.args.m.now c.make.new.m c.ahead-found.new.m c.ahead-found.new.m (move_of c.in-Some.step.now)
           c.args.place c.in-Ok.moved.journal
           c.requires.table c.make.ensures.table c.requires.no_move c.in-Ok.ensures.stepped
           c.ahead-found.ensures.kept (back_then c.make.new.m c.ahead-found.new.m c.in-Ok-found.later
@@ -119,7 +111,7 @@ undo-requires t c =
 pub undo-requires-in-Err-found : goal.undo-requires-in-Err-found
 undo-requires-in-Err-found t c =
     record {
-      can_undo = undoable c.args.m.now c.make.new.m c.ahead-found.new.m c.ahead-found.new.m (move_of c.in-Some.step)
+      can_undo = undoable c.args.m.now c.make.new.m c.ahead-found.new.m c.ahead-found.new.m (move_of c.in-Some.step.now)
           c.args.place c.in-Ok.moved.journal
           c.requires.table c.make.ensures.table c.requires.no_move c.in-Ok.ensures.stepped
           c.ahead-found.ensures.kept c.in-Err-found.ensures.back;
@@ -128,13 +120,11 @@ undo-requires-in-Err-found t c =
 pub returns-in-Some-best-clause-ahead : goal.returns-in-Some-best-clause-ahead
 returns-in-Some-best-clause-ahead t c fs path bound held at capped =
     let lesser = lesser_of c.in-Ok.moved.size c.args.least c.min-so_far.result c.min-so_far.ensures in
-    found_some c.args.m.now c.make.new.m c.ahead-found.new.m c.settle.new.m c.in-Some.step c.args.place c.args.most
+    found_some c.args.m.now c.make.new.m c.ahead-found.new.m c.settle.new.m c.in-Some.step.now c.args.place c.args.most
     c.args.least
-    c.in-Ok.moved.size c.min-so_far.result c.in-Ok.moved.journal (moves_from c.args.steps.now c.args.from)
-    (moves_from c.args.steps.now (c.args.from + 1)) c.in-Ok-found.later c.requires.table c.make.ensures.table
-    c.requires.no_move c.in-Ok.ensures.stepped (moves_more c.args.steps.now c.args.from c.in-Some.step
-    (sym (c.in-Some.ensures
-    ∙ item_at c.args.steps.now c.args.from c.get.result c.get.ensures.lookup.0 c.get.ensures.lookup.1)))
+    c.in-Ok.moved.size c.min-so_far.result c.in-Ok.moved.journal (map move_of c.args.steps.now)
+    (map move_of c.in-Some.others.now) c.in-Ok-found.later c.requires.table c.make.ensures.table
+    c.requires.no_move c.in-Ok.ensures.stepped (ap (map move_of) c.in-Some.ensures.cases.0)
     c.in-Ok.ensures.sized c.in-Ok.ensures.within
     lesser.0 lesser.1 lesser.2 c.in-Ok-found.ensures.ahead
     c.in-Ok-found.ensures.none
@@ -151,7 +141,7 @@ returns-in-Some-best-clause-along t c path at =
 
 pub returns-in-Some-best-clause-kept : goal.returns-in-Some-best-clause-kept
 returns-in-Some-best-clause-kept t c =
-    settled_kept c.args.m.now c.make.new.m c.ahead-found.new.m c.settle.new.m (move_of c.in-Some.step) c.args.place
+    settled_kept c.args.m.now c.make.new.m c.ahead-found.new.m c.settle.new.m (move_of c.in-Some.step.now) c.args.place
     c.in-Ok.moved.journal
     c.requires.table c.make.ensures.table c.requires.no_move c.in-Ok.ensures.stepped
     c.ahead-found.ensures.kept c.settle.ensures.settled
@@ -169,13 +159,11 @@ returns-in-Some-best-clause-serves t c =
 pub returns-in-None-best-clause-ahead : goal.returns-in-None-best-clause-ahead
 returns-in-None-best-clause-ahead t c fs path bound held at capped =
     let lesser = lesser_of c.in-Ok.moved.size c.args.least c.min-so_far.result c.min-so_far.ensures in
-    found_none c.args.m.now c.make.new.m c.ahead-found.new.m c.undo.new.m c.in-Some.step c.args.place c.args.most
+    found_none c.args.m.now c.make.new.m c.ahead-found.new.m c.undo.new.m c.in-Some.step.now c.args.place c.args.most
     c.args.least
-    c.in-Ok.moved.size c.min-so_far.result c.in-Ok.moved.journal (moves_from c.args.steps.now c.args.from)
-    (moves_from c.args.steps.now (c.args.from + 1)) c.in-Ok-found.later c.requires.table c.make.ensures.table
-    c.requires.no_move c.in-Ok.ensures.stepped (moves_more c.args.steps.now c.args.from c.in-Some.step
-    (sym (c.in-Some.ensures
-    ∙ item_at c.args.steps.now c.args.from c.get.result c.get.ensures.lookup.0 c.get.ensures.lookup.1)))
+    c.in-Ok.moved.size c.min-so_far.result c.in-Ok.moved.journal (map move_of c.args.steps.now)
+    (map move_of c.in-Some.others.now) c.in-Ok-found.later c.requires.table c.make.ensures.table
+    c.requires.no_move c.in-Ok.ensures.stepped (ap (map move_of) c.in-Some.ensures.cases.0)
     c.in-Ok.ensures.sized c.in-Ok.ensures.within
     lesser.0 lesser.1 lesser.2 c.in-Ok-found.ensures.ahead
     c.in-Ok-found.ensures.none
@@ -183,7 +171,7 @@ returns-in-None-best-clause-ahead t c fs path bound held at capped =
 
 pub returns-in-None-best-clause-none : goal.returns-in-None-best-clause-none
 returns-in-None-best-clause-none t c =
-    undone_reached c.args.m.now c.make.new.m c.ahead-found.new.m c.undo.new.m (move_of c.in-Some.step) c.args.place
+    undone_reached c.args.m.now c.make.new.m c.ahead-found.new.m c.undo.new.m (move_of c.in-Some.step.now) c.args.place
     c.in-Ok.moved.journal
     c.requires.table c.make.ensures.table c.requires.no_move c.in-Ok.ensures.stepped
     (back_then c.make.new.m c.ahead-found.new.m c.in-Ok-found.later c.in-Ok.moved.size c.args.least
@@ -193,7 +181,7 @@ returns-in-None-best-clause-none t c =
 pub returns-in-None-best-clause-along : goal.returns-in-None-best-clause-along
 returns-in-None-best-clause-along t c path at =
     along_reached c.args.m.now c.undo.new.m path c.args.place
-    (undone_reached c.args.m.now c.make.new.m c.ahead-found.new.m c.undo.new.m (move_of c.in-Some.step) c.args.place
+    (undone_reached c.args.m.now c.make.new.m c.ahead-found.new.m c.undo.new.m (move_of c.in-Some.step.now) c.args.place
     c.in-Ok.moved.journal
     c.requires.table c.make.ensures.table c.requires.no_move c.in-Ok.ensures.stepped
     (back_then c.make.new.m c.ahead-found.new.m c.in-Ok-found.later c.in-Ok.moved.size c.args.least
@@ -202,7 +190,7 @@ returns-in-None-best-clause-along t c path at =
 
 pub returns-in-None-best-clause-kept : goal.returns-in-None-best-clause-kept
 returns-in-None-best-clause-kept t c =
-    undone_kept c.args.m.now c.make.new.m c.ahead-found.new.m c.undo.new.m (move_of c.in-Some.step) c.args.place
+    undone_kept c.args.m.now c.make.new.m c.ahead-found.new.m c.undo.new.m (move_of c.in-Some.step.now) c.args.place
     c.in-Ok.moved.journal
     c.requires.table c.make.ensures.table c.requires.no_move c.in-Ok.ensures.stepped
     c.ahead-found.ensures.kept (back_then c.make.new.m c.ahead-found.new.m c.in-Ok-found.later c.in-Ok.moved.size
@@ -220,14 +208,14 @@ returns-in-None-best-clause-unmarked t c =
 
 pub returns-in-Err-found-clause-back : goal.returns-in-Err-found-clause-back
 returns-in-Err-found-clause-back t c =
-    undone_reached c.args.m.now c.make.new.m c.ahead-found.new.m c.undo-in-Err-found.new.m (move_of c.in-Some.step)
+    undone_reached c.args.m.now c.make.new.m c.ahead-found.new.m c.undo-in-Err-found.new.m (move_of c.in-Some.step.now)
     c.args.place c.in-Ok.moved.journal
     c.requires.table c.make.ensures.table c.requires.no_move c.in-Ok.ensures.stepped
     c.in-Err-found.ensures.back c.undo-in-Err-found.ensures.undone
 
 pub returns-in-Err-found-clause-refused : goal.returns-in-Err-found-clause-refused
 returns-in-Err-found-clause-refused t c =
-    rule_back c.args.m.now c.make.new.m c.ahead-found.new.m c.undo-in-Err-found.new.m (move_of c.in-Some.step)
+    rule_back c.args.m.now c.make.new.m c.ahead-found.new.m c.undo-in-Err-found.new.m (move_of c.in-Some.step.now)
     c.args.place c.in-Ok.moved.journal
     c.in-Err-found.error c.requires.table c.make.ensures.table c.requires.no_move c.in-Ok.ensures.stepped
     c.ahead-found.ensures.kept c.in-Err-found.ensures.back c.undo-in-Err-found.ensures.undone
@@ -236,14 +224,14 @@ returns-in-Err-found-clause-refused t c =
 pub returns-in-Err-found-clause-along : goal.returns-in-Err-found-clause-along
 returns-in-Err-found-clause-along t c path at =
     along_reached c.args.m.now c.undo-in-Err-found.new.m path c.args.place
-    (undone_reached c.args.m.now c.make.new.m c.ahead-found.new.m c.undo-in-Err-found.new.m (move_of c.in-Some.step)
+    (undone_reached c.args.m.now c.make.new.m c.ahead-found.new.m c.undo-in-Err-found.new.m (move_of c.in-Some.step.now)
     c.args.place c.in-Ok.moved.journal
     c.requires.table c.make.ensures.table c.requires.no_move c.in-Ok.ensures.stepped
     c.in-Err-found.ensures.back c.undo-in-Err-found.ensures.undone) at
 
 pub returns-in-Err-found-clause-kept : goal.returns-in-Err-found-clause-kept
 returns-in-Err-found-clause-kept t c =
-    undone_kept c.args.m.now c.make.new.m c.ahead-found.new.m c.undo-in-Err-found.new.m (move_of c.in-Some.step)
+    undone_kept c.args.m.now c.make.new.m c.ahead-found.new.m c.undo-in-Err-found.new.m (move_of c.in-Some.step.now)
     c.args.place c.in-Ok.moved.journal
     c.requires.table c.make.ensures.table c.requires.no_move c.in-Ok.ensures.stepped
     c.ahead-found.ensures.kept c.in-Err-found.ensures.back c.undo-in-Err-found.ensures.undone
