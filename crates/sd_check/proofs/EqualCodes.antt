@@ -2,15 +2,13 @@
 use Rattle.std.proofs.Common.{◌≡◌, ◌≢◌, inl, inr, ℕ, zero, suc, ◌+◌, ◌-◌, ◌<◌, ◌≤◌, Bool, true, false}
 use Rattle.std.proofs.Common.{List, [], ◌∷◌, length, map, get_or, refl, sym, ◌∙◌, ap, subst, arith, eqb, eqb-true}
 use Rattle.std.proofs.Common.{eq-eqb}
-use Rattle.std.specs.List.Sorted.{IsPermutation, IsSorted, IsStrictlySortedBy, IsStrictlyIncreasing}
+use Rattle.std.specs.List.Sorted.{IsPermutation, IsSorted, IsStrictlyIncreasing}
 use Rattle.std.specs.Ordering.{nat_cmp}
-use Rattle.std.specs.declared.cmp.Ordering.TheVariants.{Less}
 use Rattle.std.proofs.lemmas.Bool.{cases_lt}
-use Rattle.std.proofs.lemmas.Cmp.{nat_cmp_total}
 use Rattle.std.proofs.lemmas.List.Sorted.{IsPermutation-sym, IsPermutation-map}
 use Rattle.std.proofs.lemmas.Map.Keys.{ge_from_not_lt, sorted_from_strictly_increasing}
 use Rattle.sd_model.specs.Tree.{AreDistinct}
-use Rattle.sd_laws.proofs.Lists.{all_weaker}
+use Rattle.sd_laws.proofs.Merged.{ascending_distinct}
 use Rattle.sd_apply.proofs.Marking.{distinct_permuted}
 use Rattle.sd_check.specs.Judging.{TellsTwins}
 
@@ -44,19 +42,6 @@ codes_permuted xs ys p h =
     subst AreDistinct (marked_back ys)
     (distinct_permuted (marked xs) (marked ys) (IsPermutation-map g xs ys p)
     (subst AreDistinct (sym (marked_back xs)) h))
-
--- no number is less than itself
-not_below : (n m : ℕ) → nat_cmp n m ≡ Less → n ≢ m
-not_below n m h e =
-    let k : nat_cmp m m ≡ Less = ap (λ x. nat_cmp x m) (sym e) ∙ h in
-    absurd (cc (nat_cmp_total.antisymm m m, k))
-
--- codes that ascend strictly are different
-ascending_distinct : (xs : List ℕ) → IsStrictlySortedBy nat_cmp xs → AreDistinct xs
-unfolding IsStrictlySortedBy
-ascending_distinct [] h = tt
-ascending_distinct (x ∷ xs) h =
-    (all_weaker (λ k. nat_cmp x k ≡ Less) (λ k. x ≢ k) (λ k e. not_below x k e) xs h.0, ascending_distinct xs h.1)
 
 -- a sorted list whose neighbours differ is one of different codes
 neighbours_distinct : (xs : List ℕ) → IsSorted nat_cmp xs →

@@ -6,17 +6,14 @@ use Rattle.std.specs.Prelude.{option_map}
 use Rattle.std.proofs.lemmas.Bool.{cases_lt}
 use Rattle.std.proofs.lemmas.List.{get_or_append_left}
 use Rattle.std.proofs.Math.Seq.{get_or-append_seam, get_or-append_right}
-use Rattle.sd_model.specs.Tree.{Tree, Leaf, Node, variables, leaves, position, right_base}
+use Rattle.sd_model.specs.Tree.{Tree, Leaf, Node, leaves, position, right_base}
 use Rattle.sd_vtree.specs.Numbered.{or_else}
 use Rattle.sd_laws.proofs.Places.{leaves_positive}
+use Rattle.sd_vtree.proofs.Building.{leaves_node}
 use Rattle.sd_check.specs.declared.forks.Fork.{Fork}
 use Rattle.sd_check.specs.Rules.{Inner, inner_at}
 use Rattle.sd_check.specs.Forks.{inner_view, fork_of, forks_from, AreForks}
 use Rattle.sd_check.proofs.Inners.{inner_range, none_behind, other_node, own_node}
-
--- a leaf more for each
-leaves_node : (l r : Tree) → leaves (Node l r) ≡ leaves l + leaves r
-leaves_node l r = length-append (variables l) (variables r)
 
 -- there are as many as positions
 pub length_forks : (t : Tree) (b : ℕ) → length (forks_from t b) + 1 ≡ 2 * leaves t

@@ -50,7 +50,7 @@ fn cover_rule(union: NodeId) -> Option<Rule>
     ensures covers { union ≡ 1 → result ≡ None }
     ensures else_not { union ≢ 1 → result ≡ Some Cover }
 {
-    if union.0 == 1 {
+    if union.is_true() {
         None
     } else {
         Some(Rule::Cover)
