@@ -8,12 +8,16 @@
 // contracts say that each entry is blank or was kept, and that where there are entries an answer is kept,
 // but not which ones it drops, nor that one that stands is found.
 //
-// An entry has 16 bytes. There are none until the first answer is kept, then 64, 1 KB, and at most
-// 65,536, 1 MB: four times as many whenever as many answers were kept as there are entries.
+// An entry has 16 bytes. There are none until the first answer is kept, then 64, 1 KB. Whenever as many answers were
+// kept as there are entries, there are four times as many, up to 65,536, 1 MB. Beyond that there are twice as many, as
+// long as they are no more than the nodes: a node takes some 60 bytes, so they take about a quarter of what the nodes do.
+// A wider table misses the caches of a processor more often, and finds little more. That there are so many nodes is told
+// by the greatest answer, since a new node takes a free number or the next one.
 //
-// The table goes from one operation to the next through the cache, as long as the epoch stays. An entry
-// has no epoch of its own. The epoch rises when a node is taken away or the vtree is moved, and at another
-// one the cache lends an empty table: so no answer outlives a sweep or a move.
+// The table goes from one operation to the next through the cache, as long as the epoch stays. An entry has no epoch of
+// its own. The epoch rises when a node is taken away or the vtree is moved, and at another one the cache lends an empty
+// table. Who knows which nodes a sweep left can drop the entries that name others, and call the rest those of the new
+// epoch.
 //
 // The hash decides whether an operation ends in time. Each step asks for several answers of the
 // level below, so where calls of one level drop each other's answers by system, as those at a node
@@ -30,8 +34,11 @@ use std::marker::Model;
 /// The number of entries once an answer is kept.
 const LEAST: usize = 64;
 
-/// A table of so many entries does not grow.
-const MOST: usize = 65_536;
+/// Up to so many entries the table grows whatever nodes there are: they fit the cache of a processor.
+const FITS_CACHE: usize = 65_536;
+
+/// A table of so many entries does not grow: the hash tells no more apart.
+const MOST: usize = 16_777_216;
 
 /// The answer of an operation at two numbers.
 #[derive(Clone, Copy)]
@@ -69,9 +76,9 @@ impl Entry {
 }
 
 /// Answers of operations in one epoch, without their order. Each has one entry where it may stand, and
-/// drops what stood there. The table grows to four times as many entries, up to 65,536, whenever as many
-/// answers were kept as it has entries; where memory is refused it stays as it is, and one without entries
-/// keeps nothing.
+/// drops what stood there. The table grows whenever as many answers were kept as it has entries: to four times as many
+/// up to 65,536, and to twice as many while it has no more of them than there are nodes. Where memory is refused it stays
+/// as it is, and one without entries keeps nothing.
 #[derive(Drop)]
 pub struct ComputedTable {
     entries: Vec<Entry>,
@@ -204,21 +211,43 @@ impl ComputedTable {
         self.entries[index] = Entry::blank();
     }
 
-    // Makes room for four times as many answers, or for the first ones, where memory is not refused.
+    // Makes room for more answers, or for the first ones, where memory is not refused.
     #[inline(never)]
     fn grow(&mut self, alloc: Global)
         ensures among { AreAmong self.new self.old }
         ensures length { length self.old ≤ length self.new }
     {
         self.kept = 0;
-        let count = self.entries.len();
-        if count >= MOST {
+        let count = next_count(&self.entries);
+        if count <= self.entries.len() {
             return;
         }
-        let Ok(mut wider) = blanks(alloc, (count * 4).max(LEAST)) else {
+        let Ok(mut wider) = blanks(alloc, count) else {
             return;
         };
         refill(&self.entries, &mut wider);
         self.entries = wider;
     }
+}
+
+// How many entries the table has next: more, or as many as now.
+fn next_count(entries: &[Entry]) -> usize {
+    let count = entries.len();
+    if count < FITS_CACHE {
+        return (count * 4).max(LEAST);
+    }
+    if count < MOST && greatest_answer(entries) as usize / 2 >= count {
+        return count * 2;
+    }
+    count
+}
+
+// The greatest code of an answer.
+fn greatest_answer(entries: &[Entry]) -> u32 {
+    let mut greatest = 0;
+    for i in 0..entries.len() {
+        let entry = entries[i];
+        greatest = greatest.max(entry.answer);
+    }
+    greatest
 }

@@ -429,8 +429,8 @@ impl Manager {
         self.nodes.mark(number)
     }
 
-    /// Whether a number, which may be any, is that of a linked node, in constant time. The node has the code of the number
-    /// and 2,050.
+    /// Whether a number, which may be any, is that of a linked node, in constant time. The node has the code of the
+    /// number and 2,050.
     pub fn is_linked(&self, number: u32) -> bool
         ensures linked { result ≡ contains_key self.now.linked number }
         ensures table { IsTable self.now }
