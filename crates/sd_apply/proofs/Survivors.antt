@@ -42,7 +42,8 @@ node_stays old new x v rest c d high there h =
     let n : ℕ = c - 2050 in
     let at : 2050 + n ≡ c = omega arith in
     let key = some_value (get new.linked n) there in
-    let node : IsNodeOf new (2050 + n) = v.canonical n key.0 key.1 (λ p moves. absurd (none-some p (sym rest ∙ moves))) in
+    let node : IsNodeOf new (2050 + n) =
+    v.canonical n key.0 key.1 (λ p moves. absurd (none-some p (sym rest ∙ moves))) in
     let shown : ShowsCanonical new c node.diagram = subst (λ k. ShowsCanonical new k node.diagram) at node.is in
     let before = shows_kept new.vtree (get new.linked) (get old.linked) x.nodes node.diagram c shown.shows in
     let same : node.diagram ≡ d =
@@ -92,7 +93,8 @@ pub sifted_none : (t : Table) (es : Entries) → AreSifted t es es 0
 sifted_none t es = record {
   count = refl;
   each = λ k e is. inr (
-    subst (λ a. Contains es a) (get_or_from_slice_get es k e e is) (Contains-get_or es k e (slice_get_within es k e is)),
+    subst (λ a. Contains es a) (get_or_from_slice_get es k e e is)
+        (Contains-get_or es k e (slice_get_within es k e is)),
     λ below. absurd (omega (arith, below)),
   );
 }

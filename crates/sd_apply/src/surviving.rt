@@ -1,9 +1,9 @@
 // What is still known behind a sweep.
 //
 // A sweep raises the epoch, since an answer about a number that a later node takes over would be a wrong one. But the
-// nodes that it leaves keep their numbers and their lists, so an answer is right behind it if the two numbers that it is
-// about and its own all stand. The table of the computed answers is gone through once, the others are dropped, and what
-// is left is of the new epoch. Without that, all steps of the operations before a sweep would be done again behind it.
+// nodes that it leaves keep their numbers and their lists, so an answer is right behind it if the two numbers that it
+// is about and its own all stand. The table of the computed answers is gone through once, the others are dropped, and
+// what is left is of the new epoch. So no step at nodes that stand is done again because others went.
 ghost use Rattle.std.specs.Prelude.{◌≡◌, ◌+◌, ◌<◌, length, None, IsTrue};
 ghost use Rattle.sd_cache.specs.Entries.{Entries};
 ghost use Rattle.sd_manager.specs.Table.{Table};
@@ -13,9 +13,9 @@ ghost use Rattle.sd_apply.specs.Surviving.{AreSifted, IsStanding, OnlyTakesAway}
 use sd_cache::Cache;
 use sd_manager::{FIRST_NODE, Manager};
 
-/// Behind a sweep of a manager whose epoch was `since`: the computed answers of that epoch are of today's, but for those
-/// that name a node which is gone. Those of another epoch stay as they are. It costs a step for each entry of the table
-/// where the sweep took a node away, and takes no memory.
+/// Behind a sweep of a manager whose epoch was `since`: the computed answers of that epoch are of today's, but for
+/// those that name a node which is gone. Those of another epoch stay as they are. It costs a step for each entry of the
+/// table where the sweep took a node away, and takes no memory.
 pub fn keep_surviving(m: &Manager, c: &mut Cache, since: u64)
     requires no_move { m.now.moving ≡ None }
     requires serves { (t : Table) × Serves c.old t × (t.epoch ≡ since) × OnlyTakesAway t m.now }
