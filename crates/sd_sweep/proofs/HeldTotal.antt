@@ -8,8 +8,8 @@ use Rattle.std.specs.Option.{option_map}
 use Rattle.std.specs.FinMap.{get, values}
 use Rattle.sd_runs.specs.Arena.{IsMember, HasNoCopies}
 use Rattle.sd_model.specs.Tree.{AreDistinct}
-use Rattle.sd_model.specs.Diagram.{Diagram, Bottom, Top, Literal, Decomposition, Elements, End, Pair}
-use Rattle.sd_model.specs.Canonical.{IsElement, first, later}
+use Rattle.sd_model.specs.Diagram.{Diagram, Bottom, Top, Literal, Decomposition, Elements}
+use Rattle.sd_model.specs.Canonical.{IsElement}
 use Rattle.sd_model.specs.Size.{walk, walk_elements, size_of}
 use Rattle.sd_laws.specs.Values.{StandsIn}
 use Rattle.sd_laws.proofs.Codes.{one_diagram, literal_range}
@@ -26,13 +26,14 @@ use Rattle.sd_manager.specs.Valid.{IsTable}
 use Rattle.sd_manager.specs.Views.{pairs_at}
 use Rattle.sd_manager.proofs.Reading.{linked_key}
 use Rattle.sd_manager.proofs.Standing.{uses_stand, stands_uses}
-use Rattle.sd_sweep.specs.Marked.{elements_of}
+use Rattle.sd_sweep.specs.Chained.{elements_of}
 use Rattle.sd_sweep.specs.Reached.{AreHeldDiagrams}
-use Rattle.sd_sweep.proofs.Below.{among_left, among_split, only, three, itself, element_within}
+use Rattle.sd_sweep.proofs.Below.{among_left, itself, element_within}
 use Rattle.sd_sweep.proofs.Orders.{is_decomposition}
 use Rattle.sd_sweep.proofs.Rooted.{among_sum, sum_among, flat_among, among_flat, flat_closed}
 use Rattle.sd_sweep.proofs.Totals.{has_diagrams, diagrams_differ, size_of_decompositions}
-use Rattle.sd_sweep.proofs.Walked.{elements_counted}
+use Rattle.sd_sweep.proofs.Throughout.{throughout}
+use Rattle.sd_sweep.proofs.Elements.{elements_counted}
 
 -- lists of nodes
 
@@ -145,38 +146,14 @@ children_reached t p es h x y m =
       },
     )
 
-mutual
-  -- and so has all that stands under it
-  under_reached : (t : Table) (d : Diagram) → HasReached t d → (x : Diagram) → IsAmong x (walk d) → HasReached t x
-  under_reached t Bottom h x m = subst (HasReached t) (sym (only x Bottom m)) h
-  under_reached t Top h x m = subst (HasReached t) (sym (only x Top m)) h
-  under_reached t (Literal p v s) h x m = subst (HasReached t) (sym (only x (Literal p v s) m)) h
-  under_reached t (Decomposition p es) h x m =
-      go (λ k. elements_reached t es (children_reached t p es h) x k)
-      (among_split x (walk_elements es) (Decomposition p es ∷ []) m)
-    where
-      go : (IsAmong x (walk_elements es) → HasReached t x) →
-          IsAmong x (walk_elements es) ⊎ IsAmong x (Decomposition p es ∷ []) → HasReached t x
-      go f (inl k) = f k
-      go f (inr k) = subst (HasReached t) (sym (only x (Decomposition p es) k)) h
-
-  -- and under elements
-  elements_reached : (t : Table) (es : Elements) →
-      ((p s : Diagram) → IsElement p s es → HasReached t p × HasReached t s) → (x : Diagram) →
-      IsAmong x (walk_elements es) → HasReached t x
-  elements_reached t End h x m = absurd m
-  elements_reached t (Pair p s rest) h x m =
-      three p s rest x (HasReached t x) (λ k. under_reached t p (h p s first).0 x k)
-      (λ k. under_reached t s (h p s first).1 x k)
-      (λ k. elements_reached t rest (λ q u e. h q u (later e)) x k) m
-
 -- so has all under the roots' diagrams
 all_reached : (t : Table) (ds : List Diagram) → AreHeldDiagrams t ds → (x : Diagram) → IsAmong x (flat_map walk ds) →
     HasReached t x
 all_reached t ds held x m =
     let f = flat_among ds x m in
     let c = first_at (ShowsCanonical t) (values t.roots) ds held f.0 f.1 in
-    under_reached t f.0 (record { code = c.0; is = c.2; under = λ n same. root c.0 c.1 n same }) x f.2
+    throughout (HasReached t) (children_reached t) f.0
+    (record { code = c.0; is = c.2; under = λ n same. root c.0 c.1 n same }) x f.2
   where
     root : (c : ℕ) → IsAmong c (values t.roots) → (n : ℕ) → c ≡ 2050 + n → IsUnderRoot t n
     root c k n same =

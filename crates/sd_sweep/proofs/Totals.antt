@@ -2,20 +2,18 @@
 use Rattle.std.proofs.Common.{◌≡◌, ◌≢◌, inl, inr, ℕ, true, List, [], ◌∷◌, refl, sym, subst, ◌∙◌, arith}
 use Rattle.std.specs.FinMap.{get}
 use Rattle.std.specs.List.{AllZip, filter, sum_by, flat_map}
-use Rattle.std.specs.List.Sorted.{IsPermutation}
 use Rattle.std.proofs.lemmas.List.Sorted.{sum_by-IsPermutation}
 use Rattle.std.proofs.lemmas.List.Sums.{sum_by-cons}
 use Rattle.sd_model.specs.Tree.{AreDistinct}
 use Rattle.sd_model.specs.Diagram.{Diagram, Bottom, Top, Literal, Decomposition}
 use Rattle.sd_model.specs.Canonical.{AreDifferent}
 use Rattle.sd_model.specs.Size.{walk, completed, element_count, size_of}
-use Rattle.sd_laws.proofs.Codes.{one_diagram, one_code}
-use Rattle.sd_laws.proofs.Lists.{IsAmong, IsWithin, all_at, all_from, first_at, second_at}
+use Rattle.sd_laws.proofs.Codes.{one_code}
+use Rattle.sd_laws.proofs.Lists.{IsAmong, IsWithin, all_at, all_from, first_at}
 use Rattle.sd_manager.specs.Table.{Table}
 use Rattle.sd_manager.specs.Shown.{Shows, ShowsCanonical}
 use Rattle.sd_manager.specs.Valid.{IsTable}
-use Rattle.sd_sweep.specs.Listed.{AreListed}
-use Rattle.sd_sweep.proofs.Orders.{is_decomposition, completed_permutation, decompositions_permutation}
+use Rattle.sd_sweep.proofs.Orders.{is_decomposition, decompositions_permutation}
 
 -- the diagrams that codes show, in the order of the codes
 pub record HasDiagrams (t : Table) (codes : List ℕ) (ds : List Diagram) : Type 0 where
@@ -54,35 +52,6 @@ diagrams_differ t table (c ∷ codes) (d ∷ ds) h k = (
         one_code t.vtree (get t.linked) table.keys x c b.0 (subst (Shows t c) e h.0.shows) b.2.shows in
         all_at (λ y. c ≢ y) codes b.0 k.0 b.1 code
 
--- the codes of all that stands under some diagrams show their distinct diagrams
-pub are_completed : (t : Table) → IsTable t → (codes : List ℕ) (ds : List Diagram) →
-    AreListed t codes (flat_map walk ds) →
-    (es : List Diagram) × AllZip (ShowsCanonical t) codes es × IsPermutation (completed ds) es
-are_completed t table codes ds l =
-    let k = has_diagrams t codes (flat_map walk ds) l.shown in (
-      k.diagrams,
-      k.shown,
-      completed_permutation ds k.diagrams (diagrams_differ t table codes k.diagrams k.shown l.distinct) k.within
-          (covered k.diagrams k.shown),
-    )
-  where
-    covered : (es : List Diagram) → AllZip (ShowsCanonical t) codes es → IsWithin (flat_map walk ds) es
-    covered es h x m =
-        let b = l.each x m in
-        let y = second_at (ShowsCanonical t) codes es h b.0 b.1 in
-        let same : y.0 ≡ x =
-        one_diagram t.vtree (get t.linked) table.numbered y.0 b.0 x y.2.shows b.2.shows in
-        subst (λ z. IsAmong z es) same y.1
-
--- an empty list shows nothing
-pub listed_empty : (t : Table) → AreListed t [] []
-listed_empty t = record {
-  distinct = tt;
-  shown = λ c m. absurd m;
-  each = λ d m. absurd m;
-  closed = λ d m. absurd m;
-}
-
 -- what is no decomposition has no elements
 elements_decomposed : (xs : List Diagram) →
     sum_by element_count (filter is_decomposition xs) ≡ sum_by element_count xs
@@ -98,12 +67,6 @@ elements_decomposed (Decomposition p es ∷ xs) =
       sum_by-cons element_count (Decomposition p es) xs,
       sum_by-cons element_count (Decomposition p es) (filter is_decomposition xs),
     )
-
--- the sum of the element counts of the distinct diagrams is the size
-pub size_completed : (ds es : List Diagram) (n : ℕ) → IsPermutation (completed ds) es → n ≡ sum_by element_count es →
-    n ≡ size_of ds
-unfolding size_of
-size_completed ds es n order e = e ∙ sum_by-IsPermutation element_count (completed ds) es order
 
 -- Different decompositions that are all of those under some diagrams have the elements of the size together.
 pub size_of_decompositions : (ds es : List Diagram) (n : ℕ) → AreDifferent es → IsWithin es (flat_map walk ds) →

@@ -1,6 +1,7 @@
 //! Sweeping, and the size of what roots show.
 #![tactic(auto)]
 
+mod chain;
 mod sizes;
 mod sweeping;
 
