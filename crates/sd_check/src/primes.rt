@@ -151,7 +151,7 @@ fn join_next(
     let one = unions[next];
     let other = unions[next + 1];
     let both = and(alloc, m, c, one, other)?;
-    if both.0 != 0 {
+    if !both.is_false() {
         return Ok(false);
     }
     let either = or(alloc, m, c, one, other)?;

@@ -34,18 +34,18 @@ or-requires-clause-second c =
     (node_at _ _ (c.args.next + 1) c.requires.nodes c.requires.two))
 
 -- two that are true together
-pub returns-then-both-ne0-clause-met : goal.returns-then-both-ne0-clause-met
-returns-then-both-ne0-clause-met c _ =
+pub returns-then-not-is_false-clause-met : goal.returns-then-not-is_false-clause-met
+returns-then-not-is_false-clause-met c _ =
     join_met c.args.m.now _ c.args.unions.now.items c.args.next _ _ _ c.in_ok-both.ensures.table c.requires.two
     c.index-one.ensures c.index-other.ensures c.in_ok-both.ensures.ok
-    (λ e. c.if-both-ne0.true (c.both.view_is ∙ e))
+    (λ e. absurd (cc (c.is_false.ensures.1 e, c.if-not-is_false.true)))
 
 -- their union
 pub returns-clause-joined : goal.returns-clause-joined
 returns-clause-joined c _ =
     join_step c.args.m.now _ _ c.args.unions.now.items _ c.args.next _ _ _ _ c.in_ok-both.ensures.table
     c.in_ok-both.ensures.kept c.in_ok-either.ensures.kept c.requires.two c.index-one.ensures c.index-other.ensures
-    c.in_ok-both.ensures.ok (sym c.both.view_is ∙ c.if-both-ne0.false) c.in_ok-either.ensures.ok
+    c.in_ok-both.ensures.ok (c.is_false.ensures.0 c.if-not-is_false.false) c.in_ok-either.ensures.ok
     c.in_ok-push.ensures.items
 
 pub returns-clause-nodes : goal.returns-clause-nodes
