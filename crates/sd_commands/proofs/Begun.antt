@@ -1,6 +1,5 @@
 -- A search that is done has also begun: what holds of a tree where one may have been broken off holds where it is done.
 use Rattle.std.proofs.Common.{◌≡◌, ◌⊎◌, ℕ, zero, suc, ◌<◌, Bool, true, false, List, [], refl, sym, subst, inl, inr}
-use Rattle.std.specs.Prelude.{MatchBool}
 use Rattle.sd_model.specs.Tree.{Tree}
 use Rattle.sd_model.specs.Expression.{Expression}
 use Rattle.sd_model.specs.Size.{HasSize}
@@ -9,7 +8,7 @@ use Rattle.sd_search.specs.Search.{IsRound, round_at_leaf, round_at_node, IsRoun
 use Rattle.sd_search.specs.Search.{Found, IsSearch, no_round, last_round, further_round}
 use Rattle.sd_search.specs.Search.{IsSearchBegun, in_round, after_round}
 use Rattle.sd_formula.specs.Dimacs.{Groups}
-use Rattle.sd_commands.specs.Commands.{State, IsSearched, Follows, Grows, GrowsBy, with_groups}
+use Rattle.sd_commands.specs.Commands.{State, IsSearched, Follows, FollowsBy, Grows, GrowsBy, with_groups}
 
 -- a round that is done has begun
 round_begun : {fs : List Expression} {slack : ℕ} {start end : Tree} {path : List Side}
@@ -56,7 +55,7 @@ begun_once {fs} {slack} {before} (found, search, is) =
 
 -- so the one behind a group has, where it was due
 follows_begun : (due : Bool) (fs : List Expression) (slack : ℕ) (before after : Tree)
-    → Follows due fs slack before after → MatchBool due (IsSearchBegun fs slack 1 before after) (after ≡ before)
+    → Follows due fs slack before after → FollowsBy IsSearchBegun due fs slack before after
 follows_begun true fs slack before after done = begun_once done
 follows_begun false fs slack before after same = same
 

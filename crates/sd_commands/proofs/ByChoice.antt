@@ -15,16 +15,17 @@ use Rattle.sd_starts.specs.Starts.{IsChosenStart, IsEndAt, IsSearchedTo, IsNoCho
 use Rattle.sd_starts.specs.Starts.{Chosen, AllPassed, Ended}
 use Rattle.sd_starts.specs.declared.choosing.Chosen.{Chosen as ChosenStart}
 use Rattle.sd_starts.specs.declared.start.Settings.{Settings}
+use Rattle.sd_starts.proofs.StartLeaves.{start_leaves}
 use Rattle.sd_commands.specs.Commands.{State, Done, OverLimit, Grows, with_name, start_line}
 use Rattle.sd_commands.specs.Standing.{Represents, start, effect_of, effects_of, error_of_compiling}
-use Rattle.sd_commands.specs.Opening.{OpensChosen, FollowsInput, IsOpeningStopped, told_search}
+use Rattle.sd_commands.specs.Opening.{OpensChosen, FollowsInput, IsOpeningStopped, IsOfFirstFull, told_search}
 use Rattle.sd_commands.specs.declared.command.Effect.{Effect as CodeEffect}
 use Rattle.sd_commands.specs.declared.command.Effect.TheVariants.{PrintLine}
 use Rattle.sd_commands.specs.declared.command.RunCommand.TheVariants as commands
+use Rattle.sd_commands.specs.declared.error.CommandError.TheVariants as errors
 use Rattle.sd_commands.specs.declared.opening.Opened.{Opened}
 use Rattle.sd_commands.specs.declared.state.RunState.{RunState}
 use Rattle.sd_commands.proofs.ByParts.{holds_no_names}
-use Rattle.sd_commands.proofs.Choosing.{start_leaves}
 use Rattle.sd_commands.proofs.SearchedLeaves.{search_leaves}
 
 -- the groups of the input lead to the tree itself, where each prefix is within the limit alone
@@ -123,14 +124,22 @@ module _ (input : Groups) (settings : Settings) (tree : Tree) (same : leaves tre
       (commands.Choose settings.rounds) (error_of_compiling (compiling.ArenaFull elements)) p) (sym h.1)
       (record {
         may_fill = tt;
-        filled = record { whole = h.2.bound; rule = h.2.past };
+        filled = record { whole = h.2.full.bound; rule = h.2.full.past };
         tree = (
           h.2.start,
           subst (λ v. IsTreeLeft input settings (tree_of_start h.2.start v) (plain_tree h.0.vtree)) (sym same)
-              h.2.tree,
+              h.2.full.tree,
         );
-        nothing = holds_no_names h.0 h.2.nothing;
+        nothing = holds_no_names h.0 h.2.full.nothing;
       })
   no_choice compiling.OutOfMemory manager h =
       subst (λ p. IsOpeningStopped input (start tree settings.limit settings.slack None)
       (commands.Choose settings.rounds) (error_of_compiling compiling.OutOfMemory) p) (sym h) tt
+
+-- a manager that is handed back is that of the first start at which room or memory lacked
+pub first_full : (input : Groups) (settings : Settings) (error : CompileError) (manager : Option Table)
+    → IsNoChoice input settings error manager → IsOfFirstFull input settings (error_of_compiling error) manager
+first_full input settings (compiling.OverLimit group size limit) manager h = tt
+first_full input settings (compiling.ArenaFull elements) manager h =
+    subst (λ p. IsOfFirstFull input settings (errors.ArenaFull elements) p) (sym h.1) h.2
+first_full input settings compiling.OutOfMemory manager h = tt

@@ -26,8 +26,9 @@ use Rattle.sd_parts.specs.Work.{first_refusal, refusal_or}
 use Rattle.sd_parts.specs.declared.part.PartAnswer.{PartAnswer}
 use Rattle.sd_commands.specs.Commands.{State, Done, OverLimit, Step, formulas_of, with_name}
 use Rattle.sd_commands.specs.Standing.{Represents, HoldsNames, StopsAt, error_of_compiling}
-use Rattle.sd_commands.specs.Opening.{AreWholeAnswers, IsHandedBack, IsJoinStopped, IsStoppedByParts}
-use Rattle.sd_commands.specs.Opening.{PassesAt, manager_or, refusing_manager}
+use Rattle.sd_commands.specs.Opening.{IsHandedBack, IsStoppedByParts}
+use Rattle.sd_commands.specs.Joining.{AreWholeAnswers, IsJoinStopped}
+use Rattle.sd_commands.specs.Joining.{PassesAt, manager_or, refusing_manager}
 use Rattle.sd_commands.specs.declared.command.RunCommand.{RunCommand}
 use Rattle.sd_commands.specs.declared.command.RunCommand.TheVariants as commands
 use Rattle.sd_commands.specs.declared.error.CommandError.{CommandError}

@@ -6,7 +6,6 @@ use Rattle.std.proofs.Math.Seq.{take-length}
 use Rattle.std.proofs.lemmas.Bool.{cases_eq, eq-eqb, ne_eqb}
 use Rattle.std.proofs.lemmas.Option.{same_Some}
 use Rattle.std.proofs.lemmas.Cmp.{nat_cmp_total}
-use Rattle.std.specs.Prelude.{MatchBool}
 use Rattle.std.specs.Option.{IsSome}
 use Rattle.std.specs.FinMap.{get, get-empty, empty, remove, len, len-empty, len-remove}
 use Rattle.std.specs.Ordering.{nat_cmp}
@@ -30,15 +29,15 @@ use Rattle.sd_compile.specs.Compiling.{prefix_of, IsGroupRefused}
 use Rattle.sd_compile.specs.Total.{HasTotalWith, IsWithinLimit, IsHeldFormula, IsHeldDiagram, IsOfSome, AreHeldFormulas}
 use Rattle.sd_compile.specs.declared.error.CompileError.{CompileError}
 use Rattle.sd_compile.specs.declared.error.CompileError.TheVariants as compiling
-use Rattle.sd_compile.proofs.Kept.{kept_holds}
+use Rattle.sd_compile.proofs.Kept.{kept_holds, serves_roots}
 use Rattle.sd_compile.proofs.Named.{total_formulas}
 use Rattle.sd_starts.specs.Starts.{HoldsAlone}
 use Rattle.sd_search.specs.Search.{Found, IsSearch, IsSearchBegun}
 use Rattle.sd_search.specs.Kept.{KeepsRoots, StaysShown, IsSearchRefusal}
 use Rattle.sd_search.specs.declared.error.SearchError.{SearchError}
 use Rattle.sd_search.specs.declared.error.SearchError.TheVariants as searching
-use Rattle.sd_commands.specs.Commands.{State, OverLimit, Step, AreWithin, Grows, Follows, formulas_of, with_groups}
-use Rattle.sd_commands.specs.Commands.{is_due, with_name}
+use Rattle.sd_commands.specs.Commands.{State, OverLimit, Step, AreWithin, Grows, Follows, FollowsBy, formulas_of}
+use Rattle.sd_commands.specs.Commands.{is_due, with_groups, with_name}
 use Rattle.sd_formula.specs.Formulas.{expression_of}
 use Rattle.sd_commands.specs.Standing.{Represents, StopsAt, AreForgotten, without, error_of_compiling}
 use Rattle.sd_commands.specs.Standing.{error_of_search, IsLeftByGroups, IsAsBefore, HoldsValue, StepsTo, root_count}
@@ -48,10 +47,9 @@ use Rattle.sd_commands.specs.Growing.{IsGrowing, IsAdded, IsBrokenOff, HasGrown,
 use Rattle.sd_commands.specs.declared.command.RunCommand.TheVariants.{Input}
 use Rattle.sd_commands.specs.declared.state.RunState.{RunState}
 use Rattle.sd_commands.proofs.Limits.{held_formulas, within_with, passes_with}
-use Rattle.sd_commands.proofs.Settling.{input_of_group}
 use Rattle.sd_commands.proofs.Begun.{grows_begun}
 use Rattle.sd_commands.proofs.Searched.{stands_searched}
-use Rattle.sd_commands.proofs.Standing.{stands_kept, serves_roots, code_regained, holds_compiled}
+use Rattle.sd_commands.proofs.Standing.{stands_kept, code_regained, holds_compiled}
 
 -- ---- one root left out
 
@@ -238,7 +236,6 @@ module _ (input : Groups) (seen : State) (code : RunState) (work : CompiledPrefi
       let passes = passes_with (without code work.root) here numbered was.represents law (prefix_of input group)
       code.limit size refl h.1.total h.1.passes in
       subst (λ l. Step input seen (Input name) (OverLimit (Some group) size l)) (was.represents.limit ∙ sym h.1.most_is)
-      (input_of_group input seen name (OverLimit (Some group) size seen.limit)
       (inr (
         group,
         size,
@@ -248,11 +245,10 @@ module _ (input : Groups) (seen : State) (code : RunState) (work : CompiledPrefi
           next,
           omega (arith, next, left),
           was.course,
-          passes.total,
-          passes.passes,
+          passes,
         ),
         refl,
-      )))
+      ))
   growth_stops name t (compiling.ArenaFull elements) bound left h = (tt, record { whole = bound; rule = h })
   growth_stops name t compiling.OutOfMemory bound left h = tt
 
@@ -362,8 +358,8 @@ module _ (input : Groups) (seen : State) (code : RunState) (work : CompiledPrefi
   }
     where
       follows : (due : Bool) → due ≡ true
-          → MatchBool due (IsSearchBegun (with_groups input seen (suc was.done)) seen.slack 1
-          (plain_tree code.manager.vtree) (plain_tree t.vtree)) (plain_tree t.vtree ≡ plain_tree code.manager.vtree)
+          → FollowsBy IsSearchBegun due (with_groups input seen (suc was.done)) seen.slack
+          (plain_tree code.manager.vtree) (plain_tree t.vtree)
       follows true is =
           subst (λ s. IsSearchBegun (with_groups input seen (suc was.done)) s 1 (plain_tree code.manager.vtree)
           (plain_tree t.vtree)) (sym was.represents.slack) (begun (with_groups input seen (suc was.done)) held_here)

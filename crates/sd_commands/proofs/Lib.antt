@@ -1,7 +1,6 @@
 pub mod Begun
 pub mod ByChoice
 pub mod ByParts
-pub mod Choosing
 pub mod Growing
 pub mod Limits
 pub mod Moved

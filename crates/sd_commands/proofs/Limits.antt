@@ -28,7 +28,6 @@ use Rattle.sd_commands.specs.Standing.{error_of_compiling}
 use Rattle.sd_commands.specs.declared.command.RunCommand.TheVariants.{Input}
 use Rattle.sd_commands.specs.declared.state.RunState.{RunState}
 use Rattle.sd_commands.proofs.Names.{formula_named_by, named_formula}
-use Rattle.sd_commands.proofs.Settling.{input_of_group}
 use Rattle.sd_commands.proofs.Standing.{shown_canonical, bound_root, root_bound}
 
 -- ---- the bound names' formulas are what roots hold
@@ -88,10 +87,8 @@ module _ (code : RunState) (seen : State) (numbered : IsNumbered code.manager.vt
   -- or passes it
   pub passes_with : (f : Expression) (limit n : ℕ) → limit ≡ code.limit → HasTotalWith code.manager f n → limit < n
       → PassLimit (f ∷ formulas_of seen) seen.tree seen.limit n
-  passes_with f limit n same total passes = record {
-    total = size_with f n total;
-    passes = subst (λ l. l < n) (same ∙ sym was.limit) passes;
-  }
+  passes_with f limit n same total passes =
+      (size_with f n total, subst (λ l. l < n) (same ∙ sym was.limit) passes)
 
   -- a node that is not held leads to no state
   pub not_held : (name : ℕ) (f : Expression) (e : HoldError) → IsHoldRefused code.manager f code.limit e
@@ -124,8 +121,7 @@ module _ (code : RunState) (seen : State) (numbered : IsNumbered code.manager.vt
         refl,
         h.1,
         groups_within input limit done same none (λ n low high. h.3 n low (omega (arith, high))) done (omega arith),
-        passes.total,
-        passes.passes,
+        passes,
       )
 
   -- so the command stops
@@ -134,8 +130,7 @@ module _ (code : RunState) (seen : State) (numbered : IsNumbered code.manager.vt
       → StopsAt input seen (Input name) new (error_of_compiling e)
   input_stops input name new (compiling.OverLimit group size most) bound none h =
       subst (λ l. Step input seen (Input name) (OverLimit (Some group) size l)) (was.limit ∙ sym h.2.most_is)
-      (input_of_group input seen name (OverLimit (Some group) size seen.limit)
-      (inr (group, size, group_passes input new code.limit group size most refl none h, refl)))
+      (inr (group, size, group_passes input new code.limit group size most refl none h, refl))
   input_stops input name new (compiling.ArenaFull elements) bound none h = (tt, record { whole = bound; rule = h })
   input_stops input name new compiling.OutOfMemory bound none h = tt
 
@@ -156,9 +151,8 @@ module _ (code : RunState) (seen : State) (numbered : IsNumbered code.manager.vt
       → ((fs : List Expression) (n : ℕ) → AreHeldFormulas code.manager fs → IsTotal code.manager n
       → HasSize fs (plain_tree code.manager.vtree) n)
       → limit < size → IsTotal code.manager size → PassLimit (formulas_of seen) seen.tree limit size
-  total_passes limit size law passes total = record {
-    total =
-        subst (λ t. HasSize (formulas_of seen) t size) (sym was.tree)
-        (law (formulas_of seen) size (held_formulas code seen numbered was) total);
-    passes = passes;
-  }
+  total_passes limit size law passes total = (
+    subst (λ t. HasSize (formulas_of seen) t size) (sym was.tree)
+        (law (formulas_of seen) size (held_formulas code seen numbered was) total),
+    passes,
+  )

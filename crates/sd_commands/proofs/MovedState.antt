@@ -1,34 +1,29 @@
 -- The state that the code represents after a move of the vtree, and why a move is refused.
-use Rattle.std.proofs.Common.{◌≡◌, inl, inr, ℕ, ◌≤◌, ◌<◌, List, [], ◌∷◌}
+use Rattle.std.proofs.Common.{◌≡◌, inl, ℕ, ◌≤◌, ◌<◌, []}
 use Rattle.std.proofs.Common.{Option, Some, None, slice_get, refl, sym, ap, subst, ◌∙◌}
 use Rattle.std.specs.Option.{IsSome, option_map}
-use Rattle.std.specs.List.{AllZip}
-use Rattle.std.specs.FinMap.{FinMap, get}
-use Rattle.std.specs.Ordering.{nat_cmp}
+use Rattle.std.specs.FinMap.{get}
 use Rattle.sd_model.specs.declared.trees.Move.{Move}
-use Rattle.sd_model.specs.Tree.{Tree, leaves, IsVtree}
+use Rattle.sd_model.specs.Tree.{leaves}
 use Rattle.sd_model.specs.Moves.{moved_at}
-use Rattle.sd_model.specs.Diagram.{Diagram}
 use Rattle.sd_model.specs.Expression.{Expression}
-use Rattle.sd_model.specs.Size.{HasSize, IsDiagramOf, size_of}
-use Rattle.sd_model.proofs.Determined.{diagram_determined}
+use Rattle.sd_model.specs.Size.{HasSize}
 use Rattle.sd_vtree.specs.Numbered.{Numbered, plain_tree, numbers, IsNumbered}
 use Rattle.sd_vtree.specs.NumberedMoves.{moved_number}
 use Rattle.sd_laws.proofs.Evaluated.{value_of_shown}
-use Rattle.sd_laws.proofs.Lists.{IsAmong, IsWithin, first_at, second_at, all_weaker}
 use Rattle.sd_cache.specs.Entries.{Answers}
 use Rattle.sd_manager.specs.Table.{Table}
 use Rattle.sd_manager.specs.Valid.{IsTable}
 use Rattle.sd_manager.specs.Marking.{AreUnmarked}
 use Rattle.sd_apply.specs.Serving.{Serves}
-use Rattle.sd_apply.proofs.Served.{serves_beside}
 use Rattle.sd_sweep.specs.Reached.{reached_first, KeepsReached}
-use Rattle.sd_move.specs.Journal.{Journal, CanUndo, CanPutBack, HasLooseRun, CanSettle, IsSettledBy}
-use Rattle.sd_move.specs.Moves.{HasMoved, HasSizeAfter, IsMoved, IsMoveRefusal}
+use Rattle.sd_move.specs.Journal.{Journal, IsSettledBy}
+use Rattle.sd_move.specs.Moves.{HasSizeAfter, IsMoved, IsMoveRefusal}
 use Rattle.sd_move.specs.declared.error.MoveError.{MoveError}
 use Rattle.sd_move.specs.declared.error.MoveError.TheVariants as refusals
 use Rattle.sd_move.proofs.AfterSweep.{value_then}
-use Rattle.sd_compile.proofs.Holding.{held_among, among_held, same_size}
+use Rattle.sd_search.proofs.Journals.{serves_runs}
+use Rattle.sd_search.proofs.KeptRoots.{size_moved as held_size_moved}
 use Rattle.sd_compile.proofs.Kept.{kept_holds}
 use Rattle.sd_formula.specs.Dimacs.{Groups}
 use Rattle.sd_commands.specs.Commands.{State, Moves, Settles, Done, OverLimit, NotMovable, formulas_of, AreWithin}
@@ -41,54 +36,7 @@ use Rattle.sd_commands.proofs.Limits.{held_formulas}
 use Rattle.sd_commands.proofs.Moved.{IsReordered, vtree_reordered, move_reordered}
 use Rattle.sd_commands.proofs.Standing.{as_before_kept, shown_canonical, inputs_still}
 
--- ---- the size of formulas whose diagrams are those of a list
-
--- one more of the list
-both_within : (e : Diagram) (ds es : List Diagram) → IsAmong e es → IsWithin ds es → IsWithin (e ∷ ds) es
-both_within e ds es m h x (inl same) = subst (λ z. IsAmong z es) (sym same) m
-both_within e ds es m h x (inr k) = h x k
-
--- the diagrams of the formulas, which are in the list
-diagrams_among : (t : Tree) (fs : List Expression) (es : List Diagram)
-    → ((g : Expression) → IsAmong g fs → (e : Diagram) × IsDiagramOf t g e × IsAmong e es)
-    → (ds : List Diagram) × AllZip (IsDiagramOf t) fs ds × IsWithin ds es
-diagrams_among t [] es h = ([], tt, λ x m. absurd m)
-diagrams_among t (g ∷ fs) es h =
-    let a = h g (inl refl) in
-    let r = diagrams_among t fs es (λ k m. h k (inr m)) in
-    (a.0 ∷ r.0, (a.1, r.1), both_within a.0 r.0 es a.2 r.2)
-
--- each of the list is one of them
-among_diagrams : (t : Tree) (fs : List Expression) (ds es : List Diagram) → IsVtree t
-    → AllZip (IsDiagramOf t) fs ds
-    → ((e : Diagram) → IsAmong e es → (g : Expression) × IsAmong g fs × IsDiagramOf t g e) → IsWithin es ds
-among_diagrams t fs ds es valid each only e m =
-    let k = only e m in
-    let w = second_at (IsDiagramOf t) fs ds each k.0 k.1 in
-    subst (λ z. IsAmong z ds) (diagram_determined t k.0 w.0 e valid w.2 k.2) w.1
-
--- so the formulas have the size of the list
-size_of_list : (t : Tree) (fs : List Expression) (es : List Diagram) (n : ℕ) → IsVtree t
-    → ((g : Expression) → IsAmong g fs → (e : Diagram) × IsDiagramOf t g e × IsAmong e es)
-    → ((e : Diagram) → IsAmong e es → (g : Expression) × IsAmong g fs × IsDiagramOf t g e)
-    → size_of es ≡ n → HasSize fs t n
-size_of_list t fs es n valid each only is =
-    let ds = diagrams_among t fs es each in
-    record {
-      diagrams = ds.0;
-      each = ds.1;
-      size = same_size ds.0 es ds.2 (among_diagrams t fs ds.0 es valid ds.1 only) ∙ is;
-    }
-
 -- ---- the size after a move
-
--- a diagram that a move leads to is that of the formula
-of_moved : (old : Tree) (tree : Numbered) (g : Expression) (d e : Diagram) → leaves (plain_tree tree) ≡ leaves old
-    → IsDiagramOf old g d → HasMoved tree d e → IsDiagramOf (plain_tree tree) g e
-of_moved old tree g d e count of h = record {
-  canonical = h.canonical;
-  same_value = λ a fits. h.same a ∙ of.same_value a (fits ∙ count);
-}
 
 -- the size of all held diagrams after a move is that of the formulas of the bound names
 pub size_moved : (code : RunState) (seen : State) (kind : Move) (place n : ℕ) → IsNumbered code.manager.vtree
@@ -96,34 +44,10 @@ pub size_moved : (code : RunState) (seen : State) (kind : Move) (place n : ℕ) 
     → IsReordered (plain_tree code.manager.vtree) (plain_tree h.tree)
     → HasSize (formulas_of seen) (plain_tree h.tree) n
 size_moved code seen kind place n numbered was h same =
-    let are = held_formulas code seen numbered was in
-    size_of_list (plain_tree h.tree) (formulas_of seen) h.after n (vtree_reordered _ _ same numbered.vtree)
-    (λ g m.
-    let f = are.each g m in
-    let w = second_at (HasMoved h.tree) h.before h.after h.each f.diagram
-    (held_among code.manager numbered h.before h.held f.held.root f.held.code f.diagram f.held.held f.held.is) in
-    (w.0, of_moved (plain_tree code.manager.vtree) h.tree g f.diagram w.0 same.count f.of_formula w.2, w.1))
-    (λ e m.
-    let w = first_at (HasMoved h.tree) h.before h.after h.each e m in
-    let f = are.only w.0 (among_held code.manager h.before h.held w.0 w.1) in
-    (f.formula, f.among, of_moved (plain_tree code.manager.vtree) h.tree f.formula w.0 e same.count f.is w.2))
-    h.size
+    held_size_moved code.manager (formulas_of seen) kind place n numbered (held_formulas code seen numbered was) h
+    (vtree_reordered _ _ same numbered.vtree) same.count
 
 -- ---- a move that was made and settled
-
--- its journal can be settled
-pub can_settle : (j : Journal) (t : Table) → CanUndo j t → CanSettle j t
-can_settle j t can = record {
-  runs = all_weaker (CanPutBack t j.upper j.lower) (HasLooseRun t) (λ e h. h.run) j.named can.entries;
-  once = can.runs_once;
-}
-
--- the cache serves, whatever runs are loose or free
-serves_runs : (cache : Answers) (t new : Table) (loose : FinMap nat_cmp (List (ℕ × ℕ))) (free : FinMap nat_cmp ℕ)
-    → new ≡ record t { loose = loose; free = free } → Serves cache t → Serves cache new
-serves_runs cache t new loose free is serves =
-    subst (Serves cache) (sym is)
-    (serves_beside cache t (record t { loose = loose; free = free }) refl refl refl serves)
 
 module _ (code : RunState) (mid new : Table) (kind : Move) (place : ℕ) (j : Journal) (t : IsTable code.manager)
     (u : IsTable mid) (m : IsMoved code.manager mid kind place j) (settled : IsSettledBy mid new j)
@@ -243,11 +167,11 @@ module _ (input : Groups) (code : RunState) (seen : State) (kind : Move) (p plac
   turn_stops new (refusals.OverMost size limit) numbered bound h =
       let next : State = record seen { tree = plain_tree h.2.tree } in
       subst (λ o. Moves seen o (OverLimit None size limit)) (sym (state_tree (Some h.2.tree) h.2.turned))
-      (subst (λ l. Settles next (OverLimit None size l)) (sym (h.0 ∙ sym was.limit)) (settles_past next size (record {
-        total = size_moved code seen kind place size numbered was h.2
-            (plain_reordered kind code.manager.vtree h.2.tree p place law h.2.turned);
-        passes = subst (λ l. l < size) (sym was.limit) h.1;
-      })))
+      (subst (λ l. Settles next (OverLimit None size l)) (sym (h.0 ∙ sym was.limit)) (settles_past next size (
+        size_moved code seen kind place size numbered was h.2
+            (plain_reordered kind code.manager.vtree h.2.tree p place law h.2.turned),
+        subst (λ l. l < size) (sym was.limit) h.1,
+      )))
   turn_stops new (refusals.ArenaFull elements) numbered bound h = (
     subst IsSome (sym (state_tree (Some h.0.0) h.0.1)) refl,
     record { whole = bound; rule = h.1 },

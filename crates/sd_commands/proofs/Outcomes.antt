@@ -11,7 +11,6 @@ use Rattle.sd_model.specs.Tree.{Tree, IsVtree, leaves}
 use Rattle.sd_model.specs.Moves.{moved_at}
 use Rattle.sd_model.specs.declared.trees.Move.{Move}
 use Rattle.sd_model.specs.Text.{roots_text}
-use Rattle.sd_model.specs.Circuit.{Circuit}
 use Rattle.sd_model.specs.Expression.{Expression, Constant, Atom, Combined, Negated, Conditioned, Forgotten, OutputOf}
 use Rattle.sd_model.specs.Expression.{AreOneFunction}
 use Rattle.sd_model.specs.Size.{HasSize}
@@ -28,16 +27,16 @@ use Rattle.sd_check.proofs.Verdicts.{verdict_once}
 use Rattle.sd_commands.specs.Effects.{Effect, Write, Print}
 use Rattle.sd_commands.specs.Commands.{State, Outcome, Done, OverLimit, Step, Settles, Binds, BindsInput}
 use Rattle.sd_commands.specs.Commands.{Moves, AreWithin, PassesAtGroup, IsTextOf, formulas_of, with_groups}
-use Rattle.sd_commands.specs.Commands.{Grows, Follows, is_due, IsBoundOrPast}
+use Rattle.sd_commands.specs.Commands.{Grows, Follows, is_due}
 use Rattle.sd_commands.specs.Commands.{with_name, formula_named, size_line, same_line, search_line}
 use Rattle.sd_commands.specs.Commands.{by_parts, by_choice, at_start, settings_of, start_line, verdict_line}
-use Rattle.sd_commands.proofs.Choosing.{one_choice, start_vtree}
+use Rattle.sd_starts.proofs.OneChoice.{one_choice}
+use Rattle.sd_starts.proofs.StartLeaves.{start_vtree}
 use Rattle.sd_commands.specs.Fits.{Fits, AllFit, has, bound_after}
 use Rattle.sd_commands.specs.Standing.{names_of}
 use Rattle.sd_commands.specs.declared.command.NumberedCommand.{NumberedCommand}
 use Rattle.sd_commands.specs.declared.command.RunCommand.{RunCommand}
 use Rattle.sd_commands.specs.declared.command.RunCommand.TheVariants as commands
-use Rattle.sd_commands.proofs.Settling.{input_by_group}
 use Rattle.sd_commands.proofs.Searched.{search_valid}
 use Rattle.sd_commands.proofs.Moved.{IsReordered, vtree_reordered, move_reordered}
 
@@ -117,7 +116,7 @@ not_grown input state g m (suc n) tree valid p grows low = elim (cases_order g (
       not_both (with_groups input state (suc n)) grows.0 state.limit m (grows_valid input state n grows.0 valid grows.1)
       grows.2
       (subst (λ t. HasSize (with_groups input state (suc n)) t m) one
-      (subst (λ k. HasSize (with_groups input state k) p.1 m) same p.5)) p.6
+      (subst (λ k. HasSize (with_groups input state k) p.1 m) same p.5.0)) p.5.1
   | inr (inl less) ↦ not_grown input state g m n grows.0 valid p grows.1 (omega (arith, less))
   | inr (inr more) ↦ omega (arith, low, more)
 ]
@@ -139,7 +138,7 @@ one_group input state g h m n valid p q = elim (cases_order g h) [
         same,
         size_determined q.1 (with_groups input state h) m n (grows_valid input state q.0 q.1 valid q.4)
             (subst (λ t. HasSize (with_groups input state h) t m) one
-            (subst (λ k. HasSize (with_groups input state k) p.1 m) same p.5)) q.5,
+            (subst (λ k. HasSize (with_groups input state k) p.1 m) same p.5.0)) q.5.0,
       )
   | inr (inl less) ↦ absurd (no_later input state g h m n valid p q less)
   | inr (inr more) ↦ absurd (no_later input state h g n m valid q p more)
@@ -147,7 +146,7 @@ one_group input state g h m n valid p q = elim (cases_order g h) [
 
 -- the input is bound, or refused at one group
 one_input : (input : Groups) (state : State) (name : ℕ) (a b : Outcome) → IsVtree state.tree
-    → IsBoundOrPast input state name a → IsBoundOrPast input state name b → a ≡ b
+    → BindsInput input state name a → BindsInput input state name b → a ≡ b
 one_input input state name a b valid (inl p) (inl q) =
     p.2 ∙ ap (λ t. Done (with_name (record state { tree = t }) name (expression_of input)) [])
     (one_growth input state (length input.groups) p.0 q.0 valid p.1 q.1)
@@ -173,7 +172,7 @@ pub one_outcome : (input : Groups) (state : State) (command : RunCommand) (a b :
     → Step input state command a → Step input state command b → a ≡ b
 one_outcome input state (commands.Generated v g) a b valid p q = p ∙ sym q
 one_outcome input state (commands.Input n) a b valid p q =
-    one_input input state n a b valid (input_by_group input state n a p) (input_by_group input state n b q)
+    one_input input state n a b valid p q
 one_outcome input state (commands.Load n file) a b valid p q =
     one_settled (with_name state n (expression_of_file file)) a b valid p q
 one_outcome input state (commands.Literal n literal) a b valid p q =
@@ -269,7 +268,7 @@ input_done input state next name effects (inl p) =
     let e = p.2 in
     let same : next ≡ with_name (record state { tree = p.0 }) name (expression_of input) = cc in
     record { tree = p.0; course = p.1; next_is = same; quiet = cc }
-input_done input state next name effects (inr p) = let e = p.7 in let bad : ⊥ = cc in absurd bad
+input_done input state next name effects (inr p) = let e = p.3 in let bad : ⊥ = cc in absurd bad
 
 -- parts that are joined bind the name, without an effect
 pub parts_done : (state next : State) (effects : List Effect) (name : ℕ) (f : Expression) (end : PartsOutcome)

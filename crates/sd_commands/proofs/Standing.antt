@@ -23,7 +23,6 @@ use Rattle.sd_manager.specs.Table.{Table, no_table}
 use Rattle.sd_manager.specs.Shown.{ShowsCanonical, HoldsDiagram}
 use Rattle.sd_manager.specs.Making.{Extends, with_root, without_root}
 use Rattle.sd_apply.specs.Serving.{Serves}
-use Rattle.sd_apply.proofs.Served.{serves_beside}
 use Rattle.sd_apply.proofs.Tried.{empty_serves}
 use Rattle.sd_formula.specs.Formulas.{expression_of}
 use Rattle.sd_commands.specs.Commands.{State, named, with_name, dropped, formula_named, no_circuit}
@@ -39,10 +38,10 @@ use Rattle.sd_commands.specs.declared.state.RunState.{RunState}
 use Rattle.sd_manager.specs.Marking.{AreUnmarked}
 use Rattle.sd_manager.proofs.Marking.{unmarked_new, unmarked_extended}
 use Rattle.sd_compile.specs.Compiling.{KeepsAll, KeepsOtherRoots, HoldsFormula}
-use Rattle.sd_compile.proofs.Kept.{all_extended, released_all}
+use Rattle.sd_compile.proofs.Kept.{all_extended, released_all, serves_roots, without_new}
 use Rattle.sd_gates.specs.Sharing.{Shares}
 use Rattle.sd_gates.proofs.Shared.{shares_on, shares_beside}
-use Rattle.sd_starts.specs.Starts.{IsReady, HoldsAlone}
+use Rattle.sd_starts.specs.Starts.{IsAtRest, HoldsAlone}
 
 -- ---- the start
 
@@ -205,12 +204,7 @@ fewer_removed roots (Some root) = at _ (len-remove nat_cmp_total roots root)
     at true e = omega (arith, e)
     at false e = omega (arith, e)
 
--- the cache serves, whatever the roots hold
-pub serves_roots : (cache : Answers) (t : Table) (roots : FinMap nat_cmp ℕ) → Serves cache t
-    → Serves cache (record t { roots = roots })
-serves_roots cache t roots serves = serves_beside cache t (record t { roots = roots }) refl refl refl serves
-
--- and so do the nodes of the gates
+-- the nodes of the gates are shared, whatever the roots hold
 pub shares_roots : (shared : SharedCircuit) (t : Table) (roots : FinMap nat_cmp ℕ)
     → Shares shared.circuit shared.gates t → Shares shared.circuit shared.gates (record t { roots = roots })
 shares_roots shared t roots shares =
@@ -398,26 +392,12 @@ stands_bound code new seen name node root f was shows absent free is same_cache 
       of_value = shows.of_value;
     }
 
--- a root that is held and released again leaves the manager as it was
-regained : (t : Table) (root node : ℕ) → get t.roots root ≡ None
-    → without_root (with_root t root node) root ≡ t
-regained t root node absent = ap (λ roots. record t { roots = roots }) (same_at_each _ _ at)
-  where
-    at : (q : ℕ) → get (remove (insert t.roots root node) root) q ≡ get t.roots q
-    at q = elim (cases_eq q root) [
-      | inl same ↦
-          subst (λ k. get (remove (insert t.roots root node) root) k ≡ get t.roots k) (sym same)
-          (get_remove_same (insert t.roots root node) root ∙ sym absent)
-      | inr differ ↦
-          get_remove_other (insert t.roots root node) root q differ ∙ get_insert_other t.roots root node q differ
-    ]
-
--- and a code whose root is released is the one before
+-- a code whose new root is released again is the one before
 pub code_regained : (code : RunState) (t : Table) (root node : ℕ) → get code.manager.roots root ≡ None
     → t ≡ with_root code.manager root node → record code { manager = without_root t root } ≡ code
 code_regained code t root node absent is =
     ap (λ m. record code { manager = m })
-    (ap (λ x. without_root x root) is ∙ regained code.manager root node absent)
+    (ap (λ x. without_root x root) is ∙ without_new code.manager root node absent)
 
 -- a root that is released and held again leaves the manager as it was
 restored : (t : Table) (root node : ℕ) → get t.roots root ≡ Some node → t ≡ with_root (without_root t root) root node
@@ -736,10 +716,9 @@ before_then (Ok x) code mid new first later = tt
 before_then (Err e) code mid new first later = before_both code mid new first later
 
 -- a search that stops leaves the same, where all was as before it
-pub search_forgotten : {X E : Type 0} (result : Result X E) (rounds : ℕ) (code mid new : RunState) → IsAsBefore code mid
-    → OnErr result (IsLeftBySearch rounds mid new) → OnErr result (IsLeftBySearch rounds code new)
-search_forgotten (Ok x) rounds code mid new first later = tt
-search_forgotten (Err e) rounds code mid new first later = record {
+pub search_left_then : (rounds : ℕ) (code mid new : RunState) → IsAsBefore code mid
+    → IsLeftBySearch rounds mid new → IsLeftBySearch rounds code new
+search_left_then rounds code mid new first later = record {
   represents = λ seen was. later.represents seen (first.represents seen was);
   searched = λ seen was. later.searched seen (first.represents seen was);
   roots = later.roots ∙ first.roots;
@@ -802,7 +781,7 @@ holds_compiled t root f h = record {
 }
 
 -- a manager that holds one formula alone, at a root that gets the name 0
-pub stands_alone : (code new : RunState) (root : ℕ) (f : Groups) → IsReady code.manager code.cache
+pub stands_alone : (code new : RunState) (root : ℕ) (f : Groups) → IsAtRest code.manager code.cache
     → HoldsAlone code.manager f root → code.names.entries ≡ [] → code.shared.circuit.text ≡ no_circuit
     → AreForgotten code.shared → new.manager ≡ code.manager → new.cache ≡ code.cache → new.limit ≡ code.limit
     → new.slack ≡ code.slack → new.every ≡ code.every → new.shared ≡ code.shared

@@ -1,6 +1,6 @@
 -- What a node shows after an operation, and what a root answers.
 use Rattle.std.proofs.Common.{◌≡◌, ◌↔◌, ℕ, zero, suc, ◌≤◌, ◌<◌, Bool, true, false, not, ◌||◌, IsTrue}
-use Rattle.std.specs.Prelude.{codes, if◌then◌else◌}
+use Rattle.std.specs.Prelude.{◌^◌, codes, decimal, if◌then◌else◌}
 use Rattle.std.specs.List.{AllByRecursion, AllZip}
 use Rattle.std.proofs.lemmas.List.{take_more}
 use Rattle.std.proofs.lemmas.List.Elements.{AllZip-push}
@@ -16,6 +16,7 @@ use Rattle.sd_model.specs.Expression.{Expression, Constant, Atom, Combined, Nega
 use Rattle.sd_model.specs.Expression.{combine, expression_value, AreOneFunction}
 use Rattle.sd_model.specs.Size.{IsDiagramOf, HasSize, size_of}
 use Rattle.sd_model.specs.Text.{number_text, roots_text}
+use Rattle.sd_model.proofs.Numbers.{number_text_decimal}
 use Rattle.sd_vtree.specs.Numbered.{plain_tree}
 use Rattle.sd_manager.specs.Literals.{IsLiteralTo}
 use Rattle.sd_manager.specs.Table.{Table}
@@ -23,7 +24,7 @@ use Rattle.sd_manager.specs.Shown.{ShowsCanonical, IsNodeOf, HoldsDiagram, const
 use Rattle.sd_manager.specs.Making.{Extends}
 use Rattle.sd_apply.specs.Answers.{HasAnswer, Combines, Negates}
 use Rattle.sd_cond.specs.Answers.{Conditions, Forgets}
-use Rattle.sd_commands.specs.Commands.{State, IsTextOf, formula_named, told_line, value_line}
+use Rattle.sd_commands.specs.Commands.{State, IsTextOf, formula_named, value_line}
 use Rattle.sd_commands.specs.Standing.{HoldsValue, ShowsFormula, ShowsNamed}
 use Rattle.sd_commands.proofs.Standing.{diagram_held}
 
@@ -174,11 +175,15 @@ compared t tree r s f g answer same p q says =
       λ one. iff.1 (λ a fits. p.of_value.same_value a fits ∙ one a fits ∙ sym (q.of_value.same_value a fits)),
     )
 
--- the line with a truth value is a word and a number
-pub value_told : (value : Bool) → value_line value ≡ told_line (codes "value") ((if value then 1 else 0) ∷ [])
+-- the text of a number of 32 bits
+pub in_digits : (n : ℕ) → n < 2 ^ 32 → number_text n ≡ decimal n
+in_digits n fits = number_text_decimal n (omega arith)
+
+-- the bytes of the line with a truth value
+pub value_bytes : (value : Bool) → value_line value ≡ (if value then codes "value 1" else codes "value 0") ++ 10 ∷ []
 unfolding number_text
-value_told true = refl
-value_told false = refl
+value_bytes true = refl
+value_bytes false = refl
 
 -- the value of a root
 pub evaluated : (t : Table) (root : ℕ) (f : Expression) (bits : List Bool) (value : Bool)

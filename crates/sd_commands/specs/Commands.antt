@@ -76,6 +76,14 @@ dropped state name = record state { names = filter (λ entry. not (entry.0 == na
 abbrev pub formulas_of : State → List Expression
 formulas_of state = map (λ entry. entry.1) state.names
 
+-- the size of the formulas' diagrams together is within the limit
+abbrev pub AreWithin : List Expression → Tree → ℕ → Type 0
+AreWithin fs tree limit = (size : ℕ) × HasSize fs tree size × (size ≤ limit)
+
+-- that size passes the limit
+abbrev pub PassLimit : List Expression → Tree → (limit size : ℕ) → Type 0
+PassLimit fs tree limit size = HasSize fs tree size × (limit < size)
+
 -- A command leads to this state, and does nothing outside, where the total size there is within the limit. Else it is
 -- refused.
 abbrev pub Settles : State → Outcome → Type 0
@@ -96,26 +104,55 @@ abbrev pub IsSearched : List Expression → ℕ → ℕ → Tree → Tree → Ty
 IsSearched fs slack rounds before after =
     (found : Found) × IsSearch fs slack rounds before found × (after ≡ found.tree)
 
+-- a search follows the group of this number, counted from 1, where the number is a multiple of `every`
+abbrev pub is_due : Option ℕ → ℕ → Bool
+is_due every group = option_map_or (λ k. group % k == 0) every false
+
+-- the tree after a group: where a search is due, one of one round over the formulas leads to it, and else it stays
+abbrev pub FollowsBy : (List Expression → ℕ → ℕ → Tree → Tree → Type 0)
+    → Bool → List Expression → ℕ → Tree → Tree → Type 0
+FollowsBy Search due fs slack before after =
+    MatchBool due (Search fs slack 1 before after) (after ≡ before)
+
+-- the same where the search is done
+abbrev pub Follows : Bool → List Expression → ℕ → Tree → Tree → Type 0
+Follows = FollowsBy IsSearched
+
 -- So many groups of the input lead to this tree: with each of them the total size is within the limit, under the tree
--- that is there then, and behind each whose number, counted from 1, is a multiple of `every`, a search of one round
--- over the same formulas follows. It is done, but behind the last of the groups it is as `Search` says.
+-- that is there then, and a search follows each behind which one is due. It is done, but behind the last of the groups
+-- it is as `Search` says.
 abbrev pub GrowsBy : (List Expression → ℕ → ℕ → Tree → Tree → Type 0)
     → Groups → State → ℕ → Tree → Type 0
 GrowsBy Search input state zero tree = tree ≡ state.tree
 GrowsBy Search input state (suc n) tree = (before : Tree) × GrowsBy IsSearched input state n before
-    × ((size : ℕ) × HasSize (with_groups input state (suc n)) before size × (size ≤ state.limit))
-    × MatchBool (option_map_or (λ k. suc n % k == 0) state.every false)
-    (Search (with_groups input state (suc n)) state.slack 1 before tree) (tree ≡ before)
+    × AreWithin (with_groups input state (suc n)) before state.limit
+    × FollowsBy Search (is_due state.every (suc n)) (with_groups input state (suc n)) state.slack
+    before tree
 
--- The name is bound to the input, over the tree to which all groups lead, each search done. Or there are groups that
--- lead to a tree, and with the next one the total size passes the limit; then the command is refused at that one.
+-- the same where each search is done
+abbrev pub Grows : Groups → State → ℕ → Tree → Type 0
+Grows = GrowsBy IsSearched
+
+-- this group is the first with which the total size passes the limit, under the tree to which those before it lead
+abbrev pub PassesAtGroup : Groups → State → (group size : ℕ) → Type 0
+PassesAtGroup input state group size = (done : ℕ) × (tree : Tree) × (group ≡ suc done)
+    × (group ≤ length input.groups) × Grows input state done tree
+    × PassLimit (with_groups input state group) tree state.limit size
+
+-- The name is bound to the input, over the tree to which all groups lead. Or the command is refused at the first group
+-- with which the total size passes the limit.
 abbrev pub BindsInput : Groups → State → ℕ → Outcome → Type 0
 BindsInput input state name outcome =
-    ((tree : Tree) × GrowsBy IsSearched input state (length input.groups) tree
+    ((tree : Tree) × Grows input state (length input.groups) tree
     × (outcome ≡ Done (with_name (record state { tree = tree }) name (expression_of input)) []))
-    ⊎ ((done size : ℕ) × (tree : Tree) × GrowsBy IsSearched input state done tree
-    × (done < length input.groups) × HasSize (with_groups input state (suc done)) tree size
-    × (state.limit < size) × (outcome ≡ OverLimit (Some (suc done)) size state.limit))
+    ⊎ ((group size : ℕ) × PassesAtGroup input state group size
+    × (outcome ≡ OverLimit (Some group) size state.limit))
+
+-- what a move comes to: over the moved tree, if there is one
+abbrev pub Moves : State → Option Tree → Outcome → Type 0
+Moves state moved outcome =
+    MatchOption moved (outcome ≡ NotMovable)
+    (λ tree. Settles (record state { tree = tree }) outcome)
 
 -- the command writes or prints this, and the state stays
 abbrev pub Does : State → Effect → Outcome → Type 0
@@ -130,6 +167,40 @@ pub record IsTextOf (tree : Tree) (fs : List Expression) (text : List ℕ) : Typ
 -- a line that is printed: a word and numbers
 abbrev pub told_line : List ℕ → List ℕ → List ℕ
 told_line word numbers = line_of_words (word ∷ map number_text numbers)
+
+-- the line of a generated formula: how many variables and groups it has
+abbrev pub generated_line : ℕ → ℕ → List ℕ
+generated_line variables groups = told_line (codes "generated") (variables ∷ groups ∷ [])
+
+-- the line with the size of a diagram
+abbrev pub size_line : ℕ → List ℕ
+size_line n = told_line (codes "size") (n ∷ [])
+
+-- the line that says whether two formulas are one function
+abbrev pub same_line : Bool → List ℕ
+same_line same = told_line (if same then codes "same" else codes "differ") []
+
+-- the line with a truth value
+abbrev pub value_line : Bool → List ℕ
+value_line value = told_line (codes "value") ((if value then 1 else 0) ∷ [])
+
+-- the line of a search: the total size at its start and at its end, and the number of rounds
+abbrev pub search_line : (before after rounds : ℕ) → List ℕ
+search_line before after rounds = told_line (codes "minimise") (before ∷ after ∷ rounds ∷ [])
+
+-- a search of at most so many rounds is done: the names keep their formulas over the tree that it finds, and its line
+-- is printed
+abbrev pub Searches : State → ℕ → Outcome → Type 0
+Searches state rounds outcome =
+    (found : Found) × IsSearch (formulas_of state) state.slack rounds state.tree found
+    × (outcome ≡ Done (record state { tree = found.tree })
+    (Print (search_line found.before found.after found.rounds) ∷ []))
+
+-- the line is printed that says whether two formulas are one function
+abbrev pub Compares : State → Expression → Expression → Outcome → Type 0
+Compares state f g outcome =
+    (answer : Bool) × ((answer ≡ true) ↔ AreOneFunction (leaves state.tree) f g)
+    × Does state (Print (same_line answer)) outcome
 
 -- What an input by parts comes to: its name is bound to the formula, or the group that passes the limit is told.
 abbrev pub by_parts : State → ℕ → Expression → PartsOutcome → Outcome
@@ -187,7 +258,7 @@ verdict_line file (No node rule) = refusal_line (entry_at file node).id rule
 -- the rounds. At a check the verdict on the file is printed, where the ids of its vtree have these positions.
 abbrev pub Step : Groups → State → RunCommand → Outcome → Type 0
 Step input state (commands.Generated variables groups) outcome =
-    Does state (Print (told_line (codes "generated") (variables ∷ groups ∷ []))) outcome
+    Does state (Print (generated_line variables groups)) outcome
 Step input state (commands.Input n) outcome = BindsInput input state n outcome
 Step input state (commands.Load n file) outcome = Binds state n (expression_of_file file) outcome
 Step input state (commands.Literal n literal) outcome = Binds state n (Atom literal) outcome
@@ -199,23 +270,16 @@ Step input state (commands.Given n a literal) outcome =
     Binds state n (Conditioned (formula_named state a) literal) outcome
 Step input state (commands.Forget n a x) outcome = Binds state n (Forgotten (formula_named state a) x) outcome
 Step input state (commands.Drop a) outcome = outcome ≡ Done (dropped state a) []
-Step input state (commands.Turn kind p) outcome = MatchOption (moved_at kind state.tree p)
-    (outcome ≡ NotMovable) (λ tree. Settles (record state { tree = tree }) outcome)
-Step input state (commands.Minimise rounds) outcome =
-    (found : Found) × IsSearch (formulas_of state) state.slack rounds state.tree found
-    × (outcome ≡ Done (record state { tree = found.tree }) (Print (told_line (codes "minimise")
-    (found.before ∷ found.after ∷ found.rounds ∷ [])) ∷ []))
+Step input state (commands.Turn kind p) outcome = Moves state (moved_at kind state.tree p) outcome
+Step input state (commands.Minimise rounds) outcome = Searches state rounds outcome
 Step input state (commands.Limit limit) outcome = Settles (record state { limit = limit }) outcome
 Step input state (commands.Same a b) outcome =
-    (answer : Bool)
-    × ((answer ≡ true) ↔ AreOneFunction (leaves state.tree) (formula_named state a) (formula_named state b))
-    × Does state (Print (told_line (if answer then codes "same" else codes "differ") [])) outcome
+    Compares state (formula_named state a) (formula_named state b) outcome
 Step input state (commands.Size a) outcome =
     (n : ℕ) × HasSize (formula_named state a ∷ []) state.tree n
-    × Does state (Print (told_line (codes "size") (n ∷ []))) outcome
+    × Does state (Print (size_line n)) outcome
 Step input state (commands.Value a bits) outcome =
-    Does state (Print (told_line (codes "value")
-    ((if expression_value (formula_named state a) bits then 1 else 0) ∷ []))) outcome
+    Does state (Print (value_line (expression_value (formula_named state a) bits))) outcome
 Step input state (commands.Write names file) outcome =
     (text : List ℕ) × IsTextOf state.tree (map (formula_named state) names) text
     × Does state (Write file text) outcome
@@ -254,66 +318,3 @@ Steps input old (command ∷ commands) effects new =
     (mid : State) × (first : List Effect) × (others : List Effect)
     × Step input old command.command (Done mid first) × Steps input mid commands others new
     × (effects ≡ first ++ others)
-
--- ---- for laws, the contracts of private functions, and proofs
-
--- what a move comes to: over the moved tree, if there is one
-abbrev pub Moves : State → Option Tree → Outcome → Type 0
-Moves state moved outcome =
-    MatchOption moved (outcome ≡ NotMovable) (λ tree. Settles (record state { tree = tree }) outcome)
-
--- the size of the formulas' diagrams together is within the limit
-abbrev pub AreWithin : List Expression → Tree → ℕ → Type 0
-AreWithin fs tree limit = (size : ℕ) × HasSize fs tree size × (size ≤ limit)
-
--- that size passes the limit
-pub record PassLimit (fs : List Expression) (tree : Tree) (limit size : ℕ) : Type 0 where
-  pub total : HasSize fs tree size
-  pub passes : limit < size
-
--- the line of a generated formula: how many variables and groups it has
-abbrev pub generated_line : ℕ → ℕ → List ℕ
-generated_line variables groups = told_line (codes "generated") (variables ∷ groups ∷ [])
-
--- the line with the size of a diagram
-abbrev pub size_line : ℕ → List ℕ
-size_line n = told_line (codes "size") (n ∷ [])
-
--- the line that says whether two formulas are one function
-abbrev pub same_line : Bool → List ℕ
-same_line same = told_line (if same then codes "same" else codes "differ") []
-
--- the line with a truth value
-abbrev pub value_line : Bool → List ℕ
-value_line value = (if value then codes "value 1" else codes "value 0") ++ 10 ∷ []
-
--- the line of a search: the total size at its start and at its end, and the number of rounds
-abbrev pub search_line : (before after rounds : ℕ) → List ℕ
-search_line before after rounds = told_line (codes "minimise") (before ∷ after ∷ rounds ∷ [])
-
--- a search follows the group of this number, counted from 1
-abbrev pub is_due : Option ℕ → ℕ → Bool
-is_due every group = option_map_or (λ k. group % k == 0) every false
-
--- the tree after a group: where a search is due, one of one round finds it, and else it stays
-abbrev pub Follows : Bool → List Expression → ℕ → Tree → Tree → Type 0
-Follows due fs slack before after = MatchBool due (IsSearched fs slack 1 before after) (after ≡ before)
-
--- so many groups of the input lead to this tree, and each search behind them is done
-abbrev pub Grows : Groups → State → ℕ → Tree → Type 0
-Grows input state done tree = GrowsBy IsSearched input state done tree
-
--- this group is the first with which the total size passes the limit, under the tree to which those before it lead
-abbrev pub PassesAtGroup : Groups → State → (group size : ℕ) → Type 0
-PassesAtGroup input state group size = (done : ℕ) × (tree : Tree) × (group ≡ suc done)
-    × (group ≤ length input.groups) × Grows input state done tree
-    × HasSize (with_groups input state group) tree size × (state.limit < size)
-
--- What an input comes to, by the number of the group that passes the limit: its name is bound over the tree to which
--- all groups lead, or it is refused there.
-abbrev pub IsBoundOrPast : Groups → State → ℕ → Outcome → Type 0
-IsBoundOrPast input state name outcome =
-    ((tree : Tree) × Grows input state (length input.groups) tree
-    × (outcome ≡ Done (with_name (record state { tree = tree }) name (expression_of input)) []))
-    ⊎ ((group size : ℕ) × PassesAtGroup input state group size
-    × (outcome ≡ OverLimit (Some group) size state.limit))

@@ -2,13 +2,10 @@
 use Rattle.std.specs.Prelude.{◌≡◌, ℕ, Bool, true, false, not, ◌==◌, ◌&&◌, nat_le, nat_lt, List, [], ◌∷◌, ◌++◌}
 use Rattle.std.specs.Prelude.{filter, map, length, unsigned_abs}
 use Rattle.std.specs.List.{list_any, list_all}
+pub use Rattle.sd_script.specs.Footprints.{has}
 use Rattle.sd_commands.specs.declared.command.RunCommand.{RunCommand}
 use Rattle.sd_commands.specs.declared.command.RunCommand.TheVariants as commands
 use Rattle.sd_commands.specs.declared.command.NumberedCommand.{NumberedCommand}
-
--- a number is in a list
-abbrev pub has : List ℕ → ℕ → Bool
-has numbers n = list_any (λ m. m == n) numbers
 
 -- the names that must be bound
 abbrev pub uses : RunCommand → List ℕ

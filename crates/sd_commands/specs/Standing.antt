@@ -64,14 +64,22 @@ lines_of (Some circuit) = circuit.text
 
 -- ---- what a command leaves where the arena is full
 
+-- the tree that a search leaves where it stops
+abbrev pub IsSearchLeft : State → ℕ → Tree → Type 0
+IsSearchLeft state rounds tree =
+    (tree ≡ state.tree) ⊎ IsSearchBegun (formulas_of state) state.slack rounds state.tree tree
+
+-- some groups of the input lead to this tree, where the search behind the last of them may have been broken off
+abbrev pub IsGrown : Groups → State → Tree → Type 0
+IsGrown input state tree =
+    (done : ℕ) × (done ≤ length input.groups) × GrowsBy IsSearchBegun input state done tree
+
 -- The tree that a command leaves where it stops: that of the state, but at a search the one after the walks that were
 -- done, at an input the one to which some of its groups lead, where of the search behind the last of them, if it is
 -- due, walks were done up to some point, and at a choice that of a start, or of its search after some walks.
 abbrev pub IsTreeLeft : Groups → State → RunCommand → Tree → Type 0
-IsTreeLeft input state (commands.Minimise rounds) tree =
-    (tree ≡ state.tree) ⊎ IsSearchBegun (formulas_of state) state.slack rounds state.tree tree
-IsTreeLeft input state (commands.Input name) tree =
-    (done : ℕ) × (done ≤ length input.groups) × GrowsBy IsSearchBegun input state done tree
+IsTreeLeft input state (commands.Minimise rounds) tree = IsSearchLeft state rounds tree
+IsTreeLeft input state (commands.Input name) tree = IsGrown input state tree
 IsTreeLeft input state (commands.Choose rounds) tree =
     (start : Start) × IsTreeLeftBy input (settings_of state rounds) (at_start state start).tree tree
 IsTreeLeft input state command tree = tree ≡ state.tree
@@ -90,7 +98,7 @@ pub record HoldsNames (t : Table) (names : List (ℕ × Expression)) : Type 0 wh
   pub only : (root : ℕ) → IsSome (get t.roots root)
       → (name : ℕ) × (f : Expression) × (named names name ≡ Some f) × HoldsValue t root f
 
--- ---- for the contracts of this crate's functions, and for proofs
+-- ---- how the code represents a state
 
 -- the bound names
 abbrev pub names_of : State → List ℕ
@@ -146,21 +154,14 @@ pub record Represents (code : RunState) (state : State) : Type 0 where
 abbrev pub AreForgotten : SharedCircuit → Type 0
 AreForgotten shared = (t : Table) → Shares shared.circuit shared.gates t
 
+-- ---- what a command that stops leaves of it
+
 -- What a command that stops leaves: the code represents each state that it did, each root holds the diagram that it
 -- held, and no root is new.
 pub record IsAsBefore (old new : RunState) : Type 0 where
   pub represents : (seen : State) → Represents old seen → Represents new seen
   pub holds : (root : ℕ) (d : Diagram) → HoldsDiagram old.manager root d → HoldsDiagram new.manager root d
   pub roots : new.manager.roots ≡ old.manager.roots
-
--- the tree that a search leaves where it stops
-abbrev pub IsSearchLeft : State → ℕ → Tree → Type 0
-IsSearchLeft state rounds tree =
-    (tree ≡ state.tree) ⊎ IsSearchBegun (formulas_of state) state.slack rounds state.tree tree
-
--- some groups of the input lead to this tree, where the search behind the last of them may have been broken off
-abbrev pub IsGrown : Groups → State → Tree → Type 0
-IsGrown input state tree = (done : ℕ) × (done ≤ length input.groups) × GrowsBy IsSearchBegun input state done tree
 
 -- What a search that stops leaves: the code represents each state that it did over the tree after the walks that were
 -- finished, and each root keeps its node.
@@ -191,6 +192,8 @@ IsLeft input (commands.Minimise rounds) old new = IsLeftBySearch rounds old new
 IsLeft input (commands.Input name) old new = IsLeftByInput old.every input old new
 IsLeft input command old new = IsAsBefore old new
 
+-- ---- the roots of names
+
 -- the roots without this one, if there is one
 abbrev pub removed : FinMap nat_cmp ℕ → Option ℕ → FinMap nat_cmp ℕ
 removed roots None = roots
@@ -217,6 +220,8 @@ root_count code = len code.manager.roots
 pub record IsFilled (elements : ℕ) (t : Table) : Type 0 where
   pub whole : t.bound ≡ 2147483647
   pub rule : IsPastBound t elements
+
+-- ---- the answers of the code, as ends of a command
 
 -- an effect of the code
 abbrev pub effect_of : CodeEffect → Effect

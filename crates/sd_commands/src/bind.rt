@@ -58,7 +58,6 @@ pub(crate) fn bind_input(
     requires variables { leaves (plain_tree state.old.manager.vtree) ≡ input.now.variables }
     requires free { IsFree state.old name }
     requires room { root_count state.old < 2 ^ 32 - 1 }
-    requires forgotten { AreForgotten state.old.shared }
     ensures done { (seen : State) → Represents state.old seen →
         IfOk result
         (λ effect. StepsTo input.now seen (RunCommand.Input name) state.new effect) }
@@ -69,6 +68,8 @@ pub(crate) fn bind_input(
         state.old.manager.vtree) }
     ensures roots { root_count state.new ≤ root_count state.old + 1 }
 {
+    // what compiling makes and sweeps tells of no epoch
+    state.forget_gates();
     match state.every {
         None => bind_compiled(alloc, input, state, name),
         Some(every) => bind_grown(alloc, input, state, name, every),

@@ -151,6 +151,7 @@ fn size_text(alloc: Global, size: u32) -> Result<Bytes, AllocError>
     Ok(Bytes::new(text))
 }
 
+#[tactic(auto, using(crate::proofs::Values::value_bytes))]
 fn value_text(alloc: Global, value: bool) -> Result<Bytes, AllocError>
     ensures { IfOk result (λ text. text ≡ value_line value) }
 {

@@ -9,7 +9,7 @@ ghost use Rattle.sd_sweep.specs.Reached.{KeepsReached};
 ghost use Rattle.sd_move.specs.Moves.{IsMoved, IsMoveRefusal, HasSizeAfter};
 ghost use Rattle.sd_formula.specs.Dimacs.{Groups};
 ghost use Rattle.sd_commands.specs.Commands.{State};
-ghost use Rattle.sd_commands.specs.Standing.{Represents, StepsTo, StopsAt, IsAsBefore, AreForgotten, root_count};
+ghost use Rattle.sd_commands.specs.Standing.{Represents, StepsTo, StopsAt, IsAsBefore, root_count};
 
 use crate::command::{Effect, RunCommand};
 use crate::error::{CommandError, move_error};
@@ -30,7 +30,6 @@ pub(crate) fn turn_at(
     position: u32,
 ) -> Result<Option<Effect>, CommandError>
     requires represents { (seen : State) × Represents state.old seen }
-    requires forgotten { AreForgotten state.old.shared }
     ensures done { (input : Groups) (seen : State) → Represents state.old seen →
         IfOk result
         (λ effect. StepsTo input seen (RunCommand.Turn kind position) state.new effect) }
@@ -42,6 +41,8 @@ pub(crate) fn turn_at(
         state.old.manager.vtree) }
     ensures roots { root_count state.new ≤ root_count state.old + 1 }
 {
+    // a move tells of no epoch
+    state.forget_gates();
     let Some(place) = state.manager.vtree().at_position(position) else {
         return Err(CommandError::NotMovable);
     };

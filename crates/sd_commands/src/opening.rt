@@ -8,24 +8,23 @@ ghost use Rattle.sd_formula.specs.Formulas.{expression_of};
 ghost use Rattle.sd_parts.specs.Work.{first_refusal};
 ghost use Rattle.sd_parts.specs.declared.part.PartAnswer.{PartAnswer as SeenAnswer};
 ghost use Rattle.sd_starts.specs.Starts.{IsChosenStart};
-ghost use Rattle.sd_starts.specs.Deciding.{kept_at};
 ghost use Rattle.sd_commands.specs.Commands.{State, start_line, with_name};
 ghost use Rattle.sd_commands.specs.Standing.{Represents, IsFree, AreForgotten, StepsTo, IsAsBefore, root_count};
-ghost use Rattle.sd_commands.specs.Opening.{IsStoppedByParts, IsOpeningStopped, OpensChosen, AreWholeAnswers};
-ghost use Rattle.sd_commands.specs.Opening.{IsJoinStopped, manager_or, refusing_manager, start_at, told_search};
+ghost use Rattle.sd_commands.specs.Opening.{IsStoppedByParts, IsOpeningStopped, IsOfFirstFull, OpensChosen};
+ghost use Rattle.sd_commands.specs.Opening.{start_at, told_search};
+ghost use Rattle.sd_commands.specs.Joining.{AreWholeAnswers, IsJoinStopped, manager_or, refusing_manager};
 
 use crate::command::{Effect, RunCommand};
 use crate::error::{CommandError, compiling_error};
 use crate::searching::search_text;
-use crate::state::{BOUND, RunState};
+use crate::state::RunState;
 use sd_base::Bytes;
-use sd_compile::CompileError;
 use sd_compile::laws::total_of_formulas;
 use sd_formula::Formula;
 use sd_manager::Manager;
 use sd_parts::{Gate, PartAnswer, join_parts, parts, run_tasks};
 use sd_search::Outcome;
-use sd_starts::{Chosen, Settings, Start, choose_start};
+use sd_starts::{Chosen, MOST_ELEMENTS, Settings, Start, choose_start, kept_at};
 use std::alloc::{AllocError, Global};
 use std::thread::Threads;
 
@@ -126,7 +125,7 @@ fn answers_of<R: Threads + Sync, G: Gate + Send + Drop>(
     // its contract tells that the tree is a vtree
     let _ = vtree.variables();
     let tree = vtree.tree(alloc)?;
-    let tasks = parts(alloc, input, &tree, BOUND, state.limit, gates)?;
+    let tasks = parts(alloc, input, &tree, MOST_ELEMENTS, state.limit, gates)?;
     run_tasks(rt, alloc, tasks, workers)
 }
 
@@ -212,20 +211,10 @@ fn full_manager(answer: PartAnswer) -> Option<Manager>
     }
 }
 
-// The manager, if its arena was full.
-fn kept_at(error: CompileError, manager: Manager) -> Option<Manager>
-    ensures { result ≡ kept_at error manager }
-{
-    match error {
-        CompileError::OverLimit { .. } => None,
-        CompileError::ArenaFull { .. } => Some(manager),
-        CompileError::OutOfMemory => None,
-    }
-}
-
 /// Opens a run by a choice: the input is compiled alone over each start tree, under a limit, by at most so many
 /// workers, of which there are 1 to 16, and searched there, where rounds are given. The start with the least size is
 /// taken, the first in the order balanced, right, left among equals, and the run goes on with what was made over it.
+/// Where an arena was full, the manager is that of the first start in this order at which room or memory lacked.
 /// The gates are those of the starts in this order; each is entered with the start's number in it, counted from 0.
 pub fn open_chosen<R: Threads + Sync, G: Gate + Send + Drop>(
     rt: &R,
@@ -242,6 +231,7 @@ pub fn open_chosen<R: Threads + Sync, G: Gate + Send + Drop>(
     ensures stops { (tree : Tree) → leaves tree ≡ input.now.variables →
         IfErr result (λ e. IsOpeningStopped input.now (start_at tree settings)
         (RunCommand.Choose settings.rounds) e.error e.manager) }
+    ensures first { IfErr result (λ e. IsOfFirstFull input.now settings e.error e.manager) }
     ensures variables { IfOk result
         (λ opened. leaves (plain_tree opened.state.manager.vtree) ≡ input.now.variables) }
     ensures roots { IfOk result (λ opened. root_count opened.state ≤ 1) }

@@ -4,7 +4,7 @@ ghost use Rattle.sd_model.specs.Tree.{leaves};
 ghost use Rattle.sd_vtree.specs.Numbered.{plain_tree};
 ghost use Rattle.sd_formula.specs.Dimacs.{Groups};
 ghost use Rattle.sd_commands.specs.Commands.{State, search_line};
-ghost use Rattle.sd_commands.specs.Standing.{Represents, StepsTo, StopsAt, IsLeftBySearch, AreForgotten, root_count};
+ghost use Rattle.sd_commands.specs.Standing.{Represents, StepsTo, StopsAt, IsLeftBySearch, root_count};
 
 use crate::command::{Effect, RunCommand};
 use crate::error::{CommandError, search_error};
@@ -23,7 +23,6 @@ pub(crate) fn search(
     rounds: u32,
 ) -> Result<Option<Effect>, CommandError>
     requires represents { (seen : State) × Represents state.old seen }
-    requires forgotten { AreForgotten state.old.shared }
     ensures done { (input : Groups) (seen : State) → Represents state.old seen →
         IfOk result (λ effect. StepsTo input seen (RunCommand.Minimise rounds) state.new effect) }
     ensures stops { (input : Groups) (seen : State) → Represents state.old seen →
@@ -33,6 +32,8 @@ pub(crate) fn search(
         state.old.manager.vtree) }
     ensures roots { root_count state.new ≤ root_count state.old + 1 }
 {
+    // the moves of a search tell of no epoch
+    state.forget_gates();
     total_of_formulas(&state.manager);
     let slack = state.slack;
     let found = match minimise(alloc, &mut state.manager, &mut state.cache, rounds, slack) {

@@ -12,7 +12,7 @@ ghost use Rattle.sd_formula.specs.Dimacs.{Groups};
 ghost use Rattle.sd_formula.specs.Formulas.{expression_of};
 ghost use Rattle.sd_vtree.specs.Numbered.{plain_tree};
 ghost use Rattle.sd_manager.specs.Making.{KeepsRule};
-ghost use Rattle.sd_starts.specs.Starts.{IsReady, HoldsAlone};
+ghost use Rattle.sd_starts.specs.Starts.{IsAtRest, HoldsAlone};
 ghost use Rattle.sd_commands.specs.Commands.{State, with_name, dropped, formula_named, formulas_of, AreWithin};
 ghost use Rattle.sd_commands.specs.Standing.{Represents, HoldsValue, ShowsFormula, ShowsNamed, HasRoot, IsFree};
 ghost use Rattle.sd_commands.specs.Standing.{start, root_count, removed, without, IsAsBefore, IsNotSettled};
@@ -26,13 +26,11 @@ use sd_compile::laws::{total_is_of_formulas, total_of_formulas};
 use sd_compile::{LEAST_GARBAGE, hold_within, sweep_past, total_over};
 use sd_manager::{Manager, NodeId, Root};
 use sd_runs::TakeError;
+use sd_starts::MOST_ELEMENTS;
 use sd_sweep::size_of;
 use sd_vtree::Vtree;
 use std::alloc::{AllocError, Global};
 use std::collections::BTreeMap;
-
-/// The most elements that the arena of the diagrams may hold.
-pub(crate) const BOUND: u32 = 2_147_483_647;
 
 /// What a run holds between two commands: the diagrams of its names, and what the words and scripts set.
 #[derive(Drop)]
@@ -70,7 +68,7 @@ impl RunState {
         ensures vtree { IfOk result (λ state. state.manager.vtree ≡ vtree) }
         ensures roots { IfOk result (λ state. root_count state ≡ 0) }
     {
-        let manager = Manager::new(alloc, vtree, BOUND)?;
+        let manager = Manager::new(alloc, vtree, MOST_ELEMENTS)?;
         let cache = Cache::new(alloc)?;
         Ok(RunState {
             manager,
@@ -94,7 +92,7 @@ impl RunState {
         limit: u32,
         slack: u32,
     ) -> Result<RunState, AllocError>
-        requires ready { IsReady manager cache }
+        requires ready { IsAtRest manager cache }
         requires holds { (f : Groups) × HoldsAlone manager f root }
         ensures represents { (f : Groups) → HoldsAlone manager f root → IfOk result (λ state. Represents state
             (with_name (start (plain_tree manager.vtree) limit slack None) 0 (expression_of f))) }

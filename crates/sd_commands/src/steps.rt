@@ -56,10 +56,7 @@ pub fn step(
         RunCommand::Generated(variables, groups) => or_out_of_memory(print_generated(
             alloc, *variables, *groups,
         )),
-        RunCommand::Input(name) => {
-            state.forget_gates();
-            bind_input(alloc, input, state, *name)
-        }
+        RunCommand::Input(name) => bind_input(alloc, input, state, *name),
         RunCommand::Load(name, file) => bind_file(alloc, state, *name, file),
         RunCommand::Literal(name, literal) => bind_literal(state, *name, *literal),
         RunCommand::Constant(name, value) => bind_constant(state, *name, *value),
@@ -73,14 +70,8 @@ pub fn step(
             state.free(*name);
             Ok(None)
         }
-        RunCommand::Turn(kind, position) => {
-            state.forget_gates();
-            turn_at(alloc, state, *kind, *position)
-        }
-        RunCommand::Minimise(rounds) => {
-            state.forget_gates();
-            search(alloc, state, *rounds)
-        }
+        RunCommand::Turn(kind, position) => turn_at(alloc, state, *kind, *position),
+        RunCommand::Minimise(rounds) => search(alloc, state, *rounds),
         RunCommand::Limit(limit) => set_limit(state, *limit),
         RunCommand::Same(a, b) => or_out_of_memory(print_same(alloc, state, *a, *b)),
         RunCommand::Size(name) => or_out_of_memory(print_size(alloc, state, *name)),

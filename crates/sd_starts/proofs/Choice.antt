@@ -1,5 +1,5 @@
 -- The choice among three answers, by what the one that decides comes to.
-use Rattle.std.proofs.Common.{◌≡◌, ℕ, Bool, true, false, refl, sym, ap, subst, ◌∙◌, Result, Ok, Err}
+use Rattle.std.proofs.Common.{◌≡◌, ℕ, ◌<◌, Bool, true, false, refl, sym, ap, subst, ◌∙◌, arith, Result, Ok, Err}
 use Rattle.std.specs.Prelude.{MatchResult, IfOk, IfErr, List, [], ◌∷◌, slice_index_or, ◌&&◌, if◌then◌else◌}
 use Rattle.std.specs.declared.alloc.AllocError.{AllocError}
 use Rattle.sd_vtree.specs.Numbered.{plain_tree}
@@ -9,6 +9,7 @@ use Rattle.sd_compile.specs.declared.error.CompileError.TheVariants as refused
 use Rattle.sd_starts.specs.Starts.{StartEnd, Ended, Passed, IsLeast, PassesAtEach, AllPassed}
 use Rattle.sd_starts.specs.Starts.{IsChoice, IsChosenStart, IsChoiceRefused, IsNoChoice, IsEndAt}
 use Rattle.sd_starts.specs.Starts.{rank, tree_of_start, AnswersStart, IsDoneAt, IsStoppedAt, IsSearchedTo}
+use Rattle.sd_starts.specs.Starts.{HadRoom, MayHaveRoom}
 use Rattle.sd_starts.specs.Deciding.{decider, judged, judged_end, is_stopped, is_less, Decides}
 use Rattle.sd_starts.specs.Deciding.{IsHeldAt, IsRefusedStart, AnswerEach}
 use Rattle.sd_starts.specs.declared.start.Start.{Start}
@@ -34,17 +35,19 @@ ended_goes_on j n stops is = let bad : false ≡ true = ap is_stopped (sym is) �
 passed_goes_on : (j : Judged) → is_stopped j ≡ true → j ≡ shown.Passed → ⊥
 passed_goes_on j stops is = let bad : false ≡ true = ap is_stopped (sym is) ∙ stops in absurd cc
 
--- where room or memory lacked at the start that decides, its refusal is that of the choice
-refused_stop : (f : Groups) (settings : Settings) (start : Start) (j : Judged) (result : Result Chosen Refused)
-    → is_stopped j ≡ true → Decides f settings start j result
+-- Where room or memory lacked at the start that decides, and the work ended at each before it, its refusal is that of
+-- the choice.
+refused_stop : (f : Groups) (settings : Settings) (start : Start)
+    → ((other : Start) → rank other < rank start → MayHaveRoom f settings other) → (j : Judged)
+    → (result : Result Chosen Refused) → is_stopped j ≡ true → Decides f settings start j result
     → MatchResult result (IsChosenStart f settings) (IsChoiceRefused f settings)
-refused_stop f settings start j (Ok chosen) stops d = absurd (ended_goes_on j chosen.size stops d.1)
-refused_stop f settings start j (Err refusal) stops d = go refusal.error d
+refused_stop f settings start earlier j (Ok chosen) stops d = absurd (ended_goes_on j chosen.size stops d.1)
+refused_stop f settings start earlier j (Err refusal) stops d = go refusal.error d
   where
     go : (e : CompileError) → IsRefusedStart f settings start j e refusal.manager
         → IsNoChoice f settings e refusal.manager
     go (refused.OverLimit group size limit) k = absurd (passed_goes_on j stops k.3)
-    go (refused.ArenaFull elements) k = (k.0, k.1, k.2)
+    go (refused.ArenaFull elements) k = (k.0, k.1, record { start = start; full = k.2; earlier = earlier })
     go refused.OutOfMemory k = k.0
 
 -- what the formula comes to at a start, by an answer of it
@@ -63,6 +66,18 @@ end_shown f settings start (Ok a) answers goes = go a.end answers.end goes
     go (Err (refused.OverLimit group size limit)) k goes = (Passed group size, k.refused.0, refl)
     go (Err (refused.ArenaFull elements)) k goes = absurd cc
     go (Err refused.OutOfMemory) k goes = absurd cc
+
+-- so the work there may end
+may_have_room : (f : Groups) (settings : Settings) (start : Start) (a : Result StartAnswer AllocError)
+    → IfOk a (AnswersStart f settings start) → is_stopped (judged a) ≡ false → MayHaveRoom f settings start
+may_have_room f settings start (Err e) answers goes = absurd cc
+may_have_room f settings start (Ok a) answers goes = (a, answers, go a.end goes)
+  where
+    go : (end : Result Done CompileError) → is_stopped (judged_end end) ≡ false → HadRoom end
+    go (Ok done) goes = tt
+    go (Err (refused.OverLimit group size limit)) goes = tt
+    go (Err (refused.ArenaFull elements)) goes = absurd cc
+    go (Err refused.OutOfMemory) goes = absurd cc
 
 never_stopped : (e : StartEnd) → shown_of e ≡ shown.Stopped → ⊥
 never_stopped (Ended n) is = cc
@@ -153,6 +168,23 @@ goes_on (Passed o a) (Ended b) (Passed h c) = refl
 goes_on (Passed o a) (Passed k b) (Ended c) = refl
 goes_on (Passed o a) (Passed k b) (Passed h c) = refl
 
+-- where the work ended at the balanced start, it did at each before the right one
+before_right : (f : Groups) (settings : Settings) (x : Result StartAnswer AllocError)
+    → IfOk x (AnswersStart f settings Balanced) → is_stopped (judged x) ≡ false → (other : Start)
+    → rank other < rank Right → MayHaveRoom f settings other
+before_right f settings x hx e Balanced less = may_have_room f settings Balanced x hx e
+before_right f settings x hx e Right less = absurd (omega (arith, less))
+before_right f settings x hx e Left less = absurd (omega (arith, less))
+
+-- where it ended at the right one too, it did at each before the left one
+before_left : (f : Groups) (settings : Settings) (x y : Result StartAnswer AllocError)
+    → IfOk x (AnswersStart f settings Balanced) → IfOk y (AnswersStart f settings Right)
+    → is_stopped (judged x) ≡ false → is_stopped (judged y) ≡ false → (other : Start)
+    → rank other < rank Left → MayHaveRoom f settings other
+before_left f settings x y hx hy e g Balanced less = may_have_room f settings Balanced x hx e
+before_left f settings x y hx hy e g Right less = may_have_room f settings Right y hy g
+before_left f settings x y hx hy e g Left less = absurd (omega (arith, less))
+
 -- The choice among three answers is what the one that decides comes to.
 pub choice_of_three : (f : Groups) (settings : Settings) (x y z : Result StartAnswer AllocError)
     → IfOk x (AnswersStart f settings Balanced) → IfOk y (AnswersStart f settings Right)
@@ -169,9 +201,13 @@ choice_of_three f settings x y z hx hy hz result d =
         else least_shown (judged x) (judged y) (judged z) in
         Decides f settings s (shown_at (judged x) (judged y) (judged z) s) result)
         → MatchResult result (IsChosenStart f settings) (IsChoiceRefused f settings)
-    go true e by g bz h d = refused_stop f settings Balanced (judged x) result e d
-    go false e true g bz h d = refused_stop f settings Right (judged y) result g d
-    go false e false g true h d = refused_stop f settings Left (judged z) result h d
+    go true e by g bz h d =
+        refused_stop f settings Balanced (λ other less. absurd (omega (arith, less))) (judged x) result e d
+    go false e true g bz h d =
+        refused_stop f settings Right (λ other less. before_right f settings x hx e other less) (judged y) result g d
+    go false e false g true h d =
+        refused_stop f settings Left (λ other less. before_left f settings x y hx hy e g other less) (judged z) result
+        h d
     go false e false g false h d =
         let a = end_shown f settings Balanced x hx e in
         let b = end_shown f settings Right y hy g in

@@ -1,6 +1,6 @@
 mod BestOfThree
 mod Choice
-mod OneChoice
+pub mod OneChoice
 mod Refusals
-mod StartLeaves
+pub mod StartLeaves
 mod Working

@@ -1,13 +1,11 @@
 -- What a formula comes to over a tree is one, and so is the choice among the starts.
-use Rattle.std.proofs.Common.{◌≡◌, ◌⊎◌, inl, inr, ℕ, ◌-◌, ◌/◌, ◌<◌, ◌≤◌, List, [], ◌∷◌, length, Option, Some, None}
-use Rattle.std.proofs.Common.{refl, sym, ap, subst, ◌∙◌, arith}
+use Rattle.std.proofs.Common.{◌≡◌, ◌⊎◌, inl, inr, ℕ, ◌<◌, [], ◌∷◌, Option, Some, None}
+use Rattle.std.proofs.Common.{refl, sym, ap, ◌∙◌, arith}
 use Rattle.std.specs.Prelude.{MatchOption}
 use Rattle.std.proofs.lemmas.Bool.{cases_order}
 use Rattle.sd_model.specs.Tree.{Tree, IsVtree}
 use Rattle.sd_model.specs.Size.{HasSize}
-use Rattle.sd_model.specs.StartTrees.{balanced_tree, right_tree, left_tree}
 use Rattle.sd_model.proofs.Determined.{size_determined}
-use Rattle.sd_vtree.proofs.Starting.{vtree_in_order, variables_start, half, one, all_but_one}
 use Rattle.sd_formula.specs.Dimacs.{Groups}
 use Rattle.sd_formula.specs.Formulas.{expression_of}
 use Rattle.sd_search.specs.Search.{Found, IsSearch}
@@ -18,6 +16,7 @@ use Rattle.sd_starts.specs.Starts.{Choice, Chosen, AllPassed, IsChoice, IsChoice
 use Rattle.sd_starts.specs.declared.start.Start.{Start}
 use Rattle.sd_starts.specs.declared.start.Start.TheVariants.{Balanced, Right, Left}
 use Rattle.sd_starts.specs.declared.start.Settings.{Settings}
+use Rattle.sd_starts.proofs.StartLeaves.{start_vtree}
 
 -- ---- at one start
 
@@ -45,12 +44,6 @@ one_end f settings t (Passed g m) (Passed h n) valid p q =
     let e = one_group t valid settings.limit f 0 g h m n p q in ap (λ x. Passed x m) e.0 ∙ ap (Passed h) e.1
 
 -- ---- the choice
-
--- a start tree is a vtree
-start_vtree : (start : Start) (v : ℕ) → 1 ≤ v → IsVtree (tree_of_start start v)
-start_vtree Balanced v some = (vtree_in_order (balanced_tree v) v (variables_start (λ m. m / 2) half v some)).0
-start_vtree Right v some = (vtree_in_order (right_tree v) v (variables_start (λ m. 1) one v some)).0
-start_vtree Left v some = (vtree_in_order (left_tree v) v (variables_start (λ m. m - 1) all_but_one v some)).0
 
 -- a place in the order is that of one start
 one_rank : (s r : Start) → rank s ≡ rank r → s ≡ r
@@ -95,13 +88,13 @@ choice_once a b same s r m n p q = go (cases_order (rank s) (rank r))
     go (inr (inr more)) = absurd (none_before b a (λ x. sym (same x)) r s n m q p more)
 
 -- The choice is one: one start with one size, or one refusal.
-pub one_choice : (f : Groups) (settings : Settings) (x y : Choice) → 1 ≤ f.variables → IsChoice f settings x
-    → IsChoice f settings y → x ≡ y
-one_choice f settings x y some p q = go x y p.choice_is q.choice_is
+pub one_choice : (f : Groups) (settings : Settings) (x y : Choice) → IsChoice f settings x → IsChoice f settings y
+    → x ≡ y
+one_choice f settings x y p q = go x y p.choice_is q.choice_is
   where
     same : (s : Start) → p.end_of s ≡ q.end_of s
     same s = one_end f settings (tree_of_start s f.variables) (p.end_of s) (q.end_of s)
-        (start_vtree s f.variables some) (p.each s) (q.each s)
+        (start_vtree s f.variables) (p.each s) (q.each s)
 
     go : (x y : Choice) → IsChoiceOf p.end_of x → IsChoiceOf q.end_of y → x ≡ y
     go (Chosen s m) (Chosen r n) h k = choice_once p.end_of q.end_of same s r m n h k

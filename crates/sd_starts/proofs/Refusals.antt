@@ -29,7 +29,6 @@ refused_start f settings start a answers (refused.ArenaFull elements) is =
       a.manager,
       refl,
       record {
-        start = start;
         tree = k.tree;
         past = k.refused;
         bound = answers.ready.bound;

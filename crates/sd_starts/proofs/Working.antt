@@ -35,7 +35,7 @@ use Rattle.sd_search.specs.Kept.{KeepsRoots}
 use Rattle.sd_search.specs.declared.searching.Outcome.{Outcome}
 use Rattle.sd_search.proofs.KeptRoots.{shows_same}
 use Rattle.sd_parts.specs.Parts.{PartFits, PassesAlone}
-use Rattle.sd_starts.specs.Starts.{HoldsAlone, HoldsNothing, IsSearchedTo, IsFinalSize, IsRefusedAt, IsReady}
+use Rattle.sd_starts.specs.Starts.{HoldsAlone, HoldsNothing, IsSearchedTo, IsFinalSize, IsRefusedAt, IsAtRest}
 use Rattle.sd_starts.specs.declared.start.Settings.{Settings}
 
 -- ---- nothing is held
@@ -214,8 +214,8 @@ refused_alone old new none f settings total (refused.ArenaFull elements) h = h
 refused_alone old new none f settings total refused.OutOfMemory h = tt
 
 -- a manager is ready still without a root
-pub ready_left : (old new : Table) (cache : Answers) (root : ℕ) → IsReady old cache → new ≡ without_root old root
-    → IsTable new → IsReady new cache
+pub ready_left : (old new : Table) (cache : Answers) (root : ℕ) → IsAtRest old cache → new ≡ without_root old root
+    → IsTable new → IsAtRest new cache
 ready_left old new cache root ready is table = record {
   table = table;
   no_move = ap (λ t. t.moving) is ∙ ready.no_move;

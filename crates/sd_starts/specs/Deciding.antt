@@ -9,7 +9,7 @@ use Rattle.sd_manager.specs.Table.{Table}
 use Rattle.sd_compile.specs.declared.error.CompileError.{CompileError}
 use Rattle.sd_compile.specs.declared.error.CompileError.TheVariants as refused
 use Rattle.sd_starts.specs.Starts.{AnswersStart, tree_of_start, IsEndAt, Ended as EndedAt, Passed as PassedAt}
-use Rattle.sd_starts.specs.Starts.{HoldsAlone, IsSearchedTo, IsReady, IsFullAt}
+use Rattle.sd_starts.specs.Starts.{HoldsAlone, IsSearchedTo, IsAtRest, IsFullStart}
 use Rattle.sd_starts.specs.declared.start.Start.{Start}
 use Rattle.sd_starts.specs.declared.start.Start.TheVariants.{Balanced, Right, Left}
 use Rattle.sd_starts.specs.declared.start.Settings.{Settings}
@@ -69,7 +69,7 @@ pub record IsHeldAt (f : Groups) (settings : Settings) (start : Start) (chosen :
   pub holds : HoldsAlone chosen.manager f chosen.root
   pub searched : IsSearchedTo f settings (tree_of_start start f.variables) chosen.search chosen.size
       (plain_tree chosen.manager.vtree)
-  pub ready : IsReady chosen.manager chosen.cache
+  pub ready : IsAtRest chosen.manager chosen.cache
 
 -- the manager that a refusal hands back: the one whose arena was full
 abbrev pub kept_at : CompileError → Table → Option Table
@@ -83,7 +83,7 @@ IsRefusedStart f settings start shown (refused.OverLimit group size limit) manag
     IsEndAt f settings (tree_of_start start f.variables) (PassedAt group size) × (limit ≡ settings.limit)
     × (manager ≡ None) × (shown ≡ Passed)
 IsRefusedStart f settings start shown (refused.ArenaFull elements) manager =
-    (m : Table) × (manager ≡ Some m) × IsFullAt f settings elements m × (shown ≡ Stopped)
+    (m : Table) × (manager ≡ Some m) × IsFullStart f settings start elements m × (shown ≡ Stopped)
 IsRefusedStart f settings start shown refused.OutOfMemory manager = (manager ≡ None) × (shown ≡ Stopped)
 
 -- what the answer that decides comes to

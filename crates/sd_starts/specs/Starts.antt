@@ -1,6 +1,6 @@
 -- The choice of a start: a formula is compiled and searched alone over each start tree, and the least size is chosen.
 use Rattle.std.specs.Prelude.{◌≡◌, ◌≢◌, ◌⊎◌, ℕ, ◌<◌, ◌≤◌, length, [], ◌∷◌}
-use Rattle.std.specs.Prelude.{Option, Some, None, MatchOption, MatchResult}
+use Rattle.std.specs.Prelude.{Option, Some, None, MatchOption, Result, Ok, Err, MatchResult}
 use Rattle.std.specs.FinMap.{get}
 use Rattle.sd_model.specs.Tree.{Tree}
 use Rattle.sd_model.specs.StartTrees.{balanced_tree, right_tree, left_tree}
@@ -132,7 +132,7 @@ IsTreeLeft f settings t new = (new ≡ t)
     × IsSearchBegun (expression_of f ∷ []) settings.slack rounds t new)
 
 -- a manager that commands may go on with, and its cache
-pub record IsReady (m : Table) (c : Answers) : Type 0 where
+pub record IsAtRest (m : Table) (c : Answers) : Type 0 where
   pub table : IsTable m
   pub no_move : m.moving ≡ None
   pub bound : m.bound ≡ 2147483647
@@ -147,7 +147,7 @@ pub record IsStoppedAt (f : Groups) (settings : Settings) (t : Tree) (new : Tabl
 
 -- what the work at a start may answer
 pub record AnswersStart (f : Groups) (settings : Settings) (start : Start) (answer : StartAnswer) : Type 0 where
-  pub ready : IsReady answer.manager answer.cache
+  pub ready : IsAtRest answer.manager answer.cache
   pub end : MatchResult answer.end
       (IsDoneAt f settings (tree_of_start start f.variables) answer.manager)
       (IsStoppedAt f settings (tree_of_start start f.variables) answer.manager)
@@ -158,22 +158,39 @@ pub record IsChosenStart (f : Groups) (settings : Settings) (chosen : ChosenStar
   pub holds : HoldsAlone chosen.manager f chosen.root
   pub searched : IsSearchedTo f settings (tree_of_start chosen.start f.variables) chosen.search chosen.size
       (plain_tree chosen.manager.vtree)
-  pub ready : IsReady chosen.manager chosen.cache
+  pub ready : IsAtRest chosen.manager chosen.cache
 
 -- the manager of a start whose arena was full
-pub record IsFullAt (f : Groups) (settings : Settings) (elements : ℕ) (m : Table) : Type 0 where
-  pub start : Start
+pub record IsFullStart (f : Groups) (settings : Settings) (start : Start) (elements : ℕ) (m : Table)
+    : Type 0 where
   pub tree : IsTreeLeft f settings (tree_of_start start f.variables) (plain_tree m.vtree)
   pub past : IsPastBound m elements
   pub bound : m.bound ≡ 2147483647
   pub nothing : HoldsNothing m
+
+-- the work ended with a size, or where the limit was passed: neither room nor memory lacked
+abbrev pub HadRoom : Result Done CompileError → Type 0
+HadRoom (Ok done) = Unit {0}
+HadRoom (Err (refused.OverLimit group size limit)) = Unit {0}
+HadRoom (Err (refused.ArenaFull elements)) = ⊥
+HadRoom (Err refused.OutOfMemory) = ⊥
+
+-- so the work at a start may end: some answer that it may give had room
+abbrev pub MayHaveRoom : Groups → Settings → Start → Type 0
+MayHaveRoom f settings start = (answer : StartAnswer) × AnswersStart f settings start answer × HadRoom answer.end
+
+-- the manager of a start whose arena was full, where the work at each start before it may have had room
+pub record IsFirstFull (f : Groups) (settings : Settings) (elements : ℕ) (m : Table) : Type 0 where
+  pub start : Start
+  pub full : IsFullStart f settings start elements m
+  pub earlier : (other : Start) → rank other < rank start → MayHaveRoom f settings other
 
 -- why no start was chosen, with the manager whose arena was full
 abbrev pub IsNoChoice : Groups → Settings → CompileError → Option Table → Type 0
 IsNoChoice f settings (refused.OverLimit group size limit) manager =
     IsChoice f settings (AllPassed group size) × (limit ≡ settings.limit) × (manager ≡ None)
 IsNoChoice f settings (refused.ArenaFull elements) manager =
-    (m : Table) × (manager ≡ Some m) × IsFullAt f settings elements m
+    (m : Table) × (manager ≡ Some m) × IsFirstFull f settings elements m
 IsNoChoice f settings refused.OutOfMemory manager = manager ≡ None
 
 -- the same of the refusal

@@ -4,7 +4,6 @@ ghost use Rattle.std.specs.Prelude.{◌≡◌, ◌<◌, ◌≤◌, ◌∷◌, []
 ghost use Rattle.std.specs.List.{AllZip};
 ghost use Rattle.sd_formula.specs.Dimacs.{Groups};
 ghost use Rattle.sd_starts.specs.Starts.{AnswersStart, IsChoiceRefused, IsChosenStart};
-ghost use Rattle.sd_starts.specs.Starts.{rank};
 ghost use Rattle.sd_starts.specs.Deciding.{AnswerEach, Decides, decider, judged, judged_end, kept_at};
 ghost use Rattle.sd_starts.specs.Deciding as deciding;
 
@@ -33,8 +32,9 @@ pub struct Chosen {
 }
 
 /// Why no start was chosen. By the limit: the formula passes it at each start, and the group and the size are those at
-/// the balanced one. By a full arena or for want of memory: so ended the work at some start, and no contract says at
-/// which, nor what came at the others.
+/// the balanced one. By a full arena: so stopped the work at the first start, in the order balanced, right, left, at
+/// which room or memory lacked. The contract says of each before it that it may have had room. For want of memory: no
+/// contract says where it lacked.
 #[derive(Drop)]
 pub struct Refused {
     pub error: CompileError,
@@ -139,19 +139,8 @@ fn choose(mut answers: Vec<Result<StartAnswer, AllocError>>) -> Result<Chosen, R
         → IfErr result (IsChoiceRefused f settings) }
 {
     let start = deciding(judge(&answers[0]), judge(&answers[1]), judge(&answers[2]));
-    let answer = answers.swap_remove(index_of(start));
+    let answer = answers.swap_remove(start.rank() as usize);
     decide(start, answer)
-}
-
-// Where the answer of a start stands.
-fn index_of(start: Start) -> usize
-    ensures { result ≡ rank start }
-{
-    match start {
-        Start::Balanced => 0,
-        Start::Right => 1,
-        Start::Left => 2,
-    }
 }
 
 // What an answer shows.
@@ -242,19 +231,20 @@ fn decide_by(start: Start, answer: StartAnswer) -> Result<Chosen, Refused>
             size: done.size,
             search: done.search,
         }),
-        Err(error) => Err(refusal(error, manager)),
+        Err(error) => Err(Refused {
+            error,
+            manager: kept_at(error, manager),
+        }),
     }
 }
 
-// A refusal, with the manager where its arena was full.
-fn refusal(error: CompileError, manager: Manager) -> Refused
-    ensures error { result.error ≡ error }
-    ensures manager { result.manager ≡ kept_at error manager }
+/// The manager at which work was refused, where its arena was full.
+pub fn kept_at(error: CompileError, manager: Manager) -> Option<Manager>
+    ensures { result ≡ kept_at error manager }
 {
-    let manager = match error {
+    match error {
         CompileError::OverLimit { .. } => None,
         CompileError::ArenaFull { .. } => Some(manager),
         CompileError::OutOfMemory => None,
-    };
-    Refused { error, manager }
+    }
 }

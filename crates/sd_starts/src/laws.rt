@@ -1,5 +1,5 @@
 // Laws of the choice: functions whose contracts state a fact, and that do nothing.
-ghost use Rattle.std.specs.Prelude.{◌≡◌, ◌≤◌};
+ghost use Rattle.std.specs.Prelude.{◌≡◌};
 ghost use Rattle.sd_model.specs.Tree.{Tree, IsVtree};
 ghost use Rattle.sd_formula.specs.Dimacs.{Groups};
 ghost use Rattle.sd_starts.specs.Starts.{Choice, IsChoice, IsEndAt, StartEnd};
@@ -16,6 +16,6 @@ pub fn one_end()
 /// Two choices of one formula with one set of settings are one: they name one start and one size, or both are the
 /// refusal by the limit, with one group and one size.
 pub fn one_choice()
-    ensures { (f : Groups) (settings : Settings) (x y : Choice) → 1 ≤ f.variables
-        → IsChoice f settings x → IsChoice f settings y → x ≡ y }
+    ensures { (f : Groups) (settings : Settings) (x y : Choice) → IsChoice f settings x
+        → IsChoice f settings y → x ≡ y }
 {}

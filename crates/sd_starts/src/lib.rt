@@ -9,6 +9,7 @@ mod start;
 mod tests;
 mod work;
 
-pub use choosing::{Chosen, Refused, choose_start};
+pub use choosing::{Chosen, Refused, choose_start, kept_at};
 pub use laws::{one_choice, one_end};
 pub use start::{Settings, Start};
+pub use work::MOST_ELEMENTS;

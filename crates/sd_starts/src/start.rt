@@ -3,7 +3,7 @@
 ghost use Rattle.std.specs.Prelude.{◌≡◌, ◌≤◌, IfOk};
 ghost use Rattle.sd_model.specs.Tree.{leaves};
 ghost use Rattle.sd_vtree.specs.Numbered.{IsNumbered, plain_tree};
-ghost use Rattle.sd_starts.specs.Starts.{tree_of_start};
+ghost use Rattle.sd_starts.specs.Starts.{rank, tree_of_start};
 
 use sd_vtree::Vtree;
 use std::alloc::{AllocError, Global};
@@ -17,6 +17,19 @@ pub enum Start {
     Right,
     /// Each right child is a leaf.
     Left,
+}
+
+impl Start {
+    // Its place in the order, counted from 0.
+    pub(crate) fn rank(self) -> u32
+        ensures { result ≡ rank self }
+    {
+        match self {
+            Start::Balanced => 0,
+            Start::Right => 1,
+            Start::Left => 2,
+        }
+    }
 }
 
 /// What is asked of the work at each start.

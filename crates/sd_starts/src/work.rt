@@ -7,7 +7,7 @@ ghost use Rattle.sd_formula.specs.Dimacs.{Groups};
 ghost use Rattle.sd_formula.specs.Formulas.{expression_of};
 ghost use Rattle.sd_compile.specs.Total.{AreHeldFormulas};
 ghost use Rattle.sd_search.specs.Kept.{KeepsRoots};
-ghost use Rattle.sd_starts.specs.Starts.{AnswersStart, IsReady, IsDoneAt, IsRefusedAt, IsStoppedAt};
+ghost use Rattle.sd_starts.specs.Starts.{AnswersStart, IsAtRest, IsDoneAt, IsRefusedAt, IsStoppedAt};
 ghost use Rattle.sd_starts.specs.Starts.{IsTreeLeft, IsSearchedTo, HoldsNothing, IsStopped};
 
 use crate::start::{Settings, Start, vtree_of};
@@ -21,8 +21,8 @@ use sd_search::{Outcome, SearchError, minimise};
 use sd_sweep::size;
 use std::alloc::{AllocError, Global};
 
-// The most elements that the arena of the diagrams may hold.
-const BOUND: u32 = 2_147_483_647;
+/// The most elements that the arena of the diagrams may hold.
+pub const MOST_ELEMENTS: u32 = 2_147_483_647;
 
 /// A formula that is to be compiled and searched alone at one start. Its manager and its cache are made by the thread
 /// that works it.
@@ -64,17 +64,8 @@ impl<G: Gate + Drop> Task for StartTask<'_, G> {
             formula,
             settings,
         } = self;
-        gate.enter(number_of(start));
+        gate.enter(start.rank());
         work_at(alloc, start, formula, settings)
-    }
-}
-
-// The number that a gate is told.
-fn number_of(start: Start) -> u32 {
-    match start {
-        Start::Balanced => 0,
-        Start::Right => 1,
-        Start::Left => 2,
     }
 }
 
@@ -88,7 +79,7 @@ fn work_at(
     ensures { IfOk result (AnswersStart f.now settings start) }
 {
     let vtree = vtree_of(alloc, start, f.variables())?;
-    let manager = Manager::new(alloc, vtree, BOUND)?;
+    let manager = Manager::new(alloc, vtree, MOST_ELEMENTS)?;
     let cache = Cache::new(alloc)?;
     Ok(work_in(alloc, manager, cache, f, settings))
 }
@@ -101,10 +92,10 @@ fn work_in(
     f: &Formula,
     settings: Settings,
 ) -> StartAnswer
-    requires ready { IsReady manager cache }
+    requires ready { IsAtRest manager cache }
     requires variables { leaves (plain_tree manager.vtree) ≡ f.now.variables }
     requires nothing { manager.roots ≡ empty }
-    ensures ready { IsReady result.manager result.cache }
+    ensures ready { IsAtRest result.manager result.cache }
     ensures end { MatchResult result.end (IsDoneAt f.now settings (plain_tree manager.vtree) result.manager)
         (IsStoppedAt f.now settings (plain_tree manager.vtree) result.manager) }
 {
@@ -125,14 +116,14 @@ fn work_alone(
     f: &Formula,
     settings: Settings,
 ) -> Result<Done, CompileError>
-    requires ready { IsReady m.old c.old }
+    requires ready { IsAtRest m.old c.old }
     requires variables { leaves (plain_tree m.old.vtree) ≡ f.now.variables }
     requires nothing { m.old.roots ≡ empty }
     ensures done { IfOk result (IsDoneAt f.now settings (plain_tree m.old.vtree) m.new) }
     ensures refused { IfErr result (IsRefusedAt f.now settings (plain_tree m.old.vtree) m.new) }
     ensures left { OnErr result (HoldsNothing m.new) }
     ensures tree { OnErr result (IsTreeLeft f.now settings (plain_tree m.old.vtree) (plain_tree m.new.vtree)) }
-    ensures ready { IsReady m.new c.new }
+    ensures ready { IsAtRest m.new c.new }
 {
     total_of_formulas(m);
     let root = match compile(alloc, m, c, f, settings.limit) {
@@ -155,14 +146,14 @@ fn searched(
     c: &mut Cache,
     settings: Settings,
 ) -> Result<(u32, Option<Outcome>), CompileError>
-    requires ready { IsReady m.old c.old }
+    requires ready { IsAtRest m.old c.old }
     ensures searched { (f : Groups) → AreHeldFormulas m.old (expression_of f ∷ []) → IfOk result (λ r.
         IsSearchedTo f settings (plain_tree m.old.vtree) r.1 r.0 (plain_tree m.new.vtree)) }
     ensures full { IfErr result (IsStopped m.new) }
     ensures tree { (f : Groups) → AreHeldFormulas m.old (expression_of f ∷ []) → OnErr result
         (IsTreeLeft f settings (plain_tree m.old.vtree) (plain_tree m.new.vtree)) }
     ensures kept { KeepsRoots m.old m.new }
-    ensures ready { IsReady m.new c.new }
+    ensures ready { IsAtRest m.new c.new }
 {
     total_is_of_formulas(m);
     let Some(rounds) = settings.rounds else {

@@ -10,11 +10,10 @@ use Rattle.sd_words.specs.declared.jobs.InputWord.{InputWord}
 use Rattle.sd_words.specs.declared.jobs.InputWord.TheVariants as inputs
 use Rattle.sd_commands.specs.Effects.{Effect}
 use Rattle.sd_commands.specs.Commands.{State, Done, OverLimit as PassesLimit, Step, Steps, PassesAtGroup}
-use Rattle.sd_commands.specs.Commands.{IsBoundOrPast}
+use Rattle.sd_commands.specs.Commands.{BindsInput}
 use Rattle.sd_commands.specs.Standing.{start}
 use Rattle.sd_commands.specs.declared.command.NumberedCommand.{NumberedCommand}
 use Rattle.sd_commands.specs.declared.command.RunCommand.TheVariants as commands
-use Rattle.sd_commands.proofs.Settling.{input_by_group, input_of_group}
 use Rattle.sd_tool.specs.inside.Course.{EndsAmong, MayEnd}
 use Rattle.sd_tool.specs.Devices.{Seen, WritesEndLine}
 use Rattle.sd_tool.specs.Ends.{OverLimit}
@@ -154,7 +153,7 @@ at_input input formula first state (inputs.Generate count seed) rest (d ∷ e �
 
 -- an input that is refused passes the limit at one of its groups
 refused_group : (input : Groups) (state : State) (name : ℕ) (group : Option ℕ) (size limit : ℕ)
-    → IsBoundOrPast input state name (PassesLimit group size limit)
+    → BindsInput input state name (PassesLimit group size limit)
     → (g : ℕ) × PassesAtGroup input state g size × (group ≡ Some g) × (limit ≡ state.limit)
 refused_group input state name group size limit (inl p) = let e = p.2 in let bad : ⊥ = cc in absurd bad
 refused_group input state name group size limit (inr p) =
@@ -179,8 +178,7 @@ passes_among job formula tree effects line group size limit (state, next, at, is
     group size limit (quiet_after formula job) at.reaches.in_order at.reaches.steps refused in
     let own = subst (λ s. Step formula s (commands.Input 0) (PassesLimit group size limit)) is.state_is
     (subst (λ (n : NumberedCommand). Step formula state n.command (PassesLimit group size limit)) is.next_is refused) in
-    let found = refused_group formula first 0 group size limit
-    (input_by_group formula first 0 (PassesLimit group size limit) own) in
+    let found = refused_group formula first 0 group size limit own in
     let one : line ≡ 1 = sym is_line ∙ ap (λ (n : NumberedCommand). n.line) is.next_is in
     let told = found.2 in
     let most = found.3 in
@@ -231,7 +229,7 @@ leads_to_limit words files job formula tree group size input begins passes =
           };
         },
         refl,
-        input_of_group formula first 0 (PassesLimit (Some group) size job.limit) (inr (group, size, passes, refl)),
+        inr (group, size, passes, refl),
       ),
     )
 

@@ -3,7 +3,7 @@ use Rattle.std.proofs.Common.{sym, subst, ◌∙◌, length}
 use Rattle.sd_formula.specs.Formulas.{expression_of}
 use Rattle.sd_parts.specs.Work.{first_refusal}
 use Rattle.sd_commands.specs.Commands.{with_name}
-use Rattle.sd_commands.specs.Opening.{IsJoinStopped}
+use Rattle.sd_commands.specs.Joining.{IsJoinStopped}
 use Rattle.sd_commands.specs.declared.command.RunCommand.TheVariants.{InputByParts}
 use Rattle.sd_commands.proofs.Standing.{stands_compiled, as_before_compiled, holds_compiled}
 use Rattle.sd_commands.proofs.Standing.{as_before_kept, before_both}

@@ -1,7 +1,7 @@
 -- Where the answers are not joined, the manager of the part that was refused is handed back.
 use Rattle.std.proofs.Common.{length, subst}
 use Rattle.sd_parts.specs.Work.{first_refusal}
-use Rattle.sd_commands.specs.Opening.{IsJoinStopped}
+use Rattle.sd_commands.specs.Joining.{IsJoinStopped}
 use Rattle.sd_commands.specs.declared.command.RunCommand.TheVariants.{InputByParts}
 use Rattle.sd_commands.proofs.ByParts.{by_parts_stops}
 use Rattle.sd_commands.proofs.opening.input_by_parts.Goals as goal

@@ -3,9 +3,9 @@ use Rattle.std.proofs.Common.{◌∙◌, ◌≤◌, None, sym, ap, subst}
 use Rattle.sd_model.specs.Tree.{leaves}
 use Rattle.sd_vtree.specs.Numbered.{plain_tree}
 use Rattle.sd_commands.specs.Standing.{start}
-use Rattle.sd_commands.specs.Opening.{IsOpeningStopped}
+use Rattle.sd_commands.specs.Opening.{IsOpeningStopped, IsOfFirstFull}
 use Rattle.sd_commands.specs.declared.command.RunCommand.TheVariants.{Choose}
-use Rattle.sd_commands.proofs.ByChoice.{opens_chosen, chosen_leaves, no_choice}
+use Rattle.sd_commands.proofs.ByChoice.{opens_chosen, chosen_leaves, no_choice, first_full}
 use Rattle.sd_commands.proofs.opening.open_chosen.Goals as goal
 
 pub returns-in-Ok-opened_by-clause-opened : goal.returns-in-Ok-opened_by-clause-opened
@@ -25,4 +25,11 @@ returns-in-Err-clause-stops g c = λ tree same.
     subst (λ e. IsOpeningStopped c.args.input.now (start tree c.args.settings.limit c.args.settings.slack None)
     (Choose c.args.settings.rounds) e c.in-Err.refused.manager) (sym c.compiling_error.ensures)
     (no_choice c.args.input.now c.args.settings tree same c.in-Err.refused.error c.in-Err.refused.manager
+    c.in-Err.ensures.refused)
+
+pub returns-in-Err-clause-first : goal.returns-in-Err-clause-first
+returns-in-Err-clause-first g c =
+    subst (λ e. IsOfFirstFull c.args.input.now c.args.settings e c.in-Err.refused.manager)
+    (sym c.compiling_error.ensures)
+    (first_full c.args.input.now c.args.settings c.in-Err.refused.error c.in-Err.refused.manager
     c.in-Err.ensures.refused)

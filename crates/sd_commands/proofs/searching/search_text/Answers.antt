@@ -1,12 +1,6 @@
-use Rattle.std.proofs.Common.{rules, ◌≡◌, ◌∙◌, ℕ, ◌<◌, ◌^◌, List, [], ◌∷◌, ◌++◌, arith, ap, append_assoc}
-use Rattle.std.specs.Prelude.{decimal}
-use Rattle.sd_model.specs.Text.{number_text}
-use Rattle.sd_model.proofs.Numbers.{number_text_decimal}
+use Rattle.std.proofs.Common.{rules, ◌≡◌, ◌∙◌, ℕ, List, [], ◌∷◌, ◌++◌, ap, append_assoc}
+use Rattle.sd_commands.proofs.Values.{in_digits}
 use Rattle.sd_commands.proofs.searching.search_text.Goals as goal
-
--- the text of a number of 32 bits
-in_digits : (n : ℕ) → n < 2 ^ 32 → number_text n ≡ decimal n
-in_digits n fits = number_text_decimal n (omega arith)
 
 -- two texts, each behind a space
 spaced : (line a b : List ℕ) (space end : ℕ)

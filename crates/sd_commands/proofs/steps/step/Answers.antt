@@ -7,9 +7,8 @@ use Rattle.sd_commands.specs.Fits.{uses, binds}
 use Rattle.sd_commands.specs.Standing.{StepsTo, StopsAt, IsAsBefore, IsLeft, HasRoot}
 use Rattle.sd_commands.specs.declared.command.RunCommand.TheVariants.{Literal, Given, Write}
 use Rattle.sd_commands.proofs.Stepping.{first_used, second_used, all_used, some_named, binds_free, handed_steps}
-use Rattle.sd_commands.specs.declared.state.RunState.{RunState}
 use Rattle.sd_commands.proofs.Stepping.{output_there}
-use Rattle.sd_commands.proofs.Standing.{as_before_self, before_then, input_forgotten, search_forgotten}
+use Rattle.sd_commands.proofs.Standing.{as_before_self}
 use Rattle.sd_commands.proofs.steps.step.Goals as goal
 
 -- ---- the names that a command uses have roots
@@ -74,8 +73,7 @@ write_diagrams-requires-clause-some c =
 
 pub bind_input-requires-clause-free : goal.bind_input-requires-clause-free
 bind_input-requires-clause-free c =
-    binds_free c.forget_gates.new.self c.requires.represents.0 _ _ _ _
-    (c.forget_gates.ensures.represents c.requires.represents.0 c.requires.represents.1) c.requires.represents.2
+    binds_free c.args.state.now c.requires.represents.0 _ _ _ _ c.requires.represents.1 c.requires.represents.2
     (ap binds c.in-Input.is)
 
 pub bind_file-requires-clause-free : goal.bind_file-requires-clause-free
@@ -135,25 +133,25 @@ pub returns-in-Input-clause-done : goal.returns-in-Input-clause-done
 returns-in-Input-clause-done c = λ seen was.
     subst (λ command. IfOk c.bind_input.result
     (λ effect. StepsTo c.args.input.now seen command c.bind_input.new.state effect)) (sym c.in-Input.is)
-    (c.bind_input.ensures.done seen (c.forget_gates.ensures.represents seen was))
+    (c.bind_input.ensures.done seen was)
 
 pub returns-in-Input-clause-stops : goal.returns-in-Input-clause-stops
 returns-in-Input-clause-stops c = λ seen was.
     subst (λ command. IfErr c.bind_input.result
     (λ e. StopsAt c.args.input.now seen command c.bind_input.new.state.manager e)) (sym c.in-Input.is)
-    (c.bind_input.ensures.stops seen (c.forget_gates.ensures.represents seen was))
+    (c.bind_input.ensures.stops seen was)
 
 pub returns-in-Turn-clause-done : goal.returns-in-Turn-clause-done
 returns-in-Turn-clause-done c = λ seen was.
     subst (λ command. IfOk c.turn_at.result
     (λ effect. StepsTo c.args.input.now seen command c.turn_at.new.state effect)) (sym c.in-Turn.is)
-    (c.turn_at.ensures.done c.args.input.now seen (c.forget_gates-in-Turn.ensures.represents seen was))
+    (c.turn_at.ensures.done c.args.input.now seen was)
 
 pub returns-in-Minimise-clause-done : goal.returns-in-Minimise-clause-done
 returns-in-Minimise-clause-done c = λ seen was.
     subst (λ command. IfOk c.search.result
     (λ effect. StepsTo c.args.input.now seen command c.search.new.state effect)) (sym c.in-Minimise.is)
-    (c.search.ensures.done c.args.input.now seen (c.forget_gates-in-Minimise.ensures.represents seen was))
+    (c.search.ensures.done c.args.input.now seen was)
 
 pub returns-in-Generated-clause-done : goal.returns-in-Generated-clause-done
 returns-in-Generated-clause-done c = λ seen was.
@@ -294,7 +292,7 @@ returns-in-Turn-clause-stops c = λ seen was.
     let input = c.args.input.now in
     let table = c.turn_at.new.state.manager in
     subst (λ command. IfErr c.turn_at.result (λ e. StopsAt input seen command table e)) (sym c.in-Turn.is)
-    (c.turn_at.ensures.stops input seen (c.forget_gates-in-Turn.ensures.represents seen was))
+    (c.turn_at.ensures.stops input seen was)
 
 pub returns-in-Limit-clause-stops : goal.returns-in-Limit-clause-stops
 returns-in-Limit-clause-stops c = λ seen was.
@@ -308,7 +306,7 @@ returns-in-Minimise-clause-stops c = λ seen was.
     let input = c.args.input.now in
     let table = c.search.new.state.manager in
     subst (λ command. IfErr c.search.result (λ e. StopsAt input seen command table e)) (sym c.in-Minimise.is)
-    (c.search.ensures.stops input seen (c.forget_gates-in-Minimise.ensures.represents seen was))
+    (c.search.ensures.stops input seen was)
 
 pub returns-in-Output-clause-stops : goal.returns-in-Output-clause-stops
 returns-in-Output-clause-stops c = λ seen was.
@@ -331,9 +329,7 @@ returns-in-Input-clause-err c =
     subst (λ command. OnErr c.bind_input.result
     (IsLeft c.args.input.now command c.args.state.now c.bind_input.new.state))
     (sym c.in-Input.is)
-    (input_forgotten c.bind_input.result c.args.input.now c.args.state.now c.forget_gates.new.self
-    c.bind_input.new.state c.forget_gates.ensures.kept (ap (λ (s : RunState). s.every) c.forget_gates.ensures.rest)
-    c.bind_input.ensures.err)
+    c.bind_input.ensures.err
 
 pub returns-in-Load-clause-err : goal.returns-in-Load-clause-err
 returns-in-Load-clause-err c =
@@ -387,15 +383,13 @@ pub returns-in-Turn-clause-err : goal.returns-in-Turn-clause-err
 returns-in-Turn-clause-err c =
     subst (λ command. OnErr c.turn_at.result
     (IsLeft c.args.input.now command c.args.state.now c.turn_at.new.state)) (sym c.in-Turn.is)
-    (before_then c.turn_at.result c.args.state.now c.forget_gates-in-Turn.new.self c.turn_at.new.state
-    c.forget_gates-in-Turn.ensures.kept c.turn_at.ensures.err)
+    c.turn_at.ensures.err
 
 pub returns-in-Minimise-clause-err : goal.returns-in-Minimise-clause-err
 returns-in-Minimise-clause-err c =
     subst (λ command. OnErr c.search.result
     (IsLeft c.args.input.now command c.args.state.now c.search.new.state)) (sym c.in-Minimise.is)
-    (search_forgotten c.search.result c.in-Minimise.rounds c.args.state.now c.forget_gates-in-Minimise.new.self
-    c.search.new.state c.forget_gates-in-Minimise.ensures.kept c.search.ensures.err)
+    c.search.ensures.err
 
 pub returns-in-Output-clause-err : goal.returns-in-Output-clause-err
 returns-in-Output-clause-err c =

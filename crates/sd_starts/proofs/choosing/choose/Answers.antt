@@ -11,7 +11,7 @@ returns-clause-chosen c = λ f settings answers.
     ∙ ap (λ j. decider (judged c.index.result.now) j c.judge-3.result) c.judge-2.ensures
     ∙ ap (λ j. decider (judged c.index.result.now) (judged c.index-2.result.now) j) c.judge-3.ensures in
     let taken = subst (λ (i : ℕ). c.swap_remove-answer.result
-    ≡ slice_index_or c.args.answers.items i c.swap_remove-answer.result) c.index_of.ensures
+    ≡ slice_index_or c.args.answers.items i c.swap_remove-answer.result) c.rank.ensures
     c.swap_remove-answer.ensures.value in
     if_ok (IsChosenStart f settings) (IsChoiceRefused f settings) c.decide.result
     (choice_of_list f settings c.args.answers.items answers c.index.result.now c.index-2.result.now
@@ -26,7 +26,7 @@ returns-clause-refused c = λ f settings answers.
     ∙ ap (λ j. decider (judged c.index.result.now) j c.judge-3.result) c.judge-2.ensures
     ∙ ap (λ j. decider (judged c.index.result.now) (judged c.index-2.result.now) j) c.judge-3.ensures in
     let taken = subst (λ (i : ℕ). c.swap_remove-answer.result
-    ≡ slice_index_or c.args.answers.items i c.swap_remove-answer.result) c.index_of.ensures
+    ≡ slice_index_or c.args.answers.items i c.swap_remove-answer.result) c.rank.ensures
     c.swap_remove-answer.ensures.value in
     if_err (IsChosenStart f settings) (IsChoiceRefused f settings) c.decide.result
     (choice_of_list f settings c.args.answers.items answers c.index.result.now c.index-2.result.now

@@ -6,7 +6,5 @@ use Rattle.sd_starts.proofs.choosing.decide_by.Goals as goal
 pub returns-in-Err : goal.returns-in-Err
 returns-in-Err c = λ f settings answers.
     let shown = judged_end c.args.answer.end in
-    subst (λ e. IsRefusedStart f settings c.args.start shown e c.refusal.result.manager)
-    (sym c.refusal.ensures.error)
-    (subst (λ m. IsRefusedStart f settings c.args.start shown c.in-Err.error m) (sym c.refusal.ensures.manager)
-    (refused_start f settings c.args.start c.args.answer answers c.in-Err.error c.in-Err.is))
+    subst (λ m. IsRefusedStart f settings c.args.start shown c.in-Err.error m) (sym c.kept_at.ensures)
+    (refused_start f settings c.args.start c.args.answer answers c.in-Err.error c.in-Err.is)
