@@ -2,7 +2,7 @@
 use Rattle.std.proofs.Common.{◌≡◌, ℕ, List, sym}
 use Rattle.std.specs.Prelude.{codes}
 use Rattle.sd_base.specs.Lines.{content_of}
-use Rattle.sd_vfile.proofs.ByNumbers.{nodes_made}
+use Rattle.sd_vfile.proofs.ByLines.{nodes_made}
 use Rattle.sd_file.specs.Reads.{entry_of, file_of, sdd_file}
 use Rattle.sd_file.specs.Steps.{file_of_lines}
 

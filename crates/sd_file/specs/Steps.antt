@@ -15,7 +15,8 @@ use Rattle.sd_file.specs.declared.form.Form as forms
 use Rattle.sd_file.specs.declared.form.Form.TheVariants.{ConstantLine, LiteralLine, DecompositionLine}
 use Rattle.sd_file.specs.declared.id_table.IdTable.{IdTable}
 use Rattle.sd_file.specs.declared.reader.Nodes.{Nodes}
-use Rattle.sd_vfile.specs.Reads.{of_nodes, stated_behind}
+use Rattle.sd_vfile.specs.Reads.{stated_behind}
+use Rattle.sd_vfile.specs.Steps.{of_nodes}
 use Rattle.sd_file.specs.Reads.{Node, Entry, File, two_by_two, index_of_id, entry_of, file_of}
 
 -- ---- the steps of a reading

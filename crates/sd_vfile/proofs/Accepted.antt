@@ -12,10 +12,12 @@ use Rattle.sd_vtree.specs.Numbered.{times}
 use Rattle.sd_vtree.proofs.Times.{times_same, times_other}
 use Rattle.sd_vtree.proofs.Pigeons.{distinct_times, all_times}
 use Rattle.sd_vfile.specs.declared.fault.VtreeFault.TheVariants.{NoHeader}
-use Rattle.sd_vfile.specs.Reads.{Entry, is_child, has_leaf_line, missing, none_missing, roots_of, one_root, whole_tree}
-use Rattle.sd_vfile.specs.Reads.{entry_by_form, stated_by, tree_of_lines, vtree_fault_text, vtree_file}
+use Rattle.sd_vfile.specs.Reads.{Entry, is_child, has_leaf, missing, none_missing, roots_of, one_root}
+use Rattle.sd_vfile.specs.Steps.{whole_tree}
+use Rattle.sd_vfile.specs.Reads.{entry_of, vtree_fault_text, vtree_file}
+use Rattle.sd_vfile.specs.Steps.{stated_by, tree_of_lines}
 use Rattle.sd_vfile.proofs.Forests.{leaf_count, below, leaf_none, leaf_some}
-use Rattle.sd_vfile.proofs.ByNumbers.{vtree_file_is}
+use Rattle.sd_vfile.proofs.ByLines.{vtree_file_is}
 use Rattle.sd_vfile.proofs.AreRead.{AreRead, none_read}
 use Rattle.sd_vfile.proofs.OneMore.{read_one_more}
 use Rattle.sd_vfile.proofs.Placed.{through, past, done, read_keeps}
@@ -143,14 +145,14 @@ tree_over v es t read root full =
     }
   where
     within : (x : ℕ) → 1 ≤ times x (variables t) → times x (variables t) ≡ leaf_count x es → (1 ≤ x) × (x ≤ v)
-    within x h e = elim (cases_Bool (has_leaf_line x es)) [
+    within x h e = elim (cases_Bool (has_leaf x es)) [
       | inl leaf ↦ read.in_range x leaf
       | inr other ↦ absurd (omega (arith, leaf_none x es other))
     ]
 
-    there : (x : ℕ) → 1 ≤ x → x ≤ v → has_leaf_line x es ≡ true
+    there : (x : ℕ) → 1 ≤ x → x ≤ v → has_leaf x es ≡ true
     there x low high =
-        each_there (λ y. has_leaf_line y es) 1 v x (nothing_missing (missing v es) full) low (omega arith)
+        each_there (λ y. has_leaf y es) 1 v x (nothing_missing (missing v es) full) low (omega arith)
 
 -- so is that of a count of lines
 whole_over : (v stated : ℕ) (es : List Entry) (t : Tree) → AreRead v es → whole_tree v stated es ≡ Ok t
@@ -171,16 +173,16 @@ whole_over v stated es t read e =
     over tree root (Err fault) is e = cc
 
 -- lines without a fault are known
-pub lines_read : (v : ℕ) (lines : List TextLine) (es : List Entry) → each_after (entry_by_form v) [] lines ≡ Ok es
+pub lines_read : (v : ℕ) (lines : List TextLine) (es : List Entry) → each_after (entry_of v) [] lines ≡ Ok es
     → AreRead v es
 lines_read v lines es e = read_keeps v (AreRead v) (λ ds d. read_one_more v ds d) [] lines es e (none_read v)
 
 accepted_lines : (v : ℕ) (content : List TextLine) (t : Tree) → tree_of_lines v content ≡ Ok t → IsVtreeOver v t
 accepted_lines v [] t e = cc
 accepted_lines v (header ∷ lines) t e =
-    let rest = λ (stated : ℕ). each_after (entry_by_form v) [] lines >>= λ es. whole_tree v stated es in
+    let rest = λ (stated : ℕ). each_after (entry_of v) [] lines >>= λ es. whole_tree v stated es in
     let first = through (ok_or (stated_by header.words) (vtree_fault_text NoHeader)) rest t e in
-    let second = through (each_after (entry_by_form v) [] lines) (λ es. whole_tree v first.middle es) t first.led in
+    let second = through (each_after (entry_of v) [] lines) (λ es. whole_tree v first.middle es) t first.led in
     whole_over v first.middle second.middle t (lines_read v lines second.middle second.gave) second.led
 
 -- the tree of a text without a fault is a vtree over the variables asked for

@@ -6,7 +6,7 @@ use Rattle.std.specs.List.{list_any}
 use Rattle.std.proofs.lemmas.Bool.{cases_Bool, cases_eq, cases_lt}
 use Rattle.std.proofs.lemmas.List.{take-append-le, take_all, get_or-append-add, get_or_append_left}
 use Rattle.std.proofs.lemmas.List.Folds.{list_any-append}
-use Rattle.sd_vfile.specs.Reads.{Entry, has_id, is_child, has_leaf_line}
+use Rattle.sd_vfile.specs.Reads.{Entry, has_id, is_child, has_leaf}
 use Rattle.sd_vfile.specs.Steps.{no_entry, IsWellFormed, AreWellFormed}
 use Rattle.sd_vfile.proofs.Forests.{bit, ids, leaf_count, below, ids_push, ids_none}
 
@@ -16,7 +16,7 @@ pub record AreRead (v : ℕ) (es : List Entry) : Type 0 where
   pub once : (id : ℕ) → ids id es ≤ 1
   pub children : (id : ℕ) → is_child id es ≡ true → has_id id es ≡ true
   pub leaf_once : (x : ℕ) → leaf_count x es ≤ 1
-  pub in_range : (x : ℕ) → has_leaf_line x es ≡ true → (1 ≤ x) × (x ≤ v)
+  pub in_range : (x : ℕ) → has_leaf x es ≡ true → (1 ≤ x) × (x ≤ v)
   pub account : (x : ℕ) → below (λ i. is_child i es) x es ≡ leaf_count x es
   pub well_formed : AreWellFormed v es
 

@@ -12,10 +12,11 @@ use Rattle.sd_vtree.proofs.Building.{leaves_positive, leaves_node}
 use Rattle.sd_vtree.proofs.Pigeons.{times_distinct, has_variable, variable_in_range}
 use Rattle.sd_vtree.proofs.Times.{times_append, times_same}
 use Rattle.sd_model.proofs.PlainTexts.{vtree_text_plain}
-use Rattle.sd_vfile.specs.Reads.{is_child, has_leaf_line}
-use Rattle.sd_vfile.specs.Reads.{entry_by_form, missing}
-use Rattle.sd_vfile.specs.Reads.{roots_of, whole_tree, tree_of_lines, vtree_file}
-use Rattle.sd_vfile.proofs.ByNumbers.{vtree_file_is}
+use Rattle.sd_vfile.specs.Reads.{is_child, has_leaf}
+use Rattle.sd_vfile.specs.Reads.{entry_of, missing}
+use Rattle.sd_vfile.specs.Reads.{roots_of, vtree_file}
+use Rattle.sd_vfile.specs.Steps.{whole_tree, tree_of_lines}
+use Rattle.sd_vfile.proofs.ByLines.{vtree_file_is}
 use Rattle.sd_vfile.proofs.Texts.{IsTextLine, IsFullWord, numbered, full_number, natural_back, text_back}
 use Rattle.sd_vfile.proofs.Written.{root_entry, entries_in, position_in, root_free}
 use Rattle.sd_vfile.proofs.Written.{a_leaf}
@@ -77,7 +78,7 @@ whole_back t vtree =
     let roots : roots_of nodes ≡ root_entry t 0 ∷ [] =
     root_kept t 0 (λ i. is_child i nodes) (λ i h. h) (root_free t 0) in
     let full : missing (leaves t) nodes ≡ None =
-    none_left (λ x. has_leaf_line x nodes) 1 (leaves t)
+    none_left (λ x. has_leaf x nodes) 1 (leaves t)
     (λ x low high. a_leaf t 0 x (has_variable t vtree x low (omega arith))) in
     rw (eq-eqb (2 * leaves t - 1) (length nodes) count, roots, full) (ap Ok (root_tree t))
   where
@@ -106,8 +107,8 @@ read_back t vtree within_limit =
       once = times_distinct (variables t) vtree.distinct;
       in_range = range;
     } in
-    let read : each_after (entry_by_form v) [] (numbered 2 lines) ≡ Ok (entries_in t 0) =
-    ap (each_after (entry_by_form v) []) (sym (append-nil (numbered 2 lines)))
+    let read : each_after (entry_of v) [] (numbered 2 lines) ≡ Ok (entries_in t 0) =
+    ap (each_after (entry_of v) []) (sym (append-nil (numbered 2 lines)))
     ∙ tree_read v 2 t 0 [] [] (omega arith) (omega arith) begins in
     ap (vtree_file v) (vtree_text_plain t)
     ∙ vtree_file_is v (flat_map line_text (header ∷ lines))

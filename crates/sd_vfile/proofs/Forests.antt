@@ -5,7 +5,7 @@ use Rattle.std.proofs.Common.{Some, inl, inr, eq-eqb, ne_eqb}
 use Rattle.std.proofs.lemmas.Bool.{cases_Bool, cases_eq}
 use Rattle.sd_model.specs.Tree.{Tree, variables}
 use Rattle.sd_vtree.specs.Numbered.{times}
-use Rattle.sd_vfile.specs.Reads.{Entry, tree_with_id, has_id, is_leaf, has_leaf_line}
+use Rattle.sd_vfile.specs.Reads.{Entry, tree_with_id, has_id, is_leaf, has_leaf}
 use Rattle.sd_vfile.proofs.Growing.{tree_at_none}
 
 -- ---- counts of nodes
@@ -62,21 +62,21 @@ ids_zero id (e ∷ es) h = go (e.id == id) h (ids_zero id es)
     go true h later = absurd (omega arith)
     go false h later = later (omega arith)
 
-pub leaf_none : (x : ℕ) (es : List Entry) → has_leaf_line x es ≡ false → leaf_count x es ≡ 0
+pub leaf_none : (x : ℕ) (es : List Entry) → has_leaf x es ≡ false → leaf_count x es ≡ 0
 leaf_none x [] h = refl
 leaf_none x (e ∷ es) h = go (is_leaf x e.tree) h (leaf_none x es)
   where
-    go : (b : Bool) → (b || has_leaf_line x es) ≡ false → (has_leaf_line x es ≡ false → leaf_count x es ≡ 0)
+    go : (b : Bool) → (b || has_leaf x es) ≡ false → (has_leaf x es ≡ false → leaf_count x es ≡ 0)
         → bit b + leaf_count x es ≡ 0
     go true h later = cc
     go false h later = let z = later h in omega arith
 
 -- a variable that has a leaf is counted
-pub leaf_some : (x : ℕ) (es : List Entry) → has_leaf_line x es ≡ true → 1 ≤ leaf_count x es
+pub leaf_some : (x : ℕ) (es : List Entry) → has_leaf x es ≡ true → 1 ≤ leaf_count x es
 leaf_some x [] h = cc
 leaf_some x (e ∷ es) h = go (is_leaf x e.tree) h (leaf_some x es)
   where
-    go : (b : Bool) → (b || has_leaf_line x es) ≡ true → (has_leaf_line x es ≡ true → 1 ≤ leaf_count x es)
+    go : (b : Bool) → (b || has_leaf x es) ≡ true → (has_leaf x es ≡ true → 1 ≤ leaf_count x es)
         → 1 ≤ bit b + leaf_count x es
     go true h later = omega arith
     go false h later = let z = later h in omega arith

@@ -6,7 +6,7 @@ use Rattle.std.specs.List.{fold, list_any}
 use Rattle.std.proofs.lemmas.List.Folds.{list_any-append}
 use Rattle.sd_vfile.specs.declared.form.Form.{Form}
 use Rattle.sd_vfile.specs.declared.form.Form.TheVariants.{LeafLine, InnerLine}
-use Rattle.sd_vfile.specs.Reads.{Entry, tree_with_id, has_id, is_child, is_leaf, has_leaf_line}
+use Rattle.sd_vfile.specs.Reads.{Entry, tree_with_id, has_id, is_child, is_leaf, has_leaf}
 use Rattle.sd_vfile.specs.Steps.{id_of, has_child, is_leaf_line, tree_with, entry_after, grow, entries_of}
 
 -- the last line comes last
@@ -56,7 +56,7 @@ is_child_entries_of id forms =
     sym (fold_any (λ e. list_any (λ child. child == id) e.children) (has_child id) (λ earlier f. refl) [] forms)
 
 pub has_leaf_entries_of : (x : ℕ) (forms : List Form)
-    → list_any (is_leaf_line x) forms ≡ has_leaf_line x (entries_of forms)
+    → list_any (is_leaf_line x) forms ≡ has_leaf x (entries_of forms)
 unfolding entries_of
 has_leaf_entries_of x forms = sym (fold_any (λ e. is_leaf x e.tree) (is_leaf_line x) leaf [] forms)
   where

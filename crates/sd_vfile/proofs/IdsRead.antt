@@ -15,7 +15,7 @@ use Rattle.sd_vfile.specs.Ids.{position_in, ids_of, IsPlace, HasPlaces, ArePosit
 use Rattle.sd_vfile.specs.Placing.{AreParts, HoldsPlaces, place_in, positions_of}
 use Rattle.sd_vfile.specs.Reads.{Entry, tree_with_id, node_lines, vtree_file}
 use Rattle.sd_vfile.proofs.Accepted.{IsVtreeOver, accepted}
-use Rattle.sd_vfile.proofs.ByNumbers.{lines_of_text, root_of_text}
+use Rattle.sd_vfile.proofs.ByLines.{lines_of_text, root_of_text}
 use Rattle.sd_vfile.proofs.IdPlaces.{position_at}
 use Rattle.sd_vfile.proofs.Located.{first_is}
 use Rattle.sd_vfile.proofs.Standing.{AreRooted, rooted_lines, are_parts}

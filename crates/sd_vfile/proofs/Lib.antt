@@ -1,7 +1,7 @@
 -- the lines that were read, and their nodes
 pub mod Growing
 pub mod Placed
-pub mod ByNumbers
+pub mod ByLines
 pub mod Forests
 pub mod AreRead
 pub mod OneMore

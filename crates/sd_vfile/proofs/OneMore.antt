@@ -8,7 +8,7 @@ use Rattle.std.proofs.lemmas.List.Folds.{list_any-append}
 use Rattle.sd_model.specs.Tree.{Tree, Leaf, Node, variables}
 use Rattle.sd_vtree.specs.Numbered.{times}
 use Rattle.sd_vtree.proofs.Times.{times_append}
-use Rattle.sd_vfile.specs.Reads.{Entry, tree_with_id, has_id, is_child, is_leaf, has_leaf_line}
+use Rattle.sd_vfile.specs.Reads.{Entry, tree_with_id, has_id, is_child, is_leaf, has_leaf}
 use Rattle.sd_vfile.proofs.Forests.{bit, leaf_count, below, leaf_count_push, below_push}
 use Rattle.sd_vfile.proofs.Forests.{leaf_none, id_found, below_same, below_less, or_false}
 use Rattle.sd_vfile.proofs.Placed.{IsPlaced, leaf_placed, inner_placed}
@@ -31,7 +31,7 @@ leaf_account v id y x es read new =
 
 -- a variable without a leaf gets one
 leaf_once_more : (es : List Entry) (e : Entry) (y : ℕ) → e.tree ≡ Leaf y → ((x : ℕ) → leaf_count x es ≤ 1)
-    → has_leaf_line y es ≡ false → (x : ℕ) → leaf_count x (es ++ e ∷ []) ≤ 1
+    → has_leaf y es ≡ false → (x : ℕ) → leaf_count x (es ++ e ∷ []) ≤ 1
 leaf_once_more es e y is once new x = elim (cases_eq y x) [
   | inl same ↦
       let none : leaf_count x es ≡ 0 = subst (λ i. leaf_count i es ≡ 0) same (leaf_none y es new) in
@@ -42,11 +42,11 @@ leaf_once_more es e y is once new x = elim (cases_eq y x) [
       omega (arith, leaf_count_push x es e, once x, zero_here)
 ]
 
-in_range_more : (v : ℕ) (es : List Entry) (e : Entry) → ((x : ℕ) → has_leaf_line x es ≡ true → (1 ≤ x) × (x ≤ v))
-    → ((x : ℕ) → is_leaf x e.tree ≡ true → (1 ≤ x) × (x ≤ v)) → (x : ℕ) → has_leaf_line x (es ++ e ∷ []) ≡ true
+in_range_more : (v : ℕ) (es : List Entry) (e : Entry) → ((x : ℕ) → has_leaf x es ≡ true → (1 ≤ x) × (x ≤ v))
+    → ((x : ℕ) → is_leaf x e.tree ≡ true → (1 ≤ x) × (x ≤ v)) → (x : ℕ) → has_leaf x (es ++ e ∷ []) ≡ true
     → (1 ≤ x) × (x ≤ v)
 in_range_more v es e old new x h =
-    go (has_leaf_line x es) (is_leaf x e.tree) (old x) (new x)
+    go (has_leaf x es) (is_leaf x e.tree) (old x) (new x)
     (rw (list_any-append (λ d. is_leaf x d.tree) es (e ∷ [])) at h)
   where
     go : (a b : Bool) → (a ≡ true → (1 ≤ x) × (x ≤ v)) → (b ≡ true → (1 ≤ x) × (x ≤ v))

@@ -9,8 +9,8 @@ use Rattle.sd_model.specs.Tree.{Tree, Leaf, Node}
 use Rattle.sd_vfile.specs.declared.fault.VtreeFault.TheVariants.{BadLine, ChildUnknown, ChildTwice}
 use Rattle.sd_vfile.specs.declared.form.Form.{Form}
 use Rattle.sd_vfile.specs.declared.form.Form.TheVariants.{LeafLine, InnerLine}
-use Rattle.sd_vfile.specs.Reads.{Entry, tree_with_id, has_id, is_child, has_leaf_line}
-use Rattle.sd_vfile.specs.Reads.{form_of, form_placed, entry_by_form, vtree_fault_text}
+use Rattle.sd_vfile.specs.Reads.{Entry, tree_with_id, has_id, is_child, has_leaf}
+use Rattle.sd_vfile.specs.Reads.{form_of, form_placed, entry_of, vtree_fault_text}
 
 -- ---- steps that came to an end
 
@@ -44,7 +44,7 @@ done x = Ok x
 
 -- a leaf of a variable of its own, or a node over two nodes that were roots
 pub data IsPlaced (v : ℕ) (earlier : List Entry) : Entry → Type 0 where
-  leaf_placed : (id x : ℕ) → has_id id earlier ≡ false → 1 ≤ x → x ≤ v → has_leaf_line x earlier ≡ false →
+  leaf_placed : (id x : ℕ) → has_id id earlier ≡ false → 1 ≤ x → x ≤ v → has_leaf x earlier ≡ false →
       IsPlaced v earlier (record { id = id; tree = Leaf x; children = [] })
   inner_placed : (id left right : ℕ) (l r : Tree) → has_id id earlier ≡ false → tree_with_id left earlier ≡ Some l →
       tree_with_id right earlier ≡ Some r → (left == right) ≡ false → is_child left earlier ≡ false →
@@ -69,10 +69,10 @@ pub is_placed : (v : ℕ) (earlier : List Entry) (line : ℕ) (form : Form) (e :
     → form_placed v earlier line form ≡ Ok e → IsPlaced v earlier e
 is_placed v earlier line (LeafLine id x) e h =
     let entry : Entry = record { id = id; tree = Leaf x; children = [] } in
-    let wrong : Bool = not (nat_le 1 x && nat_le x v) || has_leaf_line x earlier in
+    let wrong : Bool = not (nat_le 1 x && nat_le x v) || has_leaf x earlier in
     let first = past (has_id id earlier) _ _ e h in
     let second = past wrong _ (Ok entry) e first.1 in
-    let tests = leaf_tests (nat_le 1 x) (nat_le x v) (has_leaf_line x earlier) second.0 in
+    let tests = leaf_tests (nat_le 1 x) (nat_le x v) (has_leaf x earlier) second.0 in
     let whole : done entry ≡ done e = second.1 in
     let is : entry ≡ e = cc in
     subst (IsPlaced v earlier) is
@@ -103,14 +103,14 @@ is_placed v earlier line (InnerLine id left right) e h =
 pub read_keeps : (v : ℕ) (P : List Entry → Type 0)
     → ((es : List Entry) (e : Entry) → P es → IsPlaced v es e → P (es ++ e ∷ []))
     → (es : List Entry) (lines : List TextLine) (all : List Entry)
-    → each_after (entry_by_form v) es lines ≡ Ok all → P es → P all
+    → each_after (entry_of v) es lines ≡ Ok all → P es → P all
 read_keeps v P step es [] all h p =
     let same : done es ≡ done all = h in
     let is : es ≡ all = cc in
     subst P is p
 read_keeps v P step es (line ∷ lines) all h p =
-    let one = through (read_more (entry_by_form v) es line) (λ now. each_after (entry_by_form v) now lines) all h in
-    let placed_one = through (entry_by_form v es line) (λ e. Ok (es ++ e ∷ [])) one.middle one.gave in
+    let one = through (read_more (entry_of v) es line) (λ now. each_after (entry_of v) now lines) all h in
+    let placed_one = through (entry_of v es line) (λ e. Ok (es ++ e ∷ [])) one.middle one.gave in
     let e = placed_one.middle in
     let form_known = ok_or (form_of line.words) (vtree_fault_text (BadLine line.number)) in
     let form = through form_known (form_placed v es line.number) e placed_one.gave in

@@ -7,7 +7,7 @@ use Rattle.std.specs.List.{range_with_len}
 use Rattle.std.proofs.lemmas.List.{take_all}
 use Rattle.std.proofs.lemmas.List.Elements.{filter_more}
 use Rattle.sd_vfile.specs.declared.fault.VtreeFault.TheVariants.{NotOneRoot, VariableMissing}
-use Rattle.sd_vfile.specs.Reads.{Entry, is_child, has_leaf_line, roots_of, one_root, none_missing, vtree_fault_text}
+use Rattle.sd_vfile.specs.Reads.{Entry, is_child, has_leaf, roots_of, one_root, none_missing, vtree_fault_text}
 use Rattle.sd_vfile.specs.Steps.{no_entry, entry_tree}
 
 -- a node is a root
@@ -87,14 +87,14 @@ roots_are es p n q so_far h several =
 
 -- the first that is missing from a variable on
 abbrev pub missing_from : List Entry → ℕ → ℕ → Option ℕ
-missing_from es x v = find (λ y. not (has_leaf_line y es)) (range_with_len x (v + 1 - x))
+missing_from es x v = find (λ y. not (has_leaf y es)) (range_with_len x (v + 1 - x))
 
 range_step : (x n : ℕ) → 0 < n → range_with_len x n ≡ x ∷ range_with_len (x + 1) (n - 1)
 range_step x zero h = absurd (omega arith)
 range_step x (suc n) h = let e : n ≡ suc n - 1 = omega arith in ap (λ k. x ∷ range_with_len (x + 1) k) e
 
 -- a variable that has a leaf
-pub leaf_there : (es : List Entry) (x v : ℕ) → x ≤ v → has_leaf_line x es ≡ true
+pub leaf_there : (es : List Entry) (x v : ℕ) → x ≤ v → has_leaf x es ≡ true
     → missing_from es x v ≡ missing_from es (x + 1) v
 leaf_there es x v h there =
     let step = range_step x (v + 1 - x) (omega arith) in
@@ -102,7 +102,7 @@ leaf_there es x v h there =
     rw (step, there, same) refl
 
 -- a variable that has none
-pub leaf_gone : (es : List Entry) (x v : ℕ) → x ≤ v → has_leaf_line x es ≡ false
+pub leaf_gone : (es : List Entry) (x v : ℕ) → x ≤ v → has_leaf x es ≡ false
     → none_missing (missing_from es x v) ≡ Err (vtree_fault_text (VariableMissing x))
 leaf_gone es x v h gone =
     let step = range_step x (v + 1 - x) (omega arith) in

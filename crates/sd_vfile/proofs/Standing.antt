@@ -10,7 +10,7 @@ use Rattle.sd_base.specs.Reading.{each_after}
 use Rattle.sd_model.specs.Tree.{Tree, Leaf, Node, right_base}
 use Rattle.sd_laws.specs.Parts.{IsPart, here, in_left, in_right}
 use Rattle.sd_vfile.specs.Placing.{IsPartOf, AreParts}
-use Rattle.sd_vfile.specs.Reads.{Entry, tree_with_id, has_id, is_child, roots_of, one_root, entry_by_form}
+use Rattle.sd_vfile.specs.Reads.{Entry, tree_with_id, has_id, is_child, roots_of, one_root, entry_of}
 use Rattle.sd_vfile.proofs.AreRead.{AreRead, none_read, is_child_push, no_child, ids_apart}
 use Rattle.sd_vfile.proofs.Forests.{id_found, or_false}
 use Rattle.sd_vfile.proofs.OneMore.{read_one_more}
@@ -142,7 +142,7 @@ rooted_more v es e all (inner_placed i left right l r new at_left at_right two f
     ]
 
 -- lines without a fault are so
-pub rooted_lines : (v : ℕ) (lines : List TextLine) (es : List Entry) → each_after (entry_by_form v) [] lines ≡ Ok es
+pub rooted_lines : (v : ℕ) (lines : List TextLine) (es : List Entry) → each_after (entry_of v) [] lines ≡ Ok es
     → AreRooted v es
 rooted_lines v lines es e =
     read_keeps v (AreRooted v)

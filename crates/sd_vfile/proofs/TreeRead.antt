@@ -12,8 +12,8 @@ use Rattle.sd_model.specs.Tree.{Tree, Leaf, Node, variables, leaves, right_base,
 use Rattle.sd_vtree.specs.Numbered.{times}
 use Rattle.sd_vtree.proofs.Building.{leaves_positive, leaves_node}
 use Rattle.sd_vtree.proofs.Times.{times_append, times_same}
-use Rattle.sd_vfile.specs.Reads.{Entry, tree_with_id, has_id, is_child, has_leaf_line}
-use Rattle.sd_vfile.specs.Reads.{entry_by_form, is_leaf}
+use Rattle.sd_vfile.specs.Reads.{Entry, tree_with_id, has_id, is_child, has_leaf}
+use Rattle.sd_vfile.specs.Reads.{entry_of, is_leaf}
 use Rattle.sd_vfile.proofs.Texts.{numbered, natural_back}
 use Rattle.sd_vfile.proofs.Written.{root_entry, entries_in, position_in, none_of_two, outside, root_free}
 use Rattle.sd_vfile.proofs.Written.{found_behind, found_before, root_found}
@@ -23,8 +23,8 @@ use Rattle.sd_vfile.proofs.Written.{no_leaf}
 
 -- the line of a leaf
 leaf_line : (v base x n : ℕ) (es : List Entry) → base < 10 ^ 18 → x < 10 ^ 18 → has_id base es ≡ false → 1 ≤ x
-    → x ≤ v → has_leaf_line x es ≡ false
-    → entry_by_form v es (record { number = n; words = codes "L" ∷ number_text base ∷ number_text x ∷ [] })
+    → x ≤ v → has_leaf x es ≡ false
+    → entry_of v es (record { number = n; words = codes "L" ∷ number_text base ∷ number_text x ∷ [] })
     ≡ Ok (root_entry (Leaf x) base)
 leaf_line v base x n es small small_x new low high own =
     rw (natural_back base small, natural_back x small_x, new, le-leb 1 x low, le-leb x v high, own) refl
@@ -33,7 +33,7 @@ leaf_line v base x n es small small_x new low high own =
 inner_line : (v id left right n : ℕ) (l r : Tree) (es : List Entry) → id < 10 ^ 18 → left < 10 ^ 18 → right < 10 ^ 18
     → has_id id es ≡ false → tree_with_id left es ≡ Some l → tree_with_id right es ≡ Some r → (left == right) ≡ false
     → is_child left es ≡ false → is_child right es ≡ false
-    → entry_by_form v es
+    → entry_of v es
     (record { number = n; words = codes "I" ∷ number_text id ∷ number_text left ∷ number_text right ∷ [] })
     ≡ Ok (record { id = id; tree = Node l r; children = left ∷ right ∷ [] })
 inner_line v id left right n l r es small small_l small_r new at_l at_r two free_l free_r =
@@ -64,7 +64,7 @@ numbered_append n (x ∷ xs) ys =
 pub record IsBefore (v : ℕ) (es : List Entry) (t : Tree) (base : ℕ) : Type 0 where
   pub new : (i : ℕ) → base ≤ i → has_id i es ≡ false
   pub free : (i : ℕ) → base ≤ i → is_child i es ≡ false
-  pub leaf : (x : ℕ) → 1 ≤ times x (variables t) → has_leaf_line x es ≡ false
+  pub leaf : (x : ℕ) → 1 ≤ times x (variables t) → has_leaf x es ≡ false
   pub once : (x : ℕ) → times x (variables t) ≤ 1
   pub in_range : (x : ℕ) → 1 ≤ times x (variables t) → (1 ≤ x) × (x ≤ v)
 
@@ -99,7 +99,7 @@ before_right v es l r base b =
 -- the root's line after those of its children
 root_line : (v n : ℕ) (es : List Entry) (l r : Tree) (base : ℕ) → IsBefore v es (Node l r) base
     → base + 2 * leaves (Node l r) < 10 ^ 18
-    → entry_by_form v ((es ++ entries_in l base) ++ entries_in r (right_base l base))
+    → entry_of v ((es ++ entries_in l base) ++ entries_in r (right_base l base))
     (record {
       number = n;
       words = codes "I" ∷ number_text (position (Node l r) base)
@@ -138,15 +138,15 @@ root_line v n es l r base b small =
 
 -- one line that gives a node, before others
 one_read : (v : ℕ) (es : List Entry) (line : TextLine) (lines : List TextLine) (e : Entry)
-    → entry_by_form v es line ≡ Ok e
-    → each_after (entry_by_form v) es (line ∷ lines) ≡ each_after (entry_by_form v) (es ++ e ∷ []) lines
+    → entry_of v es line ≡ Ok e
+    → each_after (entry_of v) es (line ∷ lines) ≡ each_after (entry_of v) (es ++ e ∷ []) lines
 one_read v es line lines e is = rw is refl
 
 -- the lines of a tree give its nodes
 pub tree_read : (v n : ℕ) (t : Tree) (base : ℕ) (es : List Entry) (rest : List TextLine) → v < 10 ^ 18
     → base + 2 * leaves t < 10 ^ 18 → IsBefore v es t base
-    → each_after (entry_by_form v) es (numbered n (vtree_node_lines t base) ++ rest)
-    ≡ each_after (entry_by_form v) (es ++ entries_in t base) rest
+    → each_after (entry_of v) es (numbered n (vtree_node_lines t base) ++ rest)
+    ≡ each_after (entry_of v) (es ++ entries_in t base) rest
 tree_read v n (Leaf x) base es rest within_limit small b =
     let own : 1 ≤ times x (x ∷ []) = omega (arith, times_same x x [] refl) in
     let range = b.in_range x own in
@@ -181,5 +181,5 @@ tree_read v n (Node l r) base es rest within_limit small b =
     ≡ es ++ ((xs ++ ys) ++ root_entry (Node l r) base ∷ []) =
     ap (λ front. front ++ root_entry (Node l r) base ∷ []) (append_assoc es xs ys)
     ∙ append_assoc es (xs ++ ys) (root_entry (Node l r) base ∷ []) in
-    ap (each_after (entry_by_form v) es) lines ∙ first ∙ second ∙ third
-    ∙ ap (λ all. each_after (entry_by_form v) all rest) nodes
+    ap (each_after (entry_of v) es) lines ∙ first ∙ second ∙ third
+    ∙ ap (λ all. each_after (entry_of v) all rest) nodes

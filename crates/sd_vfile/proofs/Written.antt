@@ -9,7 +9,7 @@ use Rattle.sd_model.specs.Tree.{Tree, Leaf, Node, variables, leaves, right_base,
 use Rattle.sd_vtree.specs.Numbered.{times}
 use Rattle.sd_vtree.proofs.Building.{leaves_positive, leaves_node}
 use Rattle.sd_vtree.proofs.Times.{times_append, times_same, times_other}
-use Rattle.sd_vfile.specs.Reads.{Entry, tree_with_id, has_id, is_child, is_leaf, has_leaf_line}
+use Rattle.sd_vfile.specs.Reads.{Entry, tree_with_id, has_id, is_child, is_leaf, has_leaf}
 
 -- the node of a tree's root, where positions are counted from a base
 abbrev pub root_entry : Tree → ℕ → Entry
@@ -133,7 +133,7 @@ root_found (Node l r) base =
 -- ---- variables
 
 -- a variable that is not in the tree has no leaf
-pub no_leaf : (t : Tree) (base x : ℕ) → times x (variables t) ≡ 0 → has_leaf_line x (entries_in t base) ≡ false
+pub no_leaf : (t : Tree) (base x : ℕ) → times x (variables t) ≡ 0 → has_leaf x (entries_in t base) ≡ false
 no_leaf (Leaf y) base x h = elim (cases_eq y x) [
   | inl same ↦ absurd (omega (arith, times_same x y [] same))
   | inr other ↦ rw (ne_eqb y x other) refl
@@ -145,7 +145,7 @@ no_leaf (Node l r) base x h =
     (no_leaf r (right_base l base) x (omega (arith, both))) refl
 
 -- one that is in the tree has one
-pub a_leaf : (t : Tree) (base x : ℕ) → 1 ≤ times x (variables t) → has_leaf_line x (entries_in t base) ≡ true
+pub a_leaf : (t : Tree) (base x : ℕ) → 1 ≤ times x (variables t) → has_leaf x (entries_in t base) ≡ true
 a_leaf (Leaf y) base x h = elim (cases_eq y x) [
   | inl same ↦ rw (eq-eqb y x same) refl
   | inr other ↦ absurd (omega (arith, times_other x y [] other))
@@ -156,13 +156,13 @@ a_leaf (Node l r) base x h =
     let right = entries_in r (right_base l base) in
     let p : Entry → Bool = λ e. is_leaf x e.tree in
     rw (list_any-append p (left ++ right) (root_entry (Node l r) base ∷ []), list_any-append p left right)
-    (go (has_leaf_line x left) (has_leaf_line x right) refl refl (a_leaf l base x) (a_leaf r (right_base l base) x)
+    (go (has_leaf x left) (has_leaf x right) refl refl (a_leaf l base x) (a_leaf r (right_base l base) x)
     (no_leaf l base x) both)
   where
-    go : (a b : Bool) → has_leaf_line x (entries_in l base) ≡ a → has_leaf_line x (entries_in r (right_base l base)) ≡ b
-        → (1 ≤ times x (variables l) → has_leaf_line x (entries_in l base) ≡ true)
-        → (1 ≤ times x (variables r) → has_leaf_line x (entries_in r (right_base l base)) ≡ true)
-        → (times x (variables l) ≡ 0 → has_leaf_line x (entries_in l base) ≡ false)
+    go : (a b : Bool) → has_leaf x (entries_in l base) ≡ a → has_leaf x (entries_in r (right_base l base)) ≡ b
+        → (1 ≤ times x (variables l) → has_leaf x (entries_in l base) ≡ true)
+        → (1 ≤ times x (variables r) → has_leaf x (entries_in r (right_base l base)) ≡ true)
+        → (times x (variables l) ≡ 0 → has_leaf x (entries_in l base) ≡ false)
         → times x (variables l ++ variables r) ≡ times x (variables l) + times x (variables r)
         → ((a || b) || (false || false)) ≡ true
     go true b is_a is_b f g k both = refl

@@ -1,15 +1,14 @@
 -- The tree that a vtree file stands for, or the text of its first fault, behind the name of the file.
-use Rattle.std.specs.Prelude.{◌≡◌, ℕ, ◌+◌, ◌/◌, ◌%◌, Bool, false, not, ◌&&◌, ◌||◌, ◌==◌, nat_lt, if◌then◌else◌}
+use Rattle.std.specs.Prelude.{◌≡◌, ℕ, ◌+◌, ◌/◌, ◌%◌, Bool, false, not, ◌||◌, ◌==◌, nat_lt, if◌then◌else◌}
 use Rattle.std.specs.Prelude.{codes, bytes_eq}
-use Rattle.std.specs.Prelude.{List, [], ◌∷◌, ◌++◌, length, filter, find, slice_index}
-use Rattle.std.specs.Prelude.{Option, Some, None, is_some, ok_or, option_and_then, option_map, Result, Ok, Err}
+use Rattle.std.specs.Prelude.{List, [], ◌∷◌, ◌++◌, length, filter, find}
+use Rattle.std.specs.Prelude.{Option, Some, None, ok_or, option_and_then, option_map, Result, Ok, Err}
 use Rattle.std.specs.List.{list_any, range_with_len}
-use Rattle.std.specs.Option.{option_or, option_map_or}
 use Rattle.sd_base.specs.Lines.{TextLine, content_of}
 use Rattle.sd_base.specs.Numbers.{is_within, natural_value}
 use Rattle.sd_base.specs.Reading.{◌>>=◌, ◌>>◌, fault_if, fault_for, each_after}
 use Rattle.sd_model.specs.Text.{number_text}
-use Rattle.sd_model.specs.Tree.{Tree, Leaf, Node, variables}
+use Rattle.sd_model.specs.Tree.{Tree, Leaf, Node}
 use Rattle.sd_base.specs.FaultTexts.{at_line, counts}
 use Rattle.sd_vfile.specs.declared.fault.VtreeFault.{VtreeFault}
 use Rattle.sd_vfile.specs.declared.fault.VtreeFault.TheVariants as fault
@@ -22,18 +21,25 @@ pub record Entry : Type 0 where
   pub tree : Tree
   pub children : List ℕ
 
--- ---- the numbers of a line
+-- ---- the form of a node line
 
 -- each element where all have a value
 abbrev pub all_values : {A B : Type 0} → (A → Option B) → List A → Option (List B)
 all_values f [] = Some []
 all_values f (x ∷ xs) = option_and_then (λ y. option_map (λ ys. y ∷ ys) (all_values f xs)) (f x)
 
--- the numbers of a line, which is its own word and then so many numbers
-abbrev pub numbers_behind : List ℕ → ℕ → List (List ℕ) → Option (List ℕ)
-numbers_behind own count [] = None
-numbers_behind own count (word ∷ words) =
-    if length words == count && bytes_eq word own then all_values natural_value words else None
+-- the form of a letter and the numbers behind it: a leaf is `L id variable`, an inner node `I id left right`
+abbrev pub form_with : List ℕ → List ℕ → Option Form
+form_with letter (id ∷ variable ∷ []) =
+    if bytes_eq letter (codes "L") then Some (LeafLine id variable) else None
+form_with letter (id ∷ left ∷ right ∷ []) =
+    if bytes_eq letter (codes "I") then Some (InnerLine id left right) else None
+form_with letter numbers = None
+
+-- the form that a line's words have
+abbrev pub form_of : List (List ℕ) → Option Form
+form_of [] = None
+form_of (letter ∷ words) = option_and_then (form_with letter) (all_values natural_value words)
 
 -- ---- what the earlier lines have
 
@@ -41,37 +47,51 @@ numbers_behind own count (word ∷ words) =
 abbrev pub tree_with_id : ℕ → List Entry → Option Tree
 tree_with_id id entries = option_map (λ e. e.tree) (find (λ e. e.id == id) entries)
 
+-- a line has the id
+abbrev pub has_id : ℕ → List Entry → Bool
+has_id id entries = list_any (λ e. e.id == id) entries
+
 -- a line has the id as that of a child
 abbrev pub is_child : ℕ → List Entry → Bool
 is_child id entries = list_any (λ e. list_any (λ child. child == id) e.children) entries
 
--- a line is the leaf of a variable: its tree has that variable alone
+-- the tree is the leaf of a variable
+abbrev pub is_leaf : ℕ → Tree → Bool
+is_leaf x (Leaf y) = y == x
+is_leaf x (Node left right) = false
+
+-- a line is the leaf of a variable
 abbrev pub has_leaf : ℕ → List Entry → Bool
-has_leaf x entries = list_any (λ e. bytes_eq (variables e.tree) (x ∷ [])) entries
+has_leaf x entries = list_any (λ e. is_leaf x e.tree) entries
 
 -- ---- a node line after earlier ones
 
--- The node of a line's numbers, over the variables 1 to v: an id and a variable, or an id and those of two children.
--- A fault has the text that its words get with the number of the line.
-abbrev pub placed : ℕ → List Entry → (List ℕ → List ℕ) → Option (List ℕ) → Result Entry (List ℕ)
-placed v earlier fault (Some (id ∷ x ∷ [])) = do
-  fault_if (is_some (tree_with_id id earlier)) (fault (codes ": id twice"))
-  fault_if (not (is_within 1 v x) || has_leaf x earlier) (fault (codes ": variable wrong"))
+-- the node of a form on a line, over the variables 1 to v
+abbrev pub form_placed : ℕ → List Entry → ℕ → Form → Result Entry (List ℕ)
+form_placed v earlier line (LeafLine id x) = do
+  fault_if (has_id id earlier) (at_line line (codes ": id twice"))
+  fault_if (not (is_within 1 v x) || has_leaf x earlier) (at_line line (codes ": variable wrong"))
   Ok (record { id = id; tree = Leaf x; children = [] })
-placed v earlier fault (Some (id ∷ left ∷ right ∷ [])) = do
-  fault_if (is_some (tree_with_id id earlier)) (fault (codes ": id twice"))
-  l ← ok_or (tree_with_id left earlier) (fault (codes ": child unknown"))
-  r ← ok_or (tree_with_id right earlier) (fault (codes ": child unknown"))
-  fault_if (left == right || is_child left earlier || is_child right earlier) (fault (codes ": child twice"))
+form_placed v earlier line (InnerLine id left right) = do
+  fault_if (has_id id earlier) (at_line line (codes ": id twice"))
+  l ← ok_or (tree_with_id left earlier) (at_line line (codes ": child unknown"))
+  r ← ok_or (tree_with_id right earlier) (at_line line (codes ": child unknown"))
+  fault_if (left == right || is_child left earlier || is_child right earlier)
+      (at_line line (codes ": child twice"))
   Ok (record { id = id; tree = Node l r; children = left ∷ right ∷ [] })
-placed v earlier fault numbers = Err (fault (codes ": bad line"))
 
--- the node of a line, which is `L id variable` or `I id left right`
+-- the node of a line by its form
 abbrev pub entry_of : ℕ → List Entry → TextLine → Result Entry (List ℕ)
-entry_of v earlier line = placed v earlier (at_line line.number)
-    (option_or (numbers_behind (codes "L") 2 line.words) (numbers_behind (codes "I") 3 line.words))
+entry_of v earlier line = do
+  form ← ok_or (form_of line.words) (at_line line.number (codes ": bad line"))
+  form_placed v earlier line.number form
 
 -- ---- the text
+
+-- the number of a header of two words, of which this is the first
+abbrev pub stated_behind : List ℕ → List (List ℕ) → Option ℕ
+stated_behind own (name ∷ number ∷ []) = if bytes_eq name own then natural_value number else None
+stated_behind own words = None
 
 -- The nodes of a file: its lines are a header, of a word and the number of the nodes, and then the nodes, each read in
 -- the light of the earlier ones.
@@ -79,9 +99,9 @@ abbrev pub nodes_of : {A : Type 0} → List ℕ → (List A → TextLine → Res
     → List TextLine → Result (List A) (List ℕ)
 nodes_of word node [] = Err (codes ": no header")
 nodes_of word node (header ∷ lines) = do
-  count ← ok_or (numbers_behind word 1 header.words) (codes ": no header")
+  stated ← ok_or (stated_behind word header.words) (codes ": no header")
   nodes ← each_after node [] lines
-  fault_if (not (slice_index count 0 == length nodes)) (counts (slice_index count 0) (length nodes))
+  fault_if (not (stated == length nodes)) (counts stated (length nodes))
   Ok nodes
 
 -- the tree of the only root
@@ -93,21 +113,33 @@ one_root roots = Err (codes ": " ++ number_text (length roots) ++ codes " roots"
 abbrev pub node_lines : ℕ → List ℕ → Result (List Entry) (List ℕ)
 node_lines v bytes = nodes_of (codes "vtree") (entry_of v) (content_of 99 bytes)
 
+-- the roots
+abbrev pub roots_of : List Entry → List Entry
+roots_of entries = filter (λ e. not (is_child e.id entries)) entries
+
+-- the first variable from 1 to v that has no leaf
+abbrev pub missing : ℕ → List Entry → Option ℕ
+missing v entries = find (λ x. not (has_leaf x entries)) (range_with_len 1 v)
+
+-- its fault, where there is one
+abbrev pub none_missing : Option ℕ → Result (Unit {0}) (List ℕ)
+none_missing found = fault_for (λ x. codes ": variable missing: " ++ number_text x) found
+
+-- the tree of all node lines
+abbrev pub tree_of_entries : ℕ → List Entry → Result Tree (List ℕ)
+tree_of_entries v entries = do
+  tree ← one_root (roots_of entries)
+  none_missing (missing v entries)
+  Ok tree
+
 -- The tree of a text over the variables 1 to v, or the text of its first fault. It is the tree of the one node that is
 -- no child, and each variable has a leaf.
 unfoldable pub vtree_file : ℕ → List ℕ → Result Tree (List ℕ)
 vtree_file v bytes = do
   entries ← node_lines v bytes
-  tree ← one_root (filter (λ e. not (is_child e.id entries)) entries)
-  option_map_or (λ x. Err (codes ": variable missing: " ++ number_text x))
-      (find (λ x. not (has_leaf x entries)) (range_with_len 1 v)) (Ok tree)
+  tree_of_entries v entries
 
 -- ---- the header alone
-
--- the number of a header of two words, of which this is the first
-abbrev pub stated_behind : List ℕ → List (List ℕ) → Option ℕ
-stated_behind own (name ∷ number ∷ []) = if bytes_eq name own then natural_value number else None
-stated_behind own words = None
 
 -- the number of nodes that the header states
 abbrev pub nodes_stated : List TextLine → Result ℕ (List ℕ)
@@ -126,97 +158,7 @@ variables_stated bytes = do
   fault_if (nodes % 2 == 0 || nat_lt 2047 nodes) (nodes_out_of_range nodes)
   Ok ((nodes + 1) / 2)
 
--- ---- for the contracts of private functions, and for proofs
-
--- What is made of the nodes of a file, where its lines are a header of a word and the number of the nodes, and the
--- nodes, each in the light of the earlier ones. Without the header, and where the number differs, it has these faults.
-abbrev pub of_nodes : {A B E : Type 0} → List ℕ → E → (ℕ → ℕ → E)
-    → (List A → TextLine → Result A E) → (List A → Result B E) → List TextLine → Result B E
-of_nodes word no_header differs node made [] = Err no_header
-of_nodes word no_header differs node made (header ∷ lines) = do
-  stated ← ok_or (stated_behind word header.words) no_header
-  nodes ← each_after node [] lines
-  fault_if (not (stated == length nodes)) (differs stated (length nodes))
-  made nodes
-
--- the form of a letter and the numbers behind it
-abbrev pub form_with : List ℕ → List ℕ → Option Form
-form_with letter (id ∷ variable ∷ []) = if bytes_eq letter (codes "L") then Some (LeafLine id variable) else None
-form_with letter (id ∷ left ∷ right ∷ []) = if bytes_eq letter (codes "I") then Some (InnerLine id left right) else None
-form_with letter numbers = None
-
--- the form that a line's words have
-abbrev pub form_of : List (List ℕ) → Option Form
-form_of [] = None
-form_of (letter ∷ words) = option_and_then (form_with letter) (all_values natural_value words)
-
--- a line has the id
-abbrev pub has_id : ℕ → List Entry → Bool
-has_id id entries = list_any (λ e. e.id == id) entries
-
--- the tree is the leaf of a variable
-abbrev pub is_leaf : ℕ → Tree → Bool
-is_leaf x (Leaf y) = y == x
-is_leaf x (Node left right) = false
-
--- a line is the leaf of a variable
-abbrev pub has_leaf_line : ℕ → List Entry → Bool
-has_leaf_line x entries = list_any (λ e. is_leaf x e.tree) entries
-
--- the node of a form on a line, over the variables 1 to v
-abbrev pub form_placed : ℕ → List Entry → ℕ → Form → Result Entry (List ℕ)
-form_placed v earlier line (LeafLine id x) = do
-  fault_if (has_id id earlier) (at_line line (codes ": id twice"))
-  fault_if (not (is_within 1 v x) || has_leaf_line x earlier) (at_line line (codes ": variable wrong"))
-  Ok (record { id = id; tree = Leaf x; children = [] })
-form_placed v earlier line (InnerLine id left right) = do
-  fault_if (has_id id earlier) (at_line line (codes ": id twice"))
-  l ← ok_or (tree_with_id left earlier) (at_line line (codes ": child unknown"))
-  r ← ok_or (tree_with_id right earlier) (at_line line (codes ": child unknown"))
-  fault_if (left == right || is_child left earlier || is_child right earlier) (at_line line (codes ": child twice"))
-  Ok (record { id = id; tree = Node l r; children = left ∷ right ∷ [] })
-
--- the node of a line by its form
-abbrev pub entry_by_form : ℕ → List Entry → TextLine → Result Entry (List ℕ)
-entry_by_form v earlier line = do
-  form ← ok_or (form_of line.words) (at_line line.number (codes ": bad line"))
-  form_placed v earlier line.number form
-
--- the first variable from 1 to v that has no leaf
-abbrev pub missing : ℕ → List Entry → Option ℕ
-missing v entries = find (λ x. not (has_leaf_line x entries)) (range_with_len 1 v)
-
--- its fault, where there is one
-abbrev pub none_missing : Option ℕ → Result (Unit {0}) (List ℕ)
-none_missing found = fault_for (λ x. codes ": variable missing: " ++ number_text x) found
-
--- the roots
-abbrev pub roots_of : List Entry → List Entry
-roots_of entries = filter (λ e. not (is_child e.id entries)) entries
-
--- the tree of all node lines, by the leaves of the lines
-abbrev pub tree_of_entries : ℕ → List Entry → Result Tree (List ℕ)
-tree_of_entries v entries = do
-  tree ← one_root (filter (λ e. not (is_child e.id entries)) entries)
-  none_missing (missing v entries)
-  Ok tree
-
--- the tree of all node lines, where the header states a number of them
-abbrev pub whole_tree : ℕ → ℕ → List Entry → Result Tree (List ℕ)
-whole_tree v stated entries = do
-  fault_if (not (stated == length entries)) (counts stated (length entries))
-  tree_of_entries v entries
-
--- the tree of a header `vtree N` and the lines after it
-abbrev pub tree_of_lines : ℕ → List TextLine → Result Tree (List ℕ)
-tree_of_lines v lines =
-    of_nodes (codes "vtree") (codes ": no header") counts (entry_by_form v) (tree_of_entries v) lines
-
--- the number of a header `vtree N`
-abbrev pub stated_by : List (List ℕ) → Option ℕ
-stated_by words = stated_behind (codes "vtree") words
-
--- ---- what a reader answers, for its contract and for proofs
+-- ---- what a reader answers
 
 -- the text of a fault, after the file's name
 abbrev pub vtree_fault_text : VtreeFault → List ℕ

@@ -1,12 +1,43 @@
--- How the reader keeps node lines, for the contracts of its private functions.
+-- How the reader goes on and keeps node lines, for the contracts of its private functions.
 use Rattle.std.specs.Prelude.{◌≡◌, ℕ, ◌≤◌, ◌<◌, Bool, true, false, ◌==◌, List, [], ◌∷◌, ◌++◌, length, take}
-use Rattle.std.specs.Prelude.{slice_index_or, Option, Some, None}
+use Rattle.std.specs.Prelude.{slice_index_or, Option, Some, None, ok_or, Result, Err, codes, not}
 use Rattle.std.specs.List.{fold, list_any}
+use Rattle.sd_base.specs.FaultTexts.{counts}
+use Rattle.sd_base.specs.Lines.{TextLine}
 use Rattle.sd_base.specs.Numbers.{natural_value}
+use Rattle.sd_base.specs.Reading.{◌>>=◌, ◌>>◌, fault_if, each_after}
 use Rattle.sd_model.specs.Tree.{Tree, Leaf, Node}
 use Rattle.sd_vfile.specs.declared.form.Form.{Form}
 use Rattle.sd_vfile.specs.declared.form.Form.TheVariants.{LeafLine, InnerLine}
-use Rattle.sd_vfile.specs.Reads.{Entry, tree_with_id, has_id, is_leaf}
+use Rattle.sd_vfile.specs.Reads.{Entry, tree_with_id, has_id, is_leaf, stated_behind, entry_of, tree_of_entries}
+
+-- ---- the steps of a reading
+
+-- What is made of the nodes of a file, where its lines are a header of a word and the number of the nodes, and the
+-- nodes, each in the light of the earlier ones. Without the header, and where the number differs, it has these faults.
+abbrev pub of_nodes : {A B E : Type 0} → List ℕ → E → (ℕ → ℕ → E)
+    → (List A → TextLine → Result A E) → (List A → Result B E) → List TextLine → Result B E
+of_nodes word no_header differs node made [] = Err no_header
+of_nodes word no_header differs node made (header ∷ lines) = do
+  stated ← ok_or (stated_behind word header.words) no_header
+  nodes ← each_after node [] lines
+  fault_if (not (stated == length nodes)) (differs stated (length nodes))
+  made nodes
+
+-- the number of a header `vtree N`
+abbrev pub stated_by : List (List ℕ) → Option ℕ
+stated_by words = stated_behind (codes "vtree") words
+
+-- the tree of all node lines, where the header states a number of them
+abbrev pub whole_tree : ℕ → ℕ → List Entry → Result Tree (List ℕ)
+whole_tree v stated entries = do
+  fault_if (not (stated == length entries)) (counts stated (length entries))
+  tree_of_entries v entries
+
+-- the tree of a header `vtree N` and the lines after it
+abbrev pub tree_of_lines : ℕ → List TextLine → Result Tree (List ℕ)
+tree_of_lines v lines =
+    of_nodes (codes "vtree") (codes ": no header") counts (entry_of v) (tree_of_entries v) lines
 
 -- ---- the form of a line, as it is read word by word
 

@@ -21,7 +21,7 @@ pub(crate) fn read_nodes(
     lines: ContentLines<'_>,
 ) -> Result<Vec<Form>, VtreeFault>
     ensures { Gives (λ forms. entries_of forms.items) result
-        (each_after (texts.entry_by_form variables) [] (content_left lines.entry)) }
+        (each_after (texts.entry_of variables) [] (content_left lines.entry)) }
 {
     let mut forms = Vec::new(alloc);
     for line in lines {
@@ -34,7 +34,7 @@ pub(crate) fn read_nodes(
 #[tactic(auto, using(crate::proofs::Growing::pushed))]
 fn read_line(forms: &mut Vec<Form>, variables: u32, line: &Line<'_>) -> Result<(), VtreeFault>
     ensures { Gives (λ _. entries_of forms.new.items) result
-        (read_more (texts.entry_by_form variables) (entries_of forms.old.items) (line_view line.now)) }
+        (read_more (texts.entry_of variables) (entries_of forms.old.items) (line_view line.now)) }
 {
     let number = line.number;
     let form = form_of(line).ok_or(VtreeFault::BadLine { line: number })?;
@@ -130,7 +130,7 @@ pub(crate) fn is_child(forms: &[Form], id: u64) -> bool
 
 /// Whether a line is the leaf of the variable.
 pub(crate) fn has_leaf(forms: &[Form], variable: u64) -> bool
-    ensures { result ≡ texts.has_leaf_line variable (entries_of forms.now) }
+    ensures { result ≡ texts.has_leaf variable (entries_of forms.now) }
 {
     for form in forms {
         if form.is_leaf_of(variable) {

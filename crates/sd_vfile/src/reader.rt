@@ -7,6 +7,7 @@ ghost use Rattle.sd_model.specs.Seen.{tree_of};
 ghost use Rattle.sd_model.specs.Tree.{leaves};
 ghost use Rattle.sd_vtree.specs.Numbered.{IsNumbered, plain_tree};
 ghost use Rattle.sd_vfile.specs.Reads as texts;
+ghost use Rattle.sd_vfile.specs.Steps as steps;
 ghost use Rattle.sd_vfile.specs.Steps.{entries_of};
 ghost use Rattle.sd_vfile.specs.Reads.{Fails, Gives, vtree_file, variables_stated, vtree_fault_text};
 
@@ -83,7 +84,7 @@ pub(crate) struct Whole {
 }
 
 /// The node lines of a text, with their tree.
-#[tactic(auto, using(crate::proofs::ByNumbers::vtree_file_is))]
+#[tactic(auto, using(crate::proofs::ByLines::vtree_file_is))]
 pub(crate) fn read_whole(alloc: Global, bytes: &[u8], variables: u32) -> Result<Whole, VtreeFault>
     requires within_limit { variables ≤ 1024 }
     requires fits { length bytes.now ≤ 67108864 }
@@ -105,7 +106,7 @@ pub(crate) fn read_whole(alloc: Global, bytes: &[u8], variables: u32) -> Result<
 
 /// The number of node lines that a header states.
 fn stated_by(line: &Line<'_>) -> Option<u64>
-    ensures { result ≡ texts.stated_by (line_view line.now).words }
+    ensures { result ≡ steps.stated_by (line_view line.now).words }
 {
     let mut words = line.words();
     if words.next() != Some(b"vtree") {

@@ -4,6 +4,7 @@ ghost use Rattle.std.specs.Prelude.{◌≡◌, ◌<◌, ◌≤◌, length, true,
 ghost use Rattle.sd_model.specs.Seen.{tree_of};
 ghost use Rattle.sd_model.specs.Tree.{Node};
 ghost use Rattle.sd_vfile.specs.Reads as texts;
+ghost use Rattle.sd_vfile.specs.Steps as steps;
 ghost use Rattle.sd_vfile.specs.Reads.{Gives, roots_of};
 ghost use Rattle.sd_vfile.specs.Steps.{entries_of, entry_tree, tree_with, AreWellFormed};
 
@@ -23,7 +24,7 @@ pub(crate) fn whole_tree(
 ) -> Result<Tree, VtreeFault>
     requires within_limit { variables ≤ 1024 }
     requires well_formed { AreWellFormed 1024 (entries_of forms.now) }
-    ensures { Gives tree_of result (texts.whole_tree variables stated (entries_of forms.now)) }
+    ensures { Gives tree_of result (steps.whole_tree variables stated (entries_of forms.now)) }
 {
     let found = forms.len() as u64;
     if stated != found {

@@ -3,10 +3,10 @@ use Rattle.std.proofs.lemmas.Grind.{common_steps}
 use Rattle.sd_base.specs.Lines.{content_of}
 use Rattle.sd_base.specs.Views.{content_left, line_view}
 use Rattle.sd_model.specs.Seen.{tree_of}
-use Rattle.sd_vfile.specs.Reads.{stated_by, whole_tree}
+use Rattle.sd_vfile.specs.Steps.{stated_by, whole_tree}
 use Rattle.sd_vfile.specs.Steps.{entries_of}
 use Rattle.sd_vfile.proofs.Accepted.{lines_read}
-use Rattle.sd_vfile.proofs.ByNumbers.{lines_are}
+use Rattle.sd_vfile.proofs.ByLines.{lines_are}
 use Rattle.sd_vfile.proofs.Places.{well_formed_below}
 use Rattle.sd_vfile.proofs.reader.read_whole.Goals as goal
 
