@@ -20,8 +20,8 @@ use Rattle.sd_compile.proofs.Kept.{without_absent}
 use Rattle.sd_records.specs.Records.{FlatDiagram, AreRecords, UnfoldToValue}
 use Rattle.sd_parts.specs.Parts.{PartFits}
 use Rattle.sd_parts.specs.Seen.{PartWork}
-use Rattle.sd_parts.specs.Work.{AnswersPart, IsPartOutcome, IsPartRefused, IsEmptied}
-use Rattle.sd_parts.specs.Work.{FitsBehind, in_whole, work_of}
+use Rattle.sd_parts.specs.Work.{AnswersPart, IsPartOutcome, IsPartRefused, work_of}
+use Rattle.sd_parts.specs.Alone.{IsEmptied, FitsBehind, in_whole}
 
 -- ---- a manager without roots
 

@@ -3,3 +3,4 @@ pub mod Seen
 pub mod TreeCode
 pub mod Work
 pub mod Join
+pub mod Alone

@@ -1,5 +1,5 @@
 -- A part as work for a thread, and its answer.
-use Rattle.std.specs.Prelude.{◌≡◌, ℕ, ◌+◌, ◌<◌, ◌≤◌, ◌^◌, List, [], ◌∷◌, length, map}
+use Rattle.std.specs.Prelude.{◌≡◌, ℕ, ◌≤◌, List, [], ◌∷◌, length, map}
 use Rattle.std.specs.Prelude.{Option, Some, None, Result, Ok, Err}
 use Rattle.std.specs.List.{AllZip, range_with_len}
 use Rattle.std.specs.FinMap.{empty}
@@ -89,23 +89,3 @@ abbrev pub KeepsArenaRule : Table → CompileError → Type 0
 KeepsArenaRule m (OverLimit group size most) = Unit {0}
 KeepsArenaRule m (ArenaFull elements) = IsPastBound m elements
 KeepsArenaRule m OutOfMemory = Unit {0}
-
--- ---- for the contracts of private functions
-
--- a manager over the same tree, with the same bound, that holds nothing
-pub record IsEmptied (old new : Table) : Type 0 where
-  pub tree : plain_tree new.vtree ≡ plain_tree old.vtree
-  pub bound : new.bound ≡ old.bound
-  pub roots : new.roots ≡ empty
-  pub moving : new.moving ≡ None
-
--- the number of the group fits behind so many groups
-abbrev pub FitsBehind : ℕ → CompileError → Type 0
-FitsBehind first (OverLimit group size most) = first + group < 2 ^ 32
-FitsBehind first e = Unit {0}
-
--- a refusal with the group counted behind so many groups
-abbrev pub in_whole : ℕ → CompileError → CompileError
-in_whole first (OverLimit group size most) = OverLimit (first + group) size most
-in_whole first (ArenaFull elements) = ArenaFull elements
-in_whole first OutOfMemory = OutOfMemory

@@ -16,7 +16,8 @@ ghost use Rattle.sd_manager.specs.Table.{no_table};
 ghost use Rattle.sd_manager.specs.Shown.{HoldsDiagram};
 ghost use Rattle.sd_compile.specs.Compiling.{HoldsFormula};
 ghost use Rattle.sd_records.specs.Records.{AreRecords, UnfoldToValue};
-ghost use Rattle.sd_parts.specs.Work.{AnswersPart, FitsBehind, IsEmptied, in_whole, part_work, parts_of, work_of};
+ghost use Rattle.sd_parts.specs.Work.{AnswersPart, part_work, parts_of, work_of};
+ghost use Rattle.sd_parts.specs.Alone.{FitsBehind, IsEmptied, in_whole};
 
 use crate::cutting::begin_of_part;
 use crate::gate::Gate;
