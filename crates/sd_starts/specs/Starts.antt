@@ -177,7 +177,8 @@ HadRoom (Err refused.OutOfMemory) = ⊥
 
 -- so the work at a start may end: some answer that it may give had room
 abbrev pub MayHaveRoom : Groups → Settings → Start → Type 0
-MayHaveRoom f settings start = (answer : StartAnswer) × AnswersStart f settings start answer × HadRoom answer.end
+MayHaveRoom f settings start =
+    (answer : StartAnswer) × AnswersStart f settings start answer × HadRoom answer.end
 
 -- the manager of a start whose arena was full, where the work at each start before it may have had room
 pub record IsFirstFull (f : Groups) (settings : Settings) (elements : ℕ) (m : Table) : Type 0 where
