@@ -1,4 +1,4 @@
-use Rattle.std.proofs.Common.{◌≡◌, ◌≤◌, ap, arith, length}
+use Rattle.std.proofs.Common.{◌≡◌, ◌∙◌, ◌≤◌, ap, arith, length}
 use Rattle.sd_apply.proofs.Survivors.{serves_left, serves_sifted}
 use Rattle.sd_apply.proofs.surviving.keep_surviving.Goals as goal
 
@@ -21,3 +21,12 @@ returns-clause-serves c =
     serves_sifted c.args.c.now c.loop-index.c c.renew.new.self h.0 c.args.m.now c.loop-index.index
     c.epoch-today.result h.3 c.epoch-today.ensures.table c.requires.no_move (omega (arith, now)) of rose all
     c.loop-index.invariant.0 c.loop-index.invariant.2 now c.renew.ensures h.1
+
+-- one more entry was gone through
+pub loop-index-preserved : goal.loop-index-preserved
+loop-index-preserved c =
+    let step = c.drop_unless_standing.ensures in (
+      step.entries ∙ c.loop-index.invariant.0,
+      step.epoch ∙ c.loop-index.invariant.1,
+      step.sifted c.args.c.now.computed c.loop-index.invariant.2,
+    )
