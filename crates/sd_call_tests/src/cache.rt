@@ -48,3 +48,35 @@ fn computed_answers_end_with_their_epoch(rt: HostRuntime) -> Result<(), Fail> {
     assert_eq!(rt; computed(rt.alloc())?, [Some(9), None, None]);
     Ok(())
 }
+
+// Drops each computed answer that is this number.
+fn drop_answer(cache: &mut Cache, answer: u32) {
+    for index in 0..cache.computed().len() {
+        if index < cache.computed().len() && cache.computed().numbers(index).2 == answer {
+            cache.blank(index);
+        }
+    }
+}
+
+// Of two answers of an epoch one is dropped, and they are given to the next epoch: both there, and the first where it
+// was.
+fn renewed(alloc: Global) -> Result<[Option<u32>; 3], AllocError> {
+    let mut cache = Cache::new(alloc)?;
+    let mut table = cache.lend(alloc, 5);
+    table.keep(alloc, 1, 2050, 2051, 9);
+    table.keep(alloc, 1, 2051, 2052, 7);
+    cache.take_back(5, table);
+    drop_answer(&mut cache, 7);
+    cache.renew(6);
+    let again = cache.lend(alloc, 6);
+    let (kept, dropped) = (again.look(1, 2050, 2051), again.look(1, 2051, 2052));
+    cache.take_back(6, again);
+    Ok([kept, dropped, cache.lend(alloc, 5).look(1, 2050, 2051)])
+}
+
+/// Computed answers that are given to another epoch are lent in that one, but for those that were dropped.
+#[test]
+fn renewed_answers_are_lent_in_the_new_epoch(rt: HostRuntime) -> Result<(), Fail> {
+    assert_eq!(rt; renewed(rt.alloc())?, [Some(9), None, None]);
+    Ok(())
+}
