@@ -90,7 +90,8 @@ in_right l r m h = record {
 }
 
 -- what a mapped option was made of
-pub mapped : {A : Type 0} (f : A → A) (o : Option A) (u : A) → option_map f o ≡ Some u → (v : A) × (o ≡ Some v) × (f v ≡ u)
+pub mapped : {A : Type 0} (f : A → A) (o : Option A) (u : A) → option_map f o ≡ Some u
+    → (v : A) × (o ≡ Some v) × (f v ≡ u)
 mapped f None u e = cc
 mapped f (Some v) u e = (v, refl, cc)
 
