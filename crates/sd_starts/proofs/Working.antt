@@ -33,7 +33,6 @@ use Rattle.sd_compile.specs.Total.{IsHeldFormula, IsOfSome}
 use Rattle.sd_search.specs.Search.{Found, IsSearch}
 use Rattle.sd_search.specs.Kept.{KeepsRoots}
 use Rattle.sd_search.specs.declared.searching.Outcome.{Outcome}
-use Rattle.sd_search.proofs.KeptRoots.{shows_same}
 use Rattle.sd_parts.specs.Parts.{PartFits, PassesAlone}
 use Rattle.sd_starts.specs.Starts.{HoldsAlone, HoldsNothing, IsSearchedTo, IsFinalSize, IsRefusedAt, IsAtRest}
 use Rattle.sd_starts.specs.declared.start.Settings.{Settings}
@@ -183,19 +182,6 @@ final_size f settings t search size new h = go settings.rounds h
       h.3,
       sym h.2,
     )
-
--- where nothing changes, all roots are kept
-pub roots_kept : (t : Table) → IsTable t → t.moving ≡ None → KeepsRoots t t
-roots_kept t table still =
-    let shows = shows_same t table still in
-    record {
-      variables = shows.variables;
-      roots = shows.roots;
-      functions = shows.functions;
-      loose = refl;
-      bound = refl;
-      no_move = still;
-    }
 
 -- ---- a refusal
 
