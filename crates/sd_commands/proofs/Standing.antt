@@ -37,6 +37,7 @@ use Rattle.sd_commands.proofs.Names.{distinct_bound, distinct_dropped}
 use Rattle.sd_commands.specs.declared.state.RunState.{RunState}
 use Rattle.sd_manager.specs.Marking.{AreUnmarked}
 use Rattle.sd_manager.proofs.Marking.{unmarked_new, unmarked_extended}
+use Rattle.sd_compile.specs.declared.pace.Pace.{Pace}
 use Rattle.sd_compile.specs.Compiling.{KeepsAll, KeepsOtherRoots, HoldsFormula}
 use Rattle.sd_compile.proofs.Kept.{all_extended, released_all, serves_roots, without_new}
 use Rattle.sd_gates.specs.Sharing.{Shares}
@@ -541,11 +542,11 @@ holds_kept old new (Some r) (Some value) kept holds =
     }
 
 -- the code represents the state in a later table, whatever the next sweep waits for, and with other nodes of the gates
-pub stands_swept : (code : RunState) (t : Table) (cache : Answers) (most : ℕ) (shared : SharedCircuit) (seen : State)
+pub stands_swept : (code : RunState) (t : Table) (cache : Answers) (pace : Pace) (shared : SharedCircuit) (seen : State)
     → Represents code seen → KeepsAll code.manager t → Serves cache t → AreUnmarked t
     → shared.circuit ≡ code.shared.circuit → Shares shared.circuit shared.gates t
-    → Represents (record code { manager = t; cache = cache; most = most; shared = shared }) seen
-stands_swept code t cache most shared seen was kept serves unmarked same_circuit shares = record {
+    → Represents (record code { manager = t; cache = cache; pace = pace; shared = shared }) seen
+stands_swept code t cache pace shared seen was kept serves unmarked same_circuit shares = record {
   tree = was.tree ∙ ap plain_tree (sym kept.reached.vtree);
   limit = was.limit;
   slack = was.slack;
@@ -565,14 +566,14 @@ stands_swept code t cache most shared seen was kept serves unmarked same_circuit
 }
   where
     of_name : (root : ℕ) → IsOfName code root
-        → IsOfName (record code { manager = t; cache = cache; most = most; shared = shared }) root
+        → IsOfName (record code { manager = t; cache = cache; pace = pace; shared = shared }) root
     of_name root had = record { name = had.name; is = had.is }
 
 pub stands_kept : (code : RunState) (t : Table) (cache : Answers) (seen : State) → Represents code seen
     → KeepsAll code.manager t → Serves cache t → AreUnmarked t → Shares code.shared.circuit code.shared.gates t
     → Represents (record code { manager = t; cache = cache }) seen
 stands_kept code t cache seen was kept serves unmarked shares =
-    stands_swept code t cache code.most code.shared seen was kept serves unmarked refl shares
+    stands_swept code t cache code.pace code.shared seen was kept serves unmarked refl shares
 
 -- and after more nodes were made
 pub stands_on : (code : RunState) (t : Table) (cache : Answers) (seen : State) → Represents code seen
@@ -693,11 +694,12 @@ as_before_shared code shared same_circuit shares = record {
 }
 
 -- and an output
-pub as_before_made : (code : RunState) (t : Table) (cache : Answers) (shared : SharedCircuit) → KeepsAll code.manager t
-    → Serves cache t → AreUnmarked t → shared.circuit ≡ code.shared.circuit → Shares shared.circuit shared.gates t
-    → IsAsBefore code (record code { manager = t; cache = cache; shared = shared })
-as_before_made code t cache shared kept serves unmarked same_circuit shares = record {
-  represents = λ seen was. stands_swept code t cache code.most shared seen was kept serves unmarked same_circuit shares;
+pub as_before_made : (code : RunState) (t : Table) (cache : Answers) (pace : Pace) (shared : SharedCircuit)
+    → KeepsAll code.manager t → Serves cache t → AreUnmarked t → shared.circuit ≡ code.shared.circuit
+    → Shares shared.circuit shared.gates t
+    → IsAsBefore code (record code { manager = t; cache = cache; pace = pace; shared = shared })
+as_before_made code t cache pace shared kept serves unmarked same_circuit shares = record {
+  represents = λ seen was. stands_swept code t cache pace shared seen was kept serves unmarked same_circuit shares;
   holds = λ root d held. kept.holds root d held;
   roots = kept.reached.roots;
 }

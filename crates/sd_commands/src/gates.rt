@@ -15,7 +15,7 @@ ghost use Rattle.sd_commands.specs.Standing.{AreForgotten, lines_of};
 
 use sd_cache::Cache;
 use sd_circuit::Circuit;
-use sd_compile::LEAST_GARBAGE;
+use sd_compile::Pace;
 use sd_gates::{GateNodes, output_node};
 use sd_manager::{Manager, NodeId};
 use sd_runs::TakeError;
@@ -27,8 +27,6 @@ pub(crate) struct SharedCircuit {
     circuit: Circuit,
     // the nodes of gates, which outputs take
     gates: GateNodes,
-    // a sweep pays for an output where more elements than this are in use
-    most: u32,
 }
 
 impl SharedCircuit {
@@ -44,7 +42,6 @@ impl SharedCircuit {
         SharedCircuit {
             circuit,
             gates: GateNodes::new(alloc),
-            most: LEAST_GARBAGE,
         }
     }
 
@@ -62,6 +59,7 @@ impl SharedCircuit {
         alloc: Global,
         m: &mut Manager,
         c: &mut Cache,
+        pace: &mut Pace,
         index: u32,
     ) -> Result<NodeId, TakeError>
         requires variables { leaves (plain_tree m.old.vtree) ≡ length self.old.circuit.text.inputs }
@@ -80,14 +78,6 @@ impl SharedCircuit {
         ensures rule { IfErr result (λ e. KeepsRule m.new e) }
         ensures table { IsTable m.new }
     {
-        output_node(
-            alloc,
-            m,
-            c,
-            &self.circuit,
-            &mut self.gates,
-            index,
-            &mut self.most,
-        )
+        output_node(alloc, m, c, &self.circuit, &mut self.gates, index, pace)
     }
 }

@@ -3,8 +3,7 @@
 //! The prefix is a root beside those of the names, so a search is one over its formula and those of the names. An error
 //! leaves the vtree after the walks that were finished, and the prefix's root is released.
 //!
-//! Sweeps come only where they pay, by `sweep_past`: one that takes a node away costs the cache its answers. A search
-//! goes over no garbage, since each move begins with a sweep.
+//! Sweeps come by the pace. A search goes over no garbage, since each move begins with a sweep.
 ghost use Rattle.std.specs.Prelude.{◌≡◌, ℕ, ◌+◌, ◌-◌, ◌^◌, ◌<◌, ◌≤◌, Some, IfOk, IfErr, OnOk, OnErr, length};
 ghost use Rattle.std.specs.FinMap.{remove};
 ghost use Rattle.sd_model.specs.Tree.{leaves};
@@ -17,7 +16,7 @@ ghost use Rattle.sd_commands.specs.declared.command.RunCommand.TheVariants.{Inpu
 use crate::error::{CommandError, compiling_error, search_error};
 use crate::state::RunState;
 use sd_compile::laws::total_of_formulas;
-use sd_compile::{Compiling, add_group_past, begin, finish};
+use sd_compile::{Compiling, Pace, add_group_past, begin, finish};
 use sd_formula::Formula;
 use sd_manager::Root;
 use sd_search::minimise;
@@ -83,9 +82,9 @@ fn grow_all(
     ensures root { work.new.root ≡ work.old.root }
     ensures beside { IsSameBeside state.old state.new work.old.root }
 {
-    let mut most = 0;
+    let mut pace = Pace::of_groups();
     for index in 0..input.groups() {
-        if let Err(error) = grow_next(alloc, input, state, work, &mut most, every, index) {
+        if let Err(error) = grow_next(alloc, input, state, work, &mut pace, every, index) {
             return Err(error);
         }
     }
@@ -98,7 +97,7 @@ fn grow_next(
     input: &Formula,
     state: &mut RunState,
     work: &mut Compiling,
-    most: &mut u32,
+    pace: &mut Pace,
     every: u32,
     index: usize,
 ) -> Result<(), CommandError>
@@ -117,7 +116,7 @@ fn grow_next(
     ensures root { work.new.root ≡ work.old.root }
     ensures beside { IsSameBeside state.old state.new work.old.root }
 {
-    if let Err(error) = add_next(alloc, input, state, work, most) {
+    if let Err(error) = add_next(alloc, input, state, work, pace) {
         return Err(error);
     }
     // its range tells that the number of the group is one
@@ -126,13 +125,13 @@ fn grow_next(
     search_if_due(alloc, input, state, work, due)
 }
 
-// Adds the next group. Garbage may stay up to `most` elements in use.
+// Adds the next group. Garbage may stay as far as the pace allows.
 fn add_next(
     alloc: Global,
     input: &Formula,
     state: &mut RunState,
     work: &mut Compiling,
-    most: &mut u32,
+    pace: &mut Pace,
 ) -> Result<(), CommandError>
     requires growing { (seen : State) × IsGrowing input.now seen state.old work.old }
     requires left { work.old.groups < length input.now.groups }
@@ -155,7 +154,7 @@ fn add_next(
         &mut state.cache,
         input,
         work,
-        most,
+        pace,
         limit,
     ) {
         Ok(()) => Ok(()),

@@ -23,7 +23,7 @@ use crate::gates::SharedCircuit;
 use sd_cache::Cache;
 use sd_circuit::Circuit;
 use sd_compile::laws::{total_is_of_formulas, total_of_formulas};
-use sd_compile::{LEAST_GARBAGE, hold_within, sweep_past, total_over};
+use sd_compile::{Pace, hold_within, sweep_past, total_over};
 use sd_manager::{Manager, NodeId, Root};
 use sd_runs::TakeError;
 use sd_starts::MOST_ELEMENTS;
@@ -46,8 +46,8 @@ pub struct RunState {
     pub(crate) slack: u32,
     // a search follows each group of the input whose number is a multiple of this
     pub(crate) every: Option<u32>,
-    // a sweep pays where more elements than this are in use
-    pub(crate) most: u32,
+    // when the next sweep comes
+    pub(crate) pace: Pace,
     // the circuit, and the nodes of its gates that serve the manager
     pub(crate) shared: SharedCircuit,
 }
@@ -77,7 +77,7 @@ impl RunState {
             limit,
             slack,
             every,
-            most: LEAST_GARBAGE,
+            pace: Pace::of_operations(),
             shared: SharedCircuit::new(alloc, circuit),
         })
     }
@@ -108,7 +108,7 @@ impl RunState {
                 limit,
                 slack,
                 every: None,
-                most: LEAST_GARBAGE,
+                pace: Pace::of_operations(),
                 shared: SharedCircuit::new(alloc, None),
             }),
             Err(_) => Err(AllocError),
@@ -291,14 +291,13 @@ impl RunState {
         ensures vtree { self.new.manager.vtree ≡ self.old.manager.vtree }
         ensures roots { root_count self.new ≡ root_count self.old }
     {
-        self.most = self.most.max(room);
+        self.pace.wait_for(room);
         // its range tells that no epoch is behind the last one
         let _ = self.manager.epoch();
         sweep_past(
             &mut self.manager,
-            &self.cache,
-            &mut self.most,
-            false,
+            &mut self.cache,
+            &mut self.pace,
             self.limit,
         );
     }
@@ -317,8 +316,13 @@ impl RunState {
         ensures bound { self.new.manager.bound ≡ self.old.manager.bound }
         ensures vtree { self.new.manager.vtree ≡ self.old.manager.vtree }
     {
-        self.shared
-            .node(alloc, &mut self.manager, &mut self.cache, index)
+        self.shared.node(
+            alloc,
+            &mut self.manager,
+            &mut self.cache,
+            &mut self.pace,
+            index,
+        )
     }
 
     /// Forgets the nodes of the circuit's gates: before a change of the manager after which they may be wrong.

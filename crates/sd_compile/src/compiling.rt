@@ -25,14 +25,14 @@ ghost use Rattle.sd_sweep.specs.Falling.{NeverFalls};
 ghost use Rattle.sd_compile.specs.Total.{IsWithinLimit};
 ghost use Rattle.sd_manager.specs.Marking.{AreUnmarked};
 ghost use Rattle.sd_compile.specs.Compiling.{prefix_of, HoldsFormula, HoldsPrefix, IsBegun, KeepsOtherRoots, KeepsAll};
-ghost use Rattle.sd_compile.specs.Compiling.{IsGroupRefused, IsFormulaRefused, AreWithinLimit, IsSweptPast};
+ghost use Rattle.sd_compile.specs.Compiling.{IsGroupRefused, IsFormulaRefused, AreWithinLimit, IsSweptPast, MaySweep};
 
 use crate::connectives::{between_groups, connect, neutral_value, within_group};
 use crate::error::{CompileError, compile_error};
 use crate::groups::group_node;
 use crate::limited::{sweep_kept, sweep_past, try_hold};
-use crate::one_pass::{is_right_linear, join_literals, suits_one_pass};
-use crate::pace::{pace_over, sweep_between};
+use crate::one_pass::{join_literals, suits_one_pass};
+use crate::pace::Pace;
 use sd_cache::Cache;
 use sd_formula::Formula;
 use sd_manager::{Manager, NodeId, Root};
@@ -105,16 +105,15 @@ pub fn add_group(
     answer
 }
 
-/// Joins the next group as `add_group` does. Behind it garbage stays only where no more elements are in use than `most`
-/// and than the limit; it may be swept where fewer are. Then `most` is what may be in use behind the next group, and no
-/// less than what is in use.
+/// Joins the next group as `add_group` does. Behind it garbage stays only where no more elements are in use than the
+/// pace allows and than the limit. Then the pace allows no less than what is in use.
 pub fn add_group_past(
     alloc: Global,
     m: &mut Manager,
     c: &mut Cache,
     f: &Formula,
     work: &mut Compiling,
-    most: &mut u32,
+    pace: &mut Pace,
     limit: u32,
 ) -> Result<(), CompileError>
     requires variables { leaves (plain_tree m.old.vtree) ≡ f.now.variables }
@@ -134,15 +133,14 @@ pub fn add_group_past(
     ensures root { work.new.root ≡ work.old.root }
     ensures kept { KeepsOtherRoots m.old m.new work.old.root }
     ensures never_falls { NeverFalls m.old m.new }
-    ensures past { IsSweptPast m.new most.old limit }
-    ensures used { total_length m.new ≤ most.new }
+    ensures past { IsSweptPast m.new pace.old.most limit }
+    ensures used { total_length m.new ≤ pace.new.most }
     ensures serves { Serves c.new m.new }
     ensures unmarked { AreUnmarked m.new }
     ensures table { IsTable m.new }
 {
-    let often = is_right_linear(m.vtree());
     let answer = join_next(alloc, m, c, f, work, limit);
-    sweep_past(m, c, most, often, limit);
+    sweep_past(m, c, pace, limit);
     answer
 }
 
@@ -293,7 +291,7 @@ fn add_groups(
 {
     // its contract tells that the table is valid
     let _ = m.vtree();
-    let mut pace = pace_over(m);
+    let mut pace = Pace::of_groups();
     let groups = f.groups();
     'left: while is_left(f, work) {
         if let Err(error) = join_next(alloc, m, c, f, work, limit) {
@@ -304,6 +302,24 @@ fn add_groups(
         sweep_between(m, c, &mut pace, is_last, limit);
     }
     Ok(())
+}
+
+// Sweeps behind a group that is not the last one, where the pace or the limit asks for it.
+fn sweep_between(m: &mut Manager, c: &mut Cache, pace: &mut Pace, is_last: bool, limit: u32)
+    requires no_move { m.old.moving ≡ None }
+    requires unmarked { AreUnmarked m.old }
+    requires serves { Serves c.old m.old }
+    ensures swept { MaySweep m.old m.new }
+    ensures never_falls { NeverFalls m.old m.new }
+    ensures serves { Serves c.new m.new }
+    ensures unmarked { AreUnmarked m.new }
+    ensures table { IsTable m.new }
+{
+    // its contract tells that the table is valid
+    let _ = m.vtree();
+    if !is_last {
+        sweep_past(m, c, pace, limit);
+    }
 }
 
 // Whether there is a group behind the prefix.

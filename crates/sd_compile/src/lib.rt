@@ -22,4 +22,4 @@ pub use compiling::{Compiling, add_group, add_group_past, begin, compile, finish
 pub use connectives::connect;
 pub use error::{CompileError, HoldError};
 pub use limited::{hold_within, sweep_past, total_over, try_hold};
-pub use pace::LEAST_GARBAGE;
+pub use pace::Pace;

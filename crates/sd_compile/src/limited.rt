@@ -27,20 +27,20 @@ ghost use Rattle.sd_compile.specs.Total.{HasTotalWith, IsTotal, IsTotalWithin, I
 ghost use Rattle.sd_compile.specs.Compiling.{MaySweep, IsSweptPast, KeepsAll, IsHoldRefused};
 
 use crate::error::HoldError;
-use crate::pace::room_over;
+use crate::pace::Pace;
 use sd_cache::Cache;
 use sd_manager::{Manager, NodeId, Root};
 use sd_sweep::{size, sweep};
 
 // Takes away what no root and no loose run needs. The cache still serves.
-pub(crate) fn sweep_kept(m: &mut Manager, c: &Cache)
+pub(crate) fn sweep_kept(m: &mut Manager, c: &mut Cache)
     requires no_move { m.old.moving ≡ None }
     requires unmarked { AreUnmarked m.old }
-    requires serves { Serves c.now m.old }
+    requires serves { Serves c.old m.old }
     ensures swept { IsSwept m.old m.new }
     ensures never_falls { NeverFalls m.old m.new }
     ensures reached { (n : ℕ) → IsSome (get m.new.linked n) → IsReached m.new n }
-    ensures serves { Serves c.now m.new }
+    ensures serves { Serves c.new m.new }
     ensures unmarked { AreUnmarked m.new }
     ensures table { IsTable m.new }
 {
@@ -49,30 +49,30 @@ pub(crate) fn sweep_kept(m: &mut Manager, c: &Cache)
     sweep(m);
 }
 
-/// Sweeps where more elements are in use than `most` or than the limit, and then sets `most` anew: to no less than what
-/// is left. Else nothing is changed. `often` where hardly an answer of the cache is asked for again, so that a sweep
-/// costs little. How much more than what is left may be in use before the next sweep is chosen for speed alone.
-pub fn sweep_past(m: &mut Manager, c: &Cache, most: &mut u32, often: bool, limit: u32)
+/// Sweeps where more elements are in use than the pace allows or than the limit, and then the pace allows anew: no less
+/// than what is left. Else nothing is changed. How much more than what is left may be in use before the next sweep is
+/// chosen for speed alone.
+pub fn sweep_past(m: &mut Manager, c: &mut Cache, pace: &mut Pace, limit: u32)
     requires no_move { m.old.moving ≡ None }
     requires unmarked { AreUnmarked m.old }
-    requires serves { Serves c.now m.old }
+    requires serves { Serves c.old m.old }
     ensures swept { MaySweep m.old m.new }
-    ensures past { IsSweptPast m.new most.old limit }
-    ensures within { total_length m.old ≤ most.old → total_length m.old ≤ limit
-        → (m.new ≡ m.old) × (most.new ≡ most.old) }
+    ensures past { IsSweptPast m.new pace.old.most limit }
+    ensures within { total_length m.old ≤ pace.old.most → total_length m.old ≤ limit
+        → (m.new ≡ m.old) × (pace.new ≡ pace.old) }
     ensures kept { KeepsAll m.old m.new }
     ensures never_falls { NeverFalls m.old m.new }
-    ensures used { total_length m.new ≤ most.new }
-    ensures serves { Serves c.now m.new }
+    ensures used { total_length m.new ≤ pace.new.most }
+    ensures serves { Serves c.new m.new }
     ensures unmarked { AreUnmarked m.new }
     ensures table { IsTable m.new }
 {
     let used = m.used();
-    if used <= *most && used <= limit {
+    if used <= pace.most && used <= limit {
         return;
     }
     sweep_kept(m, c);
-    *most = room_over(m.used(), often);
+    pace.renew(m);
 }
 
 /// A new root that holds a node, if the total size is then within the limit. Else nothing is changed.

@@ -23,30 +23,20 @@ ghost use Rattle.sd_gates.specs.Making.{StaysOrRises};
 ghost use Rattle.sd_gates.specs.Holding.{DropsEntries};
 
 use crate::sharing::GateNodes;
-use crate::sweeping::sweep_between;
+use crate::sweeping::{Sweeps, sweep_between};
 use sd_apply::{and, negate};
 use sd_cache::Cache;
 use sd_circuit::{Circuit, Wire};
+use sd_compile::Pace;
 use sd_manager::{Manager, NodeId};
 use sd_runs::TakeError;
 use std::alloc::{AllocError, Global};
 
-/// When the next sweep inside an output comes, and what it keeps.
-#[derive(Drop)]
-struct Pace {
-    // the output that is made
-    index: u32,
-    // how many elements may be in use before the next sweep
-    most: u32,
-    // whether the last sweep left more than half, so that the next one keeps what this output needs alone
-    alone: bool,
-}
-
 /// The node of an output, counted from 0. It is made from the gates that it needs and that have no node yet; their
-/// nodes are kept for the next output. Where more elements are in use than `most` behind a gate, nodes are taken away
-/// that no root and no gate of an output from this one on needs. Then `most` is a greater number: how many may be in use
-/// before the next sweep pays. What a sweep takes away, and what `most` becomes, is chosen for speed and stands in no
-/// clause. It refuses as `sd_apply::and`, and where a sweep finds no memory.
+/// nodes are kept for the next output. Where more elements are in use behind a gate than the pace allows, nodes are
+/// taken away that no root and no gate of an output from this one on needs, and the pace allows more. What a sweep
+/// takes away, and what the pace allows then, is chosen for speed and stands in no clause. It refuses as
+/// `sd_apply::and`, and where a sweep finds no memory.
 pub fn output_node(
     alloc: Global,
     m: &mut Manager,
@@ -54,7 +44,7 @@ pub fn output_node(
     circuit: &Circuit,
     gates: &mut GateNodes,
     index: u32,
-    most: &mut u32,
+    pace: &mut Pace,
 ) -> Result<NodeId, TakeError>
     requires variables { leaves (plain_tree m.old.vtree) ≡ length circuit.now.text.inputs }
     requires no_move { m.old.moving ≡ None }
@@ -79,13 +69,13 @@ pub fn output_node(
         return Err(TakeError::OutOfMemory);
     }
     let wire = circuit.output(index);
-    let mut pace = Pace {
+    let mut sweeps = Sweeps {
         index,
-        most: *most,
         alone: false,
+        pace: *pace,
     };
-    let made = make_wire(alloc, m, c, circuit, gates, wire, &mut pace);
-    *most = pace.most;
+    let made = make_wire(alloc, m, c, circuit, gates, wire, &mut sweeps);
+    *pace = sweeps.pace;
     match made {
         Ok(()) => wire_node(alloc, m, c, circuit, gates, wire),
         Err(error) => Err(error),
@@ -100,7 +90,7 @@ fn make_wire(
     circuit: &Circuit,
     gates: &mut GateNodes,
     wire: Wire,
-    pace: &mut Pace,
+    sweeps: &mut Sweeps,
 ) -> Result<(), TakeError>
     requires variables { leaves (plain_tree m.old.vtree) ≡ length circuit.now.text.inputs }
     requires no_move { m.old.moving ≡ None }
@@ -127,7 +117,7 @@ fn make_wire(
             let _ = m.vtree();
             Ok(())
         }
-        Wire::Gate { index, .. } => make_gates(alloc, m, c, circuit, gates, index, pace),
+        Wire::Gate { index, .. } => make_gates(alloc, m, c, circuit, gates, index, sweeps),
     }
 }
 
@@ -139,7 +129,7 @@ fn make_gates(
     circuit: &Circuit,
     gates: &mut GateNodes,
     top: u32,
-    pace: &mut Pace,
+    sweeps: &mut Sweeps,
 ) -> Result<(), TakeError>
     requires variables { leaves (plain_tree m.old.vtree) ≡ length circuit.now.text.inputs }
     requires no_move { m.old.moving ≡ None }
@@ -164,7 +154,7 @@ fn make_gates(
             Ok(()) => {}
             Err(error) => return Err(error),
         }
-        match sweep_if_full(alloc, m, c, circuit, gates, pace) {
+        match sweep_if_full(alloc, m, c, circuit, gates, sweeps) {
             Ok(()) => {}
             Err(_) => return Err(TakeError::OutOfMemory),
         }
@@ -176,40 +166,35 @@ fn make_gates(
 fn sweep_if_full(
     alloc: Global,
     m: &mut Manager,
-    c: &Cache,
+    c: &mut Cache,
     circuit: &Circuit,
     gates: &mut GateNodes,
-    pace: &mut Pace,
+    sweeps: &mut Sweeps,
 ) -> Result<(), AllocError>
     requires no_move { m.old.moving ≡ None }
     requires unmarked { AreUnmarked m.old }
-    requires serves { Serves c.now m.old }
+    requires serves { Serves c.old m.old }
     requires ready { AreCurrent circuit.now gates.old m.old }
     requires room { len m.old.roots < 2 ^ 31 }
     ensures next { OnOk result (StaysOrRises gates.old.nodes.items gates.new.nodes.items
-        pace.old.most pace.new.most) }
+        sweeps.old.pace.most sweeps.new.pace.most) }
     ensures fewer { DropsEntries gates.old.nodes.items gates.new.nodes.items }
     ensures kept { KeepsAll m.old m.new }
     ensures never_falls { NeverFalls m.old m.new }
     ensures ready { AreCurrent circuit.now gates.new m.new }
-    ensures serves { Serves c.now m.new }
+    ensures serves { Serves c.new m.new }
     ensures unmarked { AreUnmarked m.new }
     ensures table { IsTable m.new }
 {
     let used = m.used();
-    let most = pace.most;
+    let most = sweeps.pace.most;
     if used <= most {
         return Ok(());
     }
-    let index = pace.index;
-    let end = if pace.alone {
-        index.saturating_add(1)
-    } else {
-        u32::MAX
-    };
-    let next = sweep_between(alloc, m, c, circuit, gates, index, end)?;
-    pace.alone = m.used() > used / 2;
-    pace.most = next.max(most + 1);
+    sweep_between(alloc, m, c, circuit, gates, sweeps)?;
+    // a sweep that left more than half was of little use
+    sweeps.alone = m.used() > used / 2;
+    sweeps.pace.wait_for(most + 1);
     Ok(())
 }
 

@@ -20,60 +20,75 @@ ghost use Rattle.sd_gates.specs.Holding.{AddsRoots, HoldsMore, HoldsOneMore, Are
 use crate::sharing::GateNodes;
 use sd_cache::Cache;
 use sd_circuit::{Circuit, Wire};
-use sd_compile::sweep_past;
+use sd_compile::{Pace, sweep_past};
 use sd_manager::{Manager, NodeId, Root};
 use std::alloc::{AllocError, Global};
 
-/// Takes nodes away that no root and no loose run needs, but not those of gates that the outputs from `from` on and
-/// before `to` are made of next. The answer is how many elements may be in use before the next sweep pays: twice what
-/// is left, and at least `sd_compile::LEAST_GARBAGE`. Which nodes are taken away, and the answer, is chosen for speed
-/// and stands in no clause. The only error: out of memory, and then nothing is swept.
+/// Whose nodes the sweeps inside an output keep, and when the next one comes.
+#[derive(Clone, Copy)]
+pub(crate) struct Sweeps {
+    /// The output that is made.
+    pub(crate) index: u32,
+    /// Whether the next sweep keeps what this output needs alone, and not what later ones need too.
+    pub(crate) alone: bool,
+    pub(crate) pace: Pace,
+}
+
+/// Takes nodes away that no root and no loose run needs, but not those of gates that the output in hand, and later ones
+/// too unless it is alone, are made of next. Which nodes are taken away, and what the pace allows then, is chosen for
+/// speed and stands in no clause. The only error: out of memory, and then nothing is swept.
 pub(crate) fn sweep_between(
     alloc: Global,
     m: &mut Manager,
-    c: &Cache,
+    c: &mut Cache,
     circuit: &Circuit,
     gates: &mut GateNodes,
-    from: u32,
-    to: u32,
-) -> Result<u32, AllocError>
+    sweeps: &mut Sweeps,
+) -> Result<(), AllocError>
     requires no_move { m.old.moving ≡ None }
     requires unmarked { AreUnmarked m.old }
-    requires serves { Serves c.now m.old }
+    requires serves { Serves c.old m.old }
     requires ready { AreCurrent circuit.now gates.old m.old }
     requires room { len m.old.roots < 2 ^ 31 }
     ensures fewer { DropsEntries gates.old.nodes.items gates.new.nodes.items }
     ensures kept { KeepsAll m.old m.new }
     ensures never_falls { NeverFalls m.old m.new }
     ensures ready { AreCurrent circuit.now gates.new m.new }
-    ensures serves { Serves c.now m.new }
+    ensures serves { Serves c.new m.new }
     ensures unmarked { AreUnmarked m.new }
     ensures table { IsTable m.new }
 {
     let _ = m.vtree();
+    let from = sweeps.index;
+    let to = if sweeps.alone {
+        from.saturating_add(1)
+    } else {
+        u32::MAX
+    };
     let wanted = wanted_gates(alloc, circuit, gates, from, to)?;
     gates.retain(&wanted);
-    sweep_others(alloc, m, c, circuit, gates)
+    sweep_others(alloc, m, c, circuit, gates, &mut sweeps.pace)
 }
 
 // Takes away what no root, no loose run and none of the nodes of gates needs.
 fn sweep_others(
     alloc: Global,
     m: &mut Manager,
-    c: &Cache,
+    c: &mut Cache,
     circuit: &Circuit,
     gates: &mut GateNodes,
-) -> Result<u32, AllocError>
+    pace: &mut Pace,
+) -> Result<(), AllocError>
     requires no_move { m.old.moving ≡ None }
     requires unmarked { AreUnmarked m.old }
-    requires serves { Serves c.now m.old }
+    requires serves { Serves c.old m.old }
     requires ready { AreCurrent circuit.now gates.old m.old }
     requires room { len m.old.roots < 2 ^ 31 }
     ensures nodes { gates.new.nodes.items ≡ gates.old.nodes.items }
     ensures kept { KeepsAll m.old m.new }
     ensures never_falls { NeverFalls m.old m.new }
     ensures ready { AreCurrent circuit.now gates.new m.new }
-    ensures serves { Serves c.now m.new }
+    ensures serves { Serves c.new m.new }
     ensures unmarked { AreUnmarked m.new }
     ensures table { IsTable m.new }
 {
@@ -83,11 +98,11 @@ fn sweep_others(
     let mut held = Vec::new(alloc);
     match hold_all(m, gates.nodes.as_slice(), &mut held) {
         Ok(()) => {
-            let mut most = 0;
-            sweep_past(m, c, &mut most, false, 0);
+            // within no limit: so it sweeps whatever the pace allows
+            sweep_past(m, c, pace, 0);
             release_all(m, &mut held);
             gates.renew(m.epoch());
-            Ok(most)
+            Ok(())
         }
         Err(error) => {
             release_all(m, &mut held);

@@ -4,6 +4,7 @@ use crate::sharing::GateNodes;
 use sd_aiger::read_aiger;
 use sd_cache::Cache;
 use sd_circuit::Circuit;
+use sd_compile::Pace;
 use sd_manager::Manager;
 use sd_runs::TakeError;
 use sd_vtree::Vtree;
@@ -40,8 +41,9 @@ fn made(
     let mut c = Cache::new(alloc)?;
     let mut gates = GateNodes::new(alloc);
     'outputs: for index in 0..circuit.outputs() {
-        let mut room = most;
-        let node = output_node(alloc, &mut m, &mut c, circuit, &mut gates, index, &mut room)?;
+        let mut pace = Pace::of_operations();
+        pace.most = most;
+        let node = output_node(alloc, &mut m, &mut c, circuit, &mut gates, index, &mut pace)?;
         codes.push(node.0)?;
     }
     Ok((codes, m.used()))

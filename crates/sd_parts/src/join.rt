@@ -28,7 +28,7 @@ use crate::cutting::begin_of_part;
 use crate::part::PartAnswer;
 use sd_cache::Cache;
 use sd_compile::laws::total_of_formulas;
-use sd_compile::{CompileError, LEAST_GARBAGE, begin, connect, finish, sweep_past, try_hold};
+use sd_compile::{CompileError, Pace, begin, connect, finish, sweep_past, try_hold};
 use sd_formula::{Formula, Kind};
 use sd_manager::{Manager, NodeId, Root};
 use sd_model::Operation;
@@ -132,7 +132,7 @@ fn join_all(
     let _ = m.vtree();
     let groups = f.groups();
     let count = answers.len();
-    let mut most = LEAST_GARBAGE;
+    let mut pace = Pace::of_operations();
     for part in 0..count {
         let Ok(records) = &answers[part].outcome else {
             unreachable!()
@@ -145,7 +145,7 @@ fn join_all(
             limit,
         };
         join_turn(alloc, m, c, f, records, root, turn)?;
-        sweep_past(m, c, &mut most, false, limit);
+        sweep_past(m, c, &mut pace, limit);
     }
     Ok(())
 }

@@ -28,4 +28,4 @@ invariant-making l = record {
 
 abbrev pub decreases-making : goal.decreases-making
 decreases-making l =
-    steps_left (2 * length l.circuit.order) l.pace.most l.top l.gates.nodes.items l.stack.items
+    steps_left (2 * length l.circuit.order) l.sweeps.pace.most l.top l.gates.nodes.items l.stack.items

@@ -52,5 +52,5 @@ returns-in-Ok-clause-ready c = record {
 }
 
 pub returns-in-Ok-clause-serves : goal.returns-in-Ok-clause-serves
-returns-in-Ok-clause-serves c = subst (Serves c.args.c.now) (sym (end_is c))
-    (serves_roots c.args.c.now c.sweep_past.new.m c.args.m.now.roots c.sweep_past.ensures.serves)
+returns-in-Ok-clause-serves c = subst (Serves c.sweep_past.new.c) (sym (end_is c))
+    (serves_roots c.sweep_past.new.c c.sweep_past.new.m c.args.m.now.roots c.sweep_past.ensures.serves)

@@ -13,7 +13,7 @@ returns-in-Ok-clause-represents c = λ f holds.
       limit = c.args.limit;
       slack = c.args.slack;
       every = None;
-      most = 0;
+      pace = c.of_operations.result;
       shared = c.new.result;
     } in
     stands_alone code _ c.args.root f c.requires.ready holds c.new-names.ensures.empty c.new.ensures.lines

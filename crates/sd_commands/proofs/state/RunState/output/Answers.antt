@@ -22,8 +22,8 @@ returns-clause-ok c = λ seen was.
 
 pub returns-clause-kept : goal.returns-clause-kept
 returns-clause-kept c =
-    as_before_made c.args.self.now c.node.new.m c.node.new.c c.node.new.self c.node.ensures.kept c.node.ensures.serves
-    c.node.ensures.unmarked c.node.ensures.circuit c.node.ensures.shares
+    as_before_made c.args.self.now c.node.new.m c.node.new.c c.node.new.pace c.node.new.self c.node.ensures.kept
+    c.node.ensures.serves c.node.ensures.unmarked c.node.ensures.circuit c.node.ensures.shares
 
 pub returns-clause-bound : goal.returns-clause-bound
 returns-clause-bound c = c.node.ensures.kept.bound
