@@ -10,9 +10,9 @@
 //
 // An entry has 16 bytes. There are none until the first answer is kept, then 64, 1 KB. Whenever as many answers were
 // kept as there are entries, there are four times as many, up to 65,536, 1 MB. Beyond that there are twice as many, as
-// long as they are no more than the nodes: a node takes some 60 bytes, so they take about a quarter of what the nodes do.
-// A wider table misses the caches of a processor more often, and finds little more. That there are so many nodes is told
-// by the greatest answer, since a new node takes a free number or the next one.
+// long as they are no more than the nodes: a node takes some 60 bytes, so they take about a quarter of what the nodes
+// do. A wider table misses the caches of a processor more often, and finds little more. That there are so many nodes is
+// told by the greatest answer, since a new node takes a free number or the next one.
 //
 // The table goes from one operation to the next through the cache, as long as the epoch stays. An entry has no epoch of
 // its own. The epoch rises when a node is taken away or the vtree is moved, and at another one the cache lends an empty
@@ -77,8 +77,8 @@ impl Entry {
 
 /// Answers of operations in one epoch, without their order. Each has one entry where it may stand, and
 /// drops what stood there. The table grows whenever as many answers were kept as it has entries: to four times as many
-/// up to 65,536, and to twice as many while it has no more of them than there are nodes. Where memory is refused it stays
-/// as it is, and one without entries keeps nothing.
+/// up to 65,536, and to twice as many while it has no more of them than there are nodes. Where memory is refused it
+/// stays as it is, and one without entries keeps nothing.
 #[derive(Drop)]
 pub struct ComputedTable {
     entries: Vec<Entry>,
