@@ -9,10 +9,10 @@
 // but not which ones it drops, nor that one that stands is found.
 //
 // An entry has 16 bytes. There are none until the first answer is kept, then 64, 1 KB. Whenever as many answers were
-// kept as there are entries, there are four times as many, up to 65,536, 1 MB. Beyond that there are twice as many, as
-// long as they are no more than the nodes: a node takes some 60 bytes, so they take about a quarter of what the nodes
-// do. A wider table misses the caches of a processor more often, and finds little more. That there are so many nodes is
-// told by the greatest answer, since a new node takes a free number or the next one.
+// kept as there are entries, there are four times as many: up to 65,536, 1 MB, in any case, and beyond that as long as
+// they are no more than the nodes. A node takes some 60 bytes, so they take about a quarter of what the nodes do. A
+// wider table misses the caches of a processor more often, which costs a tenth where it finds no more. That there are
+// so many nodes is told by the greatest answer, since a new node takes a free number or the next one.
 //
 // The table goes from one operation to the next through the cache, as long as the epoch stays. An entry has no epoch of
 // its own. The epoch rises when a node is taken away or the vtree is moved, and at another one the cache lends an empty
@@ -76,9 +76,9 @@ impl Entry {
 }
 
 /// Answers of operations in one epoch, without their order. Each has one entry where it may stand, and
-/// drops what stood there. The table grows whenever as many answers were kept as it has entries: to four times as many
-/// up to 65,536, and to twice as many while it has no more of them than there are nodes. Where memory is refused it
-/// stays as it is, and one without entries keeps nothing.
+/// drops what stood there. The table grows to four times as many entries whenever as many answers were kept as it has:
+/// up to 65,536 in any case, and beyond that while they are no more than the nodes. Where memory is refused it stays as
+/// it is, and one without entries keeps nothing.
 #[derive(Drop)]
 pub struct ComputedTable {
     entries: Vec<Entry>,
@@ -236,8 +236,8 @@ fn next_count(entries: &[Entry]) -> usize {
     if count < FITS_CACHE {
         return (count * 4).max(LEAST);
     }
-    if count < MOST && greatest_answer(entries) as usize / 2 >= count {
-        return count * 2;
+    if count < MOST && greatest_answer(entries) as usize / 4 >= count {
+        return count * 4;
     }
     count
 }
