@@ -6,8 +6,8 @@
 // never.
 //
 // No contract of a run says when it is swept: garbage stays only within a number and the limit (`sweep_past`), and the
-// number is chosen for speed (`pace.rt`). A sweep costs what died since the last one, but it raises the epoch, and with
-// it goes what the cache knows.
+// number is chosen for speed (`pace.rt`). A sweep costs what died since the last one and a step for each computed
+// answer; those whose nodes stand stay known.
 ghost use Rattle.std.specs.Prelude.{◌≡◌, ℕ, ◌<◌, ◌≤◌, ◌-◌, ◌^◌, List, None, IfSome, IfNone, IfOk, IfErr, OnOk, OnErr};
 ghost use Rattle.std.specs.Option.{IsSome};
 ghost use Rattle.std.specs.FinMap.{get, len};
@@ -28,11 +28,13 @@ ghost use Rattle.sd_compile.specs.Compiling.{MaySweep, IsSweptPast, KeepsAll, Is
 
 use crate::error::HoldError;
 use crate::pace::Pace;
+use sd_apply::keep_surviving;
 use sd_cache::Cache;
 use sd_manager::{Manager, NodeId, Root};
 use sd_sweep::{size, sweep};
 
-// Takes away what no root and no loose run needs. The cache still serves.
+// Takes away what no root and no loose run needs. The cache still serves, and computed answers whose nodes stand stay
+// known.
 pub(crate) fn sweep_kept(m: &mut Manager, c: &mut Cache)
     requires no_move { m.old.moving ≡ None }
     requires unmarked { AreUnmarked m.old }
@@ -44,9 +46,9 @@ pub(crate) fn sweep_kept(m: &mut Manager, c: &mut Cache)
     ensures unmarked { AreUnmarked m.new }
     ensures table { IsTable m.new }
 {
-    // its range tells that the last epoch is not passed
-    let _ = m.epoch();
+    let since = m.epoch();
     sweep(m);
+    keep_surviving(m, c, since);
 }
 
 /// Sweeps where more elements are in use than the pace allows or than the limit, and then the pace allows anew: no less

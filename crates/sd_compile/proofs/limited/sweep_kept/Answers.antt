@@ -1,11 +1,15 @@
-use Rattle.std.proofs.Common.{arith}
+use Rattle.std.proofs.Common.{sym, ◌∙◌, arith}
 use Rattle.sd_sweep.proofs.NeverFalling.{never_swept}
-use Rattle.sd_compile.proofs.Kept.{serves_swept, unmarked_swept}
+use Rattle.sd_compile.proofs.Kept.{takes_away, unmarked_swept}
 use Rattle.sd_compile.proofs.limited.sweep_kept.Goals as goal
 
-pub returns-clause-serves : goal.returns-clause-serves
-returns-clause-serves c =
-    serves_swept c.args.c.now c.args.m.now c.sweep.new.m (omega arith) c.sweep.ensures.swept c.requires.serves
+pub keep_surviving-requires-clause-serves : goal.keep_surviving-requires-clause-serves
+keep_surviving-requires-clause-serves c = (
+  c.args.m.now,
+  c.requires.serves,
+  sym c.epoch-since.ensures.epoch,
+  takes_away c.args.m.now c.sweep.new.m (omega arith) c.sweep.ensures.swept,
+)
 
 pub returns-clause-unmarked : goal.returns-clause-unmarked
 returns-clause-unmarked c =
