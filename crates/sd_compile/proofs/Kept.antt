@@ -22,7 +22,7 @@ use Rattle.sd_manager.proofs.Totals.{left_was}
 use Rattle.sd_apply.specs.Answers.{HasAnswer}
 use Rattle.sd_apply.specs.Serving.{Serves, last_epoch}
 use Rattle.sd_apply.specs.Surviving.{OnlyTakesAway}
-use Rattle.sd_apply.proofs.Served.{serves_beside}
+use Rattle.sd_apply.proofs.Served.{serves_beside, serves_past}
 use Rattle.sd_sweep.specs.Reached.{reached_first, reached_below, IsReached, IsSwept, HasUnreached, KeepsReached}
 use Rattle.sd_sweep.proofs.Keeping.{keeps_both, keeps_swept, keeps_extended}
 use Rattle.sd_manager.specs.Marking.{AreUnmarked}
@@ -348,6 +348,15 @@ released_all old mid new root again absent k same is =
     }
 
 -- ---- the cache
+
+-- it serves after a sweep
+pub serves_swept : (c : Answers) (old new : Table) → old.epoch ≤ last_epoch → IsSwept old new → Serves c old →
+    Serves c new
+serves_swept c old new last s h = go s.changed
+  where
+    go : (new ≡ old) ⊎ (IsLater old new × HasUnreached old) → Serves c new
+    go (inl same) = subst (Serves c) (sym same) h
+    go (inr k) = serves_past c old new last k.0 h
 
 -- a sweep only takes nodes away
 pub takes_away : (old new : Table) → old.epoch ≤ last_epoch → IsSwept old new → OnlyTakesAway old new

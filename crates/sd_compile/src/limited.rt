@@ -6,8 +6,8 @@
 // never.
 //
 // No contract of a run says when it is swept: garbage stays only within a number and the limit (`sweep_past`), and the
-// number is chosen for speed (`pace.rt`). A sweep costs what died since the last one and a step for each computed
-// answer; those whose nodes stand stay known.
+// number is chosen for speed (`pace.rt`). A sweep costs what died since the last one and, where answers stay known, a
+// step for each of them.
 ghost use Rattle.std.specs.Prelude.{◌≡◌, ℕ, ◌<◌, ◌≤◌, ◌-◌, ◌^◌, List, None, IfSome, IfNone, IfOk, IfErr, OnOk, OnErr};
 ghost use Rattle.std.specs.Option.{IsSome};
 ghost use Rattle.std.specs.FinMap.{get, len};
@@ -33,8 +33,8 @@ use sd_cache::Cache;
 use sd_manager::{Manager, NodeId, Root};
 use sd_sweep::{size, sweep};
 
-// Takes away what no root and no loose run needs. The cache still serves, and computed answers whose nodes stand stay
-// known.
+// Takes away what no root and no loose run needs. The cache still serves. Where not too many answers are kept beside the
+// elements that are left, those whose nodes stand stay known.
 pub(crate) fn sweep_kept(m: &mut Manager, c: &mut Cache)
     requires no_move { m.old.moving ≡ None }
     requires unmarked { AreUnmarked m.old }
@@ -48,7 +48,10 @@ pub(crate) fn sweep_kept(m: &mut Manager, c: &mut Cache)
 {
     let since = m.epoch();
     sweep(m);
-    keep_surviving(m, c, since);
+    // a table with more entries than elements are left costs more than its answers are worth
+    if c.computed().len() <= m.used() as usize {
+        keep_surviving(m, c, since);
+    }
 }
 
 /// Sweeps where more elements are in use than the pace allows or than the limit, and then the pace allows anew: no less

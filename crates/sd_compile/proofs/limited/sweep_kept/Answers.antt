@@ -1,6 +1,6 @@
-use Rattle.std.proofs.Common.{sym, ◌∙◌, arith}
+use Rattle.std.proofs.Common.{sym, arith}
 use Rattle.sd_sweep.proofs.NeverFalling.{never_swept}
-use Rattle.sd_compile.proofs.Kept.{takes_away, unmarked_swept}
+use Rattle.sd_compile.proofs.Kept.{serves_swept, takes_away, unmarked_swept}
 use Rattle.sd_compile.proofs.limited.sweep_kept.Goals as goal
 
 pub keep_surviving-requires-clause-serves : goal.keep_surviving-requires-clause-serves
@@ -11,10 +11,22 @@ keep_surviving-requires-clause-serves c = (
   takes_away c.args.m.now c.sweep.new.m (omega arith) c.sweep.ensures.swept,
 )
 
-pub returns-clause-unmarked : goal.returns-clause-unmarked
-returns-clause-unmarked c =
+pub returns-then-len-used-clause-unmarked : goal.returns-then-len-used-clause-unmarked
+returns-then-len-used-clause-unmarked c =
     unmarked_swept c.args.m.now c.sweep.new.m c.sweep.ensures.swept c.requires.unmarked
 
-pub returns-clause-never_falls : goal.returns-clause-never_falls
-returns-clause-never_falls c =
+pub returns-else-len-used-clause-unmarked : goal.returns-else-len-used-clause-unmarked
+returns-else-len-used-clause-unmarked c =
+    unmarked_swept c.args.m.now c.sweep.new.m c.sweep.ensures.swept c.requires.unmarked
+
+pub returns-then-len-used-clause-never_falls : goal.returns-then-len-used-clause-never_falls
+returns-then-len-used-clause-never_falls c =
     never_swept c.args.m.now c.sweep.new.m (omega arith) c.sweep.ensures.swept
+
+pub returns-else-len-used-clause-never_falls : goal.returns-else-len-used-clause-never_falls
+returns-else-len-used-clause-never_falls c =
+    never_swept c.args.m.now c.sweep.new.m (omega arith) c.sweep.ensures.swept
+
+pub returns-else-len-used-clause-serves : goal.returns-else-len-used-clause-serves
+returns-else-len-used-clause-serves c =
+    serves_swept c.args.c.now c.args.m.now c.sweep.new.m (omega arith) c.sweep.ensures.swept c.requires.serves
