@@ -33,8 +33,8 @@ use sd_cache::Cache;
 use sd_manager::{Manager, NodeId, Root};
 use sd_sweep::{size, sweep};
 
-// Takes away what no root and no loose run needs. The cache still serves. Where not too many answers are kept beside the
-// elements that are left, those whose nodes stand stay known.
+// Takes away what no root and no loose run needs. The cache still serves. Where not too many answers are kept beside
+// the elements that are left, those whose nodes stand stay known.
 pub(crate) fn sweep_kept(m: &mut Manager, c: &mut Cache)
     requires no_move { m.old.moving ≡ None }
     requires unmarked { AreUnmarked m.old }

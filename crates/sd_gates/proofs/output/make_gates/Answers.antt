@@ -25,9 +25,9 @@ returns-in-Err-sweep_if_full-clause-kept c =
 
 pub making-smaller : goal.making-smaller
 making-smaller c =
-    paced_less (2 * length c.args.circuit.now.order) c.making.sweeps.pace.most c.sweep_if_full.new.sweeps.pace.most c.args.top
-    c.making.gates.nodes.items c.step.new.gates.nodes.items c.sweep_if_full.new.gates.nodes.items c.making.stack.items
-    c.step.new.stack.items c.in-Ok-sweep_if_full.ensures.next c.sweep_if_full.ensures.ready.size
+    paced_less (2 * length c.args.circuit.now.order) c.making.sweeps.pace.most c.sweep_if_full.new.sweeps.pace.most
+    c.args.top c.making.gates.nodes.items c.step.new.gates.nodes.items c.sweep_if_full.new.gates.nodes.items
+    c.making.stack.items c.step.new.stack.items c.in-Ok-sweep_if_full.ensures.next c.sweep_if_full.ensures.ready.size
     (dropped_descent c.step.new.gates.nodes.items c.sweep_if_full.new.gates.nodes.items c.args.top
     c.step.new.stack.items c.sweep_if_full.ensures.fewer c.in-Ok.ensures.descent) c.in-Ok.ensures.less
 
