@@ -330,7 +330,7 @@ left_wider t i p u w c d e h =
       };
     }
 
-right_wider : (t : Table) → IsTable t → (p u w c : ℕ) (d : Diagram) → HasChildren t.vtree p u w →
+pub right_wider : (t : Table) → IsTable t → (p u w c : ℕ) (d : Diagram) → HasChildren t.vtree p u w →
     IsNodeUnder t w c d → IsNodeUnder t p c d
 right_wider t i p u w c d e h =
     let f = children_of t.vtree i.numbered p u w e in

@@ -64,3 +64,4 @@ pub mod NeverFalling
 pub mod SettledKept
 pub mod OneSize
 pub mod Branching
+pub mod Cutting

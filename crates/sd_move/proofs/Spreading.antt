@@ -19,7 +19,7 @@ use Rattle.sd_manager.specs.Valid.{IsTable}
 use Rattle.sd_manager.specs.Views.{pairs_at}
 use Rattle.sd_apply.specs.Places.{HasChildren, IsBelow, IsNodeUnder}
 use Rattle.sd_apply.proofs.Listed.{node_on}
-use Rattle.sd_move.specs.declared.sorting.Side.TheVariants.{Left}
+use Rattle.sd_move.specs.declared.sorting.Side.TheVariants.{Left, Right}
 use Rattle.sd_move.specs.Rewriting.{AreBelow}
 use Rattle.sd_move.specs.Sorting.{on}
 
@@ -58,6 +58,14 @@ primes_below m p c d same h =
     subst (λ k. AllByRecursion (λ (e : ℕ × ℕ). IsBelow m p (on Left e)) (pairs_at m k)) same
     (all_weaker (λ (e : ℕ × ℕ). IsBelow m p e.0 × IsBelow m p e.1) (λ (e : ℕ × ℕ). IsBelow m p (on Left e))
     (λ e k. k.0) (pairs_at m c) h)
+
+-- and so do its subs
+pub subs_below : (m : Table) (p c d : ℕ) → c ≡ d → AreBelow m p (pairs_at m c) →
+    AllByRecursion (λ (e : ℕ × ℕ). IsBelow m p (on Right e)) (pairs_at m d)
+subs_below m p c d same h =
+    subst (λ k. AllByRecursion (λ (e : ℕ × ℕ). IsBelow m p (on Right e)) (pairs_at m k)) same
+    (all_weaker (λ (e : ℕ × ℕ). IsBelow m p e.0 × IsBelow m p e.1) (λ (e : ℕ × ℕ). IsBelow m p (on Right e))
+    (λ e k. k.1) (pairs_at m c) h)
 
 -- the left child stands below the place
 pub left_child_under : (m : Table) → IsTable m → (p left right : ℕ) → HasChildren m.vtree p left right →

@@ -23,6 +23,7 @@
 mod beginning;
 mod bounding;
 mod branches;
+mod cells;
 mod detaching;
 mod ending;
 mod error;

@@ -7,7 +7,8 @@
 // dear beside a step.
 //
 // After a rotation to the left the primes of a node are a partition of the inner left child, and the list has one prime
-// for each sub that is met (`branches.rt`). Otherwise it is the disjunction of the products of primes and subs
+// for each sub that is met (`branches.rt`). After a swap its subs stand below the left child, and the list has a prime
+// for each part that they tell apart (`cells.rt`). Otherwise it is the disjunction of the products of primes and subs
 // (`by_products`), each of which is multiplied with what was made before: quadratic in the number of elements.
 ghost use Rattle.std.specs.Prelude.{◌≡◌, ◌∷◌, ℕ, ◌≤◌, Bool, List, [], map, Some, IfOk, IfSome, OnOk, OnErr, IfErr};
 ghost use Rattle.sd_model.specs.Tree.{AreDistinct};
@@ -33,6 +34,7 @@ ghost use Rattle.sd_move.specs.Rewriting.{AreBelow, CanRewriteAll, MayRewriteAll
 ghost use Rattle.sd_move.specs.Rewriting.{HasRewritten, GoesOn};
 
 use crate::branches::{Corner, by_branches, product_at};
+use crate::cells::by_cells;
 use crate::journal::Entry;
 use crate::sorting::{Side, are_below};
 use sd_apply::{Pairs, Recent, expand_at, merge_at, multiply_at};
@@ -118,8 +120,8 @@ fn by_products(
     Ok(sum)
 }
 
-// The same partition in the way that fits. After a rotation to the left all primes stand below the left child of the
-// left child.
+// The same partition in the way that fits. After a swap all subs stand below the left child, and after a rotation to
+// the left all primes below the left child of that.
 fn partition_at(
     alloc: Global,
     m: &mut Manager,
@@ -142,6 +144,9 @@ fn partition_at(
     ensures rule { IfErr result (λ e. KeepsRule m.new e) }
     ensures table { IsTable m.new }
 {
+    if has_left_subs(m, place, node) {
+        return by_cells(alloc, m, recent, place, node);
+    }
     let Some(corner) = corner_of(m, place, node) else {
         return by_products(alloc, m, recent, place, node);
     };
@@ -149,6 +154,20 @@ fn partition_at(
         Some(list) => Ok(list),
         None => by_products(alloc, m, recent, place, node),
     }
+}
+
+// Whether all subs of a node stand below the left child of a vtree node.
+fn has_left_subs(m: &Manager, place: VNode, node: NodeId) -> bool
+    requires place { IsInnerNode m.now.vtree place }
+    requires node { HasNode m.now node }
+    requires code { 2050 ≤ node }
+    requires codes { AreBelow m.now place (pairs_at m.now node) }
+    requires table { IsTable m.now }
+{
+    let Some(children) = m.vtree().children(place) else {
+        unreachable!()
+    };
+    are_below(m, place, node.0 - 2050, Side::Right, children.0)
 }
 
 // A vtree node whose left child has children, where the primes of a node stand below the left one of these.

@@ -1,0 +1,25 @@
+use Rattle.std.proofs.Common.{sym, subst}
+use Rattle.sd_model.specs.Diagram.{meaning}
+use Rattle.sd_apply.specs.Partitions.{IsPartitionOf}
+use Rattle.sd_apply.proofs.AtNode.{elements_of_on}
+use Rattle.sd_move.proofs.Cutting.{disjoint_on}
+use Rattle.sd_move.proofs.cells.add_sums.Goals as goal
+
+pub multiply_at-requires-clause-first : goal.multiply_at-requires-clause-first
+multiply_at-requires-clause-first c =
+    disjoint_on c.args.m.now c.expand_at.new.m c.expand_at.ensures.kept c.args.place c.args.list.now c.requires.list
+
+pub returns-clause-ok : goal.returns-clause-ok
+returns-clause-ok c =
+    let m = c.args.m.now in
+    let n = c.expand_at.new.m in
+    let p = c.args.place in
+    let l = c.args.list.now in
+    record {
+      more = c.in_ok-joined.joined.items;
+      added = c.in-Ok.ensures.ok;
+      each = λ values d h node. c.in_ok-joined.ensures.ok.part values (meaning d)
+          (elements_of_on m n c.expand_at.ensures.kept p l values h)
+          (subst (λ q. IsPartitionOf n p q (meaning d)) (sym c.as_slice-sums.ensures)
+          (c.in_ok-other.ensures.ok.each d node));
+    }

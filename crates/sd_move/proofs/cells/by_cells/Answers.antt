@@ -1,0 +1,62 @@
+use Rattle.std.proofs.Common.{Bool, List, true, map, sym, subst}
+use Rattle.std.specs.FinMap.{get}
+use Rattle.std.proofs.lemmas.Result.{IfOk-weaker}
+use Rattle.sd_laws.specs.Values.{pairs_value}
+use Rattle.sd_laws.proofs.Evaluated.{value_of}
+use Rattle.sd_manager.specs.Views.{pairs_at}
+use Rattle.sd_manager.proofs.Extending.{extends_on}
+use Rattle.sd_apply.specs.Partitions.{IsPartitionOf}
+use Rattle.sd_apply.proofs.Listed.{children_on}
+use Rattle.sd_move.specs.Cells.{IsCell, IsCut, ArePartitions}
+use Rattle.sd_move.proofs.Cutting.{whole_cell, whole_cut}
+use Rattle.sd_move.proofs.cells.by_cells.Goals as goal
+
+pub cut-requires-clause-place : goal.cut-requires-clause-place
+cut-requires-clause-place c =
+    let r = c.requires.place in
+    record {
+      left = r.left;
+      right = r.right;
+      children = children_on c.args.m.now c.products_of.new.m c.products_of.ensures.kept c.args.place r.left r.right
+          r.children;
+    }
+
+pub cut-requires-clause-cell : goal.cut-requires-clause-cell
+cut-requires-clause-cell c =
+    let r = c.requires.place in
+    let n = c.products_of.new.m in (
+      (λ _. true),
+      whole_cell n c.products_of.ensures.table c.args.place r.left r.right
+          (children_on c.args.m.now n c.products_of.ensures.kept c.args.place r.left r.right r.children),
+    )
+
+pub cut-requires-clause-parts : goal.cut-requires-clause-parts
+cut-requires-clause-parts c =
+    let g = pairs_value (value_of (get c.args.m.now.linked)) (pairs_at c.args.m.now c.args.node) in (
+      g,
+      subst (λ l. ArePartitions c.products_of.new.m c.args.place (map (λ q. q.items) l) g) (sym c.deref.ensures.value)
+          c.in_ok-products.ensures.ok,
+    )
+
+pub returns-clause-ok : goal.returns-clause-ok
+returns-clause-ok c =
+    let m = c.args.m.now in
+    let n = c.products_of.new.m in
+    let o = c.cut.new.m in
+    let p = c.args.place in
+    let r = c.requires.place in
+    let g = pairs_value (value_of (get m.linked)) (pairs_at m c.args.node) in
+    let lists = map (λ q. q.items) c.deref.result.now in
+    IfOk-weaker c.cut.result
+    (λ r. (f h : List Bool → Bool) → IsCell n p 1 f → ArePartitions n p lists h → IsCut o p r.items f h)
+    (λ r. IsPartitionOf o p r.items g)
+    (λ k h. whole_cut o p k.items g (h (λ _. true) g
+    (whole_cell n c.products_of.ensures.table p r.left r.right
+    (children_on m n c.products_of.ensures.kept p r.left r.right r.children))
+    (subst (λ l. ArePartitions n p (map (λ q. q.items) l) g) (sym c.deref.ensures.value)
+    c.in_ok-products.ensures.ok)))
+    c.cut.ensures.ok
+
+pub returns-clause-kept : goal.returns-clause-kept
+returns-clause-kept c =
+    extends_on c.args.m.now c.products_of.new.m c.cut.new.m c.products_of.ensures.kept c.cut.ensures.kept
