@@ -11,6 +11,7 @@ use Rattle.sd_model.specs.Diagram.{Diagram, Bottom, Top, meaning}
 use Rattle.sd_model.specs.Expression.{combine}
 use Rattle.sd_laws.specs.Pairs.{answers}
 use Rattle.sd_laws.specs.Values.{IsSame, pairs_value}
+use Rattle.sd_laws.proofs.Codes.{bottom_from_code}
 use Rattle.sd_laws.proofs.Evaluated.{value_of}
 use Rattle.sd_manager.specs.Table.{Table}
 use Rattle.sd_manager.specs.Shown.{HasNode}
@@ -93,6 +94,21 @@ same_elements t p l f g h same = record {
   elements = h.elements;
   value = λ a. h.value a ∙ same a;
 }
+
+products_with_false : (values : List Bool) → products Or values (false ∷ []) ≡ values
+products_with_false [] = refl
+products_with_false (x ∷ values) = ap (λ y. y ∷ products Or values (false ∷ [])) (sym (or_false x))
+    ∙ ap (λ ys. x ∷ ys) (products_with_false values)
+
+-- a false sum leaves each value as it was
+pub sums_with_false : (t : Table) → IsTable t → (p : ℕ) (l : List (ℕ × ℕ)) (values : List Bool → List Bool)
+    (d : Diagram) → AreElementsOf t p l values → IsNodeUnder t p 0 d
+    → AreElementsOf t p l (λ a. products Or (values a) (meaning d a ∷ []))
+sums_with_false t valid p l values d h node = same_elements t p l values
+    (λ a. products Or (values a) (meaning d a ∷ [])) h
+    (λ a. sym (ap (λ x. products Or (values a) (x ∷ []))
+    (ap (λ e. meaning e a) (bottom_from_code t.vtree (get t.linked) valid.numbered d node.shows))
+    ∙ products_with_false (values a)))
 
 pub partitions_on : (old new : Table) → Extends old new → (p : ℕ) (ls : List (List (ℕ × ℕ))) (g : List Bool → Bool) →
     ArePartitions old p ls g → ArePartitions new p ls g

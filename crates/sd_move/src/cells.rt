@@ -140,6 +140,13 @@ fn add_sums(
     ensures rule { IfErr result (λ e. KeepsRule m.new e) }
     ensures table { IsTable m.new }
 {
+    if sum.is_false() {
+        // no product changes
+        let Ok(()) = all.extend_from_slice(list) else {
+            return Err(TakeError::OutOfMemory);
+        };
+        return Ok(());
+    }
     let other = expand_at(alloc, m, recent, place, sum)?;
     let sums = other.as_slice();
     let mut joined = multiply_at(alloc, m, recent, Operation::Or, place, list, sums)?;

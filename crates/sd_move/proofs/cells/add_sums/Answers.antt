@@ -1,8 +1,9 @@
-use Rattle.std.proofs.Common.{sym, subst}
+use Rattle.std.proofs.Common.{refl, sym, subst}
 use Rattle.sd_model.specs.Diagram.{meaning}
 use Rattle.sd_apply.specs.Partitions.{IsPartitionOf}
+use Rattle.sd_apply.specs.Places.{IsNodeUnder}
 use Rattle.sd_apply.proofs.AtNode.{elements_of_on}
-use Rattle.sd_move.proofs.Cutting.{disjoint_on}
+use Rattle.sd_move.proofs.Cutting.{disjoint_on, sums_with_false}
 use Rattle.sd_move.proofs.cells.add_sums.Goals as goal
 
 pub multiply_at-requires-clause-first : goal.multiply_at-requires-clause-first
@@ -17,9 +18,20 @@ returns-clause-ok c =
     let l = c.args.list.now in
     record {
       more = c.in_ok-joined.joined.items;
-      added = c.in-Ok.ensures.ok;
+      added = c.in-Ok-append.ensures.ok;
       each = λ values d h node. c.in_ok-joined.ensures.ok.part values (meaning d)
           (elements_of_on m n c.expand_at.ensures.kept p l values h)
           (subst (λ q. IsPartitionOf n p q (meaning d)) (sym c.as_slice-sums.ensures)
           (c.in_ok-other.ensures.ok.each d node));
+    }
+
+pub returns-then-is_false-clause-ok : goal.returns-then-is_false-clause-ok
+returns-then-is_false-clause-ok c =
+    let m = c.args.m.now in
+    let p = c.args.place in
+    record {
+      more = c.args.list.now;
+      added = c.in-Ok.ensures.ok;
+      each = λ values d h node. sums_with_false m c.requires.table p c.args.list.now values d h
+          (subst (λ s. IsNodeUnder m p s d) (c.if-is_false.ensures.0 refl) node);
     }
