@@ -9,7 +9,8 @@ the geometric mean. A family holds where that is at most 1.3 and no run takes mo
 one does not hold, and its names are printed. A run of all families takes some minutes.
 
 What has to be made is told by the program itself: the elements of the diagrams that a run makes, by `size` in another
-run that is not timed; or it is the number of lines or groups. What only prepares a run, as the diagram that is
+run that is not timed; or it is the number of lines, or of the vtree nodes
+between the leaves of groups. What only prepares a run, as the diagram that is
 written, is a run of its own, whose time is taken away. Of three runs the quickest counts where they are short.
 
 - pairs: a DNF of terms over i and n + i, whose diagram doubles with each term
@@ -17,7 +18,8 @@ written, is a run of its own, whose time is taken away. Of three runs the quicke
   its last use, on the right tree, where a step makes about as much as it answers
 - load: a file of k roots, of which the last one is bound. It is to take what that one takes in a file of its own, and
   a tenth of the time of reading the file
-- groups, clauses: over the first and another one of n variables, those that change nothing
+- groups, clauses: over the first and another one of n variables, those that change nothing; over the vtree nodes
+  between their leaves
 - parity and adder: n variables, one after another; two numbers of n bits
 - random DNF: terms of three literals
 - lines: scripts of n lines over diagrams of about the same size, with and without `drop`
@@ -179,14 +181,21 @@ def load(shape):
     return step
 
 
+def between(shape, variables):
+    """How many vtree nodes stand between the leaves of the first variable and of another one, about in the mean."""
+    return 2 * (variables.bit_length() - 1) if shape == "balanced" else variables // 2
+
+
 def groups(shape, mark):
-    """The groups over the first variable and each other one, and then 5,000 that change nothing, which count."""
+    """The groups over the first variable and each other one, and then 5,000 that change nothing. The vtree nodes between
+    the leaves of these count."""
     def step(bench, variables):
         draw = random.Random(1)
         each = [mark + [1, -i] for i in range(2, variables + 1)]
         again = [draw.choice(each) for _ in range(5000)]
         words = bench.formula("cnf", variables, each + again) + ["--start", shape]
-        return Step(variables, words, bench.formula("cnf", variables, each) + ["--start", shape], 5000)
+        return Step(variables, words, bench.formula("cnf", variables, each) + ["--start", shape],
+                    5000 * between(shape, variables))
     return step
 
 

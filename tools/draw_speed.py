@@ -11,7 +11,7 @@ out.
 
 docs/speed.svg has a row a table: the ratios of CPU time to BuDDy as dots on a logarithmic axis, and their geometric
 mean as a line. docs/scaling.svg has a field for each family of inputs, with the seconds over the sizes, both
-logarithmic. A table stands between the lines `<!-- made by tools/draw_speed.py: NAME -->` and `<!-- end -->`. Standard
+logarithmic, and by how much the time over what is made rises from one size to the next. A table stands between the lines `<!-- made by tools/draw_speed.py: NAME -->` and `<!-- end -->`. Standard
 library alone.
 """
 import csv
@@ -205,9 +205,9 @@ def field(family, left, top):
              line(left, top + 16, left, top + high, 'stroke="#999"')]
     parts += [line(*first, *second, 'stroke="#2a6f97"') for first, second in zip(spots, spots[1:])]
     parts += ['<circle cx="%.1f" cy="%.1f" r="3" fill="#2a6f97"/>' % spot for spot in spots]
-    parts.append(text(left, top + high + 13, "%g to %g: %.3g to %.3g s, rise %s"
-                      % (sizes[0], sizes[len(points) - 1], seconds[0], seconds[-1], family["mean rise"]),
+    parts.append(text(left, top + high + 13, "%g to %g: %.3g to %.3g s" % (sizes[0], sizes[-1], seconds[0], seconds[-1]),
                       'fill="#444"'))
+    parts.append(text(left + wide - 8, top + high - 5, "\u00d7 " + family["mean rise"], 'fill="#c1121f" text-anchor="end"'))
     return parts
 
 
