@@ -97,6 +97,13 @@ outside_own t i v leaf x s a there e apart under = record {
   };
 }
 
+-- and so is one below the other side
+pub other_side : (t : Table) → IsTable t → (v leaf x : ℕ) (s : Bool) (a : ℕ) → IsThere t.vtree v →
+    variable_at t.vtree leaf ≡ Some x → ¬ IsUnder t.vtree leaf v → IsBelow t v a →
+    AnswersOf t t (conditioned x s) a a
+other_side t i v leaf x s a there e apart h =
+    outside_own t i v leaf x s a there e apart (below_each t i v a h)
+
 -- the answer at a diagram below a vtree node is below it
 pub conditioned_under : (t : Numbered) (v x : ℕ) (s : Bool) (d z : Diagram) → 1 ≤ x →
     IsCanonicalUnder t v d → IsCanonical (plain_tree t) 0 z →

@@ -2,18 +2,20 @@
 use Rattle.std.proofs.Common.{◌≡◌, ℕ, ◌+◌, ◌≤◌, ◌<◌, Bool, false, cond, List, [], ◌∷◌, ◌++◌}
 use Rattle.std.proofs.Common.{length, take, get_or, refl, sym, ◌∙◌, ap, subst}
 use Rattle.std.proofs.Common.{append-nil}
+use Rattle.std.specs.FinMap.{get}
 use Rattle.sd_model.specs.Assignment.{with_value}
 use Rattle.sd_model.specs.Diagram.{Diagram, meaning}
 use Rattle.sd_cache.specs.Entries.{Answers}
 use Rattle.sd_laws.specs.Pairs.{answers}
 use Rattle.sd_manager.specs.Table.{Table}
-use Rattle.sd_manager.specs.Shown.{ShowsCanonical, IsPartitionAt}
+use Rattle.sd_laws.proofs.Codes.{bottom_from_code}
+use Rattle.sd_manager.specs.Shown.{Shows, ShowsCanonical, IsPartitionAt}
 use Rattle.sd_manager.specs.Views.{pairs_at}
 use Rattle.sd_manager.specs.Making.{Extends}
 use Rattle.sd_manager.specs.Valid.{IsTable}
 use Rattle.sd_apply.specs.Answers.{Compresses}
 use Rattle.sd_apply.specs.Places.{IsCanonicalUnder, HasPlace, HasChildren}
-use Rattle.sd_apply.specs.Elements.{IsPair, ListsElements, HasList}
+use Rattle.sd_apply.specs.Elements.{IsPair, IsPaired, ListsElements, HasList}
 use Rattle.sd_apply.specs.Serving.{Serves}
 use Rattle.sd_apply.proofs.Growing.{either_none, either_both}
 use Rattle.sd_apply.proofs.Listed.{pair_on, lists_on, lists_push, lists_none}
@@ -135,6 +137,12 @@ pairs_push m0 m m1 m2 k k1 k2 c c1 c2 x s u w l r r2 i e prime sub low h n n2 lt
                 ∙ sym (take_answers b m0 u w e ds i d.0 d.1);
           };
     }
+
+-- the prime of an element is not false
+pub prime_possible : (t : Table) → IsTable t → (u w : ℕ) (e : ℕ × ℕ) → IsPaired t u w e → e.0 ≡ 0 → ⊥
+prime_possible t i u w e h none =
+    let S : ℕ → Type 0 = λ n. Shows t n h.shown.0 in
+    h.is.possible (bottom_from_code t.vtree (get t.linked) i.numbered h.shown.0 (subst S none h.is.prime_shows))
 
 -- all of them
 pub pairs_done : (m0 m : Table) (k : KeptAnswers) (c : Answers) (x : ℕ) (s : Bool) (u w : ℕ)

@@ -7,7 +7,7 @@ use Rattle.std.proofs.lemmas.Bool.{cases_eq, cases_lt}
 use Rattle.std.proofs.lemmas.Bool.Decides.{nat_tests}
 use Rattle.std.proofs.lemmas.Option.{same_Some, none-some}
 use Rattle.sd_model.specs.Tree.{leaves}
-use Rattle.sd_model.specs.Diagram.{Diagram, Literal}
+use Rattle.sd_model.specs.Diagram.{Literal}
 use Rattle.sd_model.specs.Canonical.{IsCanonical}
 use Rattle.sd_model.proofs.Blend.{occurs}
 use Rattle.sd_model.proofs.OverVtree.{vtree_apart}
@@ -19,13 +19,8 @@ use Rattle.sd_vtree.proofs.Under.{under_itself, under_within}
 use Rattle.sd_vtree.proofs.Subtrees.{subtree_in, subtree_times, subtree_trans, subtree_some, subtree_number}
 use Rattle.sd_vtree.proofs.Subtrees.{subtree_split, once_numbered, Way, Here, Left, Right, way}
 use Rattle.sd_vtree.proofs.Times.{times_other}
-use Rattle.sd_laws.specs.Parts.{HasPosition}
 use Rattle.sd_laws.proofs.Leaves.{leaf_number}
 use Rattle.sd_laws.proofs.Numbers.{part_of_subtree, literal_canonical, literal_position}
-use Rattle.sd_manager.specs.declared.view.View.TheVariants.{Decomposition as DecompositionView}
-use Rattle.sd_manager.specs.Table.{Table}
-use Rattle.sd_manager.specs.Shown.{Shows, ShowsCanonical}
-use Rattle.sd_manager.specs.Views.{IsViewOf}
 use Rattle.sd_apply.specs.Places.{plain, tree_at, HasPlace, IsThere, HasChildren}
 use Rattle.sd_apply.proofs.Trees.{below_canonical, stands_under}
 use Rattle.sd_cond.specs.Calls.{Tells}
@@ -213,12 +208,3 @@ tells_over t v p leaf q qi pi eq ep h k lowest = record {
       let same : q ≡ p = under_equal t v q p (lowest p here j) h in
       absurd (grind (arith, nat_tests, z, eq ∙ same ∙ sym ep));
 }
-
--- where the place that is read of a decomposition stands
-pub place_of_view : (t : Table) (a place count : ℕ) →
-    ((d : Diagram) → Shows t a d → IsViewOf t (DecompositionView place count) d) →
-    (d : Diagram) → ShowsCanonical t a d → HasPlace t.vtree place d
-place_of_view t a place count read d h =
-    let k = read d h.shows in
-    let P : Diagram → Type 0 = λ x. HasPosition x k.0 in
-    record { position = k.0; stands = subst P (sym k.2) refl; number = k.4 }

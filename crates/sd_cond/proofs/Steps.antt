@@ -7,9 +7,11 @@ use Rattle.sd_laws.specs.Pairs.{answers}
 use Rattle.sd_manager.specs.Table.{Table}
 use Rattle.sd_manager.specs.Making.{Extends}
 use Rattle.sd_manager.specs.Valid.{IsTable}
-use Rattle.sd_apply.specs.Growing.{GrowsBelowEither}
+use Rattle.sd_apply.specs.Growing.{GrowsBelow, GrowsBelowEither}
 use Rattle.sd_apply.specs.Elements.{ListsElements, HasList}
 use Rattle.sd_apply.specs.Serving.{Serves}
+use Rattle.sd_manager.proofs.Extending.{extends_self}
+use Rattle.sd_apply.proofs.Growing.{either_none, grows_left, grows_right}
 use Rattle.sd_cond.specs.Calls.{conditioned, forgotten, answers_by}
 use Rattle.sd_cond.specs.declared.kept.KeptAnswers.{KeptAnswers}
 use Rattle.sd_cond.specs.Kept.{AreAnswers}
@@ -38,3 +40,37 @@ pub record InSubs (old new : Table) (kept with_true with_false : KeptAnswers) (c
   pub knows_false : AreAnswers new (conditioned x false) with_false
   pub subs : (ds : List (Diagram × Diagram)) → ListsElements old u w l ds →
       HasList new u w r (λ a. answers_by (forgotten x) a (take i ds))
+
+-- ---- one call below the left or the right child, or none
+
+pub left_step : (old new : Table) (f : Diagram → List Bool → Bool) (kept : KeptAnswers) (c : Answers) (u w : ℕ) →
+    Extends old new → AreAnswers new f kept → Serves c new → IsTable new → GrowsBelow old new u →
+    IsStep old new f kept c u w
+left_step old new f kept c u w x k s i g = record {
+  extends = x;
+  knows = k;
+  serves = s;
+  table = i;
+  grown = grows_left old new u w g;
+}
+
+pub right_step : (old new : Table) (f : Diagram → List Bool → Bool) (kept : KeptAnswers) (c : Answers) (u w : ℕ) →
+    Extends old new → AreAnswers new f kept → Serves c new → IsTable new → GrowsBelow old new w →
+    IsStep old new f kept c u w
+right_step old new f kept c u w x k s i g = record {
+  extends = x;
+  knows = k;
+  serves = s;
+  table = i;
+  grown = grows_right old new u w g;
+}
+
+pub still : (t : Table) (f : Diagram → List Bool → Bool) (kept : KeptAnswers) (c : Answers) (u w : ℕ) →
+    AreAnswers t f kept → Serves c t → IsTable t → IsStep t t f kept c u w
+still t f kept c u w k s i = record {
+  extends = extends_self t;
+  knows = k;
+  serves = s;
+  table = i;
+  grown = either_none t u w;
+}

@@ -10,10 +10,12 @@ ghost use Rattle.sd_apply.specs.Growing.{GrowsBelowBoth};
 ghost use Rattle.sd_apply.specs.Serving.{Serves};
 ghost use Rattle.sd_cond.specs.Calls.{conditioned, forgotten, AnswersOf};
 
+use crate::asked::{Condition, Variable};
 use crate::conditioning::{at_terminal, given_here};
 use crate::forgetting::{forget_here, forget_terminal};
-use crate::kept::KeptAnswers;
-use crate::places::{is_over, place_with_children};
+use crate::kept::{ForgetAnswers, KeptAnswers};
+use crate::places::is_over;
+use sd_apply::place_with_children;
 use sd_cache::Cache;
 use sd_manager::{Manager, NodeId};
 use sd_runs::TakeError;
@@ -56,14 +58,17 @@ pub(crate) fn given_cached(
     }
     let root = m.vtree().root();
     let leaf = m.vtree().leaf(variable);
-    let (place, left, right) = place_with_children(m, root, a);
-    if !is_over(m, root, place, leaf) {
+    let fork = place_with_children(m, root, a);
+    if !is_over(m, root, fork.node, leaf) {
         return Ok(a);
     }
+    let condition = Condition {
+        variable,
+        positive,
+        leaf,
+    };
     let mut kept = KeptAnswers::new(alloc);
-    let code = given_here(
-        alloc, m, c, &mut kept, variable, positive, leaf, place, left, right, a,
-    )?;
+    let code = given_here(alloc, m, c, &mut kept, &condition, &fork, a)?;
     // an answer that is not kept is found again
     let _ = c.keep(epoch, GIVEN, a.0, literal.0, code.0);
     Ok(code)
@@ -98,27 +103,20 @@ pub(crate) fn forget_cached(
     }
     let root = m.vtree().root();
     let leaf = m.vtree().leaf(variable);
-    let (place, left, right) = place_with_children(m, root, a);
-    if !is_over(m, root, place, leaf) {
+    let fork = place_with_children(m, root, a);
+    if !is_over(m, root, fork.node, leaf) {
         return Ok(a);
     }
-    let mut kept = KeptAnswers::new(alloc);
-    let mut with_true = KeptAnswers::new(alloc);
-    let mut with_false = KeptAnswers::new(alloc);
-    let code = forget_here(
-        alloc,
-        m,
-        c,
-        &mut kept,
-        &mut with_true,
-        &mut with_false,
-        variable,
+    let variable = Variable {
+        number: variable,
         leaf,
-        place,
-        left,
-        right,
-        a,
-    )?;
+    };
+    let mut answers = ForgetAnswers {
+        forgotten: KeptAnswers::new(alloc),
+        with_true: KeptAnswers::new(alloc),
+        with_false: KeptAnswers::new(alloc),
+    };
+    let code = forget_here(alloc, m, c, &mut answers, &variable, &fork, a)?;
     // an answer that is not kept is found again
     let _ = c.keep(epoch, FORGET, a.0, literal, code.0);
     Ok(code)

@@ -7,17 +7,17 @@ ghost use Rattle.sd_manager.specs.Shown.{ShowsCanonical, IsNodeOf};
 ghost use Rattle.sd_manager.specs.Valid.{IsTable};
 ghost use Rattle.sd_manager.specs.Making.{Extends, KeepsRule};
 ghost use Rattle.sd_apply.specs.Growing.{GrowsBelow, GrowsBelowEither};
-ghost use Rattle.sd_apply.specs.Places.{IsBelow, HasPlace, HasChildren};
+ghost use Rattle.sd_apply.specs.Places.{IsBelow, HasPlace, IsFork};
 ghost use Rattle.sd_apply.specs.Elements.{AreListedElements};
 ghost use Rattle.sd_apply.specs.Serving.{Serves};
 ghost use Rattle.sd_cond.specs.Calls.{conditioned, forgotten, AnswersOf, ForgetsSubs};
 ghost use Rattle.sd_cond.specs.Kept.{AreAnswers};
 
+use crate::asked::{Condition, Variable};
 use crate::conditioning::given_here;
-use crate::kept::KeptAnswers;
-use crate::lists::{Pairs, elements_of};
-use crate::places::{is_left, is_over, place_with_children};
-use sd_apply::{are_same, compress, or};
+use crate::kept::ForgetAnswers;
+use crate::places::{is_left, is_over};
+use sd_apply::{Fork, Pairs, are_same, compress, elements_of, or, place_with_children, push};
 use sd_cache::Cache;
 use sd_manager::{Manager, NodeId};
 use sd_runs::TakeError;
@@ -47,48 +47,47 @@ fn forget_at(
     alloc: Global,
     m: &mut Manager,
     c: &mut Cache,
-    kept: &mut KeptAnswers,
-    with_true: &mut KeptAnswers,
-    with_false: &mut KeptAnswers,
-    variable: u32,
-    leaf: VNode,
+    answers: &mut ForgetAnswers,
+    variable: &Variable,
     at: VNode,
     a: NodeId,
 ) -> Result<NodeId, TakeError>
-    requires variable { 1 ≤ variable }
-    requires leaf { variable_at m.old.vtree leaf ≡ Some variable }
-    requires over { IsUnder m.old.vtree leaf at }
+    requires variable { 1 ≤ variable.now.number }
+    requires leaf { variable_at m.old.vtree variable.now.leaf ≡ Some variable.now.number }
+    requires over { IsUnder m.old.vtree variable.now.leaf at }
     requires a { IsBelow m.old at a }
-    requires knows { AreAnswers m.old (forgotten variable) kept.old }
-    requires knows_true { AreAnswers m.old (conditioned variable true) with_true.old }
-    requires knows_false { AreAnswers m.old (conditioned variable false) with_false.old }
+    requires knows { AreAnswers m.old (forgotten variable.now.number) answers.old.forgotten }
+    requires knows_true { AreAnswers m.old (conditioned variable.now.number true)
+        answers.old.with_true }
+    requires knows_false { AreAnswers m.old (conditioned variable.now.number false)
+        answers.old.with_false }
     requires serves { Serves c.old m.old }
-    ensures ok { IfOk result (λ r. AnswersOf m.old m.new (forgotten variable) a r) }
+    ensures ok { IfOk result (λ r. AnswersOf m.old m.new (forgotten variable.now.number) a r) }
     ensures kept { Extends m.old m.new }
     ensures grown { GrowsBelow m.old m.new at }
-    ensures knows { AreAnswers m.new (forgotten variable) kept.new }
-    ensures knows_true { AreAnswers m.new (conditioned variable true) with_true.new }
-    ensures knows_false { AreAnswers m.new (conditioned variable false) with_false.new }
+    ensures knows { AreAnswers m.new (forgotten variable.now.number) answers.new.forgotten }
+    ensures knows_true { AreAnswers m.new (conditioned variable.now.number true)
+        answers.new.with_true }
+    ensures knows_false { AreAnswers m.new (conditioned variable.now.number false)
+        answers.new.with_false }
     ensures serves { Serves c.new m.new }
     ensures rule { IfErr result (λ e. KeepsRule m.new e) }
     ensures table { IsTable m.new }
 {
     // its contract tells that the table is valid
     let _ = m.vtree();
-    if let Some(node) = forget_terminal(a, variable) {
+    if let Some(node) = forget_terminal(a, variable.number) {
         return Ok(node);
     }
-    if let Some(code) = kept.look(a) {
+    if let Some(code) = answers.forgotten.look(a) {
         return Ok(NodeId(code));
     }
-    let (place, left, right) = place_with_children(m, at, a);
-    if !is_over(m, at, place, leaf) {
+    let fork = place_with_children(m, at, a);
+    if !is_over(m, at, fork.node, variable.leaf) {
         return Ok(a);
     }
-    let code = forget_here(
-        alloc, m, c, kept, with_true, with_false, variable, leaf, place, left, right, a,
-    )?;
-    let Ok(()) = kept.keep(alloc, a, code) else {
+    let code = forget_here(alloc, m, c, answers, variable, &fork, a)?;
+    let Ok(()) = answers.forgotten.keep(alloc, a, code) else {
         return Err(TakeError::OutOfMemory);
     };
     Ok(code)
@@ -100,53 +99,49 @@ pub(crate) fn forget_here(
     alloc: Global,
     m: &mut Manager,
     c: &mut Cache,
-    kept: &mut KeptAnswers,
-    with_true: &mut KeptAnswers,
-    with_false: &mut KeptAnswers,
-    variable: u32,
-    leaf: VNode,
-    place: VNode,
-    left: VNode,
-    right: VNode,
+    answers: &mut ForgetAnswers,
+    variable: &Variable,
+    fork: &Fork,
     a: NodeId,
 ) -> Result<NodeId, TakeError>
-    requires variable { 1 ≤ variable }
-    requires leaf { variable_at m.old.vtree leaf ≡ Some variable }
-    requires children { HasChildren m.old.vtree place left right }
-    requires over { IsUnder m.old.vtree leaf place }
+    requires variable { 1 ≤ variable.now.number }
+    requires leaf { variable_at m.old.vtree variable.now.leaf ≡ Some variable.now.number }
+    requires children { IsFork m.old.vtree fork.now }
+    requires over { IsUnder m.old.vtree variable.now.leaf fork.now.node }
     requires node { IsNodeOf m.old a }
     requires code { 2050 ≤ a }
-    requires place { (d : Diagram) → ShowsCanonical m.old a d → HasPlace m.old.vtree place d }
-    requires knows { AreAnswers m.old (forgotten variable) kept.old }
-    requires knows_true { AreAnswers m.old (conditioned variable true) with_true.old }
-    requires knows_false { AreAnswers m.old (conditioned variable false) with_false.old }
+    requires place { (d : Diagram) → ShowsCanonical m.old a d
+        → HasPlace m.old.vtree fork.now.node d }
+    requires knows { AreAnswers m.old (forgotten variable.now.number) answers.old.forgotten }
+    requires knows_true { AreAnswers m.old (conditioned variable.now.number true)
+        answers.old.with_true }
+    requires knows_false { AreAnswers m.old (conditioned variable.now.number false)
+        answers.old.with_false }
     requires serves { Serves c.old m.old }
     requires table { IsTable m.old }
-    ensures ok { IfOk result (λ r. AnswersOf m.old m.new (forgotten variable) a r) }
+    ensures ok { IfOk result (λ r. AnswersOf m.old m.new (forgotten variable.now.number) a r) }
     ensures kept { Extends m.old m.new }
-    ensures grown { GrowsBelow m.old m.new place }
-    ensures knows { AreAnswers m.new (forgotten variable) kept.new }
-    ensures knows_true { AreAnswers m.new (conditioned variable true) with_true.new }
-    ensures knows_false { AreAnswers m.new (conditioned variable false) with_false.new }
+    ensures grown { GrowsBelow m.old m.new fork.now.node }
+    ensures knows { AreAnswers m.new (forgotten variable.now.number) answers.new.forgotten }
+    ensures knows_true { AreAnswers m.new (conditioned variable.now.number true)
+        answers.new.with_true }
+    ensures knows_false { AreAnswers m.new (conditioned variable.now.number false)
+        answers.new.with_false }
     ensures serves { Serves c.new m.new }
     ensures rule { IfErr result (λ e. KeepsRule m.new e) }
     ensures table { IsTable m.new }
 {
-    if is_left(m, variable, leaf, place, left, right) {
-        return forget_by_both(
-            alloc, m, c, with_true, with_false, variable, leaf, place, left, right, a,
-        );
+    if is_left(m, variable.leaf, fork) {
+        return forget_by_both(alloc, m, c, answers, variable, fork, a);
     }
     let list = elements_of(alloc, m, a)?;
     let elements = list.as_slice();
-    let pairs = forget_subs(
-        alloc, m, c, kept, with_true, with_false, variable, leaf, left, right, elements,
-    )?;
+    let pairs = forget_subs(alloc, m, c, answers, variable, fork, elements)?;
     let projected = pairs.as_slice();
     if are_same(projected, elements) {
         return Ok(a);
     }
-    compress(alloc, m, c, place, projected)
+    compress(alloc, m, c, fork.node, projected)
 }
 
 // The elements with the variable forgotten in their subs, where it is none of the primes'.
@@ -155,30 +150,31 @@ fn forget_subs(
     alloc: Global,
     m: &mut Manager,
     c: &mut Cache,
-    kept: &mut KeptAnswers,
-    with_true: &mut KeptAnswers,
-    with_false: &mut KeptAnswers,
-    variable: u32,
-    leaf: VNode,
-    left: VNode,
-    right: VNode,
+    answers: &mut ForgetAnswers,
+    variable: &Variable,
+    fork: &Fork,
     list: &[(NodeId, NodeId)],
 ) -> Result<Pairs, TakeError>
-    requires variable { 1 ≤ variable }
-    requires leaf { variable_at m.old.vtree leaf ≡ Some variable }
-    requires over { IsUnder m.old.vtree leaf right }
-    requires list { AreListedElements m.old left right list.now }
-    requires knows { AreAnswers m.old (forgotten variable) kept.old }
-    requires knows_true { AreAnswers m.old (conditioned variable true) with_true.old }
-    requires knows_false { AreAnswers m.old (conditioned variable false) with_false.old }
+    requires variable { 1 ≤ variable.now.number }
+    requires leaf { variable_at m.old.vtree variable.now.leaf ≡ Some variable.now.number }
+    requires over { IsUnder m.old.vtree variable.now.leaf fork.now.right }
+    requires list { AreListedElements m.old fork.now.left fork.now.right list.now }
+    requires knows { AreAnswers m.old (forgotten variable.now.number) answers.old.forgotten }
+    requires knows_true { AreAnswers m.old (conditioned variable.now.number true)
+        answers.old.with_true }
+    requires knows_false { AreAnswers m.old (conditioned variable.now.number false)
+        answers.old.with_false }
     requires serves { Serves c.old m.old }
     requires table { IsTable m.old }
-    ensures ok { IfOk result (λ r. ForgetsSubs m.old m.new variable left right list.now r.items) }
+    ensures ok { IfOk result (λ r. ForgetsSubs m.old m.new variable.now.number fork.now.left
+        fork.now.right list.now r.items) }
     ensures kept { Extends m.old m.new }
-    ensures grown { GrowsBelowEither m.old m.new left right }
-    ensures knows { AreAnswers m.new (forgotten variable) kept.new }
-    ensures knows_true { AreAnswers m.new (conditioned variable true) with_true.new }
-    ensures knows_false { AreAnswers m.new (conditioned variable false) with_false.new }
+    ensures grown { GrowsBelowEither m.old m.new fork.now.left fork.now.right }
+    ensures knows { AreAnswers m.new (forgotten variable.now.number) answers.new.forgotten }
+    ensures knows_true { AreAnswers m.new (conditioned variable.now.number true)
+        answers.new.with_true }
+    ensures knows_false { AreAnswers m.new (conditioned variable.now.number false)
+        answers.new.with_false }
     ensures serves { Serves c.new m.new }
     ensures rule { IfErr result (λ e. KeepsRule m.new e) }
     ensures table { IsTable m.new }
@@ -186,12 +182,8 @@ fn forget_subs(
     let mut pairs = SmallVec::new(alloc);
     for i in 0..list.len() {
         let (prime, sub) = list[i];
-        let value = forget_at(
-            alloc, m, c, kept, with_true, with_false, variable, leaf, right, sub,
-        )?;
-        let Ok(()) = pairs.push((prime, value)) else {
-            return Err(TakeError::OutOfMemory);
-        };
+        let value = forget_at(alloc, m, c, answers, variable, fork.right, sub)?;
+        push(&mut pairs, prime, value)?;
     }
     Ok(pairs)
 }
@@ -201,40 +193,48 @@ fn forget_by_both(
     alloc: Global,
     m: &mut Manager,
     c: &mut Cache,
-    with_true: &mut KeptAnswers,
-    with_false: &mut KeptAnswers,
-    variable: u32,
-    leaf: VNode,
-    place: VNode,
-    left: VNode,
-    right: VNode,
+    answers: &mut ForgetAnswers,
+    variable: &Variable,
+    fork: &Fork,
     a: NodeId,
 ) -> Result<NodeId, TakeError>
-    requires variable { 1 ≤ variable }
-    requires leaf { variable_at m.old.vtree leaf ≡ Some variable }
-    requires children { HasChildren m.old.vtree place left right }
-    requires over { IsUnder m.old.vtree leaf place }
+    requires variable { 1 ≤ variable.now.number }
+    requires leaf { variable_at m.old.vtree variable.now.leaf ≡ Some variable.now.number }
+    requires children { IsFork m.old.vtree fork.now }
+    requires over { IsUnder m.old.vtree variable.now.leaf fork.now.node }
     requires node { IsNodeOf m.old a }
     requires code { 2050 ≤ a }
-    requires place { (d : Diagram) → ShowsCanonical m.old a d → HasPlace m.old.vtree place d }
-    requires knows_true { AreAnswers m.old (conditioned variable true) with_true.old }
-    requires knows_false { AreAnswers m.old (conditioned variable false) with_false.old }
+    requires place { (d : Diagram) → ShowsCanonical m.old a d
+        → HasPlace m.old.vtree fork.now.node d }
+    requires knows { AreAnswers m.old (forgotten variable.now.number) answers.old.forgotten }
+    requires knows_true { AreAnswers m.old (conditioned variable.now.number true)
+        answers.old.with_true }
+    requires knows_false { AreAnswers m.old (conditioned variable.now.number false)
+        answers.old.with_false }
     requires serves { Serves c.old m.old }
     requires table { IsTable m.old }
-    ensures ok { IfOk result (λ r. AnswersOf m.old m.new (forgotten variable) a r) }
+    ensures ok { IfOk result (λ r. AnswersOf m.old m.new (forgotten variable.now.number) a r) }
     ensures kept { Extends m.old m.new }
-    ensures grown { GrowsBelow m.old m.new place }
-    ensures knows_true { AreAnswers m.new (conditioned variable true) with_true.new }
-    ensures knows_false { AreAnswers m.new (conditioned variable false) with_false.new }
+    ensures grown { GrowsBelow m.old m.new fork.now.node }
+    ensures knows { AreAnswers m.new (forgotten variable.now.number) answers.new.forgotten }
+    ensures knows_true { AreAnswers m.new (conditioned variable.now.number true)
+        answers.new.with_true }
+    ensures knows_false { AreAnswers m.new (conditioned variable.now.number false)
+        answers.new.with_false }
     ensures serves { Serves c.new m.new }
     ensures rule { IfErr result (λ e. KeepsRule m.new e) }
     ensures table { IsTable m.new }
 {
-    let first = given_here(
-        alloc, m, c, with_true, variable, true, leaf, place, left, right, a,
-    )?;
-    let second = given_here(
-        alloc, m, c, with_false, variable, false, leaf, place, left, right, a,
-    )?;
+    let yes = Condition {
+        variable: variable.number,
+        positive: true,
+        leaf: variable.leaf,
+    };
+    let first = given_here(alloc, m, c, &mut answers.with_true, &yes, fork, a)?;
+    let no = Condition {
+        positive: false,
+        ..yes
+    };
+    let second = given_here(alloc, m, c, &mut answers.with_false, &no, fork, a)?;
     or(alloc, m, c, first, second)
 }

@@ -33,6 +33,17 @@ pub(crate) struct KeptAnswers {
     count: usize,
 }
 
+/// The answers of forgetting a variable, and of conditioning on it and on its negation.
+#[derive(Drop)]
+pub(crate) struct ForgetAnswers {
+    /// Where the variable is forgotten.
+    pub(crate) forgotten: KeptAnswers,
+    /// Where it is true.
+    pub(crate) with_true: KeptAnswers,
+    /// Where it is false.
+    pub(crate) with_false: KeptAnswers,
+}
+
 // The entry from which on the answer at a code is sought among so many, of which there are a power
 // of two.
 fn place_of(code: u32, count: usize) -> usize

@@ -10,11 +10,11 @@
 //! of its own (`kept.rt`), and the cache is asked once a call (`cached.rt`).
 #![tactic(auto)]
 
+mod asked;
 mod cached;
 mod conditioning;
 mod forgetting;
 mod kept;
-mod lists;
 mod operations;
 mod places;
 

@@ -41,25 +41,25 @@ forget_here-requires-clause-serves c =
 
 -- nothing is kept yet
 pub forget_here-requires-clause-knows : goal.forget_here-requires-clause-knows
-forget_here-requires-clause-knows c = c.new-kept.ensures c.args.m.now (forgotten c.args.variable)
+forget_here-requires-clause-knows c = c.new.ensures c.args.m.now (forgotten c.args.variable)
 
 pub forget_here-requires-clause-knows_true : goal.forget_here-requires-clause-knows_true
 forget_here-requires-clause-knows_true c =
-    c.new-with_true.ensures c.args.m.now (conditioned c.args.variable true)
+    c.new-2.ensures c.args.m.now (conditioned c.args.variable true)
 
 pub forget_here-requires-clause-knows_false : goal.forget_here-requires-clause-knows_false
 forget_here-requires-clause-knows_false c =
-    c.new-with_false.ensures c.args.m.now (conditioned c.args.variable false)
+    c.new-3.ensures c.args.m.now (conditioned c.args.variable false)
 
 -- the root is there, and the node is below it
-pub place_with_children-place-requires-clause-at : goal.place_with_children-place-requires-clause-at
-place_with_children-place-requires-clause-at c =
+pub place_with_children-fork-requires-clause-at : goal.place_with_children-fork-requires-clause-at
+place_with_children-fork-requires-clause-at c =
     root_there c.args.m.now.vtree c.root-root.result (c.root-root.ensures.root
     ∙ ap number_of c.vtree.ensures.vtree)
 
-pub place_with_children-place-requires-clause-node :
-    goal.place_with_children-place-requires-clause-node
-place_with_children-place-requires-clause-node c =
+pub place_with_children-fork-requires-clause-node :
+    goal.place_with_children-fork-requires-clause-node
+place_with_children-fork-requires-clause-node c =
     root_below c.args.m.now c.root-root.result c.args.a (c.root-root.ensures.root
     ∙ ap number_of c.vtree.ensures.vtree)
     c.requires.node
@@ -69,26 +69,26 @@ pub returns-then-not-is_over-clause-ok : goal.returns-then-not-is_over-clause-ok
 returns-then-not-is_over-clause-ok c =
     let m = c.args.m.now in
     let i = c.epoch-epoch.ensures.table in
-    let p = c.place_with_children-place in
-    forget_outside m i p.result.0 c.leaf-leaf.result c.args.variable c.args.a p.ensures.there
+    let p = c.place_with_children-fork in
+    forget_outside m i p.result.node c.leaf-leaf.result c.args.variable c.args.a p.ensures.there
     (subst (λ t. variable_at t c.leaf-leaf.result ≡ Some c.args.variable) c.vtree-2.ensures.vtree
     c.leaf-leaf.ensures.leaf)
     (c.is_over.ensures.tells.apart c.if-not-is_over.true)
-    (place_each m i p.result.0 c.args.a p.ensures.there p.ensures.place)
+    (place_each m i p.result.node c.args.a p.ensures.there p.ensures.place)
 
 -- where new nodes stand
 pub returns-in_err-code-clause-grown : goal.returns-in_err-code-clause-grown
 returns-in_err-code-clause-grown c =
-    let p = c.place_with_children-place in
+    let p = c.place_with_children-fork in
     both_lowest c.args.m.now c.forget_here.new.m c.forget_here.ensures.kept
-    c.epoch-epoch.ensures.table.numbered p.result.0 c.args.a c.args.a
+    c.epoch-epoch.ensures.table.numbered p.result.node c.args.a c.args.a
     (λ n there x y. p.ensures.lowest n there x) c.forget_here.ensures.grown
 
 pub returns-clause-grown : goal.returns-clause-grown
 returns-clause-grown c =
-    let p = c.place_with_children-place in
+    let p = c.place_with_children-fork in
     both_lowest c.args.m.now c.forget_here.new.m c.forget_here.ensures.kept
-    c.epoch-epoch.ensures.table.numbered p.result.0 c.args.a c.args.a
+    c.epoch-epoch.ensures.table.numbered p.result.node c.args.a c.args.a
     (λ n there x y. p.ensures.lowest n there x) c.forget_here.ensures.grown
 
 -- the answer is right to keep

@@ -1,7 +1,8 @@
-use Rattle.std.proofs.Common.{◌∙◌, sym, subst, ℕ, ◌+◌, ◌*◌, ◌<◌, not, List, [], ◌∷◌}
+use Rattle.std.proofs.Common.{◌∙◌, sym, subst, refl, ℕ, ◌+◌, ◌*◌, ◌<◌, false, List, [], ◌∷◌}
 use Rattle.std.proofs.Common.{get_or, arith, rules}
 use Rattle.std.proofs.lemmas.Result.{IfOk-weaker}
 use Rattle.sd_model.specs.Diagram.{Diagram}
+use Rattle.sd_vtree.specs.Numbered.{IsUnder}
 use Rattle.sd_manager.specs.Shown.{IsPartitionAt, ShowsCanonical}
 use Rattle.sd_apply.specs.Answers.{Compresses}
 use Rattle.sd_apply.specs.Places.{width}
@@ -9,53 +10,53 @@ use Rattle.sd_apply.specs.Elements.{AreListedElements, HasList}
 use Rattle.sd_apply.proofs.Trees.{width_positive, left_there, right_there}
 use Rattle.sd_apply.proofs.Listed.{width_on, there_on, children_on, pair_at}
 use Rattle.sd_manager.proofs.Extending.{extends_on}
-use Rattle.sd_apply.proofs.Growing.{grows_both, grows_left, grows_right, grows_over}
+use Rattle.sd_apply.proofs.Growing.{grows_both, grows_over}
 use Rattle.sd_apply.proofs.Rows.{prime_below, sub_below, paired_at}
 use Rattle.sd_apply.proofs.Expanding.{own_listed}
 use Rattle.sd_cond.specs.Calls.{conditioned, AnswersOf, FixesPairs}
-use Rattle.sd_cond.proofs.Steps.{IsStep}
+use Rattle.sd_cond.proofs.Steps.{left_step, right_step, still}
 use Rattle.sd_cond.proofs.Answering.{answer_kept, answer_found, answers_on, below_node}
-use Rattle.sd_cond.proofs.Answering.{below_each, place_each, outside_own, tells_on, leaf_on, wider_on}
-use Rattle.sd_cond.proofs.Elements.{pairs_skip, pairs_push, pairs_done, fixed_list}
+use Rattle.sd_cond.proofs.Answering.{other_side, place_each, outside_own, tells_on, leaf_on, wider_on}
+use Rattle.sd_cond.proofs.Elements.{pairs_skip, pairs_push, pairs_done, prime_possible, fixed_list}
 use Rattle.sd_cond.proofs.Elements.{listed_partition, compressed_answers, same_answers}
 use Rattle.sd_cond.proofs.conditioning.+given.Goals as goal
-use Rattle.sd_cond.proofs.conditioning.+given.Goals.{given_pairs-then-not-is_false+in_ok-value+in-Ok}
-use Rattle.sd_cond.proofs.conditioning.+given.Goals.{given_pairs-else-not-is_false}
+use Rattle.sd_cond.proofs.conditioning.+given.Goals.{given_primes-then-not-is_false+in_ok-push}
+use Rattle.sd_cond.proofs.conditioning.+given.Goals.{given_primes-else-not-is_false}
 
 -- an answer that is kept
 pub given_at-returns-in-Some-look-clause-ok : goal.given_at-returns-in-Some-look-clause-ok
 given_at-returns-in-Some-look-clause-ok t c =
-    let f = conditioned c.args.variable c.args.positive in
+    let f = conditioned c.args.condition.now.variable c.args.condition.now.positive in
     answer_kept c.args.m.now c.vtree.ensures.table f c.args.a c.in-Some-look.code
     (c.in-Some-look.ensures c.args.m.now f c.requires.knows)
 
 -- a node below whose vtree node the leaf does not stand
 pub given_at-returns-then-not-is_over-clause-ok : goal.given_at-returns-then-not-is_over-clause-ok
 given_at-returns-then-not-is_over-clause-ok t c =
-    let p = c.place_with_children-place in
-    outside_own c.args.m.now c.vtree.ensures.table p.result.0 c.args.leaf c.args.variable
-    c.args.positive c.args.a p.ensures.there c.requires.leaf
+    let p = c.place_with_children-fork in
+    outside_own c.args.m.now c.vtree.ensures.table p.result.node c.args.condition.now.leaf c.args.condition.now.variable
+    c.args.condition.now.positive c.args.a p.ensures.there c.requires.leaf
     (c.is_over.ensures.tells.apart c.if-not-is_over.true)
-    (place_each c.args.m.now c.vtree.ensures.table p.result.0 c.args.a p.ensures.there p.ensures.place)
+    (place_each c.args.m.now c.vtree.ensures.table p.result.node c.args.a p.ensures.there p.ensures.place)
 
 -- where new nodes stand
 pub given_at-returns-in_err-code-clause-grown : goal.given_at-returns-in_err-code-clause-grown
 given_at-returns-in_err-code-clause-grown t c =
-    let p = c.place_with_children-place in
+    let p = c.place_with_children-fork in
     wider_on c.args.m.now c.given_here.new.m c.given_here.ensures.kept c.vtree.ensures.table
-    p.result.0 c.args.at p.ensures.under c.given_here.ensures.grown
+    p.result.node c.args.at p.ensures.under c.given_here.ensures.grown
 
 pub given_at-returns-in_default-keep-clause-grown : goal.given_at-returns-in_default-keep-clause-grown
 given_at-returns-in_default-keep-clause-grown t c =
-    let p = c.place_with_children-place in
+    let p = c.place_with_children-fork in
     wider_on c.args.m.now c.given_here.new.m c.given_here.ensures.kept c.vtree.ensures.table
-    p.result.0 c.args.at p.ensures.under c.given_here.ensures.grown
+    p.result.node c.args.at p.ensures.under c.given_here.ensures.grown
 
 pub given_at-returns-clause-grown : goal.given_at-returns-clause-grown
 given_at-returns-clause-grown t c =
-    let p = c.place_with_children-place in
+    let p = c.place_with_children-fork in
     wider_on c.args.m.now c.given_here.new.m c.given_here.ensures.kept c.vtree.ensures.table
-    p.result.0 c.args.at p.ensures.under c.given_here.ensures.grown
+    p.result.node c.args.at p.ensures.under c.given_here.ensures.grown
 
 -- what is kept then
 pub given_at-returns-in_default-keep-clause-knows :
@@ -63,7 +64,7 @@ pub given_at-returns-in_default-keep-clause-knows :
 given_at-returns-in_default-keep-clause-knows t c =
     let m = c.args.m.now in
     let n = c.given_here.new.m in
-    let f = conditioned c.args.variable c.args.positive in
+    let f = conditioned c.args.condition.now.variable c.args.condition.now.positive in
     c.keep.ensures n f c.given_here.ensures.knows
     (answer_found m n c.given_here.ensures.kept f c.args.a c.in_ok-code.code
     (below_node m c.args.at c.args.a c.requires.a) c.in_ok-code.ensures.ok)
@@ -72,27 +73,20 @@ pub given_at-returns-clause-knows : goal.given_at-returns-clause-knows
 given_at-returns-clause-knows t c =
     let m = c.args.m.now in
     let n = c.given_here.new.m in
-    let f = conditioned c.args.variable c.args.positive in
+    let f = conditioned c.args.condition.now.variable c.args.condition.now.positive in
     c.keep.ensures n f c.given_here.ensures.knows
     (answer_found m n c.given_here.ensures.kept f c.args.a c.in_ok-code.code
     (below_node m c.args.at c.args.a c.requires.a) c.in_ok-code.ensures.ok)
-
-pub given_below-returns-else-here-clause-ok : goal.given_below-returns-else-here-clause-ok
-given_below-returns-else-here-clause-ok t c =
-    let m = c.args.m.now in
-    outside_own m c.vtree.ensures.table c.args.at c.args.leaf c.args.variable c.args.positive c.args.a
-    c.requires.there c.requires.leaf (c.requires.tells.apart c.if-here.false)
-    (below_each m c.vtree.ensures.table c.args.at c.args.a c.requires.a)
 
 -- the elements of a decomposition
 pub given_here-given_pairs-requires : goal.given_here-given_pairs-requires
 given_here-given_pairs-requires t c =
     let m = c.args.m.now in
     let i = c.requires.table in
-    let u = c.args.left in
-    let w = c.args.right in
+    let u = c.args.fork.now.left in
+    let w = c.args.fork.now.right in
     let x = c.requires.node in
-    let list = own_listed m i c.args.place u w c.args.a c.requires.children x.diagram x.is
+    let list = own_listed m i c.args.fork.now.node u w c.args.a c.requires.children x.diagram x.is
     (c.requires.place x.diagram x.is) c.requires.code in
     let small : 4 * (width m.vtree u + width m.vtree w) + 1 < t = omega (arith, c.decreases) in (
       small,
@@ -101,19 +95,12 @@ given_here-given_pairs-requires t c =
         (
           c.requires.leaf,
           (
-            left_there m.vtree i.numbered c.args.place u w c.requires.children,
+            c.requires.children,
             (
-              right_there m.vtree i.numbered c.args.place u w c.requires.children,
+              c.requires.over,
               (
-                c.is_left-in_left.ensures.left,
-                (
-                  c.is_left-in_left.ensures.right,
-                  (
-                    subst (AreListedElements m u w) (sym (c.as_slice-elements.ensures ∙ c.in_ok-list.ensures.ok))
-                        list,
-                    (c.requires.knows, (c.requires.serves, c.requires.table)),
-                  ),
-                ),
+                subst (AreListedElements m u w) (sym (c.as_slice-elements.ensures ∙ c.in_ok-list.ensures.ok)) list,
+                (c.requires.knows, (c.requires.serves, c.requires.table)),
               ),
             ),
           ),
@@ -125,22 +112,22 @@ pub given_here-returns-in_err-pairs-clause-grown : goal.given_here-returns-in_er
 given_here-returns-in_err-pairs-clause-grown t c =
     let m = c.args.m.now in
     let n = c.given_pairs.new.m in
-    grows_over m n c.given_pairs.ensures.table.numbered c.args.place c.args.left c.args.right
-    (children_on m n c.given_pairs.ensures.kept c.args.place c.args.left c.args.right
+    grows_over m n c.given_pairs.ensures.table.numbered c.args.fork.now.node c.args.fork.now.left c.args.fork.now.right
+    (children_on m n c.given_pairs.ensures.kept c.args.fork.now.node c.args.fork.now.left c.args.fork.now.right
     c.requires.children) c.given_pairs.ensures.grown
 
 pub given_here-compress-requires-clause-partition : goal.given_here-compress-requires-clause-partition
 given_here-compress-requires-clause-partition t c =
     let m = c.args.m.now in
     let n = c.given_pairs.new.m in
-    let p = c.args.place in
-    let u = c.args.left in
-    let w = c.args.right in
+    let p = c.args.fork.now.node in
+    let u = c.args.fork.now.left in
+    let w = c.args.fork.now.right in
     let x = c.requires.node in
-    let F : List (ℕ × ℕ) → Type 0 = λ l. FixesPairs m n c.args.variable c.args.positive u w l
+    let F : List (ℕ × ℕ) → Type 0 = λ l. FixesPairs m n c.args.condition.now.variable c.args.condition.now.positive u w l
     c.in_ok-pairs.pairs.items in
     let fixes = subst F (c.as_slice-elements.ensures ∙ c.in_ok-list.ensures.ok) c.in_ok-pairs.ensures.ok in
-    let h = fixed_list m n c.requires.table c.args.variable c.args.positive p u w c.args.a
+    let h = fixed_list m n c.requires.table c.args.condition.now.variable c.args.condition.now.positive p u w c.args.a
     c.in_ok-pairs.pairs.items c.requires.children c.requires.place c.requires.code fixes x.diagram
     x.is in
     let P : List (ℕ × ℕ) → Type 0 = λ l. IsPartitionAt n p l h.shown in (
@@ -149,23 +136,23 @@ given_here-compress-requires-clause-partition t c =
           (listed_partition n c.given_pairs.ensures.table p u w
           (children_on m n c.given_pairs.ensures.kept p u w c.requires.children)
           c.in_ok-pairs.pairs.items
-          (conditioned c.args.variable c.args.positive x.diagram) h),
+          (conditioned c.args.condition.now.variable c.args.condition.now.positive x.diagram) h),
     )
 
 pub given_here-returns-then-are_same-clause-ok : goal.given_here-returns-then-are_same-clause-ok
 given_here-returns-then-are_same-clause-ok t c =
     let m = c.args.m.now in
     let n = c.given_pairs.new.m in
-    let f = conditioned c.args.variable c.args.positive in
-    let p = c.args.place in
-    let u = c.args.left in
-    let w = c.args.right in
+    let f = conditioned c.args.condition.now.variable c.args.condition.now.positive in
+    let p = c.args.fork.now.node in
+    let u = c.args.fork.now.left in
+    let w = c.args.fork.now.right in
     let pairs = c.in_ok-pairs.pairs.items in
-    let F : List (ℕ × ℕ) → Type 0 = λ l. FixesPairs m n c.args.variable c.args.positive u w l pairs in
+    let F : List (ℕ × ℕ) → Type 0 = λ l. FixesPairs m n c.args.condition.now.variable c.args.condition.now.positive u w l pairs in
     let own = c.as_slice-elements.ensures ∙ c.in_ok-list.ensures.ok in
     let fixes = subst F own c.in_ok-pairs.ensures.ok in
     let list : (d : Diagram) → ShowsCanonical m c.args.a d → HasList n u w pairs (λ g. f d g ∷ []) = λ d sd.
-    fixed_list m n c.requires.table c.args.variable c.args.positive p u w c.args.a pairs
+    fixed_list m n c.requires.table c.args.condition.now.variable c.args.condition.now.positive p u w c.args.a pairs
     c.requires.children c.requires.place c.requires.code fixes d sd in
     same_answers m n c.requires.table c.given_pairs.ensures.table c.given_pairs.ensures.kept f p u w
     c.args.a pairs c.requires.children c.requires.place c.requires.code list
@@ -175,8 +162,8 @@ pub given_here-returns-then-are_same-clause-grown : goal.given_here-returns-then
 given_here-returns-then-are_same-clause-grown t c =
     let m = c.args.m.now in
     let n = c.given_pairs.new.m in
-    grows_over m n c.given_pairs.ensures.table.numbered c.args.place c.args.left c.args.right
-    (children_on m n c.given_pairs.ensures.kept c.args.place c.args.left c.args.right
+    grows_over m n c.given_pairs.ensures.table.numbered c.args.fork.now.node c.args.fork.now.left c.args.fork.now.right
+    (children_on m n c.given_pairs.ensures.kept c.args.fork.now.node c.args.fork.now.left c.args.fork.now.right
     c.requires.children) c.given_pairs.ensures.grown
 
 pub given_here-returns-clause-ok : goal.given_here-returns-clause-ok
@@ -184,15 +171,15 @@ given_here-returns-clause-ok t c =
     let m = c.args.m.now in
     let n = c.given_pairs.new.m in
     let o = c.compress.new.m in
-    let f = conditioned c.args.variable c.args.positive in
-    let p = c.args.place in
-    let u = c.args.left in
-    let w = c.args.right in
+    let f = conditioned c.args.condition.now.variable c.args.condition.now.positive in
+    let p = c.args.fork.now.node in
+    let u = c.args.fork.now.left in
+    let w = c.args.fork.now.right in
     let pairs = c.in_ok-pairs.pairs.items in
-    let F : List (ℕ × ℕ) → Type 0 = λ l. FixesPairs m n c.args.variable c.args.positive u w l pairs in
+    let F : List (ℕ × ℕ) → Type 0 = λ l. FixesPairs m n c.args.condition.now.variable c.args.condition.now.positive u w l pairs in
     let fixes = subst F (c.as_slice-elements.ensures ∙ c.in_ok-list.ensures.ok) c.in_ok-pairs.ensures.ok in
     let list : (d : Diagram) → ShowsCanonical m c.args.a d → HasList n u w pairs (λ g. f d g ∷ []) = λ d sd.
-    fixed_list m n c.requires.table c.args.variable c.args.positive p u w c.args.a pairs
+    fixed_list m n c.requires.table c.args.condition.now.variable c.args.condition.now.positive p u w c.args.a pairs
     c.requires.children c.requires.place c.requires.code fixes d sd in
     IfOk-weaker c.compress.result (λ r. Compresses n o p c.as_slice-fixed.result.now r)
     (λ r. AnswersOf m o f c.args.a r)
@@ -205,26 +192,26 @@ pub given_here-returns-clause-grown : goal.given_here-returns-clause-grown
 given_here-returns-clause-grown t c =
     let m = c.args.m.now in
     let n = c.given_pairs.new.m in
-    grows_both m n c.compress.new.m c.args.place c.compress.ensures.kept
-    (grows_over m n c.given_pairs.ensures.table.numbered c.args.place c.args.left c.args.right
-    (children_on m n c.given_pairs.ensures.kept c.args.place c.args.left c.args.right
+    grows_both m n c.compress.new.m c.args.fork.now.node c.compress.ensures.kept
+    (grows_over m n c.given_pairs.ensures.table.numbered c.args.fork.now.node c.args.fork.now.left c.args.fork.now.right
+    (children_on m n c.given_pairs.ensures.kept c.args.fork.now.node c.args.fork.now.left c.args.fork.now.right
     c.requires.children) c.given_pairs.ensures.grown)
     c.compress.ensures.grown
 
 pub given_here-returns-clause-knows : goal.given_here-returns-clause-knows
 given_here-returns-clause-knows t c =
     answers_on c.given_pairs.new.m c.compress.new.m c.compress.ensures.kept
-    (conditioned c.args.variable c.args.positive) c.given_pairs.new.kept
+    (conditioned c.args.condition.now.variable c.args.condition.now.positive) c.given_pairs.new.kept
     c.given_pairs.ensures.knows
 
--- the loop over the elements
-pub given_pairs-given_below-requires : goal.given_pairs-given_below-requires
-given_pairs-given_below-requires t c =
+-- the loop over the primes
+pub given_primes-given_at-requires : goal.given_primes-given_at-requires
+given_primes-given_at-requires t c =
     let m0 = c.args.m.now in
     let m = c.loop-i.m in
     let x = c.loop-i.invariant.step.extends in
-    let u = c.args.left in
-    let w = c.args.right in
+    let u = c.args.fork.now.left in
+    let w = c.args.fork.now.right in
     let l = c.args.list.now in
     let i = c.loop-i.i in
     let e : ℕ × ℕ = (
@@ -233,116 +220,144 @@ given_pairs-given_below-requires t c =
     ) in
     let at = pair_at l i c.index-list-i.result c.index-list-i-in-loop-i.result c.loop-i-test.true in
     let one = paired_at m0 u w l i e c.requires.list c.loop-i-test.true at in
-    let small : 4 * width m.vtree u + 4 < t =
+    let small : 4 * width m.vtree u + 3 < t =
     omega (arith, width_on m0 m x u, width_positive m0.vtree w, c.decreases) in (
       small,
       (
         c.requires.variable,
         (
-          leaf_on m0 m x c.args.leaf c.args.variable c.requires.leaf,
+          leaf_on m0 m x c.args.condition.now.leaf c.args.condition.now.variable c.requires.leaf,
           (
-            there_on m0 m x u c.requires.left,
+            subst (λ v. IsUnder v c.args.condition.now.leaf u) (sym x.vtree) (c.requires.left.over refl),
             (
-              tells_on m0 m x c.args.leaf u c.args.in_left c.requires.tells_left,
-              (
-                prime_below m0 m x u w e one,
-                (c.loop-i.invariant.step.knows, c.loop-i.invariant.step.serves),
-              ),
+              prime_below m0 m x u w e one,
+              (c.loop-i.invariant.step.knows, c.loop-i.invariant.step.serves),
             ),
           ),
         ),
       ),
     )
 
-pub given_pairs-given_below-requires-then-not-is_false : goal.given_pairs-given_below-requires-then-not-is_false
-given_pairs-given_below-requires-then-not-is_false t c =
+pub given_primes-loop-i-preserved : goal.given_primes-loop-i-preserved
+given_primes-loop-i-preserved t c =
     let m0 = c.args.m.now in
-    let m1 = c.given_below.new.m in
-    let x = extends_on m0 c.loop-i.m m1 c.loop-i.invariant.step.extends c.given_below.ensures.kept in
-    let u = c.args.left in
-    let w = c.args.right in
+    let u = c.args.fork.now.left in
+    let w = c.args.fork.now.right in
     let l = c.args.list.now in
     let i = c.loop-i.i in
-    let e : ℕ × ℕ = (
-      (get_or l i c.index-list-i.result).0,
-      (get_or l i c.index-list-i-in-loop-i.result).1,
-    ) in
-    let at = pair_at l i c.index-list-i.result c.index-list-i-in-loop-i.result c.loop-i-test.true in
-    let one = paired_at m0 u w l i e c.requires.list c.loop-i-test.true at in
-    let small : 4 * width m1.vtree w + 4 < t =
-    omega (arith, width_on m0 m1 x w, width_positive m0.vtree u, c.decreases) in (
-      small,
-      (
-        c.requires.variable,
-        (
-          leaf_on m0 m1 x c.args.leaf c.args.variable c.requires.leaf,
-          (
-            there_on m0 m1 x w c.requires.right,
-            (
-              tells_on m0 m1 x c.args.leaf w (not c.args.in_left) c.requires.tells_right,
-              (
-                sub_below m0 m1 x u w e one,
-                (c.given_below.ensures.knows, c.given_below.ensures.serves),
-              ),
-            ),
-          ),
-        ),
-      ),
-    )
-
-pub given_pairs-loop-i-preserved : goal.given_pairs-loop-i-preserved
-given_pairs-loop-i-preserved t c =
-    let m0 = c.args.m.now in
-    let u = c.args.left in
-    let w = c.args.right in
-    let l = c.args.list.now in
-    let i = c.loop-i.i in
-    let x = c.args.variable in
-    let s = c.args.positive in
+    let x = c.args.condition.now.variable in
+    let s = c.args.condition.now.positive in
+    let leaf = c.args.condition.now.leaf in
     let f = conditioned x s in
     let e : ℕ × ℕ = (
       (get_or l i c.index-list-i.result).0,
       (get_or l i c.index-list-i-in-loop-i.result).1,
     ) in
     let at = pair_at l i c.index-list-i.result c.index-list-i-in-loop-i.result c.loop-i-test.true in
-    let a = c.given_below in
-    let first : IsStep c.loop-i.m a.new.m f a.new.kept a.new.c u w =
-    record {
-      extends = a.ensures.kept;
-      knows = a.ensures.knows;
-      serves = a.ensures.serves;
-      table = a.ensures.table;
-      grown = grows_left c.loop-i.m a.new.m u w a.ensures.grown;
-    } in
+    let a = c.given_at in
+    let first = left_step c.loop-i.m a.new.m f a.new.kept a.new.c u w a.ensures.kept a.ensures.knows
+    a.ensures.serves a.ensures.table a.ensures.grown in
     elim c.if-not-is_false.branch [
-      | given_pairs-then-not-is_false+in_ok-value+in-Ok k ↦
-          let b = k.given_below-then-not-is_false in
-          let second : IsStep a.new.m b.new.m f b.new.kept b.new.c u w =
-          record {
-            extends = b.ensures.kept;
-            knows = b.ensures.knows;
-            serves = b.ensures.serves;
-            table = b.ensures.table;
-            grown = grows_right a.new.m b.new.m u w b.ensures.grown;
-          } in
-          rw (k.m-is, k.c-is, k.kept-is, k.pairs-is)
-          (pairs_push m0 c.loop-i.m a.new.m b.new.m c.loop-i.kept a.new.kept
-          b.new.kept c.loop-i.c a.new.c b.new.c x s u w l c.loop-i.pairs.items
-          k.push.new.self.items i e c.in_ok-fixed.fixed k.in_ok-value.value c.requires.variable
-          c.loop-i.invariant first second c.loop-i-test.true at c.in_ok-fixed.ensures.ok
-          (search rules) k.in_ok-value.ensures.ok
-          k.in-Ok.ensures.ok)
-      | given_pairs-else-not-is_false k ↦
-          rw (k.m-is, k.c-is, k.kept-is, k.pairs-is)
+      | given_primes-then-not-is_false+in_ok-push k ↦
+          let n = extends_on m0 c.loop-i.m a.new.m c.loop-i.invariant.step.extends a.ensures.kept in
+          let one = paired_at m0 u w l i e c.requires.list c.loop-i-test.true at in
+          let same = other_side a.new.m a.ensures.table w leaf x s e.1
+          (there_on m0 a.new.m n w (right_there m0.vtree c.requires.table.numbered c.args.fork.now.node u w
+          c.requires.children))
+          (leaf_on m0 a.new.m n leaf x c.requires.leaf)
+          ((tells_on m0 a.new.m n leaf w false c.requires.right).apart refl) (sub_below m0 a.new.m n u w e one) in
+          rw k.pairs-is
+          (pairs_push m0 c.loop-i.m a.new.m a.new.m c.loop-i.kept a.new.kept
+          a.new.kept c.loop-i.c a.new.c a.new.c x s u w l c.loop-i.pairs.items
+          k.push.new.pairs.items i e c.in_ok-fixed.fixed e.1 c.requires.variable
+          c.loop-i.invariant first (still a.new.m f a.new.kept a.new.c u w a.ensures.knows a.ensures.serves
+          a.ensures.table) c.loop-i-test.true at c.in_ok-fixed.ensures.ok
+          (search rules) same k.in_ok-push.ensures.ok)
+      | given_primes-else-not-is_false k ↦
+          rw k.pairs-is
           (pairs_skip m0 c.loop-i.m a.new.m c.loop-i.kept a.new.kept c.loop-i.c a.new.c
           x s u w l c.loop-i.pairs.items i e c.in_ok-fixed.fixed c.loop-i.invariant first
           c.loop-i-test.true at c.in_ok-fixed.ensures.ok (search rules))
     ]
 
-pub given_pairs-returns-clause-ok : goal.given_pairs-returns-clause-ok
-given_pairs-returns-clause-ok t c =
-    pairs_done c.args.m.now c.loop-i.m c.loop-i.kept c.loop-i.c c.args.variable c.args.positive
-    c.args.left c.args.right c.args.list.now c.loop-i.pairs.items c.loop-i.i c.loop-i.invariant
+pub given_primes-returns-clause-ok : goal.given_primes-returns-clause-ok
+given_primes-returns-clause-ok t c =
+    pairs_done c.args.m.now c.loop-i.m c.loop-i.kept c.loop-i.c c.args.condition.now.variable
+    c.args.condition.now.positive
+    c.args.fork.now.left c.args.fork.now.right c.args.list.now c.loop-i.pairs.items c.loop-i.i c.loop-i.invariant
+    c.loop-i-test.false c.loop-i.auto.i-end
+
+-- the loop over the subs
+pub given_subs-given_at-requires : goal.given_subs-given_at-requires
+given_subs-given_at-requires t c =
+    let m0 = c.args.m.now in
+    let m = c.loop-i.m in
+    let x = c.loop-i.invariant.step.extends in
+    let u = c.args.fork.now.left in
+    let w = c.args.fork.now.right in
+    let l = c.args.list.now in
+    let i = c.loop-i.i in
+    let e : ℕ × ℕ = (
+      (get_or l i c.index-list-i.result).0,
+      (get_or l i c.index-list-i-in-loop-i.result).1,
+    ) in
+    let at = pair_at l i c.index-list-i.result c.index-list-i-in-loop-i.result c.loop-i-test.true in
+    let one = paired_at m0 u w l i e c.requires.list c.loop-i-test.true at in
+    let small : 4 * width m.vtree w + 3 < t =
+    omega (arith, width_on m0 m x w, width_positive m0.vtree u, c.decreases) in (
+      small,
+      (
+        c.requires.variable,
+        (
+          leaf_on m0 m x c.args.condition.now.leaf c.args.condition.now.variable c.requires.leaf,
+          (
+            subst (λ v. IsUnder v c.args.condition.now.leaf w) (sym x.vtree) (c.requires.right.over refl),
+            (
+              sub_below m0 m x u w e one,
+              (c.loop-i.invariant.step.knows, c.loop-i.invariant.step.serves),
+            ),
+          ),
+        ),
+      ),
+    )
+
+pub given_subs-loop-i-preserved : goal.given_subs-loop-i-preserved
+given_subs-loop-i-preserved t c =
+    let m0 = c.args.m.now in
+    let u = c.args.fork.now.left in
+    let w = c.args.fork.now.right in
+    let l = c.args.list.now in
+    let i = c.loop-i.i in
+    let x = c.args.condition.now.variable in
+    let s = c.args.condition.now.positive in
+    let leaf = c.args.condition.now.leaf in
+    let f = conditioned x s in
+    let e : ℕ × ℕ = (
+      (get_or l i c.index-list-i.result).0,
+      (get_or l i c.index-list-i-in-loop-i.result).1,
+    ) in
+    let at = pair_at l i c.index-list-i.result c.index-list-i-in-loop-i.result c.loop-i-test.true in
+    let k = c.loop-i in
+    let h = k.invariant.step in
+    let a = c.given_at in
+    let second = right_step k.m a.new.m f a.new.kept a.new.c u w a.ensures.kept a.ensures.knows
+    a.ensures.serves a.ensures.table a.ensures.grown in
+    let one = paired_at m0 u w l i e c.requires.list c.loop-i-test.true at in
+    let same = other_side k.m h.table u leaf x s e.0
+    (there_on m0 k.m h.extends u (left_there m0.vtree c.requires.table.numbered c.args.fork.now.node u w
+    c.requires.children))
+    (leaf_on m0 k.m h.extends leaf x c.requires.leaf)
+    ((tells_on m0 k.m h.extends leaf u false c.requires.left).apart refl) (prime_below m0 k.m h.extends u w e one) in
+    pairs_push m0 k.m k.m a.new.m k.kept k.kept a.new.kept k.c k.c a.new.c x s u w l k.pairs.items
+    c.push.new.pairs.items i e e.0 c.in_ok-value.value c.requires.variable
+    k.invariant (still k.m f k.kept k.c u w h.knows h.serves h.table) second c.loop-i-test.true at same
+    (prime_possible m0 c.requires.table u w e one) c.in_ok-value.ensures.ok c.in_ok-push.ensures.ok
+
+pub given_subs-returns-clause-ok : goal.given_subs-returns-clause-ok
+given_subs-returns-clause-ok t c =
+    pairs_done c.args.m.now c.loop-i.m c.loop-i.kept c.loop-i.c c.args.condition.now.variable
+    c.args.condition.now.positive
+    c.args.fork.now.left c.args.fork.now.right c.args.list.now c.loop-i.pairs.items c.loop-i.i c.loop-i.invariant
     c.loop-i-test.false c.loop-i.auto.i-end
 
 -- what is kept of the nodes

@@ -8,15 +8,24 @@ use Rattle.sd_cond.proofs.conditioning.+given.Given as goal
 abbrev pub decreases-given_at : goal.decreases-given_at
 decreases-given_at l = 4 * width l.m.now.vtree l.at + 3
 
-abbrev pub decreases-given_below : goal.decreases-given_below
-decreases-given_below l = 4 * width l.m.now.vtree l.at + 4
-
 abbrev pub decreases-given_here : goal.decreases-given_here
-decreases-given_here l = 4 * (width l.m.now.vtree l.left + width l.m.now.vtree l.right) + 2
+decreases-given_here l = 4 * (width l.m.now.vtree l.fork.now.left + width l.m.now.vtree l.fork.now.right) + 2
 
 abbrev pub decreases-given_pairs : goal.decreases-given_pairs
-decreases-given_pairs l = 4 * (width l.m.now.vtree l.left + width l.m.now.vtree l.right) + 1
+decreases-given_pairs l = 4 * (width l.m.now.vtree l.fork.now.left + width l.m.now.vtree l.fork.now.right) + 1
 
-abbrev pub invariant-given_pairs-loop-i : goal.invariant-given_pairs-loop-i
-invariant-given_pairs-loop-i l =
-    InPairs l.fn.m l.m l.kept l.c l.variable l.positive l.left l.right l.list l.pairs.items l.i
+abbrev pub decreases-given_primes : goal.decreases-given_primes
+decreases-given_primes l = 4 * (width l.m.now.vtree l.fork.now.left + width l.m.now.vtree l.fork.now.right)
+
+abbrev pub decreases-given_subs : goal.decreases-given_subs
+decreases-given_subs l = 4 * (width l.m.now.vtree l.fork.now.left + width l.m.now.vtree l.fork.now.right)
+
+abbrev pub invariant-given_primes-loop-i : goal.invariant-given_primes-loop-i
+invariant-given_primes-loop-i l =
+    InPairs l.fn.m l.m l.kept l.c l.condition.variable l.condition.positive l.fork.left l.fork.right
+    l.list l.pairs.items l.i
+
+abbrev pub invariant-given_subs-loop-i : goal.invariant-given_subs-loop-i
+invariant-given_subs-loop-i l =
+    InPairs l.fn.m l.m l.kept l.c l.condition.variable l.condition.positive l.fork.left l.fork.right
+    l.list l.pairs.items l.i

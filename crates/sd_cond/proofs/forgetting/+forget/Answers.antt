@@ -23,37 +23,37 @@ use Rattle.sd_cond.proofs.forgetting.+forget.Goals as goal
 -- an answer that is kept
 pub forget_at-returns-in-Some-look-clause-ok : goal.forget_at-returns-in-Some-look-clause-ok
 forget_at-returns-in-Some-look-clause-ok t c =
-    answer_kept c.args.m.now c.vtree.ensures.table (forgotten c.args.variable) c.args.a
+    answer_kept c.args.m.now c.vtree.ensures.table (forgotten c.args.variable.now.number) c.args.a
     c.in-Some-look.code
-    (c.in-Some-look.ensures c.args.m.now (forgotten c.args.variable) c.requires.knows)
+    (c.in-Some-look.ensures c.args.m.now (forgotten c.args.variable.now.number) c.requires.knows)
 
 -- a node below whose vtree node the leaf does not stand
 pub forget_at-returns-then-not-is_over-clause-ok : goal.forget_at-returns-then-not-is_over-clause-ok
 forget_at-returns-then-not-is_over-clause-ok t c =
-    let p = c.place_with_children-place in
-    forget_outside c.args.m.now c.vtree.ensures.table p.result.0 c.args.leaf c.args.variable
+    let p = c.place_with_children-fork in
+    forget_outside c.args.m.now c.vtree.ensures.table p.result.node c.args.variable.now.leaf c.args.variable.now.number
     c.args.a p.ensures.there c.requires.leaf
     (c.is_over.ensures.tells.apart c.if-not-is_over.true)
-    (place_each c.args.m.now c.vtree.ensures.table p.result.0 c.args.a p.ensures.there p.ensures.place)
+    (place_each c.args.m.now c.vtree.ensures.table p.result.node c.args.a p.ensures.there p.ensures.place)
 
 -- where new nodes stand
 pub forget_at-returns-in_err-code-clause-grown : goal.forget_at-returns-in_err-code-clause-grown
 forget_at-returns-in_err-code-clause-grown t c =
-    let p = c.place_with_children-place in
+    let p = c.place_with_children-fork in
     wider_on c.args.m.now c.forget_here.new.m c.forget_here.ensures.kept c.vtree.ensures.table
-    p.result.0 c.args.at p.ensures.under c.forget_here.ensures.grown
+    p.result.node c.args.at p.ensures.under c.forget_here.ensures.grown
 
 pub forget_at-returns-in_default-keep-clause-grown : goal.forget_at-returns-in_default-keep-clause-grown
 forget_at-returns-in_default-keep-clause-grown t c =
-    let p = c.place_with_children-place in
+    let p = c.place_with_children-fork in
     wider_on c.args.m.now c.forget_here.new.m c.forget_here.ensures.kept c.vtree.ensures.table
-    p.result.0 c.args.at p.ensures.under c.forget_here.ensures.grown
+    p.result.node c.args.at p.ensures.under c.forget_here.ensures.grown
 
 pub forget_at-returns-clause-grown : goal.forget_at-returns-clause-grown
 forget_at-returns-clause-grown t c =
-    let p = c.place_with_children-place in
+    let p = c.place_with_children-fork in
     wider_on c.args.m.now c.forget_here.new.m c.forget_here.ensures.kept c.vtree.ensures.table
-    p.result.0 c.args.at p.ensures.under c.forget_here.ensures.grown
+    p.result.node c.args.at p.ensures.under c.forget_here.ensures.grown
 
 -- what is kept then
 pub forget_at-returns-in_default-keep-clause-knows :
@@ -61,7 +61,7 @@ pub forget_at-returns-in_default-keep-clause-knows :
 forget_at-returns-in_default-keep-clause-knows t c =
     let m = c.args.m.now in
     let n = c.forget_here.new.m in
-    let f = forgotten c.args.variable in
+    let f = forgotten c.args.variable.now.number in
     c.keep.ensures n f c.forget_here.ensures.knows
     (answer_found m n c.forget_here.ensures.kept f c.args.a c.in_ok-code.code
     (below_node m c.args.at c.args.a c.requires.a) c.in_ok-code.ensures.ok)
@@ -70,26 +70,20 @@ pub forget_at-returns-clause-knows : goal.forget_at-returns-clause-knows
 forget_at-returns-clause-knows t c =
     let m = c.args.m.now in
     let n = c.forget_here.new.m in
-    let f = forgotten c.args.variable in
+    let f = forgotten c.args.variable.now.number in
     c.keep.ensures n f c.forget_here.ensures.knows
     (answer_found m n c.forget_here.ensures.kept f c.args.a c.in_ok-code.code
     (below_node m c.args.at c.args.a c.requires.a) c.in_ok-code.ensures.ok)
-
--- the disjunction
-pub forget_here-returns-then-is_left-clause-knows : goal.forget_here-returns-then-is_left-clause-knows
-forget_here-returns-then-is_left-clause-knows t c =
-    answers_on c.args.m.now c.forget_by_both.new.m c.forget_by_both.ensures.kept
-    (forgotten c.args.variable) c.args.kept.now c.requires.knows
 
 -- the elements of a decomposition
 pub forget_here-forget_subs-requires : goal.forget_here-forget_subs-requires
 forget_here-forget_subs-requires t c =
     let m = c.args.m.now in
     let i = c.requires.table in
-    let u = c.args.left in
-    let w = c.args.right in
+    let u = c.args.fork.now.left in
+    let w = c.args.fork.now.right in
     let x = c.requires.node in
-    let list = own_listed m i c.args.place u w c.args.a c.requires.children x.diagram x.is
+    let list = own_listed m i c.args.fork.now.node u w c.args.a c.requires.children x.diagram x.is
     (c.requires.place x.diagram x.is) c.requires.code in
     let over = c.is_left.ensures.right.over (ap not c.if-is_left.false) in
     let small : 3 * (width m.vtree u + width m.vtree w) < t = omega (arith, c.decreases) in (
@@ -119,8 +113,8 @@ pub forget_here-returns-in_err-pairs-clause-grown : goal.forget_here-returns-in_
 forget_here-returns-in_err-pairs-clause-grown t c =
     let m = c.args.m.now in
     let n = c.forget_subs.new.m in
-    grows_over m n c.forget_subs.ensures.table.numbered c.args.place c.args.left c.args.right
-    (children_on m n c.forget_subs.ensures.kept c.args.place c.args.left c.args.right
+    grows_over m n c.forget_subs.ensures.table.numbered c.args.fork.now.node c.args.fork.now.left c.args.fork.now.right
+    (children_on m n c.forget_subs.ensures.kept c.args.fork.now.node c.args.fork.now.left c.args.fork.now.right
     c.requires.children) c.forget_subs.ensures.grown
 
 pub forget_here-compress-requires-clause-partition : goal.forget_here-compress-requires-clause-partition
@@ -128,14 +122,14 @@ forget_here-compress-requires-clause-partition t c =
     let m = c.args.m.now in
     let n = c.forget_subs.new.m in
     let i = c.requires.table in
-    let p = c.args.place in
-    let u = c.args.left in
-    let w = c.args.right in
+    let p = c.args.fork.now.node in
+    let u = c.args.fork.now.left in
+    let w = c.args.fork.now.right in
     let x = c.requires.node in
     let pairs = c.in_ok-pairs.pairs.items in
-    let F : List (ℕ × ℕ) → Type 0 = λ l. ForgetsSubs m n c.args.variable u w l pairs in
+    let F : List (ℕ × ℕ) → Type 0 = λ l. ForgetsSubs m n c.args.variable.now.number u w l pairs in
     let forgets = subst F (c.as_slice-elements.ensures ∙ c.in_ok-list.ensures.ok) c.in_ok-pairs.ensures.ok in
-    let h = forgotten_list m n i c.args.leaf c.args.variable p u w c.args.a pairs
+    let h = forgotten_list m n i c.args.variable.now.leaf c.args.variable.now.number p u w c.args.a pairs
     (left_there m.vtree i.numbered p u w c.requires.children) c.requires.leaf
     (c.is_left.ensures.left.apart c.if-is_left.false) c.requires.children c.requires.place
     c.requires.code forgets x.diagram x.is in
@@ -144,7 +138,7 @@ forget_here-compress-requires-clause-partition t c =
       subst P (sym c.as_slice-projected.ensures)
           (listed_partition n c.forget_subs.ensures.table p u w
           (children_on m n c.forget_subs.ensures.kept p u w c.requires.children) pairs
-          (forgotten c.args.variable x.diagram) h),
+          (forgotten c.args.variable.now.number x.diagram) h),
     )
 
 pub forget_here-returns-then-are_same-clause-ok : goal.forget_here-returns-then-are_same-clause-ok
@@ -152,16 +146,16 @@ forget_here-returns-then-are_same-clause-ok t c =
     let m = c.args.m.now in
     let n = c.forget_subs.new.m in
     let i = c.requires.table in
-    let f = forgotten c.args.variable in
-    let p = c.args.place in
-    let u = c.args.left in
-    let w = c.args.right in
+    let f = forgotten c.args.variable.now.number in
+    let p = c.args.fork.now.node in
+    let u = c.args.fork.now.left in
+    let w = c.args.fork.now.right in
     let pairs = c.in_ok-pairs.pairs.items in
-    let F : List (ℕ × ℕ) → Type 0 = λ l. ForgetsSubs m n c.args.variable u w l pairs in
+    let F : List (ℕ × ℕ) → Type 0 = λ l. ForgetsSubs m n c.args.variable.now.number u w l pairs in
     let own = c.as_slice-elements.ensures ∙ c.in_ok-list.ensures.ok in
     let forgets = subst F own c.in_ok-pairs.ensures.ok in
     let list : (d : Diagram) → ShowsCanonical m c.args.a d → HasList n u w pairs (λ g. f d g ∷ []) = λ d sd.
-    forgotten_list m n i c.args.leaf c.args.variable p u w c.args.a pairs
+    forgotten_list m n i c.args.variable.now.leaf c.args.variable.now.number p u w c.args.a pairs
     (left_there m.vtree i.numbered p u w c.requires.children) c.requires.leaf
     (c.is_left.ensures.left.apart c.if-is_left.false) c.requires.children c.requires.place
     c.requires.code forgets d sd in
@@ -174,8 +168,8 @@ pub forget_here-returns-then-are_same-clause-grown :
 forget_here-returns-then-are_same-clause-grown t c =
     let m = c.args.m.now in
     let n = c.forget_subs.new.m in
-    grows_over m n c.forget_subs.ensures.table.numbered c.args.place c.args.left c.args.right
-    (children_on m n c.forget_subs.ensures.kept c.args.place c.args.left c.args.right
+    grows_over m n c.forget_subs.ensures.table.numbered c.args.fork.now.node c.args.fork.now.left c.args.fork.now.right
+    (children_on m n c.forget_subs.ensures.kept c.args.fork.now.node c.args.fork.now.left c.args.fork.now.right
     c.requires.children) c.forget_subs.ensures.grown
 
 pub forget_here-returns-clause-ok : goal.forget_here-returns-clause-ok
@@ -184,15 +178,15 @@ forget_here-returns-clause-ok t c =
     let n = c.forget_subs.new.m in
     let o = c.compress.new.m in
     let i = c.requires.table in
-    let f = forgotten c.args.variable in
-    let p = c.args.place in
-    let u = c.args.left in
-    let w = c.args.right in
+    let f = forgotten c.args.variable.now.number in
+    let p = c.args.fork.now.node in
+    let u = c.args.fork.now.left in
+    let w = c.args.fork.now.right in
     let pairs = c.in_ok-pairs.pairs.items in
-    let F : List (ℕ × ℕ) → Type 0 = λ l. ForgetsSubs m n c.args.variable u w l pairs in
+    let F : List (ℕ × ℕ) → Type 0 = λ l. ForgetsSubs m n c.args.variable.now.number u w l pairs in
     let forgets = subst F (c.as_slice-elements.ensures ∙ c.in_ok-list.ensures.ok) c.in_ok-pairs.ensures.ok in
     let list : (d : Diagram) → ShowsCanonical m c.args.a d → HasList n u w pairs (λ g. f d g ∷ []) = λ d sd.
-    forgotten_list m n i c.args.leaf c.args.variable p u w c.args.a pairs
+    forgotten_list m n i c.args.variable.now.leaf c.args.variable.now.number p u w c.args.a pairs
     (left_there m.vtree i.numbered p u w c.requires.children) c.requires.leaf
     (c.is_left.ensures.left.apart c.if-is_left.false) c.requires.children c.requires.place
     c.requires.code forgets d sd in
@@ -207,26 +201,26 @@ pub forget_here-returns-clause-grown : goal.forget_here-returns-clause-grown
 forget_here-returns-clause-grown t c =
     let m = c.args.m.now in
     let n = c.forget_subs.new.m in
-    grows_both m n c.compress.new.m c.args.place c.compress.ensures.kept
-    (grows_over m n c.forget_subs.ensures.table.numbered c.args.place c.args.left c.args.right
-    (children_on m n c.forget_subs.ensures.kept c.args.place c.args.left c.args.right
+    grows_both m n c.compress.new.m c.args.fork.now.node c.compress.ensures.kept
+    (grows_over m n c.forget_subs.ensures.table.numbered c.args.fork.now.node c.args.fork.now.left c.args.fork.now.right
+    (children_on m n c.forget_subs.ensures.kept c.args.fork.now.node c.args.fork.now.left c.args.fork.now.right
     c.requires.children) c.forget_subs.ensures.grown)
     c.compress.ensures.grown
 
 pub forget_here-returns-clause-knows : goal.forget_here-returns-clause-knows
 forget_here-returns-clause-knows t c =
     answers_on c.forget_subs.new.m c.compress.new.m c.compress.ensures.kept
-    (forgotten c.args.variable) c.forget_subs.new.kept c.forget_subs.ensures.knows
+    (forgotten c.args.variable.now.number) c.forget_subs.new.answers.forgotten c.forget_subs.ensures.knows
 
 pub forget_here-returns-clause-knows_true : goal.forget_here-returns-clause-knows_true
 forget_here-returns-clause-knows_true t c =
     answers_on c.forget_subs.new.m c.compress.new.m c.compress.ensures.kept
-    (conditioned c.args.variable true) c.forget_subs.new.with_true c.forget_subs.ensures.knows_true
+    (conditioned c.args.variable.now.number true) c.forget_subs.new.answers.with_true c.forget_subs.ensures.knows_true
 
 pub forget_here-returns-clause-knows_false : goal.forget_here-returns-clause-knows_false
 forget_here-returns-clause-knows_false t c =
     answers_on c.forget_subs.new.m c.compress.new.m c.compress.ensures.kept
-    (conditioned c.args.variable false) c.forget_subs.new.with_false
+    (conditioned c.args.variable.now.number false) c.forget_subs.new.answers.with_false
     c.forget_subs.ensures.knows_false
 
 -- the loop over the elements
@@ -235,8 +229,8 @@ forget_subs-forget_at-requires t c =
     let m0 = c.args.m.now in
     let m = c.loop-i.m in
     let x = c.loop-i.invariant.step.extends in
-    let u = c.args.left in
-    let w = c.args.right in
+    let u = c.args.fork.now.left in
+    let w = c.args.fork.now.right in
     let l = c.args.list.now in
     let i = c.loop-i.i in
     let e : ℕ × ℕ = (
@@ -251,9 +245,9 @@ forget_subs-forget_at-requires t c =
       (
         c.requires.variable,
         (
-          leaf_on m0 m x c.args.leaf c.args.variable c.requires.leaf,
+          leaf_on m0 m x c.args.variable.now.leaf c.args.variable.now.number c.requires.leaf,
           (
-            subst (λ v. IsUnder v c.args.leaf w) (sym x.vtree) c.requires.over,
+            subst (λ v. IsUnder v c.args.variable.now.leaf w) (sym x.vtree) c.requires.over,
             (
               sub_below m0 m x u w e one,
               (
@@ -272,8 +266,8 @@ forget_subs-forget_at-requires t c =
 pub forget_subs-loop-i-preserved : goal.forget_subs-loop-i-preserved
 forget_subs-loop-i-preserved t c =
     let m0 = c.args.m.now in
-    let u = c.args.left in
-    let w = c.args.right in
+    let u = c.args.fork.now.left in
+    let w = c.args.fork.now.right in
     let l = c.args.list.now in
     let i = c.loop-i.i in
     let e : ℕ × ℕ = (
@@ -283,9 +277,9 @@ forget_subs-loop-i-preserved t c =
     let at = pair_at l i c.index-list-i.result c.index-list-i-in-loop-i.result c.loop-i-test.true in
     let a = c.forget_at in
     let k = c.loop-i in
-    subs_next m0 k.m a.new.m k.kept k.with_true k.with_false a.new.kept
-    a.new.with_true a.new.with_false k.c a.new.c c.args.variable u w l k.pairs.items
-    c.push.new.self.items i e c.in_ok-value.value c.requires.variable k.invariant
+    subs_next m0 k.m a.new.m k.answers.forgotten k.answers.with_true k.answers.with_false a.new.answers.forgotten
+    a.new.answers.with_true a.new.answers.with_false k.c a.new.c c.args.variable.now.number u w l k.pairs.items
+    c.push.new.pairs.items i e c.in_ok-value.value c.requires.variable k.invariant
     (record {
       extends = a.ensures.kept;
       knows = a.ensures.knows;
@@ -294,12 +288,12 @@ forget_subs-loop-i-preserved t c =
       grown = grows_right k.m a.new.m u w a.ensures.grown;
     })
     a.ensures.knows_true a.ensures.knows_false c.loop-i-test.true at c.in_ok-value.ensures.ok
-    c.in-Ok.ensures.ok
+    c.in_ok-push.ensures.ok
 
 pub forget_subs-returns-clause-ok : goal.forget_subs-returns-clause-ok
 forget_subs-returns-clause-ok t c =
-    subs_done c.args.m.now c.loop-i.m c.loop-i.kept c.loop-i.with_true
-    c.loop-i.with_false c.loop-i.c c.args.variable c.args.left c.args.right c.args.list.now
+    subs_done c.args.m.now c.loop-i.m c.loop-i.answers.forgotten c.loop-i.answers.with_true
+    c.loop-i.answers.with_false c.loop-i.c c.args.variable.now.number c.args.fork.now.left c.args.fork.now.right c.args.list.now
     c.loop-i.pairs.items c.loop-i.i c.loop-i.invariant c.loop-i-test.false c.loop-i.auto.i-end
 
 -- what is kept of the nodes

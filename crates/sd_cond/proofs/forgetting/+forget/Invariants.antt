@@ -9,12 +9,12 @@ abbrev pub decreases-forget_at : goal.decreases-forget_at
 decreases-forget_at l = 3 * width l.m.now.vtree l.at + 2
 
 abbrev pub decreases-forget_here : goal.decreases-forget_here
-decreases-forget_here l = 3 * (width l.m.now.vtree l.left + width l.m.now.vtree l.right) + 1
+decreases-forget_here l = 3 * (width l.m.now.vtree l.fork.now.left + width l.m.now.vtree l.fork.now.right) + 1
 
 abbrev pub decreases-forget_subs : goal.decreases-forget_subs
-decreases-forget_subs l = 3 * (width l.m.now.vtree l.left + width l.m.now.vtree l.right)
+decreases-forget_subs l = 3 * (width l.m.now.vtree l.fork.now.left + width l.m.now.vtree l.fork.now.right)
 
 abbrev pub invariant-forget_subs-loop-i : goal.invariant-forget_subs-loop-i
 invariant-forget_subs-loop-i l =
-    InSubs l.fn.m l.m l.kept l.with_true l.with_false l.c l.variable l.fn.left l.right
-    l.list l.pairs.items l.i
+    InSubs l.fn.m l.m l.answers.forgotten l.answers.with_true l.answers.with_false l.c l.variable.number
+    l.fork.left l.fork.right l.list l.pairs.items l.i
