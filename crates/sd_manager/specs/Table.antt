@@ -2,10 +2,11 @@
 use Rattle.std.specs.Prelude.{ℕ, ◌+◌, List, Option, None, ◌==◌, if◌then◌else◌, unwrap_or, refl}
 use Rattle.std.specs.List.{sum_by}
 use Rattle.std.specs.Ordering.{nat_cmp}
-use Rattle.std.specs.FinMap.{FinMap, empty, get, values, code}
-use Rattle.std.specs.Coded.{Coded, code_by, coded×, coded_list, coded_option, coded_ℕ}
+use Rattle.std.specs.FinMap.{FinMap, empty, get, values}
+use Rattle.std.specs.Coded.{Coded, code_by, coded×, coded_option, coded_ℕ}
 use Rattle.sd_vtree.specs.Numbered.{Numbered, or_else}
 use Rattle.sd_vtree.specs.NumberedCode.{numbered_code}
+use Rattle.sd_unique.specs.Nodes.{Lists, lists_code, counts_code}
 
 -- A node has a place, which is the number of a vtree node, and a list of pairs of codes. The maps `linked` and
 -- `detached` have the nodes by number; a loose run is a list of no node. A root is a number that holds a code. Of the
@@ -25,79 +26,56 @@ pub record Table : Type 0 where
   pub bound : ℕ
   pub moving : Option ℕ
 
--- how a map from numbers to keys is stored
-abbrev pub keys_code : Coded (FinMap nat_cmp (ℕ × List (ℕ × ℕ)))
-keys_code = code coded_ℕ (coded× coded_ℕ (coded_list (coded× coded_ℕ coded_ℕ)))
+-- the parts of the table: the tree, the lists, the maps of numbers, and the numbers
+abbrev pub Parts : Type 0
+Parts =
+    Numbered
+    × (Lists
+    × ((FinMap nat_cmp ℕ × (FinMap nat_cmp ℕ × FinMap nat_cmp ℕ)) × (ℕ × (ℕ × (ℕ × (ℕ × Option ℕ))))))
 
--- how a map from numbers to numbers is stored
-abbrev pub counts_code : Coded (FinMap nat_cmp ℕ)
-counts_code = code coded_ℕ coded_ℕ
+-- how the maps from numbers to numbers are stored
+abbrev pub maps_code : Coded (FinMap nat_cmp ℕ × (FinMap nat_cmp ℕ × FinMap nat_cmp ℕ))
+maps_code = coded× counts_code (coded× counts_code counts_code)
 
--- the table is stored as the tuple of its parts
-abbrev pub table_code : Coded Table
-table_code =
-    code_by
-    (Numbered
-    × (FinMap nat_cmp (ℕ × List (ℕ × ℕ))
-    × (FinMap nat_cmp (ℕ × List (ℕ × ℕ))
-    × (FinMap nat_cmp (List (ℕ × ℕ))
-    × (FinMap nat_cmp ℕ
-    × (FinMap nat_cmp ℕ × (FinMap nat_cmp ℕ × (ℕ × (ℕ × (ℕ × (ℕ × Option ℕ)))))))))))
-    (coded× numbered_code
-    (coded× keys_code
-    (coded× keys_code
-    (coded× (code coded_ℕ (coded_list (coded× coded_ℕ coded_ℕ)))
-    (coded× counts_code
-    (coded× counts_code
-    (coded× counts_code
-    (coded× coded_ℕ (coded× coded_ℕ (coded× coded_ℕ (coded× coded_ℕ (coded_option coded_ℕ))))))))))))
-    (λ t. (
-      t.vtree,
-      (
-        t.linked,
-        (
-          t.detached,
-          (
-            t.loose,
-            (
-              t.marks,
-              (
-                t.free,
-                (
-                  t.roots,
-                  (
-                    t.epoch,
-                    (
-                      t.records,
-                      (
-                        t.extent,
-                        (t.bound, t.moving),
-                      ),
-                    ),
-                  ),
-                ),
-              ),
-            ),
-          ),
-        ),
-      ),
-    ))
-    (λ p.
+-- how the numbers are stored
+abbrev pub numbers_code : Coded (ℕ × (ℕ × (ℕ × (ℕ × Option ℕ))))
+numbers_code = coded× coded_ℕ (coded× coded_ℕ (coded× coded_ℕ (coded× coded_ℕ (coded_option coded_ℕ))))
+
+-- how the parts are stored
+abbrev pub parts_code : Coded Parts
+parts_code = coded× numbered_code (coded× lists_code (coded× maps_code numbers_code))
+
+-- the parts of this table
+abbrev pub parts_of : Table → Parts
+parts_of t = (
+  t.vtree,
+  (
+    (t.linked, (t.detached, t.loose)),
+    ((t.marks, (t.free, t.roots)), (t.epoch, (t.records, (t.extent, (t.bound, t.moving))))),
+  ),
+)
+
+-- the table of these parts
+abbrev pub of_parts : Parts → Table
+of_parts p =
     record {
       vtree = p.0;
-      linked = p.1.0;
-      detached = p.1.1.0;
-      loose = p.1.1.1.0;
-      marks = p.1.1.1.1.0;
-      free = p.1.1.1.1.1.0;
-      roots = p.1.1.1.1.1.1.0;
-      epoch = p.1.1.1.1.1.1.1.0;
-      records = p.1.1.1.1.1.1.1.1.0;
-      extent = p.1.1.1.1.1.1.1.1.1.0;
-      bound = p.1.1.1.1.1.1.1.1.1.1.0;
-      moving = p.1.1.1.1.1.1.1.1.1.1.1;
-    })
-    (λ _. refl)
+      linked = p.1.0.0;
+      detached = p.1.0.1.0;
+      loose = p.1.0.1.1;
+      marks = p.1.1.0.0;
+      free = p.1.1.0.1.0;
+      roots = p.1.1.0.1.1;
+      epoch = p.1.1.1.0;
+      records = p.1.1.1.1.0;
+      extent = p.1.1.1.1.1.0;
+      bound = p.1.1.1.1.1.1.0;
+      moving = p.1.1.1.1.1.1.1;
+    }
+
+-- the table is stored as its parts
+abbrev pub table_code : Coded Table
+table_code = code_by Parts parts_code parts_of of_parts (λ _. refl)
 
 -- a table of no nodes and no roots
 abbrev pub no_table : Numbered → ℕ → Table
