@@ -1,5 +1,5 @@
 -- The hash of a key, and its bucket.
-use Rattle.std.proofs.Common.{◌≡◌, ℕ, List, bit_and, ◌+◌, ◌/◌, ◌%◌, ◌-◌, ◌^◌, ap, ◌∙◌}
+use Rattle.std.proofs.Common.{◌≡◌, ℕ, List, bit_and, ◌/◌, ◌-◌, ◌^◌, ap}
 use Rattle.std.specs.List.{fold}
 use Rattle.sd_unique.specs.Chains.{bucket_of, hash_of, mixed}
 

@@ -2,6 +2,7 @@
 
 use crate::buckets::{empty_chains, empty_heads};
 use crate::chaining::chain_all;
+use crate::chains::Buckets;
 use crate::found::Found;
 use crate::hash::{bucket_at, hash};
 use crate::listing::{detached_among, keyed_among, linked_among, list_all};
@@ -558,15 +559,18 @@ impl Nodes {
             → self.new ≡ unlinked self.old node k }
         ensures nodes { IsNodes self.new }
     {
+        let buckets = Buckets {
+            hashes: &self.hashes,
+            stand: self.chained,
+        };
         detach(
             &self.runs,
-            &self.hashes,
+            buckets,
             &mut self.records,
             &mut self.links,
             &mut self.heads,
             &mut self.places,
             node,
-            self.chained,
         );
     }
 
@@ -620,15 +624,18 @@ impl Nodes {
             → self.new ≡ removed (unlinked self.old node k) node k.1 }
         ensures nodes { IsNodes self.new }
     {
+        let buckets = Buckets {
+            hashes: &self.hashes,
+            stand: self.chained,
+        };
         free(
             &mut self.runs,
-            &self.hashes,
+            buckets,
             &mut self.records,
             &mut self.links,
             &mut self.heads,
             &mut self.places,
             node,
-            self.chained,
         );
         self.candidates.pop_top(node);
         self.freed = self.freed.saturating_add(1);

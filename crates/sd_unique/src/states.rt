@@ -8,7 +8,7 @@ ghost use Rattle.sd_unique.specs.Candidates.{Waits};
 ghost use Rattle.sd_unique.specs.Record.{nodes_of};
 ghost use Rattle.sd_unique.specs.Relinking.{unlinked, relinked, removed, IsAbsent};
 
-use crate::chains::leave_bucket;
+use crate::chains::{Buckets, leave_bucket};
 use crate::hash::{bucket_at, hash};
 use crate::lists::{put_first, take_out};
 use crate::record::{Links, Record, RecordState};
@@ -17,21 +17,21 @@ use sd_runs::Runs;
 // Makes a linked record a detached one.
 pub(crate) fn detach(
     runs: &Runs,
-    hashes: &[u32],
+    buckets: Buckets<'_>,
     records: &mut [Record],
     links: &mut [Links],
     heads: &mut [u32],
     places: &mut [u32],
     number: u32,
-    chained: bool,
 )
     requires linked { IsSome (get (nodes_of runs.now records.old).linked number) }
-    requires hashed { chained ≡ true → AreHashed hashes.now (nodes_of runs.now records.old) }
+    requires hashed { buckets.stand ≡ true
+        → AreHashed buckets.hashes.now (nodes_of runs.now records.old) }
     requires kept { (flags : List Bool)
-        × HoldsNodes chained runs.now records.old links.old heads.old places.old flags }
+        × HoldsNodes buckets.stand runs.now records.old links.old heads.old places.old flags }
     ensures kept { (flags : List Bool)
-        → HoldsNodes chained runs.now records.old links.old heads.old places.old flags
-        → HoldsNodes chained runs.now records.new links.new heads.new places.new flags }
+        → HoldsNodes buckets.entry.stand runs.now records.old links.old heads.old places.old flags
+        → HoldsNodes buckets.entry.stand runs.now records.new links.new heads.new places.new flags }
     ensures hashed { (hashes : List ℕ) → AreHashed hashes (nodes_of runs.now records.old)
         → AreHashed hashes (nodes_of runs.now records.new) }
     ensures nodes { (k : ℕ × List (ℕ × ℕ))
@@ -39,7 +39,7 @@ pub(crate) fn detach(
         → nodes_of runs.now records.new ≡ unlinked (nodes_of runs.now records.old) number k }
 {
     let place = records[number as usize].place;
-    leave_bucket(runs, hashes, records, heads, number, chained);
+    leave_bucket(runs, buckets, records, heads, number);
     take_out(links, places, (place & 2047) as usize + 1, number);
     put_first(links, places, 0, number);
     records[number as usize].state = RecordState::Detached;
@@ -120,21 +120,21 @@ pub(crate) fn release(
 // Makes a linked record a free one, and gives its run back.
 pub(crate) fn free(
     runs: &mut Runs,
-    hashes: &[u32],
+    buckets: Buckets<'_>,
     records: &mut [Record],
     links: &mut [Links],
     heads: &mut [u32],
     places: &mut [u32],
     node: u32,
-    chained: bool,
 )
     requires linked { IsSome (get (nodes_of runs.old records.old).linked node) }
-    requires hashed { chained ≡ true → AreHashed hashes.now (nodes_of runs.old records.old) }
+    requires hashed { buckets.stand ≡ true
+        → AreHashed buckets.hashes.now (nodes_of runs.old records.old) }
     requires kept { (flags : List Bool)
-        × HoldsNodes chained runs.old records.old links.old heads.old places.old flags }
+        × HoldsNodes buckets.stand runs.old records.old links.old heads.old places.old flags }
     ensures kept { (flags : List Bool)
-        → HoldsNodes chained runs.old records.old links.old heads.old places.old flags
-        → HoldsNodes chained runs.new records.new links.new heads.new places.new flags }
+        → HoldsNodes buckets.entry.stand runs.old records.old links.old heads.old places.old flags
+        → HoldsNodes buckets.entry.stand runs.new records.new links.new heads.new places.new flags }
     ensures free { (r : Record) → slice_get records.new node ≡ Some r
         → r.state ≡ RecordState.Free }
     ensures hashed { (hashes : List ℕ) → AreHashed hashes (nodes_of runs.old records.old)
@@ -145,7 +145,7 @@ pub(crate) fn free(
         ≡ removed (unlinked (nodes_of runs.old records.old) node k) node k.1 }
 {
     let place = records[node as usize].place;
-    leave_bucket(runs, hashes, records, heads, node, chained);
+    leave_bucket(runs, buckets, records, heads, node);
     take_out(links, places, (place & 2047) as usize + 1, node);
     let mut record = records[node as usize];
     record.next = heads[0];

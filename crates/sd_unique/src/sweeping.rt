@@ -5,6 +5,7 @@ ghost use Rattle.sd_unique.specs.Chains.{AreHashed, HoldsNodes};
 ghost use Rattle.sd_unique.specs.Record.{nodes_of};
 ghost use Rattle.sd_unique.specs.Retiring.{AreCodesUsed, DropsCode, DropsCodes, HaveRetired, IsCodeUsed, MayRetire};
 
+use crate::chains::Buckets;
 use crate::record::{Links, Record};
 use crate::stack::Candidates;
 use crate::states::free;
@@ -30,6 +31,10 @@ pub(crate) fn retire_twos(
         → AreHashed hashes (nodes_of runs.new records.new) }
     ensures retired { HaveRetired first (nodes_of runs.old records.old) (nodes_of runs.new records.new) result }
 {
+    let buckets = Buckets {
+        hashes: &[],
+        stand: false,
+    };
     // there are fewer nodes
     for count in 0..u32::MAX {
         let Some(node) = candidates.pop_used(records) else {
@@ -39,7 +44,7 @@ pub(crate) fn retire_twos(
         let [one, two] = *runs.get(record.start, record.length) else {
             return count;
         };
-        free(runs, &[], records, links, heads, places, node, false);
+        free(runs, buckets, records, links, heads, places, node);
         candidates.pop_top(node);
         drop_two(runs, records, candidates, first, (one, two));
     }

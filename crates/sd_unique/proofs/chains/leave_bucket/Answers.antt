@@ -12,16 +12,16 @@ use Rattle.sd_unique.proofs.chains.leave_bucket.Goals as goal
 abbrev blank : Record
 blank = record { place = 0; start = 0; length = 0; next = 0; uses = 0; mark = 0; state = Free }
 
-pub returns-then-not-chained-clause-left : goal.returns-then-not-chained-clause-left
-returns-then-not-chained-clause-left c =
-    left_as_is c.args.chained c.args.runs.now c.args.records.now c.args.heads.now c.args.number c.if-not-chained.true
+pub returns-then-not-buckets-clause-left : goal.returns-then-not-buckets-clause-left
+returns-then-not-buckets-clause-left c =
+    left_as_is c.args.buckets.stand c.args.runs.now c.args.records.now c.args.heads.now c.args.number c.if-not-buckets.true
     c.requires.linked c.requires.chained
 
-pub bounds-hashes-number : goal.bounds-hashes-number
-bounds-hashes-number c =
+pub bounds-buckets-number : goal.bounds-buckets-number
+bounds-buckets-number c =
     omega (
       arith,
-      (c.requires.hashed c.if-not-chained.false).size,
+      (c.requires.hashed c.if-not-buckets.false).size,
       linked_inside c.args.runs.now c.args.records.now c.args.number c.requires.linked,
     )
 
@@ -31,11 +31,11 @@ cut-requires-clause-inside c = linked_inside c.args.runs.now c.args.records.now 
 pub cut-requires-clause-chained : goal.cut-requires-clause-chained
 cut-requires-clause-chained c = (
   chain_under c.args.runs.now (length c.args.heads.now - 1) c.args.records.now,
-  linked_head c.args.runs.now c.args.records.now c.args.hashes.now c.args.number _ blank
+  linked_head c.args.runs.now c.args.records.now c.args.buckets.hashes.now c.args.number _ blank
       (length c.args.heads.now - 1) c.bucket_at-head.result c.requires.linked
-      (c.requires.hashed c.if-not-chained.false) refl c.bucket_at-head.ensures.is,
+      (c.requires.hashed c.if-not-buckets.false) refl c.bucket_at-head.ensures.is,
   chain_inside c.args.runs.now (length c.args.heads.now - 1) c.args.records.now,
-  subst (λ b. AreChained b c.args.runs.now c.args.records.now c.args.heads.now) c.if-not-chained.false
+  subst (λ b. AreChained b c.args.runs.now c.args.records.now c.args.heads.now) c.if-not-buckets.false
       c.requires.chained,
 )
 
@@ -43,10 +43,10 @@ pub returns-clause-left : goal.returns-clause-left
 returns-clause-left c =
     subst (λ b. IsFiled (next_of c.cut.new.records) no_record (head_of (heads_in b c.cut.new.heads))
     (unfiled c.args.number (under_by (chain_in b) c.args.runs.now (length c.args.heads.now - 1) c.args.records.now)))
-    (sym c.if-not-chained.false)
+    (sym c.if-not-buckets.false)
     (c.cut.ensures.chained (chain_under c.args.runs.now (length c.args.heads.now - 1) c.args.records.now)
-    (linked_head c.args.runs.now c.args.records.now c.args.hashes.now c.args.number _ blank
+    (linked_head c.args.runs.now c.args.records.now c.args.buckets.hashes.now c.args.number _ blank
     (length c.args.heads.now - 1) c.bucket_at-head.result c.requires.linked
-    (c.requires.hashed c.if-not-chained.false) refl c.bucket_at-head.ensures.is)
-    (subst (λ b. AreChained b c.args.runs.now c.args.records.now c.args.heads.now) c.if-not-chained.false
+    (c.requires.hashed c.if-not-buckets.false) refl c.bucket_at-head.ensures.is)
+    (subst (λ b. AreChained b c.args.runs.now c.args.records.now c.args.heads.now) c.if-not-buckets.false
     c.requires.chained))

@@ -1,4 +1,4 @@
-use Rattle.std.proofs.Common.{◌-◌, length, get_or, unwrap_or, refl, sym, ap, ◌∙◌, arith}
+use Rattle.std.proofs.Common.{◌-◌, get_or, unwrap_or, refl, sym, ap, ◌∙◌, arith}
 use Rattle.sd_unique.specs.declared.record.Record.{Record}
 use Rattle.sd_unique.specs.declared.record.RecordState.TheVariants.{Free}
 use Rattle.sd_unique.specs.Inserting.{with_uses}
