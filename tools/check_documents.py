@@ -7,8 +7,8 @@ case and test that the answers of docs/PROVED.md or the rows of docs/TESTS.md na
 each link against the files, the number of definitions in README against the count, the pictures and tables of speed and
 of the gate's minutes against the raw tables in bench/runs, and the commands of README and docs/TOUR.md against
 examples/expected.txt, which has what each prints and writes. With --run PROGRAM it runs these too, as the merge gate
-does. `LIMITS` says how long each document may be, and its paragraphs, cells and sentences; none names a commit. The
-status is 1 where something differs.
+does. `LIMITS` says how long each document may be, and its paragraphs and cells, and `LONGEST_SENTENCE` each sentence;
+none names a commit. The status is 1 where something differs.
 """
 import fnmatch
 import glob
@@ -23,19 +23,21 @@ TOP = os.path.join(os.path.dirname(os.path.abspath(__file__)), "..")
 DOCUMENTS = ["README.md", "CHANGES.md", "CONTRIBUTING.md"]
 DOCUMENTS += sorted(os.path.relpath(path, TOP) for path in glob.glob(TOP + "/docs/*.md"))
 faults = []
-# The most lines of a document, and words of a paragraph, of a cell and of a sentence of it.
+# The most lines of a document, and words of a paragraph and of a cell of it.
 LIMITS = {
-    "README.md": (160, 80, 45, 30),
-    "CONTRIBUTING.md": (60, 80, 45, 30),
-    "docs/MAP.md": (None, 100, 25, 30),
-    "docs/TOUR.md": (None, 100, 45, 30),
-    "docs/DEFINITIONS.md": (None, 100, 45, 35),
-    "docs/PROVED.md": (None, 100, 40, 30),
-    "docs/DECISIONS.md": (None, 60, 45, 45),
-    "docs/PROVING.md": (350, 80, 45, 45),
-    "docs/SPEED.md": (250, 80, 45, 35),
+    "README.md": (160, 80, 45),
+    "CONTRIBUTING.md": (60, 80, 45),
+    "docs/MAP.md": (None, 100, 25),
+    "docs/TOUR.md": (None, 100, 45),
+    "docs/DEFINITIONS.md": (None, 100, 45),
+    "docs/PROVED.md": (None, 100, 40),
+    "docs/DECISIONS.md": (None, 60, 45),
+    "docs/PROVING.md": (350, 80, 45),
+    "docs/SPEED.md": (250, 80, 45),
 }
-OTHER_LIMITS = (None, 120, 45, 45)
+OTHER_LIMITS = (None, 120, 45)
+# The most words of a sentence of any document.
+LONGEST_SENTENCE = 30
 HOURS = ["no", "one", "two", "three", "four", "five", "six"]
 
 
@@ -277,7 +279,7 @@ def sizes_in(text):
 
 
 def sentences_of(text):
-    return re.split(r"(?<=[.!?:;])\s+(?=[A-Z`*(\[])", text)
+    return re.split(r"(?:(?<=[.!?:;])|(?<=[.!?:;]\*\*))\s+(?=[A-Z`*(\[])", text)
 
 
 def check_commits():
@@ -290,9 +292,9 @@ def check_commits():
 
 
 def check_lengths():
-    """A sentence ends at a mark before a capital, or with its cell or paragraph."""
+    """A sentence ends at a mark before a capital, which may be the last of bold words, or with its paragraph."""
     for document in DOCUMENTS:
-        most_lines, *most = LIMITS.get(document, OTHER_LIMITS)
+        most_lines, longest_paragraph, longest_cell = LIMITS.get(document, OTHER_LIMITS)
         text = text_of(document)
         lines = len(text.splitlines())
         expect(most_lines is None or lines <= most_lines, "%s: %d lines, of at most %s" % (document, lines, most_lines))
@@ -300,8 +302,8 @@ def check_lengths():
         paragraphs, found = re.split(r"\n\s*\n|\n(?=[-|#>]|\d+\. )", text), []
         for paragraph in paragraphs:
             cells = paragraph.strip().strip("|").split("|") if paragraph.lstrip().startswith("|") else []
-            found += [("cell", most[1], cell) for cell in cells] or [("paragraph", most[0], paragraph)]
-            found += [("sentence", most[2], sentence) for sentence in sentences_of(paragraph) if not cells]
+            found += [("cell", longest_cell, cell) for cell in cells] or [("paragraph", longest_paragraph, paragraph)]
+            found += [("sentence", LONGEST_SENTENCE, sentence) for sentence in sentences_of(paragraph) if not cells]
         for kind, limit, words in found:
             count, whole = len(words.split()), text_of(document)
             number = whole[:whole.find(words.strip())].count("\n") + 1
