@@ -8,11 +8,12 @@
 // contracts say that each entry is blank or was kept, and that where there are entries an answer is kept,
 // but not which ones it drops, nor that one that stands is found.
 //
-// An entry has 16 bytes. There are none until the first answer is kept, then 64, 1 KB. Whenever as many answers were
-// kept as there are entries, there are four times as many: up to 65,536, 1 MB, in any case, and beyond that as long as
-// they are no more than the nodes. A node takes some 60 bytes, so they take about a quarter of what the nodes do. A
-// wider table misses the caches of a processor more often, which costs a tenth where it finds no more. That there are
-// so many nodes is told by the greatest answer, since a new node takes a free number or the next one.
+// An entry has 16 bytes. There are none until the first answer is kept, then 64, 1 KB. Each time that as many answers
+// were kept as there are entries, the table may grow to four times as many: up to 65,536 entries, 1 MB, in any case,
+// and beyond that where the greatest code of an answer that stands is no less than the new count. A new node takes a
+// free number or the next one, so there have been about so many nodes at one time; how many stand now is not asked. A
+// node takes some 60 bytes, so the entries take at most about a quarter of what the table of nodes does. A wider table
+// misses the caches of a processor more often, which was seen to cost a tenth where it finds no more.
 //
 // The table goes from one operation to the next through the cache, as long as the epoch stays. An entry has no epoch of
 // its own. The epoch rises when a node is taken away or the vtree is moved, and at another one the cache lends an empty
@@ -76,13 +77,13 @@ impl Entry {
 }
 
 /// Answers of operations in one epoch, without their order. Each has one entry where it may stand, and
-/// drops what stood there. The table grows to four times as many entries whenever as many answers were kept as it has:
-/// up to 65,536 in any case, and beyond that while they are no more than the nodes. Where memory is refused it stays as
-/// it is, and one without entries keeps nothing.
+/// drops what stood there. Each time that as many answers were kept as there are entries, it may grow to four times as
+/// many: below 65,536 in any case, and beyond that where an answer has a code of no less. Where memory is refused it
+/// stays as it is, and one without entries keeps nothing.
 #[derive(Drop)]
 pub struct ComputedTable {
     entries: Vec<Entry>,
-    // how many answers were kept since the table grew
+    // how many answers were kept since the table last grew, or might have grown
     kept: usize,
 }
 

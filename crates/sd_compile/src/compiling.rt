@@ -311,6 +311,7 @@ fn sweep_between(m: &mut Manager, c: &mut Cache, pace: &mut Pace, is_last: bool,
     requires serves { Serves c.old m.old }
     ensures swept { MaySweep m.old m.new }
     ensures never_falls { NeverFalls m.old m.new }
+    ensures entries { c.new.entries ≡ c.old.entries }
     ensures serves { Serves c.new m.new }
     ensures unmarked { AreUnmarked m.new }
     ensures table { IsTable m.new }

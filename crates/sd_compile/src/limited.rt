@@ -5,9 +5,9 @@
 // asked only where more elements are in use than the limit, garbage included (`total_over`), which on most formulas is
 // never.
 //
-// No contract of a run says when it is swept: garbage stays only within a number and the limit (`sweep_past`), and the
-// number is chosen for speed (`pace.rt`). A sweep costs what died since the last one and, where answers stay known, a
-// step for each of them.
+// Garbage stays only within a number and the limit (`sweep_past`). The number is chosen for speed (`pace.rt`), and no
+// contract of a run tells it. A sweep costs what `sd_sweep` says and, where answers stay known, a step for each entry
+// of the table of computed answers, blank ones too.
 ghost use Rattle.std.specs.Prelude.{◌≡◌, ℕ, ◌<◌, ◌≤◌, ◌-◌, ◌^◌, List, None, IfSome, IfNone, IfOk, IfErr, OnOk, OnErr};
 ghost use Rattle.std.specs.Option.{IsSome};
 ghost use Rattle.std.specs.FinMap.{get, len};
@@ -33,8 +33,9 @@ use sd_cache::Cache;
 use sd_manager::{Manager, NodeId, Root};
 use sd_sweep::{size, sweep};
 
-// Takes away what no root and no loose run needs. The cache still serves. Where not too many answers are kept beside
-// the elements that are left, those whose nodes stand stay known.
+// Takes away what no root and no loose run needs. The cache still serves, and its own entries stay. Where the table of
+// computed answers has no more entries than elements are left, it is gone through, and an answer is dropped only where
+// a node that it names is gone. Else the table is of an epoch that is past.
 pub(crate) fn sweep_kept(m: &mut Manager, c: &mut Cache)
     requires no_move { m.old.moving ≡ None }
     requires unmarked { AreUnmarked m.old }
@@ -42,21 +43,22 @@ pub(crate) fn sweep_kept(m: &mut Manager, c: &mut Cache)
     ensures swept { IsSwept m.old m.new }
     ensures never_falls { NeverFalls m.old m.new }
     ensures reached { (n : ℕ) → IsSome (get m.new.linked n) → IsReached m.new n }
+    ensures entries { c.new.entries ≡ c.old.entries }
     ensures serves { Serves c.new m.new }
     ensures unmarked { AreUnmarked m.new }
     ensures table { IsTable m.new }
 {
     let since = m.epoch();
     sweep(m);
-    // a table with more entries than elements are left costs more than its answers are worth
+    // to go through a table with more entries than elements are left would cost more than a sweep
     if c.computed().len() <= m.used() as usize {
         keep_surviving(m, c, since);
     }
 }
 
 /// Sweeps where more elements are in use than the pace allows or than the limit, and then the pace allows anew: no less
-/// than what is left. Else nothing is changed. How much more than what is left may be in use before the next sweep is
-/// chosen for speed alone.
+/// than what is left. Else nothing is changed. The cache's own entries stay in either case. How much more than what is
+/// left may be in use before the next sweep is chosen for speed alone.
 pub fn sweep_past(m: &mut Manager, c: &mut Cache, pace: &mut Pace, limit: u32)
     requires no_move { m.old.moving ≡ None }
     requires unmarked { AreUnmarked m.old }
@@ -68,6 +70,7 @@ pub fn sweep_past(m: &mut Manager, c: &mut Cache, pace: &mut Pace, limit: u32)
     ensures kept { KeepsAll m.old m.new }
     ensures never_falls { NeverFalls m.old m.new }
     ensures used { total_length m.new ≤ pace.new.most }
+    ensures entries { c.new.entries ≡ c.old.entries }
     ensures serves { Serves c.new m.new }
     ensures unmarked { AreUnmarked m.new }
     ensures table { IsTable m.new }

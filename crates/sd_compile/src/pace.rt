@@ -1,6 +1,8 @@
-// When a manager is swept: behind a group, a command, a part or a gate, once more elements are in use than there is
-// room for, garbage included. Behind a sweep that is room for as much garbage as it left, and for a least number for
-// operations, which ask for what died and make it anew. No contract says when a sweep comes.
+// When a manager is swept: behind a group, a command, a part or a gate, once more elements are in use than a pace
+// allows, garbage included. Behind a sweep it allows what was left and garbage beside it: as much again, half as much
+// for groups where each left child of the vtree is a leaf, and for operations no less than a number, since these may
+// ask for what died and then make it anew. What it allows is chosen for speed. The contracts tell when a sweep comes by
+// the number that the pace has at that time, and not how it is chosen.
 ghost use Rattle.std.specs.Prelude.{◌≤◌};
 ghost use Rattle.sd_manager.specs.Valid.{total_length};
 
@@ -10,10 +12,12 @@ use sd_manager::Manager;
 // So many elements, with their nodes, fit the cache that a processor has for itself. There a sweep saves nothing.
 const FITS_CACHE: u32 = 16_384;
 
-// Four elements for each of the 65,536 answers that are kept: so much may be asked for again.
+// Four elements for each of the 65,536 answers of operations that the cache keeps: as much as these speak of, roughly,
+// may be asked for again.
 const LEAST_GARBAGE: u32 = 262_144;
 
-// Over so many variables a group meets few of the nodes, so that hardly one asks for what died long ago.
+// Over so many variables a group usually meets few of the nodes, so that it seldom asks for what died long ago. Nothing
+// tells that it does not: the number is one of those that were tried.
 const MANY: u32 = 256;
 
 /// When the next sweep comes: one for the groups of a formula, one for the commands of a run, one for parts.
@@ -50,8 +54,8 @@ impl Pace {
         self.most = self.most.max(room);
     }
 
-    /// Behind a sweep. Where each left child of the vtree is a leaf, a group asks for nothing that died, and half as
-    /// much garbage as was left keeps the memory low.
+    /// Behind a sweep: how many elements may be in use before the next one. Where each left child of the vtree is a
+    /// leaf, a group seldom asks for what died, and half as much garbage as was left keeps the memory low.
     pub(crate) fn renew(&mut self, m: &Manager)
         ensures { total_length m.now ≤ self.new.most }
     {
